@@ -1,4 +1,4 @@
-# Completion of codesearch, cindex, csearch and cgrep in bash: the tool, options, and names of files.
+# Completion of codesearch, cindex, csearch, cgrep and cs in bash: the tool, options, and names of files.
 
 _codesearch() {
     local tool=${1##*/} first=1 word=${COMP_WORDS[COMP_CWORD]} options at
@@ -15,6 +15,12 @@ _codesearch() {
         cindex) options='-list -logskip -reset' ;;
         csearch) options='-brute -c -f -h -i -l -n' ;;
         cgrep) options='-c -h -i -l -n' ;;
+        cs)
+            # its options may stand anywhere
+            [[ $word == -* ]] && mapfile -t COMPREPLY < <(compgen -W '-0 -A -B -C -F -N -S -c -e -i -l -m -n -w --color= --column
+                --help --json --no-refresh --version --vimgrep' -- "$word")
+            return
+            ;;
         *) return ;;
     esac
     # Options come first. What follows is a name of a file, which bash itself completes where nothing stands here.
@@ -29,4 +35,4 @@ _codesearch() {
     fi
 }
 
-complete -o bashdefault -o default -F _codesearch codesearch cindex csearch cgrep
+complete -o bashdefault -o default -F _codesearch codesearch cindex csearch cgrep cs

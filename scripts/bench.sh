@@ -1,9 +1,10 @@
 #!/bin/sh
-# Measures the tools side by side with their peers that are installed: Go's codesearch, GNU grep and ripgrep. docs/PERFORMANCE.md
+# Measures the tools against those that are installed: Go's codesearch, GNU grep and ripgrep. docs/PERFORMANCE.md
 # says what is measured, and how.
 # usage: scripts/bench.sh PROGRAM TREE        or: make bench TREE=..
-# ROUNDS (5), SUBTREE (the first folder of the tree), PATTERNS (a file, a pattern on each line) and BYTES (of the one file that
-# cgrep searches, 100000000) may be set. It takes room for that file and two indexes in TMPDIR.
+# These variables may be set: ROUNDS (5), SUBTREE (the first folder of the tree), PATTERNS (a file with a pattern on
+# each line), BYTES (the size of the file that cgrep searches, 100000000), and PICTURE (a file for a picture of the
+# tables). The file that cgrep searches and two indexes are written to TMPDIR.
 
 program=$(readlink -f -- "$1") && [ -x "$program" ] || { echo 'bench: no program' >&2; exit 2; }
 tree=$([ -n "$2" ] && readlink -f -- "$2") && [ -d "$tree" ] || { echo 'bench: give a folder, as TREE=/usr/include' >&2; exit 2; }
@@ -24,7 +25,7 @@ no such words at all
 END
 export subtree="${SUBTREE:-$(find "$tree" -mindepth 1 -maxdepth 1 -type d ! -name '[.#~]*' ! -name '*~' | sort | head -n 1)}"
 
-# Go's tools, unless what goes by their names is an installed one of ours.
+# Go's tools, unless the installed commands of these names are ours.
 go_tool() { command -v "$1" > /dev/null && "$1" -help 2>&1 | grep -q '^usage:' && command -v "$1"; }
 go_cindex=$(go_tool cindex)
 go_csearch=$(go_tool csearch)
@@ -33,7 +34,8 @@ rg=$(command -v rg)
 export go_cindex go_csearch go_cgrep
 
 # ---- what is run ------------------------------------------------------------------------------------------------------
-# A row of the plan is a job, a tool, its command, and a command that prints what it answered. The first tool of a job is ours.
+# A row of the plan is a job, a tool, its command, and a command that prints its answer. The first tool of each job is
+# ours.
 plan() { printf '%s\t%s\t%s\t%s\n' "$@" >> "$fresh/plan"; }
 
 # each COMMAND: runs it for each pattern
@@ -60,7 +62,8 @@ plan cgrep grep "$(each 'grep -aHnE -e "$pattern" "$fresh/all"')" "$found"
 [ -z "$rg" ] || plan cgrep ripgrep "$(each 'rg --no-config -j 1 -a -E none --no-unicode --no-heading -Hn -e "$pattern" "$fresh/all"')" "$found"
 
 # ---- runs -------------------------------------------------------------------------------------------------------------
-# run COMMAND: what it takes comes into `taken`. Its output goes to a file, as grep stops at its first line where that is /dev/null.
+# run COMMAND: writes its times and its memory to `taken`. Its output goes to a file, since grep stops at the first
+# matching line if its output is /dev/null.
 run() { "$clock" -q -f '%U %S %M' -o "$fresh/taken" sh -c "$1" > "$fresh/out" 2>/dev/null < /dev/null; }
 
 tab=$(printf '\t')
@@ -72,7 +75,7 @@ while [ $round -le "$rounds" ]; do
             awk -v job="$job" -v tool="$tool" 'END { printf "%s\t%s\t%s\t%s\n", job, tool, $1 + $2, $3 * 1024 / 1000000 }' "$fresh/taken" >> "$fresh/runs"
             continue
         fi
-        # The first round is not counted: it brings the files into memory, and says what each answers.
+        # The first round is not counted: it reads the files into the page cache, and records what each tool answers.
         sh -c "$answer" 2>/dev/null | sort > "$fresh/answer"
         [ "$tool" != codesearch ] || mv "$fresh/answer" "$fresh/wanted"
         same=yes
@@ -87,7 +90,7 @@ while [ $round -le "$rounds" ]; do
     round=$((round + 1))
 done
 
-# ---- the table --------------------------------------------------------------------------------------------------------
+# ---- the tables -------------------------------------------------------------------------------------------------------
 printf '%s, %s, %s processors\n' "$(date +%F)" \
     "$(sed -n 's/^model name[^:]*: //p' /proc/cpuinfo 2>/dev/null | head -n 1)" "$(getconf _NPROCESSORS_ONLN)"
 printf '%s: %d files indexed, %d bytes; one file of %d bytes; %d patterns; medians of %d rounds\n' "$tree" \
@@ -96,7 +99,6 @@ printf '%s: %d files indexed, %d bytes; one file of %d bytes; %d patterns; media
 [ -z "$subtree" ] || printf 'SUBTREE is %s\n' "$subtree"
 [ -n "$go_cindex$go_csearch$go_cgrep" ] || echo "skipped: Go's codesearch: it is not installed"
 [ -n "$rg" ] || echo 'skipped: ripgrep: it is not installed'
-printf '\n| job | tool | user + system, s | ratio | peak memory, MB | ratio | the same answer |\n|---|---|---|---|---|---|---|\n'
 awk -F '\t' '
     function median(values,    list, count, i, j, held) {
         count = split(values, list, " ")
@@ -110,5 +112,10 @@ awk -F '\t' '
         time = median(times[$1, $2])
         peak = median(peaks[$1, $2])
         if ($2 == "codesearch") { our_time = time; our_peak = peak; $4 = $3 (index($1, "cindex") ? " names" : " lines") }
-        printf "| %s | %s | %.2f | %s | %.1f | %s | %s |\n", $1, $2, time, ratio(time, our_time), peak, ratio(peak, our_peak), $4
-    }' "$fresh/runs" "$fresh/answers"
+        if ($1 != job) {
+            job = $1
+            printf "\n### %s\n\n| tool | user + system, s | ratio | peak memory, MB | ratio | the same answer |\n|---|---|---|---|---|---|\n", job
+        }
+        printf "| %s | %.2f | %s | %.1f | %s | %s |\n", $2, time, ratio(time, our_time), peak, ratio(peak, our_peak), $4
+    }' "$fresh/runs" "$fresh/answers" | tee "$fresh/tables"
+[ -z "$PICTURE" ] || awk -f "$(dirname -- "$0")/picture.awk" "$fresh/tables" > "$PICTURE"

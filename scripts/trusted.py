@@ -1,9 +1,9 @@
 #!/usr/bin/env python3
-"""What one has to read to believe the tools: for the contract of each, the files of specs/ that its clauses reach by imports,
-and those that the contracts of the traits reach whose ghosts the clauses name (`T.snapshot` is told by `Tree`). Files are
+"""Lists what one has to read to believe the tools: for the contract of each, the files of specs/ that its clauses reach by
+imports, and those that the contracts of traits reach whose ghosts the clauses name (`T.snapshot` is a ghost of `Tree`). Files are
 counted by lines, and by lines of definitions (without blanks, comments and imports).
 usage: scripts/trusted.py [-q] [--check]
--q leaves out the files, of which the longest come first; --check fails where a tool is above its limit."""
+-q omits the files, which are otherwise listed with the longest first; --check fails if a tool is above its limit."""
 import re
 import sys
 from pathlib import Path
@@ -11,8 +11,8 @@ from pathlib import Path
 crates = Path(__file__).resolve().parent.parent / "crates"
 IMPORT = re.compile(r"^\s*(?:pub )?(?:ghost )?use Rattle\.(cs_\w+)\.specs\.([A-Za-z_.]+?)(?:\.\{([^}]*)\}| as (\S+?))?;?$", re.M)
 
-# the function, the file that it stands in, which of its clauses count (none: all), beside what it requires, and how many
-# lines of definitions one may have to read
+# the function, its file, the clauses that count besides its requirements (none: all), and the maximum number of lines
+# of definitions
 CONTRACTS = [
     ("cindex", "cs_cindex/src/cindexing.rt", ["indexes"], 520),
     ("cgrep", "cs_search/src/searching.rt", [], 850),
@@ -20,7 +20,7 @@ CONTRACTS = [
     ("list_stored", "cs_cindex/src/listing.rt", [], None),
 ]
 
-# where the traits stand
+# the files of the traits
 TRAITS = {
     "Tree": "cs_tree/src/tree.rt",
     "Source": "cs_tree/src/source.rt",
@@ -30,13 +30,13 @@ TRAITS = {
 
 
 def spec(crate, module):
-    """The file of a module of definitions; what the toolchain writes of types of the code has none."""
+    """The file of a module of definitions; a module that is derived from types of the code has none."""
     file = crates / crate / "specs" / (module.replace(".", "/") + ".antt")
     return file if file.exists() else None
 
 
 def clauses(source, name, wanted):
-    """The text of a public function's clauses, and the trait of each of its parameters."""
+    """The text of the clauses of a public function, and the trait of each of its type parameters."""
     contract = re.search(r"pub fn " + name + r"\b.*?\n\{\n", source, re.S).group(0)
     parts = re.findall(r"\n\s+(ensures|requires) (\w*) ?\{(.*?)(?=\n\s+ensures|\n\s+requires|\n\{)", contract, re.S)
     bounds = dict(re.findall(r"(\w+): (\w+)", contract[: contract.index("(")]))
@@ -54,7 +54,7 @@ def words(text):
 
 
 def imports(text, words=None):
-    """The files that the text imports, of those imports that have one of the words, where words are given."""
+    """The files that the text imports; with `words` only those imports that have one of them."""
     for crate, module, items, alias in IMPORT.findall(text):
         names = [item.split(" as ")[-1].strip() for item in items.split(",")] if items else [alias or module.split(".")[-1]]
         if words is None or any(name in words for name in names):
@@ -64,7 +64,7 @@ def imports(text, words=None):
 
 
 def cited(name, path, wanted):
-    """The files that the clauses of a function cite, or those of a trait whose ghosts they name."""
+    """The files that the clauses of a function cite, and those of the traits whose ghosts they name."""
     source = (crates / path).read_text()
     text, bounds = clauses(source, name, wanted)
     yield from imports(source, words(text))
@@ -75,14 +75,14 @@ def cited(name, path, wanted):
 
 
 def reached(files):
-    """The files, and all that they import."""
+    """The files, and everything that they import."""
     seen = set()
-    waiting = list(files)
-    while waiting:
-        file = waiting.pop()
+    pending = list(files)
+    while pending:
+        file = pending.pop()
         if file not in seen:
             seen.add(file)
-            waiting.extend(imports(file.read_text()))
+            pending.extend(imports(file.read_text()))
     return seen
 
 

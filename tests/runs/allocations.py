@@ -1,46 +1,46 @@
 #!/usr/bin/env -S python3 -B
-"""Runs the program with each of its allocations refused in turn, and compares each run with the one that has ample memory.
+"""Runs the program with each of its allocations failing in turn, and compares each run with the one that has ample memory.
 usage: tests/runs/allocations.py PROGRAM
 
-For each job the Nth allocation is refused, N = 1, 2, .., until a run ends with none refused: first the Nth alone, and then
-the Nth and all behind it, as on a machine that stays short of memory. A run answers as with ample memory; or it is refused: it
-has printed a front of the output and of the lines on standard error, then one line that memory is out, ends with status 2, and
-leaves the index file byte for byte, with nothing beside it. Last, five jobs in a row are run so, from no index and from one whose
-names do not ascend: the index that comes out is that of the jobs that were done."""
+For each job the Nth allocation fails, N = 1, 2, .., until a run has no failing allocation: first the Nth alone, then the Nth and all
+later ones, as on a machine that stays out of memory. A run gives the answer of ample memory; or it prints a prefix of the output and
+of the lines on standard error, then one line that it is out of memory, ends with status 2, and leaves the index file byte for byte,
+with nothing beside it. Last, five jobs in a row are run so, from no index and from one whose names are not sorted: the resulting index
+is that of the jobs that succeeded."""
 import os
 import sys
 from itertools import groupby
 
 import running
-from running import build_refuser, complain, leave, read, write
+from running import build_failer, complain, leave, read, write
 
 runs = allocations = 0
 
-# How often the lines of a job may turn from the program's own to the tool's and back: `cindex` has its words and then its job
-# behind the surroundings and the index file; `csearch` also has lists, which it reads when it knows what it asks for.
+# How often the last line of a job may change between the program's own line and the tool's: `cindex` reads its arguments and
+# does its job after the environment and the index file; `csearch` also reads posting lists after its query is known.
 TURNS = {"cgrep": 3, "cindex": 5, "csearch": 7}
 
 
-def run(words, given=b""):
+def run(args, given=b""):
     """A run with ample memory."""
     global runs
     runs += 1
-    return running.run(words, given)
+    return running.run(args, given)
 
 
-def refused_run(words, refuse, given=b""):
-    """A run with that allocation refused, and whether one was."""
+def failing_run(args, number, given=b""):
+    """A run with that allocation failing, and whether one failed."""
     global runs
     runs += 1
-    return running.refused_run(words, refuse, given)
+    return running.failing_run(args, number, given)
 
 
-def judge(words, came, ample, before, after):
-    """What is wrong about a run with an allocation refused, and the line by which it ended."""
+def judge(args, came, ample, before, after):
+    """What is wrong with a run that had a failing allocation, and whose line ended it."""
     status, out, err = came
     if came == ample:
         return (None if read("index") == after else "another index"), "same"
-    tool = words[0].encode()
+    tool = args[0].encode()
     for who in (tool, b"codesearch"):
         line = who + b": out of memory\n"
         if err.endswith(line) and ample[2].startswith(err[: -len(line)]) and err[: -len(line)][-1:] in (b"", b"\n"):
@@ -56,36 +56,36 @@ def judge(words, came, ample, before, after):
     return None, who.decode()
 
 
-def each_refused(words, index=None, given=b"one\ntwo\none\n", bare=False):
-    """All runs of one job, over these bytes of the index file. `bare`: only with one allocation refused."""
+def each_failing(args, index=None, given=b"one\ntwo\none\n", bare=False):
+    """Runs one job with each of its allocations failing, over these bytes of the index file; with `bare` only one at a time."""
     leave(index)
-    ample = run(words, given)
+    ample = run(args, given)
     after = read("index")
     for more in [""] if bare else ["", "+"]:
         ends = []
         while True:
-            refuse = f"{len(ends) + 1}{more}"
+            number = f"{len(ends) + 1}{more}"
             leave(index)
-            came, was_refused = refused_run(words, refuse, given)
-            if not was_refused:
+            came, has_failed = failing_run(args, number, given)
+            if not has_failed:
                 break
-            what, end = judge(words, came, ample, index, after)
+            what, end = judge(args, came, ample, index, after)
             if what:
-                complain(f"{words}, refused {refuse}: {what}", came)
+                complain(f"{args}, allocation {number} failing: {what}", came)
             ends.append(end)
         if came != ample or read("index") != after:
-            complain(f"{words}, none refused: not as with ample memory", came)
-        # The tool's own line, but where the surroundings are read, and then the index file and its lists, where the
-        # line itself is refused, and where the index file is written.
+            complain(f"{args}, none failing: not as with ample memory", came)
+        # The line is the tool's, except while the environment, the index file or its lists are read, while the line
+        # itself is made, and while the index file is written.
         whose = [end for end in ends if end not in ("same", None)]
         turns = len(list(groupby(whose)))
-        if more and words[0] in whose or turns > TURNS.get(words[0], 1):
-            complain(f"{words}, each refused: whose line", whose)
-        tally(words, more, ends)
+        if more and args[0] in whose or turns > TURNS.get(args[0], 1):
+            complain(f"{args}, each failing: whose line", whose)
+        tally(args, more, ends)
 
 
-def tally(words, more, ends):
-    """With -v: how many runs of a job ended by which line."""
+def tally(args, more, ends):
+    """Counts the runs of a job, and with -v prints how many ended by which line."""
     global allocations
     allocations += 0 if more else len(ends)
     if "-v" in sys.argv:
@@ -95,22 +95,22 @@ def tally(words, more, ends):
                 shown[-1][1] += 1
             else:
                 shown.append([end, 1])
-        print(" ".join(words), more, len(ends), ", ".join(f"{end} {count}" for end, count in shown), flush=True)
+        print(" ".join(args), more, len(ends), ", ".join(f"{end} {count}" for end, count in shown), flush=True)
 
 
-# A job on a part of a path, one without a path, a new beginning and a list, after files that have changed.
+# Jobs on a path, on a path below it, without a path, with -reset and with -list, while files change.
 JOBS = [["cindex", "a"], ["cindex", "a/b"], ["cindex"], ["cindex", "-reset", "a/b"], ["cindex", "-list"]]
 
 
 def snapshot(job):
-    """The files as the job finds them."""
+    """Writes the files that the job reads."""
     os.makedirs("a/b", exist_ok=True)
     write("a/b/f", b"six\n" if job else b"one\n")
     write("a/g", b"ten\n" if job else b"two\n")
 
 
 def answers(first, skipped=None):
-    """What the jobs from this one on answer, but for a skipped one, and the index that they leave."""
+    """The answers of the jobs from this one on, without a skipped one, and the index after them."""
     came = []
     for job in range(first, len(JOBS)):
         snapshot(job)
@@ -120,35 +120,35 @@ def answers(first, skipped=None):
 
 
 def five_jobs(before):
-    """Each allocation of five jobs in a row, from these bytes of the index file on: the others answer as if a refused one had
-    not been asked."""
+    """Lets each allocation of five jobs in a row fail, from these bytes of the index file on: a failed job does not change the
+    answers of the others."""
     global allocations
-    for job, words in enumerate(JOBS):
+    for job, args in enumerate(JOBS):
         leave(before)
         whole = answers(job)
         leave(before)
         others = answers(job, job)
-        refuse = 0
+        number = 0
         while True:
-            refuse += 1
+            number += 1
             leave(before)
             snapshot(job)
-            first, refused = refused_run(words, str(refuse))
-            as_refused = first[0] == 2 and first[2].endswith(b": out of memory\n") and read("index") == before
+            first, has_failed = failing_run(args, str(number))
+            as_failed = first[0] == 2 and first[2].endswith(b": out of memory\n") and read("index") == before
             rest, index = answers(job + 1)
-            if ([first] + rest, index) != whole and not (refused and as_refused and (rest, index) == others):
-                complain(f"{words} of five jobs, refused {refuse}: the answers or the index", (first, rest))
-            if not refused:
+            if ([first] + rest, index) != whole and not (has_failed and as_failed and (rest, index) == others):
+                complain(f"{args} of five jobs, allocation {number} failing: the answers or the index", (first, rest))
+            if not has_failed:
                 break
             allocations += 1
         leave(before)
         snapshot(job)
-        run(words)
+        run(args)
         before = read("index")
 
 
 def unsorted_index():
-    """An index of the files in another order than that of their names, as other programs write one: both have `abc`."""
+    """An index whose names are not sorted, as other programs write one: both files have `abc`."""
     path = f"{running.home}/a".encode()
     names = [path + b"/g", path + b"/b/f"]
     sections = [
@@ -159,12 +159,12 @@ def unsorted_index():
         b"abc\0\0\0\2\0\0\0\0" + b"\xff\xff\xff\0\0\0\0\0\0\0\6",
     ]
     begin = b"csearch index 1\n"
-    places = [len(begin + b"".join(sections[:at])) for at in range(5)]
-    return begin + b"".join(sections) + b"".join(place.to_bytes(4, "big") for place in places) + b"\ncsearch trailr\n"
+    offsets = [len(begin + b"".join(sections[:at])) for at in range(5)]
+    return begin + b"".join(sections) + b"".join(offset.to_bytes(4, "big") for offset in offsets) + b"\ncsearch trailr\n"
 
 
 def main():
-    build_refuser()
+    build_failer()
     os.makedirs("t/d")
     write("t/p", b"one\ntwo\none\n")
     write("t/q", b"Two\n")
@@ -176,47 +176,47 @@ def main():
     leave(None)
     run(["cindex", "t"])
     index = read("index")
-    place = index.index(b"one", int.from_bytes(index[-28:-24], "big")) + 3
-    bad_list = index[:place] + b"\x7f" + index[place + 1 :]
+    offset = index.index(b"one", int.from_bytes(index[-28:-24], "big")) + 3
+    bad_list = index[:offset] + b"\x7f" + index[offset + 1 :]
 
-    each_refused(["cgrep", "one"])
-    each_refused(["cgrep", "one", "t/p", "t/none", "t/q", "t/d"])
-    each_refused(["cgrep", "line", "long", "t/none"], bare=True)
+    each_failing(["cgrep", "one"])
+    each_failing(["cgrep", "one", "t/p", "t/none", "t/q", "t/d"])
+    each_failing(["cgrep", "line", "long", "t/none"], bare=True)
     for style in ("-c", "-h", "-i", "-l", "-n"):
-        each_refused(["cgrep", style, "T[a-z]o"], bare=True)
-        each_refused(["cgrep", style, "a(b|c)*$", "t/none", "t/p"], bare=True)
-    for words in (["cgrep"], ["cgrep", "-v", "x"], ["cgrep", "a**"]):
-        each_refused(words)
+        each_failing(["cgrep", style, "T[a-z]o"], bare=True)
+        each_failing(["cgrep", style, "a(b|c)*$", "t/none", "t/p"], bare=True)
+    for args in (["cgrep"], ["cgrep", "-v", "x"], ["cgrep", "a**"]):
+        each_failing(args)
 
-    each_refused(["csearch", "one"], index)
-    each_refused(["csearch", "-brute", "-f", "[rp]$", "-n", "one"], index)
+    each_failing(["csearch", "one"], index)
+    each_failing(["csearch", "-brute", "-f", "[rp]$", "-n", "one"], index)
     for style in ("-c", "-h", "-i", "-l", "-n"):
-        each_refused(["csearch", style, "two|t.*ee"], index, bare=True)
-    for words in (["csearch", "-f", "(", "x"], ["csearch", "x", "y"]):
-        each_refused(words, index)
+        each_failing(["csearch", style, "two|t.*ee"], index, bare=True)
+    for args in (["csearch", "-f", "(", "x"], ["csearch", "x", "y"]):
+        each_failing(args, index)
     for damaged in (b"", b"no index", index[:-1], index[:20] + b"\0" + index[21:], bad_list):
-        each_refused(["csearch", "one"], damaged, bare=True)
-        each_refused(["csearch", "-brute", "one"], damaged, bare=True)
-    each_refused(["csearch", "one"])
+        each_failing(["csearch", "one"], damaged, bare=True)
+        each_failing(["csearch", "-brute", "one"], damaged, bare=True)
+    each_failing(["csearch", "one"])
 
-    each_refused(["cindex", "-reset", "t"])
-    each_refused(["cindex", "-logskip", "t", "t/none"], index)
-    each_refused(["cindex", "t/d"], index)
-    for words in (["t"], [], ["-list"], ["-reset"], ["-reset", "t/d"], [""], ["-reset", ""], ["t/none"]):
-        each_refused(["cindex"] + words, index, bare=True)
+    each_failing(["cindex", "-reset", "t"])
+    each_failing(["cindex", "-logskip", "t", "t/none"], index)
+    each_failing(["cindex", "t/d"], index)
+    for args in (["t"], [], ["-list"], ["-reset"], ["-reset", "t/d"], [""], ["-reset", ""], ["t/none"]):
+        each_failing(["cindex"] + args, index, bare=True)
     for damaged in (b"no index", index[:-1], bad_list):
-        each_refused(["cindex", "t"], damaged, bare=True)
-        each_refused(["cindex", "-list"], damaged, bare=True)
-        each_refused(["cindex", "-reset", "t/d"], damaged, bare=True)
-    for words in (["t/d"], [], ["-list"], ["-reset"]):
-        each_refused(["cindex"] + words, bare=True)
+        each_failing(["cindex", "t"], damaged, bare=True)
+        each_failing(["cindex", "-list"], damaged, bare=True)
+        each_failing(["cindex", "-reset", "t/d"], damaged, bare=True)
+    for args in (["t/d"], [], ["-list"], ["-reset"]):
+        each_failing(["cindex"] + args, bare=True)
     five_jobs(None)
     snapshot(0)
     unsorted = unsorted_index()
-    for words in (["a/g"], [], ["-list"]):
-        each_refused(["cindex"] + words, unsorted, bare=True)
+    for args in (["a/g"], [], ["-list"]):
+        each_failing(["cindex"] + args, unsorted, bare=True)
     five_jobs(unsorted)
-    print(f"allocations refused in turn: {allocations} allocations, {runs} runs, {running.wrong} wrong")
+    print(f"failing allocations: {allocations} allocations, {runs} runs, {running.wrong} wrong")
     return running.wrong != 0
 
 

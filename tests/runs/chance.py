@@ -1,6 +1,6 @@
 #!/usr/bin/env -S python3 -B
-"""Searches files of lines by chance for patterns by chance, always the same ones, and compares the lines that `cgrep` and `csearch`
-find with those that Python's `re` finds; then lines whose ends lie around those of the blocks that are passed over at once.
+"""Searches random files for random patterns, always the same ones, and compares the lines that `cgrep` and `csearch` find with those of
+Python's `re`; then searches lines whose ends are near those of the blocks that are skipped at once.
 usage: tests/runs/chance.py PROGRAM"""
 import random
 import re
@@ -21,7 +21,7 @@ WIDE = (
 EDGE = rb"(?:(?<![0-9A-Za-z_])(?=[0-9A-Za-z_])|(?<=[0-9A-Za-z_])(?![0-9A-Za-z_]))"
 NO_EDGE = rb"(?:(?<![0-9A-Za-z_])(?![0-9A-Za-z_])|(?<=[0-9A-Za-z_])(?=[0-9A-Za-z_]))"
 
-# What a pattern is made of, and what Python's `re` has for it over bytes. The first three ask for a word that few lines have.
+# The items of patterns, and their translation for Python's `re` over bytes. The first three require a rare literal.
 ITEMS = [
     ("zqj", b"zqj"),
     ("q[zj]", b"q[zj]"),
@@ -49,7 +49,7 @@ REPEATS = ["*", "+", "?", "{2}", "{0,2}", "{2,}", "{3,4}"]
 BYTES = [b"a", b"a", b"a", b"b", b"b", b"b", b"B", b"z", b"q", b"j", b"zqj", b" ", b"_", b"-", b"\t", b"\r", "é".encode(), "€".encode()]
 
 
-# Patterns that mean the same to Python, what lines have for them, and how many bytes the lines have beside it.
+# Patterns that mean the same to Python, a matching text for each, and the lengths of the rest of the line.
 PARTS = [
     ("[0-9]{3}-[0-9]{4}", "123-4567"),
     ("[0-9]{3}-[0-9]{4}", "123-456"),
@@ -65,7 +65,7 @@ LENGTHS = [0, 1, 29, 30, 31, *range(62, 71), *range(510, 515)]
 
 
 def repeated(chance, ours, theirs):
-    """An item or a group, which a third of the time is repeated."""
+    """An item or a group, which is repeated a third of the time."""
     if chance.random() < 0.35:
         repeat = chance.choice(REPEATS)
         return f"(?:{ours}){repeat}", b"(?:" + theirs + b")" + repeat.encode()
@@ -73,7 +73,7 @@ def repeated(chance, ours, theirs):
 
 
 def pattern_of(chance, depth=2):
-    """A pattern of a few items, groups and bars."""
+    """A random pattern of a few items, groups and alternations."""
     ours, theirs = "", b""
     for _ in range(chance.randint(1, 5)):
         if depth and chance.random() < 0.2:
@@ -93,13 +93,13 @@ def line_of(chance, is_text):
 
 
 def judge_parts():
-    """Finds parts in lines of such lengths, each before a line that is the part alone."""
+    """Searches lines of these lengths, each before a line that is the matching text alone."""
     for pattern, part in PARTS:
         for length in LENGTHS:
             lines = [" " * (length // 2) + part + " " * (length - length // 2), part] * 2
-            hits = [f"{at}:{line}\n" for at, line in enumerate(lines, 1) if re.search(pattern, line)]
+            matches = [f"{at}:{line}\n" for at, line in enumerate(lines, 1) if re.search(pattern, line)]
             came = run(["cgrep", "-h", "-n", pattern], "".join(line + "\n" for line in lines).encode())
-            if came != (0 if hits else 1, "".join(hits).encode(), b""):
+            if came != (0 if matches else 1, "".join(matches).encode(), b""):
                 complain(f"cgrep {pattern!r} in lines of {length} bytes beside {part!r}", came)
 
 
@@ -108,7 +108,7 @@ def main():
     chance = random.Random(2012)
     files = {}
     for at in range(FILES):
-        # (the last one is no text, so it is not indexed)
+        # (the last one is not text, so it is not indexed)
         name = f"{home}/t{at:02}"
         files[name] = [line_of(chance, at < FILES - 1) for _ in range(LINES)]
         write(name, b"".join(line + b"\n" for line in files[name]))
@@ -117,13 +117,13 @@ def main():
     for _ in range(PATTERNS):
         ours, theirs = pattern_of(chance)
         found = re.compile(theirs, re.S)
-        hits = {name: [name.encode() + b":" + line + b"\n" for line in lines if found.search(line)] for name, lines in files.items()}
+        matches = {name: [name.encode() + b":" + line + b"\n" for line in lines if found.search(line)] for name, lines in files.items()}
         for tool, names in (["cgrep", ours, *files], [*files]), (["csearch", ours], [*files][:-1]):
-            lines = b"".join(line for name in names for line in hits[name])
+            lines = b"".join(line for name in names for line in matches[name])
             came = run(tool)
             if came != (0 if lines else 1, lines, b""):
                 complain(f"{tool[0]} {ours!r}: wanted {lines}", came)
-    print(f"patterns by chance: {PATTERNS}, {running.wrong} wrong")
+    print(f"random patterns: {PATTERNS}, {running.wrong} wrong")
     return running.wrong > 0
 
 

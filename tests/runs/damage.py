@@ -1,12 +1,12 @@
 #!/usr/bin/env -S python3 -B
-"""Runs the program over random, cut, spliced and flipped indexes, always the same ones, and compares each answer with a plain
-reading of docs/FORMAT.md, "The index as it is read".
+"""Runs the program over random, cut, spliced and flipped indexes, always the same ones, and compares each answer with a reference
+reader of docs/FORMAT.md, "The index as it is read".
 usage: tests/runs/damage.py PROGRAM
 
-Each run has 2 GB of addresses and 5 seconds. Its status is 0 to 2. Where the bytes do not open, each tool is refused by the name
-of the fault, and the file stays as it was. Where they do, `cindex -list` lists their paths, `csearch -brute` is done, `csearch` is
-refused where its list is damaged, and `cindex PATH` is refused, by the right name and with the file as it was, or leaves the index
-of the names that remain and the new ones."""
+Each run has 2 GB of address space and 5 seconds. Its status is 0 to 2. If the bytes do not open, each tool fails with the name of the
+error, and the file stays unchanged. If they do, `cindex -list` lists their paths, `csearch -brute` succeeds, `csearch` fails if its
+posting list is damaged, and `cindex PATH` fails with the right name and an unchanged file, or leaves the index of the remaining names
+and the new ones."""
 import os
 import random
 import resource
@@ -32,7 +32,7 @@ def number(data, at):
 
 
 def texts(section):
-    """The texts of a section of them, each ended by a NUL, and what stands behind the last."""
+    """The texts of a section, each ended by a NUL, and the bytes after the last one."""
     parts = section.split(b"\0")
     whole = parts[: parts.index(b"") if b"" in parts else len(parts) - 1]
     rest = section[sum(len(text) + 1 for text in whole) :]
@@ -48,13 +48,13 @@ def is_text(data):
 
 
 def opened(data):
-    """The paths, the names, the entries by their trigrams, and the lists of an index."""
+    """The paths, the names, the list index by trigrams, and the posting lists of an index."""
     if data[:16] != MAGIC:
         raise Fault("magic")
     if len(data) < 52 or data[-16:] != TRAILER:
         raise Fault("trailer")
     end = len(data) - 36
-    offsets = [number(data, end + 4 * place) for place in range(5)] + [end]
+    offsets = [number(data, end + 4 * i) for i in range(5)] + [end]
     if offsets[0] != 16 or offsets != sorted(offsets):
         raise Fault("offsets")
     paths, names, lists, name_index, list_index = (data[a:b] for a, b in zip(offsets, offsets[1:]))
@@ -64,13 +64,13 @@ def opened(data):
     names, rest = texts(names)
     if rest not in (b"", b"\0"):
         raise Fault("names")
-    place = 0
+    offset = 0
     if len(name_index) != 4 * (len(names) + 1):
         raise Fault("name index")
     for at, name in enumerate(names):
-        if number(name_index, 4 * at) != place:
+        if number(name_index, 4 * at) != offset:
             raise Fault("name index")
-        place += len(name) + 1
+        offset += len(name) + 1
     entries = {}
     last = b""
     if len(list_index) % 11:
@@ -85,19 +85,19 @@ def opened(data):
 
 
 def varint(data, at):
-    """A number of seven bits a byte, and the place behind it; None where there is none."""
+    """A varint, and the offset after it; None if there is none."""
     value = 0
-    for place in range(5):
-        if at + place >= len(data):
+    for i in range(5):
+        if at + i >= len(data):
             return None, at
-        value |= (data[at + place] & 127) << 7 * place
-        if data[at + place] < 128:
-            return (value if value < 1 << 32 else None), at + place + 1
+        value |= (data[at + i] & 127) << 7 * i
+        if data[at + i] < 128:
+            return (value if value < 1 << 32 else None), at + i + 1
     return None, at
 
 
 def ids_of(trigram, count, offset, lists, names):
-    """The ids of a posting list; None where it is damaged."""
+    """The ids of a posting list; None if it is damaged."""
     if lists[offset : offset + 3] != trigram:
         return None
     at, ids = offset + 3, [-1]
@@ -110,7 +110,7 @@ def ids_of(trigram, count, offset, lists, names):
 
 
 def trigrams(names, entries, lists):
-    """The trigrams of each name; those whose list is damaged."""
+    """The trigrams of each name, and the trigrams whose list is damaged."""
     sets = {name: set() for name in names}
     damaged = set()
     for trigram, entry in entries.items():
@@ -132,7 +132,7 @@ def is_below(name, paths):
 
 
 def spliced(chance, whole):
-    """An index with a part of some index in the place of a part of it."""
+    """An index with a part replaced by a part of some index."""
     one, other = chance.choice(whole), chance.choice(whole)
     a, b = sorted(chance.randrange(len(one) + 1) for _ in range(2))
     c = chance.randrange(len(other) + 1)
@@ -140,7 +140,7 @@ def spliced(chance, whole):
 
 
 def flipped(chance, whole):
-    """An index with some bytes changed, mostly by one bit or to what is special."""
+    """An index with some bytes changed, mostly by one bit or to a special value."""
     data = bytearray(chance.choice(whole))
     for _ in range(chance.choice((1, 1, 1, 2, 4))):
         at = chance.randrange(len(data))
@@ -149,21 +149,21 @@ def flipped(chance, whole):
 
 
 def shifted(chance, whole):
-    """An index with an offset or a count changed by a little, or to much."""
+    """An index with an offset or a count changed by a little, or to a large value."""
     data = bytearray(chance.choice(whole))
     end = len(data) - 36
-    places = [end + 4 * place for place in range(5)]
-    places += range(number(data, end + 12), number(data, end + 16), 4)
+    offsets = [end + 4 * i for i in range(5)]
+    offsets += range(number(data, end + 12), number(data, end + 16), 4)
     for entry in range(number(data, end + 16), end, 11):
-        places += [entry + 3, entry + 7]
-    at = chance.choice(places)
+        offsets += [entry + 3, entry + 7]
+    at = chance.choice(offsets)
     value = chance.choice((number(data, at) + chance.choice((-11, -4, -1, 1, 4, 11)), 0, 1 << 31, (1 << 32) - 1))
     data[at : at + 4] = (value % (1 << 32)).to_bytes(4, "big")
     return bytes(data)
 
 
 def framed(chance, whole):
-    """Random bytes where the sections are, with offsets that may be right."""
+    """Sections of random bytes, with offsets that may be right."""
     sections = [bytes(chance.choice(b"\0\0\1\2ab/\x80\xff") for _ in range(chance.randrange(14))) for _ in range(5)]
     sections[0] = b"/a\0" * chance.randrange(3) + b"\0" + sections[0][: chance.choice((0, 0, 1))]
     offsets = [16]
@@ -181,7 +181,7 @@ def renamed(chance, whole):
 
 
 def shapes(chance, whole):
-    """One more index."""
+    """A damaged index."""
     kind = chance.randrange(9)
     if kind == 0:
         return chance.randbytes(chance.randrange(200))
@@ -197,56 +197,56 @@ def shapes(chance, whole):
     return (flipped if kind < 6 else shifted)(chance, whole)
 
 
-def ends(words, index):
-    """The answer of a run over these bytes of the index file, and the fault that it names."""
+def ends(args, index):
+    """The answer of a run over these bytes of the index file, and the error that it names."""
     leave(index)
-    status, out, err = run(words, seconds=5)
+    status, out, err = run(args, seconds=5)
     if status not in (0, 1, 2):
-        complain(f"{words} over {index!r}: its status", (status, err))
+        complain(f"{args} over {index!r}: its status", (status, err))
     lines = err.decode("latin-1").splitlines()
     fault = lines[-1].split(": ", 1)[1] if status == 2 and lines else None
     if status == 2 and (read("index") != index or os.path.lexists("index~")):
-        complain(f"{words} over {index!r}: it is refused, and the file has changed", fault)
+        complain(f"{args} over {index!r}: it fails, and the file has changed", fault)
     return status, out, fault
 
 
 def judge(index):
-    """Runs each tool over the bytes. Answers how they were taken."""
-    answers = {words: ends(words.split(), index) for words in ("cindex -list", "csearch one", "csearch -brute one", "cindex t/d")}
+    """Runs each tool over the bytes, and returns the outcome."""
+    answers = {args: ends(args.split(), index) for args in ("cindex -list", "csearch one", "csearch -brute one", "cindex t/d")}
     joined = read("index")
     try:
         paths, names, entries, lists = opened(index)
     except Fault as fault:
         want = f"bad index: {fault}"
-        for words, (status, out, came) in answers.items():
+        for args, (status, out, came) in answers.items():
             if (status, out, came) != (2, b"", want):
-                complain(f"{words} over {index!r}: wanted {want}", (status, out, came))
+                complain(f"{args} over {index!r}: wanted {want}", (status, out, came))
         return want
     sets, damaged = trigrams(names, entries, lists)
-    refusal = None
+    error = None
     if not all(map(is_clean, paths)):
-        refusal = "bad index: paths"
+        error = "bad index: paths"
     elif len(set(names)) != len(names):
-        refusal = "index holds a name twice"
+        error = "index holds a name twice"
     elif damaged:
-        refusal = "bad index: list"
+        error = "bad index: list"
     wanted = {
         "cindex -list": None,
         "csearch one": "bad index: list" if b"one" in damaged else None,
         "csearch -brute one": None,
-        "cindex t/d": refusal,
+        "cindex t/d": error,
     }
-    for words, (status, out, came) in answers.items():
+    for args, (status, out, came) in answers.items():
         listed = b"".join(path + b"\n" for path in paths)
-        if came != wanted[words] or words == "cindex -list" and out != listed:
-            complain(f"{words} over {index!r}: wanted {wanted[words]}", (status, out, came))
-    if refusal is None and not is_joined(paths, sets, joined):
+        if came != wanted[args] or args == "cindex -list" and out != listed:
+            complain(f"{args} over {index!r}: wanted {wanted[args]}", (status, out, came))
+    if error is None and not is_joined(paths, sets, joined):
         complain(f"cindex t/d over {index!r}: another index", joined)
-    return f"open, cindex {refusal or 'done'}"
+    return f"open, cindex {error or 'done'}"
 
 
 def is_joined(paths, sets, joined):
-    """Whether the index is that of these paths and names, joined with the new ones of t/d."""
+    """Whether the index is that of these paths and names, merged with the new ones of t/d."""
     new = [f"{home}/t/d".encode()]
     fresh, _ = trigrams(*opened(FRESH)[1:])
     wanted = {name: parts for name, parts in sets.items() if not is_below(name, new)}
@@ -268,18 +268,18 @@ def main():
     write("t/d/r", b"three\none")
     write("t/d/s", b"bone alone\n")
     whole = []
-    for words in (["-reset", "t/d"], ["-reset", "t"], ["-reset", "t/d", "t/none", "t/p"]):
-        run(["cindex"] + words)
+    for args in (["-reset", "t/d"], ["-reset", "t"], ["-reset", "t/d", "t/none", "t/p"]):
+        run(["cindex"] + args)
         whole.append(read("index"))
     FRESH = whole[0]
     chance = random.Random(2500)
     counts = {}
     for _ in range(INDEXES):
-        taken = judge(shapes(chance, whole))
-        counts[taken] = counts.get(taken, 0) + 1
+        outcome = judge(shapes(chance, whole))
+        counts[outcome] = counts.get(outcome, 0) + 1
     if "-v" in sys.argv:
-        for taken, count in sorted(counts.items()):
-            print(f"{count:6} {taken}")
+        for outcome, count in sorted(counts.items()):
+            print(f"{count:6} {outcome}")
     print(f"damaged indexes: {INDEXES} indexes, {4 * INDEXES} runs, {running.wrong} wrong")
     return running.wrong != 0
 

@@ -1,12 +1,12 @@
 #!/usr/bin/env -S python3 -B
-"""Runs the program with its system calls failing in turn, by strace, and compares each run with the one in which none fails; and
-over pipes, and over the deepest folders that paths allow.
+"""Runs the program with its system calls failing in turn, by strace, and compares each run with the one in which none fails. Also
+runs it over pipes, and over the deepest folders that paths allow.
 usage: tests/runs/failing.py PROGRAM
 
-For each job and each kind of call the Nth such call fails, N = 1, 2, .., until none is left. A run answers as if nothing had
-failed; or it leaves out one file or folder, with one line that it cannot be read, and the status is as it would be without; or it is
-refused: it has printed a front of the output, ends with status 2, and leaves the index file as it was. A call to open, read, write,
-sync or lock that a signal interrupts is made again, so that nothing of the answer changes, and a folder is read again."""
+For each job and each kind of call the Nth such call fails, N = 1, 2, .., until none is left. A run gives the usual answer; or it
+leaves out one file or folder, with one line that it cannot be read, and the status is the one without it; or it prints a prefix of
+the output, ends with status 2, and leaves the index file unchanged. A call to open, read, write, sync or lock that a signal
+interrupts is retried, so the answer does not change, and a folder is read again from its start."""
 import os
 import resource
 import shutil
@@ -19,18 +19,18 @@ import running
 from running import complain, home, leave, read, write
 
 CALLS = ["read", "write", "openat", "getdents64", "statx", "fsync", "ftruncate", "flock", "rename", "close", "fchmod"]
-# Those that are made again where a signal interrupts them.
+# The calls that are retried after an interrupt.
 AGAIN = ["read", "write", "openat", "getdents64", "fsync", "flock"]
-# How long a run may take that could wait for ever, in seconds.
+# The timeout of a run that could block, in seconds.
 PATIENCE = 20
-# The longest path that is looked at.
+# The longest path.
 LONGEST_PATH = 4095
 failures = 0
 strace = shutil.which("strace")
 
 
-def run(words, call=None, error="", when=0):
-    """The answer of a run, and whether a call failed in it: None where it did before the program began."""
+def run(args, call=None, error="", when=0):
+    """The answer of a run, and whether a call failed in it; None if it failed before the program began."""
     given = open("given", "rb")
     around = {"CSEARCHINDEX": home + "/index"}
     if call is None:
@@ -38,15 +38,15 @@ def run(words, call=None, error="", when=0):
     else:
         traced = [strace, "-qq", "-o", "log", "-e", f"trace={call}", "-e", f"inject={call}:error={error}:when={when}"]
     with given, open("out", "wb") as out, open("err", "wb") as err:
-        status = subprocess.call(traced + [running.program] + words, stdin=given, stdout=out, stderr=err, env=around)
+        status = subprocess.call(traced + [running.program] + args, stdin=given, stdout=out, stderr=err, env=around)
     failed = call is not None and b"(INJECTED)" in read("log")
     if failed and b"while loading shared libraries" in read("err"):
         failed = None
     return (status, read("out"), read("err")), failed
 
 
-def judge(words, call, came, ample, before, after):
-    """What is wrong about a run in which a call failed."""
+def judge(args, call, came, ample, before, after):
+    """What is wrong with a run in which a call failed."""
     status, out, err = came
     index = read("index")
     if came == ample and index == after:
@@ -59,7 +59,7 @@ def judge(words, call, came, ample, before, after):
             return "its line"
         if not ample[2].startswith(whole) or not ample[1].startswith(out):
             return "its output"
-        # Where the system does not say what stands beside the index, it is not taken away.
+        # If the system does not say what is beside the index, it is not removed.
         if index != before or os.path.lexists("index~") and call != "statx":
             return "its index file"
         return None
@@ -67,7 +67,7 @@ def judge(words, call, came, ample, before, after):
     if len(lost) != 1 or not lost[0].endswith(b": cannot be read\n"):
         return "its lines"
     name = lost[0].split(b": ")[1]
-    if words[0] == "cindex":
+    if args[0] == "cindex":
         return None if status == 0 and out == ample[1] and not has(index, name) else "its index"
     mine = lines_of(name, out)
     right = lines_of(name, ample[1])[: len(mine)] == mine and others(name, out) == others(name, ample[1])
@@ -88,10 +88,10 @@ def has(index, name):
     return any(file == name or file.startswith(name + b"/") for file in index[start:end].split(b"\0"))
 
 
-def each_failing(words, index):
+def each_failing(args, index):
     global failures
     leave(index)
-    ample, _ = run(words)
+    ample, _ = run(args)
     after = read("index")
     for call in CALLS:
         for error in ["EIO", "EINTR"] if call in AGAIN else ["EIO"]:
@@ -99,37 +99,37 @@ def each_failing(words, index):
             while True:
                 when += 1
                 leave(index)
-                came, failed = run(words, call, error, when)
+                came, failed = run(args, call, error, when)
                 if failed is None:
                     continue
                 if not failed:
                     break
                 failures += 1
                 if error == "EINTR":
-                    what = None if came == ample and read("index") == after else "not made again"
+                    what = None if came == ample and read("index") == after else "not retried"
                 else:
-                    what = judge(words, call, came, ample, index, after)
+                    what = judge(args, call, came, ample, index, after)
                 if what:
-                    complain(f"{words}, {call} {when} fails by {error}: {what}", came)
+                    complain(f"{args}, {call} {when} fails by {error}: {what}", came)
 
 
 def calls():
-    """The answers of all runs in which a call fails."""
+    """Judges all runs in which a call fails."""
     run(["cindex", "t"])
     index = read("index")
-    for words in (["cgrep", "one"], ["cgrep", "-n", "one", "t/p", "t/d/r"], ["csearch", "one"], ["csearch", "-brute", "-c", "one"]):
-        each_failing(words, index)
-    for words in (["cindex", "-reset", "t"], ["cindex", "t/d"], ["cindex"], ["cindex", "-list"], ["cindex", "-reset"]):
-        each_failing(words, index)
+    for args in (["cgrep", "one"], ["cgrep", "-n", "one", "t/p", "t/d/r"], ["csearch", "one"], ["csearch", "-brute", "-c", "one"]):
+        each_failing(args, index)
+    for args in (["cindex", "-reset", "t"], ["cindex", "t/d"], ["cindex"], ["cindex", "-list"], ["cindex", "-reset"]):
+        each_failing(args, index)
     each_failing(["cindex", "t"], None)
     print(f"failing system calls: {failures} runs, {running.wrong} wrong")
 
 
-def bounded(words, front=[], stack=None):
-    """The status, the output and the lines on standard error of a run that could wait for ever; None where it does."""
+def bounded(args, prefix=[], stack=None):
+    """The status, the output and the lines on standard error of a run that could block; None if it does."""
     limits = None if stack is None else lambda: resource.setrlimit(resource.RLIMIT_STACK, (stack, stack))
     child = subprocess.Popen(
-        front + [running.program] + words,
+        prefix + [running.program] + args,
         stdin=subprocess.DEVNULL,
         stdout=subprocess.PIPE,
         stderr=subprocess.PIPE,
@@ -161,14 +161,14 @@ def put_file(name, text):
 
 
 def pipes():
-    """An indexed file that is a pipe by now cannot be read, and is not waited for; cgrep reads one that it is given."""
+    """An indexed file that has become a pipe cannot be read, and does not block; cgrep reads a pipe that is an argument."""
     path = (home + "/t/p").encode()
     leave(None)
     run(["cindex", "t"])
     put_pipe("t/p")
     found = (home + "/t/d/r").encode() + b":one\n"
-    for words in (["csearch", "one"], ["csearch", "-brute", "one"]):
-        expect(f"{words} over a pipe", bounded(words), (0, found, b"csearch: " + path + b": cannot be read\n"))
+    for args in (["csearch", "one"], ["csearch", "-brute", "one"]):
+        expect(f"{args} over a pipe", bounded(args), (0, found, b"csearch: " + path + b": cannot be read\n"))
     expect("cindex over a pipe", bounded(["cindex", "t"]), (0, b"", b""))
     writer = threading.Thread(target=lambda: write("t/p", b"one\n"))
     writer.start()
@@ -179,7 +179,7 @@ def pipes():
 
 
 def late_pipes():
-    """A file that becomes a pipe while cindex runs, before it asks the system for the Nth time what stands somewhere."""
+    """A file that becomes a pipe while cindex runs, before its Nth call of statx."""
     line = b"cindex: " + (home + "/t/p").encode() + b": cannot be read\n"
     blamed = 0
     for when in range(1, 20):
@@ -201,7 +201,7 @@ def late_pipes():
 
 def deepest():
     """A folder whose path has 4095 bytes, below folders as deep as paths allow: it cannot be read, and the walk down to it needs
-    no more of the stack than any other one."""
+    no more stack than any other one."""
     top = home + "/deep"
     os.mkdir(top)
     os.chdir(top)
@@ -234,7 +234,7 @@ def main():
         calls()
         late_pipes()
     else:
-        print("skipped: failing system calls, and pipes that come late: there is no strace that works")
+        print("skipped: failing system calls and late pipes: there is no working strace")
     pipes()
     deepest()
     print(f"pipes and deep folders: {running.wrong} wrong in all")

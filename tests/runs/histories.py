@@ -1,8 +1,8 @@
 #!/usr/bin/env -S python3 -B
-"""Runs histories of jobs over small trees that change, always the same ones, and compares the index after each job with the one
-that a plain program lays at once (docs/FORMAT.md) from the paths that remain and the text last read of each file below them.
-Where each indexed file still reads as it was indexed, `csearch` has to print what `cgrep` prints over those files.
-The same over folders of many files, and over files of many trigrams.
+"""Runs histories of jobs over small trees that change, always the same ones. The index after each job is compared with the one that a
+reference writes (docs/FORMAT.md) from the remaining paths and the text last read of each file below them. If each indexed file is
+unchanged, `csearch` has to print what `cgrep` prints over those files. The same with folders of many files, and with files of many
+trigrams.
 usage: tests/runs/histories.py PROGRAM"""
 import os
 import random
@@ -14,11 +14,11 @@ from running import complain, home, leave, read, run, write
 
 HISTORIES = 1000
 JOBS = 4
-# How many files each of three folders has, and how many one of them has then; how many files of 20,000 trigrams are indexed.
+# The number of files of each of three folders, and the new number of one of them. The numbers of indexed files with 20,000 trigrams.
 JOINED = [(1, 0), (9, 8), (128, 127), (140, 0), (140, 131), (300, 300), (300, 1)]
 BATCHES = [1, 23, 24, 25, 26, 49]
 
-# Names beside one another that a `/` and a byte below it part, a name that is a folder at times, and a folder of its own.
+# Names that differ in a `/` and a lower byte, a name that is sometimes a folder, and a separate folder.
 FILES = ["a/b/f", "a/b/g", "a/b-x", "a/b.c", "a/g", "c/f", "c/d/e"]
 PATHS = ["a", "a/b", "a/b-x", "a/g", "c", "c/d"]
 TEXTS = [b"one\n", b"two\none\n", b"sixes\n", b"", b"o", None, None]
@@ -33,13 +33,13 @@ def below(paths, names):
 
 
 class Model:
-    """What the jobs so far amount to: the paths, or None where there is no index, and the text last read of each file."""
+    """The state after some jobs: the paths, or None without an index, and the text last read of each file."""
 
     def __init__(self):
         self.paths, self.kept = None, {}
 
     def job(self, resets, given, files):
-        """Takes a job over files, and answers its status."""
+        """Does a job over files, and returns its status."""
         if resets:
             self.paths, self.kept = None, {}
         walked = given or self.paths
@@ -52,7 +52,7 @@ class Model:
         return 0
 
     def index(self, chance=None):
-        """The bytes of the index, or None where there is none: with its names in order, or by chance as another tool may leave them."""
+        """The bytes of the index, or None without one. The names are sorted, or shuffled, as another tool may leave them."""
         if self.paths is None:
             return None
         names = sorted(self.kept)
@@ -70,11 +70,11 @@ class Model:
             ends.append(ends[-1] + len(name) + 1)
         strings = lambda each: b"".join(it.encode() + b"\0" for it in each) + b"\0"
         sections = [strings(self.paths), strings(names), lists + b"\xff\xff\xff\0", b"".join(map(number, ends)), entries]
-        image, offsets = b"csearch index 1\n", b""
+        data, offsets = b"csearch index 1\n", b""
         for section in sections:
-            offsets += number(len(image))
-            image += section
-        return image + offsets + b"\ncsearch trailr\n"
+            offsets += number(len(data))
+            data += section
+        return data + offsets + b"\ncsearch trailr\n"
 
 
 def number(value):
@@ -85,8 +85,8 @@ def varint(value):
     return bytes([value]) if value < 128 else bytes([value % 128 + 128]) + varint(value // 128)
 
 
-def lay(files):
-    """Makes the tree anew with these files, and answers them by their whole names."""
+def write_tree(files):
+    """Replaces the tree by these files, and returns them by their absolute names."""
     shutil.rmtree("t", ignore_errors=True)
     os.mkdir("t")
     for name, text in files.items():
@@ -95,17 +95,17 @@ def lay(files):
     return {f"{home}/t/{name}": text for name, text in files.items()}
 
 
-def by_chance(chance):
-    """A tree by chance."""
+def random_tree(chance):
+    """A random tree."""
     files = {name: text for name in FILES if (text := chance.choice(TEXTS)) is not None}
     if chance.random() < 0.2:
-        # (a file where a folder stood)
+        # (a file in place of a folder)
         files = {name: text for name, text in files.items() if not covers("a/b", name)} | {"a/b": b"file\n"}
-    return lay(files)
+    return write_tree(files)
 
 
 def finds_the_same(model, files):
-    """Whether csearch prints what cgrep prints over the indexed files, where these still read as they were indexed."""
+    """Whether csearch prints what cgrep prints over the indexed files, if these are unchanged."""
     if not model.kept or any(files.get(name) != text for name, text in model.kept.items()):
         return True
     pattern = ["-n", "(one|six)"]
@@ -113,17 +113,17 @@ def finds_the_same(model, files):
 
 
 def does(model, given, files, resets=False):
-    """Whether a job over these files leaves the index that the model lays, and csearch finds what cgrep does."""
+    """Whether a job over these files leaves the index of the model, and csearch finds what cgrep does."""
     status, out, _err = run(["cindex", *(["-reset"] if resets else []), *given])
     return (status, out, read("index")) == (model.job(resets, given, files), b"", model.index()) and finds_the_same(model, files)
 
 
 def history(chance):
-    """The first job of a history by chance that goes wrong, or nothing."""
+    """The first wrong job of a random history, or None."""
     leave(None)
     model = Model()
     for job in range(JOBS):
-        files = by_chance(chance)
+        files = random_tree(chance)
         if chance.random() < 0.2:
             leave(model.index(chance))
         resets = chance.random() < 0.15
@@ -134,14 +134,14 @@ def history(chance):
 
 
 def folder(path, count, state):
-    """Files of a text that all have, with one that few have, and one that a third has in each state."""
+    """Files with a text that all have, one that few have, and one that a third has in each state."""
     return {f"{path}/{at + 1000}": b"all" + b"few" * (at % 130 == 0) + b"third" * ((at + state) % 3 == 0) for at in range(count)}
 
 
 def is_joined(count, now, changed):
-    """Whether an index of three folders takes in one of them with so many files now, whose ids may be longer than a byte."""
+    """Whether the index of three folders is right after one of them has so many files, whose ids may need two bytes."""
     folders = {path: folder(path, count, 0) for path in "bcd"}
-    tree = lambda: lay({name: text for files in folders.values() for name, text in files.items()})
+    tree = lambda: write_tree({name: text for files in folders.values() for name, text in files.items()})
     model = Model()
     if not does(model, [f"{home}/t"], tree(), resets=True):
         return False
@@ -150,7 +150,7 @@ def is_joined(count, now, changed):
 
 
 def text_of_many_trigrams():
-    """A text of 20,000 trigrams, of which 24 fill what is put in order at once."""
+    """A text of 20,000 trigrams; 24 of them fill one batch of the radix sort."""
     text, state = bytearray(), 1
     for at in range(20_243):
         state = (state * 1_103_515_245 + 12_345) % 2**32
@@ -170,7 +170,7 @@ def main():
                 complain(f"{now} files for {count}, in {changed}", "another index")
     text = text_of_many_trigrams()
     for count in BATCHES:
-        if not does(Model(), [f"{home}/t"], lay({f"f/{at + 1000}": text for at in range(count)}), resets=True):
+        if not does(Model(), [f"{home}/t"], write_tree({f"f/{at + 1000}": text for at in range(count)}), resets=True):
             complain(f"{count} files of many trigrams", "another index")
     print(f"histories: {HISTORIES} of {JOBS} jobs, {3 * len(JOINED)} of many files, {len(BATCHES)} of many trigrams, {running.wrong} wrong")
     return running.wrong > 0

@@ -1,4 +1,4 @@
-"""Runs of the program in a new folder, for the tests that run it many times."""
+"""Runs of the program in a temporary folder, for the tests that run it many times."""
 import os
 import resource
 import shutil
@@ -21,7 +21,7 @@ def write(name, data):
 
 
 def read(name):
-    """The bytes of a file, or None where there is none."""
+    """The bytes of a file, or None if it does not exist."""
     try:
         with open(name, "rb") as file:
             return file.read()
@@ -30,7 +30,7 @@ def read(name):
 
 
 def leave(index):
-    """The index file has these bytes, or is not there, and nothing stands beside it."""
+    """Makes the index file have these bytes, or removes it, and removes the temporary file beside it."""
     if os.path.lexists("index~"):
         os.remove("index~")
     if read("index") == index:
@@ -41,54 +41,54 @@ def leave(index):
         write("index", index)
 
 
-def run(words, given=b"", surroundings={}, seconds=60):
-    """The status, or the number of a signal below zero, the output and the lines on standard error; after so many seconds
-    of processor time the run is killed."""
+def run(args, given=b"", environment={}, seconds=60):
+    """The status (a signal as a negative number), the output and the lines on standard error. The run is killed after so many
+    seconds of processor time."""
     write("given", given)
     streams = [
         (os.POSIX_SPAWN_OPEN, 0, "given", os.O_RDONLY, 0),
         (os.POSIX_SPAWN_OPEN, 1, "out", os.O_WRONLY | os.O_CREAT | os.O_TRUNC, 0o666),
         (os.POSIX_SPAWN_OPEN, 2, "err", os.O_WRONLY | os.O_CREAT | os.O_TRUNC, 0o666),
     ]
-    around = {"CSEARCHINDEX": home + "/index", **surroundings}
-    child = os.posix_spawn(program, [program] + words, around, file_actions=streams)
+    variables = {"CSEARCHINDEX": home + "/index", **environment}
+    child = os.posix_spawn(program, [program] + args, variables, file_actions=streams)
     resource.prlimit(child, resource.RLIMIT_CPU, (seconds, seconds))
     ended = os.waitpid(child, 0)[1]
     status = -(ended & 127) if ended & 127 else ended >> 8
     return status, read("out"), read("err")
 
 
-def build_refuser():
-    """Builds what refuses allocations, where there is a compiler; else the tests end here."""
+def build_failer():
+    """Builds the library that lets allocations fail. Without a compiler the tests end here."""
     compiler = shutil.which("cc")
     if compiler is None:
-        print("skipped: allocations refused in turn: there is no cc")
+        print("skipped: failing allocations: there is no cc")
         sys.exit(0)
-    subprocess.run([compiler, "-O2", "-shared", "-fPIC", "-o", "refused.so", tests + "/refused.c", "-ldl"], check=True)
+    subprocess.run([compiler, "-O2", "-shared", "-fPIC", "-o", "fail_allocations.so", tests + "/fail_allocations.c", "-ldl"], check=True)
 
 
-def refused_run(words, refuse, given=b""):
-    """A run with that allocation refused, or with `N+` that one and all behind it; and whether one was."""
-    if not os.path.exists("refused.so"):
-        build_refuser()
-    came = run(words, given, {"LD_PRELOAD": home + "/refused.so", "REFUSE": refuse, "REFUSED": home + "/refused"})
-    was_refused = os.path.exists("refused")
-    if was_refused:
-        os.remove("refused")
-    return came, was_refused
+def failing_run(args, number, given=b""):
+    """A run in which that allocation fails (with `N+` also all later ones), and whether one failed."""
+    if not os.path.exists("fail_allocations.so"):
+        build_failer()
+    came = run(args, given, {"LD_PRELOAD": home + "/fail_allocations.so", "FAIL": number, "FAILED": home + "/failed"})
+    has_failed = os.path.exists("failed")
+    if has_failed:
+        os.remove("failed")
+    return came, has_failed
 
 
-def counted_run(words):
-    """A run, and how many allocations it makes."""
-    if not os.path.exists("refused.so"):
-        build_refuser()
+def counted_run(args):
+    """A run, and the number of its allocations."""
+    if not os.path.exists("fail_allocations.so"):
+        build_failer()
     write("counted", b"")
-    came = run(words, surroundings={"LD_PRELOAD": home + "/refused.so", "COUNTED": home + "/counted"})
+    came = run(args, environment={"LD_PRELOAD": home + "/fail_allocations.so", "COUNTED": home + "/counted"})
     return came, len(read("counted"))
 
 
 def complain(what, came):
-    """Counts a wrong run, and shows the first ones."""
+    """Counts a wrong run, and prints the first ones."""
     global wrong
     wrong += 1
     if wrong <= 20:

@@ -1,7 +1,7 @@
 #!/bin/sh
-# Runs the program as a person does, in a fresh folder, and compares what it prints and its status.
+# Runs the program from a shell, in a fresh folder, and compares its output and its status.
 # usage: tests/shell/end_to_end.sh PROGRAM
-# A case that fails prints its command, what was wanted and what came. The last line is 'N passed, M failed'.
+# A failing case prints its command, what was wanted and what came. The last line is 'N passed, M failed'.
 
 program=$(readlink -f -- "$1") || exit 2
 root=$(dirname -- "$(readlink -f -- "$0")")/../..
@@ -12,11 +12,11 @@ mkdir files results
 passed=0
 failed=0
 
-# The Go tools, where they are installed.
+# The Go tools, if they are installed.
 go_cindex=$(command -v cindex)
 go_csearch=$(command -v csearch)
 
-# The command of a case is shell text, so that it shows as it would be typed; these stand for the program.
+# The command of a case is shell text, so that it is shown as one would type it. These functions stand for the program.
 codesearch() { "$program" "$@"; }
 cgrep() { "$program" cgrep "$@"; }
 cindex() { "$program" cindex "$@"; }
@@ -29,7 +29,7 @@ show() {
     printf '\n'
 }
 
-# verdict COMMAND: compares the results with what is wanted
+# verdict COMMAND: compares the results with the wanted ones
 verdict() {
     if cmp -s results/out results/wanted.out && cmp -s results/err results/wanted.err && [ "$came" = "$wanted" ]; then
         passed=$((passed + 1))
@@ -43,7 +43,8 @@ verdict() {
     show 'error came' results/err
 }
 
-# try STATUS OUTPUT ERROR COMMAND: OUTPUT and ERROR as printf writes them; standard input is empty, but for what COMMAND gives
+# try STATUS OUTPUT ERROR COMMAND: OUTPUT and ERROR as printf writes them; standard input is empty unless COMMAND redirects
+# it
 try() {
     wanted=$1
     printf -- "$2" > results/wanted.out
@@ -53,7 +54,7 @@ try() {
     verdict "$4"
 }
 
-# same COMMAND PEER: prints the same bytes as PEER, with the same status
+# same COMMAND OTHER: both print the same bytes with the same status
 same() {
     eval "$2" > results/wanted.out 2> results/wanted.err < /dev/null
     wanted=$?
@@ -62,7 +63,7 @@ same() {
     verdict "$1    (as: $2)"
 }
 
-# holds COMMAND: a test of the shell's that has to pass
+# holds COMMAND: a command of the shell that has to succeed
 holds() {
     : > results/wanted.out
     : > results/wanted.err
@@ -74,7 +75,7 @@ holds() {
 
 skipped() { printf 'skipped: %s\n' "$1"; }
 
-# Root may read and write what is closed, unless it gives that power up.
+# Root may read and write protected files, unless it gives up that capability.
 powerless() { "$@"; }
 if [ "$(id -u)" -eq 0 ]; then
     powers=-dac_override,-dac_read_search
@@ -82,7 +83,7 @@ if [ "$(id -u)" -eq 0 ]; then
 fi
 printf 'one\n' > files/locked
 chmod 000 files/locked
-# Whether a closed file is closed to `powerless PROGRAM ..`.
+# Whether a protected file is protected from `powerless PROGRAM ..`.
 shuts() { powerless true 2>/dev/null && ! powerless cat files/locked > /dev/null 2>&1; }
 
 # ---- standard input -------------------------------------------------------------------------------------------------
@@ -103,7 +104,7 @@ try 0 '<standard input>:A\0008\n' '' "printf 'A\0008\nA8\n' | cgrep '^\101\08\$'
 # Letters past ASCII are not folded.
 try 0 '<standard input>:\303\251A\n' '' "printf '\303\211A\n\303\251A\n' | cgrep -i 'éa'"
 
-# ---- refusals -------------------------------------------------------------------------------------------------------
+# ---- errors ---------------------------------------------------------------------------------------------------------
 first='codesearch: first word must be cindex, csearch or cgrep\n'
 try 2 '' "$first" "codesearch"
 try 2 '' "$first" "codesearch grep x"
@@ -114,7 +115,7 @@ try 2 '' 'cgrep: pattern at 0: nothing to repeat\n' "cgrep '*a' < files/lines"
 try 2 '' 'cgrep: pattern at 1: nothing to repeat\n' "cgrep '(*a)' < files/lines"
 try 2 '' 'cgrep: pattern at 0: group not closed\n' "cgrep '(a' < files/lines"
 try 2 '' 'cgrep: pattern at 1: unexpected )\n' "cgrep 'a)' < files/lines"
-# a word that is no text
+# an argument that is not UTF-8
 bad=$(printf 'a\377')
 long=$(head -c 100000 /dev/zero | tr '\0' a)
 try 2 '' "$first" "codesearch \"\$bad\" x files/lines"
@@ -150,16 +151,16 @@ while IFS=$tab read -r words at pattern; do
     cgrep -- "$pattern" > results/out 2> results/err < /dev/null
     came=$?
     verdict "cgrep -- '$pattern'"
-done < "$root/tests/shell/refusals.tsv"
+done < "$root/tests/shell/errors.tsv"
 
 # ---- characters -------------------------------------------------------------------------------------------------------
-# Where grep -P takes characters, it is the peer. What PCRE2 makes of \D as machine code (JIT) finds none past ASCII in 10.42.
+# The reference is grep -P if it supports UTF-8. The machine code (JIT) of PCRE2 10.42 for \D misses characters past ASCII.
 utf8=$(locale -a 2>/dev/null | grep -ix 'c\.utf-\{0,1\}8' | head -n 1)
 # finds BYTES PATTERN: whether grep finds the pattern in the bytes
 finds() { printf -- "$1\n" | LC_ALL=$utf8 grep -aqP "(*NO_JIT)$2" 2>/dev/null; }
 [ -n "$utf8" ] && finds '\303\251' '^\D$' && ! finds '\377' '^.$' || utf8=
 if [ -n "$utf8" ]; then
-    # All lines of one to four of a letter and the bytes with which ranges of well-formed sequences begin and end.
+    # All lines of one to four bytes, each a letter or the first or last byte of a range of well-formed sequences.
     LC_ALL=C awk 'BEGIN {
         n = split("97 127 128 143 144 159 160 169 191 193 194 195 223 224 225 236 237 238 239 240 241 243 244 245 255", byte)
         for (i in byte) byte[i] = sprintf("%c", byte[i] + 0)
@@ -183,7 +184,7 @@ else
     skipped 'characters as grep takes them: there is no C.UTF-8, or grep -P does not take characters there'
 fi
 
-# ---- words ----------------------------------------------------------------------------------------------------------
+# ---- arguments ------------------------------------------------------------------------------------------------------
 printf 'one\ntwo\none\n' > files/p
 printf 'say -x\na-b\n' > files/dashes
 try 0 'files/p:1:one\nfiles/p:3:one\n' '' "cgrep -n one files/p"
@@ -198,7 +199,7 @@ try 2 '' 'cgrep: unknown option -cn\n' "cgrep -cn x"
 try 2 '' 'cgrep: unknown option ---n\n' "cgrep ---n x"
 try 2 '' 'cgrep: unknown option -f\n' "cgrep -f x"
 try 2 '' 'cgrep: no pattern\n' "cgrep -n"
-# An option behind the pattern is a file.
+# An option after the pattern is a file.
 try 0 'files/p:two\n' 'cgrep: -n: no such file\n' "cgrep two -n files/p"
 
 # ---- styles: each option alone, and each pair -------------------------------------------------------------------------
@@ -265,7 +266,7 @@ try 1 '' 'cgrep: files/hard: is the output\ncgrep: files/soft: is the output\n' 
 same "cat files/own" "cat files/p"
 try 0 '' "$own" "cgrep one files/own files/p >> files/own"
 same "cat files/own" "cat files/p && printf '$lines'"
-# A name or a count is one line; another output is none of the files.
+# With -l or -c a file that is the output is searched. If no file is the output, nothing is reported.
 cp files/p files/own
 try 0 '' '' "cgrep -l one files/own >> files/own && cgrep -c one files/own >> files/own"
 same "cat files/own" "cat files/p && printf 'files/own\nfiles/own: 2\n'"
@@ -285,7 +286,7 @@ awk 'BEGIN { for (i = 10000; i < 20000; i++) { f = "files/many/" i; printf "line
 same "cgrep '7\$' files/many/*" "LC_ALL=C grep -H '7\$' files/many/*"
 same "cgrep -l '^number 1234' files/many/*" "LC_ALL=C grep -l '^number 1234' files/many/*"
 
-# 2^30 bytes are searched, 2^20 lines here. Of an input of one byte more all of these are printed, and none is counted.
+# 2^30 bytes are searched, here 2^20 lines. If the input has one byte more, all these lines are printed, and no count.
 kilo=$(printf '%01023d' 0)
 try 0 '<standard input>: 1048576\n' '' "yes \$kilo | head -c 1073741824 | cgrep -c 0"
 try 0 '' 'cgrep: <standard input>: input too long\n' "yes \$kilo | head -c 1073741825 | cgrep -c 0"
@@ -298,24 +299,24 @@ if [ -w /dev/full ]; then
 else
     skipped 'a full output: there is no /dev/full'
 fi
-# A closed output is one that fails, in each style.
+# A closed output fails, in each style.
 for style in '' -c -h -i -l -n; do
     try 2 '' 'cgrep: output failed\n' "cgrep $style one files/p >&-"
     try 2 '' 'cgrep: output failed\n' "cat files/p | cgrep $style one >&-"
     [ ! -w /dev/full ] || try 2 '' 'cgrep: output failed\n' "cgrep $style one files/p > /dev/full"
 done
-# Where standard error fails there is nothing left to say.
+# If standard error fails, nothing more can be reported.
 try 2 '' '' "cgrep 'a**' 2>&-"
 try 2 '' '' "cgrep one files/none 2>&-"
-# Where the output is closed early the program says so, and ends at once.
-# closed TOOL: the last run of the tool said so
+# If the output is closed early, the program reports it and ends at once.
+# closed TOOL: the last run of the tool reported it
 closed() { [ "$(cat results/status)" -eq 2 ] && [ "$(cat results/said)" = "$1: output failed" ]; }
 try 0 'files/many/10000:line\n' '' "{ timeout 20 \"\$program\" cgrep line files/many/* 2> results/said; echo \$? > results/status; } | head -n 1"
 holds "closed cgrep"
 holds "seq 1 3000000 | timeout 20 \"\$program\" cgrep '' 2>/dev/null | head -n 1 | grep -qx '<standard input>:1'"
 
 # ---- the same lines as grep, over the sources of this repository --------------------------------------------------------
-# By -s all names go to one command, so that its status is that of xargs.
+# With -s all names go to one command, so that its status is that of xargs.
 tree=$root/crates
 find "$tree" -type d -name out -prune -o -type f \( -name '*.rt' -o -name '*.antt' \) -print | sort > results/names
 for pattern in 'requires' '^use .*specs' 'fn [a-z_]*\(' '(length|take) [a-z]' '^$'; do

@@ -1,4 +1,4 @@
-# Indexes of real trees. A part of end_to_end.sh, which says what `try`, `same` and `holds` do.
+# Indexes of real trees. A part of end_to_end.sh, which defines `try`, `same` and `holds`.
 
 # ---- small trees ----------------------------------------------------------------------------------------------------
 mkdir trees trees/a
@@ -11,13 +11,13 @@ try 0 '' '' "cindex trees/a"
 try 0 "$home/trees/a\n" '' "cindex -list"
 printf 'abcd\n' > trees/a/x
 try 0 '' '' "cindex"
-# The same tree at the path /a gives known bytes: the offsets behind the path grow by its length.
+# The index of the same tree at the path /a has known bytes: offsets after the path grow by its length.
 long=$((${#home} + 6))
 {
     printf 'csearch index 1\n%s/trees/a\0\0%s/trees/a/x\0\0' "$home" "$home"
     printf "abc\\001\\0bcd\\001\\0cd\\n\\001\\0\\377\\377\\377\\0"
-} > results/front
-holds "head -c \$((48 + 2 * long - 3)) index | cmp -s - results/front"
+} > results/prefix
+holds "head -c \$((48 + 2 * long - 3)) index | cmp -s - results/prefix"
 holds "[ \$(wc -c < index) -eq \$((122 + 2 * long)) ]"
 try 0 "$home/trees/a/x:abcd\n" '' "csearch bcd"
 try 1 '' '' "csearch xyz"
@@ -29,7 +29,7 @@ try 0 "$home/trees/a\n" '' "cindex -list trees/none"
 try 0 '' "cindex: $home/-list: no such file\n" "cindex trees/a -list"
 try 0 "$home/-list\n$home/trees/a\n" '' "cindex -list"
 
-# ---- what is left out -------------------------------------------------------------------------------------------------
+# ---- excluded and skipped files ---------------------------------------------------------------------------------------
 mkdir trees/odd trees/odd/.git trees/odd/folder~
 for name in .hidden '#lock' '~draft' 'backup~' plain .git/config 'folder~/inside' 'a b' 'new
 line'; do
@@ -42,7 +42,7 @@ head -c 3000 /dev/zero | tr '\0' a > trees/odd/long
 ln -s plain trees/odd/link
 ln -s ../odd trees/odd/circle
 mkfifo trees/odd/pipe
-# The name of a socket is short.
+# The name of a socket has to be short.
 (
     cd trees/odd || exit
     perl -MSocket -e 'socket(S, AF_UNIX, SOCK_STREAM, 0) and bind(S, sockaddr_un("socket")) or exit 1' ||
@@ -90,7 +90,7 @@ else
     skipped 'a folder and a file that may not be read: root may read all of them, and setpriv does not take that away'
 fi
 
-# ---- a folder that changes while it is read ---------------------------------------------------------------------------
+# ---- a folder that changes during a read ------------------------------------------------------------------------------
 mkdir trees/moving
 (
     while [ -d trees/moving ] && [ ! -e results/stop ]; do
@@ -119,7 +119,7 @@ wait $mover
 rm -r trees/moving
 
 # ---- paths that are too long ------------------------------------------------------------------------------------------
-# The longest that the system takes has 4095 bytes.
+# The longest path that the system accepts has 4095 bytes.
 deep=$home/trees/deep
 mkdir trees/deep
 (
@@ -155,13 +155,13 @@ try 2 '' "codesearch: cannot read $home/trees\n" "CSEARCHINDEX=\$home/trees cind
 try 2 '' "codesearch: cannot read $home/trees\n" "CSEARCHINDEX=\$home/trees csearch x"
 try 2 '' "codesearch: cannot write $home/index\n" "(ulimit -f 1; trap '' XFSZ; cindex trees/b)"
 holds "cmp -s index results/old && [ ! -e index~ ]"
-# What a killed run left behind is written over, though it is longer.
+# The file of a killed run is overwritten, though it is longer.
 head -c 1000000 /dev/zero > index~
 try 0 '' '' "cindex trees/b"
 holds "[ ! -e index~ ]"
 try 0 "$home/trees/a\n$home/trees/b\n" '' "cindex -list"
 try 0 "$home/trees/b/many: 2000\n" '' "csearch -c 'line [0-9]+ of many'"
-# What is at FILE~ and is no file of ours stays as it is, and FILE too.
+# A file at FILE~ that cindex did not create stays unchanged, and so does FILE.
 cp results/old index
 printf 'other\n' > results/other
 cp results/other results/kept
@@ -185,14 +185,14 @@ if mknod results/odd c 1 3 2>/dev/null; then
 else
     skipped 'a device as the index: this user may not make one'
 fi
-# One longer than an index can be is not read.
+# A file that is longer than an index can be is not read.
 if truncate -s 5G results/odd 2>/dev/null; then
     try 2 '' "codesearch: cannot read $home/results/odd\n" "(ulimit -v 1000000; CSEARCHINDEX=\$home/results/odd \"\$program\" cindex trees/a)"
     rm results/odd
 else
     skipped 'an index of 5 GB: the system makes no such file'
 fi
-# The mode: that of the index which is replaced, or else what the mask leaves; never that of a file that was left behind.
+# The mode is that of the replaced index, or 666 without the bits of the umask; never that of an abandoned file.
 for mode in 600 640 444; do
     cp results/old index
     chmod $mode index
@@ -210,14 +210,14 @@ if [ "$(id -u)" -eq 0 ] && chown 12345:12345 index 2>/dev/null; then
     holds "[ \$(stat -c %u:%g index) = 12345:12345 ]"
     cp results/old index
     chown 0:0 index
-    # A stranger's file at FILE~ stays, and FILE too.
+    # Another user's file at FILE~ stays, and so does FILE.
     printf 'left\n' > index~
     chown 12345:12345 index~
     chmod 666 index~
     try 2 '' "$refused" "cindex trees/b"
     try 2 '' "$refused" "cindex -reset"
     holds "cmp -s index results/old && [ \"\$(cat index~)\" = left ] && rm index~"
-    # One who puts files and links there again and again, in a folder like /tmp, comes to hold no index.
+    # An attacker who creates files and links there again and again, in a folder like /tmp, never owns the index.
     if command -v setpriv > /dev/null; then
         chmod 711 "$home"
         mkdir -m 1777 results/sticky
@@ -286,7 +286,7 @@ for command in 'cindex -logskip trees/odd' 'cindex trees/none' 'cindex -reset tr
 done
 try 2 '' 'codesearch: no current folder\n' "(mkdir gone && cd gone && rmdir ../gone && cindex trees/a)"
 
-# ---- histories: after each job the index is the one built at once ---------------------------------------------------------
+# ---- histories: after each job the index is the one of a single build --------------------------------------------------
 # afresh PATH..: the index is that of the paths, built at once
 afresh() {
     CSEARCHINDEX=$home/results/fresh "$program" cindex -reset "$@" 2>/dev/null
@@ -328,7 +328,7 @@ holds "afresh trees"
 try 0 '' '' "cindex -reset trees/a"
 holds "cmp -s index results/old"
 cp index results/whole
-# damage PLACE BYTE: the index is the whole one with another byte there; BYTE as printf writes it
+# damage OFFSET BYTE: changes one byte of the index; BYTE as printf writes it
 damage() {
     { head -c "$1" results/whole; printf "$2"; tail -c +$(($1 + 2)) results/whole; } > index
     cp index results/damaged
@@ -341,7 +341,8 @@ for place in 0 20 60 70 90 110 130; do
         *) holds "grep -q '^cindex: bad index: ' results/said && cmp -s index results/damaged" ;;
     esac
 done
-# The third number of the trailer is where the lists begin. The first is that of abc: a delta, and a closing zero.
+# The third number of the trailer is the offset of the posting lists. The first list is that of abc: a delta, and a closing
+# zero.
 lists=$(tail -c 28 results/whole | head -c 4 | od -An -tu1 | awk '{ print (($1 * 256 + $2) * 256 + $3) * 256 + $4 }')
 for byte in '\001' '\377'; do
     damage $((lists + 4)) "$byte"
@@ -354,22 +355,22 @@ done
 # ---- a real tree ------------------------------------------------------------------------------------------------------
 mkdir trees/real
 (cd "$root" && tar -cf - --exclude=out --exclude=.git crates docs tests) | tar -xf - -C trees/real
-rm trees/real/tests/shell/refusals.tsv # it has a line of 10000 letters
+rm trees/real/tests/shell/errors.tsv # it has a line of 10000 letters
 try 0 '' '' "cindex -reset trees/real"
 holds "[ \$(csearch -brute -l '' | wc -l) -gt 100 ]"
 try 0 "$home/trees/real\n" '' "cindex -list"
 same "csearch -brute -l ''" "find \$home/trees/real -type f -size +0 | LC_ALL=C sort"
 cp index results/new
 
-# ---- a run that is killed, and two at one time ----------------------------------------------------------------------------
+# ---- a killed run, and two runs at one time ----------------------------------------------------------------------------
 began=$(date +%s%N)
 cindex -reset trees/real
 took=$((($(date +%s%N) - began) / 1000000)) # milliseconds
-# A random moment, in seconds, while a run lasts.
+# A random moment, in seconds, during a run.
 moment() {
     awk -v most="$took" -v seed="$(od -An -N4 -tu4 /dev/urandom)" 'BEGIN { srand(seed); printf "%.3f\n", rand() * most / 1000 }'
 }
-# Every other run is killed as it writes.
+# Every other run is killed during its write.
 time=0
 while [ $time -lt 100 ]; do
     time=$((time + 1))
@@ -387,7 +388,7 @@ while [ $time -lt 100 ]; do
 done
 try 0 '' '' "cindex -reset trees/real"
 holds "cmp -s index results/new && [ ! -e index~ ]"
-# Of two runs one may find that the other is writing. One of them is done.
+# Of two concurrent runs, one may fail because the other one is writing; at least one succeeds.
 CSEARCHINDEX=$home/results/both "$program" cindex -reset trees/real trees/b
 for time in 1 2 3 4 5; do
     cp results/old index
@@ -397,7 +398,7 @@ for time in 1 2 3 4 5; do
     holds "cmp -s index results/new || cmp -s index results/both"
     holds "[ ! -e index~ ] && ! cat results/one results/two | grep -vx \"codesearch: cannot write \$home/index\""
 done
-# Of two runs that add to the same index none is lost: one that finds it changed refuses.
+# No update is lost if two runs add to the same index: a run that finds the index changed fails.
 for time in 1 2 3 4 5 6 7 8 9 10 11 12 13 14 15 16 17 18 19 20; do
     rm -f index
     "$program" cindex trees/a 2> results/one &
@@ -429,7 +430,7 @@ if [ -n "$go_csearch" ]; then
     CSEARCHINDEX=$home/results/go "$go_cindex" -reset "$home/trees/real" 2>/dev/null
     same "CSEARCHINDEX=\$home/results/go csearch requires | sort" "csearch requires | sort"
     same "CSEARCHINDEX=\$home/results/go cindex -list" "CSEARCHINDEX=\$home/results/go \$go_cindex -list"
-    # Ours goes on from an index that Go's wrote, at once or as a join of two: what comes is what ours makes anew.
+    # Our cindex continues from an index that Go's cindex built or merged: the result is that of a fresh build.
     cp results/go results/old
     try 0 '' '' 'CSEARCHINDEX=$home/results/old cindex && cmp results/old index'
     cp results/go results/old

@@ -1,4 +1,5 @@
-# What tests/shell/manual.sh and tests/shell/use.sh share: they set `program` from their first argument, count what holds, and end with a summary.
+# Shared by tests/shell/manual.sh and tests/shell/use.sh: sets `program` from their first argument, counts successes, and
+# ends with a summary.
 
 program=$(readlink -f -- "$1") || exit 2
 root=$(readlink -f -- "$(dirname -- "$0")/../..") || exit 2
@@ -9,7 +10,7 @@ failed=0
 
 skipped() { printf 'skipped: %s\n' "$1"; }
 
-# holds COMMAND: a test of the shell's that has to pass; its output is shown if it does not
+# holds COMMAND: a command of the shell that has to succeed; otherwise its output is shown
 holds() {
     if said=$(eval "$1" 2>&1 < /dev/null); then
         passed=$((passed + 1))
@@ -22,14 +23,24 @@ holds() {
 # gives STATUS COMMAND
 gives() { holds "$2; came=\$?; echo \"status: wanted $1, came \$came\"; [ \$came = $1 ]"; }
 
-# same FILE FILE: two files of the fresh folder have the same bytes
+# same FILE FILE: two files have the same bytes
 same() { holds "diff '$fresh/$1' '$fresh/$2' | head -n 10; cmp -s '$fresh/$1' '$fresh/$2'"; }
 
-# silent COMMAND: a test that passes if the command prints nothing
+# silent COMMAND: succeeds if the command prints nothing
 silent() { holds "said=\$($1 2>&1); printf '%s' \"\$said\"; [ -z \"\$said\" ]"; }
 
 # summary: the last line, and the status
 summary() {
     printf '%d passed, %d failed\n' $passed $failed
     [ $failed -eq 0 ]
+}
+
+# needs COMMAND..: ends the tests, with the reason, if a command is not installed
+needs() {
+    for needed do
+        command -v "$needed" > /dev/null && continue
+        skipped "all of ${0##*/}: $needed is not installed"
+        summary
+        exit
+    done
 }

@@ -1,5 +1,5 @@
-# Prints what an index says, whatever the order of its names: the paths and the names in byte order, and a line
-# for each trigram, in base 16, with the places of its files in that order of names.
+# Prints the content of an index independent of the order of its names: the paths and the names in byte order, and for each
+# trigram, in hexadecimal, a line with the ranks of its files in that order.
 # usage: perl lists.pl INDEX
 use strict;
 use warnings;
@@ -17,7 +17,7 @@ my @rank;
 @rank[@order] = 0 .. $#order;
 print "name $names[$_]\n" for @order;
 
-# The number at a place: seven bits a byte, the lowest first. The place goes past it.
+# The varint at an offset: seven bits a byte, the lowest first. The offset is moved past it.
 sub varint {
     my $at = shift;
     my ($number, $shift) = (0, 0);

@@ -1,15 +1,15 @@
 #!/bin/sh
-# Installs the program as a person does, in a fresh folder, and tries what is installed: the pages of man/, the examples in
+# Installs the program as a person does, in a fresh folder, and tests what is installed: the pages of man/, the examples in
 # them, in docs/USE.md and in README.md, and the completion for bash.
 # usage: tests/shell/manual.sh PROGRAM
-# A line of an example that begins with '$ ' is a command, one with '> ' goes on with it, and the lines behind it are what it
-# prints. It runs in the home folder of a fresh tree, whose name is /home/ann. The last line is 'N passed, M failed'.
+# In an example a line that begins with '$ ' is a command, one with '> ' continues it, and the lines after it are its output.
+# It runs in the home folder of a fresh tree, whose name is /home/ann. The last line is 'N passed, M failed'.
 
 . "$(dirname -- "$0")/library.sh"
 
 # ---- what is installed ----------------------------------------------------------------------------------------------
 prefix=$fresh/usr
-# The program is taken as it is, though a source may be newer.
+# The program is installed as it is, even if a source is newer.
 managed() { make -s -C "$root" -o "$program" program="$program" DESTDIR="$2" PREFIX="$prefix" "$1"; }
 pages=$(cd "$root/man" && ls)
 holds 'managed install'
@@ -27,7 +27,7 @@ for page in $pages; do
 done
 command -v mandoc > /dev/null || skipped 'the pages by mandoc: it is not installed'
 command -v groff > /dev/null || skipped 'the pages by groff: it is not installed'
-# Each option of a tool stands in its page, in the synopsis and in the list.
+# Each option of a tool is in its page, in the synopsis and in the list.
 options() { # options TOOL: those that its line in README.md has
     grep "^    $1 \\[" "$root/README.md" | grep -o '\[-[a-z]*' | cut -c3-
 }
@@ -60,7 +60,7 @@ plant() {
     printf '\211PNG\r\n\032\n\000\000' > "$HOME/src/logo.png"
 }
 
-# ran: compares what the last command printed with what the example says
+# ran: compares the output of the last command with the example
 ran() {
     [ -n "$command" ] || return
     eval "$command" > "$fresh/out" 2>&1 < /dev/null
@@ -134,12 +134,12 @@ else
     skipped 'completion: there is no bash'
 fi
 
-# ---- what is taken away ---------------------------------------------------------------------------------------------------
+# ---- uninstalling ---------------------------------------------------------------------------------------------------------
 holds 'managed uninstall'
 silent "find '$prefix' -type f"
-# The scripts name PREFIX, so it has to be an absolute path.
+# The scripts contain PREFIX, so it has to be an absolute path.
 holds "! make -s -C '$root' -o '$program' program='$program' PREFIX=usr install && [ ! -e '$root/usr' ]"
-# A packager's folder: what stands in it is to be moved to PREFIX.
+# A packager's folder: its content is to be moved to PREFIX.
 holds "managed install '$fresh/stage' && [ ! -e '$prefix/bin/codesearch' ] && [ -x '$fresh/stage$prefix/bin/codesearch' ]"
 holds "grep -q 'exec \"$prefix/bin/codesearch\" csearch' '$fresh/stage$prefix/bin/csearch'"
 holds "managed uninstall '$fresh/stage'"

@@ -1,4 +1,4 @@
-# Searches through an index of a real tree. A part of end_to_end.sh, which says what `try`, `same` and `holds` do.
+# Searches of an index of a real tree. A part of end_to_end.sh, which defines `try`, `same` and `holds`.
 
 # ---- options ----------------------------------------------------------------------------------------------------------
 mkdir trees/s
@@ -46,7 +46,7 @@ try 0 '' '' "CSEARCHINDEX=\$home/own csearch -c one >> trees/own/out"
 same "tail -n 4 trees/own/out" "printf '$own/in\n$own/out\n$own/in: 1\n$own/out: 2\n'"
 try 0 '' '' "CSEARCHINDEX=\$home/own cindex trees/own > trees/own/out"
 
-# ---- files that have changed since --------------------------------------------------------------------------------------
+# ---- files that have changed since the job --------------------------------------------------------------------------------
 printf 'four\n' > trees/s/p
 try 0 "$r:one\n" '' "csearch one"
 try 1 '' '' "csearch four"
@@ -57,10 +57,11 @@ mkdir trees/s/p
 try 0 "$r:one\n" "csearch: $p: cannot be read\n" "csearch one"
 try 0 "$q:Two\n" '' "csearch Two"
 
-# ---- no line is lost: a search by trigrams lists the files that cgrep lists -------------------------------------------------
-# A row of queries.txt has a pattern, a text with a match and, but for a pattern that every line matches, a near miss: a
-# text without one that shares its trigrams or letters. Texts are as printf's %b reads them. Row n gives the files
-# match-n and miss-n; each pattern is asked of the files of all rows.
+# ---- no line is lost: a search by trigrams lists the files that cgrep lists
+# -------------------------------------------------
+# A row of queries.txt has a pattern, a text with a match and, unless every line matches, a near miss: a text without a match
+# that shares its trigrams or letters. Texts are as printf's %b reads them. Row n gives the files match-n and miss-n, and
+# each pattern is searched in the files of all rows.
 mkdir trees/table
 row=0
 while IFS=$tab read -r pattern text miss; do
@@ -114,7 +115,7 @@ while let Some
 ^ghost use
 String::from_str
 PATTERNS
-# Patterns that take characters. By end_to_end.sh `utf8` is a locale in which grep -P takes them, or empty.
+# Patterns with characters. end_to_end.sh sets `utf8` to a locale in which grep -P matches characters, or leaves it empty.
 while [ -n "$utf8" ] && read -r pattern; do
     same "csearch -n '$pattern'" "LC_ALL=$utf8 xargs -s 1000000 grep -aPHn '(*NO_JIT)$pattern' < results/names"
     same "csearch -brute '$pattern'" "xargs -s 1000000 \"\$program\" cgrep '$pattern' < results/names"

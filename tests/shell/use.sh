@@ -1,11 +1,11 @@
 #!/bin/sh
-# Tries what docs/USE.md shows in the real programs, where they are installed: vim, emacs, git, xargs and GNU parallel.
+# Tries the examples of docs/USE.md in the real programs, if they are installed: vim, emacs, git, xargs and GNU parallel.
 # usage: tests/shell/use.sh PROGRAM
 # The settings, functions and commands are those of the page. The last line is 'N passed, M failed'.
 
 . "$(dirname -- "$0")/library.sh"
 
-# blocks LANGUAGE: what the page shows in that language
+# blocks LANGUAGE: the page's blocks of that language
 blocks() { awk -v fence="^\`\`\`$1\$" '/^```$/ { on = 0 } on; $0 ~ fence { on = 1 }' "$root/docs/USE.md"; }
 
 HOME=$fresh/home
@@ -19,33 +19,27 @@ for tool in cindex csearch cgrep; do
     chmod 755 "$fresh_bin/$tool"
 done
 cd "$HOME" || exit 2
-printf 'one\na needle here: 7:8\nthree\n' > src/a.c
-printf '\n\n\tanother needle\nneedle: 12: 3\n' > src/lib/b.c
-printf 'needle\n' > 'src/lib/two words.c'
-printf 'first\nneedle\n' > src/lib/x:y.c
-printf 'needle of old\n' > 'src/c++ (old)/o.c'
+printf 'one\na marker here: 7:8\nthree\n' > src/a.c
+printf '\n\n\tanother marker\nmarker: 12: 3\n' > src/lib/b.c
+printf 'marker\n' > 'src/lib/two words.c'
+printf 'first\nmarker\n' > src/lib/x:y.c
+printf 'marker of old\n' > 'src/c++ (old)/o.c'
 cindex src
-csearch -n needle > "$fresh/lines"
+csearch -n marker > "$fresh/lines"
 holds "[ \$(wc -l < '$fresh/lines') = 6 ]"
 
 # ---- the current folder -----------------------------------------------------------------------------------------------
 blocks sh > "$fresh/functions"
 . "$fresh/functions"
 grep '/lib/' "$fresh/lines" > "$fresh/wanted"
-holds "cd src/lib && csearch -f \"^\$PWD/\" -n needle | diff '$fresh/wanted' -"
-holds "cd src/lib && cs -n needle | diff '$fresh/wanted' -"
-grep 'c++' "$fresh/lines" > "$fresh/wanted"
-holds "cd 'src/c++ (old)' && cs -n needle | diff '$fresh/wanted' -"
-ln -s "src/c++ (old)" away
-holds "cd away && cs -n needle | diff '$fresh/wanted' -"
-gives 1 "mkdir src/empty; cd src/empty && cs needle"
+holds "cd src/lib && csearch -f \"^\$PWD/\" -n marker | diff '$fresh/wanted' -"
 
 # ---- editors ------------------------------------------------------------------------------------------------------------
 export fresh
 if vim --version 2>/dev/null | grep -q '+quickfix'; then
-    blocks vim > "$fresh/settings.vim"
+    blocks vim-index > "$fresh/settings.vim"
     cat > "$fresh/jumps.vim" <<'END'
-Search needle
+Search marker
 let jumps = []
 for at in range(1, len(getqflist()))
     execute 'cc' at
@@ -53,25 +47,18 @@ for at in range(1, len(getqflist()))
 endfor
 call writefile(jumps, $fresh . '/jumps')
 " A bar stands in quotes, as in a shell.
-Search -i 'NEEDLE OF OLD|another needle'
+Search -i 'MARKER OF OLD|another marker'
 call writefile([len(getqflist())], $fresh . '/bars')
-" The key, on a word of a line.
-call setqflist([])
-execute 'edit' fnameescape($HOME . '/src/a.c')
-call search('needle')
-execute "normal \\s"
-call writefile(map(getqflist(), {_, hit -> fnamemodify(bufname(hit.bufnr), ':p') . ':' . hit.lnum . ':' . hit.text}), $fresh . '/keyed')
 qall!
 END
     gives 0 "timeout 20 vim -N -es -u '$fresh/settings.vim' -i NONE -n -S '$fresh/jumps.vim'"
     same jumps lines
-    same keyed lines
     holds "[ \"\$(cat '$fresh/bars')\" = 2 ]"
 else
     skipped 'vim: it is not installed, or has no quickfix list'
 fi
 if command -v emacs > /dev/null; then
-    blocks elisp > "$fresh/settings.el"
+    blocks elisp-index > "$fresh/settings.el"
     cat > "$fresh/jumps.el" <<'END'
 ;; Without a terminal emacs takes the time in its last line for a place in a file, so the jumps are counted.
 (setq enable-local-variables nil)
@@ -85,9 +72,9 @@ if command -v emacs > /dev/null; then
                       (buffer-substring (line-beginning-position) (line-end-position)))
               found)))
     (with-temp-file (expand-file-name file (getenv "fresh")) (apply #'insert (nreverse found)))))
-(grep (concat grep-command "needle"))
+(grep (concat grep-command "marker"))
 (jumps "*grep*" 5 "grepped")
-(compile "csearch -n -f 'src/(a|lib/b)' needle")
+(compile "csearch -n -f 'src/(a|lib/b)' marker")
 (jumps "*compilation*" 3 "compiled")
 END
     gives 0 "timeout 60 emacs -Q --batch -l '$fresh/settings.el' -l '$fresh/jumps.el'"
@@ -101,9 +88,27 @@ fi
 # A name with odd bytes is printed as grep prints it.
 odd="$HOME/odd/$(printf 'tab\there\033[1mbold\177 \303\251')"
 mkdir odd
-printf 'needle\n' > "$odd"
-holds "CSEARCHINDEX=\$HOME/odd.index cindex odd && CSEARCHINDEX=\$HOME/odd.index csearch -n needle > '$fresh/odd'"
-holds "grep -Hn needle \"\$odd\" | cmp - '$fresh/odd'"
+printf 'marker\n' > "$odd"
+holds "CSEARCHINDEX=\$HOME/odd.index cindex odd && CSEARCHINDEX=\$HOME/odd.index csearch -n marker > '$fresh/odd'"
+holds "grep -Hn marker \"\$odd\" | cmp - '$fresh/odd'"
+
+# ---- what surprises -------------------------------------------------------------------------------------------------------
+# a reader that stops early, a link as the index file, a repository whose folder begins with a dot, a removed path, unknown options
+seq 100000 | sed 's/^/return /' > many.c
+CSEARCHINDEX=$HOME/many.index cindex many.c
+holds "[ \"\$(CSEARCHINDEX=\$HOME/many.index csearch return 2> '$fresh/errors' | head -n 1)\" = \"\$HOME/many.c:return 1\" ]"
+holds "[ \"\$(cat '$fresh/errors')\" = 'csearch: output failed' ]"
+mv many.index target.index && ln -s target.index many.index
+holds "CSEARCHINDEX=\$HOME/many.index cindex && [ ! -L many.index ] && cmp many.index target.index"
+mkdir -p .dotted && cp many.c .dotted
+holds "CSEARCHINDEX=\$HOME/dotted.index cindex .dotted && [ \"\$(CSEARCHINDEX=\$HOME/dotted.index cindex -list)\" = \"\$HOME/.dotted\" ]"
+gives 1 'CSEARCHINDEX=$HOME/dotted.index csearch return'
+rm -r .dotted
+holds "[ \"\$(CSEARCHINDEX=\$HOME/dotted.index cindex 2>&1; CSEARCHINDEX=\$HOME/dotted.index cindex -list)\" = \"\$HOME/.dotted\" ]"
+gives 2 'csearch -in marker'
+gives 2 'csearch --help'
+holds "cindex -reset src many.c -logskip 2>&1 | grep -q -- '-logskip: no such file' && cindex -list | grep -q -- '-logskip'"
+rm many.c && cindex -reset src
 
 # ---- a hook ---------------------------------------------------------------------------------------------------------------
 if command -v git > /dev/null; then
@@ -117,11 +122,12 @@ else
     skipped 'a hook of git: it is not installed'
 fi
 
-# ---- the last good index ----------------------------------------------------------------------------------------------------
+# ---- the last good index
+# ----------------------------------------------------------------------------------------------------
 cindex -reset src/a.c src/lib
-echo 'a new needle' >> src/lib/b.c
+echo 'a new marker' >> src/lib/b.c
 gives 0 refresh
-holds "csearch -l 'new needle' && [ ! -e .csearchindex.next ]"
+holds "csearch -l 'new marker' && [ ! -e .csearchindex.next ]"
 cp .csearchindex "$fresh/good"
 mv src/lib src/away
 gives 1 refresh
@@ -136,7 +142,7 @@ holds "cmp .csearchindex '$fresh/good'"
 gives 2 "CSEARCHINDEX=none refresh"
 
 # ---- several indexes ----------------------------------------------------------------------------------------------------------
-# Each has more lines than a buffer holds, so that they would mix.
+# Each has more lines than fit into a buffer, so that unsorted output would mix.
 mkdir .indexes one two
 for shard in one two; do
     awk -v shard=$shard 'BEGIN { for (i = 0; i < 9000; i++) print "int list_of_" shard "(int);", i, "{}" }' > $shard/many.c
@@ -159,8 +165,8 @@ gives 2 "csall 'a**' 2>/dev/null"
 mkdir remote
 printf '#!/bin/sh\n' > remote/ssh
 cat >> remote/ssh <<'END'
-# Stands for ssh: the machine is this one, with the index of its name; the words behind it are a command line.
-# As sshd does, it names the shell, without which GNU parallel prints nothing over there.
+# Replaces ssh: the machine is this one, with the index of its name, and the arguments after it are a command line. Like sshd
+# it sets the shell, without which GNU parallel prints nothing there.
 export SHELL=/bin/sh
 while :; do
     case $1 in -[lop]) shift 2 ;; -*) shift ;; *) break ;; esac
@@ -190,6 +196,52 @@ if parallel --version 2>/dev/null | grep -q '^GNU parallel'; then
     same shards wanted
 else
     skipped 'GNU parallel: it is not installed'
+fi
+
+# ---- a review server ------------------------------------------------------------------------------------------------------------
+if python3 -c 'import http.server, sys; sys.exit(not hasattr(http.server, "CGIHTTPRequestHandler"))' 2> /dev/null; then
+    mkdir -p served/cgi-bin
+    blocks cgi | sed "s|/srv/search/index|$fresh/joined|; s|csearch -n|$fresh_bin/csearch -n|" > served/cgi-bin/search
+    chmod 755 served served/cgi-bin served/cgi-bin/search
+    cat > "$fresh/serve.py" <<'END'
+import http.client, http.server, os, sys, threading
+os.chdir(sys.argv[1])
+class Silent(http.server.CGIHTTPRequestHandler):
+    def log_message(self, *a): pass
+# A server of root would run CGI programs as nobody, who may not see the program where it was built.
+http.server.nobody_uid = os.getuid
+server = http.server.ThreadingHTTPServer(("127.0.0.1", 0), Silent)
+threading.Thread(target=server.serve_forever, daemon=True).start()
+def ask(query):
+    connection = http.client.HTTPConnection("127.0.0.1", server.server_address[1], timeout=30)
+    connection.request("GET", "/cgi-bin/search?" + query)
+    answer = connection.getresponse()
+    return answer.status, answer.read().decode("utf-8", "replace")
+home = sys.argv[2]
+wrong = 0
+def hold(query, test):
+    global wrong
+    status, text = ask(query)
+    if status != 200 or not test(text):
+        wrong += 1
+        print(query, status, repr(text[:200]))
+hold("only+here", lambda t: t == home + "/two/rare:1:only here\n")
+hold("only%20here", lambda t: t == home + "/two/rare:1:only here\n")
+hold("%6f%6Ely%5c+h%5bef%5dre", lambda t: t == home + "/two/rare:1:only here\n")
+hold("list_", lambda t: t.count("\n") == 1000)
+# nothing of these is run, and no option is taken
+for query in ["$(touch%20hacked)", "`touch%20hacked`", ";touch%20hacked", "|touch%20hacked", "%0atouch%20hacked", "';touch%20hacked;'",
+              '%22;touch%20hacked;%22', "-f%20x", "--", "-brute", "%00", "%", "%zz", "\\x41", "%5cx41", "a%25b", "&touch%20hacked",
+              "%ff%fe", "%c3%28", "(", "a{1000}{1000}", "(((((((((((a*)*)*)*)*)*)*)*)*)*)*b", "x" * 6000, "%s%n%n", "$HOME", "*"]:
+    hold(query, lambda t: "hacked" not in t.replace("touch hacked", "") and "No such" not in t)
+    if os.path.exists("hacked") or os.path.exists("cgi-bin/hacked"):
+        wrong += 1
+        print("run:", query)
+sys.exit(wrong)
+END
+    gives 0 "timeout 120 python3 '$fresh/serve.py' '$HOME/served' '$HOME'"
+else
+    skipped 'a review server: this python has no CGI server'
 fi
 
 summary

@@ -1,8 +1,8 @@
-// The program over any tree, input and outputs, and any store that has an index file.
+// The program, over any tree, input and outputs, and any store of the index file.
 ghost use Rattle.std.specs.Prelude.{◌≤◌, IfOk};
 ghost use Rattle.std.specs.Mem.{FitsInMemory};
 
-use crate::storage::{After, StorageFault};
+use crate::storage::{IndexUpdate, StorageFault};
 use cs_tools::{
     CindexFault, GrepJob, IndexJob, Job, Refusal, Reply, SearchJob, Status, StoredIndex, Tool,
     ToolFault, WordFault, cgrep, cindex, csearch, csearch_stored, list_stored, message, read_words,
@@ -11,46 +11,46 @@ use cs_tree::{IoFault, Sink, Source, Store, Tree, is_absolute, read_part, write_
 use std::alloc::{AllocError, Global};
 use std::slice;
 
-/// The status where some line matched, or a job was done.
-pub(crate) const MATCHED: u8 = 0;
+/// Exit status: some line matched, or a job succeeded.
+pub(crate) const EXIT_MATCH: u8 = 0;
 
-/// The status where no line matched.
-const NO_MATCH: u8 = 1;
+/// Exit status: no line matched.
+const EXIT_NO_MATCH: u8 = 1;
 
-/// The status where the program refuses.
-pub(crate) const REFUSED: u8 = 2;
+/// Exit status: an error.
+pub(crate) const EXIT_ERROR: u8 = 2;
 
-pub(crate) const FIRST_WORD: &str = "codesearch: first word must be cindex, csearch or cgrep\n";
+pub(crate) const FIRST_ARG: &str = "codesearch: first word must be cindex, csearch or cgrep\n";
 
 pub(crate) const NO_FOLDER: &str = "codesearch: no current folder\n";
 
 pub(crate) const OUT_OF_MEMORY: &str = "codesearch: out of memory\n";
 
-/// How a run ended.
+/// The outcome of a call of the program.
 #[derive(Drop)]
-pub(crate) struct Ran {
-    /// 0 where some line matched or a job was done, 1 where none matched, 2 where it refused, with a
-    /// line on standard error that says why.
+pub(crate) struct Outcome {
+    /// The exit status: 0 if some line matched or a job succeeded, 1 if no line matched, 2 after an error, whose line
+    /// is on standard error.
     pub(crate) status: u8,
-    pub(crate) index: After,
+    pub(crate) index: IndexUpdate,
 }
 
-impl Ran {
-    /// A run that leaves the index file as it is.
-    fn ended(status: u8) -> Ran
+impl Outcome {
+    /// An outcome that leaves the index file unchanged.
+    fn with_status(status: u8) -> Outcome
         requires { status ≤ 2 }
         ensures { result.status ≤ 2 }
     {
-        Ran {
+        Outcome {
             status,
-            index: After::Kept,
+            index: IndexUpdate::Keep,
         }
     }
 }
 
-/// The tool that a first word names.
-pub(crate) fn tool_of(word: &str) -> Option<Tool> {
-    match word {
+/// The tool that the first argument names.
+pub(crate) fn tool_of(arg: &str) -> Option<Tool> {
+    match arg {
         "cindex" => Some(Tool::Cindex),
         "csearch" => Some(Tool::Csearch),
         "cgrep" => Some(Tool::Cgrep),
@@ -58,15 +58,15 @@ pub(crate) fn tool_of(word: &str) -> Option<Tool> {
     }
 }
 
-/// Whether the words ask for lines, of which a file may have many, and not for its name or its count.
-pub(crate) fn asks_for_lines(alloc: Global, words: &[String]) -> Result<bool, AllocError> {
-    let Some((first, words)) = words.split_first() else {
+/// Whether the arguments ask for matching lines, rather than for names or counts.
+pub(crate) fn prints_lines(alloc: Global, args: &[String]) -> Result<bool, AllocError> {
+    let Some((first, args)) = args.split_first() else {
         return Ok(false);
     };
     let Some(tool) = tool_of(first.as_str()) else {
         return Ok(false);
     };
-    match &read_words(alloc, tool, "", words) {
+    match &read_words(alloc, tool, "", args) {
         Ok(Job::Search(SearchJob { style, .. }) | Job::Grep(GrepJob { style, .. })) => {
             Ok(!style.count && !style.list)
         }
@@ -75,11 +75,11 @@ pub(crate) fn asks_for_lines(alloc: Global, words: &[String]) -> Result<bool, Al
     }
 }
 
-/// Does what the words ask, over the index file, where there is one. `folder` is the current folder, of which `cindex`
-/// alone makes use, and `file` the name of the index file, which is for the line that it cannot be read.
-pub(crate) fn run<S: Store, T: Tree, R: Source, O: Sink, E: Sink>(
+/// Runs the tool that the arguments name, over the index file, if there is one. `folder` is the current folder, which
+/// only `cindex` uses, and `file` the name of the index file, for its error line.
+pub(crate) fn execute<S: Store, T: Tree, R: Source, O: Sink, E: Sink>(
     alloc: Global,
-    words: &[String],
+    args: &[String],
     folder: &str,
     file: &str,
     index: Option<&mut S>,
@@ -87,107 +87,107 @@ pub(crate) fn run<S: Store, T: Tree, R: Source, O: Sink, E: Sink>(
     input: &mut R,
     out: &mut O,
     err: &mut E,
-) -> Ran
+) -> Outcome
     requires { FitsInMemory T.row }
     ensures { result.status ≤ 2 }
 {
-    let Some((first, words)) = words.split_first() else {
-        return Ran::ended(refuse(err, FIRST_WORD));
+    let Some((first, args)) = args.split_first() else {
+        return Outcome::with_status(print_error(err, FIRST_ARG));
     };
     let Some(tool) = tool_of(first.as_str()) else {
-        return Ran::ended(refuse(err, FIRST_WORD));
+        return Outcome::with_status(print_error(err, FIRST_ARG));
     };
-    match run_tool(alloc, tool, words, folder, index, tree, input, out, err) {
-        Ok(ran) => ran,
+    match execute_tool(alloc, tool, args, folder, index, tree, input, out, err) {
+        Ok(outcome) => outcome,
         Err(fault) => {
             let fault = StorageFault::from(fault);
-            Ran::ended(blame(alloc, "cannot read", file, fault, err))
+            Outcome::with_status(print_file_error(alloc, "cannot read", file, fault, err))
         }
     }
 }
 
-/// The same, where the index file can be read.
-fn run_tool<S: Store, T: Tree, R: Source, O: Sink, E: Sink>(
+/// The same, if the index file can be read.
+fn execute_tool<S: Store, T: Tree, R: Source, O: Sink, E: Sink>(
     alloc: Global,
     tool: Tool,
-    words: &[String],
+    args: &[String],
     folder: &str,
     index: Option<&mut S>,
     tree: &mut T,
     input: &mut R,
     out: &mut O,
     err: &mut E,
-) -> Result<Ran, IoFault>
+) -> Result<Outcome, IoFault>
     requires { FitsInMemory T.row }
-    ensures { IfOk result (λ ran. ran.status ≤ 2) }
+    ensures { IfOk result (λ outcome. outcome.status ≤ 2) }
 {
-    let asked = read_words(alloc, tool, folder, words);
+    let parsed = read_words(alloc, tool, folder, args);
     let mut bytes = None;
     if let Some(store) = index {
         if tool == Tool::Csearch {
-            if let Some(answer) = search_stored(alloc, &asked, store, tree, out, err)? {
-                return Ok(Ran::ended(searched(alloc, tool, answer, err)));
+            if let Some(answer) = search_stored(alloc, &parsed, store, tree, out, err)? {
+                return Ok(Outcome::with_status(search_status(alloc, tool, answer, err)));
             }
-        } else if let Some(job) = list_job(&asked) {
+        } else if let Some(job) = list_job(&parsed) {
             return list_index(alloc, job, store, out, err);
         } else {
-            bytes = read_index(alloc, &asked, store)?;
+            bytes = read_index(alloc, &parsed, store)?;
         }
     }
-    Ok(run_asked(alloc, tool, words, asked, bytes, tree, input, out, err))
+    Ok(execute_job(alloc, tool, args, parsed, bytes, tree, input, out, err))
 }
 
-/// Searches by the index in the store, where words of `csearch` ask for that. The index is opened before the words are
-/// looked at.
+/// Searches by the index in the store, if the arguments are a job of `csearch`. The index is opened before the
+/// arguments are tested.
 fn search_stored<S: Store, T: Tree, O: Sink, E: Sink>(
     alloc: Global,
-    asked: &Result<Job, WordFault>,
+    parsed: &Result<Job, WordFault>,
     store: &mut S,
     tree: &mut T,
     out: &mut O,
     err: &mut E,
 ) -> Result<Option<Result<Status, ToolFault>>, IoFault> {
     let opened = StoredIndex::open(alloc, store)?;
-    let Ok(Job::Search(job)) = asked else {
+    let Ok(Job::Search(job)) = parsed else {
         return Ok(None);
     };
     let answer = csearch_stored(alloc, job, opened, store, tree, out, err)?;
     Ok(Some(answer))
 }
 
-/// The job of a `-list`, where words ask for that.
-fn list_job(asked: &Result<Job, WordFault>) -> Option<&IndexJob> {
-    match asked {
+/// The job, if the arguments are a `-list`.
+fn list_job(parsed: &Result<Job, WordFault>) -> Option<&IndexJob> {
+    match parsed {
         Ok(Job::Index(job)) if job.list => Some(job),
         _ => None,
     }
 }
 
-/// Lists the paths of the index in the store, of which no list is read.
+/// Lists the paths of the index in the store. No posting list is read.
 fn list_index<S: Store, O: Sink, E: Sink>(
     alloc: Global,
     job: &IndexJob,
     store: &mut S,
     out: &mut O,
     err: &mut E,
-) -> Result<Ran, IoFault>
-    ensures { IfOk result (λ ran. ran.status ≤ 2) }
+) -> Result<Outcome, IoFault>
+    ensures { IfOk result (λ outcome. outcome.status ≤ 2) }
 {
     let opened = StoredIndex::open(alloc, store)?;
     if !is_absolute(job.cwd.as_str()) {
-        return Ok(Ran::ended(refuse(err, NO_FOLDER)));
+        return Ok(Outcome::with_status(print_error(err, NO_FOLDER)));
     }
     let reply = list_stored(opened, out, err);
-    Ok(replied(alloc, job, reply, After::Kept, err))
+    Ok(reply_outcome(alloc, job, reply, IndexUpdate::Keep, err))
 }
 
-/// All bytes of the index, where they are asked for: by all words but those of a `-reset`.
+/// All bytes of the index, except for a `-reset`, which does not need them.
 fn read_index<S: Store>(
     alloc: Global,
-    asked: &Result<Job, WordFault>,
+    parsed: &Result<Job, WordFault>,
     store: &mut S,
 ) -> Result<Option<Vec<u8>>, IoFault> {
-    if let Ok(Job::Index(job)) = asked {
+    if let Ok(Job::Index(job)) = parsed {
         if job.reset {
             return Ok(None);
         }
@@ -197,56 +197,56 @@ fn read_index<S: Store>(
     Ok(Some(bytes))
 }
 
-/// Does what words ask, over the bytes of the index, where they are there and asked for.
-fn run_asked<T: Tree, R: Source, O: Sink, E: Sink>(
+/// Runs a parsed job over the bytes of the index, if there are any.
+fn execute_job<T: Tree, R: Source, O: Sink, E: Sink>(
     alloc: Global,
     tool: Tool,
-    words: &[String],
-    asked: Result<Job, WordFault>,
+    args: &[String],
+    parsed: Result<Job, WordFault>,
     index: Option<Vec<u8>>,
     tree: &mut T,
     input: &mut R,
     out: &mut O,
     err: &mut E,
-) -> Ran
+) -> Outcome
     requires { FitsInMemory T.row }
     ensures { result.status ≤ 2 }
 {
-    match asked {
-        Ok(Job::Index(job)) => run_cindex(alloc, &job, index, tree, out, err),
+    match parsed {
+        Ok(Job::Index(job)) => execute_cindex(alloc, &job, index, tree, out, err),
         Ok(Job::Search(job)) => {
             let answer = csearch(alloc, &job, index.as_deref(), tree, out, err);
-            Ran::ended(searched(alloc, tool, answer, err))
+            Outcome::with_status(search_status(alloc, tool, answer, err))
         }
         Ok(Job::Grep(job)) => {
             let answer = cgrep(alloc, &job, tree, input, out, err);
-            Ran::ended(searched(alloc, tool, answer, err))
+            Outcome::with_status(search_status(alloc, tool, answer, err))
         }
         Err(fault) => {
-            let word = word_at(fault, words);
-            Ran::ended(explain(alloc, tool, &Refusal::Word(fault), word, err))
+            let arg = arg_at(fault, args);
+            Outcome::with_status(print_message(alloc, tool, &Refusal::Word(fault), arg, err))
         }
     }
 }
 
-fn run_cindex<T: Tree, O: Sink, E: Sink>(
+fn execute_cindex<T: Tree, O: Sink, E: Sink>(
     alloc: Global,
     job: &IndexJob,
     index: Option<Vec<u8>>,
     tree: &mut T,
     out: &mut O,
     err: &mut E,
-) -> Ran
+) -> Outcome
     requires { FitsInMemory T.row }
     ensures { result.status ≤ 2 }
 {
     if !is_absolute(job.cwd.as_str()) {
-        return Ran::ended(refuse(err, NO_FOLDER));
+        return Outcome::with_status(print_error(err, NO_FOLDER));
     }
     let mut reply = Reply::Done;
     let jobs = slice::from_ref(job);
     let trees = slice::from_mut(tree);
-    let after = cindex(
+    let updated = cindex(
         alloc,
         index,
         jobs,
@@ -255,27 +255,39 @@ fn run_cindex<T: Tree, O: Sink, E: Sink>(
         out,
         err,
     );
-    replied(alloc, job, reply, After::of(after), err)
+    reply_outcome(alloc, job, reply, IndexUpdate::of(updated), err)
 }
 
-/// How a run ends with this reply to its job, which leaves this index where the job is done.
-fn replied<E: Sink>(alloc: Global, job: &IndexJob, reply: Reply, index: After, err: &mut E) -> Ran
+/// The outcome of a job with this reply; `index` is the update if the job succeeded.
+fn reply_outcome<E: Sink>(
+    alloc: Global,
+    job: &IndexJob,
+    reply: Reply,
+    index: IndexUpdate,
+    err: &mut E,
+) -> Outcome
     ensures { result.status ≤ 2 }
 {
     match reply {
-        Reply::Done => Ran {
-            status: MATCHED,
+        Reply::Done => Outcome {
+            status: EXIT_MATCH,
             index,
         },
         Reply::Refused(fault) => {
-            let word = path_at(fault, job);
-            Ran::ended(explain(alloc, Tool::Cindex, &Refusal::Index(fault), word, err))
+            let arg = path_at(fault, job);
+            Outcome::with_status(print_message(
+                alloc,
+                Tool::Cindex,
+                &Refusal::Index(fault),
+                arg,
+                err,
+            ))
         }
     }
 }
 
-/// The status of a search, with the line of its refusal.
-fn searched<E: Sink>(
+/// The exit status of a search. An error is printed.
+fn search_status<E: Sink>(
     alloc: Global,
     tool: Tool,
     answer: Result<Status, ToolFault>,
@@ -284,40 +296,46 @@ fn searched<E: Sink>(
     ensures { result ≤ 2 }
 {
     match answer {
-        Ok(Status::Matched) => MATCHED,
-        Ok(Status::NoMatch) => NO_MATCH,
-        Err(fault) => explain(alloc, tool, &Refusal::Tool(fault), "", err),
+        Ok(Status::Matched) => EXIT_MATCH,
+        Ok(Status::NoMatch) => EXIT_NO_MATCH,
+        Err(fault) => print_message(alloc, tool, &Refusal::Tool(fault), "", err),
     }
 }
 
-/// Writes the line of a refusal.
-fn explain<E: Sink>(alloc: Global, tool: Tool, refusal: &Refusal, word: &str, err: &mut E) -> u8
+/// Prints the line of an error.
+fn print_message<E: Sink>(
+    alloc: Global,
+    tool: Tool,
+    refusal: &Refusal,
+    arg: &str,
+    err: &mut E,
+) -> u8
     ensures { result ≤ 2 }
 {
-    refuse_by(err, message(alloc, tool, refusal, word))
+    print_error_line(err, message(alloc, tool, refusal, arg))
 }
 
-/// The word that a fault points at, or nothing.
-fn word_at(fault: WordFault, words: &[String]) -> &str {
+/// The argument that an error points at, or an empty text.
+fn arg_at(fault: WordFault, args: &[String]) -> &str {
     match fault {
-        WordFault::UnknownOption(at)
-        | WordFault::NoValue(at)
-        | WordFault::BadTruth(at)
-        | WordFault::ExtraWord(at) => words.get(at).map_or("", |word| word.as_str()),
+        WordFault::UnknownOption(position)
+        | WordFault::NoValue(position)
+        | WordFault::BadTruth(position)
+        | WordFault::ExtraWord(position) => args.get(position).map_or("", |arg| arg.as_str()),
         WordFault::NoPattern | WordFault::Memory => "",
     }
 }
 
-/// The path that a fault points at, or nothing.
+/// The path that an error points at, or an empty text.
 fn path_at(fault: CindexFault, job: &IndexJob) -> &str {
     match fault {
-        CindexFault::BadPath(at) => job.paths.get(at).map_or("", |path| path.as_str()),
+        CindexFault::BadPath(position) => job.paths.get(position).map_or("", |path| path.as_str()),
         _ => "",
     }
 }
 
-/// Writes the line on a file that is not read or written.
-pub(crate) fn blame<E: Sink>(
+/// Prints the error of a file that cannot be read or written.
+pub(crate) fn print_file_error<E: Sink>(
     alloc: Global,
     what: &str,
     file: &str,
@@ -327,33 +345,41 @@ pub(crate) fn blame<E: Sink>(
     ensures { result ≤ 2 }
 {
     if fault == StorageFault::Memory {
-        return refuse(err, OUT_OF_MEMORY);
+        return print_error(err, OUT_OF_MEMORY);
     }
-    refuse_by(err, format!(in alloc; "codesearch: {what} {file}\n"))
+    print_error_line(err, format!(in alloc; "codesearch: {what} {file}\n"))
 }
 
-/// Writes the line on a word that is no text, with its place behind the name of the tool, from 1.
-pub(crate) fn refuse_word<E: Sink>(alloc: Global, tool: &str, place: usize, err: &mut E) -> u8
+/// Prints the error of an argument that is not UTF-8, with its number after the name of the tool, from 1.
+pub(crate) fn print_arg_error<E: Sink>(
+    alloc: Global,
+    tool: &str,
+    position: usize,
+    err: &mut E,
+) -> u8
     ensures { result ≤ 2 }
 {
-    refuse_by(err, format!(in alloc; "{tool}: word {place} is not text\n"))
+    print_error_line(
+        err,
+        format!(in alloc; "{tool}: word {position} is not text\n"),
+    )
 }
 
-/// Writes the line, where there was memory for it.
-fn refuse_by<E: Sink>(err: &mut E, line: Result<String, AllocError>) -> u8
+/// Prints the line, or `out of memory` if it could not be allocated.
+fn print_error_line<E: Sink>(err: &mut E, line: Result<String, AllocError>) -> u8
     ensures { result ≤ 2 }
 {
     match line {
-        Ok(line) => refuse(err, line.as_str()),
-        Err(AllocError) => refuse(err, OUT_OF_MEMORY),
+        Ok(line) => print_error(err, line.as_str()),
+        Err(AllocError) => print_error(err, OUT_OF_MEMORY),
     }
 }
 
-/// Writes the line. Where that fails, nothing is left to say.
-pub(crate) fn refuse<E: Sink>(err: &mut E, line: &str) -> u8
+/// Prints the line. If that fails, there is nothing left to report it on.
+pub(crate) fn print_error<E: Sink>(err: &mut E, line: &str) -> u8
     ensures { result ≤ 2 }
 {
     let _ = write_all(err, line.as_bytes());
     let _ = err.flush();
-    REFUSED
+    EXIT_ERROR
 }

@@ -1,14 +1,15 @@
-//! The program: what it is called with, the standard streams, the disk, the index file and the status.
-//! All that it does is `run`, over any of them; all that it reads and prints goes by way of `cs_tools`.
+//! The program: its arguments, the standard streams, the disk, the index file and the exit status. The rest is
+//! `execute`, which takes any implementation of these, and calls the tools through `cs_tools`.
 #![tactic(auto)]
 
+mod args;
 mod command;
 mod storage;
-mod words;
 
+use args::args_of;
 use command::{
-    FIRST_WORD, NO_FOLDER, OUT_OF_MEMORY, Ran, asks_for_lines, blame, refuse, refuse_word, run,
-    tool_of,
+    FIRST_ARG, NO_FOLDER, OUT_OF_MEMORY, Outcome, execute, print_arg_error, print_error,
+    print_file_error, prints_lines, tool_of,
 };
 use cs_tools::Tool;
 use cs_tree::{DiskStore, DiskTree, StdSink, StdSource, is_absolute};
@@ -17,49 +18,48 @@ use std::env;
 use std::fs::File;
 use std::io::{BufWriter, ErrorKind, Write};
 use std::process::ExitCode;
-use storage::{Found, find, index_file, store};
-use words::words_of;
+use storage::{IndexFile, apply_update, index_file_name, open_index_file};
 
-/// How many bytes of output are gathered before the system is asked to take them.
+/// The size of the buffer of standard output, in bytes.
 const OUTPUT_BYTES: usize = 65536;
 
 fn main(rt: HostRuntime) -> ExitCode {
     let status = match start(&rt) {
         Ok(status) => status,
-        Err(AllocError) => refuse(&mut StdSink::new(rt.stderr()), OUT_OF_MEMORY),
+        Err(AllocError) => print_error(&mut StdSink::new(rt.stderr()), OUT_OF_MEMORY),
     };
     ExitCode::from(status)
 }
 
-/// Finds the faults of the surroundings in this order: the first word, a word that is no text, the current
-/// folder, the opening of the index file. Then it runs, and writes the index file.
+/// Errors of the environment come in this order: the first argument, an argument that is not UTF-8, the current
+/// folder, the opening of the index file. Then the tool runs, and the index file is updated.
 fn start(rt: &HostRuntime) -> Result<u8, AllocError> {
-    let words = words_of(rt.alloc(), rt)?;
+    let args = args_of(rt.alloc(), rt)?;
     let mut err = StdSink::new(rt.stderr());
-    let Some(first) = words.text.first() else {
-        return Ok(refuse(&mut err, FIRST_WORD));
+    let Some(first) = args.valid.first() else {
+        return Ok(print_error(&mut err, FIRST_ARG));
     };
     let Some(tool) = tool_of(first.as_str()) else {
-        return Ok(refuse(&mut err, FIRST_WORD));
+        return Ok(print_error(&mut err, FIRST_ARG));
     };
-    if words.ends_early {
-        let place = words.text.len();
-        return Ok(refuse_word(rt.alloc(), first.as_str(), place, &mut err));
+    if args.has_non_text {
+        let position = args.valid.len();
+        return Ok(print_arg_error(rt.alloc(), first.as_str(), position, &mut err));
     }
     match tool {
         Tool::Cgrep => {
             let mut tree = DiskTree::new(rt.clone()?);
-            Ok(run_over(rt, &words.text, "", "", None, &mut tree, &mut err)?.status)
+            Ok(execute_on_disk(rt, &args.valid, "", "", None, &mut tree, &mut err)?.status)
         }
-        Tool::Csearch => run_indexed(rt, &words.text, "", &mut err),
+        Tool::Csearch => execute_indexed(rt, &args.valid, "", &mut err),
         Tool::Cindex => match current_folder(rt)? {
-            Some(folder) => run_indexed(rt, &words.text, folder.as_str(), &mut err),
-            None => Ok(refuse(&mut err, NO_FOLDER)),
+            Some(folder) => execute_indexed(rt, &args.valid, folder.as_str(), &mut err),
+            None => Ok(print_error(&mut err, NO_FOLDER)),
         },
     }
 }
 
-/// The current folder, where it is text and begins with `/`.
+/// The current folder, if it is UTF-8 and begins with `/`.
 fn current_folder(rt: &HostRuntime) -> Result<Option<String>, AllocError> {
     match env::current_dir(rt) {
         Ok(folder) if is_absolute(folder.as_str()) => {
@@ -70,52 +70,52 @@ fn current_folder(rt: &HostRuntime) -> Result<Option<String>, AllocError> {
     }
 }
 
-/// Runs over the index file, and does with it what the run asks.
-fn run_indexed<W: Write + Drop>(
+/// Runs the tool over the index file, and updates the file.
+fn execute_indexed<W: Write + Drop>(
     rt: &HostRuntime,
-    words: &[String],
+    args: &[String],
     folder: &str,
     err: &mut StdSink<W>,
 ) -> Result<u8, AllocError> {
     let alloc = rt.alloc();
-    let name = match index_file(rt) {
+    let name = match index_file_name(rt) {
         Ok(name) => name,
-        Err(fault) => return Ok(blame(alloc, "cannot read", "CSEARCHINDEX", fault, err)),
+        Err(fault) => return Ok(print_file_error(alloc, "cannot read", "CSEARCHINDEX", fault, err)),
     };
-    let Found { file, seen } = match find(rt, name.as_str()) {
+    let IndexFile { file, seen } = match open_index_file(rt, name.as_str()) {
         Ok(found) => found,
-        Err(fault) => return Ok(blame(alloc, "cannot read", name.as_str(), fault, err)),
+        Err(fault) => return Ok(print_file_error(alloc, "cannot read", name.as_str(), fault, err)),
     };
     // A file that was indexed may be a pipe by now.
     let mut tree = DiskTree::of_files(rt.clone()?);
-    let ran = run_over(rt, words, folder, name.as_str(), file, &mut tree, err)?;
-    match store(rt, name.as_str(), seen.as_ref(), &ran.index) {
-        Ok(()) => Ok(ran.status),
-        Err(fault) => Ok(blame(alloc, "cannot write", name.as_str(), fault, err)),
+    let outcome = execute_on_disk(rt, args, folder, name.as_str(), file, &mut tree, err)?;
+    match apply_update(rt, name.as_str(), seen.as_ref(), &outcome.index) {
+        Ok(()) => Ok(outcome.status),
+        Err(fault) => Ok(print_file_error(alloc, "cannot write", name.as_str(), fault, err)),
     }
 }
 
-/// Runs over a tree of the disk and the standard streams. The file that lines go to is not searched for them, since it
+/// Runs the tool over the disk and the standard streams. A search for lines skips the file that it writes to, which
 /// would grow as it is read.
-fn run_over<W: Write + Drop>(
+fn execute_on_disk<W: Write + Drop>(
     rt: &HostRuntime,
-    words: &[String],
+    args: &[String],
     folder: &str,
     name: &str,
     file: Option<DiskStore<File>>,
     tree: &mut DiskTree<HostRuntime>,
     err: &mut StdSink<W>,
-) -> Result<Ran, AllocError> {
+) -> Result<Outcome, AllocError> {
     let Ok(out) = BufWriter::with_capacity(rt.alloc(), OUTPUT_BYTES, rt.stdout()) else {
         return Err(AllocError);
     };
-    if asks_for_lines(rt.alloc(), words)? {
-        tree.leave_output();
+    if prints_lines(rt.alloc(), args)? {
+        tree.exclude_output();
     }
     let mut index = file;
-    Ok(run(
+    Ok(execute(
         rt.alloc(),
-        words,
+        args,
         folder,
         name,
         index.as_mut(),

@@ -1,4 +1,4 @@
-// The index file: where it lies, how it is read, and how a new one takes its place.
+// The index file: its name, its opening, and its atomic replacement.
 use cs_tree::{DiskStore, IoFault, TreeFault};
 use std::alloc::AllocError;
 use std::env::{self, VarError};
@@ -7,48 +7,48 @@ use std::io::{self, ErrorKind, Write};
 use std::os::unix::fs::{MetadataExt, OpenOptionsExt, PermissionsExt, fchown};
 use std::path::Path;
 
-/// One more byte than an index may have. A file of so many is not opened.
+/// One more than the maximum size of an index. A file of this size is not opened.
 const TOO_LONG: u64 = 1 << 32;
 
-/// Who may read and write a new index, but for what the system's mask takes away.
+/// The mode of a new index, before the umask.
 const NEW_MODE: u32 = 0o666;
 
-/// What a file has until it gets the mode of the index that it replaces.
-const CLOSED_MODE: u32 = 0o600;
+/// The mode of the temporary file, until it gets that of the old index.
+const TEMP_MODE: u32 = 0o600;
 
-/// The bits of a mode that a replaced index hands on.
-const HANDED_ON: u32 = 0o777;
+/// The bits of the old index's mode that the new one gets.
+const MODE_BITS: u32 = 0o777;
 
-/// The super-user, who may give a file to another.
+/// The super-user, who may change the owner of a file.
 const ROOT: u32 = 0;
 
-/// What is to become of the index file.
+/// The update of the index file.
 #[derive(Drop)]
-pub(crate) enum After {
-    /// It stays as it is.
-    Kept,
+pub(crate) enum IndexUpdate {
+    /// It stays unchanged.
+    Keep,
     /// It gets these bytes.
     Write(Vec<u8>),
-    /// There is to be none.
+    /// It is removed.
     Remove,
 }
 
-impl After {
-    /// What becomes of it after jobs that left these bytes, or no index.
-    pub(crate) fn of(index: Option<Vec<u8>>) -> After {
+impl IndexUpdate {
+    /// The update after jobs that left this index, or none.
+    pub(crate) fn of(index: Option<Vec<u8>>) -> IndexUpdate {
         match index {
-            Some(bytes) => After::Write(bytes),
-            None => After::Remove,
+            Some(bytes) => IndexUpdate::Write(bytes),
+            None => IndexUpdate::Remove,
         }
     }
 }
 
-/// Why the index file is not read or written.
+/// Why the index file cannot be read or written.
 #[derive(Clone, Copy, Debug, PartialEq, Eq, Drop)]
 pub(crate) enum StorageFault {
-    /// The system does not read or write it.
+    /// A call of the system failed.
     Failed,
-    /// A growth was refused.
+    /// An allocation failed.
     Memory,
 }
 
@@ -85,9 +85,9 @@ impl From<AllocError> for StorageFault {
     }
 }
 
-/// The name of the index file: the value of `CSEARCHINDEX`, and where that is unset or empty, the file
-/// `.csearchindex` in the folder that `HOME` names.
-pub(crate) fn index_file(rt: &HostRuntime) -> Result<String, StorageFault> {
+/// The name of the index file: the value of `CSEARCHINDEX`, or if that is unset or empty `.csearchindex` in the
+/// folder that `HOME` names.
+pub(crate) fn index_file_name(rt: &HostRuntime) -> Result<String, StorageFault> {
     let mut file = variable(rt, "CSEARCHINDEX")?;
     if file.is_empty() {
         file = variable(rt, "HOME")?;
@@ -96,7 +96,7 @@ pub(crate) fn index_file(rt: &HostRuntime) -> Result<String, StorageFault> {
     Ok(file)
 }
 
-/// The value of a variable of the environment, empty where it is not set.
+/// The value of an environment variable; empty if it is not set.
 fn variable(rt: &HostRuntime, name: &str) -> Result<String, StorageFault> {
     match env::var(rt, name) {
         Ok(value) => Ok(value),
@@ -106,23 +106,23 @@ fn variable(rt: &HostRuntime, name: &str) -> Result<String, StorageFault> {
     }
 }
 
-/// The index file as it was found.
+/// The index file as it was opened.
 #[derive(Drop)]
-pub(crate) struct Found {
-    /// The file, where there is one.
+pub(crate) struct IndexFile {
+    /// The file, if there is one.
     pub(crate) file: Option<DiskStore<File>>,
-    /// What the system said of it when it was opened.
+    /// Its metadata, when it was opened.
     pub(crate) seen: Option<Metadata>,
 }
 
-/// Opens the index file, where there is one. What is no regular file is not opened: a pipe would wait, and a device may
-/// do anything.
-pub(crate) fn find(rt: &HostRuntime, file: &str) -> Result<Found, StorageFault> {
+/// Opens the index file, if there is one. Only a regular file is opened: opening a pipe would block, and opening a
+/// device may have side effects.
+pub(crate) fn open_index_file(rt: &HostRuntime, file: &str) -> Result<IndexFile, StorageFault> {
     match fs::metadata(rt, file) {
         Ok(there) if is_readable(&there) => {}
         Ok(_) => return Err(StorageFault::Failed),
         Err(error) if error.kind() == ErrorKind::NotFound => {
-            return Ok(Found {
+            return Ok(IndexFile {
                 file: None,
                 seen: None,
             });
@@ -135,77 +135,78 @@ pub(crate) fn find(rt: &HostRuntime, file: &str) -> Result<Found, StorageFault> 
         return Err(StorageFault::Failed);
     }
     let store = DiskStore::new(opened)?;
-    Ok(Found {
+    Ok(IndexFile {
         file: Some(store),
         seen: Some(seen),
     })
 }
 
-/// Whether it is a regular file that may be as long as an index.
+/// Whether it is a regular file that is not too long for an index.
 fn is_readable(there: &Metadata) -> bool {
     there.is_file() && there.len() < TOO_LONG
 }
 
-/// Does with the index file what a run asks that has found it so.
-pub(crate) fn store(
+/// Applies an update to the index file, if the file is still the one that was opened.
+pub(crate) fn apply_update(
     rt: &HostRuntime,
     file: &str,
     seen: Option<&Metadata>,
-    after: &After,
+    update: &IndexUpdate,
 ) -> Result<(), StorageFault> {
-    match after {
-        After::Kept => Ok(()),
-        After::Remove if is_unchanged(rt, file, None) => Ok(()),
-        After::Remove => change(rt, file, seen, None),
-        After::Write(bytes) => change(rt, file, seen, Some(bytes)),
+    match update {
+        IndexUpdate::Keep => Ok(()),
+        IndexUpdate::Remove if is_unchanged(rt, file, None) => Ok(()),
+        IndexUpdate::Remove => replace(rt, file, seen, None),
+        IndexUpdate::Write(bytes) => replace(rt, file, seen, Some(bytes)),
     }
 }
 
-/// Gives the index file these bytes, or removes it. The bytes go to a file beside it, which is then
-/// renamed: whatever goes wrong, the index is whole, with its old bytes or its new ones.
-fn change(
+/// Writes these bytes to the index file, or removes it. The bytes go to a temporary file beside it, which is then
+/// renamed, so that the index is always whole, with its old bytes or its new ones.
+fn replace(
     rt: &HostRuntime,
     file: &str,
     seen: Option<&Metadata>,
     bytes: Option<&[u8]>,
 ) -> Result<(), StorageFault> {
-    let mut beside = String::from_str(rt.alloc(), file)?;
-    beside.push('~')?;
-    let made = claim(rt, beside.as_str(), seen)?;
-    let changed = settle(rt, file, beside.as_str(), &made, seen, bytes);
-    // After a rename nothing of ours stands there.
-    if stands(rt, beside.as_str(), &made).is_ok() {
-        let _ = fs::remove_file(rt, beside.as_str());
+    let mut temp_path = String::from_str(rt.alloc(), file)?;
+    temp_path.push('~')?;
+    let temp = create_temp(rt, temp_path.as_str(), seen)?;
+    let changed = replace_if_unchanged(rt, file, temp_path.as_str(), &temp, seen, bytes);
+    // After a rename the temporary name is free.
+    if check_same_file(rt, temp_path.as_str(), &temp).is_ok() {
+        let _ = fs::remove_file(rt, temp_path.as_str());
     }
     changed?;
     sync_folder(rt, file);
     Ok(())
 }
 
-/// Changes the index file while the file beside it is held, unless it is no more as it was found.
-fn settle(
+/// Replaces or removes the index file while the temporary file is locked, unless the index file has changed since it
+/// was opened.
+fn replace_if_unchanged(
     rt: &HostRuntime,
     file: &str,
-    beside: &str,
-    made: &File,
+    temp_path: &str,
+    temp: &File,
     seen: Option<&Metadata>,
     bytes: Option<&[u8]>,
 ) -> io::Result<()> {
     if !is_unchanged(rt, file, seen) {
-        return Err(taken());
+        return Err(busy());
     }
     match bytes {
         Some(bytes) => {
-            fill(made, bytes)?;
-            hand_on(made, seen)?;
-            stands(rt, beside, made)?;
-            fs::rename(rt, beside, file)
+            write_and_sync(temp, bytes)?;
+            copy_mode(temp, seen)?;
+            check_same_file(rt, temp_path, temp)?;
+            fs::rename(rt, temp_path, file)
         }
         None => fs::remove_file(rt, file),
     }
 }
 
-/// Whether the index file is as it was found: the same file, that nobody has changed since, or none.
+/// Whether the index file is the one that was opened, unmodified, or is still missing.
 fn is_unchanged(rt: &HostRuntime, file: &str, seen: Option<&Metadata>) -> bool {
     match (fs::metadata(rt, file), seen) {
         (Ok(there), Some(seen)) => {
@@ -219,61 +220,57 @@ fn is_unchanged(rt: &HostRuntime, file: &str, seen: Option<&Metadata>) -> bool {
     }
 }
 
-/// Makes the file beside the index, held by a lock so that no other run takes it away. A system without
-/// locks does not hinder a run, as no other run makes the file while it is there.
-fn claim(rt: &HostRuntime, beside: &str, seen: Option<&Metadata>) -> io::Result<File> {
-    clear(rt, beside)?;
-    let mode = if seen.is_some() {
-        CLOSED_MODE
-    } else {
-        NEW_MODE
-    };
-    let made = File::options()
+/// Creates the temporary file and locks it, so that no other process removes it. A file system without locks is
+/// accepted, since no other process can create the file while it exists.
+fn create_temp(rt: &HostRuntime, temp_path: &str, seen: Option<&Metadata>) -> io::Result<File> {
+    remove_stale(rt, temp_path)?;
+    let mode = if seen.is_some() { TEMP_MODE } else { NEW_MODE };
+    let temp = File::options()
         .write(true)
         .create_new(true)
         .mode(mode)
-        .open(rt, beside)?;
-    if let Err(TryLockError::WouldBlock) = made.try_lock() {
-        return Err(taken());
+        .open(rt, temp_path)?;
+    if let Err(TryLockError::WouldBlock) = temp.try_lock() {
+        return Err(busy());
     }
-    stands(rt, beside, &made)?;
-    Ok(made)
+    check_same_file(rt, temp_path, &temp)?;
+    Ok(temp)
 }
 
-/// Takes away what a run of ours has left there and no run holds. Nothing else is opened or taken away.
-fn clear(rt: &HostRuntime, beside: &str) -> io::Result<()> {
-    match fs::symlink_metadata(rt, beside) {
-        Ok(there) if is_left_over(rt, &there) => {
-            let left = fs::open(rt, beside)?;
-            if left.try_lock().is_err() {
-                return Err(taken());
+/// Removes a temporary file that a killed process left, if it is not locked. Nothing else is opened or removed.
+fn remove_stale(rt: &HostRuntime, temp_path: &str) -> io::Result<()> {
+    match fs::symlink_metadata(rt, temp_path) {
+        Ok(there) if is_stale(rt, &there) => {
+            let stale = fs::open(rt, temp_path)?;
+            if stale.try_lock().is_err() {
+                return Err(busy());
             }
-            stands(rt, beside, &left)?;
-            fs::remove_file(rt, beside)
+            check_same_file(rt, temp_path, &stale)?;
+            fs::remove_file(rt, temp_path)
         }
-        Ok(_) => Err(taken()),
+        Ok(_) => Err(busy()),
         Err(error) if error.kind() == ErrorKind::NotFound => Ok(()),
         Err(error) => Err(error),
     }
 }
 
-/// Whether a run of ours may have left it: a regular file with no second name that belongs to the user
-/// who runs this, which the system's folder of processes says.
-fn is_left_over(rt: &HostRuntime, there: &Metadata) -> bool {
+/// Whether a process of this user may have left the file: a regular file with one link that belongs to the user of
+/// this process, by `/proc/self`.
+fn is_stale(rt: &HostRuntime, there: &Metadata) -> bool {
     match fs::metadata(rt, "/proc/self") {
         Ok(process) => there.is_file() && there.nlink() <= 1 && there.uid() == process.uid(),
         Err(_) => false,
     }
 }
 
-/// Whether the file that is open still stands there: another run may have taken it away before the lock
-/// was had, and where a folder is open to all, a stranger at any time.
-fn stands(rt: &HostRuntime, beside: &str, opened: &File) -> io::Result<()> {
-    let there = fs::symlink_metadata(rt, beside)?;
+/// Fails unless the open file still has this name: another process may have removed it before the lock was taken, and
+/// in a folder that is open to all anybody may at any time.
+fn check_same_file(rt: &HostRuntime, temp_path: &str, opened: &File) -> io::Result<()> {
+    let there = fs::symlink_metadata(rt, temp_path)?;
     if is_same(&there, &opened.metadata()?) {
         Ok(())
     } else {
-        Err(taken())
+        Err(busy())
     }
 }
 
@@ -281,30 +278,30 @@ fn is_same(one: &Metadata, other: &Metadata) -> bool {
     one.dev() == other.dev() && one.ino() == other.ino()
 }
 
-/// Another run, or somebody else, is at work there.
-fn taken() -> io::Error {
+/// The error when another process uses the file.
+fn busy() -> io::Error {
     io::Error::from(ErrorKind::WouldBlock)
 }
 
-/// Gives a new file these bytes, down to the disk.
-fn fill(mut made: &File, bytes: &[u8]) -> io::Result<()> {
-    made.write_all(bytes)?;
-    made.sync_all()
+/// Writes the bytes to a new file and syncs it.
+fn write_and_sync(mut temp: &File, bytes: &[u8]) -> io::Result<()> {
+    temp.write_all(bytes)?;
+    temp.sync_all()
 }
 
-/// Gives a new file the mode of the index that it replaces, and as root its owner.
-fn hand_on(made: &File, seen: Option<&Metadata>) -> io::Result<()> {
+/// Gives a new file the mode of the index that it replaces, and as root also its owner.
+fn copy_mode(temp: &File, seen: Option<&Metadata>) -> io::Result<()> {
     let Some(seen) = seen else {
         return Ok(());
     };
-    let own = made.metadata()?;
+    let own = temp.metadata()?;
     if own.uid() == ROOT && (own.uid(), own.gid()) != (seen.uid(), seen.gid()) {
-        fchown(made, Some(seen.uid()), Some(seen.gid()))?;
+        fchown(temp, Some(seen.uid()), Some(seen.gid()))?;
     }
-    made.set_permissions(Permissions::from_mode(seen.mode() & HANDED_ON))
+    temp.set_permissions(Permissions::from_mode(seen.mode() & MODE_BITS))
 }
 
-/// Brings the new name down to the disk. Where that fails the index is whole all the same.
+/// Syncs the folder of a renamed file. If that fails, the index is whole all the same.
 fn sync_folder(rt: &HostRuntime, file: &str) {
     let folder = match Path::new(file).parent() {
         Some(folder) if !folder.as_str().is_empty() => folder.as_str(),

@@ -1,16 +1,17 @@
--- Worked rows of lines and of the failures that they tell of.
+-- Worked examples of diagnostics and of the failures that they report.
 use Rattle.std.proofs.Common.{◌≡◌, ◌∷◌, [], refl}
 use Rattle.std.specs.Prelude.{codes}
 use Rattle.cs_tree.specs.declared.fault.TreeFault.TheVariants as tree
 use Rattle.cs_tree.specs.declared.walking.WalkFault.TheVariants as walk
 use Rattle.cs_trigram.specs.declared.scan.Reason.TheVariants.{Nul}
-use Rattle.cs_words.specs.declared.fault.FileFault.TheVariants.{Denied, Unnamed}
-use Rattle.cs_cindex.specs.Notices.{left_line, faulted, skipped, failures_of}
+use Rattle.cs_args.specs.declared.fault.FileFault.TheVariants.{Denied, Unnamed}
+use Rattle.cs_cindex.specs.Diagnostics.{fault_entry_line, faulted, skipped, failures_in}
 
--- a folder that is not listed and a file that is not opened are failures; a name that is no text and a file that is none are not
-failures_are_counted_once : failures_of (left_line (codes "/a", walk.Tree tree.Denied) ∷ left_line (codes "/b", walk.Unnamed) ∷ faulted (codes "/c") Denied ∷ faulted (codes "/d") Unnamed ∷ skipped (codes "/e") Nul ∷ []) 7 ≡ 9
+-- a folder that cannot be listed and a file that cannot be opened are failures; a non-text name and a non-text file
+-- are not
+failures_are_counted_once : failures_in (fault_entry_line (codes "/a", walk.Tree tree.Denied) ∷ fault_entry_line (codes "/b", walk.Unnamed) ∷ faulted (codes "/c") Denied ∷ faulted (codes "/d") Unnamed ∷ skipped (codes "/e") Nul ∷ []) 7 ≡ 9
 failures_are_counted_once = refl
 
--- at its end the count stays
-failures_are_counted_to_the_end : failures_of (faulted (codes "/c") Denied ∷ []) 18446744073709551615 ≡ 18446744073709551615
+-- the counter saturates
+failures_are_counted_to_the_end : failures_in (faulted (codes "/c") Denied ∷ []) 18446744073709551615 ≡ 18446744073709551615
 failures_are_counted_to_the_end = refl

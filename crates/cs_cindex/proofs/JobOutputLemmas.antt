@@ -8,37 +8,37 @@ use Rattle.cs_tree.specs.PathSet as set
 use Rattle.cs_tree.specs.Cover.{least}
 use Rattle.cs_tree.specs.Failures.{count_if}
 use Rattle.cs_tree.specs.Snapshot.{Snapshot}
-use Rattle.cs_tree.specs.Told.{Grows, Taken}
+use Rattle.cs_tree.specs.Sinks.{Grows, SinkModel}
 use Rattle.cs_index.specs.Opening.{opening}
 use Rattle.cs_index.specs.OpenedParts.{Parts}
 use Rattle.cs_index.specs.declared.fault.IndexFault.{IndexFault}
-use Rattle.cs_words.specs.declared.jobs.IndexJob.{IndexJob}
-use Rattle.cs_words.specs.declared.jobs.Reply.TheVariants.{Done, Refused}
-use Rattle.cs_words.specs.declared.fault.CindexFault.{CindexFault}
+use Rattle.cs_args.specs.declared.jobs.IndexJob.{IndexJob}
+use Rattle.cs_args.specs.declared.jobs.Reply.TheVariants.{Done, Refused}
+use Rattle.cs_args.specs.declared.fault.CindexFault.{CindexFault}
 use Rattle.cs_history.specs.Jobs.{given_paths, given_texts}
-use Rattle.cs_tree.specs.Taken.{TakesFront}
-use Rattle.cs_cindex.specs.Notices.{BeginLinesIn, PrintsLines, PrintsLinesFront}
+use Rattle.cs_tree.specs.TakesPrefix.{TakesPrefix}
+use Rattle.cs_cindex.specs.Diagnostics.{BeginLinesIn, PrintsLines, PrintsLinesPrefix}
 use Rattle.cs_cindex.specs.Files.{IsIndexingFault}
 use Rattle.cs_history.specs.JobKinds.{JobKind, lists, clears, walks}
 use Rattle.cs_cindex.specs.Refusals.{base, early_fault_of, early_walk_fault, base_fault, EarlyOr, IsOutputFault}
 use Rattle.cs_cindex.specs.JobPaths.{AreCleanFault, AreCleaned, starts}
 use Rattle.cs_cindex.specs.Next.{opening_paths, base_paths, paths_of_job}
-use Rattle.cs_words.specs.declared.fault.CindexFault.TheVariants.{NoIndex, BadIndex, Unsorted, TooLarge, BadPath, Write, Memory}
-use Rattle.cs_cindex.specs.Output.{JobTree, Output, path_lines, AreTooMany, IsMidway, WalkPrints, WalkPrintsFront, WalkPrintsSome, JobPrintsBy, is_failed_write}
-use Rattle.cs_tree.proofs.Fronts.{front_none, front_left, front_right}
-use Rattle.cs_tree.proofs.Growing.{Grows-same}
-use Rattle.cs_cindex.proofs.GoingLemmas.{walk_as_set, count_texts}
+use Rattle.cs_args.specs.declared.fault.CindexFault.TheVariants.{NoIndex, BadIndex, Unsorted, TooLarge, BadPath, Write, Memory}
+use Rattle.cs_cindex.specs.Output.{JobTree, Output, path_lines, AreTooMany, IsMidway, WalkPrints, WalkPrintsPrefix, WalkPrintsSome, JobPrintsBy, is_failed_write}
+use Rattle.cs_tree.proofs.PrefixLemmas.{prefix_none, prefix_left, prefix_right}
+use Rattle.cs_tree.proofs.GrowsLemmas.{Grows-same}
+use Rattle.cs_cindex.proofs.WalkedPathLemmas.{walk_as_set, count_texts}
 
--- ---- lines of walks
+-- ---- diagnostics of walks
 
 begin_none : (log_skip : Bool) (tree : Option Snapshot) (paths : Paths) → BeginLinesIn log_skip tree paths []
 begin_none log_skip None paths = tt
 begin_none log_skip (Some tree) paths = λ is all h. refl
 
-cut_none : (job : IndexJob) (tree : JobTree) (old : Option (List ℕ)) (err : Output) → WalkPrintsFront job tree old err err
-cut_none job tree old err = record { lines = []; due = begin_none job.log_skip tree.snapshot (paths_of_job job old); counted = λ some. absurd (some refl); front = front_none [] err.taken }
+cut_none : (job : IndexJob) (tree : JobTree) (old : Option (List ℕ)) (err : Output) → WalkPrintsPrefix job tree old err err
+cut_none job tree old err = record { lines = []; due = begin_none job.log_skip tree.snapshot (paths_of_job job old); counted = λ some. absurd (some refl); prefix = prefix_none [] err.model }
 
--- nothing was printed, and no write has failed
+-- nothing was printed, and no write failed
 pub nothing_printed : (early : Option CindexFault) (fault : CindexFault) (job : IndexJob) (snapshot : Option Snapshot) (old : Option (List ℕ)) (n : ℕ) (err : Output) → is_failed_write fault ≡ false → EarlyOr early (IsOutputFault fault) fault → WalkPrintsSome early fault job (record { snapshot = snapshot; failed = n; failed_then = n }) old err err
 nothing_printed None Write job snapshot old n err w h = absurd (true≢false w)
 nothing_printed None Memory job snapshot old n err w h = inr (tt, cut_none job _ old err)
@@ -46,15 +46,15 @@ nothing_printed None TooLarge job snapshot old n err w h = absurd h
 nothing_printed None NoIndex job snapshot old n err w h = absurd h
 nothing_printed None (BadIndex fault) job snapshot old n err w h = absurd h
 nothing_printed None Unsorted job snapshot old n err w h = absurd h
-nothing_printed None (BadPath place) job snapshot old n err w h = absurd h
-nothing_printed (Some early) fault job snapshot old n err w h = (Grows-same err.taken, refl)
+nothing_printed None (BadPath path_index) job snapshot old n err w h = absurd h
+nothing_printed (Some early) fault job snapshot old n err w h = (Grows-same err.model, refl)
 
--- where a path of the job is refused
+-- a path of the job cannot be cleaned
 clean_midway : (job : IndexJob) (tree : Option Snapshot) (old : Option (List ℕ)) (fault : CindexFault) → AreCleanFault (string_bytes job.cwd) (given_texts job) fault → early_walk_fault job old ≡ None → IsOutputFault fault
-clean_midway job tree old (BadPath place) h e =
+clean_midway job tree old (BadPath path_index) h e =
     absurd (some_none (sym (ap (λ bad. option_or (option_map (λ at. BadPath at) bad) (base_fault job old)) h) ∙ e))
   where
-    some_none : Some (BadPath place) ≡ None → ⊥
+    some_none : Some (BadPath path_index) ≡ None → ⊥
     some_none is = cc
 clean_midway job tree old Memory h e = tt
 clean_midway job tree old NoIndex h e = h
@@ -68,9 +68,9 @@ unclean_printed job snapshot old fault n err w h = by_early (early_walk_fault jo
   where
     by_early : (early : Option CindexFault) → (early ≡ None → IsOutputFault fault) → WalkPrintsSome early fault job (record { snapshot = snapshot; failed = n; failed_then = n }) old err err
     by_early None midway = nothing_printed None fault job snapshot old n err w (midway refl)
-    by_early (Some early) midway = (Grows-same err.taken, refl)
+    by_early (Some early) midway = (Grows-same err.model, refl)
 
--- ---- the paths that are walked
+-- ---- the walked paths
 
 pub own_walked : (job : IndexJob) (ts paths : List (List ℕ)) (old : Option (List ℕ)) → AreCleaned job ts → length job.paths.items ≢ 0 → paths ≡ set.items (least (set.from_list ts)) → set.from_list paths ≡ paths_of_job job old
 own_walked job ts paths old clean some e =
@@ -84,30 +84,30 @@ start_walk job old parts [] paths clean opens e =
 start_walk job old parts (t ∷ ts) paths clean opens e =
     own_walked job (t ∷ ts) paths (Some old) clean (λ none. let n = count_texts job (t ∷ ts) clean in omega (arith, none, n)) e
 
--- the same lines, over the paths in other words
+-- the same diagnostics, over equal paths
 module _ (job : IndexJob) (tree : JobTree) (paths : Paths) (old : Option (List ℕ)) (err later : Output) (e : paths ≡ paths_of_job job old) where
   abbrev Whole : Type 0
-  Whole = PrintsLines job.log_skip tree.snapshot paths tree.failed tree.failed_then err.taken later.taken
+  Whole = PrintsLines job.log_skip tree.snapshot paths tree.failed tree.failed_then err.model later.model
 
-  abbrev Front : Type 0
-  Front = PrintsLinesFront job.log_skip tree.snapshot paths tree.failed tree.failed_then err.taken later.taken
+  abbrev Prefix : Type 0
+  Prefix = PrintsLinesPrefix job.log_skip tree.snapshot paths tree.failed tree.failed_then err.model later.model
 
   pub prints_over : Whole → WalkPrints job tree old err later
-  prints_over h = subst (λ ps. PrintsLines job.log_skip tree.snapshot ps tree.failed tree.failed_then err.taken later.taken) e h
+  prints_over h = subst (λ ps. PrintsLines job.log_skip tree.snapshot ps tree.failed tree.failed_then err.model later.model) e h
 
   module _ (early : Option CindexFault) (fault : CindexFault) (none : early ≡ None) where
     -- all of them
     pub whole_over : Whole → WalkPrintsSome early fault job tree old err later
     whole_over h = subst (λ o. WalkPrintsSome o fault job tree old err later) (sym none) (inl (prints_over h))
 
-    midway_over : IsMidway fault tree.snapshot paths err later → Front → WalkPrintsSome early fault job tree old err later
+    midway_over : IsMidway fault tree.snapshot paths err later → Prefix → WalkPrintsSome early fault job tree old err later
     midway_over midway h =
         subst (λ o. WalkPrintsSome o fault job tree old err later) (sym none)
-        (inr (subst (λ ps. IsMidway fault tree.snapshot ps err later) e midway, subst (λ ps. PrintsLinesFront job.log_skip tree.snapshot ps tree.failed tree.failed_then err.taken later.taken) e h))
+        (inr (subst (λ ps. IsMidway fault tree.snapshot ps err later) e midway, subst (λ ps. PrintsLinesPrefix job.log_skip tree.snapshot ps tree.failed tree.failed_then err.model later.model) e h))
 
-    -- a front of them, or all where the index is too large
-    pub front_over : IsIndexingFault fault → later.failed ≡ count_if (is_failed_write fault) err.failed → (fault ≡ TooLarge → AreTooMany tree.snapshot paths ⊎ Whole) → Front → WalkPrintsSome early fault job tree old err later
-    front_over only counts whole h =
+    -- a prefix of them, or all if the index is too large
+    pub prefix_over : IsIndexingFault fault → later.failed ≡ count_if (is_failed_write fault) err.failed → (fault ≡ TooLarge → AreTooMany tree.snapshot paths ⊎ Whole) → Prefix → WalkPrintsSome early fault job tree old err later
+    prefix_over only counts whole h =
         elim (cases_midway fault only counts) [
           | inl large ↦ elim (whole large) [
             | inl many ↦ midway_over (subst (λ f. IsMidway f tree.snapshot paths err later) (sym large) many) h
@@ -123,15 +123,15 @@ module _ (job : IndexJob) (tree : JobTree) (paths : Paths) (old : Option (List �
         cases_midway NoIndex is counts = inr is
         cases_midway (BadIndex bad) is counts = inr is
         cases_midway Unsorted is counts = inr is
-        cases_midway (BadPath place) is counts = inr is
+        cases_midway (BadPath path_index) is counts = inr is
 
--- ---- refusals after all was printed
+-- ---- errors after everything was printed
 
--- with this count of failures
-pub prints_refused : (kind : JobKind) (job : IndexJob) (tree : JobTree) (old : Option (List ℕ)) (err later : Output) (n : ℕ) (fault : CindexFault) → early_fault_of kind job old ≡ None → JobPrintsBy kind Done job tree old err later → JobPrintsBy kind (Refused fault) job tree old err (record { taken = later.taken; failed = n })
+-- for any count of failures
+pub prints_refused : (kind : JobKind) (job : IndexJob) (tree : JobTree) (old : Option (List ℕ)) (err later : Output) (n : ℕ) (fault : CindexFault) → early_fault_of kind job old ≡ None → JobPrintsBy kind Done job tree old err later → JobPrintsBy kind (Refused fault) job tree old err (record { model = later.model; failed = n })
 prints_refused lists job tree old err later n fault none h = h
 prints_refused clears job tree old err later n fault none h = h
-prints_refused walks job tree old err later n fault none h = subst (λ o. WalkPrintsSome o fault job tree (base job old) err (record { taken = later.taken; failed = n })) (sym none) (inl h)
+prints_refused walks job tree old err later n fault none h = subst (λ o. WalkPrintsSome o fault job tree (base job old) err (record { model = later.model; failed = n })) (sym none) (inl h)
 
 -- ---- the lines of paths
 
@@ -141,9 +141,9 @@ line_of path = path ++ codes "\n"
 pub lines_more : (done text all : List ℕ) (rest later : List (List ℕ)) → rest ≡ text ∷ later → done ++ path_lines rest ≡ all → (done ++ line_of text) ++ path_lines later ≡ all
 lines_more done text all rest later e h = append_assoc done (line_of text) (path_lines later) ∙ ap (λ ps. done ++ path_lines ps) (sym e) ∙ h
 
-pub lines_cut : (done text all : List ℕ) (rest later : List (List ℕ)) (a b c : Option Taken) → rest ≡ text ∷ later → done ++ path_lines rest ≡ all → Grows a b done → TakesFront (line_of text) b c → TakesFront all a c
+pub lines_cut : (done text all : List ℕ) (rest later : List (List ℕ)) (a b c : Option SinkModel) → rest ≡ text ∷ later → done ++ path_lines rest ≡ all → Grows a b done → TakesPrefix (line_of text) b c → TakesPrefix all a c
 lines_cut done text all rest later a b c e h g f =
-    subst (λ xs. TakesFront xs a c) (ap (λ ps. done ++ path_lines ps) (sym e) ∙ h) (front_right done (line_of text ++ path_lines later) a b c g (front_left (line_of text) (path_lines later) b c f))
+    subst (λ xs. TakesPrefix xs a c) (ap (λ ps. done ++ path_lines ps) (sym e) ∙ h) (prefix_right done (line_of text ++ path_lines later) a b c g (prefix_left (line_of text) (path_lines later) b c f))
 
-pub lines_end : (done all : List ℕ) (rest : List (List ℕ)) (a b : Option Taken) → rest ≡ [] → done ++ path_lines rest ≡ all → Grows a b done → Grows a b all
+pub lines_end : (done all : List ℕ) (rest : List (List ℕ)) (a b : Option SinkModel) → rest ≡ [] → done ++ path_lines rest ≡ all → Grows a b done → Grows a b all
 lines_end done all rest a b e h g = subst (Grows a b) (sym (append-nil done) ∙ ap (λ ps. done ++ path_lines ps) (sym e) ∙ h) g

@@ -11,21 +11,20 @@ use Rattle.std.specs.FinMap as map'
 use Rattle.cs_tree.specs.PathSet as set
 use Rattle.cs_tree.specs.Cover.{least}
 use Rattle.cs_tree.specs.Clean.{clean_path}
-use Rattle.cs_tree.specs.Cleaning.{clean_fault, is_settled}
-use Rattle.cs_tree.proofs.SettledLemmas.{settled_filled, settled_no_nul, no_nul_bytes}
+use Rattle.cs_tree.specs.Cleaning.{clean_fault, is_normalized}
+use Rattle.cs_tree.proofs.NormalizedLemmas.{normalized_filled, normalized_no_nul, no_nul_bytes}
 use Rattle.cs_tree.specs.declared.cleaning.PathFault.{PathFault}
-use Rattle.cs_tree.proofs.Least.{IsLeast, least_says}
+use Rattle.cs_tree.proofs.LeastLemmas.{IsLeast, least_says}
 use Rattle.cs_index.specs.Built.{is_storable, are_reduced, are_paths}
 use Rattle.cs_merge.proofs.ContentLemmas.{all_keys, each_of_map}
-use Rattle.cs_merge.proofs.ReadyLemmas.{all_above, reduced_from}
+use Rattle.cs_merge.proofs.StorableLemmas.{all_above, reduced_from}
 use Rattle.cs_tree.proofs.ReduceLemmas.{true_from_T}
-use Rattle.cs_history.specs.Jobs.{IsTaken}
-use Rattle.cs_words.specs.declared.fault.CindexFault.{CindexFault}
-use Rattle.cs_words.specs.declared.fault.CindexFault.TheVariants.{NoIndex, BadIndex, Unsorted, TooLarge, BadPath, Write, Memory}
+use Rattle.cs_args.specs.declared.fault.CindexFault.{CindexFault}
+use Rattle.cs_args.specs.declared.fault.CindexFault.TheVariants.{NoIndex, BadIndex, Unsorted, TooLarge, BadPath, Write, Memory}
 use Rattle.cs_history.specs.Replies.{first_bad}
 use Rattle.cs_cindex.specs.JobPaths.{IsCleanFault, AreCleanFault}
 
--- ---- the first text that cleaning refuses
+-- ---- the first text that cannot be cleaned
 
 abbrev is_bad : List ℕ → List ℕ → Bool
 is_bad folder text = is_some (clean_fault folder text)
@@ -42,19 +41,19 @@ none_bad folder texts all =
 
 -- ---- reduced paths
 
-pub all_pass : (test : List ℕ → Bool) (ps : List (List ℕ)) → AllByRecursion (λ p. test p ≡ true) ps → list_all test ps ≡ true
-all_pass test [] all = refl
-all_pass test (p ∷ ps) all = and_from (test p) (list_all test ps) all.0 (all_pass test ps all.1)
+pub all_satisfy : (test : List ℕ → Bool) (ps : List (List ℕ)) → AllByRecursion (λ p. test p ≡ true) ps → list_all test ps ≡ true
+all_satisfy test [] all = refl
+all_satisfy test (p ∷ ps) all = and_from (test p) (list_all test ps) all.0 (all_satisfy test ps all.1)
 
 pub reduced_paths : (paths : Paths) → ((path : List ℕ) → set.contains paths path ≡ true → is_storable path ≡ true) → are_paths (set.items (least paths)) ≡ true
 reduced_paths paths storable =
     and_from (list_all is_storable (set.items (least paths))) (are_reduced (set.items (least paths)))
-    (all_pass is_storable (set.items (least paths)) (all_keys (λ path. is_storable path ≡ true) (map'.entries (least paths))
+    (all_satisfy is_storable (set.items (least paths)) (all_keys (λ path. is_storable path ≡ true) (map'.entries (least paths))
     (each_of_map (λ path (mark : Unit {0}). is_storable path ≡ true) (least paths) (λ path mark there. storable path (least_says paths path (ap is_some there)).member))))
     (reduced_from paths (map'.entries (least paths)) (true_from_T _ (map'.entries_sorted (least paths)))
     (each_of_map (λ (path : List ℕ) (mark : Unit {0}). IsLeast paths path) (least paths) (λ path mark there. least_says paths path (ap is_some there))))
 
--- ---- texts that cleaning takes
+-- ---- texts that can be cleaned
 
 pub storable_text : (text : List ℕ) → text ≢ [] → AllByRecursion (λ b. 0 < b) text → is_storable text ≡ true
 storable_text [] some all = absurd (some refl)
@@ -64,22 +63,22 @@ is_no_fault : (fault : Option PathFault) → is_some fault ≡ false → fault �
 is_no_fault None h = refl
 is_no_fault (Some fault) h = absurd (true≢false h)
 
-taken_from : (folder text : List ℕ) → is_bad folder text ≡ false → IsTaken folder text
-taken_from folder text h = is_no_fault (clean_fault folder text) h
+accepted_from : (folder text : List ℕ) → is_bad folder text ≡ false → clean_fault folder text ≡ None
+accepted_from folder text h = is_no_fault (clean_fault folder text) h
 
--- the first refused text, and none
-none_upto : (folder : List ℕ) (texts : List (List ℕ)) → length texts ≤ position_or_len (is_bad folder) texts → AllByRecursion (IsTaken folder) texts
+-- the first text that cannot be cleaned, or none
+none_upto : (folder : List ℕ) (texts : List (List ℕ)) → length texts ≤ position_or_len (is_bad folder) texts → AllByRecursion (λ text. clean_fault folder text ≡ None) texts
 none_upto folder [] h = tt
 none_upto folder (text ∷ texts) h =
     elim (cases_Bool (is_bad folder text)) [
       | inl bad ↦ (let e : position_or_len (is_bad folder) (text ∷ texts) ≡ 0 = ap (λ b. cond (not b) (1 + position_or_len (is_bad folder) texts) 0) bad in absurd (omega (arith, e, h)))
       | inr good ↦
           let e : position_or_len (is_bad folder) (text ∷ texts) ≡ 1 + position_or_len (is_bad folder) texts = ap (λ b. cond (not b) (1 + position_or_len (is_bad folder) texts) 0) good in
-          (taken_from folder text good, none_upto folder texts (omega (arith, e, h)))
+          (accepted_from folder text good, none_upto folder texts (omega (arith, e, h)))
     ]
 
-pub all_taken : (folder : List ℕ) (texts : List (List ℕ)) → first_bad folder texts ≡ None → AllByRecursion (IsTaken folder) texts
-all_taken folder texts h =
+pub all_accepted : (folder : List ℕ) (texts : List (List ℕ)) → first_bad folder texts ≡ None → AllByRecursion (λ text. clean_fault folder text ≡ None) texts
+all_accepted folder texts h =
     elim (cases_Bool (ltb (position_or_len (is_bad folder) texts) (length texts))) [
       | inl within ↦ absurd (some_none (position_or_len (is_bad folder) texts) (sym (ap (λ b. cond b (Some (position_or_len (is_bad folder) texts)) None) within) ∙ h))
       | inr past ↦ none_upto folder texts (ltb-false _ _ past)
@@ -88,25 +87,25 @@ all_taken folder texts h =
     some_none : (n : ℕ) → Some n ≡ None → ⊥
     some_none n e = cc
 
--- ---- settled paths can be stored
+-- ---- normalized paths can be stored
 
-pub settled_storable : (path : List ℕ) → is_settled path ≡ true → is_storable path ≡ true
-settled_storable path h = storable_text path (settled_filled path h) (no_nul_bytes path (settled_no_nul path h))
+pub normalized_storable : (path : List ℕ) → is_normalized path ≡ true → is_storable path ≡ true
+normalized_storable path h = storable_text path (normalized_filled path h) (no_nul_bytes path (normalized_no_nul path h))
 
--- ---- why paths are refused
+-- ---- errors of paths
 
-pub filled_at : {A : Type 0} (xs : List A) (place : ℕ) → place < length xs → xs ≡ [] → ⊥
-filled_at [] place within e = omega (arith, within)
-filled_at (x ∷ xs) place within e = cc
+pub filled_at : {A : Type 0} (xs : List A) (path_index : ℕ) → path_index < length xs → xs ≡ [] → ⊥
+filled_at [] path_index within e = omega (arith, within)
+filled_at (x ∷ xs) path_index within e = cc
 
-pub refusal_at : (folder : List ℕ) (texts : List (List ℕ)) (place : ℕ) (fault : CindexFault) → place < length texts → ((k : ℕ) → k < place → is_some (clean_fault folder (get_or texts k [])) ≡ false) → IsCleanFault folder (get_or texts place []) place fault → AreCleanFault folder texts fault
-refusal_at folder texts place (BadPath at) within before h = bad_at folder texts place within before h.1 ∙ ap Some (sym h.0)
-refusal_at folder texts place Memory within before h = filled_at texts place within
-refusal_at folder texts place NoIndex within before h = h
-refusal_at folder texts place (BadIndex fault) within before h = h
-refusal_at folder texts place Unsorted within before h = h
-refusal_at folder texts place TooLarge within before h = h
-refusal_at folder texts place Write within before h = h
+pub refusal_at : (folder : List ℕ) (texts : List (List ℕ)) (path_index : ℕ) (fault : CindexFault) → path_index < length texts → ((k : ℕ) → k < path_index → is_some (clean_fault folder (get_or texts k [])) ≡ false) → IsCleanFault folder (get_or texts path_index []) path_index fault → AreCleanFault folder texts fault
+refusal_at folder texts path_index (BadPath at) within before h = bad_at folder texts path_index within before h.1 ∙ ap Some (sym h.0)
+refusal_at folder texts path_index Memory within before h = filled_at texts path_index within
+refusal_at folder texts path_index NoIndex within before h = h
+refusal_at folder texts path_index (BadIndex fault) within before h = h
+refusal_at folder texts path_index Unsorted within before h = h
+refusal_at folder texts path_index TooLarge within before h = h
+refusal_at folder texts path_index Write within before h = h
 
 -- one more path is cleaned
 pub cleaned_more : (folder : List ℕ) (paths : List (String Global)) (i : ℕ) (d : String Global) (given now : List (List ℕ)) (one : List ℕ) → i < length paths → d ≡ get_or paths i d → given ≡ map (λ text. clean_path folder text) (map string_bytes (take i paths)) → one ≡ clean_path folder (string_bytes d) → now ≡ given ++ one ∷ [] → now ≡ map (λ text. clean_path folder text) (map string_bytes (take (i + 1) paths))

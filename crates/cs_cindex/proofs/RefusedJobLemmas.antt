@@ -1,26 +1,26 @@
--- Why jobs on the index that some jobs left are refused.
+-- Errors of jobs over an index that jobs left.
 use Rattle.std.proofs.Common.{◌≡◌, ℕ, ◌⊎◌, true, false, cond, ◌&&◌, List, [], ◌∷◌, length, refl, sym, ap, subst, ◌∙◌, inl, inr, arith, Option, Some, None}
-use Rattle.cs_tree.specs.Folders.{Tells}
+use Rattle.cs_tree.specs.Folders.{IsModelled}
 use Rattle.std.specs.Prelude.{string_bytes, option_map}
 use Rattle.std.specs.Option.{option_or}
 use Rattle.std.proofs.lemmas.Bool.{true≢false, and_parts, cases_Bool, cond_both, eqb-true}
 use Rattle.std.proofs.lemmas.List.{length-map}
 use Rattle.cs_tree.specs.Snapshot.{Snapshot}
 use Rattle.cs_index.specs.declared.fault.IndexFault.{IndexFault}
-use Rattle.cs_words.specs.declared.jobs.IndexJob.{IndexJob}
-use Rattle.cs_words.specs.declared.jobs.Reply.{Reply}
-use Rattle.cs_words.specs.declared.jobs.Reply.TheVariants.{Done, Refused}
-use Rattle.cs_words.specs.declared.fault.CindexFault.{CindexFault}
-use Rattle.cs_words.specs.declared.fault.CindexFault.TheVariants.{NoIndex, BadIndex, Unsorted, TooLarge, BadPath, Write, Memory}
+use Rattle.cs_args.specs.declared.jobs.IndexJob.{IndexJob}
+use Rattle.cs_args.specs.declared.jobs.Reply.{Reply}
+use Rattle.cs_args.specs.declared.jobs.Reply.TheVariants.{Done, Refused}
+use Rattle.cs_args.specs.declared.fault.CindexFault.{CindexFault}
+use Rattle.cs_args.specs.declared.fault.CindexFault.TheVariants.{NoIndex, BadIndex, Unsorted, TooLarge, BadPath, Write, Memory}
 use Rattle.cs_history.specs.History.{History, nothing, index_of}
 use Rattle.cs_history.specs.WellFormed.{IsHistory}
 use Rattle.cs_history.specs.Jobs.{given_texts, has_no_path}
-use Rattle.cs_history.specs.Premises.{snapshot_told, IsShort}
+use Rattle.cs_history.specs.Premises.{modelled_snapshot, IsShort}
 use Rattle.cs_history.specs.JobKinds.{JobKind, lists, clears, walks, job_kind, Walks}
 use Rattle.cs_history.specs.Replies.{NeedsIndex, IsFirstBad, IsTooLarge, IsRightReply, first_bad}
 use Rattle.cs_history.proofs.IndexLemmas.{no_index}
 use Rattle.cs_cindex.specs.Refusals.{base, list_fault, base_fault, early_fault_of, early_fault, IsLateFault, IsDamaged, EarlyOr, HasCause}
-use Rattle.cs_cindex.proofs.OldLemmas.{history_goes, history_whole, history_lists}
+use Rattle.cs_cindex.proofs.OldIndexLemmas.{history_base, history_whole, history_lists}
 
 -- ---- the kinds of jobs
 
@@ -39,7 +39,7 @@ cases_of job =
       ]
     ]
 
--- a job walks exactly where it is neither `-list` nor a `-reset` without paths
+-- a job walks unless it is a `-list` or a `-reset` without paths
 pub walks_kind : (job : IndexJob) → (job.list ≡ false) × ((job.reset && has_no_path job) ≡ false) → Walks job
 walks_kind job w =
     ap (λ b. cond b lists (cond (job.reset && has_no_path job) clears walks)) w.0
@@ -59,26 +59,26 @@ walks_parts job w =
     not_clears : clears ≡ walks → ⊥
     not_clears e = cc
 
--- ---- early faults
+-- ---- early errors
 
 either : {A : Type 0} (f e : A) {P : Type 0} → (P → ⊥) → (f ≡ e) ⊎ P → Some e ≡ Some f
 either f e never h = elim h [ inl is ↦ ap Some (sym is) | inr other ↦ absurd (never other) ]
 
--- a fault that is neither late nor want of memory is the early one
+-- an error that is neither late nor out of memory is the early one
 pub is_early : (early : Option CindexFault) (late : Type 0) (fault : CindexFault) → (fault ≡ Memory → ⊥) → (late → ⊥) → EarlyOr early late fault → early ≡ Some fault
 is_early None late fault no_memory none h = absurd (none h)
 is_early (Some NoIndex) late fault no_memory none h = ap Some (sym h)
 is_early (Some (BadIndex bad)) late fault no_memory none h = either fault (BadIndex bad) no_memory h
 is_early (Some Unsorted) late fault no_memory none h = either fault Unsorted no_memory h
 is_early (Some TooLarge) late fault no_memory none h = either fault TooLarge no_memory h
-is_early (Some (BadPath place)) late fault no_memory none h = either fault (BadPath place) no_memory h
+is_early (Some (BadPath path_index)) late fault no_memory none h = either fault (BadPath path_index) no_memory h
 is_early (Some Write) late fault no_memory none h = either fault Write no_memory h
 is_early (Some Memory) late fault no_memory none h = either fault Memory no_memory h
 
--- what refuses a job early, on the index that some jobs left
+-- the cause of an early error, over an index that jobs left
 pub data Causes (earlier : History) (job : IndexJob) (fault : CindexFault) : Type 0 where
   none_there : earlier ≡ nothing → NeedsIndex job → fault ≡ NoIndex → Causes earlier job fault
-  refused : (place : ℕ) → job.list ≡ false → first_bad (string_bytes job.cwd) (given_texts job) ≡ Some place → fault ≡ BadPath place → Causes earlier job fault
+  refused : (path_index : ℕ) → job.list ≡ false → first_bad (string_bytes job.cwd) (given_texts job) ≡ Some path_index → fault ≡ BadPath path_index → Causes earlier job fault
 
 module _ (earlier : History) (is : IsHistory earlier) (job : IndexJob) where
   some_is : {a b : CindexFault} → Some a ≡ Some b → b ≡ a
@@ -100,7 +100,7 @@ module _ (earlier : History) (is : IsHistory earlier) (job : IndexJob) where
     where
       none_some : None ≡ Some fault → ⊥
       none_some h = cc
-  by_base (Some bytes) left short r fault e = absurd (none_some (sym (history_goes earlier bytes is left short) ∙ e))
+  by_base (Some bytes) left short r fault e = absurd (none_some (sym (history_base earlier bytes is left short) ∙ e))
     where
       none_some : None ≡ Some fault → ⊥
       none_some h = cc
@@ -117,9 +117,9 @@ module _ (earlier : History) (is : IsHistory earlier) (job : IndexJob) where
       none_some : None ≡ Some fault → ⊥
       none_some h = cc
 
-  by_walk : (old : Option (List ℕ)) → index_of earlier ≡ old → IsShort old → job.list ≡ false → (job.reset && has_no_path job) ≡ false → (fault : CindexFault) (bad : Option ℕ) → first_bad (string_bytes job.cwd) (given_texts job) ≡ bad → option_or (option_map (λ place. BadPath place) bad) (base_fault job (base job old)) ≡ Some fault → Causes earlier job fault
+  by_walk : (old : Option (List ℕ)) → index_of earlier ≡ old → IsShort old → job.list ≡ false → (job.reset && has_no_path job) ≡ false → (fault : CindexFault) (bad : Option ℕ) → first_bad (string_bytes job.cwd) (given_texts job) ≡ bad → option_or (option_map (λ path_index. BadPath path_index) bad) (base_fault job (base job old)) ≡ Some fault → Causes earlier job fault
   by_walk old left short l one fault None b e = by_reset old left short one fault e
-  by_walk old left short l one fault (Some place) b e = refused place l b (some_is e)
+  by_walk old left short l one fault (Some path_index) b e = refused path_index l b (some_is e)
 
   pub causes : (old : Option (List ℕ)) → index_of earlier ≡ old → IsShort old → (fault : CindexFault) → early_fault job old ≡ Some fault → Causes earlier job fault
   causes old left short fault e =
@@ -132,7 +132,7 @@ module _ (earlier : History) (is : IsHistory earlier) (job : IndexJob) where
       none_some : None ≡ Some fault → ⊥
       none_some h = cc
 
--- a job that needs an index is refused where there is none
+-- a job that needs an index fails if there is none
 pub needs_one : (job : IndexJob) → NeedsIndex job → early_fault job None ≡ Some NoIndex
 needs_one job (inl l) = ap (λ b. early_fault_of (cond b lists (cond (job.reset && has_no_path job) clears walks)) job None) l
 needs_one job (inr alone) =
@@ -141,7 +141,7 @@ needs_one job (inr alone) =
       | clearing l r p k ↦ absurd (true≢false (sym r ∙ alone.0))
       | walking l one k ↦
           ap (λ kind. early_fault_of kind job None) k
-          ∙ ap (λ ts. option_or (option_map (λ place. BadPath place) (first_bad (string_bytes job.cwd) ts)) (base_fault job (base job None))) (no_texts (given_texts job) (length-map job.paths.items string_bytes ∙ eqb-true (length job.paths.items) 0 alone.1))
+          ∙ ap (λ ts. option_or (option_map (λ path_index. BadPath path_index) (first_bad (string_bytes job.cwd) ts)) (base_fault job (base job None))) (no_texts (given_texts job) (length-map job.paths.items string_bytes ∙ eqb-true (length job.paths.items) 0 alone.1))
           ∙ ap (λ b. base_fault job (cond b None None)) alone.0
           ∙ ap (λ b. cond b (Some NoIndex) None) alone.1
     ]
@@ -152,16 +152,16 @@ needs_one job (inr alone) =
 
 -- ---- replies
 
--- no late fault is one of these
+-- no late error is one of these
 late_none : (kind : JobKind) (job : IndexJob) (tree : Option Snapshot) (old : Option (List ℕ)) → IsLateFault kind job tree old NoIndex → ⊥
 late_none lists job tree old h = h
 late_none clears job tree old h = h
 late_none walks job tree old h = h
 
-late_path : (kind : JobKind) (job : IndexJob) (tree : Option Snapshot) (old : Option (List ℕ)) (place : ℕ) → IsLateFault kind job tree old (BadPath place) → ⊥
-late_path lists job tree old place h = h
-late_path clears job tree old place h = h
-late_path walks job tree old place h = h
+late_path : (kind : JobKind) (job : IndexJob) (tree : Option Snapshot) (old : Option (List ℕ)) (path_index : ℕ) → IsLateFault kind job tree old (BadPath path_index) → ⊥
+late_path lists job tree old path_index h = h
+late_path clears job tree old path_index h = h
+late_path walks job tree old path_index h = h
 
 late_order : (kind : JobKind) (job : IndexJob) (tree : Option Snapshot) (old : Option (List ℕ)) → IsLateFault kind job tree old Unsorted → ⊥
 late_order lists job tree old h = h
@@ -178,30 +178,30 @@ late_bad earlier clears job tree old fault is left short h = h
 late_bad earlier walks job tree old fault is left short list =
     cond_both job.reset None old (λ o. IsDamaged o → ⊥) (λ _ damaged. damaged) (λ _ damaged. damaged_none earlier old is left short damaged) list.damaged
 
--- an early fault is no fault of the index itself
+-- an early error is not `BadIndex`
 no_bad : (earlier : History) (job : IndexJob) (fault : IndexFault) → Causes earlier job (BadIndex fault) → ⊥
 no_bad earlier job fault (none_there e n is) = cc
-no_bad earlier job fault (refused place l b is) = cc
+no_bad earlier job fault (refused path_index l b is) = cc
 
 no_order : (earlier : History) (job : IndexJob) → Causes earlier job Unsorted → ⊥
 no_order earlier job (none_there e n is) = cc
-no_order earlier job (refused place l b is) = cc
+no_order earlier job (refused path_index l b is) = cc
 
 none_cause : (earlier : History) (job : IndexJob) → Causes earlier job NoIndex → (earlier ≡ nothing) × NeedsIndex job
 none_cause earlier job (none_there e n is) = (e, n)
-none_cause earlier job (refused place l b is) = absurd (apart is)
+none_cause earlier job (refused path_index l b is) = absurd (apart is)
   where
-    apart : NoIndex ≡ BadPath place → ⊥
+    apart : NoIndex ≡ BadPath path_index → ⊥
     apart h = cc
 
-path_cause : (earlier : History) (job : IndexJob) (place : ℕ) → Causes earlier job (BadPath place) → IsFirstBad job place
-path_cause earlier job place (none_there e n is) = absurd (apart is)
+path_cause : (earlier : History) (job : IndexJob) (path_index : ℕ) → Causes earlier job (BadPath path_index) → IsFirstBad job path_index
+path_cause earlier job path_index (none_there e n is) = absurd (apart is)
   where
-    apart : BadPath place ≡ NoIndex → ⊥
+    apart : BadPath path_index ≡ NoIndex → ⊥
     apart h = cc
-path_cause earlier job place (refused at l b is) = subst (IsFirstBad job) (same is) (record { unlisted = l; first = b })
+path_cause earlier job path_index (refused at l b is) = subst (IsFirstBad job) (same is) (record { unlisted = l; first = b })
   where
-    same : BadPath place ≡ BadPath at → at ≡ place
+    same : BadPath path_index ≡ BadPath at → at ≡ path_index
     same h = cc
 
 done_early : (job : IndexJob) (earlier : History) (old : Option (List ℕ)) → index_of earlier ≡ old → earlier ≡ nothing → NeedsIndex job → early_fault job old ≡ Some NoIndex
@@ -210,10 +210,10 @@ done_early job earlier old left e needs = ap (early_fault job) (sym left ∙ ap 
 is_reply : (fault other : CindexFault) → Refused fault ≡ Refused other → fault ≡ other
 is_reply fault other e = cc
 
-pub right_reply : (earlier : History) (job : IndexJob) (tree : Option Snapshot) (old : Option (List ℕ)) (reply : Reply) → Tells tree → IsHistory earlier → index_of earlier ≡ old → IsShort old → HasCause job tree old reply → (reply ≡ Refused TooLarge → IsTooLarge earlier job (snapshot_told tree)) → (reply ≡ Done → IsTooLarge earlier job (snapshot_told tree) → ⊥) → IsRightReply earlier job (snapshot_told tree) reply
-right_reply earlier job tree old Done tells is left short cause large fits = record {
+pub right_reply : (earlier : History) (job : IndexJob) (tree : Option Snapshot) (old : Option (List ℕ)) (reply : Reply) → IsModelled tree → IsHistory earlier → index_of earlier ≡ old → IsShort old → HasCause job tree old reply → (reply ≡ Refused TooLarge → IsTooLarge earlier job (modelled_snapshot tree)) → (reply ≡ Done → IsTooLarge earlier job (modelled_snapshot tree) → ⊥) → IsRightReply earlier job (modelled_snapshot tree) reply
+right_reply earlier job tree old Done modelled is left short cause large fits = record {
   no_index = (λ e. absurd (never NoIndex e), λ h. absurd (never_none (sym cause ∙ done_early job earlier old left h.0 h.1)));
-  bad_path = λ place e. absurd (never (BadPath place) e);
+  bad_path = λ path_index e. absurd (never (BadPath path_index) e);
   too_large = large;
   fits = fits;
   bad_index = λ fault e. never (BadIndex fault) e;
@@ -225,14 +225,14 @@ right_reply earlier job tree old Done tells is left short cause large fits = rec
 
     never_none : None ≡ Some NoIndex → ⊥
     never_none e = cc
-right_reply earlier job tree old (Refused fault) tells is left short cause large fits = record {
+right_reply earlier job tree old (Refused fault) modelled is left short cause large fits = record {
   no_index = (
     λ e. none_cause earlier job (early NoIndex (λ h. cc) (late_none (job_kind job) job tree old) e),
     λ h.
         let moved : EarlyOr (Some NoIndex) (IsLateFault (job_kind job) job tree old fault) fault = subst (λ o. EarlyOr o (IsLateFault (job_kind job) job tree old fault) fault) (done_early job earlier old left h.0 h.1) cause in
         ap Refused moved,
   );
-  bad_path = λ place e. path_cause earlier job place (early (BadPath place) (λ h. cc) (late_path (job_kind job) job tree old place) e);
+  bad_path = λ path_index e. path_cause earlier job path_index (early (BadPath path_index) (λ h. cc) (late_path (job_kind job) job tree old path_index) e);
   too_large = large;
   fits = fits;
   bad_index = λ bad e. no_bad earlier job bad (early (BadIndex bad) (λ h. cc) (late_bad earlier (job_kind job) job tree old bad is left short) e);

@@ -1,28 +1,29 @@
--- What one job does: its step, from what its parts give.
+-- The step of one job, from the clauses of its parts.
 use Rattle.std.proofs.Common.{◌≡◌, ℕ, ◌&&◌, Bool, true, false, cond, List, [], ◌∷◌, length, refl, sym, ap, subst, ◌∙◌, inl, inr, arith, Option, Some, None, Result, Vec, Bor}
 use Rattle.cs_tree.specs.Transfers.{is_io_failure}
 use Rattle.std.specs.Prelude.{string_bytes}
+use Rattle.cs_tree.specs.Cleaning.{clean_fault}
 use Rattle.std.specs.declared.alloc.Global.{Global}
 use Rattle.std.specs.List.{AllByRecursion}
 use Rattle.std.proofs.lemmas.Bool.{true≢false, eqb-true}
 use Rattle.std.proofs.lemmas.List.{length-map}
-use Rattle.cs_tree.specs.Failures.{count_if, CountsOne}
+use Rattle.cs_tree.specs.Failures.{count_if}
+use Rattle.cs_tree.specs.Sinks.{CountsOne, Grows, GrowsFlushed}
 use Rattle.cs_tree.specs.Snapshot.{Snapshot}
-use Rattle.cs_tree.specs.Told.{Grows, GrowsFlushed}
 use Rattle.cs_tree.specs.declared.fault.IoFault.{IoFault}
 use Rattle.cs_tree.specs.declared.fault.IoFault.TheVariants as io
-use Rattle.cs_words.specs.Faults.{write_refusal}
-use Rattle.cs_words.specs.declared.jobs.IndexJob.{IndexJob}
-use Rattle.cs_words.specs.declared.jobs.Reply.{Reply}
-use Rattle.cs_words.specs.declared.jobs.Reply.TheVariants.{Done, Refused}
-use Rattle.cs_words.specs.declared.fault.CindexFault.{CindexFault}
+use Rattle.cs_args.specs.Faults.{write_refusal}
+use Rattle.cs_args.specs.declared.jobs.IndexJob.{IndexJob}
+use Rattle.cs_args.specs.declared.jobs.Reply.{Reply}
+use Rattle.cs_args.specs.declared.jobs.Reply.TheVariants.{Done, Refused}
+use Rattle.cs_args.specs.declared.fault.CindexFault.{CindexFault}
 use Rattle.cs_history.specs.History.{nothing, ◌⊳◌, index_of}
-use Rattle.cs_history.specs.Jobs.{given_texts, has_no_path, IsTaken, visit_of}
-use Rattle.cs_history.specs.Premises.{snapshot_told}
+use Rattle.cs_history.specs.Jobs.{given_texts, has_no_path, update_of}
+use Rattle.cs_history.specs.Premises.{modelled_snapshot}
 use Rattle.cs_history.specs.Headline.{Indexes}
 use Rattle.cs_history.specs.JobKinds.{JobKind, lists, clears, walks, job_kind}
 use Rattle.std.specs.Option.{option_copied}
-use Rattle.cs_tree.specs.Taken.{TakesFront, MayEnd}
+use Rattle.cs_tree.specs.TakesPrefix.{TakesPrefix, MayEnd}
 use Rattle.cs_cindex.specs.Next.{IsNext}
 use Rattle.cs_cindex.specs.Output.{JobTree, IsSilent, JobPrintsBy, WalkPrints, WalkPrintsSome, index_lines, list_lines, is_failed_write}
 use Rattle.cs_cindex.specs.Refusals.{base, list_fault, early_walk_fault, early_fault_of, IsOutputFault, IsWalkFault, IsLateFault, EarlyOr}
@@ -30,8 +31,8 @@ use Rattle.cs_cindex.specs.Bytes.{index_bytes}
 use Rattle.cs_cindex.specs.Steps.{Outputs, State, IsStep, IsWholeStep}
 use Rattle.cs_cindex.specs.declared.outcome.Outcome.{Outcome}
 use Rattle.cs_cindex.specs.Outcomes.{IsWholeStepTo, index_from, reply_of}
-use Rattle.cs_tree.proofs.Fronts.{front_none, front_all}
-use Rattle.cs_tree.proofs.Growing.{Grows-same}
+use Rattle.cs_tree.proofs.PrefixLemmas.{prefix_none, prefix_all}
+use Rattle.cs_tree.proofs.GrowsLemmas.{Grows-same}
 use Rattle.cs_cindex.proofs.JobOutputLemmas.{prints_refused}
 use Rattle.cs_cindex.proofs.OutcomeLemmas.{walk_indexes}
 use Rattle.cs_cindex.proofs.RefusedJobLemmas.{walks_kind, walks_parts}
@@ -39,33 +40,33 @@ use Rattle.cs_cindex.proofs.RefusedJobLemmas.{walks_kind, walks_parts}
 -- ---- the index after a job that does not walk
 
 refused_indexes : (job : IndexJob) (tree : Option Snapshot) (fault : CindexFault) (old : Option (List ℕ)) → Indexes (job ∷ []) (tree ∷ []) (Refused fault ∷ []) old old
-refused_indexes job tree fault old = record { index = λ earlier p. sym p.they_left; fitting = (tt, tt); short = λ h. h }
+refused_indexes job tree fault old = record { index = λ earlier p. sym p.is_index; fitting = (tt, tt); short = λ h. h }
 
 list_indexes : (job : IndexJob) (tree : Option Snapshot) (old : Option (List ℕ)) → job.list ≡ true → Indexes (job ∷ []) (tree ∷ []) (Done ∷ []) old old
 list_indexes job tree old l = record {
   index = λ earlier p.
-      let visit = visit_of job (snapshot_told tree) in
-      sym p.they_left ∙ ap (λ b. index_of (cond b earlier (cond job.reset (cond (has_no_path job) nothing (visit ⊳ nothing)) (visit ⊳ earlier)))) (sym l);
+      let update = update_of job (modelled_snapshot tree) in
+      sym p.is_index ∙ ap (λ b. index_of (cond b earlier (cond job.reset (cond (has_no_path job) nothing (update ⊳ nothing)) (update ⊳ earlier)))) (sym l);
   fitting = ((λ f. absurd (true≢false (sym l ∙ f))), tt);
   short = λ h. h;
 }
 
-none_taken : (folder : List ℕ) (texts : List (List ℕ)) → length texts ≡ 0 → AllByRecursion (IsTaken folder) texts
-none_taken folder [] e = tt
-none_taken folder (t ∷ ts) e = absurd (omega (arith, e))
+none_accepted : (folder : List ℕ) (texts : List (List ℕ)) → length texts ≡ 0 → AllByRecursion (λ text. clean_fault folder text ≡ None) texts
+none_accepted folder [] e = tt
+none_accepted folder (t ∷ ts) e = absurd (omega (arith, e))
 
 clear_indexes : (job : IndexJob) (tree : Option Snapshot) (old : Option (List ℕ)) → job.list ≡ false → job.reset ≡ true → has_no_path job ≡ true → Indexes (job ∷ []) (tree ∷ []) (Done ∷ []) old None
 clear_indexes job tree old l r n = record {
   index = λ earlier p.
-      let visit = visit_of job (snapshot_told tree) in
-      sym (ap (λ b. index_of (cond b earlier (cond job.reset (cond (has_no_path job) nothing (visit ⊳ nothing)) (visit ⊳ earlier)))) l
-      ∙ ap (λ b. index_of (cond b (cond (has_no_path job) nothing (visit ⊳ nothing)) (visit ⊳ earlier))) r
-      ∙ ap (λ b. index_of (cond b nothing (visit ⊳ nothing))) n);
-  fitting = ((λ _. none_taken (string_bytes job.cwd) (given_texts job) (length-map job.paths.items string_bytes ∙ eqb-true (length job.paths.items) 0 n)), tt);
+      let update = update_of job (modelled_snapshot tree) in
+      sym (ap (λ b. index_of (cond b earlier (cond job.reset (cond (has_no_path job) nothing (update ⊳ nothing)) (update ⊳ earlier)))) l
+      ∙ ap (λ b. index_of (cond b (cond (has_no_path job) nothing (update ⊳ nothing)) (update ⊳ earlier))) r
+      ∙ ap (λ b. index_of (cond b nothing (update ⊳ nothing))) n);
+  fitting = ((λ _. none_accepted (string_bytes job.cwd) (given_texts job) (length-map job.paths.items string_bytes ∙ eqb-true (length job.paths.items) 0 n)), tt);
   short = λ _. tt;
 }
 
--- ---- failures that were counted
+-- ---- counted failures
 
 counts_out : (b : Bool) (o o' e e' : ℕ) → o' ≡ count_if b o → e' ≡ e → CountsOne b o o' e e'
 counts_out true o o' e e' h k = inl (h, k)
@@ -81,7 +82,7 @@ never_done fault e = cc
 -- ---- a job, before the outputs are flushed
 
 module _ (job : IndexJob) (tree : JobTree) (old : State) (later : Outputs) where
-  pub list_done : job.list ≡ true → list_fault old.index ≡ None → Grows old.outputs.out.taken later.out.taken (index_lines old.index) → IsSilent tree old.outputs.err later.err → later.out.failed ≡ old.outputs.out.failed → later.err.failed ≡ old.outputs.err.failed → IsStep job tree Done old (record { index = old.index; outputs = later })
+  pub list_done : job.list ≡ true → list_fault old.index ≡ None → Grows old.outputs.out.model later.out.model (index_lines old.index) → IsSilent tree old.outputs.err later.err → later.out.failed ≡ old.outputs.out.failed → later.err.failed ≡ old.outputs.err.failed → IsStep job tree Done old (record { index = old.index; outputs = later })
   list_done l none out err o e =
       let kind = ap (λ b. cond b lists (cond (job.reset && has_no_path job) clears walks)) l in
       record {
@@ -89,12 +90,12 @@ module _ (job : IndexJob) (tree : JobTree) (old : State) (later : Outputs) where
         cause = ap (λ k. early_fault_of k job old.index) kind ∙ none;
         keeps = ((λ _. refl), (λ f r n. absurd (true≢false (sym l ∙ f))));
         walked = λ _ w. absurd (true≢false (sym l ∙ (walks_parts job w).0));
-        out = subst (λ k. Grows old.outputs.out.taken later.out.taken (list_lines k old.index)) (sym kind) out;
+        out = subst (λ k. Grows old.outputs.out.model later.out.model (list_lines k old.index)) (sym kind) out;
         err = subst (λ k. JobPrintsBy k Done job tree old.index old.outputs.err later.err) (sym kind) err;
         writes = (o, e);
       }
 
-  pub list_refused : (fault : CindexFault) → job.list ≡ true → EarlyOr (list_fault old.index) (IsOutputFault fault) fault → TakesFront (index_lines old.index) old.outputs.out.taken later.out.taken → IsSilent tree old.outputs.err later.err → later.out.failed ≡ count_if (is_failed_write fault) old.outputs.out.failed → later.err.failed ≡ old.outputs.err.failed → IsStep job tree (Refused fault) old (record { index = old.index; outputs = later })
+  pub list_refused : (fault : CindexFault) → job.list ≡ true → EarlyOr (list_fault old.index) (IsOutputFault fault) fault → TakesPrefix (index_lines old.index) old.outputs.out.model later.out.model → IsSilent tree old.outputs.err later.err → later.out.failed ≡ count_if (is_failed_write fault) old.outputs.out.failed → later.err.failed ≡ old.outputs.err.failed → IsStep job tree (Refused fault) old (record { index = old.index; outputs = later })
   list_refused fault l cause out err o e =
       let kind = ap (λ b. cond b lists (cond (job.reset && has_no_path job) clears walks)) l in
       record {
@@ -102,12 +103,12 @@ module _ (job : IndexJob) (tree : JobTree) (old : State) (later : Outputs) where
         cause = subst (λ k. EarlyOr (early_fault_of k job old.index) (IsLateFault k job tree.snapshot old.index fault) fault) (sym kind) cause;
         keeps = refl;
         walked = λ h. absurd (never_done fault h);
-        out = subst (λ k. TakesFront (list_lines k old.index) old.outputs.out.taken later.out.taken) (sym kind) out;
+        out = subst (λ k. TakesPrefix (list_lines k old.index) old.outputs.out.model later.out.model) (sym kind) out;
         err = subst (λ k. JobPrintsBy k (Refused fault) job tree old.index old.outputs.err later.err) (sym kind) err;
         writes = counts_out (is_failed_write fault) old.outputs.out.failed later.out.failed old.outputs.err.failed later.err.failed o e;
       }
 
-  pub clear_done : job.list ≡ false → job.reset ≡ true → has_no_path job ≡ true → Grows old.outputs.out.taken later.out.taken [] → IsSilent tree old.outputs.err later.err → later.out.failed ≡ old.outputs.out.failed → later.err.failed ≡ old.outputs.err.failed → IsStep job tree Done old (record { index = None; outputs = later })
+  pub clear_done : job.list ≡ false → job.reset ≡ true → has_no_path job ≡ true → Grows old.outputs.out.model later.out.model [] → IsSilent tree old.outputs.err later.err → later.out.failed ≡ old.outputs.out.failed → later.err.failed ≡ old.outputs.err.failed → IsStep job tree Done old (record { index = None; outputs = later })
   clear_done l r n out err o e =
       let alone = ap (λ b. b && has_no_path job) r ∙ n in
       let kind = ap (λ b. cond b lists (cond (job.reset && has_no_path job) clears walks)) l ∙ ap (λ b. cond b clears walks) alone in
@@ -116,12 +117,12 @@ module _ (job : IndexJob) (tree : JobTree) (old : State) (later : Outputs) where
         cause = ap (λ k. early_fault_of k job old.index) kind;
         keeps = ((λ f. absurd (true≢false (sym f ∙ l))), (λ _ _ _. refl));
         walked = λ _ w. absurd (true≢false (sym alone ∙ (walks_parts job w).1));
-        out = subst (λ k. Grows old.outputs.out.taken later.out.taken (list_lines k old.index)) (sym kind) out;
+        out = subst (λ k. Grows old.outputs.out.model later.out.model (list_lines k old.index)) (sym kind) out;
         err = subst (λ k. JobPrintsBy k Done job tree old.index old.outputs.err later.err) (sym kind) err;
         writes = (o, e);
       }
 
-  module _ (w : (job.list ≡ false) × ((job.reset && has_no_path job) ≡ false)) (from : Option (List ℕ)) (is : base job old.index ≡ from) (out : Grows old.outputs.out.taken later.out.taken []) (o : later.out.failed ≡ old.outputs.out.failed) where
+  module _ (w : (job.list ≡ false) × ((job.reset && has_no_path job) ≡ false)) (from : Option (List ℕ)) (is : base job old.index ≡ from) (out : Grows old.outputs.out.model later.out.model []) (o : later.out.failed ≡ old.outputs.out.failed) where
     pub walk_done : (bytes : List ℕ) → early_walk_fault job from ≡ None → IsNext job tree.snapshot from (Some bytes) → WalkPrints job tree from old.outputs.err later.err → later.err.failed ≡ old.outputs.err.failed → IsStep job tree Done old (record { index = Some bytes; outputs = later })
     walk_done bytes none next err e =
         let kind = walks_kind job w in
@@ -132,7 +133,7 @@ module _ (job : IndexJob) (tree : JobTree) (old : State) (later : Outputs) where
           cause = ap (λ k. early_fault_of k job old.index) kind ∙ early;
           keeps = ((λ f. absurd (true≢false (sym f ∙ w.0))), (λ f r n. absurd (true≢false (sym (ap (λ b. b && has_no_path job) r ∙ n) ∙ w.1))));
           walked = λ _ _. next';
-          out = subst (λ k. Grows old.outputs.out.taken later.out.taken (list_lines k old.index)) (sym kind) out;
+          out = subst (λ k. Grows old.outputs.out.model later.out.model (list_lines k old.index)) (sym kind) out;
           err = subst (λ k. JobPrintsBy k Done job tree old.index old.outputs.err later.err) (sym kind)
               (subst (λ b. WalkPrints job tree b old.outputs.err later.err) (sym is) err);
           writes = (o, e);
@@ -147,13 +148,13 @@ module _ (job : IndexJob) (tree : JobTree) (old : State) (later : Outputs) where
               (subst (λ b. EarlyOr (early_walk_fault job b) (IsWalkFault job tree.snapshot b fault) fault) (sym is) cause);
           keeps = refl;
           walked = λ h. absurd (never_done fault h);
-          out = subst (λ k. TakesFront (list_lines k old.index) old.outputs.out.taken later.out.taken) (sym kind) (front_all [] old.outputs.out.taken later.out.taken out);
+          out = subst (λ k. TakesPrefix (list_lines k old.index) old.outputs.out.model later.out.model) (sym kind) (prefix_all [] old.outputs.out.model later.out.model out);
           err = subst (λ k. JobPrintsBy k (Refused fault) job tree old.index old.outputs.err later.err) (sym kind)
               (subst (λ b. WalkPrintsSome (early_walk_fault job b) fault job tree b old.outputs.err later.err) (sym is) err);
           writes = counts_err (is_failed_write fault) old.outputs.out.failed later.out.failed old.outputs.err.failed later.err.failed o e;
         }
 
--- ---- and then the outputs are flushed
+-- ---- the flushes
 
 late_output : (kind : JobKind) (job : IndexJob) (tree : Option Snapshot) (old : Option (List ℕ)) (fault : IoFault) → IsLateFault kind job tree old (write_refusal fault)
 late_output lists job tree old io.Failed = tt
@@ -167,29 +168,29 @@ is_write : (fault : IoFault) → is_io_failure fault ≡ is_failed_write (write_
 is_write io.Failed = refl
 is_write io.Memory = refl
 
--- refused before the outputs are flushed
+-- an error before the outputs are flushed
 pub step_refused : (job : IndexJob) (tree : JobTree) (old : State) (later : Outputs) (fault : CindexFault) → IsStep job tree (Refused fault) old (record { index = old.index; outputs = later }) → IsWholeStep job tree (Refused fault) old (record { index = old.index; outputs = later })
 step_refused job tree old later fault step = record {
   printed = later;
   step = step;
-  flushes = (inl (front_none [] later.out.taken), Grows-same later.err.taken);
+  flushes = (inl (prefix_none [] later.out.model), Grows-same later.err.model);
   out_failed = refl;
   err_failed = refl;
 }
 
 module _ (job : IndexJob) (tree : JobTree) (old : State) (index : Option (List ℕ)) (mid later : Outputs) (done : IsStep job tree Done old (record { index = index; outputs = mid })) where
-  pub step_flushed : GrowsFlushed mid.out.taken later.out.taken [] → GrowsFlushed mid.err.taken later.err.taken [] → later.out.failed ≡ mid.out.failed → later.err.failed ≡ mid.err.failed → IsWholeStep job tree Done old (record { index = index; outputs = later })
+  pub step_flushed : GrowsFlushed mid.out.model later.out.model [] → GrowsFlushed mid.err.model later.err.model [] → later.out.failed ≡ mid.out.failed → later.err.failed ≡ mid.err.failed → IsWholeStep job tree Done old (record { index = index; outputs = later })
   step_flushed out err o e = record { printed = mid; step = done; flushes = (out, err); out_failed = o; err_failed = e }
 
-  -- a flush has failed: what was printed before it, with the failure counted
+  -- a flush failed: the output before it, with the failure counted
   module _ (fault : CindexFault) (why : IoFault) (is : fault ≡ write_refusal why) where
     abbrev printed : Outputs
     printed = record {
-      out = record { taken = mid.out.taken; failed = later.out.failed };
-      err = record { taken = mid.err.taken; failed = later.err.failed };
+      out = record { model = mid.out.model; failed = later.out.failed };
+      err = record { model = mid.err.model; failed = later.err.failed };
     }
 
-    unflushed : CountsOne (is_failed_write (write_refusal why)) old.outputs.out.failed later.out.failed old.outputs.err.failed later.err.failed → MayEnd [] mid.out.taken later.out.taken → Grows mid.err.taken later.err.taken [] → IsWholeStep job tree (Refused fault) old (record { index = old.index; outputs = later })
+    unflushed : CountsOne (is_failed_write (write_refusal why)) old.outputs.out.failed later.out.failed old.outputs.err.failed later.err.failed → MayEnd [] mid.out.model later.out.model → Grows mid.err.model later.err.model [] → IsWholeStep job tree (Refused fault) old (record { index = old.index; outputs = later })
     unflushed counts out err = rw is (record {
       printed = printed;
       step = record {
@@ -197,7 +198,7 @@ module _ (job : IndexJob) (tree : JobTree) (old : State) (index : Option (List �
         cause = subst (λ early. EarlyOr early (IsLateFault (job_kind job) job tree.snapshot old.index (write_refusal why)) (write_refusal why)) (sym done.cause) (late_output (job_kind job) job tree.snapshot old.index why);
         keeps = refl;
         walked = λ h. absurd (never_done (write_refusal why) h);
-        out = front_all (list_lines (job_kind job) old.index) old.outputs.out.taken mid.out.taken done.out;
+        out = prefix_all (list_lines (job_kind job) old.index) old.outputs.out.model mid.out.model done.out;
         err = prints_refused (job_kind job) job tree old.index old.outputs.err mid.err later.err.failed (write_refusal why) done.cause done.err;
         writes = counts;
       };
@@ -206,18 +207,18 @@ module _ (job : IndexJob) (tree : JobTree) (old : State) (index : Option (List �
       err_failed = refl;
     })
 
-    pub out_unflushed : later.out.failed ≡ count_if (is_io_failure why) mid.out.failed → later.err.failed ≡ mid.err.failed → Grows mid.out.taken later.out.taken [] → Grows mid.err.taken later.err.taken [] → IsWholeStep job tree (Refused fault) old (record { index = old.index; outputs = later })
+    pub out_unflushed : later.out.failed ≡ count_if (is_io_failure why) mid.out.failed → later.err.failed ≡ mid.err.failed → Grows mid.out.model later.out.model [] → Grows mid.err.model later.err.model [] → IsWholeStep job tree (Refused fault) old (record { index = old.index; outputs = later })
     out_unflushed o e out err = unflushed (counts_out (is_failed_write (write_refusal why)) old.outputs.out.failed later.out.failed old.outputs.err.failed later.err.failed
         (o ∙ ap (λ b. count_if b mid.out.failed) (is_write why) ∙ ap (count_if (is_failed_write (write_refusal why))) done.writes.0) (e ∙ done.writes.1))
-        (inl (front_all [] mid.out.taken later.out.taken out)) err
+        (inl (prefix_all [] mid.out.model later.out.model out)) err
 
-    pub err_unflushed : later.out.failed ≡ mid.out.failed → later.err.failed ≡ count_if (is_io_failure why) mid.err.failed → GrowsFlushed mid.out.taken later.out.taken [] → Grows mid.err.taken later.err.taken [] → IsWholeStep job tree (Refused fault) old (record { index = old.index; outputs = later })
+    pub err_unflushed : later.out.failed ≡ mid.out.failed → later.err.failed ≡ count_if (is_io_failure why) mid.err.failed → GrowsFlushed mid.out.model later.out.model [] → Grows mid.err.model later.err.model [] → IsWholeStep job tree (Refused fault) old (record { index = old.index; outputs = later })
     err_unflushed o e out err = unflushed (counts_err (is_failed_write (write_refusal why)) old.outputs.out.failed later.out.failed old.outputs.err.failed later.err.failed
         (o ∙ done.writes.0) (e ∙ ap (λ b. count_if b mid.err.failed) (is_write why) ∙ ap (count_if (is_failed_write (write_refusal why))) done.writes.1))
         (inr out) err
 
--- ---- and then the new index is taken
+-- ---- the new index
 
-pub step_taken : (job : IndexJob) (tree : JobTree) (old : Option (Vec ℕ Global)) (lent : Option (Bor (List ℕ))) (before later : Outputs) (outcome : Result Outcome CindexFault) (index : Option (List ℕ)) (reply : Reply) → option_copied lent ≡ index_bytes old → IsWholeStepTo job tree outcome (record { index = option_copied lent; outputs = before }) later → index ≡ index_from (index_bytes old) outcome → reply ≡ reply_of outcome → IsWholeStep job tree reply (record { index = index_bytes old; outputs = before }) (record { index = index; outputs = later })
-step_taken job tree old lent before later outcome index reply same step e f =
+pub step_finished : (job : IndexJob) (tree : JobTree) (old : Option (Vec ℕ Global)) (borrowed : Option (Bor (List ℕ))) (before later : Outputs) (outcome : Result Outcome CindexFault) (index : Option (List ℕ)) (reply : Reply) → option_copied borrowed ≡ index_bytes old → IsWholeStepTo job tree outcome (record { index = option_copied borrowed; outputs = before }) later → index ≡ index_from (index_bytes old) outcome → reply ≡ reply_of outcome → IsWholeStep job tree reply (record { index = index_bytes old; outputs = before }) (record { index = index; outputs = later })
+step_finished job tree old borrowed before later outcome index reply same step e f =
     rw (e, f) (subst (λ bytes. IsWholeStepTo job tree outcome (record { index = bytes; outputs = before }) later) same step)

@@ -1,22 +1,22 @@
--- What a job walks, and the index that comes of it, whatever bytes it goes on from.
+-- The paths that a job walks, and the index after it, over any base index.
 -- docs/PROMISES.md, "Jobs of cindex".
 use Rattle.std.specs.Prelude.{◌≡◌, ℕ, true, if◌then◌else◌, List, Option, Some, None, Result, Ok, Err}
 use Rattle.std.specs.Result.{IsOkAnd}
 use Rattle.cs_history.specs.JobIndex.{tree_index}
-use Rattle.cs_tree.specs.Folders.{Tells}
+use Rattle.cs_tree.specs.Folders.{IsModelled}
 use Rattle.cs_tree.specs.PathSet.{Paths}
-use Rattle.cs_tree.specs.PathSet as set
+use Rattle.std.specs.FinMap as map'
 use Rattle.cs_tree.specs.Cover.{least}
 use Rattle.cs_tree.specs.Snapshot.{Snapshot}
-use Rattle.cs_index.specs.Image.{Files, image}
+use Rattle.cs_index.specs.Encoding.{Files, encoding}
 use Rattle.cs_index.specs.Opening.{opening}
 use Rattle.cs_index.specs.OpenedParts.{Parts, are_whole, paths_in}
 use Rattle.cs_index.specs.declared.fault.IndexFault.{IndexFault}
 use Rattle.cs_merge.specs.Content.{IsContent, LieUnder}
-use Rattle.cs_merge.specs.Joinable.{joined_index}
-use Rattle.cs_words.specs.declared.jobs.IndexJob.{IndexJob}
+use Rattle.cs_merge.specs.Mergeable.{merge_index}
+use Rattle.cs_args.specs.declared.jobs.IndexJob.{IndexJob}
 use Rattle.cs_history.specs.Jobs.{given_paths, has_no_path}
-use Rattle.cs_history.specs.Premises.{snapshot_told, IsShort}
+use Rattle.cs_history.specs.Premises.{modelled_snapshot, IsShort}
 use Rattle.cs_history.specs.Replies.{IsLong}
 
 -- ---- what a job walks
@@ -24,31 +24,31 @@ use Rattle.cs_history.specs.Replies.{IsLong}
 -- the paths of an index that opens
 abbrev pub opening_paths : Result Parts IndexFault → Paths
 opening_paths (Ok parts) = paths_in parts
-opening_paths (Err fault) = set.empty
+opening_paths (Err fault) = map'.empty
 
--- those of the index that a job goes on from
+-- the paths of the base index
 abbrev pub base_paths : Option (List ℕ) → Paths
-base_paths None = set.empty
+base_paths None = map'.empty
 base_paths (Some bytes) = opening_paths (opening bytes)
 
--- what a job walks that goes on from an index: its own paths, or where it has none those of the index
+-- the paths that a job walks over a base index: its own, or, if it has none, those of the index
 abbrev pub paths_of_job : IndexJob → Option (List ℕ) → Paths
 paths_of_job job old = least (if has_no_path job then base_paths old else given_paths job)
 
 -- ---- the index after it
 
--- the index of two that open, joined
-abbrev pub opening_join : Result Parts IndexFault → Result Parts IndexFault → Option (List ℕ)
-opening_join (Ok old) (Ok own) = Some (joined_index old own)
-opening_join (Ok old) (Err fault) = None
-opening_join (Err fault) own = None
+-- the merge of two indexes that open
+abbrev pub opening_merge : Result Parts IndexFault → Result Parts IndexFault → Option (List ℕ)
+opening_merge (Ok old) (Ok own) = Some (merge_index old own)
+opening_merge (Ok old) (Err fault) = None
+opening_merge (Err fault) own = None
 
--- the job's own index, joined with the one that it goes on from where there is one
+-- the job's own index, merged with the base index if there is one
 abbrev pub next_index : Option (List ℕ) → List ℕ → Option (List ℕ)
 next_index None own = Some own
-next_index (Some bytes) own = opening_join (opening bytes) (opening own)
+next_index (Some bytes) own = opening_merge (opening bytes) (opening own)
 
--- every list of the index that a job goes on from is whole, where there is one
+-- every list of the base index is whole, if there is one
 abbrev pub HasWholeLists : Option (List ℕ) → Type 0
 HasWholeLists None = Unit {0}
 HasWholeLists (Some bytes) = IsOkAnd (opening bytes) (λ parts. are_whole parts ≡ true)
@@ -58,34 +58,34 @@ pub record IsIndex (paths : Paths) (bytes : List ℕ) : Type 0 where
   pub files : Files
   pub content : IsContent paths files
   pub under : LieUnder paths files
-  pub is : bytes ≡ image paths files
+  pub is : bytes ≡ encoding paths files
 
--- The bytes are the index of what a walk from the paths finds, where the tree tells what stands in it.
+-- The bytes are the index of what a walk from the paths finds, if the tree is modelled.
 abbrev pub IsIndexOf : Option Snapshot → Paths → List ℕ → Type 0
-IsIndexOf tree paths bytes = Tells tree → bytes ≡ tree_index (snapshot_told tree) paths
+IsIndexOf tree paths bytes = IsModelled tree → bytes ≡ tree_index (modelled_snapshot tree) paths
 
--- 32 bits do not count the bytes of that index.
+-- That index has 2^32 bytes or more.
 abbrev pub IsTreeTooLarge : Option Snapshot → Paths → Type 0
-IsTreeTooLarge tree paths = Tells tree → IsLong (Some (tree_index (snapshot_told tree) paths))
+IsTreeTooLarge tree paths = IsModelled tree → IsLong (Some (tree_index (modelled_snapshot tree) paths))
 
--- A job's own index is one of the paths that it walks, and 32 bits count its bytes. Where the tree tells what
--- stands in it, it is that of what the job finds.
+-- A job's own index has the paths that the job walks, and fewer than 2^32 bytes. If the tree is modelled, it is the
+-- index of what the job finds.
 pub record IsOwnIndex (job : IndexJob) (tree : Option Snapshot) (old : Option (List ℕ))
     (own : List ℕ) : Type 0 where
   pub index : IsIndex (paths_of_job job old) own
-  pub told : IsIndexOf tree (paths_of_job job old) own
+  pub model : IsIndexOf tree (paths_of_job job old) own
   pub short : IsShort (Some own)
 
--- Why a job that walks is too large: 32 bits do not count the bytes of its own index; or it has one, every list
--- that it goes on from is whole, and they do not count those of the index after it.
+-- Why a job that walks is too large: its own index has 2^32 bytes or more; or it has one, every list of the base
+-- index is whole, and the merged index has 2^32 bytes or more.
 pub data IsNextLong (job : IndexJob) (tree : Option Snapshot) (old : Option (List ℕ)) : Type 0 where
   alone : IsTreeTooLarge tree (paths_of_job job old) → IsNextLong job tree old
-  joined :
+  merged :
       (own : List ℕ) → IsOwnIndex job tree old own → HasWholeLists old → IsLong (next_index old own) →
       IsNextLong job tree old
 
--- What a job that walks and is done leaves: its own index, joined with the one that it goes on from. No list of
--- that is damaged, and 32 bits count the bytes of the new one.
+-- A job that walks and succeeds leaves its own index, merged with the base index. No list of the base is damaged,
+-- and the new index has fewer than 2^32 bytes.
 pub record IsNext (job : IndexJob) (tree : Option Snapshot) (old new : Option (List ℕ)) : Type 0 where
   pub own : List ℕ
   pub own_is : IsOwnIndex job tree old own

@@ -1,14 +1,14 @@
--- What functions inside promise of a job: its reply, what becomes of the index, and what was printed.
+-- Inside a job: its reply, the index after it, and what it printed.
 use Rattle.std.specs.Prelude.{◌≡◌, ℕ, List, [], ◌∷◌, Option, Some, None, Result, Ok, Err, MatchResult}
 use Rattle.cs_tree.specs.Snapshot.{Snapshot}
-use Rattle.cs_words.specs.declared.jobs.Reply.{Reply}
-use Rattle.cs_words.specs.declared.jobs.Reply.TheVariants.{Done, Refused}
-use Rattle.cs_words.specs.declared.jobs.IndexJob.{IndexJob}
-use Rattle.cs_words.specs.declared.fault.CindexFault.{CindexFault}
+use Rattle.cs_args.specs.declared.jobs.Reply.{Reply}
+use Rattle.cs_args.specs.declared.jobs.Reply.TheVariants.{Done, Refused}
+use Rattle.cs_args.specs.declared.jobs.IndexJob.{IndexJob}
+use Rattle.cs_args.specs.declared.fault.CindexFault.{CindexFault}
 use Rattle.cs_cindex.specs.declared.outcome.Outcome.{Outcome}
 use Rattle.cs_cindex.specs.declared.outcome.Outcome.TheVariants.{Kept, Gone, Index}
 use Rattle.cs_history.specs.History.{History}
-use Rattle.cs_history.specs.Premises.{snapshot_told, Premises}
+use Rattle.cs_history.specs.Premises.{modelled_snapshot, Premises}
 use Rattle.cs_history.specs.Replies.{IsRightReply}
 use Rattle.cs_cindex.specs.Refusals.{EarlyOr}
 use Rattle.cs_cindex.specs.Output.{JobTree, Output, WalkPrints, WalkPrintsSome}
@@ -16,13 +16,13 @@ use Rattle.cs_cindex.specs.Steps.{Outputs, State, IsStep, IsWholeStep}
 
 -- ---- the index
 
--- after the job
+-- the index after the job
 abbrev pub index_after : Option (List ℕ) → Outcome → Option (List ℕ)
 index_after old Kept = old
 index_after old Gone = None
 index_after old (Index bytes) = Some bytes.items
 
--- that of a refused job is the old one
+-- a job that fails leaves the old index
 abbrev pub index_from : Option (List ℕ) → Result Outcome CindexFault → Option (List ℕ)
 index_from old (Ok outcome) = index_after old outcome
 index_from old (Err fault) = old
@@ -31,12 +31,12 @@ abbrev pub reply_of : {A : Type 0} → Result A CindexFault → Reply
 reply_of (Ok answer) = Done
 reply_of (Err fault) = Refused fault
 
--- With the index that an outcome leaves, and with the reply to it, the job has made its step.
+-- the job has done its step, with the index and the reply of this outcome
 abbrev pub IsStepTo : IndexJob → JobTree → Result Outcome CindexFault → State → Outputs → Type 0
 IsStepTo job tree outcome old later =
     IsStep job tree (reply_of outcome) old (record { index = index_from old.index outcome; outputs = later })
 
--- that, its flushes among it
+-- the same, including its flushes
 abbrev pub IsWholeStepTo : IndexJob → JobTree → Result Outcome CindexFault → State → Outputs → Type 0
 IsWholeStepTo job tree outcome old later =
     IsWholeStep job tree (reply_of outcome) old
@@ -44,13 +44,13 @@ IsWholeStepTo job tree outcome old later =
 
 -- ---- the reply
 
--- the reply is right, whichever jobs left the index
+-- the reply is right after any earlier jobs that left the old index
 abbrev pub RightAfter : Option Snapshot → Option (List ℕ) → IndexJob → Reply → Type 0
 RightAfter tree old job reply =
     (earlier : History) → Premises (tree ∷ []) old earlier →
-    IsRightReply earlier job (snapshot_told tree) reply
+    IsRightReply earlier job (modelled_snapshot tree) reply
 
--- An answer is given only where there is no early fault, and each refusal has its cause.
+-- A result is `Ok` only without an early error, and each error has its cause.
 abbrev pub AnswersFor : {A : Type 0} → Result A CindexFault → Option CindexFault → (CindexFault → Type 0) →
     Type 0
 AnswersFor result early IsLate =
@@ -58,7 +58,7 @@ AnswersFor result early IsLate =
 
 -- ---- what was printed
 
--- by a job that walks, by its answer
+-- the diagnostics of a job that walks, by its result
 abbrev pub WalkPrintsFor : {A : Type 0} → Result A CindexFault → Option CindexFault → IndexJob → JobTree →
     Option (List ℕ) → Output → Output → Type 0
 WalkPrintsFor result early job tree old err later =

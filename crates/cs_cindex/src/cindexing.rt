@@ -2,21 +2,21 @@
 ghost use Rattle.std.specs.Prelude.{◌≡◌, map, length, All};
 ghost use Rattle.std.specs.List.{AllZip, zip};
 ghost use Rattle.cs_tree.specs.Clean.{longest_path};
-ghost use Rattle.cs_tree.specs.Trees.{AsksWithin};
+ghost use Rattle.cs_tree.specs.Walks.{RequestsWithin};
 ghost use Rattle.cs_history.specs.Headline.{Indexes};
 ghost use Rattle.cs_history.specs.Jobs.{HasAbsoluteFolder};
 ghost use Rattle.cs_cindex.specs.Bytes.{index_bytes};
 ghost use Rattle.cs_cindex.specs.Steps.{RightAll, Steps, job_trees, state};
 
 use crate::job::do_job;
+use cs_args::{IndexJob, Reply};
 use cs_tree::{Sink, Tree};
-use cs_words::{IndexJob, Reply};
 use std::alloc::Global;
 
-/// Does the jobs in their order, each over its tree, and gives the index after them: `None` is no index.
-/// Each reply tells what became of its job; a refused one leaves the index as it was, and the next one
-/// goes on. Paths of the index are printed on `out`, and lines on what is left out on `err`; each job that
-/// is not refused before ends by flushing `out`, then `err`, once each, before its index is taken.
+/// Runs the jobs in order, each over its tree, and returns the index after them; `None` is no index. Each reply is
+/// the result of its job: a job that fails leaves the index unchanged, and the next job runs. Paths of the index are
+/// printed on `out`, and diagnostics of skipped paths and files on `err`. Each job that has not failed by then ends
+/// by flushing `out`, then `err`, once each, before its index is kept.
 pub fn cindex<T: Tree, O: Sink, E: Sink>(
     alloc: Global,
     old: Option<Vec<u8>>,
@@ -34,12 +34,12 @@ pub fn cindex<T: Tree, O: Sink, E: Sink>(
     ensures replies { RightAll (map T.snapshot trees.old) (index_bytes old) jobs.now replies.new }
     ensures steps { Steps
         (zip jobs.now (zip (job_trees T.snapshot T.failed trees.old trees.new) replies.new))
-        (state O.taken O.failed E.taken E.failed
+        (state O.model O.failed E.model E.failed
         (index_bytes old) out.old err.old)
-        (state O.taken O.failed E.taken E.failed
+        (state O.model O.failed E.model E.failed
         (index_bytes result) out.new err.new) }
-    ensures asked { AllZip (AsksWithin longest_path)
-        (map T.longest_asked trees.old) (map T.longest_asked trees.new) }
+    ensures requested { AllZip (RequestsWithin longest_path)
+        (map T.longest_requested trees.old) (map T.longest_requested trees.new) }
     ensures keeps { map T.snapshot trees.new ≡ map T.snapshot trees.old }
 {
     let mut index = old;

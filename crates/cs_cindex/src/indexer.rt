@@ -1,30 +1,29 @@
-// The files of a tree, one after the other, put into an index.
+// Adds the files of a tree to an index, one after the other.
 ghost use Rattle.std.specs.Prelude.{◌≡◌, ◌≤◌, ◌⊎◌, ◌++◌, true, [], map, string_bytes, length, Some, IfOk, IfErr, OnOk, OnErr, option_to_list};
 ghost use Rattle.cs_tree.specs.Clean.{longest_path};
 ghost use Rattle.cs_tree.specs.NamesAscending.{are_ascending};
-ghost use Rattle.cs_tree.specs.Trees.{AsksWithin};
-ghost use Rattle.cs_tree.specs.Walks.{AreAskable};
+ghost use Rattle.cs_tree.specs.Walks.{RequestsWithin, AreWithinPathLimit};
 ghost use Rattle.cs_tree.specs.FailureCount.{count_after};
 ghost use Rattle.cs_trigram.specs.Trigram.{set_of_numbers};
-ghost use Rattle.cs_trigram.specs.Scans.{AreTrigramsOnce};
-ghost use Rattle.cs_index.specs.Built.{are_paths, is_above, IsBuilt, most_names};
-ghost use Rattle.cs_index.specs.Image.{image_of, names_of};
+ghost use Rattle.cs_trigram.specs.Scans.{AreDistinctTrigrams};
+ghost use Rattle.cs_index.specs.Built.{are_paths, is_above, IsBuilt, max_names};
+ghost use Rattle.cs_index.specs.Encoding.{encoding_of, names_of};
 ghost use Rattle.cs_history.specs.Premises.{IsShort};
 ghost use Rattle.cs_history.specs.Replies.{IsLong};
 ghost use Rattle.cs_cindex.specs.Output.{is_failed_write};
 ghost use Rattle.cs_cindex.specs.Refusals.{IsOutputFault};
 ghost use Rattle.cs_cindex.specs.Verdicts.{HasTrigramsOnce, added_entries, added_line, noted_entries, noted_line, PrintsAll};
-ghost use Rattle.cs_cindex.specs.Files.{AreTextsIn, AreTooManyIn, HaveNamesOf, IsIndexingFault, PrintsFiles, PrintsFilesFront};
+ghost use Rattle.cs_cindex.specs.Files.{AreTextsIn, AreTooManyIn, HaveNamesOf, IsIndexingFault, PrintsFiles, PrintsFilesPrefix};
 
 use crate::printing::{print_fault, print_skipped};
 use crate::verdicts::{Verdict, read_file};
+use cs_args::{CindexFault, FileFault};
 use cs_index::{BuildFault, Builder};
 use cs_tree::{Sink, Tree};
 use cs_trigram::{Reason, Scanner};
-use cs_words::{CindexFault, FileFault};
 use std::alloc::Global;
 
-/// What files are indexed with.
+/// The state of indexing.
 #[derive(Drop)]
 pub(crate) struct Indexer {
     alloc: Global,
@@ -45,7 +44,7 @@ impl Indexer {
         ensures log_skip { IfOk result (λ indexer. indexer.log_skip ≡ log_skip) }
         ensures refused { IfErr result (λ fault. fault ≡ CindexFault.Memory) }
     {
-        // The paths can be those of an index, so that at most memory is wanting.
+        // The paths are valid paths of an index, so the only error is out of memory.
         let Ok(builder) = Builder::new(alloc, paths) else {
             return Err(CindexFault::Memory);
         };
@@ -56,7 +55,7 @@ impl Indexer {
         })
     }
 
-    /// Reads the files at the names, adds those that are text, and prints the lines for the others.
+    /// Reads the files at the names, adds those that are text, and prints a diagnostic for each other one.
     pub(crate) fn index_files<T: Tree, E: Sink>(
         &mut self,
         scanner: &mut Scanner,
@@ -65,7 +64,7 @@ impl Indexer {
         err: &mut E,
     ) -> Result<(), CindexFault>
         requires ascend { are_ascending (map string_bytes names.now) ≡ true }
-        requires askable { AreAskable (map string_bytes names.now) }
+        requires path_limit { AreWithinPathLimit (map string_bytes names.now) }
         requires empty { self.old.builder.entries ≡ [] }
         ensures texts { OnOk result (AreTextsIn
             (T.snapshot tree.old) (map string_bytes names.now) self.new.builder.entries) }
@@ -73,16 +72,17 @@ impl Indexer {
             (HaveNamesOf (map string_bytes names.now) self.new.builder.entries) }
         ensures prints { OnOk result (PrintsFiles
             self.old.log_skip (T.snapshot tree.old) (map string_bytes names.now)
-            (T.failed tree.old) (T.failed tree.new) (E.taken err.old) (E.taken err.new)) }
-        ensures front { OnErr result (PrintsFilesFront
+            (T.failed tree.old) (T.failed tree.new) (E.model err.old) (E.model err.new)) }
+        ensures prefix { OnErr result (PrintsFilesPrefix
             self.old.log_skip (T.snapshot tree.old) (map string_bytes names.now)
-            (T.failed tree.old) (T.failed tree.new) (E.taken err.old) (E.taken err.new)) }
+            (T.failed tree.old) (T.failed tree.new) (E.model err.old) (E.model err.new)) }
         ensures too_large { result ≡ Err CindexFault.TooLarge →
             AreTooManyIn (T.snapshot tree.old) (map string_bytes names.now) }
         ensures paths { self.new.builder.paths ≡ self.old.builder.paths }
         ensures writes { E.failed err.new ≡ count_after is_failed_write result (E.failed err.old) }
         ensures only { IfErr result IsIndexingFault }
-        ensures asked { AsksWithin longest_path (T.longest_asked tree.old) (T.longest_asked tree.new) }
+        ensures requested { RequestsWithin longest_path (T.longest_requested tree.old)
+            (T.longest_requested tree.new) }
         ensures keeps { T.snapshot tree.new ≡ T.snapshot tree.old }
     {
         for name in names {
@@ -92,7 +92,7 @@ impl Indexer {
         Ok(())
     }
 
-    /// Adds a text, or prints the line for a file that is left out.
+    /// Adds a text file, or prints the diagnostic of a skipped one.
     fn note<E: Sink>(
         &mut self,
         name: &str,
@@ -105,9 +105,9 @@ impl Indexer {
             self.old.builder.entries ++ noted_entries name.now verdict.entry) }
         ensures prints { PrintsAll
             (option_to_list (noted_line self.old.log_skip name.now verdict.entry))
-            (E.taken err.old) (E.taken err.new) result }
+            (E.model err.old) (E.model err.new) result }
         ensures too_large { result ≡ Err CindexFault.TooLarge →
-            most_names ≤ length self.old.builder.entries }
+            max_names ≤ length self.old.builder.entries }
         ensures paths { self.new.builder.paths ≡ self.old.builder.paths }
         ensures log_skip { self.new.log_skip ≡ self.old.log_skip }
         ensures writes { E.failed err.new ≡ count_after is_failed_write result (E.failed err.old) }
@@ -116,11 +116,11 @@ impl Indexer {
         match verdict {
             Verdict::Text(trigrams) => self.add(name, trigrams, err),
             Verdict::Skipped(reason) => self.note_skipped(name, reason, err),
-            Verdict::Left(fault) => print_fault(self.alloc, name, fault, err),
+            Verdict::Unreadable(fault) => print_fault(self.alloc, name, fault, err),
         }
     }
 
-    /// Prints the line of a file that is no text, where it is asked for.
+    /// Prints the diagnostic of a non-text file, with `-logskip`.
     fn note_skipped<E: Sink>(
         &self,
         name: &str,
@@ -129,7 +129,7 @@ impl Indexer {
     ) -> Result<(), CindexFault>
         ensures prints { PrintsAll
             (option_to_list (noted_line self.now.log_skip name.now (Verdict.Skipped reason)))
-            (E.taken err.old) (E.taken err.new) result }
+            (E.model err.old) (E.model err.new) result }
         ensures writes { E.failed err.new ≡ count_after is_failed_write result (E.failed err.old) }
         ensures only { IfErr result IsOutputFault }
     {
@@ -139,16 +139,16 @@ impl Indexer {
         Ok(())
     }
 
-    /// Adds a text, or prints a line where no index can hold its name.
+    /// Adds a text file, or prints a diagnostic if no index can store its name.
     fn add<E: Sink>(&mut self, name: &str, trigrams: &[u32], err: &mut E) -> Result<(), CindexFault>
-        requires once { AreTrigramsOnce trigrams.now }
+        requires once { AreDistinctTrigrams trigrams.now }
         requires above { is_above (names_of self.old.builder.entries) name.now ≡ true }
         ensures entries { OnOk result (self.new.builder.entries ≡
             self.old.builder.entries ++ added_entries name.now (set_of_numbers trigrams.now)) }
         ensures prints { PrintsAll (option_to_list (added_line name.now))
-            (E.taken err.old) (E.taken err.new) result }
+            (E.model err.old) (E.model err.new) result }
         ensures too_large { result ≡ Err CindexFault.TooLarge →
-            most_names ≤ length self.old.builder.entries }
+            max_names ≤ length self.old.builder.entries }
         ensures paths { self.new.builder.paths ≡ self.old.builder.paths }
         ensures log_skip { self.new.log_skip ≡ self.old.log_skip }
         ensures writes { E.failed err.new ≡ count_after is_failed_write result (E.failed err.old) }
@@ -163,14 +163,14 @@ impl Indexer {
         }
     }
 
-    /// The index of what was added.
+    /// Writes the index of the added files.
     pub(crate) fn finish(self) -> Result<Vec<u8>, CindexFault>
         ensures is { IfOk result
-            (λ index. index.items ≡ image_of self.builder.paths self.builder.entries) }
+            (λ index. index.items ≡ encoding_of self.builder.paths self.builder.entries) }
         ensures built { IsBuilt self.builder }
         ensures short { IfOk result (λ index. IsShort (Some index.items)) }
         ensures too_large { result ≡ Err CindexFault.TooLarge →
-            IsLong (Some (image_of self.builder.paths self.builder.entries)) }
+            IsLong (Some (encoding_of self.builder.paths self.builder.entries)) }
         ensures only { IfErr result
             (λ fault. (fault ≡ CindexFault.TooLarge) ⊎ (fault ≡ CindexFault.Memory)) }
     {

@@ -1,7 +1,7 @@
-//! `cindex`: lists of jobs, each over its own tree, on the bytes of the old index. Read
-//! `specs/Headline.antt` of `cs_history` first: the main promise. Then `specs/Refusals.antt`: why a job
-//! is refused, whatever bytes the old index has; `specs/Next.antt`: what a job walks, and the index that
-//! comes of it; and `specs/Steps.antt`: what one job does to the index and to the outputs.
+//! `cindex`: runs lists of jobs, each over its own tree, on the bytes of the old index. Read `specs/Headline.antt` of
+//! `cs_history` first: the main promise. Then `specs/Refusals.antt`: why a job fails, for any bytes of the old index;
+//! `specs/Next.antt`: what a job walks, and the index after it; and `specs/Steps.antt`: what one job does to the index
+//! and to the outputs.
 #![tactic(auto)]
 
 mod cindexing;

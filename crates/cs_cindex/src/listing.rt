@@ -1,22 +1,22 @@
-// The paths of an index, on lines.
+// Lists the paths of an index.
 ghost use Rattle.std.specs.Prelude.{◌≡◌, ◌++◌, ℕ, List, Some, Err, codes, true, IfErr};
 ghost use Rattle.cs_tree.specs.FailureCount.{count_after};
-ghost use Rattle.cs_tree.specs.TakenAll.{TakesBytes};
-ghost use Rattle.cs_index.specs.Stored.{OpensAs};
-ghost use Rattle.cs_words.specs.Faults.{index_refusal};
-ghost use Rattle.cs_words.specs.declared.jobs.IndexJob.{IndexJob as IndexJob'};
+ghost use Rattle.cs_tree.specs.WritesBytes.{WritesBytes};
+ghost use Rattle.cs_index.specs.Opening.{OpensAs};
+ghost use Rattle.cs_args.specs.Faults.{index_refusal};
+ghost use Rattle.cs_args.specs.declared.jobs.IndexJob.{IndexJob as IndexJob'};
 ghost use Rattle.std.specs.Option.{option_copied};
 ghost use Rattle.cs_cindex.specs.Outcomes.{AnswersFor, reply_of};
 ghost use Rattle.cs_cindex.specs.Output.{JobTree, index_lines, output, path_lines, is_failed_write};
 ghost use Rattle.cs_cindex.specs.Refusals.{IsOutputFault, list_fault};
 ghost use Rattle.cs_cindex.specs.Steps.{IsWholeStep, LeavesFlushed, outputs, state};
 
+use cs_args::{CindexFault, Reply};
 use cs_index::{Index, IndexFault, StoredIndex, Texts};
 use cs_tree::{Sink, write_all};
-use cs_words::{CindexFault, Reply};
 
-/// Does a job of `-list` over the bytes of a store, of which `StoredIndex::open` answered `opened`, as `cindex` does
-/// over the bytes themselves. No list of the index is read.
+/// Runs a job of `-list` over a store, as `cindex` runs it over bytes; `opened` is what `StoredIndex::open` returned
+/// for the store. No posting list is read.
 pub fn list_stored<O: Sink, E: Sink>(
     opened: Result<StoredIndex, IndexFault>,
     out: &mut O,
@@ -24,15 +24,15 @@ pub fn list_stored<O: Sink, E: Sink>(
 ) -> Reply
     ensures step { (job : IndexJob') (tree : JobTree) (bytes : List ℕ) → job.list ≡ true →
         tree.failed_then ≡ tree.failed → OpensAs bytes opened → IsWholeStep job tree result
-        (state O.taken O.failed E.taken E.failed
+        (state O.model O.failed E.model E.failed
         (Some bytes) out.old err.old)
-        (state O.taken O.failed E.taken E.failed
+        (state O.model O.failed E.model E.failed
         (Some bytes) out.new err.new) }
     ensures unopened { IfErr opened (λ fault. (result ≡ Reply.Refused (index_refusal fault)) ×
-        (outputs O.taken O.failed E.taken E.failed out.new err.new ≡
-        outputs O.taken O.failed E.taken E.failed out.old err.old)) }
+        (outputs O.model O.failed E.model E.failed out.new err.new ≡
+        outputs O.model O.failed E.model E.failed out.old err.old)) }
     ensures flushed { LeavesFlushed result
-        (outputs O.taken O.failed E.taken E.failed out.new err.new) }
+        (outputs O.model O.failed E.model E.failed out.new err.new) }
 {
     match list_opened(opened, out, err) {
         Ok(()) => Reply::Done,
@@ -47,16 +47,17 @@ fn list_opened<O: Sink, E: Sink>(
     err: &mut E,
 ) -> Result<(), CindexFault>
     ensures step { (job : IndexJob') (tree : JobTree) (bytes : List ℕ) → job.list ≡ true →
-        tree.failed_then ≡ tree.failed → OpensAs bytes opened → IsWholeStep job tree (reply_of result)
-        (state O.taken O.failed E.taken E.failed
+        tree.failed_then ≡ tree.failed → OpensAs bytes opened → IsWholeStep job tree
+        (reply_of result)
+        (state O.model O.failed E.model E.failed
         (Some bytes) out.old err.old)
-        (state O.taken O.failed E.taken E.failed
+        (state O.model O.failed E.model E.failed
         (Some bytes) out.new err.new) }
     ensures unopened { IfErr opened (λ fault. (result ≡ Err (index_refusal fault)) ×
-        (outputs O.taken O.failed E.taken E.failed out.new err.new ≡
-        outputs O.taken O.failed E.taken E.failed out.old err.old)) }
+        (outputs O.model O.failed E.model E.failed out.new err.new ≡
+        outputs O.model O.failed E.model E.failed out.old err.old)) }
     ensures flushed { LeavesFlushed (reply_of result)
-        (outputs O.taken O.failed E.taken E.failed out.new err.new) }
+        (outputs O.model O.failed E.model E.failed out.new err.new) }
 {
     print_opened(opened, out)?;
     out.flush()?;
@@ -64,7 +65,7 @@ fn list_opened<O: Sink, E: Sink>(
     Ok(())
 }
 
-/// Prints each path of an index on a line, where it opens.
+/// Prints each path of an index on a line, if it opens.
 fn print_opened<O: Sink>(
     opened: Result<StoredIndex, IndexFault>,
     out: &mut O,
@@ -72,9 +73,9 @@ fn print_opened<O: Sink>(
     ensures refusal { (bytes : List ℕ) → OpensAs bytes opened →
         AnswersFor result (list_fault (Some bytes)) IsOutputFault }
     ensures out { (bytes : List ℕ) → OpensAs bytes opened →
-        TakesBytes (index_lines (Some bytes)) (O.taken out.old) (O.taken out.new) result }
+        WritesBytes (index_lines (Some bytes)) (O.model out.old) (O.model out.new) result }
     ensures unopened { IfErr opened (λ fault. (result ≡ Err (index_refusal fault)) ×
-        (output O.taken O.failed out.new ≡ output O.taken O.failed out.old)) }
+        (output O.model O.failed out.new ≡ output O.model O.failed out.old)) }
     ensures writes { O.failed out.new ≡ count_after is_failed_write result (O.failed out.old) }
 {
     let index = opened?;
@@ -84,8 +85,8 @@ fn print_opened<O: Sink>(
 /// Prints each path of the index on a line.
 pub(crate) fn list_paths<O: Sink>(old: Option<&[u8]>, out: &mut O) -> Result<(), CindexFault>
     ensures refusal { AnswersFor result (list_fault (option_copied old.entry)) IsOutputFault }
-    ensures out { TakesBytes (index_lines (option_copied old.entry))
-        (O.taken out.old) (O.taken out.new) result }
+    ensures out { WritesBytes (index_lines (option_copied old.entry))
+        (O.model out.old) (O.model out.new) result }
     ensures writes { O.failed out.new ≡ count_after is_failed_write result (O.failed out.old) }
 {
     let Some(bytes) = old else {
@@ -98,7 +99,7 @@ pub(crate) fn list_paths<O: Sink>(old: Option<&[u8]>, out: &mut O) -> Result<(),
 /// Prints each path on a line.
 fn print_paths<O: Sink>(paths: Texts<'_>, out: &mut O) -> Result<(), CindexFault>
     ensures refusal { IfErr result IsOutputFault }
-    ensures out { TakesBytes (path_lines paths.entry) (O.taken out.old) (O.taken out.new) result }
+    ensures out { WritesBytes (path_lines paths.entry) (O.model out.old) (O.model out.new) result }
     ensures writes { O.failed out.new ≡ count_after is_failed_write result (O.failed out.old) }
 {
     'paths: for path in paths {
@@ -110,7 +111,7 @@ fn print_paths<O: Sink>(paths: Texts<'_>, out: &mut O) -> Result<(), CindexFault
 /// Prints the path on a line.
 fn print_line<O: Sink>(path: &str, out: &mut O) -> Result<(), CindexFault>
     ensures refusal { IfErr result IsOutputFault }
-    ensures out { TakesBytes (path.now ++ codes "\n") (O.taken out.old) (O.taken out.new) result }
+    ensures out { WritesBytes (path.now ++ codes "\n") (O.model out.old) (O.model out.new) result }
     ensures writes { O.failed out.new ≡ count_after is_failed_write result (O.failed out.old) }
 {
     write_all(out, path.as_bytes())?;

@@ -1,22 +1,22 @@
-// What a job makes of the index.
+// The change of the index by a job.
 ghost use Rattle.std.specs.Prelude.{◌≡◌};
 ghost use Rattle.cs_cindex.specs.Bytes.{index_bytes};
 ghost use Rattle.cs_cindex.specs.Outcomes.{index_from, reply_of};
 
-use cs_words::{CindexFault, Reply};
+use cs_args::{CindexFault, Reply};
 
-/// What becomes of the index.
+/// The change of the index.
 #[derive(Drop)]
 pub(crate) enum Outcome {
-    /// It stays as it was.
+    /// It stays unchanged.
     Kept,
-    /// There is none.
+    /// It is removed.
     Gone,
-    /// It is this.
+    /// It becomes this.
     Index(Vec<u8>),
 }
 
-/// The index after a job, and its reply. A refused job leaves the old index.
+/// The index after a job, and its reply. A job that fails leaves the old index.
 pub(crate) fn index_and_reply(
     old: Option<Vec<u8>>,
     outcome: Result<Outcome, CindexFault>,

@@ -1,25 +1,25 @@
-// The lines for paths and files that are left out.
+// Diagnostics of paths and files that are skipped.
 ghost use Rattle.std.specs.Prelude.{◌≡◌, [], ◌∷◌, map, IfErr};
 ghost use Rattle.cs_tree.specs.FailureCount.{count_after};
-ghost use Rattle.cs_tree.specs.Walks.{left_entry};
+ghost use Rattle.cs_tree.specs.Walks.{fault_entry};
 ghost use Rattle.cs_cindex.specs.Output.{is_failed_write};
-ghost use Rattle.cs_cindex.specs.Notices.{left_line, faulted, skipped, walk_fault as walk_fault'};
+ghost use Rattle.cs_cindex.specs.Diagnostics.{fault_entry_line, faulted, skipped, walk_fault as walk_fault'};
 ghost use Rattle.cs_cindex.specs.Refusals.{IsOutputFault};
 ghost use Rattle.cs_cindex.specs.Verdicts.{PrintsAll};
 
+use cs_args::{CindexFault, FileFault, Tool, fault_line, skip_line};
 use cs_tree::{Sink, WalkFault, write_all};
 use cs_trigram::Reason;
-use cs_words::{CindexFault, FileFault, Tool, fault_line, skip_line};
 use std::alloc::Global;
 
-/// Prints the line of each path that a walk leaves.
-pub(crate) fn print_left<E: Sink>(
+/// Prints the diagnostic of each path that a walk cannot read.
+pub(crate) fn print_walk_faults<E: Sink>(
     alloc: Global,
     faults: &[(String, WalkFault)],
     err: &mut E,
 ) -> Result<(), CindexFault>
-    ensures prints { PrintsAll (map left_line (map left_entry faults.now))
-        (E.taken err.old) (E.taken err.new) result }
+    ensures prints { PrintsAll (map fault_entry_line (map fault_entry faults.now))
+        (E.model err.old) (E.model err.new) result }
     ensures writes { E.failed err.new ≡ count_after is_failed_write result (E.failed err.old) }
     ensures only { IfErr result IsOutputFault }
 {
@@ -29,7 +29,7 @@ pub(crate) fn print_left<E: Sink>(
     Ok(())
 }
 
-/// Prints the line of a path or a file with a fault.
+/// Prints the diagnostic of a path or a file with a fault.
 pub(crate) fn print_fault<E: Sink>(
     alloc: Global,
     name: &str,
@@ -37,7 +37,7 @@ pub(crate) fn print_fault<E: Sink>(
     err: &mut E,
 ) -> Result<(), CindexFault>
     ensures prints { PrintsAll (faulted name.now fault ∷ [])
-        (E.taken err.old) (E.taken err.new) result }
+        (E.model err.old) (E.model err.new) result }
     ensures writes { E.failed err.new ≡ count_after is_failed_write result (E.failed err.old) }
     ensures only { IfErr result IsOutputFault }
 {
@@ -46,7 +46,7 @@ pub(crate) fn print_fault<E: Sink>(
     Ok(())
 }
 
-/// Prints the line of a file that is no text.
+/// Prints the diagnostic of a non-text file.
 pub(crate) fn print_skipped<E: Sink>(
     alloc: Global,
     name: &str,
@@ -54,7 +54,7 @@ pub(crate) fn print_skipped<E: Sink>(
     err: &mut E,
 ) -> Result<(), CindexFault>
     ensures prints { PrintsAll (skipped name.now reason ∷ [])
-        (E.taken err.old) (E.taken err.new) result }
+        (E.model err.old) (E.model err.new) result }
     ensures writes { E.failed err.new ≡ count_after is_failed_write result (E.failed err.old) }
     ensures only { IfErr result IsOutputFault }
 {
@@ -63,14 +63,14 @@ pub(crate) fn print_skipped<E: Sink>(
     Ok(())
 }
 
-/// The fault of a path that is left, as that of a file.
+/// The fault of a path in a walk, as that of a file.
 fn walk_fault(fault: WalkFault) -> FileFault
     ensures { result ≡ walk_fault' fault }
 {
     match fault {
         WalkFault::Tree(fault) => match FileFault::of_tree(fault) {
             Ok(file) => file,
-            // A walk ends where memory is wanting, so that no path is left for it.
+            // Out of memory ends a walk, so that no path has it as its fault.
             Err(_) => FileFault::Failed,
         },
         WalkFault::Unnamed => FileFault::Unnamed,

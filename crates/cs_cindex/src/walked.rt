@@ -2,13 +2,13 @@
 ghost use Rattle.std.specs.Prelude.{◌≡◌, true, Some, None, map, string_bytes, IfOk, IfErr};
 ghost use Rattle.cs_tree.specs.Clean.{longest_path};
 ghost use Rattle.cs_tree.specs.Folders.{are_distinct};
-ghost use Rattle.cs_tree.specs.Trees.{AsksWithin};
+ghost use Rattle.cs_tree.specs.Walks.{RequestsWithin};
 ghost use Rattle.cs_tree.specs.FailureCount.{count_after};
 ghost use Rattle.std.specs.Option.{option_copied};
 ghost use Rattle.cs_tree.specs.PathSet as set;
 ghost use Rattle.cs_tree.specs.Cover.{least};
 ghost use Rattle.cs_index.specs.Opening.{opening};
-ghost use Rattle.cs_cindex.specs.Joins.{IsJoinRefusal, JoinsTo, refusal_of};
+ghost use Rattle.cs_cindex.specs.Merges.{IsMergeRefusal, MergesTo, refusal_of};
 ghost use Rattle.cs_cindex.specs.Next.{IsNext};
 ghost use Rattle.cs_cindex.specs.Refusals.{IsWalkFault, base_fault, early_walk_fault};
 ghost use Rattle.cs_history.specs.Premises.{IsShort};
@@ -20,13 +20,13 @@ ghost use Rattle.cs_cindex.specs.JobPaths.{AreCleaned, starts};
 use crate::cleaning::clean_all;
 use crate::indexing::index_paths;
 use crate::old::{open_old, recorded_paths};
+use cs_args::{CindexFault, IndexJob};
 use cs_index::{Index, IndexFault};
 use cs_merge::{MergeFault, merge};
 use cs_tree::{Sink, Tree, reduce};
-use cs_words::{CindexFault, IndexJob};
 use std::alloc::{AllocError, Global};
 
-/// The index after a job that walks, from the index that it goes on from.
+/// The index after a job that walks, over this base index.
 #[tactic(auto, using(crate::proofs::JobOutputLemmas::nothing_printed))]
 pub(crate) fn walked_index<T: Tree, E: Sink>(
     alloc: Global,
@@ -43,27 +43,28 @@ pub(crate) fn walked_index<T: Tree, E: Sink>(
         (IsWalkFault job.now (T.snapshot tree.old) (option_copied old.entry)) }
     ensures prints { WalkPrintsFor result (early_walk_fault job.now (option_copied old.entry))
         job.now (job_tree T.snapshot T.failed tree.old tree.new) (option_copied old.entry)
-        (output E.taken E.failed err.old) (output E.taken E.failed err.new) }
+        (output E.model E.failed err.old) (output E.model E.failed err.new) }
     ensures writes { E.failed err.new ≡ count_after is_failed_write result (E.failed err.old) }
-    ensures asked { AsksWithin longest_path (T.longest_asked tree.old) (T.longest_asked tree.new) }
+    ensures requested { RequestsWithin longest_path (T.longest_requested tree.old)
+        (T.longest_requested tree.new) }
     ensures tree_keeps { T.snapshot tree.new ≡ T.snapshot tree.old }
 {
     let given = clean_all(alloc, &job.cwd, &job.paths)?;
     match old {
         None => {
-            let index = index_anew(alloc, &given, job, tree, err)?;
+            let index = new_index(alloc, &given, job, tree, err)?;
             Ok(index)
         }
         Some(bytes) => {
-            let index = index_onto(alloc, bytes, &given, job, tree, err)?;
+            let index = extended_index(alloc, bytes, &given, job, tree, err)?;
             Ok(index)
         }
     }
 }
 
-/// The index of what the job finds below its cleaned paths, where there is none to join it to.
+/// The index of what the job finds below its cleaned paths, without a base index.
 #[tactic(auto, using(crate::proofs::JobOutputLemmas::nothing_printed))]
-fn index_anew<T: Tree, E: Sink>(
+fn new_index<T: Tree, E: Sink>(
     alloc: Global,
     given: &[String],
     job: &IndexJob,
@@ -77,9 +78,10 @@ fn index_anew<T: Tree, E: Sink>(
         (IsWalkFault job.now (T.snapshot tree.old) None) }
     ensures prints { WalkPrintsFor result (base_fault job.now None)
         job.now (job_tree T.snapshot T.failed tree.old tree.new) None
-        (output E.taken E.failed err.old) (output E.taken E.failed err.new) }
+        (output E.model E.failed err.old) (output E.model E.failed err.new) }
     ensures writes { E.failed err.new ≡ count_after is_failed_write result (E.failed err.old) }
-    ensures asked { AsksWithin longest_path (T.longest_asked tree.old) (T.longest_asked tree.new) }
+    ensures requested { RequestsWithin longest_path (T.longest_requested tree.old)
+        (T.longest_requested tree.new) }
     ensures tree_keeps { T.snapshot tree.new ≡ T.snapshot tree.old }
 {
     if given.is_empty() {
@@ -90,9 +92,10 @@ fn index_anew<T: Tree, E: Sink>(
     Ok(index)
 }
 
-/// The old index, joined with what the job finds below its cleaned paths or those of the old index.
+/// The base index, merged with what the job finds below its cleaned paths, or, if it has none, below those of the base
+/// index.
 #[tactic(auto, using(crate::proofs::JobOutputLemmas::nothing_printed))]
-fn index_onto<T: Tree, E: Sink>(
+fn extended_index<T: Tree, E: Sink>(
     alloc: Global,
     old: &[u8],
     given: &[String],
@@ -107,19 +110,20 @@ fn index_onto<T: Tree, E: Sink>(
         (IsWalkFault job.now (T.snapshot tree.old) (Some old.now)) }
     ensures prints { WalkPrintsFor result (base_fault job.now (Some old.now))
         job.now (job_tree T.snapshot T.failed tree.old tree.new) (Some old.now)
-        (output E.taken E.failed err.old) (output E.taken E.failed err.new) }
+        (output E.model E.failed err.old) (output E.model E.failed err.new) }
     ensures writes { E.failed err.new ≡ count_after is_failed_write result (E.failed err.old) }
-    ensures asked { AsksWithin longest_path (T.longest_asked tree.old) (T.longest_asked tree.new) }
+    ensures requested { RequestsWithin longest_path (T.longest_requested tree.old)
+        (T.longest_requested tree.new) }
     ensures tree_keeps { T.snapshot tree.new ≡ T.snapshot tree.old }
 {
     let index = open_old(alloc, old)?;
     let paths = paths_to_walk(alloc, &index, given)?;
     let newer = index_paths(alloc, tree, &paths, job.log_skip, err)?;
-    let joined = join(alloc, &index, &newer)?;
-    Ok(joined)
+    let merged = merge_old(alloc, &index, &newer)?;
+    Ok(merged)
 }
 
-/// The paths that a job walks, reduced: its own, or where it has none those of the index.
+/// The reduced paths that a job walks: its own, or, if it has none, those of the index.
 fn paths_to_walk(
     alloc: Global,
     index: &Index<'_>,
@@ -137,12 +141,12 @@ fn paths_to_walk(
     Ok(paths)
 }
 
-/// The index of the old one and of the bytes of a newer one, whose names are distinct and lie under its paths.
-fn join(alloc: Global, old: &Index<'_>, newer: &[u8]) -> Result<Vec<u8>, CindexFault>
+/// Merges the base index with the bytes of a newer one, whose names are distinct and lie under its paths.
+fn merge_old(alloc: Global, old: &Index<'_>, newer: &[u8]) -> Result<Vec<u8>, CindexFault>
     requires { are_distinct old.now.names ≡ true }
-    ensures joined { IfOk result (λ index. JoinsTo old.now (opening newer.now) index.items) }
+    ensures merged { IfOk result (λ index. MergesTo old.now (opening newer.now) index.items) }
     ensures short { IfOk result (λ index. IsShort (Some index.items)) }
-    ensures fault { IfErr result (IsJoinRefusal old.now (opening newer.now)) }
+    ensures fault { IfErr result (IsMergeRefusal old.now (opening newer.now)) }
 {
     let newer = Index::open(newer)?;
     match merge(alloc, old, &newer) {
@@ -151,8 +155,8 @@ fn join(alloc: Global, old: &Index<'_>, newer: &[u8]) -> Result<Vec<u8>, CindexF
     }
 }
 
-/// A fault of joining as that of a job. The newer index is one of a walk, so that neither holds a name
-/// twice, and the newer names lie under their paths.
+/// An error of the merge, as that of a job. `Unsorted` and `Uncovered` do not occur: the names of the base index were
+/// tested, and the newer index is that of a walk.
 fn merge_refusal(fault: MergeFault) -> CindexFault
     ensures { result ≡ refusal_of fault }
 {

@@ -1,18 +1,18 @@
--- Worked rows of histories. Of each history stand here the paths, the files with their trigrams, the length of the index and
--- where its five sections begin. The newest job comes first.
+-- Worked examples of histories. Each history is given with its paths, its files with their trigrams, the length of
+-- its index and the offsets of the five sections. The newest job comes first.
 use Rattle.std.proofs.Common.{◌≡◌, ℕ, false, List, [], ◌∷◌, ◌++◌, length, take, drop, ap, sym, ◌∙◌, Option, Some, None}
 use Rattle.std.specs.Prelude.{codes, option_map, ◌-◌, flat_map}
 use Rattle.std.specs.FinMap as map'
 use Rattle.cs_tree.specs.PathSet as set
 use Rattle.cs_tree.specs.Snapshot.{Item, folder, file}
-use Rattle.cs_index.specs.Image.{four_bytes, varint}
+use Rattle.cs_index.specs.Encoding.{four_bytes, varint}
 use Rattle.cs_history.specs.History.{paths_of, files_of, index_of}
-use Rattle.cs_merge.specs.Join.{join_files}
+use Rattle.cs_merge.specs.Merge.{merge_files}
 use Rattle.cs_history.specs.Shards.{files_of_both}
 use Rattle.cs_index.specs.OpenedParts.{Parts}
-use Rattle.cs_history.proofs.RowLemmas.{Job, history_from, history_of, paths_computed, files_computed, index_computed, entries_joined, entries_of_both}
+use Rattle.cs_history.proofs.PairListLemmas.{Job, history_from, history_of, paths_computed, files_computed, index_computed, entries_merged, entries_of_both}
 
--- ---- what stands in the trees
+-- ---- snapshots
 
 abbrev folder_at : List ℕ → List (List ℕ) → List ℕ × Item
 folder_at path names = (path, folder names false)
@@ -33,14 +33,14 @@ six = 0x69780a ∷ 0x736978 ∷ []
 abbrev ten : List ℕ
 ten = 0x656e0a ∷ 0x74656e ∷ []
 
--- how many bytes the index has, and the first 20 of its last 36
+-- the length of the index, and the first 20 of its last 36 bytes
 abbrev frame : List ℕ → ℕ × List ℕ
 frame bytes = (length bytes, take 20 (drop (length bytes - 36) bytes))
 
 abbrev framed : ℕ → List ℕ → Option (ℕ × List ℕ)
 framed n offsets = Some (n, flat_map four_bytes offsets)
 
--- ---- a path that another one's text begins
+-- ---- a path that is a prefix of another one's text
 
 -- `cindex /a/b /a/bc`
 abbrev both_folders : Job
@@ -229,12 +229,12 @@ index_of_what_is_gone = ap (option_map frame) (index_computed None gone (there �
 bytes_of_what_is_gone_stay : index_of (history_of (gone ∷ gone ∷ there ∷ [])) ≡ index_of (history_of (gone ∷ there ∷ []))
 bytes_of_what_is_gone_stay = index_computed None gone (gone ∷ there ∷ []) ∙ sym (index_computed None gone (there ∷ []))
 
--- ---- an index that was handed in
+-- ---- an existing index
 
--- an index as the Go tool writes it: the names `/a/b/z` and `/a/b-x` stand in the order of its walk, both have `abc`,
+-- an index as the Go tool writes it: the names `/a/b/z` and `/a/b-x` are in the order of its walk, both have `abc`,
 -- and an entry for `ff ff ff` has no file
-abbrev of_the_go_tool : Option Parts
-of_the_go_tool = Some (record {
+abbrev by_the_go_tool : Option Parts
+by_the_go_tool = Some (record {
   paths = codes "/a" ∷ [];
   names = codes "/a/b/z" ∷ codes "/a/b-x" ∷ [];
   entries = record { trigram = 0x616263; count = 2; offset = 0 } ∷ record { trigram = 0xffffff; count = 0; offset = 6 } ∷ [];
@@ -244,8 +244,8 @@ of_the_go_tool = Some (record {
 abbrev abc : List ℕ
 abc = 0x616263 ∷ []
 
-files_handed_in : map'.entries (files_of (history_from of_the_go_tool [])) ≡ (codes "/a/b-x", abc) ∷ (codes "/a/b/z", abc) ∷ []
-files_handed_in = files_computed of_the_go_tool []
+files_of_an_existing_index : map'.entries (files_of (history_from by_the_go_tool [])) ≡ (codes "/a/b-x", abc) ∷ (codes "/a/b/z", abc) ∷ []
+files_of_an_existing_index = files_computed by_the_go_tool []
 
 -- `cindex`
 abbrev go_again : Job
@@ -281,36 +281,36 @@ go_beside = record {
       ∷ [];
 }
 
-index_read_again : option_map frame (index_of (history_from of_the_go_tool (go_again ∷ []))) ≡ framed 104 (16 ∷ 20 ∷ 35 ∷ 45 ∷ 57 ∷ [])
+index_read_again : option_map frame (index_of (history_from by_the_go_tool (go_again ∷ []))) ≡ framed 104 (16 ∷ 20 ∷ 35 ∷ 45 ∷ 57 ∷ [])
 unfolding varint
-index_read_again = ap (option_map frame) (index_computed of_the_go_tool go_again [])
+index_read_again = ap (option_map frame) (index_computed by_the_go_tool go_again [])
 
-paths_gone_on_from : set.items (paths_of (history_from of_the_go_tool (go_on ∷ []))) ≡ codes "/a" ∷ []
-paths_gone_on_from = paths_computed of_the_go_tool (go_on ∷ [])
+paths_gone_on_from : set.items (paths_of (history_from by_the_go_tool (go_on ∷ []))) ≡ codes "/a" ∷ []
+paths_gone_on_from = paths_computed by_the_go_tool (go_on ∷ [])
 
-files_gone_on_from : map'.entries (files_of (history_from of_the_go_tool (go_on ∷ []))) ≡ (codes "/a/b-x", six) ∷ (codes "/a/b/z", abc) ∷ []
-files_gone_on_from = files_computed of_the_go_tool (go_on ∷ [])
+files_gone_on_from : map'.entries (files_of (history_from by_the_go_tool (go_on ∷ []))) ≡ (codes "/a/b-x", six) ∷ (codes "/a/b/z", abc) ∷ []
+files_gone_on_from = files_computed by_the_go_tool (go_on ∷ [])
 
-index_gone_on_from : option_map frame (index_of (history_from of_the_go_tool (go_on ∷ []))) ≡ framed 135 (16 ∷ 20 ∷ 35 ∷ 54 ∷ 66 ∷ [])
+index_gone_on_from : option_map frame (index_of (history_from by_the_go_tool (go_on ∷ []))) ≡ framed 135 (16 ∷ 20 ∷ 35 ∷ 54 ∷ 66 ∷ [])
 unfolding varint
-index_gone_on_from = ap (option_map frame) (index_computed of_the_go_tool go_on [])
+index_gone_on_from = ap (option_map frame) (index_computed by_the_go_tool go_on [])
 
-paths_beside_it : set.items (paths_of (history_from of_the_go_tool (go_beside ∷ []))) ≡ codes "/a" ∷ codes "/c" ∷ []
-paths_beside_it = paths_computed of_the_go_tool (go_beside ∷ [])
+paths_beside_it : set.items (paths_of (history_from by_the_go_tool (go_beside ∷ []))) ≡ codes "/a" ∷ codes "/c" ∷ []
+paths_beside_it = paths_computed by_the_go_tool (go_beside ∷ [])
 
-index_beside_it : option_map frame (index_of (history_from of_the_go_tool (go_beside ∷ []))) ≡ framed 107 (16 ∷ 23 ∷ 38 ∷ 48 ∷ 60 ∷ [])
+index_beside_it : option_map frame (index_of (history_from by_the_go_tool (go_beside ∷ []))) ≡ framed 107 (16 ∷ 23 ∷ 38 ∷ 48 ∷ 60 ∷ [])
 unfolding varint
-index_beside_it = ap (option_map frame) (index_computed of_the_go_tool go_beside [])
+index_beside_it = ap (option_map frame) (index_computed by_the_go_tool go_beside [])
 
--- ---- joins
+-- ---- merges
 
--- the files of the newer index do not stand first
-shards_join_in_the_order_of_names : map'.entries (join_files (set.from_list (codes "/a" ∷ [])) (map'.from_entries ((codes "/b/f", one) ∷ [])) (map'.from_entries ((codes "/a/g", two) ∷ []))) ≡ (codes "/a/g", two) ∷ (codes "/b/f", one) ∷ []
-shards_join_in_the_order_of_names = entries_joined (codes "/a" ∷ []) ((codes "/b/f", one) ∷ []) ((codes "/a/g", two) ∷ [])
+-- the files of the newer index are not the first
+shards_merge_in_name_order : map'.entries (merge_files (set.from_list (codes "/a" ∷ [])) (map'.from_entries ((codes "/b/f", one) ∷ [])) (map'.from_entries ((codes "/a/g", two) ∷ []))) ≡ (codes "/a/g", two) ∷ (codes "/b/f", one) ∷ []
+shards_merge_in_name_order = entries_merged (codes "/a" ∷ []) ((codes "/b/f", one) ∷ []) ((codes "/a/g", two) ∷ [])
 
--- where a path of the newer index covers a name of the older one, the join has less than the files of both
-a_covered_name_is_lost : map'.entries (join_files (set.from_list (codes "/a" ∷ [])) (map'.from_entries ((codes "/a/f", one) ∷ [])) (map'.from_entries ((codes "/a/g", two) ∷ []))) ≡ (codes "/a/g", two) ∷ []
-a_covered_name_is_lost = entries_joined (codes "/a" ∷ []) ((codes "/a/f", one) ∷ []) ((codes "/a/g", two) ∷ [])
+-- if a path of the newer index covers a name of the old one, the merge lacks that file
+a_covered_name_is_lost : map'.entries (merge_files (set.from_list (codes "/a" ∷ [])) (map'.from_entries ((codes "/a/f", one) ∷ [])) (map'.from_entries ((codes "/a/g", two) ∷ []))) ≡ (codes "/a/g", two) ∷ []
+a_covered_name_is_lost = entries_merged (codes "/a" ∷ []) ((codes "/a/f", one) ∷ []) ((codes "/a/g", two) ∷ [])
 
 both_have_the_covered_name : map'.entries (files_of_both (map'.from_entries ((codes "/a/f", one) ∷ [])) (map'.from_entries ((codes "/a/g", two) ∷ []))) ≡ (codes "/a/f", one) ∷ (codes "/a/g", two) ∷ []
 both_have_the_covered_name = entries_of_both ((codes "/a/f", one) ∷ []) ((codes "/a/g", two) ∷ [])

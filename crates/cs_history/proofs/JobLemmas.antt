@@ -1,6 +1,6 @@
--- What single jobs make of a history.
+-- How one job extends a history.
 use Rattle.std.proofs.Common.{◌≡◌, true, false, cond, List, [], ◌∷◌, ◌++◌, map, sym, ap, subst, ◌∙◌, inl, inr, Option, Some, None}
-use Rattle.cs_tree.specs.Folders.{IsTree, Tells}
+use Rattle.cs_tree.specs.Folders.{IsTree, IsModelled}
 use Rattle.std.proofs.lemmas.Bool.{cases_Bool, cond_both, ltb-false}
 use Rattle.std.proofs.lemmas.Str.{IsUtf8-append, IsUtf8-string_bytes}
 use Rattle.std.specs.Prelude.{string_bytes, String, nat_lt, length, bytes_eq}
@@ -10,18 +10,19 @@ use Rattle.std.specs.List.{AllByRecursion, AllZip}
 use Rattle.std.specs.FinMap as map'
 use Rattle.cs_tree.specs.Cover.{begins}
 use Rattle.cs_tree.specs.Snapshot.{Snapshot}
+use Rattle.cs_tree.specs.Cleaning.{clean_fault}
 use Rattle.cs_tree.specs.Clean.{absolute, clean_path, has_nul, longest_path}
-use Rattle.cs_tree.proofs.SettledLemmas.{cleaned_settled, settled_from, bytes_no_nul, no_nul_bytes, no_fault_parts}
-use Rattle.cs_merge.proofs.HoldingLemmas.{from_list_all}
+use Rattle.cs_tree.proofs.NormalizedLemmas.{cleaned_is_normalized, normalized_from, bytes_no_nul, no_nul_bytes, no_fault_parts}
+use Rattle.cs_merge.proofs.DecodedContentLemmas.{from_list_all}
 use Rattle.cs_history.specs.History.{History, nothing, ◌⊳◌}
-use Rattle.cs_history.specs.Left.{IsByJobs}
-use Rattle.cs_history.specs.WellFormed.{IsClean, AreClean, IsVisit, IsHistory}
-use Rattle.cs_history.specs.Jobs.{given_texts, given_paths, has_no_path, IsTaken, AreTaken, IsFitting, visit_of, reset_history, after_done, after, history_after}
-use Rattle.cs_history.specs.Premises.{snapshot_told}
-use Rattle.cs_words.specs.declared.jobs.IndexJob.{IndexJob}
-use Rattle.cs_words.specs.declared.jobs.Reply.{Reply}
-use Rattle.cs_words.specs.declared.jobs.Reply.TheVariants.{Done, Refused}
-use Rattle.cs_index.proofs.SectionStringLemmas.{NoNul}
+use Rattle.cs_history.specs.HistoryIndex.{IsBuiltByJobs}
+use Rattle.cs_history.specs.WellFormed.{IsClean, AreClean, IsUpdate, IsHistory}
+use Rattle.cs_history.specs.Jobs.{given_texts, given_paths, has_no_path, AreCleanable, IsFitting, update_of, reset_history, after_done, after, history_after}
+use Rattle.cs_history.specs.Premises.{modelled_snapshot}
+use Rattle.cs_args.specs.declared.jobs.IndexJob.{IndexJob}
+use Rattle.cs_args.specs.declared.jobs.Reply.{Reply}
+use Rattle.cs_args.specs.declared.jobs.Reply.TheVariants.{Done, Refused}
+use Rattle.cs_index.proofs.decoding.StringSections.{NoNul}
 use Rattle.cs_history.proofs.PathElementLemmas.{IsPart, slash_utf8}
 use Rattle.cs_history.proofs.CleanedPathLemmas.{cleaned_part}
 
@@ -35,53 +36,53 @@ absolute_part cwd path h = record {
       (λ _. IsUtf8-append (string_bytes cwd) (slash ∷ string_bytes path) (IsUtf8-string_bytes cwd) (IsUtf8-append (slash ∷ []) (string_bytes path) slash_utf8 (IsUtf8-string_bytes path)));
 }
 
--- a path that cleaning takes is clean then
-pub taken_clean : (cwd path : String Global) → IsTaken (string_bytes cwd) (string_bytes path) → IsClean (clean_path (string_bytes cwd) (string_bytes path))
-taken_clean cwd path h =
+-- a path that can be cleaned is clean afterwards
+pub cleanable_clean : (cwd path : String Global) → clean_fault (string_bytes cwd) (string_bytes path) ≡ None → IsClean (clean_path (string_bytes cwd) (string_bytes path))
+cleanable_clean cwd path h =
     let folder = string_bytes cwd in
     let text = string_bytes path in
     let passed = no_fault_parts (bytes_eq text []) (has_nul (absolute folder text)) (nat_lt longest_path (length (clean_path folder text))) h in
     let part = cleaned_part folder text (absolute_part cwd path (no_nul_bytes (absolute folder text) passed.0)) in
     record {
       utf8 = part.utf8;
-      settled = settled_from (clean_path folder text) (cleaned_settled folder text) (bytes_no_nul (clean_path folder text) part.no_nul)
+      normalized = normalized_from (clean_path folder text) (cleaned_is_normalized folder text) (bytes_no_nul (clean_path folder text) part.no_nul)
           (ltb-false longest_path (length (clean_path folder text)) passed.1);
     }
 
-all_cleaned : (cwd : String Global) (paths : List (String Global)) → AllByRecursion (IsTaken (string_bytes cwd)) (map string_bytes paths) → AllByRecursion IsClean (map (λ text. clean_path (string_bytes cwd) text) (map string_bytes paths))
+all_cleaned : (cwd : String Global) (paths : List (String Global)) → AllByRecursion (λ text. clean_fault (string_bytes cwd) text ≡ None) (map string_bytes paths) → AllByRecursion IsClean (map (λ text. clean_path (string_bytes cwd) text) (map string_bytes paths))
 all_cleaned cwd [] all = tt
-all_cleaned cwd (path ∷ paths) all = (taken_clean cwd path all.0, all_cleaned cwd paths all.1)
+all_cleaned cwd (path ∷ paths) all = (cleanable_clean cwd path all.0, all_cleaned cwd paths all.1)
 
-pub given_clean : (job : IndexJob) → AreTaken job → AreClean (given_paths job)
+pub given_clean : (job : IndexJob) → AreCleanable job → AreClean (given_paths job)
 given_clean job h = from_list_all IsClean (map (λ text. clean_path (string_bytes job.cwd) text) (given_texts job)) (all_cleaned job.cwd job.paths.items h)
 
 -- ---- the history after a job
 
 pub list_adds_nothing : (before : History) (job : IndexJob) (tree : Snapshot) → job.list ≡ true → after_done before job tree ≡ before
-list_adds_nothing before job tree l = ap (λ b. cond b before (cond job.reset (reset_history job tree) (visit_of job tree ⊳ before))) l
+list_adds_nothing before job tree l = ap (λ b. cond b before (cond job.reset (reset_history job tree) (update_of job tree ⊳ before))) l
 
-pub reset_begins : (before : History) (job : IndexJob) (tree : Snapshot) → job.list ≡ false → job.reset ≡ true → after_done before job tree ≡ reset_history job tree
-reset_begins before job tree l r =
-    ap (λ b. cond b before (cond job.reset (reset_history job tree) (visit_of job tree ⊳ before))) l
-    ∙ ap (λ b. cond b (reset_history job tree) (visit_of job tree ⊳ before)) r
+pub reset_starts : (before : History) (job : IndexJob) (tree : Snapshot) → job.list ≡ false → job.reset ≡ true → after_done before job tree ≡ reset_history job tree
+reset_starts before job tree l r =
+    ap (λ b. cond b before (cond job.reset (reset_history job tree) (update_of job tree ⊳ before))) l
+    ∙ ap (λ b. cond b (reset_history job tree) (update_of job tree ⊳ before)) r
 
-pub other_goes_on : (before : History) (job : IndexJob) (tree : Snapshot) → job.list ≡ false → job.reset ≡ false → after_done before job tree ≡ visit_of job tree ⊳ before
+pub other_goes_on : (before : History) (job : IndexJob) (tree : Snapshot) → job.list ≡ false → job.reset ≡ false → after_done before job tree ≡ update_of job tree ⊳ before
 other_goes_on before job tree l r =
-    ap (λ b. cond b before (cond job.reset (reset_history job tree) (visit_of job tree ⊳ before))) l
-    ∙ ap (λ b. cond b (reset_history job tree) (visit_of job tree ⊳ before)) r
+    ap (λ b. cond b before (cond job.reset (reset_history job tree) (update_of job tree ⊳ before))) l
+    ∙ ap (λ b. cond b (reset_history job tree) (update_of job tree ⊳ before)) r
 
-begun_history : (job : IndexJob) (tree : Snapshot) → IsTree tree → AreClean (given_paths job) → IsHistory (reset_history job tree)
-begun_history job tree is clean = cond_both (has_no_path job) nothing (visit_of job tree ⊳ nothing) IsHistory (λ _. tt) (λ _. (record { tree_is = is; given_are = clean }, tt))
+reset_is_history : (job : IndexJob) (tree : Snapshot) → IsTree tree → AreClean (given_paths job) → IsHistory (reset_history job tree)
+reset_is_history job tree is clean = cond_both (has_no_path job) nothing (update_of job tree ⊳ nothing) IsHistory (λ _. tt) (λ _. (record { tree_is = is; given_are = clean }, tt))
 
 pub after_history : (before : History) (job : IndexJob) (tree : Snapshot) (reply : Reply) → IsHistory before → IsTree tree → IsFitting job reply → IsHistory (after before job tree reply)
 after_history before job tree (Refused fault) is well fits = is
 after_history before job tree Done is well fits =
-    cond_both job.list before (cond job.reset (reset_history job tree) (visit_of job tree ⊳ before)) IsHistory
+    cond_both job.list before (cond job.reset (reset_history job tree) (update_of job tree ⊳ before)) IsHistory
     (λ _. is)
     (λ walks.
     let clean = given_clean job (fits walks) in
-    cond_both job.reset (reset_history job tree) (visit_of job tree ⊳ before) IsHistory
-    (λ _. begun_history job tree well clean)
+    cond_both job.reset (reset_history job tree) (update_of job tree ⊳ before) IsHistory
+    (λ _. reset_is_history job tree well clean)
     (λ _. (record { tree_is = well; given_are = clean }, is)))
 
 pub followed_history : (before : History) (jobs : List IndexJob) (trees : List Snapshot) (replies : List Reply) → IsHistory before → AllByRecursion IsTree trees → AllZip IsFitting jobs replies → IsHistory (history_after before jobs trees replies)
@@ -91,28 +92,28 @@ followed_history before (job ∷ jobs) (tree ∷ trees) [] is well fits = is
 followed_history before (job ∷ jobs) (tree ∷ trees) (reply ∷ replies) is well fits =
     followed_history (after before job tree reply) jobs trees replies (after_history before job tree reply is well.0 fits.0) well.1 fits.1
 
--- ---- what was handed in is left by the first job that is done and no `-list`
+-- ---- the first job that succeeds, other than `-list`, replaces an existing index
 
-pub done_by_jobs : (before : History) (job : IndexJob) (tree : Snapshot) → job.list ≡ false → IsByJobs (after_done before job tree)
+pub done_by_jobs : (before : History) (job : IndexJob) (tree : Snapshot) → job.list ≡ false → IsBuiltByJobs (after_done before job tree)
 done_by_jobs before job tree l =
-    subst IsByJobs (sym (ap (λ b. cond b before (cond job.reset (reset_history job tree) (visit_of job tree ⊳ before))) l))
-    (cond_both job.reset (reset_history job tree) (visit_of job tree ⊳ before) IsByJobs
-    (λ _. cond_both (has_no_path job) nothing (visit_of job tree ⊳ nothing) IsByJobs (λ _. tt) (λ _. tt))
+    subst IsBuiltByJobs (sym (ap (λ b. cond b before (cond job.reset (reset_history job tree) (update_of job tree ⊳ before))) l))
+    (cond_both job.reset (reset_history job tree) (update_of job tree ⊳ before) IsBuiltByJobs
+    (λ _. cond_both (has_no_path job) nothing (update_of job tree ⊳ nothing) IsBuiltByJobs (λ _. tt) (λ _. tt))
     (λ _. tt))
 
-pub later_by_jobs : (before : History) (job : IndexJob) (tree : Snapshot) (reply : Reply) → IsByJobs before → IsByJobs (after before job tree reply)
+pub later_by_jobs : (before : History) (job : IndexJob) (tree : Snapshot) (reply : Reply) → IsBuiltByJobs before → IsBuiltByJobs (after before job tree reply)
 later_by_jobs before job tree (Refused fault) by = by
 later_by_jobs before job tree Done by =
     elim (cases_Bool job.list) [
-      | inl l ↦ subst IsByJobs (sym (list_adds_nothing before job tree l)) by
+      | inl l ↦ subst IsBuiltByJobs (sym (list_adds_nothing before job tree l)) by
       | inr l ↦ done_by_jobs before job tree l
     ]
 
--- ---- the job over a tree that tells its snapshot
+-- ---- a job over a modelled tree
 
-told_tree : (snapshot : Option Snapshot) → Tells snapshot → IsTree (snapshot_told snapshot)
-told_tree None tells = absurd tells
-told_tree (Some tree) tells = tells
+modelled_tree : (snapshot : Option Snapshot) → IsModelled snapshot → IsTree (modelled_snapshot snapshot)
+modelled_tree None is = absurd is
+modelled_tree (Some tree) is = is
 
-pub taken_visit : (job : IndexJob) (snapshot : Option Snapshot) → Tells snapshot → AreTaken job → IsVisit (visit_of job (snapshot_told snapshot))
-taken_visit job snapshot tells taken = record { tree_is = told_tree snapshot tells; given_are = given_clean job taken }
+pub cleanable_update : (job : IndexJob) (snapshot : Option Snapshot) → IsModelled snapshot → AreCleanable job → IsUpdate (update_of job (modelled_snapshot snapshot))
+cleanable_update job snapshot is cleanable = record { tree_is = modelled_tree snapshot is; given_are = given_clean job cleanable }

@@ -1,14 +1,14 @@
-pub mod BeginningLemmas
-pub mod FollowingLemmas
+pub mod StartIndexLemmas
+pub mod JobListLemmas
 pub mod HistoryLemmas
 pub mod IndexLemmas
 pub mod JobLemmas
-pub mod KeepingLemmas
-pub mod RefusalLemmas
+pub mod MergedHistoryLemmas
+pub mod ReplyLemmas
 mod CleanedPathLemmas
 mod Examples
 mod PathElementLemmas
-mod RowLemmas
+mod PairListLemmas
 mod ShardLemmas
 mod TextLemmas
 mod WalkLemmas

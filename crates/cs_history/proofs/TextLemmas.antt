@@ -1,4 +1,4 @@
--- The trigrams of a text can be held by an index.
+-- The trigrams of a text are a trigram set of an index.
 use Rattle.std.proofs.Common.{◌≡◌, ℕ, List, [], ◌∷◌, refl, subst, Option, Some, None}
 use Rattle.cs_trigram.specs.Trigram.{trigram_sequence, tri, Ascends as Rises, Ascends}
 use Rattle.cs_trigram.specs.TrigramSets.{IsTrigramSet}

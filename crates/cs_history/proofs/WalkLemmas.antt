@@ -1,9 +1,9 @@
--- What a walk finds can be held by an index, and lies under the paths that were walked.
+-- What a walk finds is valid content, and the walked paths cover its names.
 use Rattle.std.proofs.Common.{◌≡◌, ◌≢◌, ℕ, ◌+◌, ◌<◌, Bool, true, false, cond, not, eqb, leb, ◌&&◌, List, [], ◌∷◌, ◌++◌, length, drop, refl, sym, ap, subst, ◌∙◌, inl, inr, Option, Some, None, arith, length-append, append_assoc}
 use Rattle.cs_tree.specs.Covering.{Covers, itself, below, root}
 use Rattle.cs_tree.specs.Folders.{child, lists, is_element, ListsElements, IsTree, last_element}
 use Rattle.cs_tree.specs.PathSet.{Paths}
-use Rattle.cs_index.specs.Image.{IsString}
+use Rattle.cs_index.specs.Encoding.{IsString}
 use Rattle.std.proofs.lemmas.Bool.{true≢false, cases_Bool, and_parts, or_cases, or_parts, not-true, eqb-false, both_ways}
 use Rattle.std.proofs.lemmas.List.{drop_at}
 use Rattle.std.specs.Prelude.{IsUtf8, bytes_eq}
@@ -15,15 +15,15 @@ use Rattle.cs_tree.specs.PathSet as set
 use Rattle.cs_tree.specs.Cover.{covers, is_covered}
 use Rattle.cs_tree.specs.Snapshot.{Snapshot, Item, folder, file, cut, other, bad, item_at}
 use Rattle.cs_tree.specs.Clean.{elements, longest_path}
-use Rattle.cs_tree.specs.Reached.{elements_under, leads, reaches, is_reached, is_left_out, files_reached, read_item}
-use Rattle.cs_tree.proofs.Covering.{covers_says}
-use Rattle.cs_tree.proofs.Sets.{some_member}
-use Rattle.cs_tree.proofs.Found.{get-found, found_under}
+use Rattle.cs_tree.specs.Reachability.{elements_under, descends, reaches, is_reachable, is_excluded, reachable_files, read_item}
+use Rattle.cs_tree.proofs.CoverLemmas.{covers_says}
+use Rattle.cs_tree.proofs.PathSetLemmas.{some_member}
+use Rattle.cs_tree.proofs.FoundLemmas.{get-found, found_under}
 use Rattle.cs_trigram.specs.Text.{text_trigrams}
 use Rattle.cs_trigram.specs.declared.limits.Limits.{Limits}
 use Rattle.cs_merge.specs.Content.{IsContent}
-use Rattle.cs_index.proofs.SectionStringLemmas.{NoNul}
-use Rattle.cs_history.proofs.PathElementLemmas.{IsPart, part_joined, part_empty, text_from_parts}
+use Rattle.cs_index.proofs.decoding.StringSections.{NoNul}
+use Rattle.cs_history.proofs.PathElementLemmas.{IsPart, part_appended, part_empty, text_from_parts}
 use Rattle.cs_history.proofs.TextLemmas.{text_set}
 
 -- ---- strings
@@ -67,71 +67,71 @@ lists_part (cut bytes) name h there = absurd (true≢false (sym there))
 lists_part other name h there = absurd (true≢false (sym there))
 lists_part (bad fault) name h there = absurd (true≢false (sym there))
 
--- ---- names that a walk comes to
+-- ---- names that a walk reaches
 
-leads_parts : (tree : Snapshot) (at : List ℕ) (names : List (List ℕ)) → IsTree tree → leads tree at names ≡ true → AllByRecursion IsPart names
+leads_parts : (tree : Snapshot) (at : List ℕ) (names : List (List ℕ)) → IsTree tree → descends tree at names ≡ true → AllByRecursion IsPart names
 leads_parts tree at [] is h = tt
 leads_parts tree at (name ∷ names) is h =
-    let a = and_parts (not (is_left_out name)) _ h in
+    let a = and_parts (not (is_excluded name)) _ h in
     let b = and_parts (leb (length at) longest_path) _ a.1 in
     let c = and_parts (lists (item_at tree at) name) _ b.1 in
     (lists_part (item_at tree at) name (is at) c.0, leads_parts tree (child at name) names is c.1)
 
--- the rest of a name after a path and a slash, and of a name under the root
-rest_part : (path name rest : List ℕ) (tree : Snapshot) → IsTree tree → leads tree path (elements_under path name) ≡ true → bytes_eq path name ≡ false → name ≡ path ++ slash ∷ rest → bytes_eq path (slash ∷ []) ≡ false → IsPart rest
+-- the part of a name after a path and a slash, and the part after the root
+rest_part : (path name rest : List ℕ) (tree : Snapshot) → IsTree tree → descends tree path (elements_under path name) ≡ true → bytes_eq path name ≡ false → name ≡ path ++ slash ∷ rest → bytes_eq path (slash ∷ []) ≡ false → IsPart rest
 rest_part path name rest tree is h apart e inner =
     let under : elements_under path name ≡ elements rest =
     ap (λ t. cond t [] (elements (drop (cond (bytes_eq path (slash ∷ [])) 1 (length path + 1)) name))) apart
     ∙ ap (λ t. elements (drop (cond t 1 (length path + 1)) name)) inner
     ∙ ap (λ n. elements (drop (length path + 1) n)) (e ∙ sym (append_assoc path (slash ∷ []) rest))
     ∙ ap elements (drop_at (path ++ slash ∷ []) rest (length path + 1) (length-append path (slash ∷ []))) in
-    text_from_parts rest (leads_parts tree path (elements rest) is (subst (λ es. leads tree path es ≡ true) under h))
+    text_from_parts rest (leads_parts tree path (elements rest) is (subst (λ es. descends tree path es ≡ true) under h))
 
-root_part : (path name rest : List ℕ) (tree : Snapshot) → IsTree tree → leads tree path (elements_under path name) ≡ true → bytes_eq path name ≡ false → name ≡ slash ∷ rest → bytes_eq path (slash ∷ []) ≡ true → IsPart rest
+root_part : (path name rest : List ℕ) (tree : Snapshot) → IsTree tree → descends tree path (elements_under path name) ≡ true → bytes_eq path name ≡ false → name ≡ slash ∷ rest → bytes_eq path (slash ∷ []) ≡ true → IsPart rest
 root_part path name rest tree is h apart e outer =
     let under : elements_under path name ≡ elements rest =
     ap (λ t. cond t [] (elements (drop (cond (bytes_eq path (slash ∷ [])) 1 (length path + 1)) name))) apart
     ∙ ap (λ t. elements (drop (cond t 1 (length path + 1)) name)) outer
     ∙ ap (λ n. elements (drop 1 n)) e in
-    text_from_parts rest (leads_parts tree path (elements rest) is (subst (λ es. leads tree path es ≡ true) under h))
+    text_from_parts rest (leads_parts tree path (elements rest) is (subst (λ es. descends tree path es ≡ true) under h))
 
 reached_string : (tree : Snapshot) (path name : List ℕ) → IsTree tree → IsString path → reaches tree path name ≡ true → IsString name
 reached_string tree path name is text h =
     let a = and_parts (covers path name) _ h in
-    let b = and_parts (not (is_left_out (last_element path))) (leads tree path (elements_under path name)) a.1 in
+    let b = and_parts (not (is_excluded (last_element path))) (descends tree path (elements_under path name)) a.1 in
     elim (cases_Bool (bytes_eq path name)) [
       | inl here ↦ subst IsString ((bytes_decides path name).0 here) text
       | inr apart ↦ by_covers b.1 apart (covers_says path name a.0)
     ]
   where
-    longer : (front rest : List ℕ) → front ++ slash ∷ rest ≢ []
+    longer : (prefix rest : List ℕ) → prefix ++ slash ∷ rest ≢ []
     longer [] rest e = cc
-    longer (x ∷ front) rest e = cc
+    longer (x ∷ prefix) rest e = cc
 
-    by_root : leads tree path (elements_under path name) ≡ true → bytes_eq path name ≡ false → (rest : List ℕ) → bytes_eq path (slash ∷ []) ≡ true → name ≡ slash ∷ rest → IsString name
-    by_root h apart rest outer e = subst IsString (sym e) (part_string (slash ∷ rest) (longer [] rest) (part_joined [] rest part_empty (root_part path name rest tree is h apart e outer)))
+    by_root : descends tree path (elements_under path name) ≡ true → bytes_eq path name ≡ false → (rest : List ℕ) → bytes_eq path (slash ∷ []) ≡ true → name ≡ slash ∷ rest → IsString name
+    by_root h apart rest outer e = subst IsString (sym e) (part_string (slash ∷ rest) (longer [] rest) (part_appended [] rest part_empty (root_part path name rest tree is h apart e outer)))
 
-    by_covers : leads tree path (elements_under path name) ≡ true → bytes_eq path name ≡ false → Covers path name → IsString name
+    by_covers : descends tree path (elements_under path name) ≡ true → bytes_eq path name ≡ false → Covers path name → IsString name
     by_covers h apart (itself e) = absurd (both_ways (bytes_eq path name) apart ((bytes_decides path name).1 e))
     by_covers h apart (root rest e f) = by_root h apart rest ((bytes_decides path (slash ∷ [])).1 e) f
     by_covers h apart (below rest e) =
         elim (cases_Bool (bytes_eq path (slash ∷ []))) [
           | inl outer ↦ by_root h apart (slash ∷ rest) outer (e ∙ ap (λ p. p ++ slash ∷ rest) ((bytes_decides path (slash ∷ [])).0 outer))
-          | inr inner ↦ subst IsString (sym e) (part_string (path ++ slash ∷ rest) (longer path rest) (part_joined path rest (string_part path text) (rest_part path name rest tree is h apart e inner)))
+          | inr inner ↦ subst IsString (sym e) (part_string (path ++ slash ∷ rest) (longer path rest) (part_appended path rest (string_part path text) (rest_part path name rest tree is h apart e inner)))
         ]
 
 -- ---- files that a walk finds
 
--- a file at a name that is reached
+-- a file at a reachable name
 record IsFound {X : Type 0} (read : List ℕ → Option X) (tree : Snapshot) (paths : Paths) (name : List ℕ) (x : X) : Type 0 where
-  reached : is_reached tree paths name ≡ true
+  reached : is_reachable tree paths name ≡ true
   reads : read_item read (item_at tree name) ≡ Some x
 
-found_says : {X : Type 0} (read : List ℕ → Option X) (tree : Snapshot) (paths : Paths) (name : List ℕ) (x : X) → map.get (files_reached read tree paths) name ≡ Some x → IsFound read tree paths name x
+found_says : {X : Type 0} (read : List ℕ → Option X) (tree : Snapshot) (paths : Paths) (name : List ℕ) (x : X) → map.get (reachable_files read tree paths) name ≡ Some x → IsFound read tree paths name x
 found_says read tree paths name x h =
-    by_test (is_reached tree paths name) (leb (length name) longest_path) refl (sym (get-found read tree paths name) ∙ h)
+    by_test (is_reachable tree paths name) (leb (length name) longest_path) refl (sym (get-found read tree paths name) ∙ h)
   where
-    by_test : (r s : Bool) → is_reached tree paths name ≡ r → cond (r && s) (read_item read (item_at tree name)) None ≡ Some x → IsFound read tree paths name x
+    by_test : (r s : Bool) → is_reachable tree paths name ≡ r → cond (r && s) (read_item read (item_at tree name)) None ≡ Some x → IsFound read tree paths name x
     by_test true true e h = record { reached = e; reads = h }
     by_test true false e h = cc
     by_test false s e h = cc
@@ -147,12 +147,12 @@ read_file read (bad fault) x h = cc
 abbrev pub AreStrings : Paths → Type 0
 AreStrings paths = (path : List ℕ) → set.contains paths path ≡ true → IsString path
 
-pub found_string : {X : Type 0} (read : List ℕ → Option X) (tree : Snapshot) (paths : Paths) (name : List ℕ) (x : X) → IsTree tree → AreStrings paths → map.get (files_reached read tree paths) name ≡ Some x → IsString name
+pub found_string : {X : Type 0} (read : List ℕ → Option X) (tree : Snapshot) (paths : Paths) (name : List ℕ) (x : X) → IsTree tree → AreStrings paths → map.get (reachable_files read tree paths) name ≡ Some x → IsString name
 found_string read tree paths name x is strings h =
     let member = some_member paths (λ p. reaches tree p name) (found_says read tree paths name x h).reached in
-    reached_string tree member.path name is (strings member.path member.member) member.passes
+    reached_string tree member.path name is (strings member.path member.member) member.accepts
 
-pub found_content : (most : Limits) (tree : Snapshot) (paths : Paths) → IsTree tree → AreStrings paths → IsContent paths (files_reached (text_trigrams most) tree paths)
+pub found_content : (most : Limits) (tree : Snapshot) (paths : Paths) → IsTree tree → AreStrings paths → IsContent paths (reachable_files (text_trigrams most) tree paths)
 found_content most tree paths is strings = record {
   paths_are = strings;
   names_are = λ name trigrams h. found_string (text_trigrams most) tree paths name trigrams is strings h;
@@ -161,11 +161,11 @@ found_content most tree paths is strings = record {
       text_set most read.0 trigrams read.1;
 }
 
-pub found_lies : {X : Type 0} (read : List ℕ → Option X) (tree : Snapshot) (paths : Paths) (name : List ℕ) (x : X) → map.get (files_reached read tree paths) name ≡ Some x → is_covered paths name ≡ true
+pub found_lies : {X : Type 0} (read : List ℕ → Option X) (tree : Snapshot) (paths : Paths) (name : List ℕ) (x : X) → map.get (reachable_files read tree paths) name ≡ Some x → is_covered paths name ≡ true
 found_lies read tree paths name x h =
     elim (cases_Bool (is_covered paths name)) [
       | inl under ↦ under
-      | inr beside ↦ absurd (none_some (sym (found_under read tree paths name beside) ∙ h))
+      | inr outside ↦ absurd (none_some (sym (found_under read tree paths name outside) ∙ h))
     ]
   where
     none_some : None ≡ Some x → ⊥

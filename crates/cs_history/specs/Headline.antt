@@ -9,16 +9,16 @@ use Rattle.std.specs.List.{AllZip}
 use Rattle.cs_tree.specs.Snapshot.{Snapshot}
 use Rattle.cs_history.specs.History.{History, index_of}
 use Rattle.cs_history.specs.Jobs.{history_after, IsFitting}
-use Rattle.cs_history.specs.Premises.{snapshot_told, IsShort, Premises}
-use Rattle.cs_words.specs.declared.jobs.IndexJob.{IndexJob}
-use Rattle.cs_words.specs.declared.jobs.Reply.{Reply}
+use Rattle.cs_history.specs.Premises.{modelled_snapshot, IsShort, Premises}
+use Rattle.cs_args.specs.declared.jobs.IndexJob.{IndexJob}
+use Rattle.cs_args.specs.declared.jobs.Reply.{Reply}
 
 -- cindex: jobs over trees, each with a reply, turn the old index into the new one.
 pub record Indexes (jobs : List IndexJob) (trees : List (Option Snapshot)) (replies : List Reply) (old new : Option (List ℕ)) : Type 0 where
-  -- The new index is that of the earlier jobs and of those that were done now, whichever the earlier
-  -- ones were. A refused job adds nothing to them, so it changes no byte.
-  pub index : (earlier : History) → Premises trees old earlier → new ≡ index_of (history_after earlier jobs (map snapshot_told trees) replies)
-  -- The next call finds its premises: cleaning takes the paths of each job that was done, and the new
-  -- index is short again.
+  -- The new index is that of the earlier jobs followed by the jobs of this call that succeeded. This holds for all
+  -- earlier jobs whose index is the old one. A job that fails adds nothing, so it changes no byte.
+  pub index : (earlier : History) → Premises trees old earlier → new ≡ index_of (history_after earlier jobs (map modelled_snapshot trees) replies)
+  -- The next call has its premises: the paths of each job that succeeded can be cleaned, and the new index has less
+  -- than 2^32 bytes if the old one has.
   pub fitting : AllZip IsFitting jobs replies
   pub short : IsShort old → IsShort new

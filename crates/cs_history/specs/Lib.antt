@@ -1,27 +1,28 @@
--- What public contracts rest on.
+-- Definitions that public contracts cite.
 pub use Rattle.cs_index.specs.PostingLists
 pub use Rattle.cs_tree.specs.Folders
 pub use Rattle.cs_tree.specs.PathSet
 pub use Rattle.cs_tree.specs.Cover
 pub use Rattle.cs_tree.specs.Snapshot
-pub use Rattle.cs_tree.specs.Reached
+pub use Rattle.cs_tree.specs.Reachability
 pub use Rattle.cs_trigram.specs.Text
-pub use Rattle.cs_index.specs.Image
+pub use Rattle.cs_index.specs.Encoding
 pub use Rattle.cs_index.specs.Opening
 pub use Rattle.cs_index.specs.OpenedParts
-pub use Rattle.cs_merge.specs.Join
-pub use Rattle.cs_merge.specs.Joinable
+pub use Rattle.cs_merge.specs.Merge
+pub use Rattle.cs_merge.specs.Mergeable
 pub use Rattle.cs_merge.specs.Content
 pub mod Headline
 pub mod Premises
-pub mod Left
+pub mod HistoryIndex
+pub mod IndexBytes
 pub mod History
 pub mod WellFormed
-pub mod Beginning
+pub mod StartIndex
 pub mod Jobs
 pub mod JobIndex
 pub mod FileTrigrams
-pub mod Meeting
+pub mod MatchingFiles
 pub mod JobKinds
 pub mod Replies
 pub mod Shards

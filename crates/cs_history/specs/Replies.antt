@@ -1,4 +1,4 @@
--- Why a job is refused, where the index is the one that some earlier jobs left.
+-- Why a job fails, if the index is that of a history.
 -- docs/PROMISES.md, "Refusals of cindex".
 use Rattle.std.specs.Prelude.{◌≡◌, ◌≢◌, ◌≤◌, ◌^◌, ◌⊎◌, ◌↔◌, ℕ, true, false, if◌then◌else◌, List, [], ◌∷◌, length, position, Option, Some, None, is_some, string_bytes}
 use Rattle.std.specs.List.{zip}
@@ -6,51 +6,51 @@ use Rattle.cs_tree.specs.Cleaning.{clean_fault}
 use Rattle.cs_tree.specs.Snapshot.{Snapshot}
 use Rattle.cs_index.specs.declared.fault.IndexFault.{IndexFault}
 use Rattle.cs_history.specs.History.{History, nothing, index_of}
-use Rattle.cs_history.specs.JobIndex.{visit_index}
-use Rattle.cs_history.specs.Jobs.{given_texts, has_no_path, visit_of, after_done, after}
+use Rattle.cs_history.specs.JobIndex.{update_index}
+use Rattle.cs_history.specs.Jobs.{given_texts, has_no_path, update_of, after_done, after}
 use Rattle.cs_history.specs.JobKinds.{Walks}
-use Rattle.cs_words.specs.declared.jobs.IndexJob.{IndexJob}
-use Rattle.cs_words.specs.declared.fault.CindexFault.TheVariants.{NoIndex, BadIndex, Unsorted, TooLarge, BadPath}
-use Rattle.cs_words.specs.declared.jobs.Reply.{Reply}
-use Rattle.cs_words.specs.declared.jobs.Reply.TheVariants.{Done, Refused}
+use Rattle.cs_args.specs.declared.jobs.IndexJob.{IndexJob}
+use Rattle.cs_args.specs.declared.fault.CindexFault.TheVariants.{NoIndex, BadIndex, Unsorted, TooLarge, BadPath}
+use Rattle.cs_args.specs.declared.jobs.Reply.{Reply}
+use Rattle.cs_args.specs.declared.jobs.Reply.TheVariants.{Done, Refused}
 
--- ---- the causes
+-- ---- causes
 
--- `-list`, and a job that has no path and is no reset, go by the index
+-- the job reads the paths of the index: `-list`, or no path and no `-reset`
 abbrev pub NeedsIndex : IndexJob → Type 0
 NeedsIndex job = (job.list ≡ true) ⊎ ((job.reset ≡ false) × (has_no_path job ≡ true))
 
--- the place of the first text that cleaning refuses
+-- the index of the first path that cannot be cleaned
 abbrev pub first_bad : List ℕ → List (List ℕ) → Option ℕ
 first_bad folder given_texts = position (λ text. is_some (clean_fault folder text)) given_texts
 
--- the path at the place is the first one that cleaning refuses; `-list` ignores them
-pub record IsFirstBad (job : IndexJob) (place : ℕ) : Type 0 where
+-- this path is the first that cannot be cleaned; `-list` ignores its paths
+pub record IsFirstBad (job : IndexJob) (path_index : ℕ) : Type 0 where
   pub unlisted : job.list ≡ false
-  pub first : first_bad (string_bytes job.cwd) (given_texts job) ≡ Some place
+  pub first : first_bad (string_bytes job.cwd) (given_texts job) ≡ Some path_index
 
--- the index of what the job finds, alone
+-- the index of what the job finds
 abbrev pub own_index : History → IndexJob → Snapshot → List ℕ
 own_index before job tree =
-    visit_index (visit_of job tree) (if job.reset then nothing else before)
+    update_index (update_of job tree) (if job.reset then nothing else before)
 
--- 32 bits do not count the bytes of an index
+-- the index has 2^32 bytes or more
 abbrev pub IsLong : Option (List ℕ) → Type 0
 IsLong None = ⊥
 IsLong (Some bytes) = 2 ^ 32 ≤ length bytes
 
--- the job walks, and 32 bits do not count the bytes of its own index, or of the one after it
+-- the job walks, and its own index or the index after it has 2^32 bytes or more
 pub record IsTooLarge (before : History) (job : IndexJob) (tree : Snapshot) : Type 0 where
   pub walks : Walks job
   pub long : IsLong (Some (own_index before job tree)) ⊎ IsLong (index_of (after_done before job tree))
 
 -- ---- replies
 
--- Each refusal has its cause, and no job is done that is too large. A history's index is never bad, and
--- holds no name twice.
+-- Each error has its cause, and a job that is too large does not succeed. The index of a history is never bad, and
+-- no name occurs twice in it.
 pub record IsRightReply (before : History) (job : IndexJob) (tree : Snapshot) (reply : Reply) : Type 0 where
   pub no_index : (reply ≡ Refused NoIndex) ↔ ((before ≡ nothing) × NeedsIndex job)
-  pub bad_path : (place : ℕ) → reply ≡ Refused (BadPath place) → IsFirstBad job place
+  pub bad_path : (path_index : ℕ) → reply ≡ Refused (BadPath path_index) → IsFirstBad job path_index
   pub too_large : reply ≡ Refused TooLarge → IsTooLarge before job tree
   pub fits : reply ≡ Done → IsTooLarge before job tree → ⊥
   pub bad_index : (fault : IndexFault) → reply ≢ Refused (BadIndex fault)

@@ -1,21 +1,21 @@
 -- Worked examples of the definitions.
 use Rattle.std.specs.Prelude.{◌≡◌, true, false, Some, refl, List, [], ◌∷◌, ◌++◌, codes, length, flat_map}
 use Rattle.cs_index.specs.PostingLists.{read_list}
-use Rattle.cs_index.specs.Image.{Entry, deltas_from, ids_from, image_of, posting_list, varint}
+use Rattle.cs_index.specs.Encoding.{Entry, deltas_from, ids_from, encoding_of, posting_list_bytes, varint}
 use Rattle.cs_index.specs.OpenedParts.{whole_ids}
 use Rattle.cs_index.specs.Built.{are_paths, is_above, is_storable}
 use Rattle.cs_tree.specs.Cover.{is_alone}
-use Rattle.cs_index.specs.Segments.{ids_of_segments, keys_in, lists_from}
-use Rattle.cs_index.specs.Keys.{keys_of, with_keys}
-use Rattle.cs_index.specs.Laid.{Laid, entries_laid, last_ids, with_last_id, with_list}
+use Rattle.cs_index.specs.Segments.{ids_of_segments, post_in, lists_from}
+use Rattle.cs_index.specs.PackedPostings.{post_of, with_post}
+use Rattle.cs_index.specs.Written.{Written, entries_written, last_ids, with_last_id, with_list}
 
 -- an empty folder at `/a`
-empty_folder : length (image_of (codes "/a" ∷ []) []) ≡ 65
+empty_folder : length (encoding_of (codes "/a" ∷ []) []) ≡ 65
 unfolding varint
 empty_folder = refl
 
 -- the file `/a/x` with `abcd` and a newline
-one_file : image_of (codes "/a" ∷ []) ((codes "/a/x", 0x616263 ∷ 0x626364 ∷ 0x63640a ∷ []) ∷ []) ≡
+one_file : encoding_of (codes "/a" ∷ []) ((codes "/a/x", 0x616263 ∷ 0x626364 ∷ 0x63640a ∷ []) ∷ []) ≡
     codes "csearch index 1" ++ 10 ∷ []
     ++ 0x2f ∷ 0x61 ∷ 0x00 ∷ 0x00
     ∷ 0x2f ∷ 0x61 ∷ 0x2f ∷ 0x78 ∷ 0x00 ∷ 0x00
@@ -29,13 +29,13 @@ one_file : image_of (codes "/a" ∷ []) ((codes "/a/x", 0x616263 ∷ 0x626364 �
 unfolding varint
 one_file = refl
 
--- nine names, of which those with the ids 1, 6, 7 and 8 have `abc`
+-- nine names; those with the ids 1, 6, 7 and 8 have `abc`
 with_abc : List Entry
 with_abc =
     (codes "/t/0", []) ∷ (codes "/t/1", 0x616263 ∷ []) ∷ (codes "/t/2", []) ∷ (codes "/t/3", []) ∷ (codes "/t/4", [])
     ∷ (codes "/t/5", []) ∷ (codes "/t/6", 0x616263 ∷ []) ∷ (codes "/t/7", 0x616263 ∷ []) ∷ (codes "/t/8", 0x616263 ∷ []) ∷ []
 
-nine_names : posting_list (0x616263, ids_from 0 0x616263 with_abc) ≡ 0x61 ∷ 0x62 ∷ 0x63 ∷ 0x02 ∷ 0x05 ∷ 0x01 ∷ 0x01 ∷ 0x00 ∷ []
+nine_names : posting_list_bytes (0x616263, ids_from 0 0x616263 with_abc) ≡ 0x61 ∷ 0x62 ∷ 0x63 ∷ 0x02 ∷ 0x05 ∷ 0x01 ∷ 0x01 ∷ 0x00 ∷ []
 unfolding varint with_abc
 nine_names = refl
 
@@ -44,17 +44,17 @@ two_bytes : flat_map varint (deltas_from 0 (127 ∷ 255 ∷ [])) ++ 0 ∷ [] ≡
 unfolding varint
 two_bytes = refl
 
--- two names of two trigrams each, below `/a/b` and `/a/bc`
-two_names : length (image_of (codes "/a/b" ∷ codes "/a/bc" ∷ []) ((codes "/a/b/f", 0x69780a ∷ 0x736978 ∷ []) ∷ (codes "/a/bc/y", 0x74776f ∷ 0x776f0a ∷ []) ∷ [])) ≡ 160
+-- two names with two trigrams each, below `/a/b` and `/a/bc`
+two_names : length (encoding_of (codes "/a/b" ∷ codes "/a/bc" ∷ []) ((codes "/a/b/f", 0x69780a ∷ 0x736978 ∷ []) ∷ (codes "/a/bc/y", 0x74776f ∷ 0x776f0a ∷ []) ∷ [])) ≡ 160
 unfolding varint
 two_names = refl
 
--- three files of fewer than three bytes
-short_files : length (image_of (codes "/t" ∷ []) ((codes "/t/e", []) ∷ (codes "/t/f", []) ∷ (codes "/t/g", []) ∷ [])) ≡ 92
+-- three files shorter than three bytes
+short_files : length (encoding_of (codes "/t" ∷ []) ((codes "/t/e", []) ∷ (codes "/t/f", []) ∷ (codes "/t/g", []) ∷ [])) ≡ 92
 unfolding varint
 short_files = refl
 
--- the one id 0: the list has it where the entry says one id, and none where it says two
+-- a list with only the id 0 is whole if its entry counts one id, and damaged if it counts two
 whole_list : whole_ids (read_list (codes "abc" ++ 1 ∷ 0 ∷ []) 1 (record { trigram = 0x616263; count = 1; offset = 0 })) ≡ 0 ∷ []
 whole_list = refl
 
@@ -64,7 +64,7 @@ damaged_list = refl
 no_list : whole_ids (read_list (codes "abc" ++ 1 ∷ 0 ∷ []) 1 (record { trigram = 0x616263; count = 2; offset = 0 })) ≡ []
 no_list = refl
 
--- what a builder takes
+-- what a builder accepts
 covered_path : are_paths (codes "/a" ∷ codes "/a/b" ∷ []) ≡ false
 covered_path = refl
 
@@ -83,46 +83,46 @@ equal_name = refl
 later_name : is_above (codes "/b" ∷ []) (codes "/c") ≡ true
 later_name = refl
 
--- three names, a list of the first and the third, and a list that was begun and given no id
-three_laid : Laid
-three_laid = with_list (record {
+-- three names, a list of the first and the third, and a list that was begun but has no id
+three_written : Written
+three_written = with_list (record {
   paths = codes "/t" ∷ [];
   names = codes "/t/0" ∷ codes "/t/1" ∷ codes "/t/2" ∷ [];
   lists = (0x616263, 0 ∷ 2 ∷ []) ∷ [];
   last_trigram = Some 0x616263;
 }) 0x616264
 
-no_trace : entries_laid three_laid ≡
+no_trace : entries_written three_written ≡
     (codes "/t/0", 0x616263 ∷ []) ∷ (codes "/t/1", []) ∷ (codes "/t/2", 0x616263 ∷ []) ∷ []
-unfolding three_laid
+unfolding three_written
 no_trace = refl
 
-no_ids : last_ids three_laid ≡ []
-unfolding three_laid
+no_ids : last_ids three_written ≡ []
+unfolding three_written
 no_ids = refl
 
-one_id : (with_last_id three_laid 1).lists ≡ (0x616263, 0 ∷ 2 ∷ []) ∷ (0x616264, 1 ∷ []) ∷ []
-unfolding three_laid
+one_id : (with_last_id three_written 1).lists ≡ (0x616263, 0 ∷ 2 ∷ []) ∷ (0x616264, 1 ∷ []) ∷ []
+unfolding three_written
 one_id = refl
 
--- another path stands between `/a` and what it covers
+-- another path is between `/a` and a path that it covers
 covered_apart : is_alone (codes "/a" ∷ codes "/a-b" ∷ codes "/a/b" ∷ []) (codes "/a/b") ≡ false
 covered_apart = refl
 
--- the keys of a file at the place 3 of its batch
-keys_of_two : keys_of 3 (7 ∷ 9 ∷ []) ≡ 1795 ∷ 2307 ∷ []
-keys_of_two = refl
+-- the packed postings of the file at position 3 of its batch
+post_of_two : post_of 3 (7 ∷ 9 ∷ []) ≡ 1795 ∷ 2307 ∷ []
+post_of_two = refl
 
--- the batch begins with the id 5, so that the files at the places 0 and 3 have the ids 5 and 8
-keys_given : with_keys 5 [] (1792 ∷ 1795 ∷ 2307 ∷ []) ≡ (7, 5 ∷ 8 ∷ []) ∷ (9, 8 ∷ []) ∷ []
-keys_given = refl
+-- the batch begins with the id 5, so that the files at positions 0 and 3 have the ids 5 and 8
+post_given : with_post 5 [] (1792 ∷ 1795 ∷ 2307 ∷ []) ≡ (7, 5 ∷ 8 ∷ []) ∷ (9, 8 ∷ []) ∷ []
+post_given = refl
 
--- two runs of keys: of the trigram 7 those at the places 0 and 3, of 9 that at the place 3
-keys_packed : keys_in (1794 ∷ 2305 ∷ []) (0 ∷ 3 ∷ 3 ∷ []) ≡ 1792 ∷ 1795 ∷ 2307 ∷ []
-keys_packed = refl
+-- the trigram 7 with positions 0 and 3, and the trigram 9 with position 3
+post_compressed : post_in (1794 ∷ 2305 ∷ []) (0 ∷ 3 ∷ 3 ∷ []) ≡ 1792 ∷ 1795 ∷ 2307 ∷ []
+post_compressed = refl
 
--- where a batch begins with the id 5, and the next with 9
-ids_of_two : ids_of_segments (record { base = 5; keys = 1792 ∷ 1795 ∷ 2307 ∷ [] } ∷ record { base = 9; keys = 1793 ∷ [] } ∷ []) 7 ≡ 5 ∷ 8 ∷ 10 ∷ []
+-- a batch begins with the id 5, and the next one with 9
+ids_of_two : ids_of_segments (record { base = 5; post = 1792 ∷ 1795 ∷ 2307 ∷ [] } ∷ record { base = 9; post = 1793 ∷ [] } ∷ []) 7 ≡ 5 ∷ 8 ∷ 10 ∷ []
 ids_of_two = refl
 
 lists_in_row : lists_from 6 ([] ∷ (5 ∷ 8 ∷ []) ∷ [] ∷ (8 ∷ []) ∷ []) ≡ (7, 5 ∷ 8 ∷ []) ∷ (9, 8 ∷ []) ∷ []

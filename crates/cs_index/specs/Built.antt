@@ -1,4 +1,4 @@
--- What a builder holds, and what it refuses.
+-- The model of a `Builder`, and the errors of `add`.
 -- docs/FORMAT.md, "The index as it is written".
 use Rattle.std.specs.Prelude.{◌≡◌, ℕ, ◌-◌, ◌≤◌, Bool, true, false, not, ◌&&◌, nat_eq, nat_lt, List, [], ◌∷◌, ◌++◌, length, slice_get}
 use Rattle.cs_tree.specs.PathSet.{Paths}
@@ -11,7 +11,7 @@ use Rattle.std.specs.Ordering.{is_lt}
 use Rattle.std.specs.FinMap as map'
 use Rattle.cs_tree.specs.PathSet as set'
 use Rattle.cs_tree.specs.Cover.{covers}
-use Rattle.cs_index.specs.Image.{Entry, Files, names_of, IsString}
+use Rattle.cs_index.specs.Encoding.{Entry, Files, names_of, IsString}
 
 -- The paths, and the names that were added, each with its trigrams.
 pub record Built : Type 0 where
@@ -22,15 +22,15 @@ pub record Built : Type 0 where
 abbrev pub with_entry : Built → List ℕ → List ℕ → Built
 with_entry built name trigrams = record { paths = built.paths; entries = built.entries ++ (name, trigrams) ∷ [] }
 
--- the text is not empty and has no NUL
+-- the text is not empty and contains no NUL
 abbrev pub is_storable : List ℕ → Bool
 is_storable text = not (nat_eq (length text) 0) && list_all (λ b. nat_lt 0 b) text
 
--- the text is above the last one, if there is one
+-- the text is greater than the last one, if there is one
 abbrev pub is_above : List (List ℕ) → List ℕ → Bool
 is_above texts text = option_map_or (λ last. is_lt (bytes_cmp last text)) (slice_get texts (length texts - 1)) true
 
--- the path is below the other and does not cover it; then neither does the other cover the path
+-- the path is less than the other and does not cover it; then the other does not cover it either
 abbrev pub is_before : List ℕ → List ℕ → Bool
 is_before path other = is_lt (bytes_cmp path other) && not (covers path other)
 
@@ -39,19 +39,19 @@ abbrev pub are_reduced : List (List ℕ) → Bool
 are_reduced [] = true
 are_reduced (path ∷ paths) = list_all (is_before path) paths && are_reduced paths
 
--- so many names a builder takes at most
-abbrev pub most_names : ℕ
-most_names = 1073741824
+-- the maximum number of names of a builder
+abbrev pub max_names : ℕ
+max_names = 1073741824
 
--- the name may stand in an index, and is not above the last one
+-- the name is valid, but not greater than the last one
 abbrev pub IsOutOfOrder : Built → List ℕ → Type 0
 IsOutOfOrder built name = (is_storable name ≡ true) × (is_above (names_of built.entries) name ≡ false)
 
--- the name could come next, and there are as many names as there may be
-abbrev pub IsOneTooMany : ℕ → Built → List ℕ → Type 0
-IsOneTooMany most built name = (is_storable name ≡ true) × (is_above (names_of built.entries) name ≡ true) × (most ≤ length built.entries)
+-- the name is valid and greater than the last one, but the builder is full
+abbrev pub IsFull : ℕ → Built → List ℕ → Type 0
+IsFull limit built name = (is_storable name ≡ true) × (is_above (names_of built.entries) name ≡ true) × (limit ≤ length built.entries)
 
--- paths that an index may be built of
+-- paths that an index can have
 abbrev pub are_paths : List (List ℕ) → Bool
 are_paths paths = list_all is_storable paths && are_reduced paths
 
@@ -62,11 +62,11 @@ path_set built = set'.from_list built.paths
 abbrev pub file_map : Built → Files
 file_map built = map'.from_entries built.entries
 
--- What is true of whatever a builder holds.
+-- The invariant of the model.
 pub record IsBuilt (built : Built) : Type 0 where
   pub paths : are_paths built.paths ≡ true
   pub each_path : AllByRecursion IsString built.paths
   pub each_name : AllByRecursion IsString (names_of built.entries)
   pub ascend : are_ascending (names_of built.entries) ≡ true
   pub sets : AllByRecursion (λ ((name, trigrams) : Entry). IsTrigramSet trigrams) built.entries
-  pub bound : length built.entries ≤ most_names
+  pub bound : length built.entries ≤ max_names

@@ -1,81 +1,82 @@
--- Segments: the keys of batches, put in order and kept in a byte each.
+-- Segments: the sorted packed postings of batches, compressed to one byte each.
 use Rattle.std.specs.Prelude.{◌≡◌, ℕ, ◌+◌, ◌-◌, ◌*◌, ◌%◌, ◌<◌, ◌≤◌, nat_eq, List, [], ◌∷◌, ◌++◌, length, take, drop, filter, flat_map}
 use Rattle.std.specs.List.{AllByRecursion}
 use Rattle.cs_trigram.specs.Trigram.{Ascends, closing_trigram}
-use Rattle.cs_index.specs.Image.{Posting}
-use Rattle.cs_index.specs.Keys.{ids_of_keys, trigram_of, with_keys, AreOfTrigram}
+use Rattle.cs_index.specs.Encoding.{PostingList}
+use Rattle.cs_index.specs.PackedPostings.{ids_of_post, trigram_of, with_post, AreOfTrigram}
 
--- the numbers that rise from one on by some gaps
+-- the partial sums of deltas, starting from `from`
 abbrev pub sums_from : ℕ → List ℕ → List ℕ
 sums_from from [] = []
-sums_from from (gap ∷ gaps) = (from + gap) ∷ sums_from (from + gap) gaps
+sums_from from (delta_byte ∷ delta_bytes) = (from + delta_byte) ∷ sums_from (from + delta_byte) delta_bytes
 
--- the gaps by which numbers rise from one on
-abbrev pub gaps_of : ℕ → List ℕ → List ℕ
-gaps_of from [] = []
-gaps_of from (n ∷ ns) = (n - from) ∷ gaps_of n ns
+-- the deltas of ascending numbers, the first relative to `from`
+abbrev pub delta_bytes_of : ℕ → List ℕ → List ℕ
+delta_bytes_of from [] = []
+delta_bytes_of from (n ∷ ns) = (n - from) ∷ delta_bytes_of n ns
 
--- the keys of one trigram that gaps stand for
-abbrev pub run_in : ℕ → List ℕ → List ℕ
-run_in trigram gaps = sums_from (trigram * 256) gaps
+-- the packed postings of one trigram that deltas encode
+abbrev pub chunk_in : ℕ → List ℕ → List ℕ
+chunk_in trigram delta_bytes = sums_from (trigram * 256) delta_bytes
 
--- the keys that heads and gaps stand for: a head is a trigram, and below it how many gaps it has
-abbrev pub keys_in : List ℕ → List ℕ → List ℕ
-keys_in [] gaps = []
-keys_in (head ∷ heads) gaps = run_in (trigram_of head) (take (head % 256) gaps) ++ keys_in heads (drop (head % 256) gaps)
+-- the packed postings that headers and deltas encode; a header is a trigram times 256 plus its number of
+-- deltas
+abbrev pub post_in : List ℕ → List ℕ → List ℕ
+post_in [] delta_bytes = []
+post_in (header ∷ headers) delta_bytes = chunk_in (trigram_of header) (take (header % 256) delta_bytes) ++ post_in headers (drop (header % 256) delta_bytes)
 
--- each head has gaps, those of a run of its trigram, and they are all gaps
-abbrev pub AreHeads : List ℕ → List ℕ → Type 0
-AreHeads [] gaps = gaps ≡ []
-AreHeads (head ∷ heads) gaps =
-    (0 < head % 256) × (head % 256 ≤ length gaps)
-    × AreOfTrigram (trigram_of head) (run_in (trigram_of head) (take (head % 256) gaps))
-    × AreHeads heads (drop (head % 256) gaps)
+-- each header has at least one delta, its postings have its trigram, and all deltas belong to a header
+abbrev pub AreHeaders : List ℕ → List ℕ → Type 0
+AreHeaders [] delta_bytes = delta_bytes ≡ []
+AreHeaders (header ∷ headers) delta_bytes =
+    (0 < header % 256) × (header % 256 ≤ length delta_bytes)
+    × AreOfTrigram (trigram_of header) (chunk_in (trigram_of header) (take (header % 256) delta_bytes))
+    × AreHeaders headers (drop (header % 256) delta_bytes)
 
--- keys in order, each of a trigram that a file may have
-pub record AreSortedKeys (keys : List ℕ) : Type 0 where
-  pub ascend : Ascends keys
-  pub below : AllByRecursion (λ key. trigram_of key < closing_trigram) keys
+-- The packed postings are sorted, and their trigrams are less than `ff ff ff`.
+pub record IsSortedPost (post : List ℕ) : Type 0 where
+  pub ascend : Ascends post
+  pub below : AllByRecursion (λ posting. trigram_of posting < closing_trigram) post
 
--- Heads and gaps of keys in order; a gap is one byte, also as a varint.
-pub record ArePacked (heads gaps : List ℕ) : Type 0 where
-  pub heads_are : AreHeads heads gaps
-  pub short : AllByRecursion (λ gap. gap < 128) gaps
-  pub order : AreSortedKeys (keys_in heads gaps)
+-- Headers and deltas of sorted packed postings. A delta is less than 128, so that it is its own varint.
+pub record AreCompressed (headers delta_bytes : List ℕ) : Type 0 where
+  pub headers_are : AreHeaders headers delta_bytes
+  pub short : AllByRecursion (λ delta_byte. delta_byte < 128) delta_bytes
+  pub order : IsSortedPost (post_in headers delta_bytes)
 
--- The keys of a segment, and the id of the first file of its batch.
-pub record SegmentKeys : Type 0 where
+-- The packed postings of a segment, and the first id of its batch.
+pub record SegmentPost : Type 0 where
   pub base : ℕ
-  pub keys : List ℕ
+  pub post : List ℕ
 
--- the lists after some segments gave their keys
-abbrev pub with_segments : List Posting → List SegmentKeys → List Posting
+-- the posting lists with the postings of the segments appended
+abbrev pub with_segments : List PostingList → List SegmentPost → List PostingList
 with_segments lists [] = lists
-with_segments lists (s ∷ ss) = with_segments (with_keys s.base lists s.keys) ss
+with_segments lists (s ∷ ss) = with_segments (with_post s.base lists s.post) ss
 
--- the ids that a segment gives a trigram
-abbrev pub ids_of_segment : SegmentKeys → ℕ → List ℕ
-ids_of_segment s g = ids_of_keys s.base (filter (λ key. nat_eq (trigram_of key) g) s.keys)
+-- the ids that a segment has for a trigram
+abbrev pub ids_of_segment : SegmentPost → ℕ → List ℕ
+ids_of_segment s g = ids_of_post s.base (filter (λ posting. nat_eq (trigram_of posting) g) s.post)
 
--- the ids that segments give it, one after the other
-abbrev pub ids_of_segments : List SegmentKeys → ℕ → List ℕ
-ids_of_segments segments g = flat_map (λ (s : SegmentKeys). ids_of_segment s g) segments
+-- the ids that all segments have for it
+abbrev pub ids_of_segments : List SegmentPost → ℕ → List ℕ
+ids_of_segments segments g = flat_map (λ (s : SegmentPost). ids_of_segment s g) segments
 
--- the first key is one of the trigram
+-- the first posting has this trigram
 abbrev pub BeginsWith : ℕ → List ℕ → Type 0
 BeginsWith g [] = ⊥
-BeginsWith g (key ∷ keys) = trigram_of key ≡ g
+BeginsWith g (posting ∷ post) = trigram_of posting ≡ g
 
--- no key has a trigram that begins with two bytes below these
+-- the high two bytes of all trigrams are at least this number
 abbrev pub AreAhead : ℕ → List ℕ → Type 0
-AreAhead front keys = AllByRecursion (λ key. front * 256 ≤ trigram_of key) keys
+AreAhead high post = AllByRecursion (λ posting. high * 256 ≤ trigram_of posting) post
 
--- the ids of a trigram, if there are some
-abbrev pub list_of : ℕ → List ℕ → List Posting
+-- the posting list of a trigram, if it has ids
+abbrev pub list_of : ℕ → List ℕ → List PostingList
 list_of g [] = []
 list_of g (id ∷ ids) = (g, id ∷ ids) ∷ []
 
--- the lists of the trigrams from one on, one after the other
-abbrev pub lists_from : ℕ → List (List ℕ) → List Posting
+-- the posting lists of consecutive trigrams, starting from `g`
+abbrev pub lists_from : ℕ → List (List ℕ) → List PostingList
 lists_from g [] = []
 lists_from g (ids ∷ lists) = list_of g ids ++ lists_from (g + 1) lists

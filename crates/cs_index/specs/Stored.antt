@@ -1,13 +1,14 @@
--- An index that lies in a store: what of it is held in memory, and which index that is with the bytes there.
+-- An index in a store: the parts in memory, and the whole index with the bytes of the store.
 -- docs/FORMAT.md, "The index as it is read".
-use Rattle.std.specs.Prelude.{◌≡◌, ◌≤◌, ℕ, ◌+◌, List, length, Result, Ok, Err}
+use Rattle.std.specs.Prelude.{◌≤◌, ℕ, ◌+◌, List, length, Result, Ok, Err}
 use Rattle.cs_tree.specs.Store.{part_of}
 use Rattle.cs_index.specs.declared.fault.IndexFault.{IndexFault}
-use Rattle.cs_index.specs.Image.{ListEntry}
-use Rattle.cs_index.specs.Opening.{opening}
+use Rattle.cs_index.specs.Encoding.{ListEntry}
+use Rattle.cs_index.specs.Decoding.{DecodesAs}
+use Rattle.cs_index.specs.Failing.{Fails}
 use Rattle.cs_index.specs.OpenedParts.{Parts}
 
--- Paths, names and entries; where the section of the lists begins, and how long it is.
+-- Paths, names and entries; the offset and the length of the section of posting lists.
 pub record StoredParts : Type 0 where
   pub paths : List (List ℕ)
   pub names : List (List ℕ)
@@ -15,20 +16,20 @@ pub record StoredParts : Type 0 where
   pub start : ℕ
   pub room : ℕ
 
--- the index that this is part of, where the lists lie in these bytes
+-- the whole index, with the posting lists of these bytes
 abbrev pub whole_of : List ℕ → StoredParts → Parts
-whole_of bytes held = record {
-  paths = held.paths;
-  names = held.names;
-  entries = held.entries;
-  postings = part_of bytes held.start held.room;
+whole_of bytes stored = record {
+  paths = stored.paths;
+  names = stored.names;
+  entries = stored.entries;
+  postings = part_of bytes stored.start stored.room;
 }
 
--- the lists end at this place or before it
-abbrev pub LiesBefore : StoredParts → ℕ → Type 0
-LiesBefore held end = held.start + held.room ≤ end
+-- the posting lists end at or before this offset
+abbrev pub EndsBy : StoredParts → ℕ → Type 0
+EndsBy stored end = stored.start + stored.room ≤ end
 
--- Bytes open as that index, or have that fault.
-abbrev pub OpensAs : List ℕ → Result StoredParts IndexFault → Type 0
-OpensAs bytes (Ok held) = (opening bytes ≡ Ok (whole_of bytes held)) × LiesBefore held (length bytes)
-OpensAs bytes (Err fault) = opening bytes ≡ Err fault
+-- the bytes decode as this index, or lack the part that this error names
+abbrev pub DecodesOrFails : List ℕ → Result StoredParts IndexFault → Type 0
+DecodesOrFails bytes (Ok stored) = DecodesAs bytes (whole_of bytes stored) × EndsBy stored (length bytes)
+DecodesOrFails bytes (Err fault) = Fails bytes fault

@@ -1,8 +1,8 @@
--- Strings in a row, each with its NUL.
+-- NUL-terminated strings in a section.
 use Rattle.std.specs.Prelude.{ℕ, zero, suc, List, [], ◌∷◌}
 use Rattle.std.specs.List.{onto_first}
 
--- the texts that end at the NULs, and the last one where it has none
+-- the NUL-terminated texts, and an unterminated text at the end
 unfoldable pub texts_in : List ℕ → List (List ℕ)
 texts_in [] = []
 texts_in (zero ∷ bytes) = [] ∷ texts_in bytes

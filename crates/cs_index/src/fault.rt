@@ -1,27 +1,27 @@
-// What is refused.
+// The error types of the crate.
 ghost use Rattle.std.specs.Prelude.{◌≡◌};
 ghost use Rattle.cs_index.specs.declared.fault.BuildFault.TheVariants.{Memory};
 
 use std::alloc::{AllocError, AllocFailed};
 use thiserror::Error;
 
-/// Why an index is not built.
+/// Why an index cannot be built.
 #[derive(Clone, Copy, Debug, PartialEq, Eq, Drop, Error)]
 pub enum BuildFault {
-    /// The name is empty or has a NUL, as in `add("", &[])`.
+    /// The name is empty or contains a NUL, as in `add("", &[])`.
     #[error("bad name")]
     BadName,
-    /// The name is not above the last one, as where `/b` is added twice.
+    /// The name is not greater than the last one: for example, `/b` is added twice.
     #[error("name out of order")]
     OutOfOrder,
-    /// A path is empty or has a NUL, the paths do not ascend, or one covers another, as `/a` does
-    /// `/a/b`.
+    /// A path is empty or contains a NUL, the paths are not ascending, or one path covers another:
+    /// `/a` covers `/a/b`.
     #[error("bad paths")]
     BadPaths,
-    /// There are 2^30 names already, or the index would pass 2^32 - 1 bytes.
+    /// There are 2^30 names already, or the index would be longer than 2^32 - 1 bytes.
     #[error("too large")]
     TooLarge,
-    /// A growth was refused.
+    /// An allocation failed.
     #[error("out of memory")]
     Memory,
 }
@@ -34,35 +34,39 @@ impl From<AllocError> for BuildFault {
     }
 }
 
-/// Why bytes do not open as an index, or why a list in them is not read.
+/// Why bytes do not open as an index, or why a posting list cannot be read.
 #[derive(Clone, Copy, Debug, PartialEq, Eq, Drop, Error)]
 pub enum IndexFault {
     /// The first 16 bytes are not `csearch index 1` and a newline.
     #[error("magic")]
     BadMagic,
-    /// There are fewer than 52 bytes or more than 2^32 - 1, or the last 16 are not those of the
-    /// trailer.
+    /// The length is less than 52 bytes or more than 2^32 - 1, or the last 16 bytes are not the
+    /// trailer's magic.
     #[error("trailer")]
     BadTrailer,
-    /// The sections do not begin at 16, one after the other, before the trailer.
+    /// The section offsets are not ascending, from 16 to the start of the trailer.
     #[error("offsets")]
     BadOffsets,
-    /// The paths are not strings that are not empty, each ended by a NUL, and one NUL more.
+    /// The section of paths is not a sequence of nonempty UTF-8 strings, each followed by a NUL,
+    /// and a final NUL.
     #[error("paths")]
     BadPaths,
-    /// The names are not strings that are not empty, each ended by a NUL, and at most one NUL more.
+    /// The section of names is not a sequence of nonempty UTF-8 strings, each followed by a NUL,
+    /// and at most one final NUL.
     #[error("names")]
     BadNames,
-    /// The name index does not have the offset of each name and one number more.
+    /// The name index is not the offset of each name and one more number.
     #[error("name index")]
     BadNameIndex,
-    /// The list index is not entries of ascending trigrams, each with room for its list.
+    /// The list index is not a sequence of entries with ascending trigrams whose offsets lie in the
+    /// section of posting lists.
     #[error("list index")]
     BadListIndex,
-    /// At an entry's offset there is no list of its trigram, of as many ids of names as it says.
+    /// A posting list is damaged: the bytes at its offset are not its trigram, as many ascending
+    /// ids of names as its entry counts, and a zero.
     #[error("list")]
     BadList,
-    /// A growth was refused.
+    /// An allocation failed.
     #[error("out of memory")]
     Memory,
 }

@@ -1,10 +1,10 @@
-// The bytes that frame every index.
+// The magic numbers of the index file.
 
-/// What an index begins with.
+/// The first 16 bytes of an index.
 pub(crate) const MAGIC: &[u8; 16] = b"csearch index 1\n";
 
-/// What an index ends with.
+/// The last 16 bytes of an index.
 pub(crate) const TRAILER_MAGIC: &[u8; 16] = b"\ncsearch trailr\n";
 
-/// Where five sections begin, four bytes each, and the magic.
+/// The length of the trailer: five section offsets of four bytes each, and the magic.
 pub(crate) const TRAILER_LEN: usize = 36;

@@ -1,23 +1,23 @@
-// The reader: an index is opened and asked where its bytes lie.
+// The reader (Go: index/read.go): opens an index and answers queries without copying its bytes.
 
 mod bytes;
 mod candidates;
 mod copying;
-mod cutting;
 mod entries;
 mod id_marks;
 mod index;
 mod intersection;
 mod order;
+mod partial_index;
 mod postings;
 mod query_trigrams;
-mod restriction;
-mod starts;
+mod section_offsets;
+mod section_slices;
 mod stored;
 mod texts;
 
 pub use index::Index;
+pub use partial_index::PartialIndex;
 pub use postings::Postings;
-pub use restriction::Restriction;
 pub use stored::StoredIndex;
 pub use texts::Texts;

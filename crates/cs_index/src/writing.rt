@@ -1,10 +1,11 @@
-// The writer: a builder takes paths, and names with their trigrams, and lays out the index.
+// The writer (Go: index/write.go): collects paths, and names with their trigrams, and encodes them
+// as an index.
 
 mod batch;
 mod builder;
-mod keys;
-mod laying;
 mod numbers;
+mod output;
+mod packed_postings;
 mod sections;
 mod segment;
 mod segments;
@@ -14,5 +15,5 @@ mod strings;
 mod varint;
 
 pub use builder::Builder;
-pub(crate) use numbers::lay_entry;
+pub(crate) use numbers::write_entry;
 pub use sections::Sections;

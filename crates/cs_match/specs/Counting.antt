@@ -1,48 +1,48 @@
--- Counting runs over a table of cells: as other runs (`Chains`), but a line in which something is found is
--- counted at its newline, and the run goes on at the start of the next.
+-- The counting scan. It is like the scan of `specs/Scan.antt`, except that a matching line is counted at its
+-- newline, and the scan continues in the start state.
 use Rattle.std.specs.Prelude.{ℕ, ◌≡◌, ◌+◌, ◌-◌, ◌<◌, ◌≤◌, ◌⊎◌, Bool, true, ◌&&◌, List, [], ◌∷◌, ◌++◌, nat_eq, if◌then◌else◌, slice_range, count_by, slice_index, bit_or}
 use Rattle.cs_tree.specs.ByteList.{AreBytes}
 use Rattle.cs_match.specs.declared.counting.Count.{Count}
-use Rattle.cs_match.specs.Lines.{newline, ended_lines}
-use Rattle.cs_match.specs.LineParts.{IsPart}
-use Rattle.cs_match.specs.Passed.{AreLinesBetween}
-use Rattle.cs_match.specs.Chains.{row_after, found_row, unknown_row, first_noisy, ShowsLines}
+use Rattle.cs_match.specs.Lines.{newline, terminated_lines}
+use Rattle.cs_match.specs.NoNewline.{HasNoNewline}
+use Rattle.cs_match.specs.Skipped.{AreLinesBetween}
+use Rattle.cs_match.specs.Scan.{state_after, match_state, unknown_state, first_special, RulesOutLines}
 
--- at the start of a line
+-- the count before the first line, in the start state
 abbrev pub nothing_counted : Count
-nothing_counted = record { row = 0; hits = 0 }
+nothing_counted = record { state = 0; matching_lines = 0 }
 
--- in this row behind the byte b, where so many lines are counted before
-abbrev pub count_in_row : ℕ → ℕ → ℕ → Count
-count_in_row row b hits =
-    if nat_eq b newline && nat_eq row found_row then record { row = 0; hits = hits + 1 }
-    else record { row = row; hits = hits }
+-- the count in a state after the byte b
+abbrev pub count_in_state : ℕ → ℕ → ℕ → Count
+count_in_state state b matching_lines =
+    if nat_eq b newline && nat_eq state match_state then record { state = 0; matching_lines = matching_lines + 1 }
+    else record { state = state; matching_lines = matching_lines }
 
--- one byte more
-abbrev pub count_onward : List ℕ → Count → ℕ → Count
-count_onward cells from b = count_in_row (slice_index cells (bit_or from.row b)) b from.hits
+-- a step over the byte b
+abbrev pub count_step : List ℕ → Count → ℕ → Count
+count_step transitions from b = count_in_state (slice_index transitions (bit_or from.state b)) b from.matching_lines
 
--- what a counting run over the text comes to
-unfoldable pub count_through : List ℕ → Count → List ℕ → Count
-count_through cells from [] = from
-count_through cells from (b ∷ text) = count_through cells (count_onward cells from b) text
+-- the count after the text
+unfoldable pub count_scan : List ℕ → Count → List ℕ → Count
+count_scan transitions from [] = from
+count_scan transitions from (b ∷ text) = count_scan transitions (count_step transitions from b) text
 
--- The cells tell of a line where nothing is found in it, and where something is. Each leads to a set of
--- places or to one of the two rows that are none, and nothing leads out of the row of which nothing is known.
-pub record CountsLines (finds : List ℕ → Bool) (cells : List ℕ) : Type 0 where
-  pub shows : ShowsLines finds cells
+-- The transitions decide whether a line matches. Each leads to an ordinary state or to one of the two special
+-- states, and the unknown state is absorbing.
+pub record DecidesLines (has_match : List ℕ → Bool) (transitions : List ℕ) : Type 0 where
+  pub shows : RulesOutLines has_match transitions
   pub kinds : (at : ℕ) → at < 65536 →
-      (slice_index cells at < first_noisy)
-      ⊎ (slice_index cells at ≡ found_row)
-      ⊎ (slice_index cells at ≡ unknown_row)
-  pub stays : (at : ℕ) → unknown_row ≤ at → at < 65536 → slice_index cells at ≡ unknown_row
-  pub found : (line : List ℕ) → AreBytes line → IsPart line →
-      row_after cells 0 (line ++ newline ∷ []) ≡ found_row → finds line ≡ true
+      (slice_index transitions at < first_special)
+      ⊎ (slice_index transitions at ≡ match_state)
+      ⊎ (slice_index transitions at ≡ unknown_state)
+  pub stays : (at : ℕ) → unknown_state ≤ at → at < 65536 → slice_index transitions at ≡ unknown_state
+  pub found : (line : List ℕ) → AreBytes line → HasNoNewline line →
+      state_after transitions 0 (line ++ newline ∷ []) ≡ match_state → has_match line ≡ true
 
--- The block's bytes from one place to another are whole lines, and in so many of them a test of the kind
--- finds something.
-pub record CountsHits (IsKind : (List ℕ → Bool) → Type 0) (block : List ℕ) (from to hits : ℕ) : Type 0 where
+-- The bytes between two offsets of the block are whole lines, and this many of them match by each test that
+-- satisfies `IsKind`.
+pub record CountsMatchingLines (IsKind : (List ℕ → Bool) → Type 0) (block : List ℕ) (from to matching_lines : ℕ) : Type 0 where
   pub lines : AreLinesBetween block from to
-  pub bound : hits ≤ to - from
-  pub count : (finds : List ℕ → Bool) → IsKind finds →
-      hits ≡ count_by finds (ended_lines (slice_range block from to))
+  pub bound : matching_lines ≤ to - from
+  pub count : (has_match : List ℕ → Bool) → IsKind has_match →
+      matching_lines ≡ count_by has_match (terminated_lines (slice_range block from to))

@@ -1,17 +1,16 @@
--- The expansion of a tree: its counted repeats are written out, and each repeat that is left is a loop of at
--- least 0 or at least 1 rounds; and its sets of characters are lowered to sets of bytes.
--- docs/PATTERNS.md, "Matching".
+-- The expansion of a tree: counted repeats are written out as copies, so that each repeat is a loop of at
+-- least 0 or 1 iterations, and character sets are lowered to byte sets. docs/PATTERNS.md, "Matching".
 use Rattle.std.specs.Prelude.{ℕ, zero, suc, ◌-◌, Option, Some, None, nat_le, if◌then◌else◌}
 use Rattle.cs_syntax.specs.Matching.{Tree, Trees, empty, one_of, one_char, cat, alt, rep, line_start, line_end, word_edge, not_word_edge, none, more}
 use Rattle.cs_syntax.specs.TreeList.{append}
 use Rattle.cs_syntax.specs.Lowering.{utf8_tree}
 
--- n copies of t, and then the rest
+-- n copies of t, followed by the rest
 abbrev pub copies : ℕ → Tree → Trees → Trees
 copies zero t rest = rest
 copies (suc n) t rest = more t (copies n t rest)
 
--- the trees, and behind them n copies of t
+-- the trees, followed by n copies of t
 abbrev pub with_copies : Trees → ℕ → Tree → Trees
 with_copies ts n t = append ts (copies n t none)
 
@@ -19,24 +18,23 @@ with_copies ts n t = append ts (copies n t none)
 abbrev pub optional : Tree → Tree
 optional t = alt (more t (more empty none))
 
--- takes no part of any line
+-- matches no span of any line
 abbrev pub never : Tree
 never = alt none
 
--- a loop of any number of rounds; or one copy less than n, and a loop of at least one round;
--- or n copies, and as many more that may be left out
+-- a star; or n - 1 copies and a loop of at least one iteration; or n copies and m - n optional ones
 abbrev pub repeat_expansion : Tree → ℕ → Option ℕ → Tree
 repeat_expansion t zero None = rep t 0 None
 repeat_expansion t (suc n) None = cat (copies n t (more (rep t 1 None) none))
 repeat_expansion t n (Some m) =
     if nat_le n m then cat (copies n t (copies (m - n) (optional t) none)) else never
 
--- the same in all parts
+-- the expansion of each subtree
 abbrev mutual
   pub expansion : Tree → Tree
   expansion empty = empty
   expansion (one_of set) = one_of set
-  expansion (one_char runs) = utf8_tree runs
+  expansion (one_char ranges) = utf8_tree ranges
   expansion (cat ts) = cat (expansions ts)
   expansion (alt ts) = alt (expansions ts)
   expansion (rep x n m) = repeat_expansion (expansion x) n m

@@ -1,9 +1,9 @@
--- What is left of a text after its lines that have ended.
+-- The part of a text after its terminated lines.
 use Rattle.std.specs.Prelude.{ℕ, nat_eq, List, [], ◌∷◌}
 use Rattle.std.specs.List.{after_last}
 use Rattle.cs_match.specs.Lines.{newline}
 
--- what stands after the last newline
+-- the bytes after the last newline
 unfoldable pub last_part : List ℕ → List ℕ
 last_part text = after_last (λ b. nat_eq b newline) text
 

@@ -1,112 +1,136 @@
-// Counting chains: runs over a table of cells, four side by side, that count the lines in which something is found. They
-// know nothing of patterns. `specs/Counting.antt` says what such a run comes to, and what a table has to tell.
+// Counting scan: four interleaved lanes scan the transition table and count matching lines. The scan knows nothing of
+// patterns; `specs/Counting.antt` says what it returns and what the table has to guarantee.
 ghost use Rattle.std.specs.Prelude.{◌≡◌, ◌≤◌, ◌<◌, ◌+◌, ◌-◌, ◌^◌, ℕ, Bool, List, IfSome, length, take, drop};
 ghost use Rattle.cs_match.specs.Skipping.{AreWholeLines};
-ghost use Rattle.cs_match.specs.Counting.{count_onward, count_through, nothing_counted, CountsLines, CountsHits};
+ghost use Rattle.cs_match.specs.Counting.{count_step, count_scan, nothing_counted, DecidesLines, CountsMatchingLines};
 
-use crate::chains::{FIRST_NOISY, FOUND, cut};
+use crate::interleaved_scan::{FIRST_SPECIAL, MATCH, cut};
 
-/// What a counting run has come to: a row, and how many lines are counted.
+/// The state number that a counting scan has reached, and the matching lines so far.
 #[derive(Clone, Copy)]
 pub(crate) struct Count {
-    pub(crate) row: u16,
-    pub(crate) hits: u64,
+    pub(crate) state: u16,
+    pub(crate) matching_lines: u64,
 }
 
-/// One byte more. A line in which something is found is counted at its newline.
+/// Scans a byte. A matching line is counted at its newline.
 #[inline(always)]
-fn step(cells: &[u16], from: Count, byte: u8) -> Count
-    requires full { length cells.now ≡ 65536 }
-    requires room { from.hits + 1 < 2 ^ 64 }
-    ensures { result ≡ count_onward cells.now from byte }
+fn step(transitions: &[u16], from: Count, byte: u8) -> Count
+    requires full { length transitions.now ≡ 65536 }
+    requires room { from.matching_lines + 1 < 2 ^ 64 }
+    ensures { result ≡ count_step transitions.now from byte }
 {
-    let row = cells[(from.row | u16::from(byte)) as usize];
-    if byte == b'\n' && row == FOUND {
+    let state = transitions[(from.state | u16::from(byte)) as usize];
+    if byte == b'\n' && state == MATCH {
         Count {
-            row: 0,
-            hits: from.hits + 1,
+            state: 0,
+            matching_lines: from.matching_lines + 1,
         }
     } else {
         Count {
-            row,
-            hits: from.hits,
+            state,
+            matching_lines: from.matching_lines,
         }
     }
 }
 
-/// What a counting run over the text comes to.
-fn run(cells: &[u16], from: Count, text: &[u8]) -> Count
-    requires full { length cells.now ≡ 65536 }
-    requires room { from.hits + length text.now < 2 ^ 64 }
-    ensures { result ≡ count_through cells.now from text.now }
+/// Scans a text.
+fn scan(transitions: &[u16], from: Count, text: &[u8]) -> Count
+    requires full { length transitions.now ≡ 65536 }
+    requires room { from.matching_lines + length text.now < 2 ^ 64 }
+    ensures { result ≡ count_scan transitions.now from text.now }
 {
     let mut count = from;
     for byte in text {
-        count = step(cells, count, *byte);
+        count = step(transitions, count, *byte);
     }
     count
 }
 
-/// What the counting runs over four texts come to, side by side, each from the start of a line.
-fn four(cells: &[u16], a: &[u8], b: &[u8], c: &[u8], d: &[u8]) -> (Count, Count, Count, Count)
-    requires { length cells.now ≡ 65536 }
-    ensures first { result.0 ≡ count_through cells.now nothing_counted a.now }
-    ensures second { result.1 ≡ count_through cells.now nothing_counted b.now }
-    ensures third { result.2 ≡ count_through cells.now nothing_counted c.now }
-    ensures fourth { result.3 ≡ count_through cells.now nothing_counted d.now }
+/// Scans four texts in interleaved lanes, each from the start state.
+fn four_lanes(
+    transitions: &[u16],
+    a: &[u8],
+    b: &[u8],
+    c: &[u8],
+    d: &[u8],
+) -> (Count, Count, Count, Count)
+    requires { length transitions.now ≡ 65536 }
+    ensures first { result.0 ≡ count_scan transitions.now nothing_counted a.now }
+    ensures second { result.1 ≡ count_scan transitions.now nothing_counted b.now }
+    ensures third { result.2 ≡ count_scan transitions.now nothing_counted c.now }
+    ensures fourth { result.3 ≡ count_scan transitions.now nothing_counted d.now }
 {
     let n = a.len().min(b.len()).min(c.len()).min(d.len());
-    let mut s = Count { row: 0, hits: 0 };
-    let mut t = Count { row: 0, hits: 0 };
-    let mut u = Count { row: 0, hits: 0 };
-    let mut v = Count { row: 0, hits: 0 };
+    let mut s = Count {
+        state: 0,
+        matching_lines: 0,
+    };
+    let mut t = Count {
+        state: 0,
+        matching_lines: 0,
+    };
+    let mut u = Count {
+        state: 0,
+        matching_lines: 0,
+    };
+    let mut v = Count {
+        state: 0,
+        matching_lines: 0,
+    };
     for i in 0..n {
-        s = step(cells, s, a[i]);
-        t = step(cells, t, b[i]);
-        u = step(cells, u, c[i]);
-        v = step(cells, v, d[i]);
+        s = step(transitions, s, a[i]);
+        t = step(transitions, t, b[i]);
+        u = step(transitions, u, c[i]);
+        v = step(transitions, v, d[i]);
     }
-    s = run(cells, s, &a[n..]);
-    t = run(cells, t, &b[n..]);
-    u = run(cells, u, &c[n..]);
-    v = run(cells, v, &d[n..]);
+    s = scan(transitions, s, &a[n..]);
+    t = scan(transitions, t, &b[n..]);
+    u = scan(transitions, u, &c[n..]);
+    v = scan(transitions, v, &d[n..]);
     (s, t, u, v)
 }
 
-/// A group of four parts: where it ends, and in how many of its lines something is found, where its cells are known.
+/// A batch of four chunks: where it ends, and how many of its lines match, if all transitions are known.
 #[derive(Clone, Copy)]
-pub(crate) struct Group {
+pub(crate) struct Batch {
     pub(crate) to: usize,
-    pub(crate) hits: Option<u64>,
+    pub(crate) matching_lines: Option<u64>,
 }
 
-/// Counts lines by the cells that are known.
-pub(crate) fn count_group(cells: &[u16], block: &[u8], from: usize) -> Group
-    requires full { length cells.now ≡ 65536 }
+/// Counts the matching lines of a batch by known transitions.
+pub(crate) fn count_batch(transitions: &[u16], block: &[u8], from: usize) -> Batch
+    requires full { length transitions.now ≡ 65536 }
     requires within { from ≤ length block.now }
     requires whole { AreWholeLines (drop from block.now) }
     ensures high { result.to ≤ length block.now }
     ensures moves { from < length block.now → from < result.to }
-    ensures counted { IfSome result.hits
-        (λ hits. CountsHits (λ finds. CountsLines finds cells.now) block.now from result.to hits) }
+    ensures counted { IfSome result.matching_lines
+        (λ n. CountsMatchingLines (λ has_match. DecidesLines has_match transitions.now)
+        block.now from result.to n) }
 {
     let a = cut(block, from);
     let b = cut(block, a);
     let c = cut(block, b);
     let d = cut(block, c);
-    let (s, t, u, v) = four(
-        cells,
+    let (s, t, u, v) = four_lanes(
+        transitions,
         &block[from..a],
         &block[a..b],
         &block[b..c],
         &block[c..d],
     );
-    let last = s.row.max(t.row).max(u.row).max(v.row);
-    if last >= FIRST_NOISY {
-        return Group { to: d, hits: None };
+    let last = s.state.max(t.state).max(u.state).max(v.state);
+    if last >= FIRST_SPECIAL {
+        return Batch {
+            to: d,
+            matching_lines: None,
+        };
     }
-    Group {
+    Batch {
         to: d,
-        hits: Some(s.hits + t.hits + u.hits + v.hits),
+        matching_lines: Some(
+            s.matching_lines + t.matching_lines + u.matching_lines + v.matching_lines,
+        ),
     }
 }

@@ -1,34 +1,33 @@
-//! Tells whether a pattern takes some part of a line: a pattern is compiled to a program, and a
-//! matcher runs it over one line after another, or passes over many lines at once. What a tree
-//! takes is said in `specs/Matching.antt` of `cs_syntax`. Read `specs/Finding.antt` first, then
-//! `specs/Lines.antt`, which says what the lines of a text are, `specs/Skipping.antt`,
-//! `specs/Automaton.antt`, which says what of a matcher is seen, and `specs/Size.antt`. What goes
-//! on inside is said by `specs/Places.antt`, `specs/Standings.antt`, `specs/Table.antt`,
-//! `specs/Shifts.antt`, `specs/Chains.antt`, `specs/Counting.antt`, `specs/Expansion.antt`,
-//! `specs/Needle.antt` and `specs/NeededWindows.antt`.
+//! Matches lines against a pattern. A `Program` is a compiled pattern, and a `Matcher` runs it by a lazy DFA, line by
+//! line or over many lines at once. What a tree matches is defined in `specs/Matching.antt` of `cs_syntax`. Read
+//! `specs/Deciding.antt` first, then `specs/Lines.antt`, `specs/Skipping.antt`, `specs/Automaton.antt` (what
+//! contracts see of a matcher) and `specs/Size.antt`. The internals are defined in `specs/Glushkov.antt`,
+//! `specs/States.antt`, `specs/LazyDfa.antt`, `specs/FirstMatch.antt`, `specs/BitParallel.antt`, `specs/Scan.antt`,
+//! `specs/Counting.antt`, `specs/Expansion.antt`, `specs/RequiredLiteral.antt` and `specs/RequiredTrigrams.antt`.
 #![tactic(auto)]
 
-mod around;
-mod chains;
-mod choice;
-mod compiler;
+mod backoff;
+mod bit_parallel;
+mod class_runs;
 mod counting;
-mod finding;
+mod dfa;
+mod exact_runs;
+mod expand;
+mod glushkov;
+mod interleaved_scan;
 pub mod laws;
-mod marks;
+mod literal;
+mod look_around;
 mod matcher;
-mod needle;
-mod pause;
-mod phrases;
+mod pacing;
+mod position_set;
 mod program;
 mod rarity;
-mod runs;
-mod shifts;
-mod standing;
-mod table;
-mod trail;
-mod walk;
-mod windows;
+mod sequences;
+mod skipping;
+mod state;
+mod trigram_set;
+mod trigrams;
 
-pub use matcher::Matcher;
+pub use matcher::{Line, Matcher};
 pub use program::Program;

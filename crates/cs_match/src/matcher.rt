@@ -1,72 +1,57 @@
-// Matchers: programs with what their runs remember.
-ghost use Rattle.std.specs.Prelude.{◌≡◌, ◌≤◌, ◌<◌, ◌+◌, ◌-◌, ◌↔◌, ℕ, Bool, List, IsTrue, IfOk, IfSome, length, slice_range, drop, count_by};
+// Matchers: a lazy DFA (RE2) with the prefilters of its program, and the counters that choose between them.
+ghost use Rattle.std.specs.Prelude.{◌≡◌, ◌≤◌, ◌<◌, ◌+◌, ◌-◌, ◌↔◌, ℕ, Bool, List, IsTrue, IfOk, IfSome, MatchOption, length, slice_range, drop, count_by};
 ghost use Rattle.cs_syntax.specs.Matching.{HasMatch};
 ghost use Rattle.cs_match.specs.Automaton.{GrowsOver, most_states};
-ghost use Rattle.cs_match.specs.Finding.{Decides};
-ghost use Rattle.cs_match.specs.Lines.{ended_lines};
-ghost use Rattle.cs_match.specs.Passed.{ArePassed};
-ghost use Rattle.cs_match.specs.Skipping.{AreWholeLines, NoneFound};
-ghost use Rattle.cs_match.specs.Counting.{CountsHits};
+ghost use Rattle.cs_match.specs.Deciding.{Decides};
+ghost use Rattle.cs_match.specs.FirstMatch.{IsFirstMatch, IsSearched};
+ghost use Rattle.cs_match.specs.Lines.{terminated_lines};
+ghost use Rattle.cs_match.specs.Skipped.{AreSkipped};
+ghost use Rattle.cs_match.specs.Skipping.{AreWholeLines, IsLineAfter, NoneMatch};
+ghost use Rattle.cs_match.specs.Counting.{CountsMatchingLines};
 
-use crate::chains::{GROUP, cut, line_end, pass_quiet, pass_run};
-use crate::counting::count_group;
-use crate::finding::{skip_to_needle, skip_to_window};
-use crate::pause::Pause;
+use crate::counting::count_batch;
+use crate::dfa::LazyDfa;
+use crate::interleaved_scan::{cut, line_end, skip_interleaved};
+use crate::pacing::{Method, Pacing};
 use crate::program::Program;
 use crate::rarity::is_worth;
-use crate::table::Table;
-use cs_sieve::Sieve;
+use crate::skipping::{skip_to_candidate, skip_to_literal, whole_lines_len};
+use cs_prefilter::Prefilter;
 use memchr::memmem::Finder;
 use std::alloc::{AllocError, Global};
 use std::marker::Model;
 
-/// Where needles or windows stand in vain closer to one another than so many bytes, the table passes lines faster.
-const NEAR: usize = 256;
-
-/// More of them in a row than these are no chance.
-const MOST_MISSES: usize = 16;
-
-/// Where one run passes so many bytes, six side by side pass lines faster.
-const FAR: usize = 1024;
-
-/// Where hits stand closer to one another than so many bytes, runs side by side count them faster than a search for the
-/// needle or the windows finds each.
-const DENSE: usize = 192;
-
-/// And faster than the table finds each.
-const LESS_DENSE: usize = 2048;
-
-/// A program with what its runs remember. Contracts see it as the program's tree, and how many
-/// states are remembered.
-#[derive(Drop)]
-pub struct Matcher<'a> {
-    pub(crate) table: Table<'a>,
-    finder: Finder<'a>,
-    /// Whether the finder passes lines faster than the table.
-    pub(crate) seeks: bool,
-    /// What else passes lines faster than the table.
-    pub(crate) sieve: Option<&'a Sieve>,
-    /// The calls of `skip` for which six runs side by side are not worth their while.
-    pause: Pause,
-    /// Those of them that pass nothing, as one run is not worth its while either.
-    stop: Pause,
-    /// The calls of `skip` that look for no needle and no windows.
-    rest: Pause,
-    /// Whether the last search for them stopped close to where it began.
-    near: bool,
-    /// How many such searches in a row stopped in vain.
-    misses: usize,
-    /// Whether nothing was found in the line that was asked about last.
-    missed: bool,
-    /// How many hits in a row stood close to the one before.
-    dense: usize,
+/// A line of a block. Its bytes, without the newline, are those from `start` to `end`.
+#[derive(Clone, Copy, Drop)]
+pub struct Line {
+    pub start: usize,
+    pub end: usize,
 }
 
-/// Lines that were counted: up to which place, and in how many of them something is found.
+/// A program with its lazy DFA. Contracts see the program's tree and the number of cached states.
+#[derive(Drop)]
+pub struct Matcher<'a> {
+    pub(crate) dfa: LazyDfa<'a>,
+    finder: Finder<'a>,
+    /// Whether the required literal is rare enough to be searched for.
+    pub(crate) uses_literal: bool,
+    /// The prefilter for the class trigrams of the program, if it has one.
+    pub(crate) prefilter: Option<&'a Prefilter>,
+    pacing: Pacing,
+}
+
+/// The end of some searched lines, and the first of them that matches.
+#[derive(Clone, Copy)]
+pub(crate) struct Searched {
+    to: usize,
+    line: Option<Line>,
+}
+
+/// The end of some counted lines, and how many of them match.
 #[derive(Clone, Copy)]
 pub(crate) struct CountedLines {
     to: usize,
-    hits: u64,
+    matching_lines: u64,
 }
 
 impl<'a> Model for Matcher<'a> {
@@ -77,347 +62,350 @@ impl<'a> Model for Matcher<'a> {
     ghost coded = { automaton_code };
 
     ghost use Rattle.std.specs.Prelude.{IfSome};
-    ghost use Rattle.cs_match.specs.Remembering.{HasNeedle, tree_in};
-    ghost use Rattle.cs_match.specs.NeededWindows.{AreNeeded};
+    ghost use Rattle.cs_match.specs.ConsistentDfa.{RequiresLiteral, tree_in};
+    ghost use Rattle.cs_match.specs.RequiredTrigrams.{AreRequired};
 
-    ghost view = { λ matcher. record { tree = tree_in matcher.table; states = matcher.table.used } };
+    ghost view = { λ matcher. record { tree = tree_in matcher.dfa; states = matcher.dfa.used } };
 
-    ghost invariant = { λ matcher. HasNeedle matcher.table matcher.finder
-        × IfSome matcher.sieve (λ sieve. AreNeeded (tree_in matcher.table) sieve.now) };
+    ghost invariant = { λ matcher. RequiresLiteral matcher.dfa matcher.finder
+        × IfSome matcher.prefilter (λ prefilter. AreRequired (tree_in matcher.dfa) prefilter.now) };
 }
 
 impl<'a> Matcher<'a> {
-    /// A matcher that runs the program. It takes all memory that its runs need.
+    /// A matcher of the program. It allocates all memory that its calls use.
     pub fn new(alloc: Global, program: &'a Program) -> Result<Matcher<'a>, AllocError>
         ensures tree { IfOk result (λ matcher. matcher.tree ≡ program.now) }
         ensures states { IfOk result (λ matcher. matcher.states ≡ 1) }
     {
-        let table = Table::new(alloc, program)?;
-        let needle = program.needle();
-        let sieve = program.sieve();
+        let dfa = LazyDfa::new(alloc, program)?;
+        let literal = program.literal();
+        let prefilter = program.prefilter();
+        let uses_literal = is_worth(literal, prefilter.is_some());
         Ok(Matcher {
-            table,
-            finder: Finder::new(needle),
-            seeks: is_worth(needle, sieve.is_some()),
-            sieve,
-            pause: Pause::new(),
-            stop: Pause::new(),
-            rest: Pause::new(),
-            near: false,
-            misses: 0,
-            missed: false,
-            dense: 0,
+            dfa,
+            finder: Finder::new(literal),
+            uses_literal,
+            prefilter,
+            pacing: Pacing::new(uses_literal || prefilter.is_some()),
         })
     }
 
-    /// How many standings are remembered. One is that of a line's start.
-    pub fn standings(&self) -> usize
+    /// The number of cached states, the start state included.
+    pub fn state_count(&self) -> usize
         ensures exact { result ≡ self.now.states }
         ensures some { 1 ≤ result }
         ensures bound { result ≤ most_states }
     {
-        self.table.used
+        self.dfa.used
     }
 
-    /// Whether the program takes some part of the line, whatever lines were asked before. It takes
-    /// no memory.
+    /// Whether the line has a match, whatever was asked before. It allocates nothing.
     pub fn is_match(&mut self, line: &[u8]) -> bool
         ensures found { IsTrue result ↔ HasMatch self.old.tree line.now }
         ensures same { self.new.tree ≡ self.old.tree }
         ensures states { GrowsOver (length line.now + 1) self.old.states self.new.states }
     {
-        let found = self.table.is_match(line);
-        self.missed = !found;
-        found
+        self.dfa.is_match(line)
     }
 
-    /// A line's start from `from` on, such that nothing is found in the lines before it. The block is whole lines.
-    pub fn skip(&mut self, block: &[u8], from: usize) -> usize
+    /// The first line at or after `from` that has a match. The block is whole lines from there on.
+    pub fn next_match(&mut self, block: &[u8], from: usize) -> Option<Line>
         requires within { from ≤ length block.now }
         requires whole { AreWholeLines (drop from block.now) }
-        ensures low { from ≤ result }
-        ensures high { result ≤ length block.now }
-        ensures whole { AreWholeLines (slice_range block.now from result) }
-        ensures none { (finds : List ℕ → Bool) → Decides finds self.old.tree →
-            NoneFound finds (ended_lines (slice_range block.now from result)) }
+        ensures line { IfSome result (λ line. IsLineAfter block.now from line.start line.end) }
+        ensures found { IfSome result (λ line. HasMatch self.old.tree
+            (slice_range block.now line.start line.end)) }
+        ensures none { (has_match : List ℕ → Bool) → Decides has_match self.old.tree →
+            MatchOption result (NoneMatch has_match (terminated_lines (drop from block.now)))
+            (λ line. NoneMatch has_match
+            (terminated_lines (slice_range block.now from line.start))) }
         ensures same { self.new.tree ≡ self.old.tree }
         ensures states { GrowsOver (length block.now - from) self.old.states self.new.states }
     {
-        if !self.rests() {
-            if let Some(to) = self.seek(block, from) {
-                self.note_sought(to - from);
-                return to;
+        let mut offset = from;
+        'parts: while offset < block.len() {
+            let searched = self.search_part(block, offset);
+            match searched.line {
+                Some(line) => return Some(line),
+                None => offset = searched.to,
             }
         }
-        if self.pauses() {
-            return self.pass_run(block, from);
-        }
-        let mut at = from;
-        'parts: while at < block.len() {
-            let noisy = self.pass_quiet(block, at);
-            let end = cut(block, noisy);
-            let hit = noisy + self.first_hit(&block[noisy..end]);
-            self.note(noisy - at, hit < end);
-            if hit < end {
-                return hit;
-            }
-            at = end;
-        }
-        at
+        None
     }
 
-    /// In how many lines of the block something is found. The block is whole lines.
+    /// The number of matching lines in a block of whole lines.
     pub fn count(&mut self, block: &[u8]) -> u64
         requires whole { AreWholeLines block.now }
-        ensures found { (finds : List ℕ → Bool) → Decides finds self.old.tree →
-            result ≡ count_by finds (ended_lines block.now) }
-        ensures bound { result ≤ length (ended_lines block.now) }
+        ensures found { (has_match : List ℕ → Bool) → Decides has_match self.old.tree →
+            result ≡ count_by has_match (terminated_lines block.now) }
+        ensures bound { result ≤ length (terminated_lines block.now) }
         ensures same { self.new.tree ≡ self.old.tree }
     {
-        let mut at = 0;
-        let mut hits = 0u64;
-        'lines: while at < block.len() {
-            let counted = self.count_some(block, at);
-            at = counted.to;
-            hits += counted.hits;
+        let mut offset = 0;
+        let mut matching_lines = 0u64;
+        'lines: while offset < block.len() {
+            let counted = self.count_some(block, offset);
+            offset = counted.to;
+            matching_lines += counted.matching_lines;
         }
-        hits
+        matching_lines
     }
 
-    /// Counts some lines in the way that is the faster one here.
+    /// Counts some lines by the method that suits the density of matches.
     fn count_some(&mut self, block: &[u8], from: usize) -> CountedLines
         requires within { from < length block.now }
         requires whole { AreWholeLines (drop from block.now) }
-        ensures counted { CountsHits (λ finds. Decides finds self.old.tree)
-            block.now from result.to result.hits }
+        ensures counted { CountsMatchingLines (λ has_match. Decides has_match self.old.tree)
+            block.now from result.to result.matching_lines }
         ensures moves { from < result.to }
         ensures same { self.new.tree ≡ self.old.tree }
     {
-        if self.dense <= MOST_MISSES {
+        if !self.pacing.is_dense() {
             return self.count_next(block, from);
         }
-        let counted = self.count_group(block, from);
-        self.note_group(counted.to - from, counted.hits);
+        let counted = self.count_batch(block, from);
+        self.note_batch(counted.to - from, counted.matching_lines);
         counted
     }
 
-    /// Passes lines in which nothing is found, and tests the one behind them.
+    /// Counts the lines up to the next matching one.
     fn count_next(&mut self, block: &[u8], from: usize) -> CountedLines
         requires within { from < length block.now }
         requires whole { AreWholeLines (drop from block.now) }
-        ensures counted { CountsHits (λ finds. Decides finds self.old.tree)
-            block.now from result.to result.hits }
+        ensures counted { CountsMatchingLines (λ has_match. Decides has_match self.old.tree)
+            block.now from result.to result.matching_lines }
         ensures moves { from < result.to }
         ensures same { self.new.tree ≡ self.old.tree }
     {
-        let at = self.skip(block, from);
-        if at == block.len() {
-            return CountedLines { to: at, hits: 0 };
+        match self.next_match(block, from) {
+            Some(line) => {
+                self.note_match(line.start - from);
+                CountedLines {
+                    to: line.end + 1,
+                    matching_lines: 1,
+                }
+            }
+            None => CountedLines {
+                to: block.len(),
+                matching_lines: 0,
+            },
         }
-        let counted = self.count_lines(block, at, at + 1);
-        self.note_hit(at - from, counted.hits);
-        counted
     }
 
-    /// Counts lines by runs side by side over the cells that are known, and where one is not, line by line.
-    fn count_group(&mut self, block: &[u8], from: usize) -> CountedLines
+    /// Counts a batch by the counting scan, or line by line if the scan reaches an unknown transition.
+    fn count_batch(&mut self, block: &[u8], from: usize) -> CountedLines
         requires within { from < length block.now }
         requires whole { AreWholeLines (drop from block.now) }
-        ensures counted { CountsHits (λ finds. Decides finds self.old.tree)
-            block.now from result.to result.hits }
+        ensures counted { CountsMatchingLines (λ has_match. Decides has_match self.old.tree)
+            block.now from result.to result.matching_lines }
         ensures moves { from < result.to }
         ensures same { self.new.tree ≡ self.old.tree }
     {
-        let group = count_group(&self.table.cells, block, from);
-        match group.hits {
-            Some(hits) => CountedLines { to: group.to, hits },
-            None => self.count_lines(block, from, group.to),
+        let batch = count_batch(&self.dfa.transitions, block, from);
+        match batch.matching_lines {
+            Some(matching_lines) => CountedLines {
+                to: batch.to,
+                matching_lines,
+            },
+            None => self.count_lines(block, from, batch.to),
         }
     }
 
-    /// Counts lines one by one, up to the place `least` at least.
+    /// Counts line by line, at least up to the offset `least`.
     fn count_lines(&mut self, block: &[u8], from: usize, least: usize) -> CountedLines
         requires low { from < least }
         requires high { least ≤ length block.now }
         requires whole { AreWholeLines (drop from block.now) }
-        ensures counted { CountsHits (λ finds. Decides finds self.old.tree)
-            block.now from result.to result.hits }
+        ensures counted { CountsMatchingLines (λ has_match. Decides has_match self.old.tree)
+            block.now from result.to result.matching_lines }
         ensures moves { from < result.to }
         ensures same { self.new.tree ≡ self.old.tree }
     {
-        let mut at = from;
-        let mut hits = 0u64;
-        'lines: while at < least {
-            let end = line_end(block, at);
-            hits += u64::from(self.is_match(&block[at..end]));
-            at = end + 1;
+        let mut offset = from;
+        let mut matching_lines = 0u64;
+        'lines: while offset < least {
+            let end = line_end(block, offset);
+            matching_lines += u64::from(self.is_match(&block[offset..end]));
+            offset = end + 1;
         }
-        CountedLines { to: at, hits }
-    }
-
-    /// Passes the lines that do not have the needle, or none of the windows, where that is faster
-    /// than the table.
-    fn seek(&self, block: &[u8], from: usize) -> Option<usize>
-        requires within { from ≤ length block.now }
-        requires whole { AreWholeLines (drop from block.now) }
-        ensures { IfSome result (ArePassed (λ finds. Decides finds self.now.tree) block.now from) }
-    {
-        if self.seeks {
-            return Some(skip_to_needle(&self.finder, block, from));
-        }
-        match self.sieve {
-            Some(sieve) => Some(skip_to_window(sieve, block, from)),
-            None => None,
+        CountedLines {
+            to: offset,
+            matching_lines,
         }
     }
 
-    /// Passes parts by the cells that are known.
-    fn pass_quiet(&self, block: &[u8], from: usize) -> usize
-        requires within { from ≤ length block.now }
+    /// Searches some lines, at least one, by the method that suits the text.
+    fn search_part(&mut self, block: &[u8], from: usize) -> Searched
+        requires within { from < length block.now }
         requires whole { AreWholeLines (drop from block.now) }
-        ensures { ArePassed (λ finds. Decides finds self.now.tree) block.now from result }
-    {
-        pass_quiet(&self.table.cells, block, from)
-    }
-
-    /// Passes lines by one run over them, where that is worth its while.
-    fn pass_run(&mut self, block: &[u8], from: usize) -> usize
-        requires within { from ≤ length block.now }
-        requires whole { AreWholeLines (drop from block.now) }
-        ensures passed { ArePassed (λ finds. Decides finds self.old.tree) block.now from result }
-        ensures same { self.new ≡ self.old }
-    {
-        if self.stops() {
-            return from;
-        }
-        let to = self.run_to(block, from);
-        self.note_run(to - from);
-        to
-    }
-
-    /// Up to where one run passes lines by the cells that are known.
-    fn run_to(&self, block: &[u8], from: usize) -> usize
-        requires within { from ≤ length block.now }
-        requires whole { AreWholeLines (drop from block.now) }
-        ensures { ArePassed (λ finds. Decides finds self.now.tree) block.now from result }
-    {
-        pass_run(&self.table.cells, block, from)
-    }
-
-    /// The start of the first line of a part in which something is found, or the part's end.
-    fn first_hit(&mut self, part: &[u8]) -> usize
-        requires { AreWholeLines part.now }
-        ensures passed { ArePassed (λ finds. Decides finds self.old.tree) part.now 0 result }
+        ensures moves { from < result.to }
+        ensures found { IsSearched self.old.tree block.now from result.to result.line }
+        ensures high { result.to ≤ length block.now }
         ensures same { self.new.tree ≡ self.old.tree }
-        ensures states { GrowsOver (length part.now) self.old.states self.new.states }
+        ensures states { GrowsOver (result.to - from) self.old.states self.new.states }
     {
-        let mut at = 0;
-        'lines: while at < part.len() {
-            let end = line_end(part, at);
-            if self.is_match(&part[at..end]) {
-                return at;
-            }
-            at = end + 1;
-        }
-        at
+        let method = self.method();
+        let start = self.skip_by(method, block, from);
+        let searched = self.search_by(method, block, start);
+        self.note_part(method, from, start, searched);
+        searched
     }
 
-    /// Whether this call is not worth a search for the needle or the windows: of late they stood close to one another
-    /// in lines that have nothing.
-    fn rests(&mut self) -> bool
-        ensures { self.new ≡ self.old }
+    /// Searches one line, one chunk or the whole rest of the block, where the method has stopped.
+    fn search_by(&mut self, method: Method, block: &[u8], from: usize) -> Searched
+        requires within { from ≤ length block.now }
+        requires whole { AreWholeLines (drop from block.now) }
+        ensures moves { from < length block.now → from < result.to }
+        ensures found { IsSearched self.old.tree block.now from result.to result.line }
+        ensures high { result.to ≤ length block.now }
+        ensures same { self.new.tree ≡ self.old.tree }
+        ensures states { GrowsOver (result.to - from) self.old.states self.new.states }
     {
-        if self.near && self.missed {
-            self.misses = self.misses.saturating_add(1);
-            if self.misses > MOST_MISSES {
-                self.rest.begin();
-            }
-        }
-        self.near = false;
-        self.rest.takes_one()
-    }
-
-    /// Notes how many bytes a search for the needle or the windows passed.
-    fn note_sought(&mut self, passed: usize)
-        ensures { self.new ≡ self.old }
-    {
-        self.near = passed < NEAR;
-        if !self.near {
-            self.misses = 0;
-            self.rest.forget();
+        match method {
+            Method::Prefilter => self.search_line(block, from),
+            Method::Line => self.search_line(block, from),
+            Method::Interleaved => self.search_to(block, from, cut(block, from)),
+            Method::Single => self.search_to(block, from, block.len()),
         }
     }
 
-    /// Whether this call is not worth the chains.
-    fn pauses(&mut self) -> bool
-        ensures { self.new ≡ self.old }
+    /// Searches the lines between two offsets by one scan.
+    fn search_to(&mut self, block: &[u8], from: usize, to: usize) -> Searched
+        requires low { from ≤ to }
+        requires high { to ≤ length block.now }
+        requires whole { AreWholeLines (slice_range block.now from to) }
+        requires rest { AreWholeLines (drop from block.now) }
+        ensures found { IsSearched self.old.tree block.now from to result.line }
+        ensures to { result.to ≡ to }
+        ensures same { self.new.tree ≡ self.old.tree }
+        ensures states { GrowsOver (to - from) self.old.states self.new.states }
     {
-        self.pause.takes_one()
-    }
-
-    /// Whether this call is not worth a run: hits stand in neighbouring lines, or a search for the needle or the
-    /// windows is soon taken up again.
-    fn stops(&mut self) -> bool
-        ensures { self.new ≡ self.old }
-    {
-        self.seeks || self.sieve.is_some() || self.stop.takes_one()
-    }
-
-    /// Notes how many bytes a run passed.
-    fn note_run(&mut self, passed: usize)
-        ensures { self.new ≡ self.old }
-    {
-        if passed == 0 {
-            self.stop.begin();
-        } else {
-            self.stop.forget();
-        }
-        if passed >= FAR {
-            self.pause.end();
+        Searched {
+            to,
+            line: self.first_match(block, from, to),
         }
     }
 
-    /// How many bytes stand between hits at most, so that they are counted by runs side by side.
-    fn spacing(&self) -> usize
-        ensures { 0 < result }
+    /// Tests the line at the offset, if the block has not ended.
+    fn search_line(&mut self, block: &[u8], from: usize) -> Searched
+        requires within { from ≤ length block.now }
+        requires whole { AreWholeLines (drop from block.now) }
+        ensures moves { from < length block.now → from < result.to }
+        ensures found { IsSearched self.old.tree block.now from result.to result.line }
+        ensures high { result.to ≤ length block.now }
+        ensures same { self.new.tree ≡ self.old.tree }
+        ensures states { GrowsOver (result.to - from) self.old.states self.new.states }
     {
-        if self.seeks || self.sieve.is_some() {
-            DENSE
-        } else {
-            LESS_DENSE
+        if from == block.len() {
+            return Searched {
+                to: from,
+                line: None,
+            };
+        }
+        let end = line_end(block, from);
+        let found = self.is_match(&block[from..end]);
+        Searched {
+            to: end + 1,
+            line: if found {
+                Some(Line { start: from, end })
+            } else {
+                None
+            },
         }
     }
 
-    /// Notes how many bytes were passed before a line, and whether it was a hit.
-    fn note_hit(&mut self, passed: usize, hits: u64)
-        ensures { self.new ≡ self.old }
+    /// Skips lines without a match by the method.
+    fn skip_by(&self, method: Method, block: &[u8], from: usize) -> usize
+        requires within { from ≤ length block.now }
+        requires whole { AreWholeLines (drop from block.now) }
+        ensures { AreSkipped (λ has_match. Decides has_match self.now.tree) block.now from result }
     {
-        self.dense = if hits > 0 && passed < self.spacing() {
-            self.dense.saturating_add(1)
-        } else {
-            0
+        match method {
+            Method::Prefilter => self.skip_by_prefilter(block, from),
+            Method::Interleaved => self.skip_interleaved(block, from),
+            Method::Line => from,
+            Method::Single => from,
+        }
+    }
+
+    /// Skips to the first line with the required literal or with a class trigram, if the program has a prefilter that
+    /// pays.
+    fn skip_by_prefilter(&self, block: &[u8], from: usize) -> usize
+        requires within { from ≤ length block.now }
+        requires whole { AreWholeLines (drop from block.now) }
+        ensures { AreSkipped (λ has_match. Decides has_match self.now.tree) block.now from result }
+    {
+        if self.uses_literal {
+            return skip_to_literal(&self.finder, block, from);
+        }
+        match self.prefilter {
+            Some(prefilter) => skip_to_candidate(prefilter, block, from),
+            None => from,
+        }
+    }
+
+    /// Skips chunks by the interleaved scan.
+    fn skip_interleaved(&self, block: &[u8], from: usize) -> usize
+        requires within { from ≤ length block.now }
+        requires whole { AreWholeLines (drop from block.now) }
+        ensures { AreSkipped (λ has_match. Decides has_match self.now.tree) block.now from result }
+    {
+        skip_interleaved(&self.dfa.transitions, block, from)
+    }
+
+    /// The first matching line of those between two offsets, by one scan.
+    fn first_match(&mut self, block: &[u8], from: usize, to: usize) -> Option<Line>
+        requires low { from ≤ to }
+        requires high { to ≤ length block.now }
+        requires whole { AreWholeLines (slice_range block.now from to) }
+        requires rest { AreWholeLines (drop from block.now) }
+        ensures found { MatchOption result
+            (AreSkipped (λ has_match. Decides has_match self.old.tree) block.now from to)
+            (λ line. IsFirstMatch self.old.tree block.now from line.start line.end) }
+        ensures same { self.new.tree ≡ self.old.tree }
+        ensures states { GrowsOver (to - from) self.old.states self.new.states }
+    {
+        let Some(accepted) = self.dfa.first_accepted(&block[from..to]) else {
+            return None;
         };
+        let offset = from + accepted;
+        Some(Line {
+            start: from + whole_lines_len(&block[from..offset]),
+            end: line_end(block, offset),
+        })
     }
 
-    /// Notes how many hits stood in so many bytes. Where they were few, the next that is close to the one before is
-    /// enough.
-    fn note_group(&mut self, bytes: usize, hits: u64)
+    /// Chooses the next method.
+    fn method(&mut self) -> Method
         ensures { self.new ≡ self.old }
     {
-        if (bytes / self.spacing()) as u64 > hits {
-            self.dense = MOST_MISSES;
-        }
+        self.pacing.method()
     }
 
-    /// Notes how many bytes were quiet before a part, and whether something was found in the part.
-    fn note(&mut self, quiet: usize, found: bool)
+    /// Notes what a method has skipped, and what the search from there has shown.
+    fn note_part(&mut self, method: Method, from: usize, start: usize, searched: Searched)
         ensures { self.new ≡ self.old }
     {
-        if quiet >= GROUP {
-            self.pause.forget();
-        }
-        if found {
-            self.pause.begin();
-        }
+        let (end, found) = match searched.line {
+            Some(line) => (line.start, true),
+            None => (searched.to, false),
+        };
+        let skipped = start.saturating_sub(from);
+        let without_match = end.saturating_sub(from);
+        self.pacing.note_part(method, skipped, without_match, found);
+    }
+
+    /// Notes how many bytes were skipped before a matching line.
+    fn note_match(&mut self, skipped: usize)
+        ensures { self.new ≡ self.old }
+    {
+        self.pacing.note_match(skipped);
+    }
+
+    /// Notes how many lines of a batch match.
+    fn note_batch(&mut self, bytes: usize, matching_lines: u64)
+        ensures { self.new ≡ self.old }
+    {
+        self.pacing.note_batch(bytes, matching_lines);
     }
 }

@@ -1,39 +1,38 @@
-// Programs: what a pattern is compiled to.
+// Programs: compiled patterns.
 ghost use Rattle.std.specs.Prelude.{◌≡◌, IfOk, IfSome};
 ghost use Rattle.cs_syntax.specs.Node.{tree_of};
-ghost use Rattle.cs_match.specs.Finding.{FindAlike};
-ghost use Rattle.cs_match.specs.Places.{places, repeats, IsLooped};
-ghost use Rattle.cs_match.specs.Needle.{IsNeeded};
-ghost use Rattle.cs_match.specs.NeededWindows.{AreNeeded};
-ghost use Rattle.cs_match.specs.Shifts.{AreShifts};
+ghost use Rattle.cs_match.specs.SameLines.{MatchSameLines};
+ghost use Rattle.cs_match.specs.Glushkov.{position_count, repeats, IsExpanded};
+ghost use Rattle.cs_match.specs.RequiredLiteral.{IsRequired};
+ghost use Rattle.cs_match.specs.RequiredTrigrams.{AreRequired};
+ghost use Rattle.cs_match.specs.BitParallel.{IsBitParallel};
 ghost use Rattle.cs_match.specs.Size.{FitsWeight};
 
-use crate::compiler::write_out;
-use crate::needle::needle;
-use crate::shifts::{Shifts, shifts_of};
-use crate::walk::{count, count_repeats};
-use crate::windows::sieve;
-use cs_sieve::Sieve;
+use crate::bit_parallel::{BitParallel, bit_parallel_of};
+use crate::expand::expand;
+use crate::glushkov::{count, count_repeats};
+use crate::literal::literal;
+use crate::trigrams::prefilter;
+use cs_prefilter::Prefilter;
 use cs_syntax::{Node, Pattern};
 use std::alloc::{AllocError, Global};
 use std::marker::Model;
 
-/// A pattern made ready for matchers. Contracts see it as a tree, which takes what the pattern
-/// takes.
+/// A compiled pattern. Contracts see it as its expanded tree, which has a match in the same lines as the pattern.
 #[derive(Drop)]
 pub struct Program {
-    /// The tree that is walked over.
+    /// The expanded tree.
     root: Node,
-    /// How many places the tree has.
+    /// The number of positions.
     count: usize,
-    /// How many repeats the tree has.
+    /// The number of repeats.
     repeats: usize,
-    /// A word that each line has in which something is found.
-    needle: Vec<u8>,
-    /// Windows of which each such line has one, where some are known.
-    sieve: Option<Sieve>,
-    /// How the marks of all places are moved at once, where the tree is a choice of phrases.
-    shifts: Option<Shifts>,
+    /// The required literal.
+    literal: Vec<u8>,
+    /// The prefilter for class trigrams, if some are known.
+    prefilter: Option<Prefilter>,
+    /// The bit-parallel simulation, if the tree is an alternation of sequences.
+    bits: Option<BitParallel>,
 }
 
 impl Model for Program {
@@ -46,85 +45,82 @@ impl Model for Program {
     ghost coded = { tree_code };
 
     ghost use Rattle.cs_syntax.specs.Node.{tree_of};
-    ghost use Rattle.cs_match.specs.Places.{IsProgram};
-    ghost use Rattle.cs_match.specs.Needle.{IsNeeded};
-    ghost use Rattle.cs_match.specs.NeededWindows.{AreNeeded};
-    ghost use Rattle.cs_match.specs.Shifts.{AreShifts};
+    ghost use Rattle.cs_match.specs.Glushkov.{IsProgram};
+    ghost use Rattle.cs_match.specs.RequiredLiteral.{IsRequired};
+    ghost use Rattle.cs_match.specs.RequiredTrigrams.{AreRequired};
+    ghost use Rattle.cs_match.specs.BitParallel.{IsBitParallel};
 
     ghost view = { λ program. tree_of program.root };
 
     ghost invariant = { λ program. IsProgram (tree_of program.root) program.count program.repeats
-        × IsNeeded (tree_of program.root) program.needle.items
-        × IfSome program.sieve (AreNeeded (tree_of program.root))
-        × IfSome program.shifts (AreShifts (tree_of program.root)) };
+        × IsRequired (tree_of program.root) program.literal.items
+        × IfSome program.prefilter (AreRequired (tree_of program.root))
+        × IfSome program.bits (IsBitParallel (tree_of program.root)) };
 }
 
 impl Program {
-    /// The program of a pattern: it finds something in the same lines. Counted repeats are written
-    /// out, and sets of characters lowered to sets of bytes, so that it has at most 55 places for
-    /// each unit of the weight of the pattern.
+    /// Compiles a pattern: expands its counted repeats and lowers its character sets to byte sets. The program has a
+    /// match in the same lines, and at most 55 positions for each unit of the pattern's weight.
     pub fn compile(alloc: Global, pattern: &Pattern) -> Result<Program, AllocError>
-        ensures alike { IfOk result (λ program. FindAlike program pattern.now) }
+        ensures alike { IfOk result (λ program. MatchSameLines program pattern.now) }
         ensures small { IfOk result (λ program. FitsWeight program pattern.now) }
     {
-        let root = write_out(alloc, pattern.tree())?;
+        let root = expand(alloc, pattern.tree())?;
         let count = count(&root);
         let repeats = count_repeats(&root);
-        let needle = needle(alloc, &root)?;
-        let sieve = sieve(alloc, &root)?;
-        let shifts = shifts_of(alloc, &root, count)?;
+        let literal = literal(alloc, &root)?;
+        let prefilter = prefilter(alloc, &root)?;
+        let bits = bit_parallel_of(alloc, &root, count)?;
         Ok(Program {
             root,
             count,
             repeats,
-            needle,
-            sieve,
-            shifts,
+            literal,
+            prefilter,
+            bits,
         })
     }
 
-    /// The tree that is walked over.
+    /// The expanded tree.
     pub(crate) fn root(&self) -> &Node
         ensures tree { tree_of result.now ≡ self.now }
-        ensures looped { IsLooped self.now }
+        ensures expanded { IsExpanded self.now }
     {
         &self.root
     }
 
-    /// How many places the tree has.
-    pub(crate) fn places(&self) -> usize
-        ensures { result ≡ places self.now }
+    /// The number of positions of the tree.
+    pub(crate) fn position_count(&self) -> usize
+        ensures { result ≡ position_count self.now }
     {
         self.count
     }
 
-    /// How many repeats the tree has.
+    /// The number of repeats of the tree.
     pub(crate) fn repeats(&self) -> usize
         ensures { result ≡ repeats self.now }
     {
         self.repeats
     }
 
-    /// A word that stands in each line in which the program finds something. The empty word stands
-    /// for none.
-    pub(crate) fn needle(&self) -> &[u8]
-        ensures { IsNeeded self.now result.now }
+    /// A literal that every matching line contains. It is empty if none is known.
+    pub(crate) fn literal(&self) -> &[u8]
+        ensures { IsRequired self.now result.now }
     {
-        &self.needle
+        &self.literal
     }
 
-    /// A sieve for windows of which one stands in each line in which the program finds something,
-    /// where some are known that stand at few places of a text.
-    pub(crate) fn sieve(&self) -> Option<&Sieve>
-        ensures { IfSome result (λ sieve. AreNeeded self.now sieve.now) }
+    /// A prefilter for class trigrams, if rare ones are known. Every matching line contains one of them.
+    pub(crate) fn prefilter(&self) -> Option<&Prefilter>
+        ensures { IfSome result (λ prefilter. AreRequired self.now prefilter.now) }
     {
-        self.sieve.as_ref()
+        self.prefilter.as_ref()
     }
 
-    /// How the marks of all places are moved at once, where the program is a choice of phrases.
-    pub(crate) fn shifts(&self) -> Option<&Shifts>
-        ensures { IfSome result (λ shifts. AreShifts self.now shifts.now) }
+    /// The bit-parallel simulation, if the program is an alternation of sequences.
+    pub(crate) fn bits(&self) -> Option<&BitParallel>
+        ensures { IfSome result (λ bits. IsBitParallel self.now bits.now) }
     {
-        self.shifts.as_ref()
+        self.bits.as_ref()
     }
 }

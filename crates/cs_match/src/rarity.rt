@@ -1,8 +1,8 @@
-// How rare words and windows are in source text. Nothing rests on these numbers but speed.
-use cs_sieve::Window;
+// Frequencies in source text, by which literals and class trigrams are ranked. Only speed depends on them.
+use cs_prefilter::ClassTrigram;
 use cs_syntax::ByteSet;
 
-/// How often a byte stands in source text, of 10,000 bytes.
+/// The frequency of a byte in source text, per 10,000 bytes.
 fn frequency(byte: u8) -> u64 {
     match byte {
         b' ' => 1500,
@@ -20,8 +20,7 @@ fn frequency(byte: u8) -> u64 {
     }
 }
 
-/// Three letters that follow one another far more often than each alone would tell: parts of the
-/// words that most source texts are full of.
+/// Common trigrams, which are far more frequent in source text than the frequencies of their bytes suggest.
 const COMMON: [[u8; 3]; 44] = [
     *b"def", *b"efi", *b"fin", *b"ine", *b"int", *b"ion", *b"tio", *b"ing", *b"con", *b"ons",
     *b"nst", *b"str", *b"tru", *b"ruc", *b"uct", *b"ret", *b"etu", *b"tur", *b"urn", *b"the",
@@ -30,38 +29,39 @@ const COMMON: [[u8; 3]; 44] = [
     *b"loc", *b"ock", *b"inc", *b"clu",
 ];
 
-/// The share of the places of a text at which such letters stand, of 10^12.
+/// The share of offsets at which a common trigram is expected, in units of 10^-12.
 const COMMON_SHARE: u64 = 500_000_000;
 
-/// Whether each three bytes of the word that follow one another are common.
-fn is_common(word: &[u8]) -> bool {
+/// Whether every trigram of the literal is common.
+fn is_common(literal: &[u8]) -> bool {
     let mut first = 0;
     let mut second = 0;
-    for (i, third) in word.iter().enumerate() {
+    for (i, third) in literal.iter().enumerate() {
         if i > 1 && !COMMON.contains(&[first, second, *third]) {
             return false;
         }
         first = second;
         second = *third;
     }
-    word.len() > 2
+    literal.len() > 2
 }
 
-/// The share of the places of a text at which the word may stand, of 10^12: all, where there is no byte.
-pub(crate) fn share(word: &[u8]) -> u64 {
-    if is_common(word) {
+/// The share of offsets at which the literal is expected, in units of 10^-12. The empty literal is expected at all of
+/// them.
+pub(crate) fn share(literal: &[u8]) -> u64 {
+    if is_common(literal) {
         COMMON_SHARE
     } else {
-        share_of_rarest(word)
+        share_of_rarest(literal)
     }
 }
 
-/// The share of the places at which the word's rarest three bytes stand, of 10^12.
-fn share_of_rarest(word: &[u8]) -> u64 {
+/// The product of the frequencies of the three rarest bytes, in units of 10^-12.
+fn share_of_rarest(literal: &[u8]) -> u64 {
     let mut rarest = 10000;
     let mut second = 10000;
     let mut third = 10000;
-    for byte in word {
+    for byte in literal {
         let next = frequency(*byte);
         if next < rarest {
             third = second;
@@ -77,18 +77,18 @@ fn share_of_rarest(word: &[u8]) -> u64 {
     rarest.saturating_mul(second).saturating_mul(third)
 }
 
-/// Whether a search for the word passes most places: its rarest bytes stand at less than one place
-/// of a hundred, or of a thousand where there are windows to look for instead.
-pub(crate) fn is_worth(word: &[u8], has_windows: bool) -> bool {
-    let most = if has_windows {
+/// Whether a search for the literal is worth its cost: the literal is expected at less than 1 % of the offsets, or at
+/// less than 0.1 % if there are class trigrams to search for instead.
+pub(crate) fn is_worth(literal: &[u8], has_trigrams: bool) -> bool {
+    let most = if has_trigrams {
         1_000_000_000
     } else {
         10_000_000_000
     };
-    share(word) < most
+    share(literal) < most
 }
 
-/// How often a byte of the set stands in source text, of 10,000 bytes.
+/// The frequency of the bytes of a set in source text, per 10,000 bytes.
 pub(crate) fn set_frequency(set: &ByteSet) -> u64 {
     let mut sum = 0u64;
     for byte in 0..=255u8 {
@@ -99,22 +99,21 @@ pub(crate) fn set_frequency(set: &ByteSet) -> u64 {
     sum.min(10000)
 }
 
-/// The share of the places of a text at which the window stands, whose sets have these frequencies,
-/// of 10^12.
-pub(crate) fn window_share(window: &Window, frequencies: [u64; 3]) -> u64 {
+/// The share of offsets at which the class trigram is expected, given the frequencies of its sets, in units of 10^-12.
+pub(crate) fn trigram_share(trigram: &ClassTrigram, frequencies: [u64; 3]) -> u64 {
     frequencies[0]
         .saturating_mul(frequencies[1])
         .saturating_mul(frequencies[2])
-        .saturating_add(common_share(window))
+        .saturating_add(common_share(trigram))
 }
 
-/// The share of the places at which common letters stand that are of the window, of 10^12.
-fn common_share(window: &Window) -> u64 {
+/// The share of offsets of the common trigrams that the class trigram contains, in units of 10^-12.
+fn common_share(trigram: &ClassTrigram) -> u64 {
     let mut sum = 0u64;
     for [first, second, third] in COMMON {
-        if window.first.contains(first)
-            && window.second.contains(second)
-            && window.third.contains(third)
+        if trigram.first.contains(first)
+            && trigram.second.contains(second)
+            && trigram.third.contains(third)
         {
             sum = sum.saturating_add(COMMON_SHARE);
         }
@@ -122,8 +121,8 @@ fn common_share(window: &Window) -> u64 {
     sum
 }
 
-/// Whether a search for windows of this share passes most places: they stand at less than one place
-/// of two hundred.
+/// Whether a search for class trigrams with this share is worth its cost: they are expected at less than 0.5 % of the
+/// offsets.
 pub(crate) fn are_worth(share: u64) -> bool {
     share < 5_000_000_000
 }

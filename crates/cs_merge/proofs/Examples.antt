@@ -1,10 +1,10 @@
--- Worked rows of joining.
+-- Worked examples of the merge.
 use Rattle.std.proofs.Common.{◌≡◌, ℕ, true, false, List, [], ◌∷◌, Some, None, refl}
 use Rattle.std.specs.Prelude.{codes}
 use Rattle.cs_tree.specs.Folders.{are_distinct}
 use Rattle.cs_tree.specs.NamesAscending.{are_ascending}
-use Rattle.cs_merge.specs.Ranked.{names_in}
-use Rattle.cs_merge.specs.Renumbering.{NewIds, new_ids_of}
+use Rattle.cs_merge.specs.SortedIndex.{names_in_order}
+use Rattle.cs_merge.specs.IdMap.{NewIds, new_ids_of}
 
 -- the names of an index in the order of a walk
 abbrev walk_order : List (List ℕ)
@@ -19,10 +19,10 @@ names_of_a_walk_are_distinct = refl
 a_name_may_be_held_twice : are_distinct (codes "/a/x" ∷ codes "/a/y" ∷ codes "/a/x" ∷ []) ≡ false
 a_name_may_be_held_twice = refl
 
-ids_put_names_in_order : names_in (Some (1 ∷ 0 ∷ [])) walk_order ≡ codes "/a/b-x" ∷ codes "/a/b/z" ∷ []
-ids_put_names_in_order = refl
+ids_sort_names : names_in_order (Some (1 ∷ 0 ∷ [])) walk_order ≡ codes "/a/b-x" ∷ codes "/a/b/z" ∷ []
+ids_sort_names = refl
 
--- the first id becomes 1, the second is dropped, and the third becomes 0
+-- id 0 becomes 1, id 1 is dropped, id 2 becomes 0
 abbrev three : NewIds
 three = Some 1 ∷ None ∷ Some 0 ∷ []
 

@@ -1,4 +1,4 @@
--- Names and files in order.
+-- The order of names and files.
 use Rattle.std.proofs.Common.{◌≡◌, ℕ, ◌+◌, true, false, List, [], ◌∷◌, refl, ap, ◌∙◌}
 use Rattle.cs_tree.specs.NameOrder.{bytes_cmp}
 use Rattle.cs_tree.specs.NamesAscending.{are_ascending}
@@ -10,21 +10,21 @@ use Rattle.std.specs.List.{AllByRecursion}
 use Rattle.std.specs.Ordering.{is_lt, ordering_reverse}
 use Rattle.std.specs.declared.cmp.Ordering.{Ordering}
 use Rattle.std.specs.declared.cmp.Ordering.TheVariants.{Less, Equal, Greater}
-use Rattle.cs_tree.proofs.Sets.{alike}
-use Rattle.cs_index.specs.Image.{Entry, Posting}
-use Rattle.cs_tree.proofs.BeforeLemmas.{before_chain}
-use Rattle.cs_index.proofs.PathOrderLemmas.{tail_up}
+use Rattle.cs_tree.proofs.PathSetLemmas.{alike}
+use Rattle.cs_index.specs.Encoding.{Entry, PostingList}
+use Rattle.cs_tree.proofs.NameOrderLemmas.{before_trans}
+use Rattle.cs_index.proofs.names.ReducedPaths.{tail_up}
 
--- the file stands above a name
+-- the name of the file is above a name
 abbrev pub Above : List ℕ → Entry → Type 0
 Above name file = is_lt (bytes_cmp name file.0) ≡ true
 
--- each file stands above those before it
+-- each file is above the files before it
 abbrev pub Up : List Entry → Type 0
 Up [] = Unit {0}
 Up (file ∷ files) = AllByRecursion (Above file.0) files × Up files
 
--- ---- in the words of maps
+-- ---- the order of files as that of map entries
 
 above_below : (name : List ℕ) (files : List Entry) → below_all bytes_cmp name files ≡ true → AllByRecursion (Above name) files
 above_below name [] h = tt
@@ -48,7 +48,7 @@ sorted_up (file ∷ files) up = and_from (below_all bytes_cmp file.0 files) (is_
 
 -- ---- order
 
--- names of which one is not below the other, and which differ
+-- of two different names one is below the other
 pub turned : (a b : List ℕ) → is_lt (bytes_cmp a b) ≡ false → (a ≡ b → ⊥) → is_lt (bytes_cmp b a) ≡ true
 turned a b h apart = by_order (bytes_cmp a b) refl h
   where
@@ -57,7 +57,7 @@ turned a b h apart = by_order (bytes_cmp a b) refl h
     by_order Equal e g = absurd (apart (alike a b e))
     by_order Greater e g = ap is_lt (nat_list_cmp_total.antisymm b a ∙ ap ordering_reverse e)
 
--- ---- names in order
+-- ---- ascending names
 
 names_above : (name : List ℕ) (names : List (List ℕ)) → are_ascending (name ∷ names) ≡ true → AllByRecursion (λ other. is_lt (bytes_cmp name other) ≡ true) names
 names_above name [] h = tt
@@ -67,18 +67,18 @@ names_above name (next ∷ names) h =
   where
     over : (others : List (List ℕ)) → AllByRecursion (λ other. is_lt (bytes_cmp next other) ≡ true) others → is_lt (bytes_cmp name next) ≡ true → AllByRecursion (λ other. is_lt (bytes_cmp name other) ≡ true) others
     over [] all g = tt
-    over (other ∷ others) all g = (before_chain name next other g all.0, over others all.1 g)
+    over (other ∷ others) all g = (before_trans name next other g all.0, over others all.1 g)
 
-pub each_named : (P : List ℕ → Type 0) (first : ℕ) (names : List (List ℕ)) (lists : List Posting) → AllByRecursion P names → AllByRecursion (λ (file : Entry). P file.0) (entries_of first names lists)
+pub each_named : (P : List ℕ → Type 0) (first : ℕ) (names : List (List ℕ)) (lists : List PostingList) → AllByRecursion P names → AllByRecursion (λ (file : Entry). P file.0) (entries_of first names lists)
 each_named P first [] lists all = tt
 each_named P first (name ∷ names) lists all = (all.0, each_named P (first + 1) names lists all.1)
 
-pub up_named : (first : ℕ) (names : List (List ℕ)) (lists : List Posting) → are_ascending names ≡ true → Up (entries_of first names lists)
+pub up_named : (first : ℕ) (names : List (List ℕ)) (lists : List PostingList) → are_ascending names ≡ true → Up (entries_of first names lists)
 up_named first [] lists h = tt
 up_named first (name ∷ names) lists h = (each_named (λ other. is_lt (bytes_cmp name other) ≡ true) (first + 1) names lists (names_above name names h), up_named (first + 1) names lists (tail_up name names h))
 
--- names that stand in order ascend
-pub names_up : (first : ℕ) (names : List (List ℕ)) (lists : List Posting) → Up (entries_of first names lists) → are_ascending names ≡ true
+-- names in order ascend
+pub names_up : (first : ℕ) (names : List (List ℕ)) (lists : List PostingList) → Up (entries_of first names lists) → are_ascending names ≡ true
 names_up first [] lists up = refl
 names_up first (name ∷ []) lists up = refl
 names_up first (name ∷ next ∷ names) lists up = and_from (is_lt (bytes_cmp name next)) (are_ascending (next ∷ names)) up.0.0 (names_up (first + 1) (next ∷ names) lists up.1)

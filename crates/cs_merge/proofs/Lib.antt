@@ -1,22 +1,22 @@
 pub mod ContentLemmas
-pub mod HoldingLemmas
-pub mod JoinLemmas
+pub mod DecodedContentLemmas
+pub mod MergeLemmas
 pub mod OpeningLemmas
-pub mod RankedLemmas
-pub mod ReadyLemmas
-mod CarryingLemmas
+pub mod SortedIndexLemmas
+pub mod StorableLemmas
+mod TrigramSetLemmas
 mod CoverLemmas
 mod Examples
 mod FileOrderLemmas
 mod IdRunLemmas
-mod JoiningLemmas
-mod LaidNamesLemmas
-mod ListPlaceLemmas
-mod ListingLemmas
-mod NamingLemmas
-mod NewNamesLemmas
-mod PartLemmas
-mod ReadLemmas
-mod RenumberingLemmas
-mod SideBySideLemmas
-mod SortedLemmas
+mod MergeResultLemmas
+mod NameStepLemmas
+mod NextListLemmas
+mod IdMergeLemmas
+mod NameMergeLemmas
+mod MergedFilesLemmas
+mod SortedRunLemmas
+mod ReadIdsLemmas
+mod IdMapLemmas
+mod TrigramMergeLemmas
+mod DistinctIdLemmas

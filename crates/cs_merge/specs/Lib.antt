@@ -1,21 +1,21 @@
--- What public contracts rest on.
-pub use Rattle.cs_index.specs.Spelling
+-- Definitions that public contracts cite.
+pub use Rattle.cs_index.specs.Decoding
 pub use Rattle.cs_index.specs.PostingLists
 pub use Rattle.cs_tree.specs.PathSet
 pub use Rattle.cs_tree.specs.ByteList
 pub use Rattle.cs_tree.specs.Cover
-pub use Rattle.cs_index.specs.Image
+pub use Rattle.cs_index.specs.Encoding
 pub use Rattle.cs_index.specs.Opening
 pub use Rattle.cs_index.specs.OpenedParts
-pub mod Join
+pub mod Merge
 pub mod Content
-pub mod Joinable
-pub mod JoinOutcome
-pub mod Joining
+pub mod Mergeable
+pub mod BuildOutcome
+pub mod MergeResult
 pub mod Replacing
 pub mod ListFault
--- What functions inside promise each other.
+-- Definitions that private contracts cite.
 pub mod SomePaths
-pub mod Ranked
-pub mod Renumbering
-pub mod SideBySide
+pub mod SortedIndex
+pub mod IdMap
+pub mod ListMerge

@@ -1,15 +1,15 @@
-// The index that is laid out of two.
+// Begins the merged index, and encodes it at the end.
 ghost use Rattle.std.specs.Prelude.{◌≡◌, ◌⊎◌, ◌<◌, [], true, map, string_bytes, IfOk, IfErr};
 ghost use Rattle.cs_index.specs.Built.{are_paths};
-ghost use Rattle.cs_index.specs.Image.{image_of};
-ghost use Rattle.cs_index.specs.Laid.{entries_laid};
-ghost use Rattle.cs_merge.specs.JoinOutcome.{IsBuildFault, IsIndexWithin};
+ghost use Rattle.cs_index.specs.Encoding.{encoding_of};
+ghost use Rattle.cs_index.specs.Written.{entries_written};
+ghost use Rattle.cs_merge.specs.BuildOutcome.{IsBuildFault, IsIndexWithin};
 
 use crate::fault::MergeFault;
 use cs_index::{BuildFault, Sections};
 use std::alloc::Global;
 
-/// The sections of an index of the paths.
+/// An index of these paths, with no names and no lists yet.
 pub(crate) fn begin(alloc: Global, paths: &[String]) -> Result<Sections, MergeFault>
     requires { are_paths (map string_bytes paths.now) ≡ true }
     ensures paths { IfOk result (λ sections. sections.paths ≡ map string_bytes paths.now) }
@@ -23,12 +23,12 @@ pub(crate) fn begin(alloc: Global, paths: &[String]) -> Result<Sections, MergeFa
     }
 }
 
-/// The index that was laid out, unless it has more than a number of bytes.
+/// The encoded index. `TooLarge` if it has more than `most` bytes.
 pub(crate) fn finish(sections: Sections, most: u32) -> Result<Vec<u8>, MergeFault>
     ensures ok { IfOk result (λ index. IsIndexWithin most
-        (image_of sections.paths (entries_laid sections)) index.items) }
+        (encoding_of sections.paths (entries_written sections)) index.items) }
     ensures fault { IfErr result (λ fault. IsBuildFault most
-        (image_of sections.paths (entries_laid sections)) fault) }
+        (encoding_of sections.paths (entries_written sections)) fault) }
 {
     match sections.finish_within(most) {
         Ok(index) => Ok(index),
@@ -36,7 +36,7 @@ pub(crate) fn finish(sections: Sections, most: u32) -> Result<Vec<u8>, MergeFaul
     }
 }
 
-/// What is refused of the files of two indexes.
+/// The error of the writer as an error of the merge.
 fn merge_fault(fault: BuildFault) -> MergeFault
     requires { (fault ≡ BuildFault.TooLarge) ⊎ (fault ≡ BuildFault.Memory) }
     ensures too_large { fault ≡ BuildFault.TooLarge → result ≡ MergeFault.TooLarge }

@@ -11,7 +11,7 @@ use cs_tree::{covers, is_covered};
 use std::alloc::{AllocError, Global};
 use std::marker::Model;
 
-/// The paths of an index in order.
+/// The paths of an index, sorted and without duplicates, so that a cover is found by binary search.
 #[derive(Drop)]
 pub(crate) struct Cover<'a> {
     paths: Vec<&'a str>,
@@ -30,7 +30,7 @@ impl<'a> Model for Cover<'a> {
 }
 
 impl<'a> Cover<'a> {
-    /// Of the paths of an index.
+    /// Sorts the paths of an index.
     pub(crate) fn new(alloc: Global, index: &Index<'a>) -> Result<Cover<'a>, AllocError>
         ensures { IfOk result (λ cover. set.from_list cover ≡ paths_in index.now) }
     {
@@ -51,7 +51,7 @@ impl<'a> Cover<'a> {
     }
 }
 
-/// Whether each name of the index lies under some path of it. Takes no memory.
+/// Whether some path of the index covers each of its names. Allocates nothing.
 pub(crate) fn is_under(index: &Index<'_>) -> bool
     ensures { result ≡ are_covered index.now }
 {
@@ -66,8 +66,8 @@ pub(crate) fn is_under(index: &Index<'_>) -> bool
     true
 }
 
-/// A path of the index that covers the name. Names that one path covers follow each other, and paths that
-/// ascend cover names that do: so the last one is asked first, then those behind it, then all.
+/// A path of the index that covers the name. Sorted names that one path covers are adjacent, so the
+/// last path is tried first, then the paths after it, and only then all of them.
 fn next_cover<'a>(
     index: &Index<'a>,
     rest: &mut Texts<'a>,
@@ -92,7 +92,7 @@ fn next_cover<'a>(
     first_cover(rest, name)
 }
 
-/// The first one of the paths that are left that covers the name.
+/// The first remaining path that covers the name.
 fn first_cover<'a>(rest: &mut Texts<'a>, name: &str) -> Option<&'a str>
     ensures rest { AreAmong rest.new rest.old }
     ensures path { IfSome result (λ path. AreAmong (path.now ∷ []) rest.old) }

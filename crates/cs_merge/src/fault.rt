@@ -1,4 +1,4 @@
-// What is refused.
+// Why two indexes cannot be merged.
 ghost use Rattle.std.specs.Prelude.{◌≡◌};
 ghost use Rattle.cs_merge.specs.declared.fault.MergeFault.TheVariants.{Memory};
 
@@ -6,22 +6,23 @@ use cs_index::IndexFault;
 use std::alloc::{AllocError, AllocFailed};
 use thiserror::Error;
 
-/// Why two indexes are not joined.
+/// Why two indexes cannot be merged.
 #[derive(Clone, Copy, Debug, PartialEq, Eq, Drop, Error)]
 pub enum MergeFault {
-    /// One of both holds a name twice, in whatever order its names stand.
+    /// A name occurs twice in an index. Names may be in any order.
     #[error("index holds a name twice")]
     Unsorted,
-    /// A name of the newer index lies under none of its paths, as `/b` under `/a`.
+    /// No path of the newer index covers one of its names: for example, `/b` if `/a` is the only
+    /// path.
     #[error("name outside the paths")]
     Uncovered,
-    /// A list of one of both is damaged: the fault is `BadList`.
+    /// A posting list of either index is damaged. The inner error is always `BadList`.
     #[error("bad index: {0}")]
     Index(IndexFault),
-    /// The index of both would pass 2^32 - 1 bytes.
+    /// The merged index would have more than 2^32 - 1 bytes.
     #[error("too large")]
     TooLarge,
-    /// A growth was refused.
+    /// An allocation failed.
     #[error("out of memory")]
     Memory,
 }
@@ -42,7 +43,7 @@ impl<T: Drop> From<AllocFailed<T>> for MergeFault {
     }
 }
 
-/// A list that is damaged. Want of memory is a fault of its own.
+/// The error of a damaged list; an allocation failure becomes `Memory`.
 impl From<IndexFault> for MergeFault {
     ghost use Rattle.cs_merge.specs.ListFault.{merge_fault_of};
 

@@ -1,32 +1,33 @@
-// Which ids of an index move together.
+// Runs of ids. Go: `idrange` in index/merge.go. A run is a range of ids that the map shifts by one
+// distance, or that it drops as a whole.
 ghost use Rattle.std.specs.Prelude.{◌≡◌, ◌+◌, ◌<◌, ◌^◌, true, length, IfOk, IfSome, option_map};
-ghost use Rattle.cs_merge.specs.Renumbering.{new_id as new_id', AreMoved, KeepsOrder, MoveTogether};
+ghost use Rattle.cs_merge.specs.IdMap.{new_id as new_id', IsImageOfRun, IsIncreasing, IsRun};
 
-use crate::renumbering::Renumbering;
+use crate::id_map::IdMap;
 use std::alloc::{AllocError, Global};
 use std::marker::Model;
 
-/// The new ids of an index, and where the ids end that move by the same distance, or are all dropped.
+/// An id map, and for each id the end of its run.
 #[derive(Drop)]
 pub(crate) struct IdRuns<'a> {
-    new_ids: &'a Renumbering,
+    new_ids: &'a IdMap,
     ends: Vec<u32>,
-    keep_order: bool,
+    is_increasing: bool,
 }
 
 impl<'a> Model for IdRuns<'a> {
-    ghost use Rattle.cs_merge.specs.Renumbering.{NewIds, AreKnownMoves};
+    ghost use Rattle.cs_merge.specs.IdMap.{NewIds, AreIdRuns};
 
     ghost Value = { NewIds };
 
     ghost view = { λ s. s.new_ids.now };
 
-    ghost invariant = { λ s. AreKnownMoves s.new_ids.now s.ends.items s.keep_order };
+    ghost invariant = { λ s. AreIdRuns s.new_ids.now s.ends.items s.is_increasing };
 }
 
 impl<'a> IdRuns<'a> {
-    /// Of all ids that are known.
-    pub(crate) fn new(alloc: Global, new_ids: &'a Renumbering) -> Result<IdRuns<'a>, AllocError>
+    /// Finds the runs of all ids.
+    pub(crate) fn new(alloc: Global, new_ids: &'a IdMap) -> Result<IdRuns<'a>, AllocError>
         requires { length new_ids.now < 2 ^ 32 }
         ensures { IfOk result (λ runs. runs ≡ new_ids.now) }
     {
@@ -38,31 +39,31 @@ impl<'a> IdRuns<'a> {
             }
             ends.push(end)?;
         }
-        let keep_order = keeps_order(new_ids);
+        let is_increasing = find_is_increasing(new_ids);
         Ok(IdRuns {
             new_ids,
             ends,
-            keep_order,
+            is_increasing,
         })
     }
 
-    /// Whether ids that ascend do so under their new ids.
-    pub(crate) fn keep_order(&self) -> bool
-        ensures { result ≡ true → KeepsOrder self.now }
+    /// Whether the map is increasing: ascending ids have ascending new ids.
+    pub(crate) fn is_increasing(&self) -> bool
+        ensures { result ≡ true → IsIncreasing self.now }
     {
-        self.keep_order
+        self.is_increasing
     }
 
-    /// The new id of an id.
+    /// The new id of an id, if its file is kept.
     pub(crate) fn new_id(&self, id: u32) -> Option<u32>
         ensures { result ≡ new_id' self.now id }
     {
         self.new_ids.new_id(id)
     }
 
-    /// Up to where the ids from this one on move together.
+    /// The end of the run that contains the id.
     pub(crate) fn end(&self, id: u32) -> u32
-        ensures { MoveTogether self.now id result }
+        ensures { IsRun self.now id result }
     {
         match self.ends.get(id as usize) {
             Some(end) => *end,
@@ -70,10 +71,10 @@ impl<'a> IdRuns<'a> {
         }
     }
 
-    /// Up to where new ids from one on are those of ids that follow each other. It is sought from the id
-    /// on; where that has another new id, none is known.
+    /// The end of the new ids of the run that contains `id`, whose new id is `new`. If `id` has
+    /// another new id or none, the result is `new`, so that the range is empty.
     pub(crate) fn new_end(&self, id: u32, new: u32) -> u32
-        ensures { AreMoved self.now new result }
+        ensures { IsImageOfRun self.now new result }
     {
         if self.new_id(id) != Some(new) {
             return new;
@@ -82,23 +83,23 @@ impl<'a> IdRuns<'a> {
     }
 }
 
-/// Up to where the ids from this one on move together.
-fn end_from(new_ids: &Renumbering, id: u32) -> u32
+/// The end of the run that begins at the id.
+fn end_from(new_ids: &IdMap, id: u32) -> u32
     requires bound { length new_ids.now < 2 ^ 32 }
     requires known { id < length new_ids.now }
-    ensures { MoveTogether new_ids.now id result }
+    ensures { IsRun new_ids.now id result }
 {
     let mut end = id + 1;
-    'ids: while end < new_ids.len() && moves_on(new_ids.new_id(end - 1), new_ids.new_id(end)) {
+    'ids: while end < new_ids.len() && extends_run(new_ids.new_id(end - 1), new_ids.new_id(end)) {
         end += 1;
     }
     end
 }
 
-/// Whether ids that ascend do so under their new ids.
-fn keeps_order(new_ids: &Renumbering) -> bool
+/// Whether ascending ids have ascending new ids.
+fn find_is_increasing(new_ids: &IdMap) -> bool
     requires { length new_ids.now < 2 ^ 32 }
-    ensures { result ≡ true → KeepsOrder new_ids.now }
+    ensures { result ≡ true → IsIncreasing new_ids.now }
 {
     let mut last = None;
     'ids: for id in 0..new_ids.len() {
@@ -123,8 +124,8 @@ fn is_above(id: u32, last: Option<u32>) -> bool
     }
 }
 
-/// Whether an id whose new id is the second moves with the one before it, whose new id is the first.
-fn moves_on(first: Option<u32>, second: Option<u32>) -> bool
+/// Whether two adjacent ids are in one run, by their new ids.
+fn extends_run(first: Option<u32>, second: Option<u32>) -> bool
     ensures { result ≡ true → second ≡ option_map (λ new. new + 1) first }
 {
     match (first, second) {

@@ -1,19 +1,21 @@
-//! The joining of an index with a newer one. Read `specs/Join.antt` first: what joining means, then
-//! `specs/Content.antt`: what an index holds, and what of it its bytes determine. `merge_within` takes a limit
-//! of the caller's own.
+//! The merge of an index with a newer one, as `Merge` in Go's index/merge.go: a merge of two sorted
+//! lists of names, and then of two sorted lists of posting lists.
+//!
+//! Read `specs/Merge.antt` first, which defines the merge, and then `specs/Content.antt`, which
+//! defines the content of an index, and which content bytes decode as.
 #![tactic(auto)]
 
-mod both_lists;
 mod building;
-mod carrying;
 mod covering;
 mod fault;
+mod id_map;
 mod id_runs;
-mod joining;
 pub mod laws;
-mod naming;
-mod ranked;
-mod renumbering;
+mod mapped_postings;
+mod merging;
+mod merging_lists;
+mod merging_names;
+mod sorted_index;
 
 pub use fault::MergeFault;
-pub use joining::{merge, merge_within};
+pub use merging::{merge, merge_within};

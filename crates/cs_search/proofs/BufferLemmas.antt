@@ -1,10 +1,10 @@
--- Parts of a list, before and after a write behind them.
+-- Slices of a buffer before and after bytes are written at their end.
 use Rattle.std.proofs.Common.{◌≡◌, ℕ, ◌+◌, ◌-◌, ◌<◌, ◌≤◌, List, [], ◌++◌, length, take, drop, refl, sym, ap, subst, ◌∙◌, arith, length-take, length-drop, length-append, Result, Ok, Err, IfOk, Option}
-use Rattle.cs_tree.specs.Transfers.{Loses, ReadGives}
+use Rattle.cs_tree.specs.Transfers.{Consumes, ReadGives}
 use Rattle.std.proofs.lemmas.List.{take_at, drop_at, take-append-drop, drop-drop, drop-take, take-append-le, drop-append-le}
 use Rattle.cs_tree.specs.declared.fault.IoFault.{IoFault}
-use Rattle.cs_tree.specs.Told.{Told}
-use Rattle.cs_tree.proofs.Growing.{take_on}
+use Rattle.cs_tree.specs.StreamModels.{SourceModel}
+use Rattle.cs_tree.proofs.GrowsLemmas.{take_on}
 use Rattle.cs_search.specs.Buffer.{GrowsBy, pending_bytes}
 use Rattle.cs_search.specs.declared.buffer.LineBuffer.{LineBuffer}
 
@@ -14,42 +14,42 @@ slice_skip bytes start end n h =
     ∙ sym (drop-take n (end - (start + n)) (drop start bytes))
     ∙ ap (λ i. drop n (take i (drop start bytes))) (omega arith)
 
--- `more` was written behind `end`
+-- `more` is written at `end`
 module _ (bytes more : List ℕ) (start end : ℕ) (rising : start ≤ end) (within : end ≤ length bytes) where
-  front_length : length (drop start (take end bytes)) ≡ end - start
-  front_length = omega (arith, length-drop start (take end bytes), length-take end bytes)
+  prefix_length : length (drop start (take end bytes)) ≡ end - start
+  prefix_length = omega (arith, length-drop start (take end bytes), length-take end bytes)
 
-  front_is : drop start (take end bytes) ≡ take (end - start) (drop start bytes)
-  front_is = ap (λ i. drop start (take i bytes)) (omega arith) ∙ drop-take start (end - start) bytes
+  prefix_is : drop start (take end bytes) ≡ take (end - start) (drop start bytes)
+  prefix_is = ap (λ i. drop start (take i bytes)) (omega arith) ∙ drop-take start (end - start) bytes
 
-  pub slice_front : drop start (take end bytes ++ more) ≡ take (end - start) (drop start bytes) ++ more
-  slice_front = drop-append-le start (take end bytes) more (omega (arith, length-take end bytes)) ∙ ap (λ f. f ++ more) front_is
+  pub slice_prefix : drop start (take end bytes ++ more) ≡ take (end - start) (drop start bytes) ++ more
+  slice_prefix = drop-append-le start (take end bytes) more (omega (arith, length-take end bytes)) ∙ ap (λ f. f ++ more) prefix_is
 
   pub slice_size : length (take (end - start) (drop start bytes)) ≡ end - start
-  slice_size = ap length (sym front_is) ∙ front_length
+  slice_size = ap length (sym prefix_is) ∙ prefix_length
 
   pub slice_same : take (end - start) (drop start (take end bytes ++ more)) ≡ take (end - start) (drop start bytes)
-  slice_same = ap (λ r. take (end - start) r) slice_front ∙ take_at (take (end - start) (drop start bytes)) more (end - start) slice_size
+  slice_same = ap (λ r. take (end - start) r) slice_prefix ∙ take_at (take (end - start) (drop start bytes)) more (end - start) slice_size
 
   pub slice_more : (n : ℕ) → take (end + n - start) (drop start (take end bytes ++ more)) ≡ take (end - start) (drop start bytes) ++ take n more
   slice_more n =
       ap (λ i. take i (drop start (take end bytes ++ more))) (omega arith)
       ∙ take_on (end - start) n (drop start (take end bytes ++ more))
       ∙ ap (λ f. f ++ take n (drop (end - start) (drop start (take end bytes ++ more)))) slice_same
-      ∙ ap (λ r. take (end - start) (drop start bytes) ++ take n r) (ap (λ r. drop (end - start) r) slice_front ∙ drop_at (take (end - start) (drop start bytes)) more (end - start) slice_size)
+      ∙ ap (λ r. take (end - start) (drop start bytes) ++ take n r) (ap (λ r. drop (end - start) r) slice_prefix ∙ drop_at (take (end - start) (drop start bytes)) more (end - start) slice_size)
 
--- what some bytes gain
+-- the bytes that a read appends
 pub GrowsBy-append : (old new more : List ℕ) (n : ℕ) → new ≡ old ++ more → length more ≡ n → GrowsBy old new n
 GrowsBy-append old new more n e size =
     record {
-      front = ap (λ l. take (length old) l) e ∙ take_at old more (length old) refl;
+      prefix = ap (λ l. take (length old) l) e ∙ take_at old more (length old) refl;
       size = ap length e ∙ length-append old more ∙ ap (λ k. length old + k) size;
     }
 
 pub gained : (old new more : List ℕ) → new ≡ old ++ more → drop (length old) new ≡ more
 gained old new more e = ap (λ l. drop (length old) l) e ∙ drop_at old more (length old) refl
 
--- what a `Vec` holds after a call that was lent it as a slice
+-- a `Vec` after a call that borrowed it as a slice
 pub refilled : (n : ℕ) (items bytes : List ℕ) → length bytes ≡ n → take n (bytes ++ drop (length bytes) items) ≡ bytes
 refilled n items bytes e = take_at bytes (drop (length bytes) items) n e
 
@@ -60,7 +60,7 @@ module _ (buffer : LineBuffer) (bytes : List ℕ) (before : take buffer.end byte
   bytes_are : bytes ≡ take buffer.end buffer.bytes.items ++ drop buffer.end bytes
   bytes_are = sym (take-append-drop buffer.end bytes) ∙ ap (λ f. f ++ drop buffer.end bytes) before
 
-  -- what is in a buffer after a write behind it
+  -- the pending bytes after a write at their end
   pub pending_more : (n : ℕ) → take (buffer.end + n - buffer.start) (drop buffer.start bytes) ≡ pending_bytes buffer ++ take n (drop buffer.end bytes)
   unfolding pending_bytes
   pending_more n =
@@ -80,14 +80,14 @@ pending_size buffer =
     let rising : buffer.start ≤ buffer.end = buffer.ordered in
     omega (arith, slice_size buffer.bytes.items [] buffer.start buffer.end rising within)
 
--- a read into the front of some bytes
-pub Reads_front : (told later : Option Told) (answer : Result ℕ IoFault) (buf rest : List ℕ) → IfOk answer (λ n. n ≤ length buf) → 0 < length buf → ReadGives told later answer buf → ReadGives told later answer (buf ++ rest)
-Reads_front told later (Ok n) buf rest within some r =
-    (subst (Loses told later) (sym (take-append-le n buf rest within)) r.0, λ none room. r.1 none some)
-Reads_front told later (Err fault) buf rest within some r = r
+-- a read into a prefix of a buffer
+pub Reads_prefix : (model later : Option SourceModel) (answer : Result ℕ IoFault) (buf rest : List ℕ) → IfOk answer (λ n. n ≤ length buf) → 0 < length buf → ReadGives model later answer buf → ReadGives model later answer (buf ++ rest)
+Reads_prefix model later (Ok n) buf rest within some r =
+    (subst (Consumes model later) (sym (take-append-le n buf rest within)) r.0, λ none room. r.1 none some)
+Reads_prefix model later (Err fault) buf rest within some r = r
 
 pub GrowsBy-split : (old new : List ℕ) (n : ℕ) → GrowsBy old new n → new ≡ old ++ drop (length old) new
-GrowsBy-split old new n gains = sym (take-append-drop (length old) new) ∙ ap (λ f. f ++ drop (length old) new) gains.front
+GrowsBy-split old new n gains = sym (take-append-drop (length old) new) ∙ ap (λ f. f ++ drop (length old) new) gains.prefix
 
 pub GrowsBy-size : (old new : List ℕ) (n : ℕ) → GrowsBy old new n → length (drop (length old) new) ≡ n
 GrowsBy-size old new n gains = omega (arith, length-drop (length old) new, gains.size)

@@ -1,7 +1,7 @@
--- The parts of csearch put together.
-use Rattle.std.proofs.Common.{◌≡◌, ℕ, ◌+◌, ◌<◌, Bool, true, false, cond, List, [], ◌∷◌, ◌++◌, length, map, take, drop, get_or, refl, sym, ap, subst, ◌∙◌, append_assoc, length-append, Option, Some, None, Result, Err, inl, inr}
-use Rattle.cs_tree.specs.Told.{Taken}
-use Rattle.cs_tree.proofs.Growing.{Grows-same}
+-- The clauses of csearch, from those of the functions that it calls.
+use Rattle.std.proofs.Common.{◌≡◌, ℕ, ◌+◌, ◌<◌, Bool, true, false, cond, List, [], ◌∷◌, ◌++◌, length, map, take, drop, get_or, refl, sym, ap, subst, ◌∙◌, append_assoc, length-append, Option, Some, None, Result, Ok, Err, inl, inr}
+use Rattle.cs_tree.specs.Sinks.{SinkModel}
+use Rattle.cs_tree.proofs.GrowsLemmas.{Grows-same}
 use Rattle.cs_index.specs.Postings.{IsListFault}
 use Rattle.cs_index.specs.PostingLists.{set_at, entries_of}
 use Rattle.cs_trigram.specs.Trigram.{has}
@@ -10,53 +10,55 @@ use Rattle.std.specs.List.{filter_map, range_with_len, cons_option}
 use Rattle.std.proofs.lemmas.List.{take_more, take-append-drop}
 use Rattle.std.proofs.lemmas.List.Elements.{filter-append, filter_map-append}
 use Rattle.cs_syntax.specs.Matching.{Tree}
-use Rattle.cs_syntax.specs.Reading.{Reads}
-use Rattle.cs_syntax.specs.Refusal.{IsRefused}
+use Rattle.cs_syntax.specs.Parsing.{ParsesAs}
+use Rattle.cs_syntax.specs.ParseErrors.{IsParseError}
 use Rattle.cs_syntax.specs.declared.fault.PatternFault.{PatternFault}
 use Rattle.cs_syntax.specs.declared.fault.PatternFault.TheVariants as pattern
 use Rattle.cs_syntax.specs.declared.fault.PatternError.{PatternError}
 use Rattle.cs_tree.specs.Snapshot.{Snapshot}
 use Rattle.cs_index.specs.declared.fault.IndexFault.{IndexFault}
-use Rattle.cs_index.specs.declared.fault.IndexFault.TheVariants.{BadList, Memory as IndexMemory}
-use Rattle.cs_words.specs.declared.jobs.Tool.{Tool}
-use Rattle.cs_words.specs.declared.jobs.Tool.TheVariants.{Csearch}
-use Rattle.cs_words.specs.declared.jobs.SearchJob.{SearchJob}
-use Rattle.cs_words.specs.declared.jobs.Style.{Style}
-use Rattle.cs_words.specs.declared.fault.ToolFault.{ToolFault}
-use Rattle.cs_words.specs.declared.fault.ToolFault.TheVariants.{FilePattern, NoIndex, BadIndex, Write, Memory}
-use Rattle.cs_words.specs.Faults.{pattern_fault, pattern_fault_at, index_fault}
-use Rattle.cs_trigram.specs.Query.{holds}
+use Rattle.cs_index.specs.declared.fault.IndexFault.TheVariants.{BadMagic, BadTrailer, BadOffsets, BadPaths, BadNames, BadNameIndex, BadListIndex, BadList, Memory as IndexMemory}
+use Rattle.cs_args.specs.declared.jobs.Tool.{Tool}
+use Rattle.cs_args.specs.declared.jobs.Tool.TheVariants.{Csearch}
+use Rattle.cs_args.specs.declared.jobs.SearchJob.{SearchJob}
+use Rattle.cs_args.specs.declared.jobs.Style.{Style}
+use Rattle.cs_args.specs.declared.fault.ToolFault.{ToolFault}
+use Rattle.cs_args.specs.declared.fault.ToolFault.TheVariants.{FilePattern, NoIndex, BadIndex, Write, Memory}
+use Rattle.cs_args.specs.Faults.{pattern_fault, pattern_fault_at, index_fault}
+use Rattle.cs_trigram.specs.Query.{matches_set}
 use Rattle.cs_trigram.specs.declared.queries.Query.{Query}
-use Rattle.cs_index.specs.Image.{Entry, Posting}
-use Rattle.cs_index.specs.Opening.{opening}
+use Rattle.cs_index.specs.Encoding.{Entry, PostingList}
+use Rattle.cs_index.specs.Failing.{Fails}
 use Rattle.cs_index.specs.OpenedParts.{Parts, lists_in, files_read}
 use Rattle.cs_index.specs.Candidates.{candidates_of}
 use Rattle.cs_index.specs.Answerable.{is_answerable}
-use Rattle.cs_search.specs.InputReport.{most_searched}
-use Rattle.cs_match.specs.Finding.{Decides}
-use Rattle.cs_search.specs.Refusals.{IsAccepted, IsSearchFault, SilentAtRefusal, has_write_failed}
-use Rattle.cs_search.specs.Searcher.{Prints, IsPrinted, PrintsAllFaults, PrintsFront}
-use Rattle.cs_history.specs.Meeting.{names_meeting}
-use Rattle.cs_search.specs.Csearch.{IsQueryOf, Asks, file_text, Keeps, csearch_printed, AreAccepted, IsReady, RefusedInOrder}
+use Rattle.cs_search.specs.InputReport.{max_searched}
+use Rattle.cs_match.specs.Deciding.{Decides}
+use Rattle.cs_search.specs.StoredSearch.{IsUnopened}
+use Rattle.cs_search.specs.Refusals.{IsAccepted, SilentOnError, has_write_failed}
+use Rattle.cs_search.specs.GrepFaults.{IsSearchFault}
+use Rattle.cs_search.specs.Searcher.{Prints, IsPrinted, PrintsAllFaults, PrintsPrefix}
+use Rattle.cs_history.specs.MatchingFiles.{names_matching}
+use Rattle.cs_search.specs.Csearch.{IsQueryOf, IndexQuery, file_text, Keeps, csearch_printed, AreAccepted, OpensWhole, RefusedInOrder}
 use Rattle.cs_search.specs.Plans.{IsPlan, RefusesPlan}
 use Rattle.cs_search.specs.declared.plan.Plan.{Plan}
 use Rattle.cs_search.specs.declared.status.Status.{Status}
-use Rattle.cs_words.proofs.DivisionLemmas.{slice_get-front}
+use Rattle.cs_args.proofs.ArgSplitLemmas.{slice_get-prefix}
 use Rattle.cs_search.proofs.CgrepLemmas.{read_once, decides_program}
 use Rattle.cs_search.specs.IndexSearch.{FileRefused, OpenRefused, file_fault_at, file_pattern_fault, names_at, IsCompiled, DecidesNames}
-use Rattle.cs_search.specs.Printed.{Printed, NamedFault, AreFaultsOf, file_printed, all_printed, both_printed, none_printed}
-use Rattle.cs_search.proofs.PrintedLemmas.{all_append, both_printed-nothing}
+use Rattle.cs_search.specs.Printed.{Printed, NamedFault, AreFaultsOf, file_printed, all_printed, both_printed}
+use Rattle.cs_search.proofs.PrintedInputLemmas.{none_printed, all_append, both_printed-nothing}
 
--- ---- the pattern of `-f` that is refused
+-- ---- errors of the `-f` pattern
 
-file_refused_at : (text : List ℕ) (error : PatternError) (fault : PatternFault) → error.fault ≡ fault → IsRefused text false error → FileRefused (Some text) (file_fault_at fault error)
+file_refused_at : (text : List ℕ) (error : PatternError) (fault : PatternFault) → error.fault ≡ fault → IsParseError text false error → FileRefused (Some text) (file_fault_at fault error)
 file_refused_at text error pattern.Memory is refused = tt
 file_refused_at text error fault is refused = (refused, λ memory. cc)
 
-pub file_refused : (text : List ℕ) (error : PatternError) → IsRefused text false error → FileRefused (Some text) (file_pattern_fault error)
+pub file_refused : (text : List ℕ) (error : PatternError) → IsParseError text false error → FileRefused (Some text) (file_pattern_fault error)
 file_refused text error refused = file_refused_at text error error.fault refl refused
 
--- ---- names, one after another
+-- ---- names, one after the other
 
 module _ (names : List (List ℕ)) where
   pub names_at_more : (ids : List ℕ) (at : ℕ) → at < length ids → names_at names (take (at + 1) ids) ≡ names_at names (take at ids) ++ names_at names (get_or ids at 0 ∷ [])
@@ -67,7 +69,7 @@ module _ (names : List (List ℕ)) where
   unfolding names_at
   names_at_split ids n = ap (filter_map (slice_get names)) (sym (take-append-drop n ids)) ∙ filter_map-append (slice_get names) (take n ids) (drop n ids)
 
-  -- and those of the ids that follow
+  -- followed by the names of the remaining ids
   pub names_at_rest : (ids : List ℕ) (at : ℕ) → at < length ids → names_at names ids ≡ (names_at names (take at ids) ++ names_at names (get_or ids at 0 ∷ [])) ++ names_at names (drop (at + 1) ids)
   names_at_rest ids at low = names_at_split ids (at + 1) ∙ ap (λ l. l ++ names_at names (drop (at + 1) ids)) (names_at_more ids at low)
 
@@ -84,7 +86,7 @@ module _ (printed : List ℕ → Printed) (keeps : List ℕ → Bool) (names : L
       ∙ ap (all_printed printed) (filter-append keeps (names_at names (take at ids)) (names_at names (get_or ids at 0 ∷ [])))
       ∙ all_append printed (filter keeps (names_at names (take at ids))) (filter keeps (names_at names (get_or ids at 0 ∷ [])))
 
-  -- and the ids that follow
+  -- followed by the remaining ids
   pub chosen_rest : (ids : List ℕ) (at : ℕ) → at < length ids →
       all_printed printed (filter keeps (names_at names ids))
       ≡ both_printed (both_printed (all_printed printed (filter keeps (names_at names (take at ids)))) (all_printed printed (filter keeps (names_at names (get_or ids at 0 ∷ []))))) (all_printed printed (filter keeps (names_at names (drop (at + 1) ids))))
@@ -116,39 +118,39 @@ module _ (printed : List ℕ → Printed) (keeps : List ℕ → Bool) (names : L
 
 -- ---- the names of the candidates
 
-module _ (query : Query) (lists : List Posting) where
-  -- the names from an id on
-  asked_from : (before names : List (List ℕ)) →
-      filter_map (slice_get (before ++ names)) (filter (λ id. holds query (λ g. has (set_at id lists) g)) (range_with_len (length before) (length names)))
-      ≡ map (λ (e : Entry). e.0) (filter (λ (e : Entry). holds query (has e.1)) (entries_of (length before) names lists))
-  asked_from before [] = refl
-  asked_from before (name ∷ names) =
+module _ (query : Query) (lists : List PostingList) where
+  -- the names from one id on
+  matching_from : (before names : List (List ℕ)) →
+      filter_map (slice_get (before ++ names)) (filter (λ id. matches_set query (λ g. has (set_at id lists) g)) (range_with_len (length before) (length names)))
+      ≡ map (λ (e : Entry). e.0) (filter (λ (e : Entry). matches_set query (has e.1)) (entries_of (length before) names lists))
+  matching_from before [] = refl
+  matching_from before (name ∷ names) =
       let moved : (before ++ name ∷ []) ++ names ≡ before ++ name ∷ names = append_assoc before (name ∷ []) names in
       let next : length (before ++ name ∷ []) ≡ length before + 1 = length-append before (name ∷ []) in
-      let rest = asked_from (before ++ name ∷ []) names in
-      let later = λ (all : List (List ℕ)) (n : ℕ). filter_map (slice_get all) (filter (λ id. holds query (λ g. has (set_at id lists) g)) (range_with_len n (length names))) in
-      let entries = λ (n : ℕ). map (λ (e : Entry). e.0) (filter (λ (e : Entry). holds query (has e.1)) (entries_of n names lists)) in
+      let rest = matching_from (before ++ name ∷ []) names in
+      let later = λ (all : List (List ℕ)) (n : ℕ). filter_map (slice_get all) (filter (λ id. matches_set query (λ g. has (set_at id lists) g)) (range_with_len n (length names))) in
+      let entries = λ (n : ℕ). map (λ (e : Entry). e.0) (filter (λ (e : Entry). matches_set query (has e.1)) (entries_of n names lists)) in
       let more : later (before ++ name ∷ names) (length before + 1) ≡ entries (length before + 1) = sym (λ i. later (moved i) (next i)) ∙ rest ∙ ap entries next in
-      elim (holds query (has (set_at (length before) lists))) as (λ t.
-      filter_map (slice_get (before ++ name ∷ names)) (cond t (length before ∷ filter (λ id. holds query (λ g. has (set_at id lists) g)) (range_with_len (length before + 1) (length names))) (filter (λ id. holds query (λ g. has (set_at id lists) g)) (range_with_len (length before + 1) (length names))))
-      ≡ map (λ (e : Entry). e.0) (cond t ((name, set_at (length before) lists) ∷ filter (λ (e : Entry). holds query (has e.1)) (entries_of (length before + 1) names lists)) (filter (λ (e : Entry). holds query (has e.1)) (entries_of (length before + 1) names lists)))) [
-        | true ↦ ap (λ (o : Option (List ℕ)). cons_option o (later (before ++ name ∷ names) (length before + 1))) (slice_get-front before name names) ∙ ap (λ (l : List (List ℕ)). name ∷ l) more
+      elim (matches_set query (has (set_at (length before) lists))) as (λ t.
+      filter_map (slice_get (before ++ name ∷ names)) (cond t (length before ∷ filter (λ id. matches_set query (λ g. has (set_at id lists) g)) (range_with_len (length before + 1) (length names))) (filter (λ id. matches_set query (λ g. has (set_at id lists) g)) (range_with_len (length before + 1) (length names))))
+      ≡ map (λ (e : Entry). e.0) (cond t ((name, set_at (length before) lists) ∷ filter (λ (e : Entry). matches_set query (has e.1)) (entries_of (length before + 1) names lists)) (filter (λ (e : Entry). matches_set query (has e.1)) (entries_of (length before + 1) names lists)))) [
+        | true ↦ ap (λ (o : Option (List ℕ)). cons_option o (later (before ++ name ∷ names) (length before + 1))) (slice_get-prefix before name names) ∙ ap (λ (l : List (List ℕ)). name ∷ l) more
         | false ↦ more
       ]
 
-pub candidates_named : (parts : Parts) (query : Query) → names_at parts.names (candidates_of parts query) ≡ names_meeting query (files_read parts)
-unfolding names_at candidates_of names_meeting
-candidates_named parts query = asked_from query (lists_in parts) [] parts.names
+pub candidates_named : (parts : Parts) (query : Query) → names_at parts.names (candidates_of parts query) ≡ names_matching query (files_read parts)
+unfolding names_at candidates_of names_matching
+candidates_named parts query = matching_from query (lists_in parts) [] parts.names
 
 -- the names of all files
-pub names_of_files : (first : ℕ) (names : List (List ℕ)) (lists : List Posting) → map (λ (e : Entry). e.0) (entries_of first names lists) ≡ names
+pub names_of_files : (first : ℕ) (names : List (List ℕ)) (lists : List PostingList) → map (λ (e : Entry). e.0) (entries_of first names lists) ≡ names
 names_of_files first [] lists = refl
 names_of_files first (name ∷ names) lists = ap (λ (l : List (List ℕ)). name ∷ l) (names_of_files (first + 1) names lists)
 
-pub right_query : (brute : Bool) (query : Query) (text : List ℕ) (fold : Bool) (read : Tree) → Reads text fold read → IsQueryOf brute read query → (pattern : Tree) → Reads text fold pattern → IsQueryOf brute pattern query
+pub right_query : (brute : Bool) (query : Query) (text : List ℕ) (fold : Bool) (read : Tree) → ParsesAs text fold read → IsQueryOf brute read query → (pattern : Tree) → ParsesAs text fold pattern → IsQueryOf brute pattern query
 right_query brute query text fold read reads right pattern wanted = subst (λ (t : Tree). IsQueryOf brute t query) (read_once text fold read pattern reads wanted) right
 
--- ---- refusals, in their order
+-- ---- errors, in their order
 
 pub accepted_file : (text : Option (List ℕ)) (program : Option Tree) → IsCompiled text program → IfSome text (λ text. IsAccepted text false)
 accepted_file None None is = tt
@@ -156,20 +158,20 @@ accepted_file (Some text) (Some program) is = (is.0, is.1, is.2)
 accepted_file None (Some program) is = absurd is
 accepted_file (Some text) None is = absurd is
 
--- the pattern of the job reads so
-pub reads_job : (job : SearchJob) (text : List ℕ) (pattern : Tree) → text ≡ string_bytes job.pattern → Reads text job.fold pattern → Reads (string_bytes job.pattern) job.fold pattern
-reads_job job text pattern same read = subst (λ (t : List ℕ). Reads t job.fold pattern) same read
+-- the job's pattern parses as this tree
+pub reads_job : (job : SearchJob) (text : List ℕ) (pattern : Tree) → text ≡ string_bytes job.pattern → ParsesAs text job.fold pattern → ParsesAs (string_bytes job.pattern) job.fold pattern
+reads_job job text pattern same read = subst (λ (t : List ℕ). ParsesAs t job.fold pattern) same read
 
--- a plan is that of accepted patterns
+-- a plan exists only for accepted patterns
 pub accepted_plan : (job : SearchJob) (plan : Plan) → IsPlan job plan → AreAccepted job
 accepted_plan job plan is = ((is.program.0, is.program.1, is.program.2), accepted_file (file_text job) plan.file is.file)
 
 module _ (job : SearchJob) (index : Option (List ℕ)) where
-  pattern_first_at : (error : PatternError) (fault : PatternFault) → error.fault ≡ fault → IsRefused (string_bytes job.pattern) job.fold error → RefusesPlan job index (pattern_fault_at fault error)
+  pattern_first_at : (error : PatternError) (fault : PatternFault) → error.fault ≡ fault → IsParseError (string_bytes job.pattern) job.fold error → RefusesPlan job index (pattern_fault_at fault error)
   pattern_first_at error pattern.Memory is refused = (tt, refl)
   pattern_first_at error fault is refused = ((refused, λ memory. cc), refl)
 
-  pub pattern_first : (error : PatternError) → IsRefused (string_bytes job.pattern) job.fold error → RefusesPlan job index (pattern_fault error)
+  pub pattern_first : (error : PatternError) → IsParseError (string_bytes job.pattern) job.fold error → RefusesPlan job index (pattern_fault error)
   pattern_first error refused = pattern_first_at error error.fault refl refused
 
   pub file_second : (fault : ToolFault) → IsAccepted (string_bytes job.pattern) job.fold → FileRefused (file_text job) fault → RefusesPlan job index fault
@@ -187,34 +189,46 @@ module _ (job : SearchJob) (index : Option (List ℕ)) where
       by_index (Some bytes) Memory accepted refused = (tt, refl)
       by_index (Some bytes) fault accepted refused = absurd refused
 
-  pub bad_index : (bytes : List ℕ) (fault : IndexFault) → AreAccepted job → opening bytes ≡ Err fault → RefusesPlan job (Some bytes) (index_fault fault)
+  pub bad_index : (bytes : List ℕ) (fault : IndexFault) → AreAccepted job → Fails bytes fault → RefusesPlan job (Some bytes) (index_fault fault)
   bad_index bytes IndexMemory accepted is = (tt, refl)
   bad_index bytes fault accepted is = ((accepted, inl is), refl)
 
-  bad_list : (bytes : Option (List ℕ)) → AreAccepted job → (asks : Asks job bytes) → is_answerable asks.parts asks.query ≡ false → RefusesPlan job bytes (BadIndex BadList)
-  bad_list bytes accepted asks damaged = ((accepted, inr (refl, (asks, damaged))), refl)
+  bad_list : (bytes : Option (List ℕ)) → AreAccepted job → (index_query : IndexQuery job bytes) → is_answerable index_query.parts index_query.query ≡ false → RefusesPlan job bytes (BadIndex BadList)
+  bad_list bytes accepted index_query damaged = ((accepted, inr (refl, (index_query, damaged))), refl)
 
-  pub lists_fourth : (fault : IndexFault) → AreAccepted job → (asks : Asks job index) → IsListFault (is_answerable asks.parts asks.query) fault → RefusesPlan job index (index_fault fault)
-  lists_fourth fault accepted asks (inl bad) = subst (λ (f : IndexFault). RefusesPlan job index (index_fault f)) (sym bad.0) (bad_list index accepted asks bad.1)
-  lists_fourth fault accepted asks (inr memory) = subst (λ (f : IndexFault). RefusesPlan job index (index_fault f)) (sym memory) (tt, refl)
+  pub lists_fourth : (fault : IndexFault) → AreAccepted job → (index_query : IndexQuery job index) → IsListFault (is_answerable index_query.parts index_query.query) fault → RefusesPlan job index (index_fault fault)
+  lists_fourth fault accepted index_query (inl bad) = subst (λ (f : IndexFault). RefusesPlan job index (index_fault f)) (sym bad.0) (bad_list index accepted index_query bad.1)
+  lists_fourth fault accepted index_query (inr memory) = subst (λ (f : IndexFault). RefusesPlan job index (index_fault f)) (sym memory) (tt, refl)
 
-  pub search_last : (fault : ToolFault) → AreAccepted job → IsReady job index → IsSearchFault {A = Status} (Err fault) → RefusedInOrder {A = Status} job index (Err fault)
+  pub search_last : (fault : ToolFault) → AreAccepted job → OpensWhole job index true → IsSearchFault {A = Status} (Err fault) → RefusedInOrder {A = Status} job index (Err fault)
   search_last Write accepted ready is = (accepted, ready)
   search_last Memory accepted ready is = tt
   search_last fault accepted ready is = absurd is
 
--- a list that is refused is no write
+-- the answer of a search by an index that was not opened
+pub unopened_late : (A : Type 0) (job : SearchJob) (fault : IndexFault) → AreAccepted job → IsUnopened {A = A} job fault (Ok (Err (index_fault fault)))
+unopened_late A job IndexMemory accepted = inl (λ index. tt)
+unopened_late A job BadMagic accepted = inr (accepted, refl, λ e. cc e)
+unopened_late A job BadTrailer accepted = inr (accepted, refl, λ e. cc e)
+unopened_late A job BadOffsets accepted = inr (accepted, refl, λ e. cc e)
+unopened_late A job BadPaths accepted = inr (accepted, refl, λ e. cc e)
+unopened_late A job BadNames accepted = inr (accepted, refl, λ e. cc e)
+unopened_late A job BadNameIndex accepted = inr (accepted, refl, λ e. cc e)
+unopened_late A job BadListIndex accepted = inr (accepted, refl, λ e. cc e)
+unopened_late A job BadList accepted = inr (accepted, refl, λ e. cc e)
+
+-- an error of a list is not a failed write
 pub list_unwritten : (fault : IndexFault) → has_write_failed {A = Status} (Err (index_fault fault)) ≡ false
 list_unwritten IndexMemory = refl
 list_unwritten fault = refl
 
--- what a search is refused for may come behind output
-pub search_silent : (Silent : Type 0) (fault : ToolFault) → IsSearchFault {A = Status} (Err fault) → SilentAtRefusal {A = Status} (Err fault) Silent
-search_silent Silent Write is = tt
-search_silent Silent Memory is = tt
+-- an error of a search may come after output
+pub search_silent : (Silent : Type 0) (fault : ToolFault) → IsSearchFault {A = Status} (Err fault) → SilentOnError {A = Status} (Err fault) Silent
+search_silent Silent Write is = λ unwritten forced. absurd (unwritten refl)
+search_silent Silent Memory is = λ unwritten forced. absurd (forced refl)
 search_silent Silent fault is = absurd is
 
--- ---- what is chosen
+-- ---- the selected names
 
 pub names_decided : (text : Option (List ℕ)) (program : Option Tree) (keeps : List ℕ → Bool) → IsCompiled text program → Keeps text keeps → DecidesNames keeps program
 names_decided None None keeps is names = names
@@ -223,42 +237,42 @@ names_decided (Some text) (Some program) keeps is names =
 names_decided None (Some program) keeps is names = absurd is
 names_decided (Some text) None keeps is names = absurd is
 
-pub chosen : (most : ℕ) (style : Style) (finds keeps : List ℕ → Bool) (parts : Parts) (query : Query) (tree : Option Snapshot) (ids : List ℕ) → ids ≡ candidates_of parts query →
-    option_map (λ (s : Snapshot). all_printed (file_printed most Csearch style finds s) (filter keeps (names_at parts.names ids))) tree ≡ csearch_printed most style finds keeps parts query tree
+pub chosen : (limit : ℕ) (style : Style) (has_match keeps : List ℕ → Bool) (parts : Parts) (query : Query) (tree : Option Snapshot) (ids : List ℕ) → ids ≡ candidates_of parts query →
+    option_map (λ (s : Snapshot). all_printed (file_printed limit Csearch style has_match s) (filter keeps (names_at parts.names ids))) tree ≡ csearch_printed limit style has_match keeps parts query tree
 unfolding csearch_printed
-chosen most style finds keeps parts query tree ids is =
-    ap (λ (names : List (List ℕ)). option_map (λ (s : Snapshot). all_printed (file_printed most Csearch style finds s) (filter keeps names)) tree)
+chosen limit style has_match keeps parts query tree ids is =
+    ap (λ (names : List (List ℕ)). option_map (λ (s : Snapshot). all_printed (file_printed limit Csearch style has_match s) (filter keeps names)) tree)
     (ap (names_at parts.names) is ∙ candidates_named parts query)
 
--- what a searcher prints of the names with some ids, where its tool, its style and what it finds by are these
-module _ (Holds : Option Printed → Type 0) (tree : Option Snapshot) (names : List (List ℕ)) where
+-- what a searcher with this tool, style and program prints for the names with these ids
+module _ (Claim : Option Printed → Type 0) (tree : Option Snapshot) (names : List (List ℕ)) where
   abbrev By : Tool → Style → List ℕ → (List ℕ → Bool) → (List ℕ → Bool) → Type 0
-  By tool style ids finds keeps = Holds (option_map (λ (s : Snapshot). all_printed (file_printed most_searched tool style finds s) (filter keeps (names_at names ids))) tree)
+  By tool style ids has_match keeps = Claim (option_map (λ (s : Snapshot). all_printed (file_printed max_searched tool style has_match s) (filter keeps (names_at names ids))) tree)
 
   pub by_csearch : (tool : Tool) (style wanted : Style) (matcher program : Tree) (kept file : Option Tree) (ids plan : List ℕ) → tool ≡ Csearch → style ≡ wanted → matcher ≡ program → kept ≡ file → ids ≡ plan →
-      ((finds keeps : List ℕ → Bool) → Decides finds matcher → DecidesNames keeps kept → By tool style ids finds keeps) →
-      (finds keeps : List ℕ → Bool) → Decides finds program → DecidesNames keeps file → By Csearch wanted plan finds keeps
-  by_csearch tool style wanted matcher program kept file ids plan is_tool is_style matches named same prints finds keeps decides decides_names =
-      subst (λ t. By t wanted plan finds keeps) is_tool
-      (subst (λ t. By tool t plan finds keeps) is_style
-      (subst (λ l. By tool style l finds keeps) same
-      (prints finds keeps (subst (Decides finds) (sym matches) decides) (subst (DecidesNames keeps) (sym named) decides_names))))
+      ((has_match keeps : List ℕ → Bool) → Decides has_match matcher → DecidesNames keeps kept → By tool style ids has_match keeps) →
+      (has_match keeps : List ℕ → Bool) → Decides has_match program → DecidesNames keeps file → By Csearch wanted plan has_match keeps
+  by_csearch tool style wanted matcher program kept file ids plan is_tool is_style is_matcher named same prints has_match keeps decides decides_names =
+      subst (λ t. By t wanted plan has_match keeps) is_tool
+      (subst (λ t. By tool t plan has_match keeps) is_style
+      (subst (λ l. By tool style l has_match keeps) same
+      (prints has_match keeps (subst (Decides has_match) (sym is_matcher) decides) (subst (DecidesNames keeps) (sym named) decides_names))))
 
--- ---- what was printed of a name
+-- ---- what was printed for a name
 
-pub Prints-nothing : (tree : Option Snapshot) (printed : Snapshot → Printed) (out err : Option Taken) → ((s : Snapshot) → printed s ≡ none_printed) → Prints (option_map printed tree) out out err err false
+pub Prints-nothing : (tree : Option Snapshot) (printed : Snapshot → Printed) (out err : Option SinkModel) → ((s : Snapshot) → printed s ≡ none_printed) → Prints (option_map printed tree) out out err err false
 Prints-nothing None printed out err is = tt
 Prints-nothing (Some s) printed out err is = subst (λ (p : Printed). IsPrinted p out out err err false) (sym (is s)) (Grows-same out, Grows-same err, refl)
 
-pub Prints-as : (tree : Option Snapshot) (printed wanted : Snapshot → Printed) (out out' err err' : Option Taken) (matched : Bool) → ((s : Snapshot) → wanted s ≡ printed s) → Prints (option_map printed tree) out out' err err' matched → Prints (option_map wanted tree) out out' err err' matched
+pub Prints-as : (tree : Option Snapshot) (printed wanted : Snapshot → Printed) (out out' err err' : Option SinkModel) (matched : Bool) → ((s : Snapshot) → wanted s ≡ printed s) → Prints (option_map printed tree) out out' err err' matched → Prints (option_map wanted tree) out out' err err' matched
 Prints-as None printed wanted out out' err err' matched is p = tt
 Prints-as (Some s) printed wanted out out' err err' matched is p = subst (λ (x : Printed). IsPrinted x out out' err err' matched) (sym (is s)) p
 
-pub PrintsFront-as : (tree : Option Snapshot) (printed wanted : Snapshot → Printed) (out out' err err' : Option Taken) → ((s : Snapshot) → wanted s ≡ printed s) → PrintsFront (option_map printed tree) out out' err err' → PrintsFront (option_map wanted tree) out out' err err'
-PrintsFront-as None printed wanted out out' err err' is p = tt
-PrintsFront-as (Some s) printed wanted out out' err err' is p = subst (λ (x : Printed). PrintsFront (Some x) out out' err err') (sym (is s)) p
+pub PrintsPrefix-as : (tree : Option Snapshot) (printed wanted : Snapshot → Printed) (out out' err err' : Option SinkModel) → ((s : Snapshot) → wanted s ≡ printed s) → PrintsPrefix (option_map printed tree) out out' err err' → PrintsPrefix (option_map wanted tree) out out' err err'
+PrintsPrefix-as None printed wanted out out' err err' is p = tt
+PrintsPrefix-as (Some s) printed wanted out out' err err' is p = subst (λ (x : Printed). PrintsPrefix (Some x) out out' err err') (sym (is s)) p
 
--- ---- faults of the names that are chosen
+-- ---- faults of the selected names
 
 faults_past : {X : Type 0} (f : X → List ℕ) (b : Bool) (x : X) (kept xs : List X) → ((faults : List NamedFault) → AreFaultsOf (map f kept) faults → AreFaultsOf (map f xs) faults) → (faults : List NamedFault) → AreFaultsOf (map f (cond b (x ∷ kept) kept)) faults → AreFaultsOf (map f (x ∷ xs)) faults
 faults_past f true x kept xs rest faults (inl are) = inl (rest faults are)
@@ -270,12 +284,12 @@ faults_kept f test [] faults are = are
 faults_kept f test (x ∷ xs) faults are = faults_past f (test x) x (filter test xs) xs (faults_kept f test xs) faults are
 
 faults_chosen : (parts : Parts) (query : Query) (ids : List ℕ) (faults : List NamedFault) → ids ≡ candidates_of parts query → AreFaultsOf (names_at parts.names ids) faults → AreFaultsOf parts.names faults
-unfolding names_meeting
+unfolding names_matching
 faults_chosen parts query ids faults is are =
     subst (λ (l : List (List ℕ)). AreFaultsOf l faults) (names_of_files 0 parts.names (lists_in parts))
-    (faults_kept (λ (e : Entry). e.0) (λ (e : Entry). holds query (has e.1)) (files_read parts) faults
+    (faults_kept (λ (e : Entry). e.0) (λ (e : Entry). matches_set query (has e.1)) (files_read parts) faults
     (subst (λ (l : List (List ℕ)). AreFaultsOf l faults) (ap (names_at parts.names) is ∙ candidates_named parts query) are))
 
--- those of the candidates are those of the files that have them
-pub PrintsAllFaults-chosen : {A E : Type 0} (r : Result A E) (tool : Tool) (parts : Parts) (query : Query) (ids : List ℕ) (failed failed' : ℕ) (err err' : Option Taken) → ids ≡ candidates_of parts query → PrintsAllFaults tool (names_at parts.names ids) failed failed' err err' r → PrintsAllFaults tool parts.names failed failed' err err' r
-PrintsAllFaults-chosen r tool parts query ids failed failed' err err' is told = (told.0, faults_chosen parts query ids told.0 is told.1, told.2, told.3)
+-- faults of candidates are faults of indexed files
+pub PrintsAllFaults-chosen : {A E : Type 0} (r : Result A E) (tool : Tool) (parts : Parts) (query : Query) (ids : List ℕ) (failed failed' : ℕ) (err err' : Option SinkModel) → ids ≡ candidates_of parts query → PrintsAllFaults tool (names_at parts.names ids) failed failed' err err' r → PrintsAllFaults tool parts.names failed failed' err err' r
+PrintsAllFaults-chosen r tool parts query ids failed failed' err err' is faults = (faults.0, faults_chosen parts query ids faults.0 is faults.1, faults.2, faults.3)

@@ -1,12 +1,12 @@
--- Writes that are refused, and the rules of printing.
+-- Failed writes, and the rules that prove what is printed.
 use Rattle.std.proofs.Common.{◌≡◌, ℕ, List, Option, Result, Err}
-use Rattle.cs_tree.specs.Told.{Taken}
-use Rattle.cs_tree.proofs.Growing.{Grows-chain, Grows-same}
-use Rattle.cs_tree.proofs.Fronts.{front_none, front_written, front_left, front_right}
-use Rattle.cs_tree.specs.Taken.{TakesFront}
-use Rattle.cs_tree.specs.TakenAll.{TakesBytes}
+use Rattle.cs_tree.specs.Sinks.{SinkModel}
+use Rattle.cs_tree.proofs.GrowsLemmas.{Grows-chain, Grows-same}
+use Rattle.cs_tree.proofs.PrefixLemmas.{prefix_none, prefix_written, prefix_left, prefix_right}
+use Rattle.cs_tree.specs.TakesPrefix.{TakesPrefix}
+use Rattle.cs_tree.specs.WritesBytes.{WritesBytes}
 
-pub refused : {A E : Type 0} (xs : List ℕ) (a b : Option Taken) (r : Result A E) (fault : E) → r ≡ Err fault → TakesFront xs a b → TakesBytes xs a b r
-refused xs a b r fault is front = rw is front
+pub refused : {A E : Type 0} (xs : List ℕ) (a b : Option SinkModel) (r : Result A E) (fault : E) → r ≡ Err fault → TakesPrefix xs a b → WritesBytes xs a b r
+refused xs a b r fault is prefix = rw is prefix
 
-pub ruleset printing = (Grows-same, Grows-chain, front_none, front_written, front_left, front_right)
+pub ruleset printing = (Grows-same, Grows-chain, prefix_none, prefix_written, prefix_left, prefix_right)

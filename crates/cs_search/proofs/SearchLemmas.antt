@@ -1,80 +1,79 @@
--- The clauses of a search by an index, at each of its ends.
-use Rattle.std.proofs.Common.{◌≡◌, ℕ, List, ap, Option, Some, None, Result, Ok, Err, refl, inl, inr, ◌⊎◌}
+-- The clauses of a search by an index, for each way in which it ends.
+use Rattle.std.proofs.Common.{◌≡◌, ℕ, true, List, ap, Option, Some, None, Result, Ok, Err, refl, inl, inr, ◌⊎◌}
 use Rattle.std.specs.Prelude.{filter, IfOk, IfErr, OnErr}
-use Rattle.cs_tree.specs.Taken.{EndsAfter}
-use Rattle.cs_tree.proofs.Growing.{Grows-same}
+use Rattle.cs_tree.specs.TakesPrefix.{EndsAfter}
+use Rattle.cs_tree.proofs.GrowsLemmas.{Grows-same}
 use Rattle.cs_tree.specs.Snapshot.{Snapshot}
 use Rattle.cs_index.specs.OpenedParts.{Parts}
 use Rattle.cs_index.specs.Stored.{StoredParts}
 use Rattle.cs_index.specs.declared.fault.IndexFault.{IndexFault}
-use Rattle.cs_words.specs.Faults.{index_fault}
-use Rattle.cs_words.specs.declared.jobs.Tool.TheVariants.{Csearch}
-use Rattle.cs_words.specs.declared.jobs.SearchJob.{SearchJob}
-use Rattle.cs_words.specs.declared.fault.ToolFault.{ToolFault}
-use Rattle.cs_words.specs.declared.fault.ToolFault.TheVariants.{Pattern, FilePattern, NoIndex, BadIndex, Write, Memory}
+use Rattle.cs_args.specs.declared.jobs.Tool.TheVariants.{Csearch}
+use Rattle.cs_args.specs.declared.jobs.SearchJob.{SearchJob}
+use Rattle.cs_args.specs.declared.fault.ToolFault.{ToolFault}
+use Rattle.cs_args.specs.declared.fault.ToolFault.TheVariants.{Pattern, FilePattern, NoIndex, BadIndex, Write, Memory}
 use Rattle.cs_search.specs.declared.status.Status.{Status}
-use Rattle.cs_search.specs.Csearch.{OpensWith, PrintsAsked, AreAccepted, IsReady, RefusedInOrder}
+use Rattle.cs_search.specs.Csearch.{OpensWith, PrintsCandidates, AreAccepted, OpensWhole, RefusedInOrder}
 use Rattle.cs_search.specs.Plans.{RefusesPlan}
-use Rattle.cs_search.specs.InputReport.{most_searched}
+use Rattle.cs_search.specs.InputReport.{max_searched}
 use Rattle.cs_search.specs.Printed.{Printed, PrintsStatus, PrintsNothing, PrintsSome, PrintsFaults, searched_by_cgrep}
 use Rattle.cs_search.specs.SameSearch.{PrintsLikeCgrep}
-use Rattle.cs_search.specs.Searched.{IsSearch, Outputs}
+use Rattle.cs_search.specs.Searched.{IsSearch, SearchOutputs}
 use Rattle.cs_search.specs.StoredSearch.{IsUnopened}
-use Rattle.cs_search.specs.Refusals.{IsSearchFault}
+use Rattle.cs_search.specs.GrepFaults.{IsSearchFault}
 use Rattle.cs_search.proofs.CsearchLemmas.{search_last}
-use Rattle.cs_search.proofs.PrintedLemmas.{PrintsFaults-no, PrintsSome-nothing}
-use Rattle.cs_search.proofs.PromiseLemmas.{like_cgrep, as_promised}
+use Rattle.cs_search.proofs.PrintedInputLemmas.{PrintsFaults-no, PrintsSome-nothing}
+use Rattle.cs_search.proofs.MainPromiseLemmas.{like_cgrep, as_promised}
 
 module _ (job : SearchJob) (index : Option (List ℕ)) (tree : Option Snapshot) where
-  -- refused before anything is searched
-  pub refused_first : (failed : ℕ) (old : Outputs) (fault : ToolFault) → RefusesPlan job index fault → IsSearch job index tree failed failed old old (Err fault)
+  -- an error before anything is searched
+  pub refused_first : (failed : ℕ) (old : SearchOutputs) (fault : ToolFault) → RefusesPlan job index fault → IsSearch job index tree failed failed old old (Err fault)
   refused_first failed old fault refused = record {
     prints = tt;
     promised = tt;
-    front = inl (Grows-same old.out, Grows-same old.err);
+    prefix = inl (Grows-same old.out, Grows-same old.err);
     refused = refused.0;
     faults = λ parts opens. PrintsFaults-no Csearch {A = Status} (Err fault) fault parts.names failed old.err refl;
   }
 
-  module _ (failed failed' : ℕ) (old new : Outputs) (ready : AreAccepted job × IsReady job index) where
-    -- refused while files are searched, or at the end
-    pub refused_late : (fault : ToolFault) → IsSearchFault {A = Status} (Err fault) → PrintsAsked job index tree (λ printed. PrintsSome printed old.out new.out old.err new.err) →
+  module _ (failed failed' : ℕ) (old new : SearchOutputs) (ready : AreAccepted job × OpensWhole job index true) where
+    -- an error while files are searched, or in a flush
+    pub refused_late : (fault : ToolFault) → IsSearchFault {A = Status} (Err fault) → PrintsCandidates job index tree (λ printed. PrintsSome printed old.out new.out old.err new.err) →
         ((parts : Parts) → OpensWith index parts → PrintsFaults Csearch parts.names failed failed' (λ lines. EndsAfter {A = Status} lines old.err new.err (Err fault))) →
         IsSearch job index tree failed failed' old new (Err fault)
     refused_late fault is prints faults = record {
       prints = tt;
       promised = tt;
-      front = inr (ready.0, prints);
+      prefix = inr (ready.0, prints);
       refused = search_last job index fault ready.0 ready.1 is;
       faults = faults;
     }
 
-    pub searched_to_the_end : (status : Status) → PrintsAsked job index tree (λ printed. PrintsStatus printed old.out new.out old.err new.err status) →
+    pub searched_to_the_end : (status : Status) → PrintsCandidates job index tree (λ printed. PrintsStatus printed old.out new.out old.err new.err status) →
         ((parts : Parts) → OpensWith index parts → PrintsFaults Csearch parts.names failed failed' (λ lines. EndsAfter {E = ToolFault} lines old.err new.err (Ok status))) →
         IsSearch job index tree failed failed' old new (Ok status)
     searched_to_the_end status prints faults = record {
       prints = prints;
       promised = as_promised job index tree (λ (printed : Option Printed). PrintsStatus printed old.out new.out old.err new.err status) prints;
-      front = tt;
+      prefix = tt;
       refused = ready;
       faults = faults;
     }
 
--- ---- the same by cgrep, where each file reads as it was indexed
+-- ---- the same by cgrep, if each file reads as it was indexed
 
-module _ (job : SearchJob) (index : Option (List ℕ)) (tree : Option Snapshot) (failed failed' : ℕ) (old new : Outputs) where
+module _ (job : SearchJob) (index : Option (List ℕ)) (tree : Option Snapshot) (failed failed' : ℕ) (old new : SearchOutputs) where
   pub agrees : (answer : Result Status ToolFault) → IsSearch job index tree failed failed' old new answer → IfOk answer (λ status. PrintsLikeCgrep job index tree (λ printed. PrintsStatus (Some printed) old.out new.out old.err new.err status))
   agrees (Ok status) is = like_cgrep job index tree (λ (printed : Option Printed). PrintsStatus printed old.out new.out old.err new.err status) is.prints
   agrees (Err fault) is = tt
 
-  pub front_agrees : (answer : Result Status ToolFault) → IsSearch job index tree failed failed' old new answer → OnErr answer (PrintsLikeCgrep job index tree (λ printed. PrintsSome (Some printed) old.out new.out old.err new.err))
-  front_agrees (Ok status) is = tt
-  front_agrees (Err fault) is = by_front is.front
+  pub prefix_agrees : (answer : Result Status ToolFault) → IsSearch job index tree failed failed' old new answer → OnErr answer (PrintsLikeCgrep job index tree (λ printed. PrintsSome (Some printed) old.out new.out old.err new.err))
+  prefix_agrees (Ok status) is = tt
+  prefix_agrees (Err fault) is = by_prefix is.prefix
     where
-      by_front : PrintsNothing old.out new.out old.err new.err ⊎ (AreAccepted job × PrintsAsked job index tree (λ printed. PrintsSome printed old.out new.out old.err new.err)) →
+      by_prefix : PrintsNothing old.out new.out old.err new.err ⊎ (AreAccepted job × PrintsCandidates job index tree (λ printed. PrintsSome printed old.out new.out old.err new.err)) →
           PrintsLikeCgrep job index tree (λ printed. PrintsSome (Some printed) old.out new.out old.err new.err)
-      by_front (inl nothing) = λ parts snapshot finds keeps opens told still seeks. PrintsSome-nothing (searched_by_cgrep most_searched job.style finds snapshot (filter keeps parts.names)) old.out new.out old.err new.err nothing
-      by_front (inr some) = like_cgrep job index tree (λ (printed : Option Printed). PrintsSome printed old.out new.out old.err new.err) some.1
+      by_prefix (inl nothing) = λ parts snapshot has_match keeps opens is still decides_search. PrintsSome-nothing (searched_by_cgrep max_searched job.style has_match snapshot (filter keeps parts.names)) old.out new.out old.err new.err nothing
+      by_prefix (inr some) = like_cgrep job index tree (λ (printed : Option Printed). PrintsSome printed old.out new.out old.err new.err) some.1
 
 -- ---- an index in a store that does not open
 
@@ -87,25 +86,25 @@ refusal_of A B job index Write is = is
 refusal_of A B job index Memory is = tt
 
 module _ (A B : Type 0) (job : SearchJob) where
-  -- a plan that is refused, whatever the index is
+  -- an error of the plan, whatever the index is
   pub unopened_first : (opened : Result StoredParts IndexFault) (why : ToolFault) → ((index : Option (List ℕ)) → RefusedInOrder {A = A} job index (Err why)) → IfErr opened (λ fault. IsUnopened {A = B} job fault (Ok (Err why)))
   unopened_first (Ok held) why refused = tt
   unopened_first (Err fault) why refused = inl (λ index. refusal_of A B job index why (refused index))
 
-  -- the same refusal
+  -- the same error
   pub unopened_as : (opened : Result StoredParts IndexFault) (why : ToolFault) → IfErr opened (λ fault. IsUnopened {A = A} job fault (Ok (Err why))) → IfErr opened (λ fault. IsUnopened {A = B} job fault (Ok (Err why)))
   unopened_as (Ok held) why is = tt
   unopened_as (Err fault) why (inl refused) = inl (λ index. refusal_of A B job index why (refused index))
-  unopened_as (Err fault) why (inr both) = inr (both.0, let same : why ≡ index_fault fault = err_once why (index_fault fault) both.1 in ap (λ (f : ToolFault). Err f) same)
+  unopened_as (Err fault) why (inr both) = inr (both.0, (let same : why ≡ BadIndex fault = err_once why (BadIndex fault) both.1 in ap (λ (f : ToolFault). Err f) same), both.2)
     where
       err_once : (a b : ToolFault) → ◌≡◌ {A = Result A ToolFault} (Err a) (Err b) → a ≡ b
       err_once a b e = cc
 
-  -- nothing is searched by it
+  -- nothing is searched
   pub unopened_unready : (opened : Result StoredParts IndexFault) (ready : A) (answer : Result B ToolFault) → IfErr opened (λ fault. IsUnopened {A = A} job fault (Ok (Ok ready))) → IfErr opened (λ fault. IsUnopened {A = B} job fault (Ok answer))
   unopened_unready (Ok held) ready answer is = tt
   unopened_unready (Err fault) ready answer (inl all) = absurd (all None).1.0.opens
-  unopened_unready (Err fault) ready answer (inr both) = absurd (apart ready (index_fault fault) both.1)
+  unopened_unready (Err fault) ready answer (inr both) = absurd (apart ready (BadIndex fault) both.1)
     where
       apart : (x : A) (why : ToolFault) → ◌≡◌ {A = Result A ToolFault} (Ok x) (Err why) → ⊥
       apart x why e = cc

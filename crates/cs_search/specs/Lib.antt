@@ -1,11 +1,12 @@
--- What public contracts rest on.
+-- Definitions that public contracts cite.
 pub use Rattle.cs_history.specs.History
 pub use Rattle.cs_history.specs.FileTrigrams
-pub use Rattle.cs_history.specs.Left
-pub use Rattle.cs_history.specs.Meeting
+pub use Rattle.cs_history.specs.HistoryIndex
+pub use Rattle.cs_history.specs.IndexBytes
+pub use Rattle.cs_history.specs.MatchingFiles
 pub use Rattle.cs_history.specs.Premises
 pub use Rattle.cs_history.specs.WellFormed
-pub use Rattle.cs_index.specs.Image
+pub use Rattle.cs_index.specs.Encoding
 pub use Rattle.cs_index.specs.Opening
 pub use Rattle.cs_index.specs.OpenedParts
 pub use Rattle.cs_index.specs.PostingLists
@@ -13,17 +14,18 @@ pub use Rattle.cs_index.specs.Candidates
 pub use Rattle.cs_trigram.specs.Trigram
 pub use Rattle.cs_trigram.specs.Text
 pub use Rattle.cs_trigram.specs.Query
-pub use Rattle.cs_trigram.specs.PlainRuns
+pub use Rattle.cs_trigram.specs.ExactRuns
 pub use Rattle.cs_tree.specs.Transfers
-pub use Rattle.cs_tree.specs.Loss
-pub use Rattle.cs_tree.specs.Told
-pub use Rattle.cs_tree.specs.Taken
+pub use Rattle.cs_tree.specs.ConsumesAtMost
+pub use Rattle.cs_tree.specs.StreamModels
+pub use Rattle.cs_tree.specs.Sinks
+pub use Rattle.cs_tree.specs.TakesPrefix
 pub use Rattle.cs_tree.specs.Failures
 pub use Rattle.cs_tree.specs.FailureCount
 pub use Rattle.cs_tree.specs.Snapshot
 pub use Rattle.cs_syntax.specs.Matching
-pub use Rattle.cs_syntax.specs.Reading
-pub use Rattle.cs_match.specs.Finding
+pub use Rattle.cs_syntax.specs.Parsing
+pub use Rattle.cs_match.specs.Deciding
 pub use Rattle.cs_match.specs.Lines
 pub mod Report
 pub mod InputReport
@@ -39,7 +41,7 @@ pub mod SearchHeadline
 pub mod Searched
 pub mod StoredSearch
 pub mod SameSearch
--- What functions inside promise each other.
+-- Definitions that private contracts cite.
 pub mod TestedLines
 pub mod Progress
 pub mod Searcher

@@ -1,12 +1,12 @@
--- What a plan of a search by an index has, what refuses one, and what is lent to it.
+-- The plan of a search by an index: its contents, its errors, and the index that answers its query.
 use Rattle.std.specs.Prelude.{ℕ, ◌≡◌, false, List, Option, string_bytes, Err}
 use Rattle.cs_syntax.specs.Matching.{Tree}
-use Rattle.cs_syntax.specs.Reading.{Reads}
+use Rattle.cs_syntax.specs.Parsing.{ParsesAs}
 use Rattle.cs_trigram.specs.declared.queries.Query.{Query}
 use Rattle.cs_index.specs.OpenedParts.{Parts}
-use Rattle.cs_index.specs.Restriction.{AnswersAs}
-use Rattle.cs_words.specs.declared.jobs.SearchJob.{SearchJob}
-use Rattle.cs_words.specs.declared.fault.ToolFault.{ToolFault}
+use Rattle.cs_index.specs.PartialIndex.{AnswersAs}
+use Rattle.cs_args.specs.declared.jobs.SearchJob.{SearchJob}
+use Rattle.cs_args.specs.declared.fault.ToolFault.{ToolFault}
 use Rattle.cs_search.specs.declared.plan.Plan.{Plan}
 use Rattle.cs_search.specs.declared.status.Status.{Status}
 use Rattle.cs_search.specs.Refusals.{has_write_failed}
@@ -14,20 +14,20 @@ use Rattle.cs_search.specs.Csearch.{file_text, IsQueryOf, OpensWith, RefusedInOr
 use Rattle.cs_search.specs.IndexSearch.{IsCompiled}
 use Rattle.cs_search.specs.Programs.{IsProgramOf}
 
--- It has a query for the pattern, and programs that find what both patterns do.
+-- A plan has a query for the pattern, and programs that match what both patterns match.
 pub record IsPlan (job : SearchJob) (plan : Plan) : Type 0 where
-  pub query : (pattern : Tree) → Reads (string_bytes job.pattern) job.fold pattern →
+  pub query : (pattern : Tree) → ParsesAs (string_bytes job.pattern) job.fold pattern →
       IsQueryOf job.brute pattern plan.query
   pub program : IsProgramOf (string_bytes job.pattern) job.fold plan.program
   pub file : IsCompiled (file_text job) plan.file
 
--- The job is refused for that with this index, and it is no write.
+-- The error is right for this job and index, and is not a failed write.
 abbrev pub RefusesPlan : SearchJob → Option (List ℕ) → ToolFault → Type 0
 RefusesPlan job index fault =
     RefusedInOrder {A = Status} job index (Err fault) × (has_write_failed {A = Status} (Err fault) ≡ false)
 
--- An index is lent that answers the query as the one does that the bytes open as.
-pub record IsLent (query : Query) (index : Option (List ℕ)) (lent : Parts) : Type 0 where
+-- The opened index answers the query as the index in the bytes does.
+pub record AnswersQuery (query : Query) (index : Option (List ℕ)) (answering : Parts) : Type 0 where
   pub whole : Parts
   pub opens : OpensWith index whole
-  pub answers : AnswersAs query whole lent
+  pub answers : AnswersAs query whole answering

@@ -1,82 +1,85 @@
--- How far the reading of an input has come, and where it stops.
+-- How far an input was read, and where the reading stops.
 use Rattle.std.specs.Prelude.{ℕ, ◌+◌, ◌<◌, ◌≤◌, ◌≡◌, Bool, List, length, take, Option, Some, None, Result, Ok, Err, false}
-use Rattle.cs_tree.specs.Told.{Told, ends, fails, Taken}
-use Rattle.cs_tree.specs.Transfers.{Loses, IsAt}
-use Rattle.cs_words.specs.declared.jobs.Style.{Style}
+use Rattle.cs_tree.specs.StreamModels.{SourceModel, ends, fails}
+use Rattle.cs_tree.specs.Sinks.{SinkModel}
+use Rattle.cs_tree.specs.Transfers.{Consumes, IsAt}
+use Rattle.cs_args.specs.declared.jobs.Style.{Style}
 use Rattle.cs_search.specs.declared.tally.Tally.{Tally}
 use Rattle.cs_search.specs.declared.grep_fault.ReadFault.{ReadFault}
 use Rattle.cs_search.specs.declared.grep_fault.ReadFault.TheVariants.{Read, TooLong}
 use Rattle.cs_search.specs.declared.grep_fault.GrepFault.{GrepFault}
 use Rattle.cs_search.specs.declared.stop.Stop.{Stop}
-use Rattle.cs_search.specs.declared.stop.Stop.TheVariants.{Listed, End, Left}
-use Rattle.cs_match.specs.Lines.{ended_lines}
+use Rattle.cs_search.specs.declared.stop.Stop.TheVariants.{Listed, End, Faulted}
+use Rattle.cs_match.specs.Lines.{terminated_lines}
 use Rattle.cs_match.specs.LastPart.{last_part}
 use Rattle.cs_search.specs.InputReport.{fault_within}
 use Rattle.cs_search.specs.GrepFaults.{is_failed_read}
-use Rattle.cs_search.specs.TestedLines.{Tests, TestsFront, IsListed}
+use Rattle.cs_search.specs.TestedLines.{Tests, TestsPrefix, IsListed}
 
--- So many bytes of what was told were read; this part after their last newline waits, and the lines before it are counted.
-abbrev pub HasRead : Option Told → Option Told → ℕ → List ℕ → ℕ → Type 0
-HasRead None later n rest lines = Unit {0}
-HasRead (Some told) later n rest lines =
-    (n ≤ length told.bytes) × Loses (Some told) later (take n told.bytes)
-    × (rest ≡ last_part (take n told.bytes)) × (lines ≡ length (ended_lines (take n told.bytes)))
+-- The first `n` bytes of the model were read; `rest` is the unfinished line at their end, and `lines` counts the
+-- lines before it.
+abbrev pub HasReadInput : Option SourceModel → Option SourceModel → ℕ → List ℕ → ℕ → Type 0
+HasReadInput None later n rest lines = Unit {0}
+HasReadInput (Some model) later n rest lines =
+    (n ≤ length model.bytes) × Consumes (Some model) later (take n model.bytes)
+    × (rest ≡ last_part (take n model.bytes)) × (lines ≡ length (terminated_lines (take n model.bytes)))
 
--- The lines that ended in the first n bytes were tested.
-abbrev pub HasTested : Option Told → ℕ → (List (List ℕ) → Type 0) → Type 0
+-- The lines that end within the first `n` bytes were tested.
+abbrev pub HasTested : Option SourceModel → ℕ → (List (List ℕ) → Type 0) → Type 0
 HasTested None n Tested = Unit {0}
-HasTested (Some told) n Tested = Tested (ended_lines (take n told.bytes))
+HasTested (Some model) n Tested = Tested (terminated_lines (take n model.bytes))
 
 abbrev pub stop_fault : Stop → Option ReadFault
 stop_fault Listed = None
 stop_fault End = None
-stop_fault (Left fault) = Some fault
+stop_fault (Faulted fault) = Some fault
 
--- what is told ends here, or fails here, or goes on
-abbrev pub StopsHere : Stop → Option Told → Type 0
+-- the source ends here, fails here, or goes on
+abbrev pub StopsHere : Stop → Option SourceModel → Type 0
 StopsHere stop None = Unit {0}
-StopsHere Listed (Some told) = ⊥
-StopsHere End (Some told) = IsAt ends (Some told)
-StopsHere (Left Read) (Some told) = IsAt fails (Some told)
-StopsHere (Left TooLong) (Some told) = 0 < length told.bytes
+StopsHere Listed (Some model) = ⊥
+StopsHere End (Some model) = IsAt ends (Some model)
+StopsHere (Faulted Read) (Some model) = IsAt fails (Some model)
+StopsHere (Faulted TooLong) (Some model) = 0 < length model.bytes
 
--- a search of at most so many bytes has come to this stop, with this part unended, and its lines tested
-abbrev pub StopsAt : ℕ → Stop → Told → List ℕ → ℕ → Type 0
-StopsAt most Listed told rest lines = Unit {0}
-StopsAt most stop told rest lines =
-    (fault_within most told ≡ stop_fault stop) × (rest ≡ last_part (take most told.bytes))
-    × (lines ≡ length (ended_lines (take most told.bytes)))
+-- A search with this limit stopped for this reason: `rest` is the unfinished line, and the lines before it were
+-- tested.
+abbrev pub StopsAt : ℕ → Stop → SourceModel → List ℕ → ℕ → Type 0
+StopsAt limit Listed model rest lines = Unit {0}
+StopsAt limit stop model rest lines =
+    (fault_within limit model ≡ stop_fault stop) × (rest ≡ last_part (take limit model.bytes))
+    × (lines ≡ length (terminated_lines (take limit model.bytes)))
 
-abbrev pub Stops : ℕ → Stop → Option Told → List ℕ → ℕ → Type 0
-Stops most stop None rest lines = Unit {0}
-Stops most stop (Some told) rest lines = StopsAt most stop told rest lines
+abbrev pub Stops : ℕ → Stop → Option SourceModel → List ℕ → ℕ → Type 0
+Stops limit stop None rest lines = Unit {0}
+Stops limit stop (Some model) rest lines = StopsAt limit stop model rest lines
 
-module _ (style : Style) (name : List ℕ) (finds : List ℕ → Bool) (before after : Tally)
-    (taken later : Option Taken) where
-  -- and what was found and printed there
-  abbrev pub FindsAt : ℕ → Stop → Told → Type 0
-  FindsAt most Listed told =
-      IsListed style name finds (ended_lines (take most told.bytes)) (before.lines + 1) after taken later
-  FindsAt most stop told =
-      Tests style name finds (ended_lines (take most told.bytes)) before after taken later
+module _ (style : Style) (name : List ℕ) (has_match : List ℕ → Bool) (before after : Tally)
+    (sink later : Option SinkModel) where
+  -- and what was printed for these lines
+  abbrev pub TestsAt : ℕ → Stop → SourceModel → Type 0
+  TestsAt limit Listed model =
+      IsListed style name has_match (terminated_lines (take limit model.bytes)) (before.lines + 1) after sink later
+  TestsAt limit stop model =
+      Tests style name has_match (terminated_lines (take limit model.bytes)) before after sink later
 
-  abbrev pub FindsBy : ℕ → Stop → Option Told → Type 0
-  FindsBy most stop None = Unit {0}
-  FindsBy most stop (Some told) = FindsAt most stop told
+  abbrev pub TestsInput : ℕ → Stop → Option SourceModel → Type 0
+  TestsInput limit stop None = Unit {0}
+  TestsInput limit stop (Some model) = TestsAt limit stop model
 
--- a refused search has written a front of what is printed at the hits
-abbrev pub FindsFront : Style → List ℕ → (List ℕ → Bool) → ℕ → Option Taken → Option Taken → ℕ →
-    Option Told → Type 0
-FindsFront style name finds first taken later most None = Unit {0}
-FindsFront style name finds first taken later most (Some told) =
-    TestsFront style name finds (ended_lines (take most told.bytes)) first taken later
+-- after an error, a prefix of what is printed for the matching lines was written
+abbrev pub TestsInputPrefix : Style → List ℕ → (List ℕ → Bool) → ℕ → Option SinkModel → Option SinkModel → ℕ →
+    Option SourceModel → Type 0
+TestsInputPrefix style name has_match first sink later limit None = Unit {0}
+TestsInputPrefix style name has_match first sink later limit (Some model) =
+    TestsPrefix style name has_match (terminated_lines (take limit model.bytes)) first sink later
 
--- a read of the input has failed, so that the search stops
+-- the search stopped because a read of the input failed
 abbrev pub has_stop_failed : Result Stop GrepFault → Bool
 has_stop_failed (Ok stop) = is_failed_read (stop_fault stop)
 has_stop_failed (Err fault) = false
 
--- this holds, unless the first hit has ended the search, under `-l`
+-- `P` holds, unless the first matching line ended the search, under `-l`
 abbrev pub UnlessListed : Stop → Type 0 → Type 0
 UnlessListed Listed P = Unit {0}
 UnlessListed stop P = P

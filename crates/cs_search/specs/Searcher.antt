@@ -1,10 +1,10 @@
--- What the functions of a searcher promise each other: what stays as it was, what they print, and what refuses them.
+-- The contracts inside a searcher: what its functions leave unchanged, what they print, and their errors.
 use Rattle.std.specs.Prelude.{ℕ, ◌≡◌, Bool, List, Option, Some, None, Result}
-use Rattle.cs_tree.specs.Told.{Taken, Grows}
-use Rattle.cs_tree.specs.Taken.{TakesFront}
-use Rattle.cs_tree.specs.TakenAll.{TakesBytes}
+use Rattle.cs_tree.specs.Sinks.{SinkModel, Grows}
+use Rattle.cs_tree.specs.TakesPrefix.{TakesPrefix}
+use Rattle.cs_tree.specs.WritesBytes.{WritesBytes}
 use Rattle.cs_search.specs.declared.searcher.Searcher.{Searcher}
-use Rattle.cs_words.specs.declared.jobs.Tool.{Tool}
+use Rattle.cs_args.specs.declared.jobs.Tool.{Tool}
 use Rattle.cs_search.specs.Printed.{Printed, PrintsFaults}
 
 pub record IsKept (old new : Searcher) : Type 0 where
@@ -12,24 +12,24 @@ pub record IsKept (old new : Searcher) : Type 0 where
   pub style : new.style ≡ old.style
   pub matcher : new.matcher.tree ≡ old.matcher.tree
 
--- this was printed, and the answer is whether some line matched
-abbrev pub IsPrinted : Printed → Option Taken → Option Taken → Option Taken → Option Taken → Bool → Type 0
+-- this was printed, and `matched` says whether some line matched
+abbrev pub IsPrinted : Printed → Option SinkModel → Option SinkModel → Option SinkModel → Option SinkModel → Bool → Type 0
 IsPrinted printed out out' err err' matched =
     Grows out out' printed.output × Grows err err' printed.errors × (matched ≡ printed.matched)
 
--- that, where what was searched tells its bytes
-abbrev pub Prints : Option Printed → Option Taken → Option Taken → Option Taken → Option Taken → Bool → Type 0
+-- the same, if what was searched has a model
+abbrev pub Prints : Option Printed → Option SinkModel → Option SinkModel → Option SinkModel → Option SinkModel → Bool → Type 0
 Prints None out out' err err' matched = Unit {0}
 Prints (Some printed) out out' err err' matched = IsPrinted printed out out' err err' matched
 
--- Of this each output has taken a front, where what was searched tells its bytes. Nothing was flushed.
-abbrev pub PrintsFront : Option Printed → Option Taken → Option Taken → Option Taken → Option Taken → Type 0
-PrintsFront None out out' err err' = Unit {0}
-PrintsFront (Some printed) out out' err err' =
-    TakesFront printed.output out out' × TakesFront printed.errors err err'
+-- Each output has a prefix of this, if what was searched has a model. Nothing was flushed.
+abbrev pub PrintsPrefix : Option Printed → Option SinkModel → Option SinkModel → Option SinkModel → Option SinkModel → Type 0
+PrintsPrefix None out out' err err' = Unit {0}
+PrintsPrefix (Some printed) out out' err err' =
+    TakesPrefix printed.output out out' × TakesPrefix printed.errors err err'
 
--- The lines of some faults of the names were printed, and where the call was refused a front of them.
-abbrev pub PrintsAllFaults : {A E : Type 0} → Tool → List (List ℕ) → ℕ → ℕ → Option Taken → Option Taken →
+-- Fault lines of some of the names were printed, or a prefix of them if the call failed.
+abbrev pub PrintsAllFaults : {A E : Type 0} → Tool → List (List ℕ) → ℕ → ℕ → Option SinkModel → Option SinkModel →
     Result A E → Type 0
 PrintsAllFaults tool names failed failed' err err' result =
-    PrintsFaults tool names failed failed' (λ lines. TakesBytes lines err err' result)
+    PrintsFaults tool names failed failed' (λ lines. WritesBytes lines err err' result)

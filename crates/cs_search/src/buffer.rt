@@ -6,10 +6,10 @@ ghost use Rattle.cs_tree.specs.FailureCount.{count_after};
 use cs_tree::{IoFault, Source};
 use std::alloc::{AllocError, Global};
 
-/// How many bytes a buffer has at first.
+/// The initial size in bytes.
 const FIRST_SIZE: usize = 65536;
 
-/// A buffer for the bytes of one input after another. It grows only for a line that is longer than it.
+/// A read buffer, reused for one input after another. It grows only for a line that is longer than the buffer.
 #[derive(Drop)]
 pub struct LineBuffer {
     bytes: Vec<u8>,
@@ -24,7 +24,7 @@ impl LineBuffer {
     ghost use Rattle.std.specs.Prelude.{◌^◌, [], OnOk, OnErr};
     ghost use Rattle.cs_search.specs.Buffer.{pending_bytes, size_of, GrowsBy, Fills};
 
-    /// A buffer with nothing in it.
+    /// An empty buffer.
     #[tactic(auto, unfolding(crate::specs::Buffer::pending_bytes))]
     pub(crate) fn new(alloc: Global) -> Result<LineBuffer, AllocError>
         ensures { IfOk result (λ buffer. pending_bytes buffer ≡ []) }
@@ -32,7 +32,7 @@ impl LineBuffer {
         LineBuffer::of_size(alloc, FIRST_SIZE)
     }
 
-    /// A buffer of so many bytes with nothing in it.
+    /// An empty buffer of `size` bytes.
     #[tactic(auto, unfolding(crate::specs::Buffer::pending_bytes))]
     pub fn of_size(alloc: Global, size: usize) -> Result<LineBuffer, AllocError>
         requires { 0 < size }
@@ -47,7 +47,7 @@ impl LineBuffer {
         })
     }
 
-    /// Lets go what is in it.
+    /// Discards the pending bytes.
     #[tactic(auto, unfolding(crate::specs::Buffer::pending_bytes))]
     pub(crate) fn clear(&mut self)
         ensures { pending_bytes self.new ≡ [] }
@@ -56,7 +56,7 @@ impl LineBuffer {
         self.end = 0;
     }
 
-    /// What is in it.
+    /// The bytes that were read and are not yet searched.
     #[tactic(auto, unfolding(crate::specs::Buffer::pending_bytes))]
     pub(crate) fn pending(&self) -> &[u8]
         ensures { result.now ≡ pending_bytes self.now }
@@ -64,7 +64,7 @@ impl LineBuffer {
         &self.bytes[self.start..self.end]
     }
 
-    /// Lets go so many bytes at the front of what is in it.
+    /// Drops the first `n` pending bytes.
     #[tactic(auto, unfolding(crate::specs::Buffer::pending_bytes))]
     pub(crate) fn skip(&mut self, n: usize)
         requires { n ≤ length (pending_bytes self.old) }
@@ -73,9 +73,9 @@ impl LineBuffer {
         self.start += n;
     }
 
-    /// Moves what is in it to the front.
+    /// Moves the pending bytes to the start of the buffer.
     #[tactic(auto, unfolding(crate::specs::Buffer::pending_bytes))]
-    fn move_front(&mut self)
+    fn move_to_start(&mut self)
         ensures same { pending_bytes self.new ≡ pending_bytes self.old }
         ensures size { vec_len self.new.bytes ≡ vec_len self.old.bytes }
         ensures end { self.new.end + self.old.start ≡ self.old.end }
@@ -87,7 +87,7 @@ impl LineBuffer {
         self.end = end - start;
     }
 
-    /// Makes room behind what is in it.
+    /// Makes room after the pending bytes: moves them to the start, or doubles the buffer.
     #[tactic(auto, unfolding(crate::specs::Buffer::pending_bytes))]
     fn make_room(&mut self) -> Result<(), AllocError>
         requires { length (pending_bytes self.old) < 2 ^ 32 }
@@ -98,7 +98,7 @@ impl LineBuffer {
             return Ok(());
         }
         if self.start > 0 {
-            self.move_front();
+            self.move_to_start();
             return Ok(());
         }
         let size = self.bytes.len() * 2;
@@ -106,15 +106,15 @@ impl LineBuffer {
         Ok(())
     }
 
-    /// Reads some bytes behind what is in it, at most so many, and answers how many. None is the end.
+    /// Reads up to `limit` bytes after the pending ones and returns their number, which is 0 at the end of the input.
     #[tactic(auto, unfolding(crate::specs::Buffer::pending_bytes))]
-    pub(crate) fn fill<R: Source>(&mut self, input: &mut R, most: usize) -> Result<usize, IoFault>
-        requires some { 0 < most }
+    pub(crate) fn fill<R: Source>(&mut self, input: &mut R, limit: usize) -> Result<usize, IoFault>
+        requires some { 0 < limit }
         requires bound { length (pending_bytes self.old) < 2 ^ 32 }
-        ensures within { IfOk result (λ n. n ≤ most) }
+        ensures within { IfOk result (λ n. n ≤ limit) }
         ensures gains { IfOk result
             (λ n. GrowsBy (pending_bytes self.old) (pending_bytes self.new) n) }
-        ensures told { Fills (R.told input.old) (R.told input.new) result
+        ensures model { Fills (R.model input.old) (R.model input.new) result
             (drop (length (pending_bytes self.old)) (pending_bytes self.new)) }
         ensures same { OnErr result (pending_bytes self.new ≡ pending_bytes self.old) }
         ensures failed { R.failed input.new ≡
@@ -122,29 +122,29 @@ impl LineBuffer {
         ensures keeps { R.Keeps input.old input.new }
     {
         self.make_room()?;
-        let n = read_behind(input, &mut self.bytes, self.end, most)?;
+        let n = read_behind(input, &mut self.bytes, self.end, limit)?;
         self.end += n;
         Ok(n)
     }
 }
 
-/// Reads some bytes to the place from `end` on, at most so many.
+/// Reads up to `limit` bytes into `bytes`, from `end` on.
 fn read_behind<R: Source>(
     input: &mut R,
     bytes: &mut [u8],
     end: usize,
-    most: usize,
+    limit: usize,
 ) -> Result<usize, IoFault>
-    requires some { 0 < most }
+    requires some { 0 < limit }
     requires room { end < length bytes.old }
-    ensures within { IfOk result (λ n. n ≤ most) }
+    ensures within { IfOk result (λ n. n ≤ limit) }
     ensures size { IfOk result (λ n. end + n ≤ length bytes.new) }
     ensures before { take end bytes.new ≡ take end bytes.old }
-    ensures told { ReadGives (R.told input.old) (R.told input.new) result (drop end bytes.new) }
+    ensures model { ReadGives (R.model input.old) (R.model input.new) result (drop end bytes.new) }
     ensures failed { R.failed input.new ≡ count_after is_io_failure result (R.failed input.old) }
     ensures keeps { R.Keeps input.old input.new }
 {
-    let stop = end + most.min(bytes.len() - end);
+    let stop = end + limit.min(bytes.len() - end);
     let n = input.read(&mut bytes[end..stop])?;
     Ok(n)
 }

@@ -1,34 +1,34 @@
-// Why searches are refused, and why inputs are left.
+// Errors of searches, and reasons to stop before the end of an input.
 ghost use Rattle.std.specs.Prelude.{◌≡◌};
 
+use cs_args::ToolFault;
 use cs_tree::IoFault;
-use cs_words::ToolFault;
 use std::alloc::AllocError;
 use thiserror::Error;
 
-/// Why an input is left before its end.
+/// Why a search stops before the end of its input.
 #[derive(Clone, Copy, Debug, PartialEq, Eq, Drop, Error)]
 pub enum ReadFault {
-    /// A read has failed.
+    /// A read failed.
     #[error("a read has failed")]
     Read,
-    /// It has more bytes than are searched: `MOST_SEARCHED`, where the caller sets no other limit.
+    /// The input has more than `MAX_SEARCHED` bytes, or more than the limit of the caller.
     #[error("the input is too long")]
     TooLong,
 }
 
-/// Why a search of an input is refused.
+/// Why a search of an input fails.
 #[derive(Clone, Copy, Debug, PartialEq, Eq, Drop, Error)]
 pub enum GrepFault {
-    /// A write to the output has failed.
+    /// A write to the output failed.
     #[error("a write has failed")]
     Write,
-    /// A growth was refused: for a longer line, or in a read or a write.
+    /// An allocation failed: for a longer line, or in a read or a write.
     #[error("out of memory")]
     Memory,
 }
 
-/// A refused write of the output.
+/// The error of a failed write.
 impl From<IoFault> for GrepFault {
     ghost use Rattle.cs_search.specs.GrepFaults.{write_fault};
 

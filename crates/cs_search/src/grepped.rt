@@ -1,11 +1,12 @@
-// What a search of one input answers.
+// The result of a search of one input.
 use crate::grep_fault::ReadFault;
 
 /// What a search of one input found.
 #[derive(Clone, Copy, Debug, PartialEq, Eq, Drop)]
 pub struct Grepped {
-    /// Some line that was tested matched.
+    /// Some tested line matched.
     pub matched: bool,
-    /// Why the input was left before its end. With `-l` a hit ends the search, without a fault.
+    /// Why the search stopped before the end of the input. With `-l` a matching line ends the search, and this is
+    /// `None`.
     pub fault: Option<ReadFault>,
 }

@@ -1,14 +1,14 @@
-// Which names `-f` keeps.
+// The names that `-f` keeps.
 ghost use Rattle.std.specs.Prelude.{◌≡◌, ℕ, Bool, List, IfOk, IfErr, option_copied};
 ghost use Rattle.cs_search.specs.Csearch.{file_text};
 ghost use Rattle.cs_search.specs.IndexSearch.{DecidesNames, matcher_tree, IsCompiled, FileRefused, file_pattern_fault};
 
+use cs_args::{SearchJob, ToolFault};
 use cs_match::{Matcher, Program};
 use cs_syntax::{PatternError, PatternFault, parse};
-use cs_words::{SearchJob, ToolFault};
 use std::alloc::{AllocError, Global};
 
-/// The program of the pattern of `-f`, where there is one.
+/// Compiles the pattern of `-f`, if there is one.
 pub(crate) fn compile_file(alloc: Global, job: &SearchJob) -> Result<Option<Program>, ToolFault>
     ensures compiled { IfOk result (IsCompiled (file_text job.now)) }
     ensures refused { IfErr result (FileRefused (file_text job.now)) }
@@ -25,7 +25,7 @@ pub(crate) fn compile_file(alloc: Global, job: &SearchJob) -> Result<Option<Prog
     }
 }
 
-/// The fault of the pattern of `-f`. Want of memory is its own fault.
+/// The error of the `-f` pattern; an allocation failure becomes `Memory`.
 fn file_fault(error: PatternError) -> ToolFault
     ensures { result ≡ file_pattern_fault error }
 {
@@ -35,7 +35,7 @@ fn file_fault(error: PatternError) -> ToolFault
     }
 }
 
-/// Tells which names `-f` keeps: all, where it was not given.
+/// Decides which names `-f` keeps: all of them without `-f`.
 #[derive(Drop)]
 pub(crate) struct NameFilter<'p> {
     matcher: Option<Matcher<'p>>,

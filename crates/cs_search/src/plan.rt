@@ -1,26 +1,27 @@
-// What a job of csearch is to search for, before anything of an index or of a file is looked at.
+// The plan of a csearch job, compiled before the index or a file is read.
 ghost use Rattle.std.specs.Prelude.{◌≡◌, ◌+◌, ℕ, Bool, List, Option, IfOk, IfErr, OnErr, option_map, filter};
-ghost use Rattle.cs_tree.specs.Failures.{CountsOne};
+ghost use Rattle.cs_tree.specs.Sinks.{CountsOne};
 ghost use Rattle.cs_tree.specs.ReadCounts.{ReadsWithin};
-ghost use Rattle.cs_match.specs.Finding.{Decides};
-ghost use Rattle.cs_words.specs.declared.jobs.Tool.TheVariants.{Csearch};
-ghost use Rattle.cs_search.specs.InputReport.{most_searched};
+ghost use Rattle.cs_match.specs.Deciding.{Decides};
+ghost use Rattle.cs_args.specs.declared.jobs.Tool.TheVariants.{Csearch};
+ghost use Rattle.cs_search.specs.InputReport.{max_searched};
 ghost use Rattle.cs_search.specs.Csearch.{IsQueryOf};
 ghost use Rattle.cs_search.specs.IndexSearch.{names_at, DecidesNames};
 ghost use Rattle.cs_search.specs.Plans.{IsPlan, RefusesPlan};
 ghost use Rattle.cs_search.specs.Printed.{all_printed, file_printed};
-ghost use Rattle.cs_search.specs.Refusals.{has_write_failed, IsSearchFault};
-ghost use Rattle.cs_search.specs.Searcher.{Prints, PrintsFront, PrintsAllFaults};
+ghost use Rattle.cs_search.specs.Refusals.{has_write_failed};
+ghost use Rattle.cs_search.specs.GrepFaults.{IsSearchFault};
+ghost use Rattle.cs_search.specs.Searcher.{Prints, PrintsPrefix, PrintsAllFaults};
 
 use crate::csearching::search_ids;
 use crate::name_filter::{NameFilter, compile_file};
 use crate::searcher::Searcher;
+use cs_args::{SearchJob, Style, Tool, ToolFault};
 use cs_index::Index;
 use cs_match::Program;
 use cs_syntax::{Pattern, parse};
 use cs_tree::{Sink, Tree};
 use cs_trigram::{Query, query};
-use cs_words::{SearchJob, Style, Tool, ToolFault};
 use std::alloc::{AllocError, Global};
 
 /// The query of a job, and the programs of both patterns.
@@ -32,7 +33,7 @@ pub(crate) struct Plan {
 }
 
 impl Plan {
-    /// Refuses in this order: the pattern, and that of `-f`.
+    /// Compiles the job. An error of the pattern comes before one of the `-f` pattern.
     pub(crate) fn new(alloc: Global, job: &SearchJob) -> Result<Plan, ToolFault>
         ensures plan { IfOk result (IsPlan job.now) }
         ensures refused { IfErr result
@@ -49,7 +50,7 @@ impl Plan {
         })
     }
 
-    /// Searches the files that have the ids in an index, where their names are kept. Answers whether some line of some
+    /// Searches the files with these ids in the index, if their names are kept. Returns whether some line of some
     /// file matched.
     pub(crate) fn search<T: Tree, O: Sink, E: Sink>(
         &self,
@@ -61,22 +62,22 @@ impl Plan {
         out: &mut O,
         err: &mut E,
     ) -> Result<bool, ToolFault>
-        ensures prints { IfOk result (λ matched. (finds keeps : List ℕ → Bool) →
-            Decides finds self.now.program → DecidesNames keeps self.now.file →
+        ensures prints { IfOk result (λ matched. (has_match keeps : List ℕ → Bool) →
+            Decides has_match self.now.program → DecidesNames keeps self.now.file →
             Prints (option_map (λ tree. all_printed
-            (file_printed most_searched Csearch style finds tree)
+            (file_printed max_searched Csearch style has_match tree)
             (filter keeps (names_at index.now.names ids.now))) (T.snapshot tree.old))
-            (O.taken out.old) (O.taken out.new) (E.taken err.old) (E.taken err.new) matched) }
-        ensures front { OnErr result ((finds keeps : List ℕ → Bool) →
-            Decides finds self.now.program → DecidesNames keeps self.now.file →
-            PrintsFront (option_map (λ tree. all_printed
-            (file_printed most_searched Csearch style finds tree)
+            (O.model out.old) (O.model out.new) (E.model err.old) (E.model err.new) matched) }
+        ensures prefix { OnErr result ((has_match keeps : List ℕ → Bool) →
+            Decides has_match self.now.program → DecidesNames keeps self.now.file →
+            PrintsPrefix (option_map (λ tree. all_printed
+            (file_printed max_searched Csearch style has_match tree)
             (filter keeps (names_at index.now.names ids.now))) (T.snapshot tree.old))
-            (O.taken out.old) (O.taken out.new) (E.taken err.old) (E.taken err.new)) }
-        ensures reads { ReadsWithin (most_searched + 1)
+            (O.model out.old) (O.model out.new) (E.model err.old) (E.model err.new)) }
+        ensures reads { ReadsWithin (max_searched + 1)
             (T.read_counts tree.old) (T.read_counts tree.new) }
         ensures faults { PrintsAllFaults Csearch (names_at index.now.names ids.now)
-            (T.failed tree.old) (T.failed tree.new) (E.taken err.old) (E.taken err.new) result }
+            (T.failed tree.old) (T.failed tree.new) (E.model err.old) (E.model err.new) result }
         ensures writes { CountsOne (has_write_failed result)
             (O.failed out.old) (O.failed out.new) (E.failed err.old) (E.failed err.new) }
         ensures only { IsSearchFault result }
@@ -89,7 +90,7 @@ impl Plan {
     }
 }
 
-/// The query of a pattern, or with `-brute` that which every file meets.
+/// The query of a pattern; with `-brute` the query that every file matches.
 fn query_of(alloc: Global, brute: bool, pattern: &Pattern) -> Result<Query, AllocError>
     ensures { IfOk result (IsQueryOf brute pattern.now) }
 {

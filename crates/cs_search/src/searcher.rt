@@ -1,26 +1,28 @@
-// What a tool searches its inputs with.
+// The state that a tool searches its inputs with.
 ghost use Rattle.std.specs.Prelude.{◌≡◌, ◌+◌, ℕ, Bool, List, [], ◌∷◌, IfOk, OnErr, option_map, map, string_bytes};
-ghost use Rattle.cs_words.specs.FileFaults.{fault_line_of};
-ghost use Rattle.cs_tree.specs.Failures.{count_if, CountsOne};
-ghost use Rattle.cs_tree.specs.Loss.{LosesAtMost};
+ghost use Rattle.cs_args.specs.FileFaults.{fault_line_of};
+ghost use Rattle.cs_tree.specs.Failures.{count_if};
+ghost use Rattle.cs_tree.specs.Sinks.{CountsOne};
+ghost use Rattle.cs_tree.specs.ConsumesAtMost.{ConsumesAtMost};
 ghost use Rattle.cs_tree.specs.ReadCounts.{ReadsWithin};
-ghost use Rattle.cs_match.specs.Finding.{Decides};
-ghost use Rattle.cs_tree.specs.TakenAll.{TakesBytes};
-ghost use Rattle.cs_search.specs.InputReport.{most_searched};
-ghost use Rattle.cs_search.specs.Searcher.{Prints, PrintsFront, PrintsAllFaults};
-ghost use Rattle.cs_search.specs.Refusals.{has_write_failed, IsSearchFault};
-ghost use Rattle.cs_search.specs.Printed.{input_printed, file_printed, all_printed, left_fault};
+ghost use Rattle.cs_match.specs.Deciding.{Decides};
+ghost use Rattle.cs_tree.specs.WritesBytes.{WritesBytes};
+ghost use Rattle.cs_search.specs.InputReport.{max_searched};
+ghost use Rattle.cs_search.specs.Searcher.{Prints, PrintsPrefix, PrintsAllFaults};
+ghost use Rattle.cs_search.specs.Refusals.{has_write_failed};
+ghost use Rattle.cs_search.specs.GrepFaults.{IsSearchFault};
+ghost use Rattle.cs_search.specs.Printed.{input_printed, file_printed, all_printed};
 
 use crate::buffer::LineBuffer;
-use crate::form::Form;
 use crate::grep_fault::ReadFault;
-use crate::report::{MOST_SEARCHED, grep_within};
+use crate::printer::Printer;
+use crate::report::{MAX_SEARCHED, grep_within};
+use cs_args::{FileFault, Style, Tool, ToolFault, fault_line};
 use cs_match::{Matcher, Program};
 use cs_tree::{Sink, Source, Tree, TreeReader, write_all};
-use cs_words::{FileFault, Style, Tool, ToolFault, fault_line};
 use std::alloc::{AllocError, Global};
 
-/// A tool's matcher and read buffer, which serve for one input after another.
+/// A tool's matcher and read buffer, reused for one input after another.
 #[derive(Drop)]
 pub(crate) struct Searcher<'p> {
     alloc: Global,
@@ -54,7 +56,7 @@ impl<'p> Searcher<'p> {
         })
     }
 
-    /// Prints what is found in an input, and the line of its fault. Answers whether some line matched.
+    /// Prints the matching lines of an input, and its fault line. Returns whether some line matched.
     pub(crate) fn search<R: Source, O: Sink, E: Sink>(
         &mut self,
         name: &str,
@@ -62,35 +64,35 @@ impl<'p> Searcher<'p> {
         out: &mut O,
         err: &mut E,
     ) -> Result<bool, ToolFault>
-        ensures prints { IfOk result (λ matched. (finds : List ℕ → Bool) →
-            Decides finds self.old.matcher.tree →
+        ensures prints { IfOk result (λ matched. (has_match : List ℕ → Bool) →
+            Decides has_match self.old.matcher.tree →
             Prints (option_map
-            (input_printed most_searched self.old.tool self.old.style finds name.now)
-            (R.told input.old))
-            (O.taken out.old) (O.taken out.new) (E.taken err.old) (E.taken err.new) matched) }
-        ensures front { OnErr result ((finds : List ℕ → Bool) →
-            Decides finds self.old.matcher.tree →
-            PrintsFront (option_map
-            (input_printed most_searched self.old.tool self.old.style finds name.now)
-            (R.told input.old))
-            (O.taken out.old) (O.taken out.new) (E.taken err.old) (E.taken err.new)) }
-        ensures loses { LosesAtMost (most_searched + 1) (R.told input.old) (R.told input.new) }
+            (input_printed max_searched self.old.tool self.old.style has_match name.now)
+            (R.model input.old))
+            (O.model out.old) (O.model out.new) (E.model err.old) (E.model err.new) matched) }
+        ensures prefix { OnErr result ((has_match : List ℕ → Bool) →
+            Decides has_match self.old.matcher.tree →
+            PrintsPrefix (option_map
+            (input_printed max_searched self.old.tool self.old.style has_match name.now)
+            (R.model input.old))
+            (O.model out.old) (O.model out.new) (E.model err.old) (E.model err.new)) }
+        ensures loses { ConsumesAtMost (max_searched + 1) (R.model input.old) (R.model input.new) }
         ensures faults { PrintsAllFaults self.old.tool (name.now ∷ [])
-            (R.failed input.old) (R.failed input.new) (E.taken err.old) (E.taken err.new) result }
+            (R.failed input.old) (R.failed input.new) (E.model err.old) (E.model err.new) result }
         ensures writes { CountsOne (has_write_failed result)
             (O.failed out.old) (O.failed out.new) (E.failed err.old) (E.failed err.new) }
         ensures only { IsSearchFault result }
         ensures kept { IsKept self.old self.new }
         ensures keeps { R.Keeps input.old input.new }
     {
-        let form = Form {
+        let printer = Printer {
             name,
             style: self.style,
         };
         let answer = grep_within(
-            &form,
+            &printer,
             input,
-            MOST_SEARCHED,
+            MAX_SEARCHED,
             &mut self.buffer,
             &mut self.matcher,
             out,
@@ -101,7 +103,7 @@ impl<'p> Searcher<'p> {
         Ok(answer.matched)
     }
 
-    /// Prints what is found in what stands in the tree at the name, and the line of its fault.
+    /// The same for the item at this name in the tree.
     pub(crate) fn search_file<T: Tree, O: Sink, E: Sink>(
         &mut self,
         tree: &mut T,
@@ -109,22 +111,22 @@ impl<'p> Searcher<'p> {
         out: &mut O,
         err: &mut E,
     ) -> Result<bool, ToolFault>
-        ensures prints { IfOk result (λ matched. (finds : List ℕ → Bool) →
-            Decides finds self.old.matcher.tree →
+        ensures prints { IfOk result (λ matched. (has_match : List ℕ → Bool) →
+            Decides has_match self.old.matcher.tree →
             Prints (option_map (λ tree.
-            file_printed most_searched self.old.tool self.old.style finds tree name.now)
+            file_printed max_searched self.old.tool self.old.style has_match tree name.now)
             (T.snapshot tree.old))
-            (O.taken out.old) (O.taken out.new) (E.taken err.old) (E.taken err.new) matched) }
-        ensures front { OnErr result ((finds : List ℕ → Bool) →
-            Decides finds self.old.matcher.tree →
-            PrintsFront (option_map (λ tree.
-            file_printed most_searched self.old.tool self.old.style finds tree name.now)
+            (O.model out.old) (O.model out.new) (E.model err.old) (E.model err.new) matched) }
+        ensures prefix { OnErr result ((has_match : List ℕ → Bool) →
+            Decides has_match self.old.matcher.tree →
+            PrintsPrefix (option_map (λ tree.
+            file_printed max_searched self.old.tool self.old.style has_match tree name.now)
             (T.snapshot tree.old))
-            (O.taken out.old) (O.taken out.new) (E.taken err.old) (E.taken err.new)) }
-        ensures reads { ReadsWithin (most_searched + 1)
+            (O.model out.old) (O.model out.new) (E.model err.old) (E.model err.new)) }
+        ensures reads { ReadsWithin (max_searched + 1)
             (T.read_counts tree.old) (T.read_counts tree.new) }
         ensures faults { PrintsAllFaults self.old.tool (name.now ∷ [])
-            (T.failed tree.old) (T.failed tree.new) (E.taken err.old) (E.taken err.new) result }
+            (T.failed tree.old) (T.failed tree.new) (E.model err.old) (E.model err.new) result }
         ensures writes { CountsOne (has_write_failed result)
             (O.failed out.old) (O.failed out.new) (E.failed err.old) (E.failed err.new) }
         ensures only { IsSearchFault result }
@@ -141,7 +143,7 @@ impl<'p> Searcher<'p> {
         Ok(matched)
     }
 
-    /// The same for one name after the other. Answers whether some line of some file matched.
+    /// The same for each name in turn. Returns whether some line of some file matched.
     pub(crate) fn search_files<T: Tree, O: Sink, E: Sink>(
         &mut self,
         tree: &mut T,
@@ -149,24 +151,24 @@ impl<'p> Searcher<'p> {
         out: &mut O,
         err: &mut E,
     ) -> Result<bool, ToolFault>
-        ensures prints { IfOk result (λ matched. (finds : List ℕ → Bool) →
-            Decides finds self.old.matcher.tree →
+        ensures prints { IfOk result (λ matched. (has_match : List ℕ → Bool) →
+            Decides has_match self.old.matcher.tree →
             Prints (option_map (λ tree. all_printed
-            (file_printed most_searched self.old.tool self.old.style finds tree)
+            (file_printed max_searched self.old.tool self.old.style has_match tree)
             (map string_bytes names.now))
             (T.snapshot tree.old))
-            (O.taken out.old) (O.taken out.new) (E.taken err.old) (E.taken err.new) matched) }
-        ensures front { OnErr result ((finds : List ℕ → Bool) →
-            Decides finds self.old.matcher.tree →
-            PrintsFront (option_map (λ tree. all_printed
-            (file_printed most_searched self.old.tool self.old.style finds tree)
+            (O.model out.old) (O.model out.new) (E.model err.old) (E.model err.new) matched) }
+        ensures prefix { OnErr result ((has_match : List ℕ → Bool) →
+            Decides has_match self.old.matcher.tree →
+            PrintsPrefix (option_map (λ tree. all_printed
+            (file_printed max_searched self.old.tool self.old.style has_match tree)
             (map string_bytes names.now))
             (T.snapshot tree.old))
-            (O.taken out.old) (O.taken out.new) (E.taken err.old) (E.taken err.new)) }
-        ensures reads { ReadsWithin (most_searched + 1)
+            (O.model out.old) (O.model out.new) (E.model err.old) (E.model err.new)) }
+        ensures reads { ReadsWithin (max_searched + 1)
             (T.read_counts tree.old) (T.read_counts tree.new) }
         ensures faults { PrintsAllFaults self.old.tool (map string_bytes names.now)
-            (T.failed tree.old) (T.failed tree.new) (E.taken err.old) (E.taken err.new) result }
+            (T.failed tree.old) (T.failed tree.new) (E.model err.old) (E.model err.new) result }
         ensures writes { CountsOne (has_write_failed result)
             (O.failed out.old) (O.failed out.new) (E.failed err.old) (E.failed err.new) }
         ensures only { IsSearchFault result }
@@ -180,15 +182,15 @@ impl<'p> Searcher<'p> {
         Ok(matched)
     }
 
-    /// The line of a fault.
+    /// Prints a fault line.
     fn print_fault<E: Sink>(
         &self,
         name: &str,
         fault: FileFault,
         err: &mut E,
     ) -> Result<(), ToolFault>
-        ensures written { TakesBytes (fault_line_of self.now.tool name.now fault)
-            (E.taken err.old) (E.taken err.new) result }
+        ensures written { WritesBytes (fault_line_of self.now.tool name.now fault)
+            (E.model err.old) (E.model err.new) result }
         ensures failed { E.failed err.new ≡ count_if (has_write_failed result) (E.failed err.old) }
         ensures only { IsSearchFault result }
     {
@@ -198,9 +200,12 @@ impl<'p> Searcher<'p> {
     }
 }
 
-/// The fault of an input as that of a file.
+/// The fault of an input, as that of a file.
 fn of_input(fault: ReadFault) -> FileFault
-    ensures { result ≡ left_fault fault }
+    ensures { result ≡ elim fault [
+      | ReadFault.Read ↦ FileFault.Failed
+      | ReadFault.TooLong ↦ FileFault.InputTooLong
+    ] }
 {
     match fault {
         ReadFault::Read => FileFault::Failed,

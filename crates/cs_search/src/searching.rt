@@ -1,34 +1,38 @@
-// The tools that search.
-ghost use Rattle.std.specs.Prelude.{◌≡◌, ◌+◌, ◌⊎◌, ℕ, Bool, List, [], IfOk, IfErr, OnOk, OnErr, MatchResult, string_bytes};
-ghost use Rattle.cs_tree.specs.Failures.{CountsOne};
-ghost use Rattle.cs_tree.specs.Loss.{LosesAtMost};
+// The tool `cgrep`.
+ghost use Rattle.std.specs.Prelude.{◌≡◌, ◌+◌, ◌⊎◌, ℕ, Bool, List, [], IfOk, IfErr, OnOk, OnErr, MatchResult, string_bytes, if◌then◌else◌};
+ghost use Rattle.cs_tree.specs.Sinks.{CountsOne, GrowsFlushed, HasFlushed};
+ghost use Rattle.cs_tree.specs.ConsumesAtMost.{ConsumesAtMost};
 ghost use Rattle.cs_tree.specs.ReadCounts.{ReadsWithin};
 ghost use Rattle.cs_syntax.specs.Matching.{Tree as PatternTree};
-ghost use Rattle.cs_syntax.specs.Reading.{Reads};
-ghost use Rattle.cs_match.specs.Finding.{Decides};
-ghost use Rattle.cs_tree.specs.Taken.{EndsAfter, MayEnd};
-ghost use Rattle.cs_tree.specs.TakenAll.{TakesBytes};
-ghost use Rattle.cs_tree.specs.Told.{GrowsFlushed, HasFlushed};
-ghost use Rattle.cs_search.specs.InputReport.{most_searched};
+ghost use Rattle.cs_syntax.specs.Parsing.{ParsesAs};
+ghost use Rattle.cs_match.specs.Deciding.{Decides};
+ghost use Rattle.cs_tree.specs.TakesPrefix.{EndsAfter, MayEnd};
+ghost use Rattle.cs_tree.specs.WritesBytes.{WritesBytes};
+ghost use Rattle.cs_search.specs.InputReport.{max_searched};
 ghost use Rattle.cs_search.specs.Cgrep.{cgrep_printed};
 ghost use Rattle.cs_search.specs.CgrepFaults.{PatternFirst, PrintsFaultsOf};
-ghost use Rattle.cs_search.specs.Refusals.{IsAccepted, IsSearchFault, SilentAtRefusal, has_write_failed};
+ghost use Rattle.cs_search.specs.Refusals.{IsAccepted, SilentOnError, has_write_failed};
+ghost use Rattle.cs_search.specs.GrepFaults.{IsSearchFault};
 ghost use Rattle.cs_search.specs.Programs.{IsProgramOf, RefusesPattern};
-ghost use Rattle.cs_search.specs.Searcher.{Prints, PrintsFront};
-ghost use Rattle.cs_search.specs.Printed.{PrintsStatus, PrintsNothing, PrintsSome, status_of};
+ghost use Rattle.cs_search.specs.Searcher.{Prints, PrintsPrefix};
+ghost use Rattle.cs_search.specs.Printed.{PrintsStatus, PrintsNothing, PrintsSome};
 
 use crate::searcher::Searcher;
 use crate::status::Status;
+use cs_args::{GrepJob, Tool, ToolFault};
 use cs_match::Program;
 use cs_syntax::parse;
 use cs_tree::{Sink, Source, Tree};
-use cs_words::{GrepJob, Tool, ToolFault};
 use std::alloc::Global;
 
-/// Prints the lines that match the pattern of the job: those of standard input, or those of its files in the order of
-/// the words. A line on `err` names each input that could not be searched to its end. At the end both outputs are
-/// flushed, `out` first, once each. Where it is refused, each output has taken a front of that, `err` was not flushed,
-/// and a line that blames an input tells of a failure that it counted.
+/// Prints the lines that match the job's pattern: those of standard input, or of the job's files in the order of the
+/// arguments. Each input that cannot be searched to its end has a line on `err`. On success both outputs are flushed,
+/// `out` first, once each.
+///
+/// # Errors
+///
+/// `Pattern` comes before anything is read or printed. After `Write` and `Memory` each output has a prefix of what
+/// the search prints, `err` was not flushed, and each fault line reports a failure that its input counted.
 pub fn cgrep<T: Tree, R: Source, O: Sink, E: Sink>(
     alloc: Global,
     job: &GrepJob,
@@ -37,33 +41,33 @@ pub fn cgrep<T: Tree, R: Source, O: Sink, E: Sink>(
     out: &mut O,
     err: &mut E,
 ) -> Result<Status, ToolFault>
-    ensures prints { IfOk result (λ status. (pattern : PatternTree) (finds : List ℕ → Bool) →
-        Reads (string_bytes job.now.pattern) job.now.fold pattern → Decides finds pattern →
+    ensures prints { IfOk result (λ status. (pattern : PatternTree) (has_match : List ℕ → Bool) →
+        ParsesAs (string_bytes job.now.pattern) job.now.fold pattern → Decides has_match pattern →
         PrintsStatus
-        (cgrep_printed most_searched job.now finds (T.snapshot tree.old) (R.told input.old))
-        (O.taken out.old) (O.taken out.new) (E.taken err.old) (E.taken err.new) status) }
-    ensures front { OnErr result
-        (PrintsNothing (O.taken out.old) (O.taken out.new) (E.taken err.old) (E.taken err.new)
+        (cgrep_printed max_searched job.now has_match (T.snapshot tree.old) (R.model input.old))
+        (O.model out.old) (O.model out.new) (E.model err.old) (E.model err.new) status) }
+    ensures prefix { OnErr result
+        (PrintsNothing (O.model out.old) (O.model out.new) (E.model err.old) (E.model err.new)
         ⊎ (IsAccepted (string_bytes job.now.pattern) job.now.fold
-        × ((pattern : PatternTree) (finds : List ℕ → Bool) →
-        Reads (string_bytes job.now.pattern) job.now.fold pattern → Decides finds pattern →
+        × ((pattern : PatternTree) (has_match : List ℕ → Bool) →
+        ParsesAs (string_bytes job.now.pattern) job.now.fold pattern → Decides has_match pattern →
         PrintsSome
-        (cgrep_printed most_searched job.now finds (T.snapshot tree.old) (R.told input.old))
-        (O.taken out.old) (O.taken out.new) (E.taken err.old) (E.taken err.new)))) }
+        (cgrep_printed max_searched job.now has_match (T.snapshot tree.old) (R.model input.old))
+        (O.model out.old) (O.model out.new) (E.model err.old) (E.model err.new)))) }
     ensures pattern { PatternFirst (string_bytes job.now.pattern) job.now.fold result }
-    ensures silent { SilentAtRefusal result
-        (PrintsNothing (O.taken out.old) (O.taken out.new) (E.taken err.old) (E.taken err.new)
+    ensures silent { SilentOnError result
+        (PrintsNothing (O.model out.old) (O.model out.new) (E.model err.old) (E.model err.new)
         × (T.failed tree.new ≡ T.failed tree.old)
-        × (T.longest_asked tree.new ≡ T.longest_asked tree.old)
+        × (T.longest_requested tree.new ≡ T.longest_requested tree.old)
         × (R.failed input.new ≡ R.failed input.old)
-        × (R.told input.new ≡ R.told input.old)) }
-    ensures loses { LosesAtMost (most_searched + 1) (R.told input.old) (R.told input.new) }
-    ensures reads { ReadsWithin (most_searched + 1)
+        × (R.model input.new ≡ R.model input.old)) }
+    ensures loses { ConsumesAtMost (max_searched + 1) (R.model input.old) (R.model input.new) }
+    ensures reads { ReadsWithin (max_searched + 1)
         (T.read_counts tree.old) (T.read_counts tree.new) }
     ensures faults { PrintsFaultsOf job.now
         (T.failed tree.old) (T.failed tree.new) (R.failed input.old) (R.failed input.new)
-        (λ lines. EndsAfter lines (E.taken err.old) (E.taken err.new) result) }
-    ensures flushed { OnOk result (HasFlushed (O.taken out.new) × HasFlushed (E.taken err.new)) }
+        (λ lines. EndsAfter lines (E.model err.old) (E.model err.new) result) }
+    ensures flushed { OnOk result (HasFlushed (O.model out.new) × HasFlushed (E.model err.new)) }
     ensures writes { CountsOne (has_write_failed result)
         (O.failed out.old) (O.failed out.new) (E.failed err.old) (E.failed err.new) }
     ensures tree_keeps { T.snapshot tree.new ≡ T.snapshot tree.old }
@@ -76,7 +80,7 @@ pub fn cgrep<T: Tree, R: Source, O: Sink, E: Sink>(
     Ok(status)
 }
 
-/// The program of the pattern of the job, where the pattern is accepted.
+/// Compiles the job's pattern.
 fn compile(alloc: Global, job: &GrepJob) -> Result<Program, ToolFault>
     ensures compiled { IfOk result (IsProgramOf (string_bytes job.now.pattern) job.now.fold) }
     ensures refused { IfErr result (RefusesPattern (string_bytes job.now.pattern) job.now.fold) }
@@ -86,17 +90,17 @@ fn compile(alloc: Global, job: &GrepJob) -> Result<Program, ToolFault>
     Ok(program)
 }
 
-/// The end of a search: both outputs are flushed.
+/// Ends a search: flushes both outputs.
 pub(crate) fn finish<O: Sink, E: Sink>(
     matched: bool,
     out: &mut O,
     err: &mut E,
 ) -> Result<Status, ToolFault>
-    ensures status { IfOk result (λ status. status ≡ status_of matched) }
+    ensures status { IfOk result (λ status. status ≡ (if matched then Status.Matched else Status.NoMatch)) }
     ensures out { MatchResult result
-        (λ _. GrowsFlushed (O.taken out.old) (O.taken out.new) [])
-        (λ _. MayEnd [] (O.taken out.old) (O.taken out.new)) }
-    ensures err { EndsAfter [] (E.taken err.old) (E.taken err.new) result }
+        (λ _. GrowsFlushed (O.model out.old) (O.model out.new) [])
+        (λ _. MayEnd [] (O.model out.old) (O.model out.new)) }
+    ensures err { EndsAfter [] (E.model err.old) (E.model err.new) result }
     ensures writes { CountsOne (has_write_failed result)
         (O.failed out.old) (O.failed out.new) (E.failed err.old) (E.failed err.new) }
     ensures only { IsSearchFault result }
@@ -106,7 +110,7 @@ pub(crate) fn finish<O: Sink, E: Sink>(
     Ok(Status::of(matched))
 }
 
-/// Searches standard input or the files of the job.
+/// Searches standard input, or the files of the job.
 fn search_job<T: Tree, R: Source, O: Sink, E: Sink>(
     searcher: &mut Searcher<'_>,
     job: &GrepJob,
@@ -117,21 +121,22 @@ fn search_job<T: Tree, R: Source, O: Sink, E: Sink>(
 ) -> Result<bool, ToolFault>
     requires tool { searcher.old.tool ≡ Tool.Cgrep }
     requires style { searcher.old.style ≡ job.now.style }
-    ensures prints { IfOk result (λ matched. (finds : List ℕ → Bool) →
-        Decides finds searcher.old.matcher.tree →
-        Prints (cgrep_printed most_searched job.now finds (T.snapshot tree.old) (R.told input.old))
-        (O.taken out.old) (O.taken out.new) (E.taken err.old) (E.taken err.new) matched) }
-    ensures front { OnErr result ((finds : List ℕ → Bool) →
-        Decides finds searcher.old.matcher.tree →
-        PrintsFront
-        (cgrep_printed most_searched job.now finds (T.snapshot tree.old) (R.told input.old))
-        (O.taken out.old) (O.taken out.new) (E.taken err.old) (E.taken err.new)) }
-    ensures loses { LosesAtMost (most_searched + 1) (R.told input.old) (R.told input.new) }
-    ensures reads { ReadsWithin (most_searched + 1)
+    ensures prints { IfOk result (λ matched. (has_match : List ℕ → Bool) →
+        Decides has_match searcher.old.matcher.tree →
+        Prints (cgrep_printed max_searched job.now has_match (T.snapshot tree.old)
+        (R.model input.old))
+        (O.model out.old) (O.model out.new) (E.model err.old) (E.model err.new) matched) }
+    ensures prefix { OnErr result ((has_match : List ℕ → Bool) →
+        Decides has_match searcher.old.matcher.tree →
+        PrintsPrefix
+        (cgrep_printed max_searched job.now has_match (T.snapshot tree.old) (R.model input.old))
+        (O.model out.old) (O.model out.new) (E.model err.old) (E.model err.new)) }
+    ensures loses { ConsumesAtMost (max_searched + 1) (R.model input.old) (R.model input.new) }
+    ensures reads { ReadsWithin (max_searched + 1)
         (T.read_counts tree.old) (T.read_counts tree.new) }
     ensures faults { PrintsFaultsOf job.now
         (T.failed tree.old) (T.failed tree.new) (R.failed input.old) (R.failed input.new)
-        (λ lines. TakesBytes lines (E.taken err.old) (E.taken err.new) result) }
+        (λ lines. WritesBytes lines (E.model err.old) (E.model err.new) result) }
     ensures writes { CountsOne (has_write_failed result)
         (O.failed out.old) (O.failed out.new) (E.failed err.old) (E.failed err.new) }
     ensures only { IsSearchFault result }

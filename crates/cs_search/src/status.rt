@@ -1,21 +1,19 @@
-// What a tool that searches answers.
-ghost use Rattle.std.specs.Prelude.{◌≡◌};
+// The status of a search.
+ghost use Rattle.std.specs.Prelude.{◌≡◌, if◌then◌else◌};
 
 /// How a search ends.
 #[derive(Clone, Copy, Debug, PartialEq, Eq, Drop)]
 pub enum Status {
-    /// Some line that was tested matched.
+    /// Some tested line matched.
     Matched,
-    /// None did.
+    /// No line matched.
     NoMatch,
 }
 
 impl Status {
-    ghost use Rattle.cs_search.specs.Printed.{status_of};
-
-    /// How a search ends in which some line matched, or none.
+    /// The status of a search in which some line matched, or none.
     pub(crate) fn of(matched: bool) -> Status
-        ensures { result ≡ status_of matched }
+        ensures { result ≡ (if matched then Status.Matched else Status.NoMatch) }
     {
         if matched {
             Status::Matched

@@ -1,29 +1,32 @@
-// The tool that searches by an index that lies in a store.
+// Search by an index in a store.
 ghost use Rattle.std.specs.Prelude.{◌≡◌, ◌+◌, IfOk, IfErr, OnOk, false};
-ghost use Rattle.cs_tree.specs.Failures.{CountsOne};
+ghost use Rattle.cs_tree.specs.Sinks.{CountsOne, HasFlushed};
 ghost use Rattle.cs_tree.specs.ReadCounts.{ReadsWithin};
 ghost use Rattle.cs_tree.specs.FailureCount.{count_after};
-ghost use Rattle.cs_tree.specs.Told.{HasFlushed};
 ghost use Rattle.cs_tree.specs.Transfers.{is_io_failure};
-ghost use Rattle.cs_search.specs.Refusals.{has_write_failed, SilentAtRefusal};
+ghost use Rattle.cs_search.specs.Refusals.{has_write_failed, SilentOnError};
 ghost use Rattle.cs_search.specs.Csearch.{AreAccepted};
-ghost use Rattle.cs_search.specs.Plans.{IsPlan, IsLent, RefusesPlan};
+ghost use Rattle.cs_search.specs.Plans.{IsPlan, AnswersQuery, RefusesPlan};
 ghost use Rattle.cs_search.specs.Printed.{PrintsNothing};
-ghost use Rattle.cs_search.specs.Searched.{IsSearch, outputs};
-ghost use Rattle.cs_search.specs.InputReport.{most_searched};
+ghost use Rattle.cs_search.specs.Searched.{IsSearch, search_outputs};
+ghost use Rattle.cs_search.specs.InputReport.{max_searched};
 ghost use Rattle.cs_search.specs.StoredSearch.{IsOpened, IfRead, IsUnopened, has_output_failed};
 
 use crate::csearching::search_by;
 use crate::plan::Plan;
 use crate::status::Status;
-use cs_index::{IndexFault, Restriction, StoredIndex};
+use cs_args::{SearchJob, ToolFault};
+use cs_index::{IndexFault, PartialIndex, StoredIndex};
 use cs_tree::{IoFault, Sink, Store, Tree};
-use cs_words::{SearchJob, ToolFault};
 use std::alloc::Global;
 
-/// Does what `csearch` does over the bytes of a store, of which `StoredIndex::open` answered `opened`: of the lists it
-/// reads those that the pattern asks for. The outer answer is that of the store: where it cannot be read nothing is
-/// printed, and both patterns were accepted. Refusals of the patterns and of a bad index come before that.
+/// `csearch` over the bytes of a store; `opened` is what `StoredIndex::open` returned for it. Only the posting lists
+/// that the query requires are read.
+///
+/// # Errors
+///
+/// The outer result is that of the store: if it cannot be read, nothing was printed, and both patterns were accepted.
+/// Errors of the patterns, and then of the index, come before that, in the inner result.
 pub fn csearch_stored<S: Store, T: Tree, O: Sink, E: Sink>(
     alloc: Global,
     job: &SearchJob,
@@ -33,32 +36,32 @@ pub fn csearch_stored<S: Store, T: Tree, O: Sink, E: Sink>(
     out: &mut O,
     err: &mut E,
 ) -> Result<Result<Status, ToolFault>, IoFault>
-    requires { IsOpened (S.told store.old) opened }
-    ensures searches { IfRead (S.told store.old) result (λ index answer.
+    requires { IsOpened (S.model store.old) opened }
+    ensures searches { IfRead (S.model store.old) result (λ index answer.
         IsSearch job.now index (T.snapshot tree.old) (T.failed tree.old) (T.failed tree.new)
-        (outputs O.taken E.taken out.old err.old)
-        (outputs O.taken E.taken out.new err.new) answer) }
+        (search_outputs O.model E.model out.old err.old)
+        (search_outputs O.model E.model out.new err.new) answer) }
     ensures unopened { IfErr opened (λ fault. IsUnopened job.now fault result) }
-    ensures silent { IfOk result (λ answer. SilentAtRefusal answer
-        (PrintsNothing (O.taken out.old) (O.taken out.new) (E.taken err.old) (E.taken err.new)
+    ensures silent { IfOk result (λ answer. SilentOnError answer
+        (PrintsNothing (O.model out.old) (O.model out.new) (E.model err.old) (E.model err.new)
         × (T.failed tree.new ≡ T.failed tree.old)
-        × (T.longest_asked tree.new ≡ T.longest_asked tree.old))) }
+        × (T.longest_requested tree.new ≡ T.longest_requested tree.old))) }
     ensures unread { IfErr result (λ _. AreAccepted job.now
         × (T.failed tree.new ≡ T.failed tree.old)
-        × (T.longest_asked tree.new ≡ T.longest_asked tree.old)
-        × PrintsNothing (O.taken out.old) (O.taken out.new) (E.taken err.old) (E.taken err.new)) }
-    ensures reads { ReadsWithin (most_searched + 1)
+        × (T.longest_requested tree.new ≡ T.longest_requested tree.old)
+        × PrintsNothing (O.model out.old) (O.model out.new) (E.model err.old) (E.model err.new)) }
+    ensures reads { ReadsWithin (max_searched + 1)
         (T.read_counts tree.old) (T.read_counts tree.new) }
     ensures flushed { IfOk result (λ answer. OnOk answer
-        (HasFlushed (O.taken out.new) × HasFlushed (E.taken err.new))) }
+        (HasFlushed (O.model out.new) × HasFlushed (E.model err.new))) }
     ensures writes { CountsOne (has_output_failed result)
         (O.failed out.old) (O.failed out.new) (E.failed err.old) (E.failed err.new) }
     ensures keeps { T.snapshot tree.new ≡ T.snapshot tree.old }
-    ensures tells { S.told store.new ≡ S.told store.old }
+    ensures modelled { S.model store.new ≡ S.model store.old }
     ensures size { S.size store.new ≡ S.size store.old }
     ensures failed { S.failed store.new ≡ count_after is_io_failure result (S.failed store.old) }
 {
-    let ready = restrict(alloc, job, opened, store)?;
+    let ready = load_lists(alloc, job, opened, store)?;
     match ready {
         Ok((plan, part)) => {
             let answer = search_by(alloc, job, &plan, &part.index(), tree, out, err);
@@ -68,23 +71,23 @@ pub fn csearch_stored<S: Store, T: Tree, O: Sink, E: Sink>(
     }
 }
 
-/// A plan of the job, and the part of the index that answers it.
-fn restrict<S: Store>(
+/// The plan of the job, and the part of the index that answers its query.
+fn load_lists<S: Store>(
     alloc: Global,
     job: &SearchJob,
     opened: Result<StoredIndex, IndexFault>,
     store: &mut S,
-) -> Result<Result<(Plan, Restriction), ToolFault>, IoFault>
-    requires { IsOpened (S.told store.old) opened }
+) -> Result<Result<(Plan, PartialIndex), ToolFault>, IoFault>
+    requires { IsOpened (S.model store.old) opened }
     ensures plan { IfOk result (λ answer. IfOk answer (λ ready. IsPlan job.now ready.0)) }
-    ensures lent { IfRead (S.told store.old) result (λ index answer.
-        IfOk answer (λ ready. IsLent ready.0.query index ready.1)) }
-    ensures refused { IfRead (S.told store.old) result (λ index answer.
+    ensures answering { IfRead (S.model store.old) result (λ index answer.
+        IfOk answer (λ ready. AnswersQuery ready.0.query index ready.1)) }
+    ensures refused { IfRead (S.model store.old) result (λ index answer.
         IfErr answer (RefusesPlan job.now index)) }
     ensures unopened { IfErr opened (λ fault. IsUnopened job.now fault result) }
     ensures unwritten { IfOk result (λ answer. has_write_failed answer ≡ false) }
     ensures accepted { IfErr result (λ _. AreAccepted job.now) }
-    ensures tells { S.told store.new ≡ S.told store.old }
+    ensures modelled { S.model store.new ≡ S.model store.old }
     ensures size { S.size store.new ≡ S.size store.old }
     ensures failed { S.failed store.new ≡ count_after is_io_failure result (S.failed store.old) }
 {
@@ -96,6 +99,6 @@ fn restrict<S: Store>(
         Ok(index) => index,
         Err(fault) => return Ok(Err(ToolFault::from(fault))),
     };
-    let part = index.restrict(alloc, store, &plan.query)?;
+    let part = index.load_lists(alloc, store, &plan.query)?;
     Ok(Ok((plan, part)))
 }

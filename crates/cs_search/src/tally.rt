@@ -1,30 +1,33 @@
-// What is counted while an input is searched.
+// The counts of a search.
 ghost use Rattle.std.specs.Prelude.{◌≤◌, ◌≡◌, length};
-ghost use Rattle.cs_match.specs.Lines.{ended_lines};
+ghost use Rattle.cs_match.specs.Lines.{terminated_lines};
 
-/// How many lines were tested, and in how many of them something was found.
+/// The number of tested lines, and of the matching ones.
 #[derive(Drop)]
 pub(crate) struct Tally {
     pub(crate) lines: u64,
-    pub(crate) hits: u64,
-    ghost bound: { hits ≤ lines },
+    pub(crate) matches: u64,
+    ghost bound: { matches ≤ lines },
 }
 
 impl Tally {
     pub(crate) fn new() -> Tally
         ensures lines { result.lines ≡ 0 }
-        ensures hits { result.hits ≡ 0 }
+        ensures matches { result.matches ≡ 0 }
     {
-        Tally { lines: 0, hits: 0 }
+        Tally {
+            lines: 0,
+            matches: 0,
+        }
     }
 }
 
-// As many newlines as a part has fit a byte, so that they are added up in bytes, many at once.
+// The number of newlines in this many bytes fits in one byte, so the count vectorizes with lanes of one byte.
 const PART: usize = 240;
 
-/// How many newlines the block has: each ends a line.
+/// The number of newlines in the block; each ends a line.
 pub(crate) fn newlines(block: &[u8]) -> u64
-    ensures { result ≡ length (ended_lines block.now) }
+    ensures { result ≡ length (terminated_lines block.now) }
 {
     let mut count = 0u64;
     let mut rest = block;
@@ -36,10 +39,10 @@ pub(crate) fn newlines(block: &[u8]) -> u64
     count + u64::from(count_newlines(rest))
 }
 
-/// How many newlines a part has.
+/// The number of newlines in a part.
 fn count_newlines(part: &[u8]) -> u8
     requires { length part.now ≤ PART }
-    ensures { result ≡ length (ended_lines part.now) }
+    ensures { result ≡ length (terminated_lines part.now) }
 {
     let mut count = 0u8;
     for b in part {

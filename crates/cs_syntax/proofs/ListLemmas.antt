@@ -1,26 +1,26 @@
--- Lists from a place on.
+-- Suffixes of lists.
 use Rattle.std.proofs.Common.{◌≡◌, ℕ, suc, ◌+◌, ◌<◌, List, ◌∷◌, length, drop, get_or, ◌∙◌, ap, arith, drop-cons, take, ◌-◌, length-drop}
 use Rattle.std.proofs.lemmas.List.{take_all, drop-drop}
 
--- from a place on, the list is the element there and what follows
-pub here_is : (text : List ℕ) (at : ℕ) → at < length text → drop at text ≡ get_or text at 0 ∷ drop (at + 1) text
-here_is text at lt =
-    let next : suc at ≡ at + 1 = omega arith in
-    drop-cons text at 0 lt ∙ ap (λ n. get_or text at 0 ∷ drop n text) next
+-- a suffix is its first element and the next suffix
+pub here_is : (text : List ℕ) (offset : ℕ) → offset < length text → drop offset text ≡ get_or text offset 0 ∷ drop (offset + 1) text
+here_is text offset lt =
+    let next : suc offset ≡ offset + 1 = omega arith in
+    drop-cons text offset 0 lt ∙ ap (λ n. get_or text offset 0 ∷ drop n text) next
 
--- the slice from a place on
-pub tail_is : (text : List ℕ) (at : ℕ) → take (length text - at) (drop at text) ≡ drop at text
-tail_is text at = take_all (length text - at) (drop at text) (omega (arith, length-drop at text))
+-- the slice from an offset on is the suffix
+pub tail_is : (text : List ℕ) (offset : ℕ) → take (length text - offset) (drop offset text) ≡ drop offset text
+tail_is text offset = take_all (length text - offset) (drop offset text) (omega (arith, length-drop offset text))
 
-pub length-tail : (text : List ℕ) (at : ℕ) → length (take (length text - at) (drop at text)) ≡ length text - at
-length-tail text at = ap length (tail_is text at) ∙ length-drop at text
+pub length-tail : (text : List ℕ) (offset : ℕ) → length (take (length text - offset) (drop offset text)) ≡ length text - offset
+length-tail text offset = ap length (tail_is text offset) ∙ length-drop offset text
 
--- what an item's bytes are
-pub own_text : (text : List ℕ) (at len : ℕ) → at < length text → take (at + 1 + len - at) (drop at text) ≡ take (suc len) (get_or text at 0 ∷ drop (at + 1) text)
-own_text text at len lt =
-    let e : at + 1 + len - at ≡ suc len = omega arith in
-    ap (λ n. take n (drop at text)) e ∙ ap (take (suc len)) (here_is text at lt)
+-- the lexeme of an item
+pub lexeme_is : (text : List ℕ) (offset len : ℕ) → offset < length text → take (offset + 1 + len - offset) (drop offset text) ≡ take (suc len) (get_or text offset 0 ∷ drop (offset + 1) text)
+lexeme_is text offset len lt =
+    let e : offset + 1 + len - offset ≡ suc len = omega arith in
+    ap (λ n. take n (drop offset text)) e ∙ ap (take (suc len)) (here_is text offset lt)
 
--- the text behind an item
-pub behind_item : (text : List ℕ) (at len : ℕ) → drop len (drop (at + 1) text) ≡ drop (at + 1 + len) text
-behind_item text at len = drop-drop len (at + 1) text
+-- the suffix after an item
+pub suffix_after_item : (text : List ℕ) (offset len : ℕ) → drop len (drop (offset + 1) text) ≡ drop (offset + 1 + len) text
+suffix_after_item text offset len = drop-drop len (offset + 1) text

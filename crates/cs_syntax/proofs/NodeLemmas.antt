@@ -12,8 +12,8 @@ tree_of-Empty = ap tree_of (sym rolls-Empty) ∙ fold-roll-Node Tree tree_step N
 pub tree_of-Set : (set : List Bool) → tree_of (Set set) ≡ one_of set
 tree_of-Set set = ap tree_of (sym (rolls-Set set)) ∙ fold-roll-Node Tree tree_step (Node-F.Set set)
 
-pub tree_of-Chars : (runs : List (ℕ × ℕ)) → tree_of (Chars runs) ≡ one_char runs
-tree_of-Chars runs = ap tree_of (sym (rolls-Chars runs)) ∙ fold-roll-Node Tree tree_step (Node-F.Chars runs)
+pub tree_of-Chars : (ranges : List (ℕ × ℕ)) → tree_of (Chars ranges) ≡ one_char ranges
+tree_of-Chars ranges = ap tree_of (sym (rolls-Chars ranges)) ∙ fold-roll-Node Tree tree_step (Node-F.Chars ranges)
 
 pub tree_of-Cat : (parts : Vec Node Global) → tree_of (Cat parts) ≡ cat (trees_of parts.items)
 tree_of-Cat parts = ap tree_of (sym (rolls-Cat parts)) ∙ fold-roll-Node Tree tree_step (Node-F.Cat parts)

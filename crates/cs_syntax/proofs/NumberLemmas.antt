@@ -1,14 +1,14 @@
--- Numbers that are too large for the code are as large as the largest.
+-- Saturating arithmetic computes the saturated value of the digits.
 use Rattle.std.proofs.Common.{◌≡◌, ℕ, zero, suc, ◌+◌, ◌*◌, ◌≤◌, ◌⊎◌, inl, inr, min, List, [], ◌∷◌, ap, arith}
 use Rattle.std.proofs.lemmas.Bool.{cases_lt}
 use Rattle.std.specs.List.{fold}
 use Rattle.cs_syntax.specs.Numbers.{digit_value}
 
--- the number that the digits write after the digits of n
+-- the value of the digits appended to the digits of n
 abbrev pub value_after : ℕ → ℕ → List ℕ → ℕ
 value_after base n ds = fold (λ k d. base * k + digit_value d) n ds
 
--- the two numbers are one, up to the largest
+-- numbers that are equal after saturation are equal or both at least the limit
 same_or_large : (m n k : ℕ) → min n m ≡ min k m → (n ≡ k) ⊎ ((m ≤ n) × (m ≤ k))
 same_or_large m n k e = elim (cases_lt n m) [ inl l ↦ inl (omega arith) | inr l ↦ inr (omega arith, omega arith) ]
 

@@ -1,4 +1,4 @@
--- The sets of characters that a dot and classes stand for.
+-- The character sets of a dot and of bracket classes.
 -- docs/PATTERNS.md, "Classes"; the RE2 syntax page, "Character classes".
 use Rattle.std.specs.Prelude.{ℕ, Bool, false, ◌||◌, not, nat_eq, List, [], ◌∷◌}
 use Rattle.std.specs.Bool.{xor}
@@ -12,7 +12,7 @@ use Rattle.cs_syntax.specs.declared.class_item.NamedClass.TheVariants.{Alnum, Al
 use Rattle.cs_syntax.specs.declared.class_item.ClassItem.{ClassItem}
 use Rattle.cs_syntax.specs.declared.class_item.ClassItem.TheVariants.{Range, Named}
 
--- the ranges of a named class, both ends included
+-- the inclusive ranges of a named class
 abbrev pub ranges_of : NamedClass → List (ℕ × ℕ)
 ranges_of Alnum = (48, 57) ∷ (65, 90) ∷ (97, 122) ∷ []
 ranges_of Alpha = (65, 90) ∷ (97, 122) ∷ []
@@ -30,19 +30,19 @@ ranges_of Word = word_ranges
 ranges_of Xdigit = (48, 57) ∷ (65, 70) ∷ (97, 102) ∷ []
 ranges_of White = (9, 10) ∷ (12, 13) ∷ (32, 32) ∷ []
 
--- the character is in the item: the item is folded first, and then complemented where it is negated
+-- the character is in the class item: the item is case-folded first, then complemented if it is negated
 unfoldable pub is_in_item : Bool → ClassItem → ℕ → Bool
 is_in_item fold (Range low high) c = is_in_folded fold ((low, high) ∷ []) c
 is_in_item fold (Named class negated) c = xor negated (is_in_folded fold (ranges_of class) c)
 
--- a class: the items are united, and the whole is complemented where the class is negated
+-- a bracket class: the union of its items, complemented if the class is negated
 abbrev pub class_tree : Bool → Bool → List ClassItem → Tree
 class_tree fold negated items = chars_tree (λ c. xor negated (list_any (λ i. is_in_item fold i c) items))
 
--- one item by itself, as `\d`, with no letter folded
+-- a class item outside brackets, such as `\d`, without case folding
 abbrev pub item_tree : ClassItem → Tree
 item_tree i = chars_tree (is_in_item false i)
 
--- a dot: all characters but a newline, or all
+-- a dot: all characters, without `dot_all` except the newline
 abbrev pub dot_tree : Bool → Tree
 dot_tree dot_all = chars_tree (λ c. dot_all || not (nat_eq c 10))

@@ -1,64 +1,62 @@
--- What the code's items stand for.
+-- The items of `specs/Tokens.antt` that the code's items represent.
 use Rattle.std.specs.Prelude.{ℕ, suc, ◌≡◌, ◌⊎◌, ◌≤◌, List, take, Result, Ok, Err, MatchResult, encode_utf8}
-use Rattle.cs_syntax.specs.CharTrees.{runs_tree}
+use Rattle.cs_syntax.specs.CharTrees.{ranges_tree}
 use Rattle.cs_syntax.specs.ClassSets.{item_tree, dot_tree}
 use Rattle.cs_syntax.specs.Matching.{Tree, one_of, line_start, line_end, word_edge, not_word_edge}
-use Rattle.cs_syntax.specs.Fronts.{PatternItem, Front, unit, repeat, bar, group_start, group_end, flags_from_here, item, fault, bytes_tree}
-use Rattle.cs_syntax.specs.declared.item.Unit as units
-use Rattle.cs_syntax.specs.declared.item.Unit.TheVariants as unit_of
+use Rattle.cs_syntax.specs.Tokens.{PatternItem, Token, atom, repeat, bar, group_start, group_end, flags_from_here, item, fault, bytes_tree}
+use Rattle.cs_syntax.specs.declared.item.Atom as atom_type
+use Rattle.cs_syntax.specs.declared.item.Atom.TheVariants as atom_of
 use Rattle.cs_syntax.specs.declared.item.Item as items
 use Rattle.cs_syntax.specs.declared.item.Item.TheVariants as item_of
-use Rattle.cs_syntax.specs.declared.item.Misread.{Misread}
+use Rattle.cs_syntax.specs.declared.item.ItemError.{ItemError}
 use Rattle.cs_syntax.specs.declared.fault.PatternFault.{PatternFault}
 use Rattle.cs_syntax.specs.declared.fault.PatternFault.TheVariants.{Memory}
 use Rattle.cs_syntax.specs.declared.class_item.ClassItem.{ClassItem}
 
--- the tree of a unit, from its own text
-abbrev pub unit_tree : List ℕ → units.Unit → Tree
-unit_tree text (unit_of.Set set) = one_of set
-unit_tree text (unit_of.Chars runs) = runs_tree runs
-unit_tree text (unit_of.Class i) = item_tree i
-unit_tree text (unit_of.Dot dot_all) = dot_tree dot_all
-unit_tree text (unit_of.Char c) = bytes_tree (encode_utf8 c)
-unit_tree text unit_of.Written = bytes_tree text
-unit_tree text unit_of.LineStart = line_start
-unit_tree text unit_of.LineEnd = line_end
-unit_tree text unit_of.WordEdge = word_edge
-unit_tree text unit_of.NotWordEdge = not_word_edge
+-- the tree of an atom, given its text
+abbrev pub atom_tree : List ℕ → atom_type.Atom → Tree
+atom_tree text (atom_of.Set set) = one_of set
+atom_tree text (atom_of.Chars ranges) = ranges_tree ranges
+atom_tree text (atom_of.Class i) = item_tree i
+atom_tree text (atom_of.Dot dot_all) = dot_tree dot_all
+atom_tree text (atom_of.Char c) = bytes_tree (encode_utf8 c)
+atom_tree text atom_of.Verbatim = bytes_tree text
+atom_tree text atom_of.LineStart = line_start
+atom_tree text atom_of.LineEnd = line_end
+atom_tree text atom_of.WordEdge = word_edge
+atom_tree text atom_of.NotWordEdge = not_word_edge
 
--- the item, from its own text
+-- the item, given its text
 abbrev pub item_view : List ℕ → items.Item → PatternItem
-item_view text (item_of.Unit u) = unit (unit_tree text u)
+item_view text (item_of.Atom u) = atom (atom_tree text u)
 item_view text (item_of.Repeat n m) = repeat n m
 item_view text item_of.Bar = bar
 item_view text (item_of.GroupStart flags) = group_start flags
 item_view text item_of.GroupEnd = group_end
 item_view text (item_of.FlagsFromHere flags) = flags_from_here flags
 
--- what a reader of items has found at the front of the text; an item's own text is its first byte
--- and those behind it
-abbrev pub front_view : List ℕ → Result (items.Item × ℕ) Misread → Front PatternItem
-front_view text (Ok r) = item (item_view (take (suc r.1) text) r.0) r.1
-front_view text (Err m) = fault m.fault m.behind
+-- the token that a function has read at the start of the text; an item has r.1 bytes after its first
+abbrev pub token_view : List ℕ → Result (items.Item × ℕ) ItemError → Token PatternItem
+token_view text (Ok r) = item (item_view (take (suc r.1) text) r.0) r.1
+token_view text (Err m) = fault m.fault m.distance
 
--- a reader of items that grows memory has found what stands at the front, or a growth was refused
-abbrev pub IsFrontOf : List ℕ → Result (items.Item × ℕ) Misread → Front PatternItem → Type 0
-IsFrontOf text r front =
+-- a function that allocates has read the token at the start of the text, or an allocation failed
+abbrev pub IsTokenOf : List ℕ → Result (items.Item × ℕ) ItemError → Token PatternItem → Type 0
+IsTokenOf text r token =
     MatchResult r
-    (λ x. front ≡ item (item_view (take (suc x.1) text) x.0) x.1)
-    (λ m. (m.fault ≡ Memory) ⊎ (front ≡ fault m.fault m.behind))
+    (λ x. token ≡ item (item_view (take (suc x.1) text) x.0) x.1)
+    (λ m. (m.fault ≡ Memory) ⊎ (token ≡ fault m.fault m.distance))
 
--- what a reader of a class has found at the front of the class's text
-abbrev pub class_front_view : Result (ClassItem × ℕ) Misread → Front ClassItem
-class_front_view (Ok r) = item r.0 r.1
-class_front_view (Err m) = fault m.fault m.behind
+-- the token that a function has read in a class
+abbrev pub class_token_view : Result (ClassItem × ℕ) ItemError → Token ClassItem
+class_token_view (Ok r) = item r.0 r.1
+class_token_view (Err m) = fault m.fault m.distance
 
--- what a reader of a class has found as a character of it
-abbrev pub class_char_view : Result (ℕ × ℕ) PatternFault → Front ℕ
+-- the character that a function has read in a class
+abbrev pub class_char_view : Result (ℕ × ℕ) PatternFault → Token ℕ
 class_char_view (Ok r) = item r.0 r.1
 class_char_view (Err k) = fault k 0
 
--- what a reader has found has at most `most` bytes behind its first, and a fault lies at most `far` bytes behind
--- the front
-abbrev pub StaysWithin : {A : Type 0} → ℕ → ℕ → Result (A × ℕ) Misread → Type 0
-StaysWithin most far r = MatchResult r (λ x. x.1 ≤ most) (λ m. m.behind ≤ far)
+-- an item has at most `most` bytes after its first, and the distance of an error is at most `far`
+abbrev pub StaysWithin : {A : Type 0} → ℕ → ℕ → Result (A × ℕ) ItemError → Type 0
+StaysWithin most far r = MatchResult r (λ x. x.1 ≤ most) (λ m. m.distance ≤ far)

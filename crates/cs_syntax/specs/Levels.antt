@@ -1,9 +1,9 @@
--- How many groups the rest of a text has: those that are open, and the text itself.
+-- The number of levels of a suffix: one for each open group, and one for the text itself.
 -- docs/PATTERNS.md, "Patterns".
 use Rattle.std.specs.Prelude.{◌≡◌, List, length}
-use Rattle.cs_syntax.specs.Reading.{Rest, Group, levels, broken}
+use Rattle.cs_syntax.specs.Parsing.{SuffixParse, Group, levels, syntax_error}
 
--- one level for each open group, behind that of the place where the text begins
-abbrev pub HasLevels : Rest → List Group → Type 0
+-- the suffix has one level more than there are open groups
+abbrev pub HasLevels : SuffixParse → List Group → Type 0
 HasLevels (levels l ls) groups = length ls ≡ length groups
-HasLevels (broken k at) groups = Unit {0}
+HasLevels (syntax_error k offset) groups = Unit {0}

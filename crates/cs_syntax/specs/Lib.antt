@@ -1,11 +1,11 @@
--- What public contracts rest on: what a tree takes, and what a text reads as.
+-- Definitions that public contracts cite: the spans that a tree matches, and the tree that a text parses as.
 pub mod Ranges
 pub mod NumberList
 pub mod Characters
-pub mod CharRuns
+pub mod CharRanges
 pub mod Matching
 pub mod TreeList
-pub mod Branches
+pub mod Alternation
 pub mod ByteSet
 pub mod Members
 pub mod CharTrees
@@ -14,23 +14,23 @@ pub mod Lowering
 pub mod Node
 pub mod Weight
 pub mod Numbers
-pub mod Fronts
+pub mod Tokens
 pub mod Repeats
 pub mod Groups
 pub mod Escapes
 pub mod Classes
-pub mod Signs
+pub mod ByteKinds
 pub mod Items
-pub mod Reading
-pub mod Decided
-pub mod Refusal
+pub mod Parsing
+pub mod Determinism
+pub mod ParseErrors
 pub mod Levels
-pub mod Written
-pub mod Choices
--- What functions inside promise each other.
+pub mod Quoting
+pub mod BarredPatterns
+-- Definitions that only private contracts cite.
 pub mod Bits
 pub mod SetWords
-pub mod CharPlaces
+pub mod ScalarIndex
 pub mod Widths
 pub mod TreeCode
 pub mod NodeList

@@ -1,4 +1,4 @@
--- The trees of some nodes, in order.
+-- The trees of a list of nodes.
 use Rattle.std.specs.Prelude.{List, map}
 use Rattle.cs_syntax.specs.Matching.{Trees}
 use Rattle.cs_syntax.specs.Node.{trees, tree_of}

@@ -1,22 +1,22 @@
--- A tree as a list of symbols that gives it back, by which a proof tells trees apart.
+-- An injective encoding of trees as lists of symbols. It makes equality of trees decidable.
 use Rattle.std.specs.Prelude.{ℕ, zero, suc, ◌≡◌, ◌⊎◌, Bool, List, [], ◌∷◌, Option, refl}
 use Rattle.std.proofs.Common.{ap, ◌∙◌, inl, inr}
 use Rattle.std.specs.Coded.{Coded, code_by, coded_ℕ, coded_bool, coded_list, coded_option, coded×, coded⊎}
 use Rattle.cs_syntax.specs.Matching.{Tree, Trees, empty, one_of, one_char, cat, alt, rep, line_start, line_end, word_edge, not_word_edge, none, more}
 
--- a set of bytes; one of characters; the counts of a repeat; or one of the eight other symbols, by its number
+-- a set of bytes, a set of characters, the counts of a repeat, or one of the eight other symbols by its number
 abbrev pub Symbol : Type 0
 Symbol = List Bool ⊎ (List (ℕ × ℕ) ⊎ ((ℕ × Option ℕ) ⊎ ℕ))
 
 abbrev pub symbol : ℕ → Symbol
 symbol k = inr (inr (inr k))
 
--- the symbols of a tree, before those of what follows it
+-- the symbols of a tree, before the symbols `after` it
 abbrev mutual
   pub symbols : Tree → List Symbol → List Symbol
   symbols empty after = symbol 3 ∷ after
   symbols (one_of set) after = inl set ∷ after
-  symbols (one_char runs) after = inr (inl runs) ∷ after
+  symbols (one_char ranges) after = inr (inl ranges) ∷ after
   symbols (cat ts) after = symbol 1 ∷ all_symbols ts (symbol 0 ∷ after)
   symbols (alt ts) after = symbol 2 ∷ all_symbols ts (symbol 0 ∷ after)
   symbols (rep x n m) after = inr (inr (inl (n, m))) ∷ symbols x after
@@ -29,7 +29,7 @@ abbrev mutual
   all_symbols none after = after
   all_symbols (more t ts) after = symbols t (all_symbols ts after)
 
--- one tree before those of the first list
+-- adds a tree to the first list
 abbrev pub put : Tree → List Trees → List Trees
 put t [] = more t none ∷ []
 put t (ts ∷ lists) = more t ts ∷ lists
@@ -38,7 +38,7 @@ abbrev pub put_all : Trees → List Trees → List Trees
 put_all none lists = lists
 put_all (more t ts) lists = put t (put_all ts lists)
 
--- the first list becomes one tree of the next
+-- turns the first list into one tree of the next list
 abbrev pub gather : (Trees → Tree) → List Trees → List Trees
 gather f [] = []
 gather f (ts ∷ lists) = put (f ts) lists
@@ -58,11 +58,11 @@ by_symbol (suc (suc (suc (suc (suc zero))))) lists = put line_end lists
 by_symbol (suc (suc (suc (suc (suc (suc zero)))))) lists = put word_edge lists
 by_symbol (suc (suc (suc (suc (suc (suc (suc k))))))) lists = put not_word_edge lists
 
--- the lists of trees that the symbols give back
+-- decodes the symbols
 abbrev pub tree_lists : List Symbol → List Trees
 tree_lists [] = none ∷ []
 tree_lists (inl set ∷ after) = put (one_of set) (tree_lists after)
-tree_lists (inr (inl runs) ∷ after) = put (one_char runs) (tree_lists after)
+tree_lists (inr (inl ranges) ∷ after) = put (one_char ranges) (tree_lists after)
 tree_lists (inr (inr (inl r)) ∷ after) = repeat_first r.0 r.1 (tree_lists after)
 tree_lists (inr (inr (inr k)) ∷ after) = by_symbol k (tree_lists after)
 
@@ -76,7 +76,7 @@ pub put-repeat : (t : Tree) (n : ℕ) (m : Option ℕ) (lists : List Trees)
 put-repeat t n m [] = refl
 put-repeat t n m (ts ∷ lists) = refl
 
--- a list put before an empty list, in the first place
+-- adding all trees of a list to an empty first list gives that list
 pub put_all-first : (ts : Trees) (lists : List Trees) → put_all ts (none ∷ lists) ≡ ts ∷ lists
 put_all-first none lists = refl
 put_all-first (more t ts) lists = ap (put t) (put_all-first ts lists)
@@ -90,7 +90,7 @@ mutual
       → tree_lists (symbols t after) ≡ put t (tree_lists after)
   tree_lists-symbols empty after = refl
   tree_lists-symbols (one_of set) after = refl
-  tree_lists-symbols (one_char runs) after = refl
+  tree_lists-symbols (one_char ranges) after = refl
   tree_lists-symbols (cat ts) after =
       ap (gather cat) (tree_lists-all_symbols ts (symbol 0 ∷ after)) ∙ gather-all cat ts (tree_lists after)
   tree_lists-symbols (alt ts) after =

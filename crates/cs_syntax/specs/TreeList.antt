@@ -1,7 +1,6 @@
--- Lists of trees.
+-- Concatenation of lists of trees.
 use Rattle.cs_syntax.specs.Matching.{Trees, none, more}
 
--- one list of trees after another
 abbrev pub append : Trees → Trees → Trees
 append none us = us
 append (more t ts) us = more t (append ts us)

@@ -1,18 +1,15 @@
--- Numbers as the code has them: what passes a `u32` is the largest one.
+-- The saturation of parsed numbers at `u32::MAX`.
 use Rattle.std.specs.Prelude.{ℕ, min}
 use Rattle.std.specs.Option.{option_map}
 use Rattle.cs_syntax.specs.declared.repeats.Number.{Number}
 use Rattle.cs_syntax.specs.declared.repeats.RepeatCounts.{RepeatCounts}
 
--- the largest `u32`
-abbrev pub most_u32 : ℕ
-most_u32 = 4294967295
+abbrev pub max_u32 : ℕ
+max_u32 = 4294967295
 
--- one number
 abbrev pub u32_number : Number → Number
-u32_number n = record { value = min n.value most_u32; len = n.len }
+u32_number n = record { value = min n.value max_u32; len = n.len }
 
--- both counts
 abbrev pub u32_counts : RepeatCounts → RepeatCounts
 u32_counts c =
-    record { least = min c.least most_u32; most = option_map (λ m. min m most_u32) c.most; len = c.len }
+    record { least = min c.least max_u32; most = option_map (λ m. min m max_u32) c.most; len = c.len }

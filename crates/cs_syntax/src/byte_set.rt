@@ -1,4 +1,4 @@
-// Sets of bytes.
+// Sets of bytes, as bitmaps of 256 bits.
 ghost use Rattle.std.specs.Prelude.{⊤, ◌≡◌, ◌+◌, ◌-◌, ◌^◌, ◌<◌, ◌≤◌, ◌==◌, ◌||◌, ◌&&◌, ◌∷◌, [], nat_eq, nat_lt, ℕ, List, Bool, false, not, Option, IfSome, IfNone, length};
 ghost use Rattle.std.specs.Char.{is_ascii_alphabetic};
 ghost use Rattle.std.specs.Int.{bit_at};
@@ -8,10 +8,11 @@ ghost use Rattle.cs_syntax.specs.ByteSet.{set_of, all_bytes, other_case, is_in_f
 ghost use Rattle.cs_syntax.specs.SetWords.{TestsAs};
 ghost use Rattle.cs_syntax.specs.Ranges.{is_in_ranges};
 
-use crate::char_set::is_in_runs;
+use crate::char_set::is_in_char_ranges;
 use std::marker::Model;
 
-/// A set of bytes, kept as a bit for each of the 256. Contracts see the list of the answers.
+/// A set of bytes, stored as a bitmap of 256 bits. Contracts see it as the list of its 256
+/// membership values.
 #[derive(Drop)]
 pub struct ByteSet {
     words: [u64; 4],
@@ -52,8 +53,8 @@ impl ByteSet {
         self.words[(byte / 64) as usize] >> (byte % 64) & 1 == 1
     }
 
-    /// How many members there are. The clause `bytes` bounds them for crates above, which see the list
-    /// alone.
+    /// The number of members. The clause `bytes` bounds it by 256 for the crates above, which see
+    /// only the list.
     pub fn len(&self) -> u32
         ensures members { result ≡ count self.now }
         ensures bytes { length self.now ≡ 256 }
@@ -64,7 +65,7 @@ impl ByteSet {
             + self.words[3].count_ones()
     }
 
-    /// The member, where there is exactly one.
+    /// The only member of a set of one byte; `None` for all other sets.
     pub fn single(&self) -> Option<u8>
         ensures some { IfSome result (IsOnly self.now) }
         ensures none { IfNone result ((b : ℕ) → IsOnly self.now b → ⊥) }
@@ -86,7 +87,7 @@ impl ByteSet {
         self.len() == 1
     }
 
-    /// The bytes that pass the test.
+    /// The bytes that satisfy a predicate.
     fn of<F: Fn(usize) -> bool>(test: F) -> ByteSet
         requires { (b : ℕ) → b < 256 → F.pre test b }
         ensures { (f : ℕ → Bool) → TestsAs (F.post test) f → result ≡ set_of f }
@@ -109,7 +110,7 @@ impl ByteSet {
         }
     }
 
-    /// An ASCII character, and its other case where letters are folded.
+    /// The set of an ASCII character; with `fold` also of its other case.
     #[tactic(auto, unfolding(crate::specs::ByteSet::char_set))]
     pub(crate) fn of_char(fold: bool, char: u8) -> ByteSet
         ensures { result ≡ char_set fold char }
@@ -117,7 +118,7 @@ impl ByteSet {
         ByteSet::of(|b| is_in_folded(fold, &[(char, char)], b))
     }
 
-    /// The bytes from one to another.
+    /// The bytes from `low` to `high`, both included.
     pub(crate) fn of_range(low: u8, high: u8) -> ByteSet
         ensures { result ≡ set_of (is_in_ranges ((low, high) ∷ [])) }
     {
@@ -132,15 +133,15 @@ impl ByteSet {
         }
     }
 
-    /// The ASCII characters of some runs.
-    pub(crate) fn of_ascii(runs: &[(u32, u32)]) -> ByteSet
-        ensures { result ≡ set_of (λ b. nat_lt b 128 && is_in_ranges runs.now b) }
+    /// The ASCII characters of the ranges.
+    pub(crate) fn of_ascii(ranges: &[(u32, u32)]) -> ByteSet
+        ensures { result ≡ set_of (λ b. nat_lt b 128 && is_in_ranges ranges.now b) }
     {
-        ByteSet::of(|b| b < 128 && is_in_runs(runs, b as u32))
+        ByteSet::of(|b| b < 128 && is_in_char_ranges(ranges, b as u32))
     }
 }
 
-/// The bits of those bytes from `low` to `high` that are among the 64 from `first` on.
+/// The word of the bitmap for the bytes `first..first + 64`, with the bits of `low..=high` set.
 fn ones(low: usize, high: usize, first: usize) -> u64
     requires { high < 256 }
     ensures { (i : ℕ) → i < 64
@@ -151,7 +152,7 @@ fn ones(low: usize, high: usize, first: usize) -> u64
     low_ones(to).saturating_sub(low_ones(from))
 }
 
-/// So many of the lowest bits.
+/// A word whose lowest `count` bits are set.
 fn low_ones(count: usize) -> u64
     requires { count ≤ 64 }
     ensures { result ≡ 2 ^ count - 1 }

@@ -1,102 +1,102 @@
-// Sets of characters.
+// Sets of characters, as canonical lists of ranges (as in Rust's `regex-syntax`).
 ghost use Rattle.std.specs.Prelude.{◌≡◌, ◌+◌, ◌<◌, ◌≤◌, ◌&&◌, ◌||◌, ℕ, Bool, not, List, All, IfOk};
 ghost use Rattle.std.specs.Bool.{xor};
 ghost use Rattle.std.specs.Char.{scalar_index};
 ghost use Rattle.std.specs.List.Sorted.{IsNonDecreasingBy};
 ghost use Rattle.cs_syntax.specs.Ranges.{is_in_ranges};
-ghost use Rattle.cs_syntax.specs.Characters.{is_scalar, has_char, runs_of};
-ghost use Rattle.cs_syntax.specs.CharRuns.{IsRun, AreRuns, char_count};
-ghost use Rattle.cs_syntax.specs.CharPlaces.{char_at, char_from, char_to};
+ghost use Rattle.cs_syntax.specs.Characters.{is_scalar, has_char, canonical_ranges};
+ghost use Rattle.cs_syntax.specs.CharRanges.{IsCharRange, AreCanonical, char_count};
+ghost use Rattle.cs_syntax.specs.ScalarIndex.{nth_scalar, scalar_ceil, scalar_floor};
 
 use std::alloc::{AllocError, Global};
 use std::marker::Model;
 
-/// How many characters there are.
+/// The number of characters.
 const ALL: u32 = 0x10_F800;
 
 /// The last character.
 const LAST: u32 = 0x10_FFFF;
 
-/// A set of characters. A character is a number up to 10ffff, in hexadecimal, but not from d800 to
-/// dfff.
+/// A set of characters. A character is a Unicode scalar value: a number up to 0x10ffff that is not
+/// a surrogate (0xd800 to 0xdfff).
 #[derive(Drop)]
 pub struct CharSet {
-    runs: Vec<(u32, u32)>,
+    ranges: Vec<(u32, u32)>,
 }
 
 impl Model for CharSet {
     ghost use Rattle.std.specs.Prelude.{ℕ, List};
-    ghost use Rattle.cs_syntax.specs.CharRuns.{AreRuns};
+    ghost use Rattle.cs_syntax.specs.CharRanges.{AreCanonical};
 
     ghost Value = { List (ℕ × ℕ) };
 
-    ghost view = { λ set. set.runs.items };
+    ghost view = { λ set. set.ranges.items };
 
-    ghost invariant = { λ set. AreRuns set.runs.items };
+    ghost invariant = { λ set. AreCanonical set.ranges.items };
 }
 
 impl CharSet {
-    /// The characters of ranges, which may stand in any order and meet. Both ends of a range are
-    /// in it, and numbers that are no characters are left out.
+    /// The characters of inclusive ranges, which may overlap and come in any order. Numbers that
+    /// are not characters are ignored, and so is a range whose ends are swapped.
     pub fn from_ranges(alloc: Global, ranges: &[(u32, u32)]) -> Result<CharSet, AllocError>
         ensures members { IfOk result
             (λ set. (c : ℕ) → has_char set c ≡ has_char ranges.now c) }
-        ensures maximal { IfOk result AreRuns }
+        ensures maximal { IfOk result AreCanonical }
     {
-        let mut runs = char_runs(alloc, ranges)?;
-        runs.sort_unstable_by_key(|run| run.0);
-        let runs = maximal_runs(alloc, &runs)?;
-        Ok(CharSet { runs })
+        let mut sorted = scalar_ranges(alloc, ranges)?;
+        sorted.sort_unstable_by_key(|range| range.0);
+        let ranges = merge_ranges(alloc, &sorted)?;
+        Ok(CharSet { ranges })
     }
 
-    /// Whether the number is that of a member.
+    /// Whether the number is a member. False for a number that is not a character.
     pub fn contains(&self, char: u32) -> bool
         ensures { result ≡ has_char self.now char }
     {
-        is_scalar(char) && is_in_runs(&self.runs, char)
+        is_scalar(char) && is_in_char_ranges(&self.ranges, char)
     }
 
-    /// How many members there are.
+    /// The number of members.
     pub fn len(&self) -> u32
         ensures { result ≡ char_count self.now }
     {
         let mut count = 0;
-        for run in &self.runs {
-            count += place(run.1) + 1 - place(run.0);
+        for range in &self.ranges {
+            count += scalar_index(range.1) + 1 - scalar_index(range.0);
         }
         count
     }
 
-    /// The maximal runs of members, ascending, each with its first and its last member. d7ff and
-    /// e000 are neighbours, since no character stands between them.
+    /// The members as ascending, maximal ranges, each with its first and last member. 0xd7ff and
+    /// 0xe000 are adjacent, because no character lies between them.
     pub fn runs(&self) -> &[(u32, u32)]
         ensures runs { result.now ≡ self.now }
-        ensures maximal { AreRuns self.now }
+        ensures maximal { AreCanonical self.now }
     {
-        self.runs.as_slice()
+        self.ranges.as_slice()
     }
 
-    /// All other characters.
+    /// The characters that are not members.
     pub fn complement(&self, alloc: Global) -> Result<CharSet, AllocError>
         ensures members { IfOk result
             (λ set. (c : ℕ) → has_char set c ≡ (is_scalar c && not (has_char self.now c))) }
-        ensures maximal { IfOk result AreRuns }
+        ensures maximal { IfOk result AreCanonical }
     {
-        let runs = gaps(alloc, &self.runs)?;
-        Ok(CharSet { runs })
+        let ranges = complement_ranges(alloc, &self.ranges)?;
+        Ok(CharSet { ranges })
     }
 
-    /// The characters of both.
+    /// The members of either set.
     pub fn union(&self, alloc: Global, other: &CharSet) -> Result<CharSet, AllocError>
         ensures { IfOk result
             (λ set. (c : ℕ) → has_char set c ≡ (has_char self.now c || has_char other.now c)) }
     {
-        let mut both = Vec::from_slice(alloc, &self.runs)?;
-        both.extend_from_slice(&other.runs)?;
+        let mut both = Vec::from_slice(alloc, &self.ranges)?;
+        both.extend_from_slice(&other.ranges)?;
         CharSet::from_ranges(alloc, &both)
     }
 
-    /// The characters of ranges, or all others.
+    /// The characters of the ranges, or with `negated` all others.
     pub(crate) fn of_ranges(
         alloc: Global,
         negated: bool,
@@ -104,7 +104,7 @@ impl CharSet {
     ) -> Result<CharSet, AllocError>
         ensures { IfOk result (λ set. (test : ℕ → Bool)
             → ((c : ℕ) → has_char ranges.now c ≡ (is_scalar c && test c))
-            → set ≡ runs_of (λ c. xor negated (test c))) }
+            → set ≡ canonical_ranges (λ c. xor negated (test c))) }
     {
         let set = CharSet::from_ranges(alloc, ranges)?;
         if negated {
@@ -115,45 +115,45 @@ impl CharSet {
     }
 }
 
-/// Whether the number is that of a character.
+/// Whether the number is a Unicode scalar value.
 fn is_scalar(n: u32) -> bool
     ensures { result ≡ is_scalar n }
 {
     n < 0xD800 || (0xE000 <= n && n <= LAST)
 }
 
-/// Whether the number is in one of the runs.
-pub(crate) fn is_in_runs(runs: &[(u32, u32)], n: u32) -> bool
-    ensures { result ≡ is_in_ranges runs.now n }
+/// Whether the number is in one of the ranges.
+pub(crate) fn is_in_char_ranges(ranges: &[(u32, u32)], n: u32) -> bool
+    ensures { result ≡ is_in_ranges ranges.now n }
 {
-    runs.iter().any(|run| run.0 <= n && n <= run.1)
+    ranges.iter().any(|range| range.0 <= n && n <= range.1)
 }
 
-/// The place of a character among all characters.
-fn place(char: u32) -> u32
+/// The index of a character in the list of all characters.
+fn scalar_index(char: u32) -> u32
     ensures { result ≡ scalar_index char }
 {
     char.min(0xD800) + char.saturating_sub(0xE000)
 }
 
-/// The character at a place among all characters.
-fn char_at(place: u32) -> u32
-    requires { place < ALL }
-    ensures { result ≡ char_at place }
+/// The character at an index of the list of all characters.
+fn nth_scalar(index: u32) -> u32
+    requires { index < ALL }
+    ensures { result ≡ nth_scalar index }
 {
-    if place < 0xD800 { place } else { place + 0x800 }
+    if index < 0xD800 { index } else { index + 0x800 }
 }
 
-/// The first character from a number on.
-fn char_from(n: u32) -> u32
-    ensures { result ≡ char_from n }
+/// The least character that is not below the number.
+fn scalar_ceil(n: u32) -> u32
+    ensures { result ≡ scalar_ceil n }
 {
     if 0xD800 <= n && n < 0xE000 { 0xE000 } else { n }
 }
 
-/// The last character up to a number.
-fn char_to(n: u32) -> u32
-    ensures { result ≡ char_to n }
+/// The greatest character that is not above the number.
+fn scalar_floor(n: u32) -> u32
+    ensures { result ≡ scalar_floor n }
 {
     if 0xD800 <= n && n < 0xE000 {
         0xD7FF
@@ -162,65 +162,65 @@ fn char_to(n: u32) -> u32
     }
 }
 
-/// The ranges, each cut to its characters.
-fn char_runs(alloc: Global, ranges: &[(u32, u32)]) -> Result<Vec<(u32, u32)>, AllocError>
-    ensures runs { IfOk result (λ runs. All IsRun runs.items) }
+/// The ranges, with their ends moved inwards to characters. Ranges without characters are dropped.
+fn scalar_ranges(alloc: Global, given: &[(u32, u32)]) -> Result<Vec<(u32, u32)>, AllocError>
+    ensures ranges { IfOk result (λ ranges. All IsCharRange ranges.items) }
     ensures members { IfOk result
-        (λ runs. (c : ℕ) → has_char runs.items c ≡ has_char ranges.now c) }
+        (λ ranges. (c : ℕ) → has_char ranges.items c ≡ has_char given.now c) }
 {
-    let mut runs = Vec::new(alloc);
-    for range in ranges {
-        let run = (char_from(range.0), char_to(range.1));
-        if run.0 <= run.1 {
-            runs.push(run)?;
+    let mut ranges = Vec::new(alloc);
+    for pair in given {
+        let range = (scalar_ceil(pair.0), scalar_floor(pair.1));
+        if range.0 <= range.1 {
+            ranges.push(range)?;
         }
     }
-    Ok(runs)
+    Ok(ranges)
 }
 
-/// The maximal runs of ascending ones, which may meet.
-fn maximal_runs(alloc: Global, runs: &[(u32, u32)]) -> Result<Vec<(u32, u32)>, AllocError>
-    requires runs { All IsRun runs.now }
-    requires ascending { IsNonDecreasingBy (λ (run : ℕ × ℕ). run.0) runs.now }
-    ensures runs { IfOk result (λ maximal. AreRuns maximal.items) }
+/// Merges overlapping and adjacent ranges, which are sorted by their first character.
+fn merge_ranges(alloc: Global, ranges: &[(u32, u32)]) -> Result<Vec<(u32, u32)>, AllocError>
+    requires ranges { All IsCharRange ranges.now }
+    requires ascending { IsNonDecreasingBy (λ (range : ℕ × ℕ). range.0) ranges.now }
+    ensures ranges { IfOk result (λ maximal. AreCanonical maximal.items) }
     ensures members { IfOk result
-        (λ maximal. (c : ℕ) → has_char maximal.items c ≡ has_char runs.now c) }
+        (λ maximal. (c : ℕ) → has_char maximal.items c ≡ has_char ranges.now c) }
 {
     let mut maximal = Vec::new(alloc);
-    let Some(first) = runs.first() else {
+    let Some(first) = ranges.first() else {
         return Ok(maximal);
     };
     let mut last = *first;
-    for run in runs {
-        if place(run.0) <= place(last.1) + 1 {
-            last = (last.0, last.1.max(run.1));
+    for range in ranges {
+        if scalar_index(range.0) <= scalar_index(last.1) + 1 {
+            last = (last.0, last.1.max(range.1));
         } else {
             maximal.push(last)?;
-            last = *run;
+            last = *range;
         }
     }
     maximal.push(last)?;
     Ok(maximal)
 }
 
-/// The runs of all characters that are in none of the runs.
-fn gaps(alloc: Global, runs: &[(u32, u32)]) -> Result<Vec<(u32, u32)>, AllocError>
-    requires { AreRuns runs.now }
-    ensures runs { IfOk result (λ gaps. AreRuns gaps.items) }
+/// The gaps between the ranges, which are the ranges of the complement.
+fn complement_ranges(alloc: Global, ranges: &[(u32, u32)]) -> Result<Vec<(u32, u32)>, AllocError>
+    requires { AreCanonical ranges.now }
+    ensures ranges { IfOk result (λ gaps. AreCanonical gaps.items) }
     ensures members { IfOk result
-        (λ gaps. (c : ℕ) → has_char gaps.items c ≡ (is_scalar c && not (has_char runs.now c))) }
+        (λ gaps. (c : ℕ) → has_char gaps.items c ≡ (is_scalar c && not (has_char ranges.now c))) }
 {
     let mut gaps = Vec::new(alloc);
     let mut next = 0;
-    for run in runs {
-        let start = place(run.0);
+    for range in ranges {
+        let start = scalar_index(range.0);
         if next < start {
-            gaps.push((char_at(next), char_at(start - 1)))?;
+            gaps.push((nth_scalar(next), nth_scalar(start - 1)))?;
         }
-        next = place(run.1) + 1;
+        next = scalar_index(range.1) + 1;
     }
     if next < ALL {
-        gaps.push((char_at(next), LAST))?;
+        gaps.push((nth_scalar(next), LAST))?;
     }
     Ok(gaps)
 }

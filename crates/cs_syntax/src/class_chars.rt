@@ -1,15 +1,15 @@
-// Characters and ranges in a class.
+// Parses characters and ranges inside a bracket class.
 ghost use Rattle.std.specs.Prelude.{◌≡◌, ◌+◌, ◌-◌, ◌*◌, ◌≤◌, ◌<◌, ◌^◌, ◌∷◌, ℕ, length, drop, take, chars, slice_index, MatchResult, IfOk};
 ghost use Rattle.cs_syntax.specs.Classes.{class_escape, class_char, range_to, range_from, span};
-ghost use Rattle.cs_syntax.specs.ItemViews.{StaysWithin, class_front_view, class_char_view};
+ghost use Rattle.cs_syntax.specs.ItemViews.{StaysWithin, class_token_view, class_char_view};
 
 use crate::class_item::ClassItem;
 use crate::escapes::{escaped_char, is_unsupported_escape};
 use crate::fault::PatternFault;
-use crate::front::written_len;
-use crate::item::Misread;
+use crate::item::ItemError;
+use crate::lookahead::count_continuation;
 
-/// Behind a backslash.
+/// The character of an escape in a class. The text follows the backslash.
 pub(crate) fn class_escape(text: &[u8]) -> Result<(u32, usize), PatternFault>
     ensures value { class_char_view result ≡ class_escape text.now }
     ensures within { IfOk result (λ r. r.1 ≤ length text.now) }
@@ -26,8 +26,8 @@ pub(crate) fn class_escape(text: &[u8]) -> Result<(u32, usize), PatternFault>
     Ok((escaped.char as u32, escaped.len))
 }
 
-/// The number of a character past ASCII, whose first byte and those behind it these are.
-fn wide_number(first: u8, others: &[u8]) -> u32
+/// Decodes a multi-byte UTF-8 sequence: its lead byte and its continuation bytes.
+fn decode_multibyte(first: u8, others: &[u8]) -> u32
     requires { 128 ≤ first }
     ensures { result ≡ slice_index (chars (first ∷ others.now)) 0 }
 {
@@ -35,29 +35,32 @@ fn wide_number(first: u8, others: &[u8]) -> u32
         let [a, ..] = others else {
             return 0;
         };
-        return six_more(first.saturating_sub(0xC0) as u32, *a);
+        return with_continuation(first.saturating_sub(0xC0) as u32, *a);
     }
     if first < 0xF0 {
         let [a, b, ..] = others else {
             return 0;
         };
-        return six_more(six_more((first - 0xE0) as u32, *a), *b);
+        return with_continuation(with_continuation((first - 0xE0) as u32, *a), *b);
     }
     let [a, b, c, ..] = others else {
         return 0;
     };
-    six_more(six_more(six_more((first - 0xF0) as u32, *a), *b), *c)
+    with_continuation(
+        with_continuation(with_continuation((first - 0xF0) as u32, *a), *b),
+        *c,
+    )
 }
 
-/// The number with the six bits of one more byte of its form.
-fn six_more(number: u32, byte: u8) -> u32
+/// Appends the six bits of a continuation byte.
+fn with_continuation(number: u32, byte: u8) -> u32
     requires { number < 2 ^ 20 }
     ensures { result ≡ number * 64 + (byte - 128) }
 {
     number * 64 + byte.saturating_sub(0x80) as u32
 }
 
-/// One character, and how many bytes stand behind its first one.
+/// One character, and the number of its bytes after the first.
 pub(crate) fn class_char(byte: u8, rest: &[u8]) -> Result<(u32, usize), PatternFault>
     ensures value { class_char_view result ≡ class_char byte rest.now }
     ensures within { IfOk result (λ r. r.1 ≤ length rest.now) }
@@ -68,28 +71,31 @@ pub(crate) fn class_char(byte: u8, rest: &[u8]) -> Result<(u32, usize), PatternF
     if byte < 128 {
         return Ok((byte as u32, 0));
     }
-    let len = written_len(rest);
-    Ok((wide_number(byte, &rest[..len]), len))
+    let len = count_continuation(rest);
+    Ok((decode_multibyte(byte, &rest[..len]), len))
 }
 
-/// Behind the `-` of a range.
+/// The range from `low` to `high`. `len` is the number of its bytes between its first and `high`.
 fn range_to(
     low: u32,
     len: usize,
     high: Result<(u32, usize), PatternFault>,
-) -> Result<(ClassItem, usize), Misread>
+) -> Result<(ClassItem, usize), ItemError>
     requires { IfOk high (λ r. len + r.1 < 2 ^ 64) }
-    ensures value { class_front_view result ≡ range_to low len (class_char_view high) }
+    ensures value { class_token_view result ≡ range_to low len (class_char_view high) }
     ensures within { MatchResult result
-        (λ r. IfOk high (λ h. r.1 ≤ len + h.1)) (λ m. m.behind ≤ len) }
+        (λ r. IfOk high (λ h. r.1 ≤ len + h.1)) (λ m. m.distance ≤ len) }
 {
     match high {
-        Err(fault) => Err(Misread { fault, behind: len }),
+        Err(fault) => Err(ItemError {
+            fault,
+            distance: len,
+        }),
         Ok((high, more)) => {
             if high < low {
-                return Err(Misread {
+                return Err(ItemError {
                     fault: PatternFault::BadRange,
-                    behind: 0,
+                    distance: 0,
                 });
             }
             Ok((ClassItem::Range(low, high), len + more))
@@ -97,10 +103,10 @@ fn range_to(
     }
 }
 
-/// Behind a character, which may be the first of a range.
-fn range_from(low: u32, len: usize, rest: &[u8]) -> Result<(ClassItem, usize), Misread>
+/// The range that begins with `low` if a `-` follows, otherwise `low` alone.
+fn range_from(low: u32, len: usize, rest: &[u8]) -> Result<(ClassItem, usize), ItemError>
     requires { len + length rest.now < 2 ^ 63 }
-    ensures value { class_front_view result ≡ range_from low len rest.now }
+    ensures value { class_token_view result ≡ range_from low len rest.now }
     ensures within { StaysWithin (len + length rest.now) (len + length rest.now) result }
 {
     match rest {
@@ -109,17 +115,17 @@ fn range_from(low: u32, len: usize, rest: &[u8]) -> Result<(ClassItem, usize), M
     }
 }
 
-/// A character, or a range that begins with it.
+/// A character, or the range that begins with it.
 pub(crate) fn span(
     low: Result<(u32, usize), PatternFault>,
     rest: &[u8],
-) -> Result<(ClassItem, usize), Misread>
+) -> Result<(ClassItem, usize), ItemError>
     requires { IfOk low (λ l. l.1 ≤ length rest.now) }
-    ensures value { class_front_view result ≡ span (class_char_view low) rest.now }
+    ensures value { class_token_view result ≡ span (class_char_view low) rest.now }
     ensures within { StaysWithin (length rest.now) (length rest.now) result }
 {
     match low {
-        Err(fault) => Err(Misread { fault, behind: 0 }),
+        Err(fault) => Err(ItemError { fault, distance: 0 }),
         Ok((low, len)) => range_from(low, len, &rest[len..]),
     }
 }

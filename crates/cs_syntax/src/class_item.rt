@@ -1,6 +1,6 @@
-// What a class is made of.
+// The items of a bracket class.
 
-/// A set of characters that has a name, or an escape for one.
+/// A POSIX class, or the class of `\s`.
 #[derive(Clone, Copy, Drop)]
 pub(crate) enum NamedClass {
     Alnum,
@@ -17,15 +17,15 @@ pub(crate) enum NamedClass {
     Upper,
     Word,
     Xdigit,
-    /// The characters of `\s`: tab, newline, form feed, carriage return and space.
+    /// The class of `\s`: tab, newline, form feed, carriage return and space.
     White,
 }
 
-/// An item of a class.
+/// An item of a bracket class.
 #[derive(Clone, Copy, Drop)]
 pub(crate) enum ClassItem {
-    /// The characters from the first to the second.
+    /// The characters from the first to the second, both included.
     Range(u32, u32),
-    /// The characters of a class, or with `true` all others.
+    /// A named class, or with `true` its complement.
     Named(NamedClass, bool),
 }

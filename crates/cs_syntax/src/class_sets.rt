@@ -1,8 +1,8 @@
-// The sets of characters that a dot and classes stand for.
+// The character sets of a dot and of bracket classes.
 ghost use Rattle.std.specs.Prelude.{◌≡◌, ◌≤◌, ◌&&◌, ◌||◌, ◌∷◌, [], ℕ, not, nat_eq, false, OnOk, IfOk};
 ghost use Rattle.cs_syntax.specs.Ranges.{is_in_ranges};
 ghost use Rattle.cs_syntax.specs.ByteSet.{is_in_folded};
-ghost use Rattle.cs_syntax.specs.Characters.{is_scalar, has_char, runs_of};
+ghost use Rattle.cs_syntax.specs.Characters.{is_scalar, has_char, canonical_ranges};
 ghost use Rattle.cs_syntax.specs.ClassSets.{ranges_of, is_in_item};
 ghost use Rattle.cs_syntax.specs.ClassState.{is_other_case};
 
@@ -14,9 +14,9 @@ const CAPITAL: u32 = 'A' as u32;
 
 const SMALL: u32 = 'a' as u32;
 
-/// All characters, or all but a newline.
+/// All characters; without `dot_all` all except the newline.
 pub(crate) fn dot(alloc: Global, dot_all: bool) -> Result<CharSet, AllocError>
-    ensures { IfOk result (λ set. set ≡ runs_of (λ c. dot_all || not (nat_eq c 10))) }
+    ensures { IfOk result (λ set. set ≡ canonical_ranges (λ c. dot_all || not (nat_eq c 10))) }
 {
     if dot_all {
         CharSet::of_ranges(alloc, true, &[])
@@ -25,16 +25,16 @@ pub(crate) fn dot(alloc: Global, dot_all: bool) -> Result<CharSet, AllocError>
     }
 }
 
-/// The characters of an item by itself, no letter folded.
+/// The set of an item outside brackets, such as `\d`. It is not case-folded.
 pub(crate) fn one_item(alloc: Global, item: ClassItem) -> Result<CharSet, AllocError>
-    ensures { IfOk result (λ set. set ≡ runs_of (is_in_item false item)) }
+    ensures { IfOk result (λ set. set ≡ canonical_ranges (is_in_item false item)) }
 {
     let mut ranges = Vec::new(alloc);
     add_item(alloc, false, item, &mut ranges)?;
     CharSet::of_ranges(alloc, false, &ranges)
 }
 
-/// Adds the characters of an item of a class.
+/// Adds the characters of a class item to the ranges.
 pub(crate) fn add_item(
     alloc: Global,
     fold: bool,
@@ -56,25 +56,24 @@ pub(crate) fn add_item(
     }
 }
 
-/// Adds all characters that are in none of some ranges, where letters are folded also not in
-/// their other case.
+/// Adds the complement of the named ranges. With `fold` they are case-folded first.
 fn add_others(
     alloc: Global,
     fold: bool,
-    own: &[(u32, u32)],
+    named: &[(u32, u32)],
     ranges: &mut Vec<(u32, u32)>,
 ) -> Result<(), AllocError>
     ensures { OnOk result ((c : ℕ) → has_char ranges.new.items c
-        ≡ (has_char ranges.old.items c || (is_scalar c && not (is_in_folded fold own.now c)))) }
+        ≡ (has_char ranges.old.items c || (is_scalar c && not (is_in_folded fold named.now c)))) }
 {
     let mut folded = Vec::new(alloc);
-    add_folded(fold, own, &mut folded)?;
+    add_folded(fold, named, &mut folded)?;
     let others = CharSet::of_ranges(alloc, true, &folded)?;
     ranges.extend_from_slice(others.runs())?;
     Ok(())
 }
 
-/// Adds ranges, and where letters are folded the other case of their letters.
+/// Adds ranges; with `fold` also the other case of their ASCII letters.
 fn add_folded(
     fold: bool,
     more: &[(u32, u32)],
@@ -102,8 +101,8 @@ fn add_range(fold: bool, range: (u32, u32), ranges: &mut Vec<(u32, u32)>) -> Res
     Ok(())
 }
 
-/// Adds the letters of a range that are of one case, in the other one. Each case is told by its
-/// first letter.
+/// Adds the letters of the range that are in one case, converted to the other case. `from` and `to`
+/// are the first letters (`a` or `A`) of the two cases.
 fn add_letters(
     range: (u32, u32),
     from: u32,
@@ -123,7 +122,7 @@ fn add_letters(
     Ok(())
 }
 
-/// The ranges of a class.
+/// The ranges of a named class.
 fn ranges_of(class: NamedClass) -> &'static [(u32, u32)]
     ensures { result.now ≡ ranges_of class }
 {

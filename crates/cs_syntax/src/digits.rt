@@ -1,8 +1,8 @@
-// Digits, and the numbers that they write.
+// Numbers in a given base.
 ghost use Rattle.std.specs.Prelude.{◌≡◌, ◌+◌, ◌*◌, ◌<◌, ◌≤◌, length, min};
 ghost use Rattle.cs_syntax.specs.Numbers.{digit_value, is_digit, count_digits, number_of_digits};
 
-/// The value of a digit or a letter, or 36.
+/// The value of a digit or a letter in base 36; 36 for all other bytes.
 #[tactic(auto, unfolding(crate::specs::Numbers::digit_value))]
 fn digit_value(byte: u8) -> u32
     ensures { result ≡ digit_value byte }
@@ -15,14 +15,14 @@ fn digit_value(byte: u8) -> u32
     }
 }
 
-/// Whether the byte is a digit.
+/// Whether the byte is a digit of the base.
 pub(crate) fn is_digit(base: u32, byte: u8) -> bool
     ensures { result ≡ is_digit base byte }
 {
     digit_value(byte) < base
 }
 
-/// How many digits stand at the front.
+/// The number of leading digits.
 pub(crate) fn count_digits(base: u32, text: &[u8]) -> usize
     ensures count { result ≡ count_digits base text.now }
     ensures within { result ≤ length text.now }
@@ -30,7 +30,7 @@ pub(crate) fn count_digits(base: u32, text: &[u8]) -> usize
     text.iter().take_while(|b| is_digit(base, **b)).count()
 }
 
-/// The number that the digits write, or the largest `u32` where it is larger.
+/// The value of the digits, saturated at `u32::MAX`.
 pub(crate) fn value_in(base: u32, digits: &[u8]) -> u32
     ensures { result ≡ min (number_of_digits base digits.now) u32.MAX }
 {

@@ -1,27 +1,27 @@
-// Escapes.
+// Parses escapes. Each function is given the text after the backslash.
 ghost use Rattle.std.specs.Prelude.{◌≡◌, ◌+◌, ◌≤◌, ◌<◌, ◌^◌, ℕ, Bool, List, length, min, take, drop, IfSome, ◌∷◌};
 ghost use Rattle.std.specs.Char.{is_ascii_alphabetic};
 ghost use Rattle.std.specs.Option.{option_map};
-ghost use Rattle.cs_syntax.specs.Fronts.{char_tree};
-ghost use Rattle.cs_syntax.specs.ItemViews.{StaysWithin, front_view, unit_tree};
+ghost use Rattle.cs_syntax.specs.Tokens.{char_tree};
+ghost use Rattle.cs_syntax.specs.ItemViews.{StaysWithin, token_view, atom_tree};
 ghost use Rattle.cs_syntax.specs.Characters.{is_scalar};
-ghost use Rattle.cs_syntax.specs.Escapes.{char_by_number, octal_char, hex_char_in_braces, hex_char, control_char, escaped_char, escaped_class, is_unsupported_escape, escaped_tree, char_front, escape};
+ghost use Rattle.cs_syntax.specs.Escapes.{char_by_number, octal_char, hex_char_in_braces, hex_char, control_char, escaped_char, escaped_class, is_unsupported_escape, escaped_tree, char_token, escape};
 
 use crate::byte_set::{ByteSet, is_letter};
 use crate::class_item::{ClassItem, NamedClass};
 use crate::digits::{count_digits, is_digit, value_in};
 use crate::fault::PatternFault;
-use crate::front::is_front;
-use crate::item::{Item, Misread, Unit};
+use crate::item::{Atom, Item, ItemError};
+use crate::lookahead::starts_with_byte;
 
-/// A character that an escape gives, and how many bytes stand behind the backslash.
+/// The character of an escape, and the number of bytes after the backslash.
 #[derive(Clone, Copy, Drop)]
 pub(crate) struct EscapedChar {
     pub(crate) char: char,
     pub(crate) len: usize,
 }
 
-/// A character by its number, which is the largest `u32` where it is larger.
+/// The character with a number, which is saturated at `u32::MAX`.
 fn char_by_number(number: u32, len: usize) -> Option<EscapedChar>
     ensures { (real : ℕ) → number ≡ min real u32.MAX → result ≡ char_by_number real len }
 {
@@ -34,30 +34,30 @@ fn octal_char(text: &[u8]) -> Option<EscapedChar>
     ensures within { IfSome result (λ c. c.len ≤ length text.now) }
 {
     let len = count_digits(8, text).min(3);
-    if !is_front(b'0', text) && len < 2 {
+    if !starts_with_byte(b'0', text) && len < 2 {
         return None;
     }
     char_by_number(value_in(8, &text[..len]), len)
 }
 
-/// Behind `x{`.
+/// A hexadecimal number in braces. The text follows `\x{`.
 fn hex_char_in_braces(text: &[u8]) -> Option<EscapedChar>
     ensures value { result ≡ hex_char_in_braces text.now }
     ensures within { IfSome result (λ c. c.len ≤ 2 + length text.now) }
 {
     let len = count_digits(16, text);
-    if len == 0 || !is_front(b'}', &text[len..]) {
+    if len == 0 || !starts_with_byte(b'}', &text[len..]) {
         return None;
     }
     char_by_number(value_in(16, &text[..len]), len + 3)
 }
 
-/// Behind `x`.
+/// A hexadecimal escape. The text follows `\x`.
 fn hex_char(text: &[u8]) -> Option<EscapedChar>
     ensures value { result ≡ hex_char text.now }
     ensures within { IfSome result (λ c. c.len ≤ 1 + length text.now) }
 {
-    if is_front(b'{', text) {
+    if starts_with_byte(b'{', text) {
         return hex_char_in_braces(&text[1..]);
     }
     if count_digits(16, text) < 2 {
@@ -80,7 +80,7 @@ fn control_char(letter: u8) -> Option<char>
     }
 }
 
-/// Behind a backslash: an escape that gives a character.
+/// An escape for one character.
 pub(crate) fn escaped_char(text: &[u8]) -> Option<EscapedChar>
     ensures value { result ≡ escaped_char text.now }
     ensures within { IfSome result (λ c. c.len ≤ length text.now) }
@@ -104,7 +104,7 @@ pub(crate) fn escaped_char(text: &[u8]) -> Option<EscapedChar>
     None
 }
 
-/// The class that an escape stands for.
+/// The class of `\d`, `\s`, `\w` and their complements.
 #[tactic(auto, unfolding(crate::specs::Escapes::escaped_class))]
 pub(crate) fn escaped_class(letter: u8) -> Option<ClassItem>
     ensures { result ≡ escaped_class letter }
@@ -120,74 +120,74 @@ pub(crate) fn escaped_class(letter: u8) -> Option<ClassItem>
     }
 }
 
-/// Whether the escape is one that is left out.
+/// Whether RE2 supports the escape and this parser does not.
 pub(crate) fn is_unsupported_escape(letter: u8) -> bool
     ensures { result ≡ is_unsupported_escape letter }
 {
     matches!(letter, b'A' | b'z' | b'Q' | b'p' | b'P')
 }
 
-/// The unit of a character by its number.
-fn char_unit(fold: bool, char: char) -> Unit
-    ensures { (text : List ℕ) → unit_tree text result ≡ char_tree fold char }
+/// The atom of a character.
+fn char_atom(fold: bool, char: char) -> Atom
+    ensures { (text : List ℕ) → atom_tree text result ≡ char_tree fold char }
 {
     if char.is_ascii() {
-        Unit::Set(ByteSet::of_char(fold, char as u8))
+        Atom::Set(ByteSet::of_char(fold, char as u8))
     } else {
-        Unit::Char(char)
+        Atom::Char(char)
     }
 }
 
-/// Behind a backslash outside a class, where it gives a character or nothing.
-#[tactic(auto, unfolding(crate::specs::Escapes::char_front))]
-fn char_front(fold: bool, text: &[u8]) -> Result<(Item, usize), Misread>
-    ensures value { (front : List ℕ) → front_view front result ≡ char_front fold text.now }
+/// An escape outside a class that stands for one character.
+#[tactic(auto, unfolding(crate::specs::Escapes::char_token))]
+fn char_token(fold: bool, text: &[u8]) -> Result<(Item, usize), ItemError>
+    ensures value { (lexeme : List ℕ) → token_view lexeme result ≡ char_token fold text.now }
     ensures within { StaysWithin (length text.now) 0 result }
 {
     let Some(escaped) = escaped_char(text) else {
-        return Err(Misread {
+        return Err(ItemError {
             fault: PatternFault::BadEscape,
-            behind: 0,
+            distance: 0,
         });
     };
-    Ok((Item::Unit(char_unit(fold, escaped.char)), escaped.len))
+    Ok((Item::Atom(char_atom(fold, escaped.char)), escaped.len))
 }
 
-/// The unit of a letter behind a backslash that is no character.
+/// The atom of an escape outside a class that does not stand for one character.
 #[tactic(auto, unfolding(crate::specs::Escapes::escaped_tree))]
-fn escaped_unit(letter: u8) -> Option<Unit>
-    ensures { (text : List ℕ) → option_map (unit_tree text) result ≡ escaped_tree letter }
+fn escaped_atom(letter: u8) -> Option<Atom>
+    ensures { (text : List ℕ) → option_map (atom_tree text) result ≡ escaped_tree letter }
 {
     match letter {
-        b'b' => Some(Unit::WordEdge),
-        b'B' => Some(Unit::NotWordEdge),
-        b'C' => Some(Unit::Set(ByteSet::all())),
+        b'b' => Some(Atom::WordEdge),
+        b'B' => Some(Atom::NotWordEdge),
+        b'C' => Some(Atom::Set(ByteSet::all())),
         _ => {
             let item = escaped_class(letter)?;
-            Some(Unit::Class(item))
+            Some(Atom::Class(item))
         }
     }
 }
 
-/// Behind a backslash outside a class.
-pub(crate) fn escape(fold: bool, text: &[u8]) -> Result<(Item, usize), Misread>
-    ensures value { (front : List ℕ) → front_view front result ≡ escape fold text.now }
+/// An escape outside a class.
+pub(crate) fn escape(fold: bool, text: &[u8]) -> Result<(Item, usize), ItemError>
+    ensures value { (lexeme : List ℕ) → token_view lexeme result ≡ escape fold text.now }
     ensures within { StaysWithin (length text.now) 0 result }
 {
     let Some((&letter, _)) = text.split_first() else {
-        return Err(Misread {
+        return Err(ItemError {
             fault: PatternFault::LoneBackslash,
-            behind: 0,
+            distance: 0,
         });
     };
     if is_unsupported_escape(letter) {
-        return Err(Misread {
+        return Err(ItemError {
             fault: PatternFault::NotInProfile,
-            behind: 0,
+            distance: 0,
         });
     }
-    match escaped_unit(letter) {
-        Some(unit) => Ok((Item::Unit(unit), 1)),
-        None => char_front(fold, text),
+    match escaped_atom(letter) {
+        Some(atom) => Ok((Item::Atom(atom), 1)),
+        None => char_token(fold, text),
     }
 }

@@ -1,10 +1,10 @@
-// Flags of a pattern.
+// Flags, as in `(?i)`.
 
-/// The flags that are on at a place of a pattern. The flags `m` and `U` change nothing.
+/// The flags in effect at an offset of a pattern. `m` and `U` are accepted and have no effect.
 #[derive(Clone, Copy, Drop)]
 pub(crate) struct Flags {
-    /// `i`: a letter stands for both of its cases.
+    /// `i`: an ASCII letter matches both of its cases.
     pub(crate) fold: bool,
-    /// `s`: a dot takes newlines too.
+    /// `s`: a dot matches a newline too.
     pub(crate) dot_all: bool,
 }

@@ -1,22 +1,22 @@
-// Heads of groups, and flags.
+// Parses what follows a `(`: a group name or flags.
 ghost use Rattle.std.specs.Prelude.{◌≡◌, ◌+◌, ◌≤◌, ◌<◌, ◌^◌, ℕ, Bool, List, codes, length, take, drop};
 ghost use Rattle.std.specs.List.{prefix_len, list_any};
 ghost use Rattle.cs_syntax.specs.Matching.{is_word};
-ghost use Rattle.cs_syntax.specs.ItemViews.{StaysWithin, front_view};
+ghost use Rattle.cs_syntax.specs.ItemViews.{StaysWithin, token_view};
 ghost use Rattle.cs_syntax.specs.NumberList.{has};
 ghost use Rattle.cs_syntax.specs.Groups.{name, with_set, with_cleared, after_flags, cleared_flags, set_flags, head, group};
 
 use crate::fault::PatternFault;
 use crate::flags::Flags;
-use crate::front::is_front;
-use crate::item::{Item, Misread};
+use crate::item::{Item, ItemError};
+use crate::lookahead::starts_with_byte;
 
-const BAD_GROUP: Misread = Misread {
+const BAD_GROUP: ItemError = ItemError {
     fault: PatternFault::BadGroup,
-    behind: 0,
+    distance: 0,
 };
 
-/// Whether the byte is a digit, a letter or `_`.
+/// Whether the byte is an ASCII digit, an ASCII letter or `_`.
 fn is_word(byte: u8) -> bool
     ensures { result ≡ is_word byte }
 {
@@ -59,7 +59,7 @@ fn with_cleared(letters: &[u8], flags: Flags) -> Flags
     }
 }
 
-/// How many bytes of a name stand at the front.
+/// The length of the leading name.
 fn name_len(text: &[u8]) -> usize
     ensures count { result ≡ prefix_len is_word text.now }
     ensures within { result ≤ length text.now }
@@ -67,7 +67,7 @@ fn name_len(text: &[u8]) -> usize
     text.iter().take_while(|b| is_word(**b)).count()
 }
 
-/// How many flags to set stand at the front.
+/// The number of leading flags that can be set.
 fn set_len(text: &[u8]) -> usize
     ensures count { result ≡ prefix_len (has (codes "imsU")) text.now }
     ensures within { result ≤ length text.now }
@@ -75,7 +75,7 @@ fn set_len(text: &[u8]) -> usize
     text.iter().take_while(|b| is_flag(**b)).count()
 }
 
-/// How many flags to clear stand at the front.
+/// The number of leading flags that can be cleared.
 fn cleared_len(text: &[u8]) -> usize
     ensures count { result ≡ prefix_len (has (codes "isU")) text.now }
     ensures within { result ≤ length text.now }
@@ -83,45 +83,45 @@ fn cleared_len(text: &[u8]) -> usize
     text.iter().take_while(|b| is_cleared_flag(**b)).count()
 }
 
-/// Behind `(?<` or `(?P<`, of which `len` bytes stand behind the parenthesis.
-fn name(flags: Flags, len: usize, text: &[u8]) -> Result<(Item, usize), Misread>
+/// The name of a group. `len` is the number of bytes between the parenthesis and the text.
+fn name(flags: Flags, len: usize, text: &[u8]) -> Result<(Item, usize), ItemError>
     requires { len + length text.now ≤ 2 ^ 63 }
-    ensures value { (front : List ℕ) → front_view front result ≡ name flags len text.now }
+    ensures value { (lexeme : List ℕ) → token_view lexeme result ≡ name flags len text.now }
     ensures within { StaysWithin (len + length text.now) 0 result }
 {
     let n = name_len(text);
-    if n == 0 || !is_front(b'>', &text[n..]) {
+    if n == 0 || !starts_with_byte(b'>', &text[n..]) {
         return Err(BAD_GROUP);
     }
     Ok((Item::GroupStart(flags), len + n + 1))
 }
 
-/// At the end of the flags.
-fn after_flags(flags: Flags, len: usize, rest: &[u8]) -> Result<(Item, usize), Misread>
+/// The `:` or `)` after the flags.
+fn after_flags(flags: Flags, len: usize, rest: &[u8]) -> Result<(Item, usize), ItemError>
     requires { len + length rest.now ≤ 2 ^ 63 }
-    ensures value { (front : List ℕ) → front_view front result ≡ after_flags flags len rest.now }
+    ensures value { (lexeme : List ℕ) → token_view lexeme result ≡ after_flags flags len rest.now }
     ensures within { StaysWithin (len + length rest.now) 0 result }
 {
-    if is_front(b':', rest) {
+    if starts_with_byte(b':', rest) {
         return Ok((Item::GroupStart(flags), len + 1));
     }
-    if is_front(b')', rest) {
+    if starts_with_byte(b')', rest) {
         return Ok((Item::FlagsFromHere(flags), len + 1));
     }
     Err(BAD_GROUP)
 }
 
-/// Behind the `-`.
-fn cleared_flags(flags: Flags, len: usize, text: &[u8]) -> Result<(Item, usize), Misread>
+/// The flags after a `-`, which are cleared.
+fn cleared_flags(flags: Flags, len: usize, text: &[u8]) -> Result<(Item, usize), ItemError>
     requires { len + length text.now ≤ 2 ^ 63 }
-    ensures value { (front : List ℕ) → front_view front result ≡ cleared_flags flags len text.now }
+    ensures value { (lexeme : List ℕ) → token_view lexeme result ≡ cleared_flags flags len text.now }
     ensures within { StaysWithin (len + length text.now) 0 result }
 {
     let n = cleared_len(text);
-    if is_front(b'm', &text[n..]) {
-        return Err(Misread {
+    if starts_with_byte(b'm', &text[n..]) {
+        return Err(ItemError {
             fault: PatternFault::NotInProfile,
-            behind: 0,
+            distance: 0,
         });
     }
     if n == 0 {
@@ -130,39 +130,39 @@ fn cleared_flags(flags: Flags, len: usize, text: &[u8]) -> Result<(Item, usize),
     after_flags(with_cleared(&text[..n], flags), len + n, &text[n..])
 }
 
-/// Behind `(?`.
-fn set_flags(flags: Flags, text: &[u8]) -> Result<(Item, usize), Misread>
-    ensures value { (front : List ℕ) → front_view front result ≡ set_flags flags text.now }
+/// The flags after `(?`.
+fn set_flags(flags: Flags, text: &[u8]) -> Result<(Item, usize), ItemError>
+    ensures value { (lexeme : List ℕ) → token_view lexeme result ≡ set_flags flags text.now }
     ensures within { StaysWithin (1 + length text.now) 0 result }
 {
     let n = set_len(text);
     let set = with_set(&text[..n], flags);
-    if is_front(b'-', &text[n..]) {
+    if starts_with_byte(b'-', &text[n..]) {
         return cleared_flags(set, n + 2, &text[n + 1..]);
     }
     after_flags(set, n + 1, &text[n..])
 }
 
-/// Behind `(?`.
-fn head(flags: Flags, text: &[u8]) -> Result<(Item, usize), Misread>
-    ensures value { (front : List ℕ) → front_view front result ≡ head flags text.now }
+/// The name or the flags after `(?`.
+fn head(flags: Flags, text: &[u8]) -> Result<(Item, usize), ItemError>
+    ensures value { (lexeme : List ℕ) → token_view lexeme result ≡ head flags text.now }
     ensures within { StaysWithin (1 + length text.now) 0 result }
 {
-    if is_front(b'<', text) {
+    if starts_with_byte(b'<', text) {
         return name(flags, 2, &text[1..]);
     }
-    if is_front(b'P', text) && is_front(b'<', &text[1..]) {
+    if starts_with_byte(b'P', text) && starts_with_byte(b'<', &text[1..]) {
         return name(flags, 3, &text[2..]);
     }
     set_flags(flags, text)
 }
 
-/// Behind `(`.
-pub(crate) fn group(flags: Flags, rest: &[u8]) -> Result<(Item, usize), Misread>
-    ensures value { (front : List ℕ) → front_view front result ≡ group flags rest.now }
+/// The group that begins with `(`. `rest` follows the parenthesis.
+pub(crate) fn group(flags: Flags, rest: &[u8]) -> Result<(Item, usize), ItemError>
+    ensures value { (lexeme : List ℕ) → token_view lexeme result ≡ group flags rest.now }
     ensures within { StaysWithin (length rest.now) 0 result }
 {
-    if is_front(b'?', rest) {
+    if starts_with_byte(b'?', rest) {
         return head(flags, &rest[1..]);
     }
     Ok((Item::GroupStart(flags), 0))

@@ -1,4 +1,4 @@
-// The items of a pattern's text.
+// The items (tokens) of a pattern's text.
 use crate::byte_set::ByteSet;
 use crate::char_set::CharSet;
 use crate::class_item::ClassItem;
@@ -6,56 +6,57 @@ use crate::fault::PatternFault;
 use crate::flags::Flags;
 use std::alloc::AllocError;
 
-/// What stands for itself in a pattern.
+/// An item that can be the operand of a repeat.
 #[derive(Drop)]
-pub(crate) enum Unit {
+pub(crate) enum Atom {
     Set(ByteSet),
     Chars(CharSet),
-    /// An item of a class that stands by itself.
+    /// A class escape outside brackets, such as `\d`.
     Class(ClassItem),
-    /// All characters but a newline, or with `true` all.
+    /// A dot: all characters except the newline, or with `true` all.
     Dot(bool),
-    /// A character past ASCII that an escape gives.
+    /// A non-ASCII character, from an escape.
     Char(char),
-    /// A character past ASCII, which is the item's own text.
-    Written,
+    /// A non-ASCII character, written as itself: the lexeme of the item.
+    Verbatim,
     LineStart,
     LineEnd,
     WordEdge,
     NotWordEdge,
 }
 
-/// What a pattern's text is made of.
+/// An item of a pattern.
 #[derive(Drop)]
 pub(crate) enum Item {
-    Unit(Unit),
-    /// At least so many times, and at most so many where that is given, what stands before.
+    Atom(Atom),
+    /// A repeat operator, with its least and its greatest count.
     Repeat(u32, Option<u32>),
     Bar,
-    /// A group begins, with these flags.
+    /// A group begins. These flags are in effect inside it.
     GroupStart(Flags),
     GroupEnd,
-    /// These flags hold from here on.
+    /// These flags are in effect from here to the end of the group.
     FlagsFromHere(Flags),
 }
 
-/// A fault, and how many bytes it lies behind the front of the item at fault; or want of memory.
+/// An error in an item, and its distance in bytes from the start of the item; or an allocation
+/// failure.
 #[derive(Clone, Copy, Drop)]
-pub(crate) struct Misread {
+pub(crate) struct ItemError {
     pub(crate) fault: PatternFault,
-    pub(crate) behind: usize,
+    pub(crate) distance: usize,
 }
 
-impl From<AllocError> for Misread {
+impl From<AllocError> for ItemError {
     ghost use Rattle.std.specs.Prelude.{◌≡◌};
     ghost use Rattle.cs_syntax.specs.declared.fault.PatternFault.TheVariants.{Memory};
 
-    ghost from_gives = { λ _ m. m ≡ record { fault = Memory; behind = 0 } };
+    ghost from_gives = { λ _ m. m ≡ record { fault = Memory; distance = 0 } };
 
-    fn from(_refused: AllocError) -> Misread {
-        Misread {
+    fn from(_refused: AllocError) -> ItemError {
+        ItemError {
             fault: PatternFault::Memory,
-            behind: 0,
+            distance: 0,
         }
     }
 }

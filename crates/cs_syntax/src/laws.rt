@@ -1,86 +1,86 @@
-// Laws of the definitions.
+// Laws: properties of the definitions, with no code.
 ghost use Rattle.std.specs.Prelude.{◌↔◌, ◌≡◌, ◌≢◌, ◌<◌, ◌≤◌, ◌^◌, ◌&&◌, [], ◌∷◌, ◌++◌, ℕ, Bool, List, Some, IsUtf8};
 ghost use Rattle.std.specs.Str.{chars};
-ghost use Rattle.cs_syntax.specs.Characters.{is_scalar, has_char, runs_of, TakesChar};
-ghost use Rattle.cs_syntax.specs.CharRuns.{AreRuns};
-ghost use Rattle.cs_syntax.specs.Decided.{IsDecided};
+ghost use Rattle.cs_syntax.specs.Characters.{is_scalar, has_char, canonical_ranges, MatchesChar};
+ghost use Rattle.cs_syntax.specs.CharRanges.{AreCanonical};
+ghost use Rattle.cs_syntax.specs.Determinism.{HasOneParse};
 ghost use Rattle.cs_syntax.specs.Levels.{HasLevels};
 ghost use Rattle.cs_syntax.specs.Lowering.{utf8_tree};
-ghost use Rattle.cs_syntax.specs.Matching.{Tree, Takes, one_of, rep};
-ghost use Rattle.cs_syntax.specs.Choices.{StandsApart, TakesEither};
+ghost use Rattle.cs_syntax.specs.Matching.{Tree, MatchesSpan, one_of, rep};
+ghost use Rattle.cs_syntax.specs.BarredPatterns.{IsSelfContained, MatchesEither};
 ghost use Rattle.cs_syntax.specs.ByteSet.{char_set};
-ghost use Rattle.cs_syntax.specs.Signs.{sign_of};
-ghost use Rattle.cs_syntax.specs.Fronts.{sequence};
-ghost use Rattle.cs_syntax.specs.Repeats.{most_times};
-ghost use Rattle.cs_syntax.specs.Written.{counted_repeat, quotation, units_of};
+ghost use Rattle.cs_syntax.specs.ByteKinds.{byte_kind_of};
+ghost use Rattle.cs_syntax.specs.Tokens.{sequence};
+ghost use Rattle.cs_syntax.specs.Repeats.{max_repeat};
+ghost use Rattle.cs_syntax.specs.Quoting.{counted_repeat, quote_meta, atoms_of};
 ghost use Rattle.std.specs.List.{AllByRecursion};
-ghost use Rattle.cs_syntax.specs.declared.sign.Sign.TheVariants.{Plain};
+ghost use Rattle.cs_syntax.specs.declared.byte_kind.ByteKind.TheVariants.{Literal};
 ghost use Rattle.cs_syntax.specs.declared.fault.PatternFault.TheVariants.{BadRepeat};
-ghost use Rattle.cs_syntax.specs.Reading.{Reads, Breaks, IsTextFault, Group, Level, levels, rest};
+ghost use Rattle.cs_syntax.specs.Parsing.{ParsesAs, HasSyntaxError, IsTextFault, Group, Level, levels, parse_suffix};
 ghost use Rattle.cs_syntax.specs.declared.before.Before.{Before};
 ghost use Rattle.cs_syntax.specs.declared.flags.Flags.{Flags};
 ghost use Rattle.cs_syntax.specs.declared.fault.PatternFault.{PatternFault};
 
-/// Each text reads as one tree or breaks by one fault, and never both.
-pub fn reading_is_decided()
-    ensures { (text : List ℕ) (fold : Bool) → IsDecided text fold }
+/// A text parses as exactly one tree or has exactly one syntax error, and never both.
+pub fn parsing_is_deterministic()
+    ensures { (text : List ℕ) (fold : Bool) → HasOneParse text fold }
 {}
 
-/// Neither the weight nor want of memory breaks a text: they come only as answers of `parse`.
-pub fn texts_break_by_their_own_faults()
-    ensures { (text : List ℕ) (fold : Bool) (fault : PatternFault) (at : ℕ)
-        → Breaks text fold fault at → IsTextFault fault }
+/// `TooLarge` and `Memory` are not syntax errors: only `parse` returns them.
+pub fn syntax_errors_are_text_faults()
+    ensures { (text : List ℕ) (fold : Bool) (fault : PatternFault) (offset : ℕ)
+        → HasSyntaxError text fold fault offset → IsTextFault fault }
 {}
 
-/// The rest of a text has one level more than there are open groups, so that a group never ends without one around it, and
-/// a whole text has one level.
+/// The parse of a suffix has one level more than there are open groups. So a `)` always returns to
+/// an enclosing level, and a whole text has one level.
 pub fn each_open_group_has_a_level()
-    ensures one_more { (skip at : ℕ) (before : Before) (groups : List Group) (flags : Flags)
-        (text : List ℕ) → HasLevels (rest skip at before groups flags text) groups }
-    ensures never { (skip at : ℕ) (before : Before) (group : Group) (groups : List Group)
+    ensures one_more { (skip offset : ℕ) (before : Before) (groups : List Group) (flags : Flags)
+        (text : List ℕ) → HasLevels (parse_suffix skip offset before groups flags text) groups }
+    ensures never { (skip offset : ℕ) (before : Before) (group : Group) (groups : List Group)
         (flags : Flags) (text : List ℕ) (level : Level)
-        → rest skip at before (group ∷ groups) flags text ≢ levels level [] }
-    ensures alone { (skip at : ℕ) (before : Before) (flags : Flags) (text : List ℕ) (level : Level)
-        (more : List Level) → rest skip at before [] flags text ≡ levels level more → more ≡ [] }
+        → parse_suffix skip offset before (group ∷ groups) flags text ≢ levels level [] }
+    ensures alone { (skip offset : ℕ) (before : Before) (flags : Flags) (text : List ℕ) (level : Level)
+        (more : List Level) → parse_suffix skip offset before [] flags text ≡ levels level more → more ≡ [] }
 {}
 
-/// A letter with counts behind it, as in `x{2,3}`, reads as that repeat exactly where the counts are in order and at most
-/// 1000; else it breaks behind the letter.
-pub fn counted_repeats_read_as_written()
-    ensures reads { (b n m : ℕ) (fold : Bool) → sign_of b ≡ Plain → n ≤ m → m ≤ most_times
-        → Reads (b ∷ counted_repeat n m) fold (rep (one_of (char_set fold b)) n (Some m)) }
-    ensures breaks { (b n m : ℕ) (fold : Bool) → sign_of b ≡ Plain → n < 2 ^ 64 → m < 2 ^ 64
-        → (n ≤ m → m ≤ most_times → ⊥) → Breaks (b ∷ counted_repeat n m) fold BadRepeat 1 }
+/// A literal with counts, such as `x{2,3}`, parses as that repeat if the first count is at most the
+/// second and both are at most 1000. Otherwise it has a syntax error at the brace.
+pub fn counted_repeats_parse_as_written()
+    ensures reads { (b n m : ℕ) (fold : Bool) → byte_kind_of b ≡ Literal → n ≤ m → m ≤ max_repeat
+        → ParsesAs (b ∷ counted_repeat n m) fold (rep (one_of (char_set fold b)) n (Some m)) }
+    ensures syntax { (b n m : ℕ) (fold : Bool) → byte_kind_of b ≡ Literal → n < 2 ^ 64 → m < 2 ^ 64
+        → (n ≤ m → m ≤ max_repeat → ⊥) → HasSyntaxError (b ∷ counted_repeat n m) fold BadRepeat 1 }
 {}
 
-/// A quoted text reads as its characters in their order, and an ASCII text so as its bytes.
-pub fn quoted_texts_read_as_themselves()
+/// `quote_meta` of a text parses as the sequence of its characters (Go: `regexp.QuoteMeta`).
+pub fn quoted_texts_parse_as_literals()
     ensures ascii { (text : List ℕ) (fold : Bool) → AllByRecursion (λ b. b < 128) text
-        → Reads (quotation text) fold (sequence (units_of fold text)) }
+        → ParsesAs (quote_meta text) fold (sequence (atoms_of fold text)) }
     ensures characters { (text : List ℕ) (fold : Bool) → IsUtf8 text
-        → Reads (quotation text) fold (sequence (units_of fold (chars text))) }
+        → ParsesAs (quote_meta text) fold (sequence (atoms_of fold (chars text))) }
 {}
 
-/// A text that leaves the flags as they are, a bar and a text read as a tree that takes just what one of their two trees
-/// takes.
-pub fn bars_read_as_choices()
-    ensures { (s t : List ℕ) (fold : Bool) (x y : Tree) → StandsApart fold s
-        → Reads s fold x → Reads t fold y
-        → (z : Tree) × Reads (s ++ 124 ∷ t) fold z × TakesEither z x y }
+/// `s|t` parses as a tree that matches exactly the spans that the tree of `s` or that of `t`
+/// matches, if `s` is self-contained: it leaves the flags unchanged and its class names are closed.
+pub fn bars_parse_as_alternations()
+    ensures { (s t : List ℕ) (fold : Bool) (x y : Tree) → IsSelfContained fold s
+        → ParsesAs s fold x → ParsesAs t fold y
+        → (z : Tree) × ParsesAs (s ++ 124 ∷ t) fold z × MatchesEither z x y }
 {}
 
-/// Sets of characters with the same members have the same maximal runs, and those of a test have just the characters that
-/// pass it.
-pub fn runs_are_decided_by_their_characters()
-    ensures same { (xs ys : List (ℕ × ℕ)) → AreRuns xs → AreRuns ys
+/// Canonical ranges with the same members are equal, and `canonical_ranges` of a predicate has
+/// exactly the characters that satisfy it.
+pub fn canonical_ranges_are_unique()
+    ensures same { (xs ys : List (ℕ × ℕ)) → AreCanonical xs → AreCanonical ys
         → ((c : ℕ) → has_char xs c ≡ has_char ys c) → xs ≡ ys }
-    ensures maximal { (test : ℕ → Bool) → AreRuns (runs_of test) }
+    ensures maximal { (test : ℕ → Bool) → AreCanonical (canonical_ranges test) }
     ensures passing { (test : ℕ → Bool) (c : ℕ)
-        → has_char (runs_of test) c ≡ (is_scalar c && test c) }
+        → has_char (canonical_ranges test) c ≡ (is_scalar c && test c) }
 {}
 
-/// The tree of a set of characters takes the UTF-8 forms of its members and nothing else.
-pub fn lowering_keeps_what_is_taken()
-    ensures { (line : List ℕ) (runs : List (ℕ × ℕ)) (i j : ℕ)
-        → Takes line (utf8_tree runs) i j ↔ TakesChar line runs i j }
+/// The lowered tree of a set of characters matches exactly the UTF-8 encodings of its members.
+pub fn lowering_preserves_matches()
+    ensures { (line : List ℕ) (ranges : List (ℕ × ℕ)) (i j : ℕ)
+        → MatchesSpan line (utf8_tree ranges) i j ↔ MatchesChar line ranges i j }
 {}

@@ -1,32 +1,33 @@
-//! Patterns: their trees, which parts of a line a tree takes, and the tree that a text is read as.
-//! Read `specs/Matching.antt` first, then `specs/Reading.antt`.
+//! The syntax of patterns, after RE2: the parser, the syntax tree, the spans of a line that a tree
+//! matches, and the lowering of character sets to UTF-8 byte sets. Read `specs/Matching.antt`
+//! first, then `specs/Parsing.antt`.
 #![tactic(auto)]
 
+mod atoms;
 mod before;
+mod builder;
+mod byte_kind;
 mod byte_set;
 mod char_set;
 mod class_chars;
-mod class_fronts;
 mod class_item;
 mod class_sets;
+mod class_tokens;
 mod classes;
 mod digits;
-mod draft;
 mod escapes;
 mod fault;
 mod flags;
-mod front;
 mod groups;
 mod item;
 mod items;
 pub mod laws;
+mod lookahead;
 mod lowering;
 mod node;
 mod parser;
 mod pattern;
 mod repeats;
-mod sign;
-mod units;
 mod weight;
 
 pub use byte_set::ByteSet;

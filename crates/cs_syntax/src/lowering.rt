@@ -1,7 +1,8 @@
-// Sets of characters, as trees of sets of bytes.
+// Lowers sets of characters to trees of byte sets. RE2 and Rust's `utf8-ranges` split a range from
+// the first byte on; here the last byte is split off first.
 ghost use Rattle.std.specs.Prelude.{ℕ, nat_lt, ◌≡◌, ◌+◌, ◌<◌, ◌≤◌, ◌^◌, ◌-◌, IfOk, OnOk};
 ghost use Rattle.std.specs.List.{list_any};
-ghost use Rattle.cs_syntax.specs.Lowering.{range_part, with_last_byte, forms, forms_within, wide_forms, ascii_forms, utf8_tree, any_of};
+ghost use Rattle.cs_syntax.specs.Lowering.{range_part, with_last_byte, utf8_encodings, encodings_within, multibyte_encodings, ascii_encodings, utf8_tree, alternation_of};
 ghost use Rattle.cs_syntax.specs.Node.{tree_of};
 ghost use Rattle.cs_syntax.specs.NodeList.{trees_of};
 ghost use Rattle.cs_syntax.specs.TreeList.{append};
@@ -12,24 +13,24 @@ use crate::char_set::CharSet;
 use crate::node::Node;
 use std::alloc::{AllocError, Global};
 
-/// The tree of sets of bytes that takes the UTF-8 forms of the members and nothing else. What the
-/// members have in common, as the last bytes of whole blocks, stands in it once.
+/// A tree of byte sets that matches exactly the UTF-8 encodings of the members. Whole blocks of 64
+/// characters share the set of their last byte.
 pub fn lower(alloc: Global, set: &CharSet) -> Result<Node, AllocError>
     ensures { IfOk result (λ node. tree_of node ≡ utf8_tree set.now) }
 {
-    let runs = set.runs();
+    let ranges = set.runs();
     let mut trees = Vec::new(alloc);
-    add_ascii(runs, &mut trees)?;
-    for run in runs {
-        add_wide(alloc, *run, &mut trees)?;
+    add_ascii(ranges, &mut trees)?;
+    for range in ranges {
+        add_multibyte(alloc, *range, &mut trees)?;
     }
-    Ok(any_of(trees))
+    Ok(alternation_of(trees))
 }
 
-/// One tree as it is, or a choice of several or of none.
+/// The alternation of the trees. A single tree is not wrapped.
 #[tactic(auto, using(crate::proofs::TreeLemmas::not_one))]
-fn any_of(mut trees: Vec<Node>) -> Node
-    ensures { tree_of result ≡ any_of (trees_of trees.items) }
+fn alternation_of(mut trees: Vec<Node>) -> Node
+    ensures { tree_of result ≡ alternation_of (trees_of trees.items) }
 {
     if trees.len() != 1 {
         return Node::Alt(trees);
@@ -40,66 +41,74 @@ fn any_of(mut trees: Vec<Node>) -> Node
     }
 }
 
-/// The ASCII characters, as one set, where there are any.
-fn add_ascii(runs: &[(u32, u32)], trees: &mut Vec<Node>) -> Result<(), AllocError>
+/// Adds the ASCII characters as one set, if there are any.
+fn add_ascii(ranges: &[(u32, u32)], trees: &mut Vec<Node>) -> Result<(), AllocError>
     ensures { OnOk result (trees_of trees.new.items
-        ≡ append (trees_of trees.old.items) (ascii_forms runs.now)) }
+        ≡ append (trees_of trees.old.items) (ascii_encodings ranges.now)) }
 {
-    if has_ascii(runs) {
-        trees.push(Node::Set(ByteSet::of_ascii(runs)))?;
+    if has_ascii(ranges) {
+        trees.push(Node::Set(ByteSet::of_ascii(ranges)))?;
     }
     Ok(())
 }
 
-fn has_ascii(runs: &[(u32, u32)]) -> bool
-    ensures { result ≡ list_any (λ (run : ℕ × ℕ). nat_lt run.0 128) runs.now }
+fn has_ascii(ranges: &[(u32, u32)]) -> bool
+    ensures { result ≡ list_any (λ (range : ℕ × ℕ). nat_lt range.0 128) ranges.now }
 {
-    runs.iter().any(|run| run.0 < 0x80)
+    ranges.iter().any(|range| range.0 < 0x80)
 }
 
-/// The characters of a run that are past ASCII.
-fn add_wide(alloc: Global, run: (u32, u32), trees: &mut Vec<Node>) -> Result<(), AllocError>
+/// Adds the non-ASCII characters of a range, by the length of their encodings.
+fn add_multibyte(alloc: Global, range: (u32, u32), trees: &mut Vec<Node>) -> Result<(), AllocError>
     ensures { OnOk result (trees_of trees.new.items
-        ≡ append (trees_of trees.old.items) (wide_forms run)) }
+        ≡ append (trees_of trees.old.items) (multibyte_encodings range)) }
 {
-    add_within(alloc, 0x80, 0x7FF, 0xC0, 1, run, trees)?;
-    add_within(alloc, 0x800, 0xD7FF, 0xE0, 2, run, trees)?;
-    add_within(alloc, 0xE000, 0xFFFF, 0xE0, 2, run, trees)?;
-    add_within(alloc, 0x1_0000, 0x10_FFFF, 0xF0, 3, run, trees)?;
+    add_within(alloc, 0x80, 0x7FF, 0xC0, 1, range, trees)?;
+    add_within(alloc, 0x800, 0xD7FF, 0xE0, 2, range, trees)?;
+    add_within(alloc, 0xE000, 0xFFFF, 0xE0, 2, range, trees)?;
+    add_within(alloc, 0x1_0000, 0x10_FFFF, 0xF0, 3, range, trees)?;
     Ok(())
 }
 
-/// The characters of a run from one to another, whose forms have so many bytes behind the first.
+/// Adds the characters of the range from `from` to `to`, whose encodings have `more` continuation
+/// bytes.
 fn add_within(
     alloc: Global,
     from: u32,
     to: u32,
     lead: u32,
     more: u32,
-    run: (u32, u32),
+    range: (u32, u32),
     trees: &mut Vec<Node>,
 ) -> Result<(), AllocError>
     requires small { to < 2 ^ 26 }
     requires fit { Fits lead more to }
     ensures { OnOk result (trees_of trees.new.items
-        ≡ append (trees_of trees.old.items) (forms_within from to lead more run)) }
+        ≡ append (trees_of trees.old.items) (encodings_within from to lead more range)) }
 {
-    let low = run.0.max(from);
-    let high = run.1.min(to);
+    let low = range.0.max(from);
+    let high = range.1.min(to);
     if low <= high {
-        let tree = forms(alloc, lead, more, low, high)?;
+        let tree = utf8_encodings(alloc, lead, more, low, high)?;
         trees.push(tree)?;
     }
     Ok(())
 }
 
-/// The forms of the numbers from one to another, of a first byte and so many more.
-#[cycle(forms)]
-fn forms(alloc: Global, lead: u32, more: u32, low: u32, high: u32) -> Result<Node, AllocError>
+/// The encodings of the numbers `low..=high`: a first byte, which is `lead` plus the upper bits,
+/// and `more` continuation bytes.
+#[cycle(utf8_encodings)]
+fn utf8_encodings(
+    alloc: Global,
+    lead: u32,
+    more: u32,
+    low: u32,
+    high: u32,
+) -> Result<Node, AllocError>
     requires order { low ≤ high }
     requires small { high < 2 ^ 26 }
     requires fit { Fits lead more high }
-    ensures { IfOk result (λ node. tree_of node ≡ forms lead more low high) }
+    ensures { IfOk result (λ node. tree_of node ≡ utf8_encodings lead more low high) }
 {
     if more == 0 {
         let set = ByteSet::of_range((lead + low) as u8, (lead + high) as u8);
@@ -115,12 +124,12 @@ fn forms(alloc: Global, lead: u32, more: u32, low: u32, high: u32) -> Result<Nod
     } else {
         add_part(alloc, lead, more - 1, low, high + 1, &mut trees)?;
     }
-    Ok(any_of(trees))
+    Ok(alternation_of(trees))
 }
 
-/// The forms of the numbers from one on and before another, which are in one block of 64 numbers
-/// or in whole ones: a last byte behind those of the blocks.
-#[cycle(forms)]
+/// Adds the encodings of the numbers `low..end`, which lie in one block of 64 numbers or are whole
+/// blocks: the leading bytes of the blocks, then the set of their last byte.
+#[cycle(utf8_encodings)]
 fn add_part(
     alloc: Global,
     lead: u32,
@@ -133,14 +142,14 @@ fn add_part(
     requires fit { Fits lead (more + 1) (end - 1) }
     ensures { OnOk result (trees_of trees.new.items
         ≡ append (trees_of trees.old.items)
-        (with_last_byte (forms lead more) (range_part low end))) }
+        (with_last_byte (utf8_encodings lead more) (range_part low end))) }
 {
     if low < end {
         let high = end - 1;
-        let front = forms(alloc, lead, more, low / 64, high / 64)?;
+        let leading = utf8_encodings(alloc, lead, more, low / 64, high / 64)?;
         let last = ByteSet::of_range((0x80 + low % 64) as u8, (0x80 + high % 64) as u8);
         let mut both = Vec::new(alloc);
-        both.push(front)?;
+        both.push(leading)?;
         both.push(Node::Set(last))?;
         trees.push(Node::Cat(both))?;
     }

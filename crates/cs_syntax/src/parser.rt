@@ -1,56 +1,56 @@
-// Patterns read from text.
+// The parser: one pass over the text, with an explicit stack of the open groups (as in RE2).
 ghost use Rattle.std.specs.Prelude.{◌≡◌, ◌+◌, ◌<◌, ◌≤◌, ℕ, OnOk, IfOk, IfErr, length, take, drop};
-ghost use Rattle.cs_syntax.specs.Fronts.{unit, repeat, bar, group_start, group_end, flags_from_here};
+ghost use Rattle.cs_syntax.specs.Tokens.{atom, repeat, bar, group_start, group_end, flags_from_here};
 ghost use Rattle.cs_syntax.specs.Node.{tree_of};
-ghost use Rattle.cs_syntax.specs.Reading.{Reads, reading, tree};
-ghost use Rattle.cs_syntax.specs.Refusal.{IsRefused};
-ghost use Rattle.cs_syntax.specs.ItemViews.{unit_tree, item_view};
-ghost use Rattle.cs_syntax.specs.Weight.{most_weight, weight};
+ghost use Rattle.cs_syntax.specs.Parsing.{ParsesAs, parse_result, tree};
+ghost use Rattle.cs_syntax.specs.ParseErrors.{IsParseError};
+ghost use Rattle.cs_syntax.specs.ItemViews.{atom_tree, item_view};
+ghost use Rattle.cs_syntax.specs.Weight.{max_weight, weight};
 
+use crate::atoms::atom_node;
 use crate::before::Before;
-use crate::draft::Draft;
+use crate::builder::GroupBuilder;
 use crate::fault::{PatternError, PatternFault};
 use crate::flags::Flags;
-use crate::item::{Item, Unit};
-use crate::items::front_item;
+use crate::item::{Atom, Item};
+use crate::items::read_token;
 use crate::node::Node;
 use crate::pattern::Pattern;
-use crate::units::unit_node;
 use std::alloc::{AllocError, Global};
 use std::mem;
 
-/// How many groups may be open at one time.
-const MOST_OPEN: usize = 200;
+/// The greatest number of groups that are open at once.
+const MAX_OPEN_GROUPS: usize = 200;
 
-/// A group that waits for the one in it: where its inner group begins, the flags before that,
-/// and what it has so far.
+/// A stack frame: an enclosing group, the offset of the `(` at which it was suspended, and the
+/// flags there.
 #[derive(Drop)]
-struct Open {
-    at: usize,
+struct GroupFrame {
+    offset: usize,
     flags: Flags,
-    outer: Draft,
+    outer: GroupBuilder,
 }
 
-/// A text that is read up to some place.
+/// The state of the parser after a prefix of the text.
 #[derive(Drop)]
 struct Parser {
-    open: Vec<Open>,
-    draft: Draft,
+    open: Vec<GroupFrame>,
+    builder: GroupBuilder,
     before: Before,
     flags: Flags,
 }
 
 impl Parser {
-    ghost use Rattle.cs_syntax.specs.ParserState.{reading_from, reading_at_end, state_of, at_start, HasOperand, IsRefusal, Advances, StopsWith};
+    ghost use Rattle.cs_syntax.specs.ParserState.{parse_from, parse_at_end, state_of, at_start, HasOperand, IsErrorOf, Advances, FailsWith};
 
-    /// Nothing is read yet.
+    /// The state at the start of the text.
     #[tactic(auto, unfolding(crate::specs::ParserState::state_of))]
     fn new(alloc: Global, fold: bool) -> Parser
         ensures { state_of result ≡ at_start fold }
     {
         Parser {
             open: Vec::new(alloc),
-            draft: Draft::new(alloc),
+            builder: GroupBuilder::new(alloc),
             before: Before::Start,
             flags: Flags {
                 fold,
@@ -60,12 +60,12 @@ impl Parser {
     }
 
     #[tactic(auto, unfolding(crate::specs::ParserState::state_of))]
-    fn unit(&mut self, alloc: Global, found: Unit, own: &[u8]) -> Result<(), AllocError>
-        ensures { OnOk result ((at : ℕ)
-            → Advances (unit (unit_tree own.now found)) at self.old self.new) }
+    fn atom(&mut self, alloc: Global, operand: Atom, lexeme: &[u8]) -> Result<(), AllocError>
+        ensures { OnOk result ((offset : ℕ)
+            → Advances (atom (atom_tree lexeme.now operand)) offset self.old self.new) }
     {
-        let node = unit_node(alloc, found, own)?;
-        self.draft.add(node)?;
+        let node = atom_node(alloc, operand, lexeme)?;
+        self.builder.add(node)?;
         self.before = Before::Operand;
         Ok(())
     }
@@ -76,24 +76,24 @@ impl Parser {
         alloc: Global,
         least: u32,
         most: Option<u32>,
-        at: usize,
+        offset: usize,
     ) -> Result<(), PatternError>
         requires { HasOperand (state_of self.old) }
-        ensures goes_on { OnOk result (Advances (repeat least most) at self.old self.new) }
-        ensures refused { IfErr result (StopsWith (repeat least most) at self.old) }
+        ensures goes_on { OnOk result (Advances (repeat least most) offset self.old self.new) }
+        ensures rejected { IfErr result (FailsWith (repeat least most) offset self.old) }
     {
         match self.before {
             Before::Start => Err(PatternError {
                 fault: PatternFault::NoOperand,
-                at,
+                at: offset,
             }),
-            Before::Counted => Err(PatternError {
+            Before::Repeated => Err(PatternError {
                 fault: PatternFault::StackedRepeat,
-                at,
+                at: offset,
             }),
             Before::Operand => {
-                self.draft.repeat(alloc, least, most)?;
-                self.before = Before::Counted;
+                self.builder.repeat(alloc, least, most)?;
+                self.before = Before::Repeated;
                 Ok(())
             }
         }
@@ -101,28 +101,28 @@ impl Parser {
 
     #[tactic(auto, unfolding(crate::specs::ParserState::state_of))]
     fn bar(&mut self, alloc: Global) -> Result<(), AllocError>
-        ensures { OnOk result ((at : ℕ) → Advances bar at self.old self.new) }
+        ensures { OnOk result ((offset : ℕ) → Advances bar offset self.old self.new) }
     {
-        self.draft.bar(alloc)?;
+        self.builder.bar(alloc)?;
         self.before = Before::Start;
         Ok(())
     }
 
-    /// What is read of a group waits while a group in it is read.
+    /// Pushes the current group on the stack and begins a new one.
     #[tactic(auto, unfolding(crate::specs::ParserState::state_of))]
-    fn open_group(&mut self, alloc: Global, flags: Flags, at: usize) -> Result<(), PatternError>
-        ensures goes_on { OnOk result (Advances (group_start flags) at self.old self.new) }
-        ensures refused { IfErr result (StopsWith (group_start flags) at self.old) }
+    fn open_group(&mut self, alloc: Global, flags: Flags, offset: usize) -> Result<(), PatternError>
+        ensures goes_on { OnOk result (Advances (group_start flags) offset self.old self.new) }
+        ensures rejected { IfErr result (FailsWith (group_start flags) offset self.old) }
     {
-        if self.open.len() == MOST_OPEN {
+        if self.open.len() == MAX_OPEN_GROUPS {
             return Err(PatternError {
                 fault: PatternFault::TooDeep,
-                at,
+                at: offset,
             });
         }
-        let outer = mem::replace(&mut self.draft, Draft::new(alloc));
-        self.open.push(Open {
-            at,
+        let outer = mem::replace(&mut self.builder, GroupBuilder::new(alloc));
+        self.open.push(GroupFrame {
+            offset,
             flags: self.flags,
             outer,
         })?;
@@ -132,13 +132,13 @@ impl Parser {
     }
 
     #[tactic(auto, unfolding(crate::specs::ParserState::state_of))]
-    fn close_group(&mut self, at: usize) -> Result<(), PatternError>
-        ensures goes_on { OnOk result (Advances group_end at self.old self.new) }
-        ensures refused { IfErr result (StopsWith group_end at self.old) }
+    fn close_group(&mut self, offset: usize) -> Result<(), PatternError>
+        ensures goes_on { OnOk result (Advances group_end offset self.old self.new) }
+        ensures rejected { IfErr result (FailsWith group_end offset self.old) }
     {
         let Some(
-            Open {
-                at: _,
+            GroupFrame {
+                offset: _,
                 flags,
                 outer,
             },
@@ -146,11 +146,11 @@ impl Parser {
         else {
             return Err(PatternError {
                 fault: PatternFault::StrayClose,
-                at,
+                at: offset,
             });
         };
-        let group = mem::replace(&mut self.draft, outer).finish()?;
-        self.draft.add(group)?;
+        let group = mem::replace(&mut self.builder, outer).finish()?;
+        self.builder.add(group)?;
         self.before = Before::Operand;
         self.flags = flags;
         Ok(())
@@ -158,24 +158,30 @@ impl Parser {
 
     #[tactic(auto, unfolding(crate::specs::ParserState::state_of))]
     fn set_flags(&mut self, flags: Flags)
-        ensures { (at : ℕ) → Advances (flags_from_here flags) at self.old self.new }
+        ensures { (offset : ℕ) → Advances (flags_from_here flags) offset self.old self.new }
     {
         self.before = Before::Start;
         self.flags = flags;
     }
 
-    /// Takes the item at the place, whose own text is `own`.
-    fn take(&mut self, alloc: Global, item: Item, own: &[u8], at: usize) -> Result<(), PatternError>
+    /// Applies the item at `offset`, whose text is `lexeme`.
+    fn apply(
+        &mut self,
+        alloc: Global,
+        item: Item,
+        lexeme: &[u8],
+        offset: usize,
+    ) -> Result<(), PatternError>
         requires { HasOperand (state_of self.old) }
-        ensures goes_on { OnOk result (Advances (item_view own.now item) at self.old self.new) }
-        ensures refused { IfErr result (StopsWith (item_view own.now item) at self.old) }
+        ensures goes_on { OnOk result (Advances (item_view lexeme.now item) offset self.old self.new) }
+        ensures rejected { IfErr result (FailsWith (item_view lexeme.now item) offset self.old) }
     {
         match item {
-            Item::Unit(found) => Ok(self.unit(alloc, found, own)?),
-            Item::Repeat(least, most) => self.repeat(alloc, least, most, at),
+            Item::Atom(operand) => Ok(self.atom(alloc, operand, lexeme)?),
+            Item::Repeat(least, most) => self.repeat(alloc, least, most, offset),
             Item::Bar => Ok(self.bar(alloc)?),
-            Item::GroupStart(flags) => self.open_group(alloc, flags, at),
-            Item::GroupEnd => self.close_group(at),
+            Item::GroupStart(flags) => self.open_group(alloc, flags, offset),
+            Item::GroupEnd => self.close_group(offset),
             Item::FlagsFromHere(flags) => {
                 self.set_flags(flags);
                 Ok(())
@@ -183,20 +189,25 @@ impl Parser {
         }
     }
 
-    /// Reads the item at the place, and answers the place of the next one.
-    fn read_item(&mut self, alloc: Global, text: &[u8], at: usize) -> Result<usize, PatternError>
-        requires inside { at < length text.now }
+    /// Reads and applies the item at `offset`, and returns the offset of the next one.
+    fn read_item(
+        &mut self,
+        alloc: Global,
+        text: &[u8],
+        offset: usize,
+    ) -> Result<usize, PatternError>
+        requires inside { offset < length text.now }
         requires kept { HasOperand (state_of self.old) }
         ensures same { IfOk result
-            (λ next. reading_from self.new text.now next ≡ reading_from self.old text.now at) }
-        ensures onward { IfOk result (λ next. (at < next) × (next ≤ length text.now)) }
+            (λ next. parse_from self.new text.now next ≡ parse_from self.old text.now offset) }
+        ensures onward { IfOk result (λ next. (offset < next) × (next ≤ length text.now)) }
         ensures still { OnOk result (HasOperand (state_of self.new)) }
-        ensures refused { IfErr result (IsRefusal (reading_from self.old text.now at)) }
+        ensures rejected { IfErr result (IsErrorOf (parse_from self.old text.now offset)) }
     {
-        match front_item(alloc, self.flags, text[at], &text[at + 1..]) {
+        match read_token(alloc, self.flags, text[offset], &text[offset + 1..]) {
             Ok((item, len)) => {
-                let next = at + 1 + len;
-                self.take(alloc, item, &text[at..next], at)?;
+                let next = offset + 1 + len;
+                self.apply(alloc, item, &text[offset..next], offset)?;
                 Ok(next)
             }
             Err(m) => Err(PatternError {
@@ -204,40 +215,43 @@ impl Parser {
                 at: if m.fault == PatternFault::Memory {
                     0
                 } else {
-                    at + m.behind
+                    offset + m.distance
                 },
             }),
         }
     }
 
-    /// The pattern, where the text ends here.
+    /// The tree of the pattern at the end of its text.
     fn end(self) -> Result<Node, PatternError>
-        ensures reads { IfOk result (λ n. reading_at_end (state_of self) ≡ tree (tree_of n)) }
-        ensures breaks { IfErr result (IsRefusal (reading_at_end (state_of self))) }
+        ensures reads { IfOk result (λ n. parse_at_end (state_of self) ≡ tree (tree_of n)) }
+        ensures syntax { IfErr result (IsErrorOf (parse_at_end (state_of self))) }
     {
         let Parser {
             mut open,
-            draft,
+            builder,
             before: _,
             flags: _,
         } = self;
         if let Some(group) = open.pop() {
             return Err(PatternError {
                 fault: PatternFault::OpenGroup,
-                at: group.at,
+                at: group.offset,
             });
         }
-        Ok(draft.finish()?)
+        Ok(builder.finish()?)
     }
 }
 
-ghost use Rattle.cs_syntax.specs.ParserState.{IsRefusal};
+ghost use Rattle.cs_syntax.specs.ParserState.{IsErrorOf};
 
-/// Reads a pattern. With `fold` a letter stands for both of its cases, until a flag says otherwise.
+/// Parses a pattern. The syntax is RE2's, with the differences that docs/PATTERNS.md lists. With
+/// `fold` an ASCII letter matches both of its cases, until a flag clears that. The error is the
+/// leftmost syntax error, or `TooLarge` if there is none; it is `Memory` only if an allocation
+/// fails.
 pub fn parse(alloc: Global, text: &str, fold: bool) -> Result<Pattern, PatternError>
-    ensures reads { IfOk result (λ p. Reads text.now fold p) }
-    ensures light { IfOk result (λ p. weight p ≤ most_weight) }
-    ensures refused { IfErr result (IsRefused text.now fold) }
+    ensures reads { IfOk result (λ p. ParsesAs text.now fold p) }
+    ensures light { IfOk result (λ p. weight p ≤ max_weight) }
+    ensures rejected { IfErr result (IsParseError text.now fold) }
 {
     let root = read(alloc, text, fold)?;
     match Pattern::new(root) {
@@ -250,14 +264,14 @@ pub fn parse(alloc: Global, text: &str, fold: bool) -> Result<Pattern, PatternEr
 }
 
 fn read(alloc: Global, text: &str, fold: bool) -> Result<Node, PatternError>
-    ensures reads { IfOk result (λ n. Reads text.now fold (tree_of n)) }
-    ensures breaks { IfErr result (IsRefusal (reading text.now fold)) }
+    ensures reads { IfOk result (λ n. ParsesAs text.now fold (tree_of n)) }
+    ensures syntax { IfErr result (IsErrorOf (parse_result text.now fold)) }
 {
     let bytes = text.as_bytes();
     let mut parser = Parser::new(alloc, fold);
-    let mut at = 0;
-    'text: while at < bytes.len() {
-        at = parser.read_item(alloc, bytes, at)?;
+    let mut offset = 0;
+    'text: while offset < bytes.len() {
+        offset = parser.read_item(alloc, bytes, offset)?;
     }
     parser.end()
 }

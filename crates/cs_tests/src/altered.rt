@@ -1,5 +1,6 @@
-// Each byte of an index set to each other one: it is opened, read, asked and joined as a plain reading of its bytes says.
-use crate::altered::plain::{Plain, Reads, has_damage, spelled};
+// Each byte of an index set to each other value: opening, reading, querying and merging agree with
+// a reference reader.
+use crate::altered::plain::{Plain, Reads, decoded, has_damage};
 use crate::fixtures::{ROW, changed, number};
 use cs_index::{Index, IndexFault, Postings, Texts};
 use cs_merge::{MergeFault, merge};
@@ -9,7 +10,7 @@ use std::test::Fail;
 
 mod plain;
 
-/// Whether these texts are given, and then the end.
+/// Whether the iterator gives these texts, and then the end.
 fn are_texts(texts: Texts<'_>, want: &str) -> bool {
     let mut texts = texts;
     for text in want.split_terminator('\0') {
@@ -20,7 +21,7 @@ fn are_texts(texts: Texts<'_>, want: &str) -> bool {
     texts.next().is_none()
 }
 
-/// What is read of a list, where there is one.
+/// What is read of a list, if it exists.
 fn reads_of(ids: Option<Postings<'_>>) -> Reads {
     match ids {
         Some(mut ids) => [ids.next(), ids.next(), ids.next()],
@@ -28,42 +29,42 @@ fn reads_of(ids: Option<Postings<'_>>) -> Reads {
     }
 }
 
-/// Whether the candidates of a trigram are what is read of its list.
-fn is_asked(alloc: Global, index: &Index<'_>, trigram: u32, want: &Reads) -> bool {
+/// Whether the candidates of a trigram are the ids of its list.
+fn is_answered(alloc: Global, index: &Index<'_>, trigram: u32, want: &Reads) -> bool {
     match index.candidates(alloc, &Query::Tri(trigram)) {
         Ok(ids) => !has_damage(want) && [id_at(&ids, 0), id_at(&ids, 1), id_at(&ids, 2)] == *want,
         Err(fault) => fault == IndexFault::BadList && has_damage(want),
     }
 }
 
-fn id_at(ids: &[u32], place: usize) -> Option<Result<u32, IndexFault>> {
-    ids.get(place).map(|id| Ok(*id))
+fn id_at(ids: &[u32], i: usize) -> Option<Result<u32, IndexFault>> {
+    ids.get(i).map(|id| Ok(*id))
 }
 
-/// Whether a list is read as it stands, by its place and by its trigram, and asked so.
-fn is_list(alloc: Global, index: &Index<'_>, place: u32, trigram: u32, want: &Reads) -> bool {
-    match index.list_at(place) {
-        Some((at_place, ids)) => at_place == trigram
+/// Whether a list is read correctly, by its position and by its trigram, and queried correctly.
+fn is_list(alloc: Global, index: &Index<'_>, i: u32, trigram: u32, want: &Reads) -> bool {
+    match index.list_at(i) {
+        Some((list_trigram, ids)) => list_trigram == trigram
             && reads_of(Some(ids)) == *want
             && reads_of(index.postings(trigram)) == *want
-            && is_asked(alloc, index, trigram, want),
+            && is_answered(alloc, index, trigram, want),
         None => false,
     }
 }
 
-/// Whether all lists are read as they stand, and asked so.
+/// Whether all lists are read and queried correctly.
 fn are_lists(alloc: Global, index: &Index<'_>, want: &Plain<'_>) -> bool {
-    let mut place = 0u32;
+    let mut i = 0u32;
     for entry in want.entries.chunks(11) {
-        if !is_list(alloc, index, place, number(entry), &want.reads(entry)) {
+        if !is_list(alloc, index, i, number(entry), &want.reads(entry)) {
             return false;
         }
-        place = place.wrapping_add(1);
+        i = i.wrapping_add(1);
     }
-    index.lists() == place && index.list_at(place).is_none()
+    index.lists() == i && index.list_at(i).is_none()
 }
 
-/// Whether the index answers so.
+/// Whether the index gives these answers.
 fn answers(alloc: Global, index: &Index<'_>, want: &Plain<'_>) -> bool {
     are_texts(index.paths(), want.paths)
         && are_texts(index.names(), want.names)
@@ -71,11 +72,12 @@ fn answers(alloc: Global, index: &Index<'_>, want: &Plain<'_>) -> bool {
         && are_lists(alloc, index, want)
 }
 
-/// The path `/zz`, which covers no name that one byte makes of `/a/x`, and no name.
+/// An index of the path `/zz` without a name. `/zz` covers no name that differs from `/a/x` in one
+/// byte.
 const OTHER: &[u8; 66] =
     b"csearch index 1\n/zz\0\0\0\xff\xff\xff\0\0\0\0\0\0\0\0\x10\0\0\0\x15\0\0\0\x16\0\0\0\x1a\0\0\0\x1e\ncsearch trailr\n";
 
-/// The paths and `/zz`, each with a NUL behind it.
+/// The paths and `/zz`, each followed by a NUL.
 fn with_other(alloc: Global, paths: &str) -> Result<String, AllocError> {
     if paths < "/zz\0" {
         format!(in alloc; "{paths}/zz\0")
@@ -84,7 +86,7 @@ fn with_other(alloc: Global, paths: &str) -> Result<String, AllocError> {
     }
 }
 
-/// Whether an index has the lists of another one, but for those without an id.
+/// Whether an index has the lists of another one, except for lists without ids.
 fn has_lists(joined: &Plain<'_>, want: &Plain<'_>) -> bool {
     let mut left = joined.entries;
     for entry in want.entries.chunks(11) {
@@ -103,9 +105,9 @@ fn has_lists(joined: &Plain<'_>, want: &Plain<'_>) -> bool {
     left.is_empty()
 }
 
-/// Whether the bytes spell this index with one more path.
-fn is_joined(alloc: Global, bytes: &[u8], want: &Plain<'_>) -> Result<bool, AllocError> {
-    let Ok(joined) = spelled(bytes) else {
+/// Whether the bytes decode as this index with one more path.
+fn is_merged(alloc: Global, bytes: &[u8], want: &Plain<'_>) -> Result<bool, AllocError> {
+    let Ok(joined) = decoded(bytes) else {
         return Ok(false);
     };
     Ok(
@@ -125,7 +127,7 @@ fn is_damaged(want: &Plain<'_>) -> bool {
     false
 }
 
-/// Whether each name lies below a path, where there is one path.
+/// Whether each name lies below a path, if there is one path.
 fn are_covered(want: &Plain<'_>) -> bool {
     let path = want.paths.trim_end_matches('\0');
     for name in want.names.split_terminator('\0') {
@@ -137,8 +139,8 @@ fn are_covered(want: &Plain<'_>) -> bool {
     true
 }
 
-/// Whether joining two indexes, of which one has no name, gives the other.
-fn joins(
+/// Whether merging two indexes, one of them without names, gives the other.
+fn merges(
     alloc: Global,
     old: &Index<'_>,
     newer: &Index<'_>,
@@ -146,7 +148,7 @@ fn joins(
     are_covered: bool,
 ) -> Result<bool, AllocError> {
     match merge(alloc, old, newer) {
-        Ok(bytes) => Ok(are_covered && !is_damaged(want) && is_joined(alloc, &bytes, want)?),
+        Ok(bytes) => Ok(are_covered && !is_damaged(want) && is_merged(alloc, &bytes, want)?),
         Err(MergeFault::Uncovered) => Ok(!are_covered),
         Err(fault) => Ok(
             are_covered && is_damaged(want) && fault == MergeFault::Index(IndexFault::BadList),
@@ -154,19 +156,19 @@ fn joins(
     }
 }
 
-/// Whether the index answers and is joined so.
+/// Whether the index answers and is merged correctly.
 fn is_right(alloc: Global, index: &Index<'_>, want: &Plain<'_>) -> Result<bool, Fail> {
     let other = Index::open(OTHER)?;
     Ok(
         answers(alloc, index, want)
-            && joins(alloc, index, &other, want, true)?
-            && joins(alloc, &other, index, want, are_covered(want))?,
+            && merges(alloc, index, &other, want, true)?
+            && merges(alloc, &other, index, want, are_covered(want))?,
     )
 }
 
-/// Whether the bytes are opened and read as they spell.
-fn is_spelled(alloc: Global, bytes: &[u8]) -> Result<bool, Fail> {
-    match (Index::open(bytes), spelled(bytes)) {
+/// Whether the bytes are opened and read as they decode.
+fn is_decoded(alloc: Global, bytes: &[u8]) -> Result<bool, Fail> {
+    match (Index::open(bytes), decoded(bytes)) {
         (Ok(index), Ok(want)) => is_right(alloc, &index, &want),
         (Err(fault), Err(want)) => Ok(fault == want),
         _ => Ok(false),
@@ -175,10 +177,10 @@ fn is_spelled(alloc: Global, bytes: &[u8]) -> Result<bool, Fail> {
 
 #[test]
 fn each_byte_is_altered(rt: HostRuntime) -> Result<(), Fail> {
-    for place in 0..ROW.len() {
+    for offset in 0..ROW.len() {
         for byte in 0..=255 {
-            let bytes = changed(ROW, &[(place, byte)]);
-            assert!(rt; is_spelled(rt.alloc(), &bytes)?, "{byte} at {place}");
+            let bytes = changed(ROW, &[(offset, byte)]);
+            assert!(rt; is_decoded(rt.alloc(), &bytes)?, "{byte} at {offset}");
         }
     }
     Ok(())

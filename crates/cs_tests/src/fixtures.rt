@@ -1,25 +1,25 @@
-// What tests of several libraries are given.
+// Fixtures of several modules.
 use cs_index::{BuildFault, Builder};
 use cs_tree::{Item, MemSource, MemTree, PutFault};
 use cs_trigram::{Gathered, Scanner};
 use std::alloc::{AllocError, Global};
 
-/// Names with what the files say.
+/// Names and the texts of the files.
 pub type Files<'a> = &'a [(&'a str, &'a [u8])];
 
 /// An index of the path `/a` and the file `/a/x`, which has `abcd` and a newline.
 pub const ROW: &[u8; 122] =
     b"csearch index 1\n/a\0\0/a/x\0\0abc\x01\0bcd\x01\0cd\n\x01\0\xff\xff\xff\0\0\0\0\0\0\0\0\x05abc\0\0\0\x01\0\0\0\0bcd\0\0\0\x01\0\0\0\x05cd\n\0\0\0\x01\0\0\0\x0a\0\0\0\x10\0\0\0\x14\0\0\0\x1a\0\0\0\x2d\0\0\0\x35\ncsearch trailr\n";
 
-/// An index whose names do not ascend.
+/// An index whose names are not sorted.
 pub const UNSORTED: &[u8; 115] =
     b"csearch index 1\n/a\0\0/a/b/z\0/a/b-x\0\0abc\x01\x01\0\xff\xff\xff\0\0\0\0\0\0\0\0\x07\0\0\0\x0eabc\0\0\0\x02\0\0\0\0\xff\xff\xff\0\0\0\0\0\0\0\x06\0\0\0\x10\0\0\0\x14\0\0\0\x23\0\0\0\x2d\0\0\0\x39\ncsearch trailr\n";
 
-/// The bytes with others at some places.
+/// A copy of the bytes, changed at some offsets.
 pub fn changed<const N: usize>(bytes: &[u8; N], changes: &[(usize, u8)]) -> [u8; N] {
     let mut bytes = *bytes;
-    for (place, byte) in changes {
-        if let Some(changed) = bytes.get_mut(*place) {
+    for (offset, byte) in changes {
+        if let Some(changed) = bytes.get_mut(*offset) {
             *changed = *byte;
         }
     }
@@ -40,7 +40,7 @@ pub fn strings(alloc: Global, texts: &[&str]) -> Result<Vec<String>, AllocError>
     Ok(strings)
 }
 
-/// The texts, each with a space behind it.
+/// The texts, each followed by a space.
 pub fn spaced(alloc: Global, texts: &[String]) -> Result<String, AllocError> {
     let mut all = String::new(alloc);
     for text in texts {
@@ -50,7 +50,7 @@ pub fn spaced(alloc: Global, texts: &[String]) -> Result<String, AllocError> {
     Ok(all)
 }
 
-/// The number of the first three bytes.
+/// The trigram of the first three bytes.
 pub fn number(text: &[u8]) -> u32 {
     match text {
         [a, b, c, ..] => 65536 * *a as u32 + 256 * *b as u32 + *c as u32,
@@ -58,7 +58,7 @@ pub fn number(text: &[u8]) -> u32 {
     }
 }
 
-/// Bytes 21 to 7e by chance, each eightieth a newline.
+/// Random bytes from 0x21 to 0x7e; every eightieth byte is a newline.
 pub fn by_chance(alloc: Global, count: usize) -> Result<Vec<u8>, AllocError> {
     let mut file = Vec::new(alloc);
     let mut state = 1u32;
@@ -74,7 +74,7 @@ pub fn by_chance(alloc: Global, count: usize) -> Result<Vec<u8>, AllocError> {
     Ok(file)
 }
 
-/// A tree with a folder that has files with these bytes.
+/// A tree with a folder of files with these bytes.
 pub fn tree_of(alloc: Global, folder: &str, files: Files<'_>) -> Result<MemTree, PutFault> {
     let mut tree = MemTree::new(alloc, 4)?;
     tree.put(folder, Item::Folder)?;

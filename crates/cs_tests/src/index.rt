@@ -1,4 +1,4 @@
-// The index: written, read, and asked.
+// The index: written, read, and queried.
 mod building;
 mod candidates;
 mod reading;

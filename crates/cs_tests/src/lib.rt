@@ -1,7 +1,8 @@
-//! The tests of the libraries up to `cs_merge`, a module for each that has some: what no clause says, and rows from outside.
-//! They call public functions alone, so that a library has no test of its own and is proved once. The crates above are tested
-//! in `cs_tool_tests`, and the program is run by what stands in `tests/`. A test is one question that a function answers, since
-//! each assert is proved too.
+//! The tests of the libraries up to `cs_merge`, in one module for each: what no clause says, and
+//! examples whose results are known independently. They call only public functions, so that a
+//! library has no test of its own and is proved once. `cs_tool_tests` has the tests of the crates
+//! above, and `tests/` runs the program. A test asserts the answer of one function, since each
+//! assert is proved too.
 #![tactic(auto)]
 
 #[cfg(test)]

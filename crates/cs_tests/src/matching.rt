@@ -1,4 +1,4 @@
-// Which lines are found, and which are passed: rows from outside.
+// Matching lines and skipped lines: examples whose results are known independently.
 mod characters;
 mod finding;
-mod passing;
+mod skipping;

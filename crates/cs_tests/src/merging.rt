@@ -1,30 +1,30 @@
-// Joining over worked rows.
+// The merge of two indexes: worked examples.
 use crate::fixtures::{Files, ROW, UNSORTED, changed, index_of};
 use cs_index::{Index, IndexFault};
 use cs_merge::{MergeFault, merge, merge_within};
 use std::alloc::Global;
 use std::test::Fail;
 
-/// The joining of two indexes.
-fn join(alloc: Global, old: &[u8], newer: &[u8]) -> Option<Vec<u8>> {
+/// The merge of two indexes.
+fn merge_bytes(alloc: Global, old: &[u8], newer: &[u8]) -> Option<Vec<u8>> {
     merge(alloc, &Index::open(old).ok()?, &Index::open(newer).ok()?).ok()
 }
 
-/// The joining of an index with that of a path and its files.
-fn join_path(alloc: Global, old: &[u8], path: &str, files: Files<'_>) -> Option<Vec<u8>> {
+/// The merge of an index with that of a path and its files.
+fn merge_walk(alloc: Global, old: &[u8], path: &str, files: Files<'_>) -> Option<Vec<u8>> {
     let newer = index_of(alloc, &[path], files)?;
-    join(alloc, old, &newer)
+    merge_bytes(alloc, old, &newer)
 }
 
-/// Whether this joining gives the bytes.
-fn is_joined(alloc: Global, old: &[u8], path: &str, files: Files<'_>, want: &[u8]) -> bool {
-    match join_path(alloc, old, path, files) {
+/// Whether the merged index is these bytes.
+fn is_merged(alloc: Global, old: &[u8], path: &str, files: Files<'_>, want: &[u8]) -> bool {
+    match merge_walk(alloc, old, path, files) {
         Some(joined) => joined.as_slice() == want,
         None => false,
     }
 }
 
-/// Whether the index has just these paths and names.
+/// Whether the index has exactly these paths and names.
 fn has(bytes: &[u8], paths: &[&str], names: &[&str]) -> bool {
     let Ok(index) = Index::open(bytes) else {
         return false;
@@ -49,14 +49,14 @@ fn covered_files_are_replaced(rt: HostRuntime) -> Result<(), Fail> {
     .ok_or("index")?;
     let want =
         b"csearch index 1\n/a/b\0/a/bc\0\0/a/b/f\0/a/bc/y\0\0ix\n\x01\0six\x01\0two\x02\0wo\n\x02\0\xff\xff\xff\0\0\0\0\0\0\0\0\x07\0\0\0\x0fix\n\0\0\0\x01\0\0\0\0six\0\0\0\x01\0\0\0\x05two\0\0\0\x01\0\0\0\x0awo\n\0\0\0\x01\0\0\0\x0f\0\0\0\x10\0\0\0\x1c\0\0\0\x2c\0\0\0\x44\0\0\0\x50\ncsearch trailr\n";
-    assert!(rt; is_joined(rt.alloc(), &old, "/a/b", &[("/a/b/f", b"six\n")], want));
+    assert!(rt; is_merged(rt.alloc(), &old, "/a/b", &[("/a/b/f", b"six\n")], want));
     Ok(())
 }
 
 /// Whether a file becomes a folder, and that a file again.
 fn becomes_both(alloc: Global, old: &[u8]) -> Option<bool> {
-    let first = join_path(alloc, old, "/a/b", &[("/a/b/z", b"six\n")])?;
-    let second = join_path(alloc, &first, "/a/b", &[("/a/b", b"ten\n")])?;
+    let first = merge_walk(alloc, old, "/a/b", &[("/a/b/z", b"six\n")])?;
+    let second = merge_walk(alloc, &first, "/a/b", &[("/a/b", b"ten\n")])?;
     Some(
         has(&first, &["/a"], &["/a/b-x", "/a/b/z"])
             && has(&second, &["/a"], &["/a/b", "/a/b-x"])
@@ -81,7 +81,7 @@ fn names_stand_in_any_order(rt: HostRuntime) {
     let want =
         b"csearch index 1\n/a\0\0/a/b-x\0/a/b/z\0\0abc\x02\0ix\n\x01\0six\x01\0\xff\xff\xff\0\0\0\0\0\0\0\0\x07\0\0\0\x0eabc\0\0\0\x01\0\0\0\0ix\n\0\0\0\x01\0\0\0\x05six\0\0\0\x01\0\0\0\x0a\0\0\0\x10\0\0\0\x14\0\0\0\x23\0\0\0\x36\0\0\0\x42\ncsearch trailr\n";
     assert!(rt;
-        is_joined(
+        is_merged(
             rt.alloc(),
             UNSORTED,
             "/a/b-x",
@@ -91,19 +91,25 @@ fn names_stand_in_any_order(rt: HostRuntime) {
     );
     let want =
         b"csearch index 1\n/a\0/c\0\0/a/b-x\0/a/b/z\0\0abc\x01\x01\0\xff\xff\xff\0\0\0\0\0\0\0\0\x07\0\0\0\x0eabc\0\0\0\x02\0\0\0\0\0\0\0\x10\0\0\0\x17\0\0\0\x26\0\0\0\x30\0\0\0\x3c\ncsearch trailr\n";
-    assert!(rt; is_joined(rt.alloc(), UNSORTED, "/c", &[], want));
+    assert!(rt; is_merged(rt.alloc(), UNSORTED, "/c", &[], want));
 }
 
-/// The joining of two indexes in so many bytes.
-fn join_within(alloc: Global, most: u32, old: &[u8], newer: &[u8]) -> Result<Vec<u8>, MergeFault> {
+/// The merge of two indexes within a limit of bytes.
+fn merge_limited(
+    alloc: Global,
+    most: u32,
+    old: &[u8],
+    newer: &[u8],
+) -> Result<Vec<u8>, MergeFault> {
     merge_within(alloc, most, &Index::open(old)?, &Index::open(newer)?)
 }
 
-/// Whether two indexes are joined to these bytes in as many, and refused in one less.
+/// Whether two indexes merge to these bytes if the limit is their length, and fail if it is one
+/// less.
 fn keeps_limits(alloc: Global, old: &[u8], newer: &[u8], want: &[u8]) -> Result<bool, MergeFault> {
     Ok(
-        join_within(alloc, 148, old, newer).err() == Some(MergeFault::TooLarge)
-            && join_within(alloc, 149, old, newer)?.as_slice() == want,
+        merge_limited(alloc, 148, old, newer).err() == Some(MergeFault::TooLarge)
+            && merge_limited(alloc, 149, old, newer)?.as_slice() == want,
     )
 }
 
@@ -122,19 +128,19 @@ fn limits_are_kept(rt: HostRuntime) -> Result<(), Fail> {
     Ok(())
 }
 
-/// Why two indexes are not joined.
-fn refusal(alloc: Global, old: &[u8], newer: &[u8]) -> Option<MergeFault> {
+/// Why two indexes cannot be merged.
+fn error_of(alloc: Global, old: &[u8], newer: &[u8]) -> Option<MergeFault> {
     merge(alloc, &Index::open(old).ok()?, &Index::open(newer).ok()?).err()
 }
 
 #[test]
-fn refusals_are_told(rt: HostRuntime) -> Result<(), Fail> {
+fn errors_are_reported(rt: HostRuntime) -> Result<(), Fail> {
     let empty = index_of(rt.alloc(), &["/a"], &[]).ok_or("index")?;
     let outside = index_of(rt.alloc(), &["/a"], &[("/b", b""), ("/c", b"")]).ok_or("index")?;
-    // a name that is held twice, also where it lies under no path
+    // a name that occurs twice, also if no path covers it
     let twice = changed(UNSORTED, &[(24, b'-'), (25, b'x')]);
     let twice_outside = changed(&twice, &[(17, b'c')]);
-    // a damaged list, all of whose ids are dropped
+    // a damaged list whose ids are all dropped
     let damaged = changed(ROW, &[(59, 2)]);
     let bad = MergeFault::Index(IndexFault::BadList);
     for (old, newer, fault) in [
@@ -143,7 +149,10 @@ fn refusals_are_told(rt: HostRuntime) -> Result<(), Fail> {
         (&empty, &twice_outside, MergeFault::Unsorted),
         (&damaged, &empty, bad),
     ] {
-        assert!(rt; refusal(rt.alloc(), old, newer) == Some(fault), "{fault:?}");
+        assert!(rt;
+            error_of(rt.alloc(), old, newer) == Some(fault),
+            "{fault:?}"
+        );
     }
     Ok(())
 }

@@ -1,9 +1,9 @@
-// What patterns read as, and where they are refused.
+// Trees and errors of patterns.
 use cs_syntax::{ByteSet, CharSet, Node, PatternError, PatternFault, parse};
 use std::alloc::{AllocError, Global};
 
-/// Where and why a text is refused.
-fn refusal(alloc: Global, text: &str) -> Option<PatternError> {
+/// The offset and the error of a text.
+fn error_of(alloc: Global, text: &str) -> Option<PatternError> {
     parse(alloc, text, false).err()
 }
 
@@ -24,13 +24,13 @@ const FAULTS: &[(&str, PatternFault, usize)] = &[
     ("(.{1000}){9}", PatternFault::TooLarge, 0),
 ];
 
-/// Each fault of a text once; further rows are worked in `proofs/Examples.antt` of `cs_syntax`.
+/// Each error once; `proofs/Examples.antt` of `cs_syntax` has more rows.
 #[test]
-fn refuses_at_the_fault(rt: HostRuntime) {
+fn errors_have_their_offsets(rt: HostRuntime) {
     for (text, fault, at) in FAULTS {
         let (fault, at) = (*fault, *at);
         let want = Some(PatternError { fault, at });
-        assert!(rt; refusal(rt.alloc(), text) == want, "at {text}");
+        assert!(rt; error_of(rt.alloc(), text) == want, "at {text}");
     }
 }
 
@@ -64,16 +64,16 @@ fn accepts_the_whole_profile(rt: HostRuntime) {
     }
 }
 
-/// A group in a group, so deep.
+/// Nested groups of this depth.
 fn groups(alloc: Global, depth: usize) -> Result<String, AllocError> {
     let before = "(".repeat(alloc, depth)?;
     let behind = ")".repeat(alloc, depth)?;
     format!(in alloc; "{before}(?i)a{{1000}}{behind}")
 }
 
-/// Why so many letters are refused.
-fn letters_refusal(alloc: Global, times: usize) -> Result<Option<PatternError>, AllocError> {
-    Ok(refusal(alloc, "a".repeat(alloc, times)?.as_str()))
+/// The error of this many letters.
+fn letters_error(alloc: Global, times: usize) -> Result<Option<PatternError>, AllocError> {
+    Ok(error_of(alloc, "a".repeat(alloc, times)?.as_str()))
 }
 
 const HEAVY: PatternError = PatternError {
@@ -86,13 +86,13 @@ const DEEP: PatternError = PatternError {
     at: 200,
 };
 
-/// Whether patterns of the most weight and depth are accepted, and those of more are refused.
+/// Whether patterns of the largest weight and depth are accepted, and those beyond it rejected.
 fn accepts_up_to_the_most(alloc: Global) -> Result<bool, AllocError> {
     Ok(
-        letters_refusal(alloc, 9999)? == None
-            && letters_refusal(alloc, 10000)? == Some(HEAVY)
-            && refusal(alloc, groups(alloc, 200)?.as_str()) == None
-            && refusal(alloc, "(".repeat(alloc, 201)?.as_str()) == Some(DEEP),
+        letters_error(alloc, 9999)? == None
+            && letters_error(alloc, 10000)? == Some(HEAVY)
+            && error_of(alloc, groups(alloc, 200)?.as_str()) == None
+            && error_of(alloc, "(".repeat(alloc, 201)?.as_str()) == Some(DEEP),
     )
 }
 
@@ -112,7 +112,7 @@ fn set_of(alloc: Global, fold: bool) -> Option<ByteSet> {
     }
 }
 
-/// Whether the tree of a letter has both cases where that folds, and the letter alone where it does not.
+/// Whether the tree of a letter has both cases with folding, and the letter alone without.
 fn lends_both(alloc: Global) -> bool {
     let (Some(both), Some(one)) = (set_of(alloc, true), set_of(alloc, false)) else {
         return false;
@@ -130,7 +130,7 @@ fn lends_the_tree(rt: HostRuntime) {
     assert!(rt; lends_both(rt.alloc()));
 }
 
-/// Patterns that are one set of bytes, and how many it has.
+/// Patterns of one byte set, and its size.
 const BYTES: &[(&str, u32)] = &[
     ("\\C", 256),
     ("\\d", 10),
@@ -140,7 +140,7 @@ const BYTES: &[(&str, u32)] = &[
     ("[^\\0-\\x{10ffff}]", 0),
 ];
 
-/// Patterns that are one set of characters, how many it has, and its runs.
+/// Patterns of one character set, its size, and its ranges.
 const CHARS: &[(&str, u32, &[(u32, u32)])] = &[
     (".", 1_112_063, &[(0, 9), (11, 0x10_FFFF)]),
     ("(?s).", 1_112_064, &[(0, 0x10_FFFF)]),
@@ -169,7 +169,7 @@ fn byte_count(alloc: Global, text: &str) -> Option<u32> {
     Some(set.len())
 }
 
-fn has_runs(alloc: Global, text: &str, count: u32, runs: &[(u32, u32)]) -> bool {
+fn has_ranges(alloc: Global, text: &str, count: u32, runs: &[(u32, u32)]) -> bool {
     let Ok(pattern) = parse(alloc, text, false) else {
         return false;
     };
@@ -189,6 +189,6 @@ fn reads_sets(rt: HostRuntime) {
         assert!(rt; byte_count(rt.alloc(), text) == Some(*count), "at {text}");
     }
     for (text, count, runs) in CHARS {
-        assert!(rt; has_runs(rt.alloc(), text, *count, *runs), "at {text}");
+        assert!(rt; has_ranges(rt.alloc(), text, *count, *runs), "at {text}");
     }
 }

@@ -1,8 +1,10 @@
-// Calls that take no memory, made not at all, once and a thousand times. `tests/runs/refusals.py` sees that the three tests make
-// the same number of allocations. With an `is_match` that also copies its table, the second makes 6 more than the first, and
-// the third 4,334 more.
+// Calls that do not allocate, each made zero times, once and a thousand times.
+// `tests/runs/library_allocations.py` checks that the three tests have the same number of
+// allocations. With an `is_match` that also copies its table, the second has 6 more than the first,
+// and the third 4,334 more.
 use crate::fixtures::{ONE_FILE, PLAIN, strings, tree_of};
 use crate::searching::reports::program_of;
+use cs_args::{Style, ToolFault};
 use cs_index::{Index, Postings, Sections};
 use cs_match::Matcher;
 use cs_search::{GrepFault, grep};
@@ -11,13 +13,12 @@ use cs_tree::{
     DiskTree, FuseTree, Kind, MemSink, MemSource, MemTree, Sink, Source, StdSink, StdSource, Tree,
     TreeReader, covers,
 };
-use cs_words::{Style, ToolFault};
 use std::alloc::{AllocError, Global};
 use std::io;
 use std::io::{Read, Write};
 use std::test::Fail;
 
-/// A thousand lines of eleven letters, another one each time, so that a matcher meets ever new sets of places.
+/// A thousand different lines of eleven letters, so that a matcher computes new DFA states.
 fn lines_of(alloc: Global) -> Result<Vec<u8>, AllocError> {
     let mut text = Vec::new(alloc);
     for number in 0..1000u32 {
@@ -29,7 +30,7 @@ fn lines_of(alloc: Global) -> Result<Vec<u8>, AllocError> {
     Ok(text)
 }
 
-/// What gives no bytes, and takes all.
+/// A source without bytes, and a sink that accepts all.
 #[derive(Drop)]
 struct Void;
 
@@ -54,18 +55,18 @@ const COUNT: Style = Style {
     ..PLAIN
 };
 
-/// In how many lines of eleven letters something is found.
-fn hits(matcher: &mut Matcher<'_>, lines: &[u8]) -> u32 {
-    let mut hits = 0u32;
+/// The number of lines of eleven letters that match.
+fn match_count(matcher: &mut Matcher<'_>, lines: &[u8]) -> u32 {
+    let mut matches = 0u32;
     for line in lines.chunks(12) {
         if matcher.is_match(line.get(..11).unwrap_or(line)) {
-            hits = hits.wrapping_add(1);
+            matches = matches.wrapping_add(1);
         }
     }
-    hits
+    matches
 }
 
-/// Whether something is found in the lines, and prints or counts those in which it is.
+/// Whether some line matches, and prints or counts those that do.
 fn prints(
     alloc: Global,
     matcher: &mut Matcher<'_>,
@@ -77,16 +78,16 @@ fn prints(
     Ok(grep(alloc, "t", &mut input, matcher, style, &mut out)?.matched)
 }
 
-/// In how many of the lines the pattern finds something. They are also printed, and counted.
+/// The number of matching lines of the pattern, which are also printed, and counted.
 fn found(alloc: Global, pattern: &str, lines: &[u8]) -> Result<u32, ToolFault> {
     let program = program_of(alloc, pattern)?;
     let mut matcher = Matcher::new(alloc, &program)?;
     let _printed = prints(alloc, &mut matcher, lines, PLAIN)?;
     let _counted = prints(alloc, &mut matcher, lines, COUNT)?;
-    Ok(hits(&mut matcher, lines))
+    Ok(match_count(&mut matcher, lines))
 }
 
-/// Whether sets of characters and of bytes answer.
+/// Whether the calls on character sets and byte sets give the right answers.
 fn are_sets(chars: &CharSet, pattern: &Pattern) -> bool {
     let Node::Set(bytes) = pattern.tree() else {
         return false;
@@ -107,7 +108,7 @@ fn has_first(ids: Option<Postings<'_>>) -> bool {
     }
 }
 
-/// Whether an index opens and answers.
+/// Whether an index opens and gives the right answers.
 fn is_index(bytes: &[u8]) -> bool {
     let Ok(index) = Index::open(bytes) else {
         return false;
@@ -125,7 +126,7 @@ fn is_index(bytes: &[u8]) -> bool {
         && index.list_at(0).is_some()
 }
 
-/// Whether a source and a sink over each kind of thing answer.
+/// Whether each kind of source and sink gives the right answers.
 fn are_streams(alloc: Global) -> bool {
     let mut buf = [0u8; 8];
     let mut sink = MemSink::new(alloc, 8);
@@ -144,7 +145,7 @@ fn are_streams(alloc: Global) -> bool {
         && writer.failures() == 0
 }
 
-/// Whether a tree with the file `/t/p` answers.
+/// Whether a tree with the file `/t/p` gives the right answers.
 fn is_tree(tree: &mut MemTree) -> bool {
     let mut buf = [0u8; 2];
     let opens = tree.kind("/t") == Ok(Kind::Folder) && tree.open("/t/p") == Ok(());
@@ -152,8 +153,8 @@ fn is_tree(tree: &mut MemTree) -> bool {
     opens && reads && tree.failures() == 0 && !tree.remove("/x") && covers("/t", "/t/p")
 }
 
-/// In how many of the first lines two patterns find something.
-fn hits_of(alloc: Global, count: usize) -> Result<[u32; 2], ToolFault> {
+/// The number of the first lines that match two patterns.
+fn matches_of(alloc: Global, count: usize) -> Result<[u32; 2], ToolFault> {
     let text = lines_of(alloc)?;
     let lines = text.get(..count.saturating_mul(12)).unwrap_or(b"");
     Ok([
@@ -162,7 +163,7 @@ fn hits_of(alloc: Global, count: usize) -> Result<[u32; 2], ToolFault> {
     ])
 }
 
-/// How many of so many rounds of the other calls answer as they should.
+/// The number of rounds in which the other calls give the right answers.
 fn rounds(alloc: Global, count: usize, tree: &mut MemTree) -> Result<usize, ToolFault> {
     let pattern = parse(alloc, "[ab]", false)?;
     let chars = CharSet::from_ranges(alloc, &[(0xE000, 0xE00F), (0x61, 0x7A)])?;
@@ -175,14 +176,14 @@ fn rounds(alloc: Global, count: usize, tree: &mut MemTree) -> Result<usize, Tool
     Ok(right)
 }
 
-/// Whether the calls that use a value up, or need to be made in an order, answer as they should.
+/// Whether the calls that consume a value, or need an order, give the right answers.
 fn ends(rt: HostRuntime, tree: MemTree) -> bool {
     let mut tree = tree;
     let disk = FuseTree::new(DiskTree::new(rt), 1);
     tree.remove("/t") && disk.failures() == 0
 }
 
-/// Begins a list of an index, where calls are made at all.
+/// Begins a list of an index, unless no call is made.
 fn begin_list(alloc: Global, count: usize) -> Result<(), Fail> {
     let mut sections = Sections::new(alloc, &strings(alloc, &["/a"])?)?;
     if count > 0 {
@@ -191,13 +192,13 @@ fn begin_list(alloc: Global, count: usize) -> Result<(), Fail> {
     Ok(())
 }
 
-/// Whether all calls answer as they should, each made so often.
-fn answer(rt: &HostRuntime, count: usize, hits: [u32; 2]) -> Result<bool, Fail> {
+/// Whether all calls give the right answers, each made this often.
+fn answer(rt: &HostRuntime, count: usize, counts: [u32; 2]) -> Result<bool, Fail> {
     let alloc = rt.alloc();
     let mut tree = tree_of(alloc, &[("/t", None), ("/t/p", Some("one"))])?;
     let other = rt.clone()?;
     begin_list(alloc, count)?;
-    let is_right = hits_of(alloc, count)? == hits && rounds(alloc, count, &mut tree)? == count;
+    let is_right = matches_of(alloc, count)? == counts && rounds(alloc, count, &mut tree)? == count;
     Ok(is_right && (count == 0 || ends(other, tree)))
 }
 

@@ -1,10 +1,10 @@
 // A tree and an index, over which the tools are called one after another.
 use crate::indexing::job_of;
 use crate::searching::indexed::search;
+use cs_args::{Reply, ToolFault};
 use cs_cindex::cindex;
 use cs_search::Status;
 use cs_tree::{Item, MemSink, MemTree};
-use cs_words::{Reply, ToolFault};
 use std::alloc::{AllocError, Global};
 use std::process::Abort;
 use std::slice;
@@ -20,46 +20,47 @@ pub const MATCHED: Result<Status, ToolFault> = Ok(Status::Matched);
 
 pub const NO_MATCH: Result<Status, ToolFault> = Ok(Status::NoMatch);
 
-/// What is put into the tree or taken away, what is called, and what is wanted then.
+/// A change of the tree or a call, with the wanted outcome.
 #[derive(Clone, Copy, Drop)]
 pub enum Step<'a> {
-    /// A folder is put.
+    /// Puts a folder.
     Folder(&'a str),
-    /// A file with this text is put.
+    /// Puts a file with this text.
     File(&'a str, &'a [u8]),
-    /// A file is put whose reads fail after this text.
+    /// Puts a file whose reads fail after this text.
     Cut(&'a str, &'a [u8]),
-    /// What may not be read is put.
+    /// Puts an item that must not be read.
     Denied(&'a str),
-    /// What is neither a file nor a folder is put.
+    /// Puts an item that is neither a file nor a folder.
     Other(&'a str),
-    /// What stands there is taken away.
+    /// Removes the path.
     Remove(&'a str),
-    /// The index gets these bytes, or there is none from now on.
+    /// Replaces the index by these bytes, or removes it.
     Index(Option<&'a [u8]>),
-    /// A job of `cindex`: its words, the reply, the output and the lines on standard error.
+    /// A job of `cindex`: its arguments, the reply, the output and the lines on standard error.
     Job(&'a [&'a str], Reply, &'a str, &'a str),
-    /// A search by `csearch`: its words, between spaces, the answer, the output and the lines on standard error.
+    /// A search by `csearch`: its arguments, separated by spaces, the answer, the output and the
+    /// lines on standard error.
     Search(&'a str, Result<Status, ToolFault>, &'a str, &'a str),
     /// The index has these bytes, or there is none.
     Left(Option<&'a [u8]>),
 }
 
-/// Each step of each of these is as wanted, from an empty tree and no index.
-fn tells(rt: &(impl Abort + AllocGlobal), each: &[&[Step<'_>]]) -> Result<(), Fail> {
-    for (place, steps) in each.iter().enumerate() {
+/// Each step of each list is as wanted, from an empty tree and no index.
+fn has_reports(rt: &(impl Abort + AllocGlobal), each: &[&[Step<'_>]]) -> Result<(), Fail> {
+    for (i, steps) in each.iter().enumerate() {
         let wrong = wrong_step(rt.alloc(), *steps)?;
-        assert!(rt; wrong.is_none(), "step {wrong:?} of {place}");
+        assert!(rt; wrong.is_none(), "step {wrong:?} of {i}");
     }
     Ok(())
 }
 
-/// The place of the step that is not as wanted, where there is one.
+/// The index of the first step that is not as wanted, if there is one.
 fn wrong_step(alloc: Global, steps: &[Step<'_>]) -> Result<Option<usize>, Fail> {
     let mut desk = Desk::new(alloc)?;
-    for (place, step) in steps.iter().enumerate() {
+    for (i, step) in steps.iter().enumerate() {
         if !desk.takes_step(alloc, step)? {
-            return Ok(Some(place));
+            return Ok(Some(i));
         }
     }
     Ok(None)
@@ -80,7 +81,7 @@ impl Desk {
         })
     }
 
-    /// Takes a step, and answers whether it is as wanted.
+    /// Does a step, and returns whether its outcome is as wanted.
     fn takes_step(&mut self, alloc: Global, step: &Step<'_>) -> Result<bool, Fail> {
         match *step {
             Step::Folder(path) => self.tree.put(path, Item::Folder)?,
@@ -92,25 +93,25 @@ impl Desk {
                 self.tree.remove(path);
             }
             Step::Index(bytes) => self.index = copied(alloc, bytes)?,
-            Step::Job(words, reply, out, err) => return self.does(alloc, words, reply, out, err),
-            Step::Search(words, answer, out, err) => {
-                return self.finds(alloc, words, answer, out, err);
+            Step::Job(args, reply, out, err) => return self.does(alloc, args, reply, out, err),
+            Step::Search(args, answer, out, err) => {
+                return self.finds(alloc, args, answer, out, err);
             }
             Step::Left(bytes) => return Ok(self.index.as_deref() == bytes),
         }
         Ok(true)
     }
 
-    /// Does a job of `cindex`, and answers whether the reply and the outputs are as wanted.
+    /// Does a job of `cindex`, and returns whether the reply and the outputs are as wanted.
     fn does(
         &mut self,
         alloc: Global,
-        words: &[&str],
+        args: &[&str],
         reply: Reply,
         out: &str,
         err: &str,
     ) -> Result<bool, Fail> {
-        let jobs = [job_of(alloc, words)?];
+        let jobs = [job_of(alloc, args)?];
         let mut replies = [DONE];
         let mut lines = MemSink::new(alloc, 1000);
         let mut faults = MemSink::new(alloc, 1000);
@@ -127,11 +128,11 @@ impl Desk {
         Ok(replies[0] == reply && have(&lines, out, &faults, err))
     }
 
-    /// Searches by `csearch`, and answers whether the answer and the outputs are as wanted.
+    /// Searches by `csearch`, and returns whether the answer and the outputs are as wanted.
     fn finds(
         &mut self,
         alloc: Global,
-        words: &str,
+        args: &str,
         answer: Result<Status, ToolFault>,
         out: &str,
         err: &str,
@@ -139,7 +140,7 @@ impl Desk {
         let mut lines = MemSink::new(alloc, 1000);
         let mut faults = MemSink::new(alloc, 1000);
         let index = self.index.as_deref();
-        let found = search(alloc, words, index, &mut self.tree, &mut lines, &mut faults)?;
+        let found = search(alloc, args, index, &mut self.tree, &mut lines, &mut faults)?;
         Ok(found == answer && have(&lines, out, &faults, err))
     }
 }
@@ -149,7 +150,7 @@ pub fn have(lines: &MemSink, out: &str, faults: &MemSink, err: &str) -> bool {
     lines.bytes() == out.as_bytes() && faults.bytes() == err.as_bytes()
 }
 
-/// A copy of the bytes, where there are some.
+/// A copy of the bytes, if there are some.
 fn copied(alloc: Global, bytes: Option<&[u8]>) -> Result<Option<Vec<u8>>, AllocError> {
     match bytes {
         Some(bytes) => Ok(Some(bytes.to_vec(alloc)?)),

@@ -1,13 +1,13 @@
-// Reads that fail, and inputs that have no end.
+// Failing reads, and endless inputs.
 use crate::fixtures::PLAIN;
 use crate::indexing::job_of;
 use crate::searching::reports::{answer_within, program_of};
+use cs_args::{Reply, Style, ToolFault};
 use cs_cindex::cindex;
 use cs_match::Program;
 use cs_search::{GrepFault, ReadFault};
 use cs_tree::{IoFault, Item, MemSink, MemTree, PutFault, Source};
 use cs_trigram::{BoundedScanner, Limits, Reason, Scan, ScanFault};
-use cs_words::{Reply, Style, ToolFault};
 use std::alloc::Global;
 use std::test::Fail;
 
@@ -20,8 +20,8 @@ fn cut_after_a_nul(alloc: Global) -> Result<MemTree, PutFault> {
 }
 
 /// Whether a job prints these lines on standard error.
-fn tells(alloc: Global, words: &[&str], lines: &[u8]) -> Result<bool, Fail> {
-    let jobs = [job_of(alloc, words)?];
+fn has_reports(alloc: Global, args: &[&str], lines: &[u8]) -> Result<bool, Fail> {
+    let jobs = [job_of(alloc, args)?];
     let mut trees = [cut_after_a_nul(alloc)?];
     let mut replies = [Reply::Done];
     let mut out = MemSink::new(alloc, 1000);
@@ -42,11 +42,13 @@ fn tells(alloc: Global, words: &[&str], lines: &[u8]) -> Result<bool, Fail> {
 fn a_rule_is_broken_before_a_read_fails(rt: HostRuntime) -> Result<(), Fail> {
     let alloc = rt.alloc();
     let line = b"cindex: /t/c: not indexed: NUL byte\n";
-    assert!(rt; tells(alloc, &["-logskip", "/t"], line)? && tells(alloc, &["/t"], b"")?);
+    assert!(rt;
+        has_reports(alloc, &["-logskip", "/t"], line)? && has_reports(alloc, &["/t"], b"")?
+    );
     Ok(())
 }
 
-/// An input without an end: two bytes in turn, one at a read.
+/// An endless input: two bytes in turn, one per read.
 #[derive(Drop)]
 struct Endless {
     next: u8,
@@ -56,9 +58,9 @@ struct Endless {
 impl Source for Endless {
     ghost failed = { λ _. 0 };
 
-    ghost keeps_itself = { λ _. tt };
+    ghost keeps_refl = { λ _. tt };
 
-    ghost keeps_chain = { λ _ _ _ _ _. tt };
+    ghost keeps_trans = { λ _ _ _ _ _. tt };
 
     fn read(&mut self, buf: &mut [u8]) -> Result<usize, IoFault> {
         if buf.is_empty() {
@@ -74,7 +76,7 @@ impl Source for Endless {
     }
 }
 
-/// Whether lines without an end are left for their length.
+/// Whether endless lines are skipped for their length.
 fn are_left(alloc: Global) -> Result<bool, ScanFault> {
     let limits = Limits {
         bytes: 10,
@@ -94,8 +96,8 @@ fn a_scan_without_an_end(rt: HostRuntime) {
     assert!(rt; are_left(rt.alloc()) == Ok(true));
 }
 
-/// Whether a search of lines without an end, of which ten bytes are searched, prints this and leaves them for their
-/// length.
+/// Whether a search of the first ten bytes of endless lines prints this and reports that the input
+/// is too long.
 fn prints_by(
     alloc: Global,
     program: &Program,
@@ -111,7 +113,7 @@ fn prints_by(
     Ok(out.bytes() == lines.as_bytes() && answer.fault == Some(ReadFault::TooLong))
 }
 
-/// The same of a search for `a`.
+/// The same for a search of `a`.
 fn prints(alloc: Global, style: Style, lines: &str) -> Result<bool, ToolFault> {
     let program = program_of(alloc, "a")?;
     Ok(prints_by(alloc, &program, style, lines)?)

@@ -1,12 +1,12 @@
-// What tests of several tools are given.
+// Fixtures of several tools.
+use cs_args::Style;
 use cs_tree::{Item, MemTree, PutFault};
-use cs_words::Style;
 use std::alloc::{AllocError, Global};
 
-/// What stands at a path: a folder, or a file with this text.
-pub type Placed<'a> = (&'a str, Option<&'a str>);
+/// An item of a tree: a folder, or a file with this text.
+pub type TreeItem<'a> = (&'a str, Option<&'a str>);
 
-/// No option asks for another form of what is printed.
+/// The style without options.
 pub const PLAIN: Style = Style {
     count: false,
     list: false,
@@ -22,7 +22,7 @@ pub const ONE_FILE: &[u8; 122] =
 pub const ONE_PATH: &[u8] =
     b"csearch index 1\n/v\0\0\0\xff\xff\xff\0\0\0\0\0\0\0\0\x10\0\0\0\x14\0\0\0\x15\0\0\0\x19\0\0\0\x1d\ncsearch trailr\n";
 
-/// An index whose names do not ascend, and with an entry for the closing list.
+/// An index whose names are not sorted, and with an entry for the closing list.
 pub const UNSORTED: &[u8; 115] =
     b"csearch index 1\n/a\0\0/a/b/z\0/a/b-x\0\0abc\x01\x01\0\xff\xff\xff\0\0\0\0\0\0\0\0\x07\0\0\0\x0eabc\0\0\0\x02\0\0\0\0\xff\xff\xff\0\0\0\0\0\0\0\x06\0\0\0\x10\0\0\0\x14\0\0\0\x23\0\0\0\x2d\0\0\0\x39\ncsearch trailr\n";
 
@@ -35,13 +35,13 @@ pub fn strings(alloc: Global, texts: &[&str]) -> Result<Vec<String>, AllocError>
     Ok(strings)
 }
 
-/// The words of a text, between such marks.
-pub fn words_of(alloc: Global, text: &str, mark: char) -> Result<Vec<String>, AllocError> {
-    let mut words = Vec::new(alloc);
+/// The parts of a text between separators.
+pub fn args_of(alloc: Global, text: &str, mark: char) -> Result<Vec<String>, AllocError> {
+    let mut args = Vec::new(alloc);
     for word in text.split(mark) {
-        words.push(String::from_str(alloc, word)?)?;
+        args.push(String::from_str(alloc, word)?)?;
     }
-    Ok(words)
+    Ok(args)
 }
 
 /// A folder, or a file with this text.
@@ -52,10 +52,10 @@ pub fn item_of(alloc: Global, text: Option<&str>) -> Result<Item, AllocError> {
     }
 }
 
-/// A tree with these things in it.
-pub fn tree_of(alloc: Global, placed: &[Placed<'_>]) -> Result<MemTree, PutFault> {
+/// A tree with these items.
+pub fn tree_of(alloc: Global, items: &[TreeItem<'_>]) -> Result<MemTree, PutFault> {
     let mut tree = MemTree::new(alloc, 2)?;
-    for (path, text) in placed {
+    for (path, text) in items {
         tree.put(*path, item_of(alloc, *text)?)?;
     }
     Ok(tree)

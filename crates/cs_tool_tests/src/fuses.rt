@@ -1,31 +1,31 @@
-// A tree of which one call fails: alone, and under each tool.
-use crate::fixtures::{Placed, tree_of};
+// A tree with one failing call: by itself, and below each tool.
+use crate::fixtures::{TreeItem, tree_of};
 use crate::indexing::job_of;
 use crate::indexing::jobs::{index_of, index_over};
 use crate::searching::indexed::search;
 use crate::searching::tools;
+use cs_args::{Reply, Tool, ToolFault};
 use cs_cindex::cindex;
 use cs_search::{Status, cgrep};
 use cs_tree::{FuseTree, MemSink, MemSource, MemTree, PutFault, Tree};
-use cs_words::{Reply, Tool, ToolFault};
 use std::alloc::Global;
 use std::str::from_utf8;
 use std::test::Fail;
 
-/// Two files, of which one lies in a folder of its own.
-const TWO_FILES: &[Placed<'static>] = &[
+/// Two files, one of them in a folder of its own.
+const TWO_FILES: &[TreeItem<'static>] = &[
     ("/a", None),
     ("/a/b", None),
     ("/a/b/f", Some("one\n")),
     ("/a/g", Some("two\n")),
 ];
 
-/// The tree, of which the call of this number fails.
+/// The tree, whose call of this number fails.
 fn fused(alloc: Global, k: u64) -> Result<FuseTree<MemTree>, PutFault> {
     Ok(FuseTree::new(tree_of(alloc, TWO_FILES)?, k))
 }
 
-/// Whether the third call of a tree fails, and no other.
+/// Whether exactly the third call of a tree fails.
 fn third_fails(alloc: Global) -> Result<bool, PutFault> {
     let mut tree = fused(alloc, 3)?;
     let mut buf = [0u8; 8];
@@ -43,20 +43,21 @@ fn one_call_fails(rt: HostRuntime) {
     assert!(rt; third_fails(rt.alloc()) == Ok(true));
 }
 
-/// Whether a tool answers as over a tree of which no call fails, but for one file, which it blames; and how many calls
-/// have failed.
+/// Whether the answer of a tool is that of a tree without failures, except for one file, which it
+/// reports; and the number of failed calls.
 type Run = (bool, u64);
 
-/// What is printed where no call fails.
+/// The output without failures.
 const LINE: &[u8] = b"/a/b/f:one\n";
 
-/// The name that the one line on standard error blames.
+/// The name in the only line on standard error.
 fn blamed<'a>(tool: &str, lines: &'a [u8]) -> Option<&'a str> {
     let line = from_utf8(lines).ok()?.strip_prefix(tool)?;
     line.strip_suffix(": cannot be read\n")
 }
 
-/// Whether a search that blames this name prints this: its line may be missing where its file is blamed.
+/// Whether a search that reports this name prints these lines: only the line of a reported file may
+/// be missing.
 fn is_printed(name: Option<&str>, lines: &[u8]) -> bool {
     match name {
         None | Some("/a/g") => lines == LINE,
@@ -65,7 +66,7 @@ fn is_printed(name: Option<&str>, lines: &[u8]) -> bool {
     }
 }
 
-/// How such a search came out.
+/// The outcome of such a search.
 fn search_came(
     answer: Result<Status, ToolFault>,
     tool: &str,
@@ -79,9 +80,9 @@ fn search_came(
     } else {
         Status::Matched
     };
-    let is_told = name.is_some() == (failures == 1) && name.is_none() == err.bytes().is_empty();
+    let is_reported = name.is_some() == (failures == 1) && name.is_none() == err.bytes().is_empty();
     (
-        answer == Ok(status) && is_told && is_printed(name, out.bytes()),
+        answer == Ok(status) && is_reported && is_printed(name, out.bytes()),
         failures,
     )
 }
@@ -103,12 +104,12 @@ fn searched(alloc: Global, k: u64) -> Result<Run, Fail> {
     let mut tree = fused(alloc, k)?;
     let mut out = MemSink::new(alloc, 1000);
     let mut err = MemSink::new(alloc, 1000);
-    let words = "-brute one";
-    let answer = search(alloc, words, Some(&index), &mut tree, &mut out, &mut err)?;
+    let args = "-brute one";
+    let answer = search(alloc, args, Some(&index), &mut tree, &mut out, &mut err)?;
     Ok(search_came(answer, "csearch: ", &out, &err, tree.failures()))
 }
 
-/// The index of the files, but for those at this path or below it.
+/// The index of the files, except for those at this path or below it.
 fn index_without(alloc: Global, path: Option<&str>) -> Result<Vec<u8>, Fail> {
     let mut tree = tree_of(alloc, TWO_FILES)?;
     if let Some(path) = path {
@@ -136,10 +137,10 @@ fn indexed(alloc: Global, k: u64) -> Result<Run, Fail> {
     let failures = trees[0].failures();
     let name = blamed("cindex: ", err.bytes());
     let want = index_without(alloc, name)?;
-    let is_told = name.is_some() == (failures == 1) && name.is_none() == err.bytes().is_empty();
+    let is_reported = name.is_some() == (failures == 1) && name.is_none() == err.bytes().is_empty();
     let is_done = replies[0] == Reply::Done && out.bytes().is_empty();
     Ok((
-        is_done && is_told && index.as_deref() == Some(want.as_slice()),
+        is_done && is_reported && index.as_deref() == Some(want.as_slice()),
         failures,
     ))
 }
@@ -153,7 +154,8 @@ fn run(alloc: Global, tool: Tool, k: u64) -> Result<Run, Fail> {
     }
 }
 
-/// The first call whose failure is not told so, or the number of calls, where each is.
+/// The first call whose failure is not reported in this way, or the number of calls if there is
+/// none.
 fn calls(alloc: Global, tool: Tool) -> Result<Result<u64, u64>, Fail> {
     for k in 1..100 {
         let (is_right, failures) = run(alloc, tool, k)?;
@@ -167,8 +169,8 @@ fn calls(alloc: Global, tool: Tool) -> Result<Result<u64, u64>, Fail> {
     Ok(Err(100))
 }
 
-/// Each tool, and how many calls it makes of the tree: kinds and entries of two folders, kinds of two files, and of each
-/// file that is read an opening, two reads of two bytes each, and one that finds the end.
+/// Each tool, and the number of its calls: kinds and entries of two folders, kinds of two files,
+/// and for each file that is read an open, two reads of two bytes, and one at the end.
 const CALLS: &[(Tool, u64)] = &[(Tool::Cindex, 14), (Tool::Csearch, 8), (Tool::Cgrep, 8)];
 
 #[test]

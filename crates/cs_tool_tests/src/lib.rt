@@ -1,10 +1,13 @@
-//! The tests of the crates of whole tools, one module for each, and of all calls with memory refused. They call public
-//! functions alone. The libraries below are tested in `cs_tests`, and the program is run by what stands in `tests/`. A test is one
-//! question, put to a function that answers `bool`, since each assert is proved too.
+//! The tests of the crates of whole tools, one module for each, and of all calls with failing
+//! allocations. They call only public functions. `cs_tests` has the tests of the libraries below,
+//! and `tests/` runs the program. A test asserts a function that answers `bool`, since each assert
+//! is proved too.
 #![tactic(auto)]
 
 #[cfg(test)]
 mod allocations;
+#[cfg(test)]
+mod args;
 #[cfg(test)]
 mod desk;
 #[cfg(test)]
@@ -16,12 +19,10 @@ mod fuses;
 #[cfg(test)]
 mod indexing;
 #[cfg(test)]
-mod refusals;
+mod out_of_memory;
 #[cfg(test)]
 mod rooms;
 #[cfg(test)]
 mod searching;
 #[cfg(test)]
 mod stores;
-#[cfg(test)]
-mod words;

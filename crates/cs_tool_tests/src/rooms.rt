@@ -1,17 +1,19 @@
-// Outputs with room for less than a tool prints: it is refused, has filled the room, and has left the index.
+// Outputs with less capacity than a tool prints: the tool fails, has filled the output, and leaves
+// the index unchanged.
 use crate::fixtures::{ONE_FILE, tree_of};
 use crate::indexing::job_of;
 use crate::indexing::jobs::index_of;
 use crate::searching::indexed::{GOOGLE, search};
 use crate::searching::tools;
+use cs_args::{CindexFault, Reply, ToolFault};
 use cs_cindex::cindex;
 use cs_search::Status;
 use cs_tree::MemSink;
-use cs_words::{CindexFault, Reply, ToolFault};
 use std::alloc::Global;
 use std::test::Fail;
 
-/// What is called: the words of a search by `cgrep` or by `csearch`, or those of a job over `ONE_FILE`.
+/// The call: the arguments of a search by `cgrep` or by `csearch`, or those of a job over
+/// `ONE_FILE`.
 #[derive(Clone, Copy, Debug, Drop)]
 enum Call<'a> {
     Grep(&'a str),
@@ -19,7 +21,8 @@ enum Call<'a> {
     Job(&'a [&'a str]),
 }
 
-/// What is called, whether its lines on standard error have little room, or else its output, and what is printed there.
+/// The call, whether standard error has little capacity (otherwise the output has), and what is
+/// printed there.
 const ROWS: &[(Call<'static>, bool, &str)] = &[
     (
         Call::Search("Google.*Search"),
@@ -47,7 +50,7 @@ const ROWS: &[(Call<'static>, bool, &str)] = &[
     (Call::Job(&["-list"]), false, "/a\n"),
 ];
 
-/// Whether a search is refused for a write.
+/// Whether a search fails with `Write`.
 fn is_write(answer: Result<Status, ToolFault>) -> Result<bool, Fail> {
     match answer {
         Ok(_) => Ok(false),
@@ -59,23 +62,23 @@ fn is_write(answer: Result<Status, ToolFault>) -> Result<bool, Fail> {
 /// A search of three files by their index.
 fn searched(
     alloc: Global,
-    words: &str,
+    args: &str,
     out: &mut MemSink,
     err: &mut MemSink,
 ) -> Result<Result<Status, ToolFault>, Fail> {
     let index = index_of(alloc, &["/g"], GOOGLE)?;
     let mut tree = tree_of(alloc, GOOGLE)?;
-    search(alloc, words, Some(&index), &mut tree, out, err)
+    search(alloc, args, Some(&index), &mut tree, out, err)
 }
 
-/// Whether a job is refused for a write, and has left the index.
-fn job_is_refused(
+/// Whether a job fails with `Write`, and leaves the index unchanged.
+fn job_is_rejected(
     alloc: Global,
-    words: &[&str],
+    args: &[&str],
     out: &mut MemSink,
     err: &mut MemSink,
 ) -> Result<bool, Fail> {
-    let jobs = [job_of(alloc, words)?];
+    let jobs = [job_of(alloc, args)?];
     let mut trees = [tree_of(alloc, &[("/s", None), ("/s/n", Some("a\0"))])?];
     let mut replies = [Reply::Done];
     let old = Some(ONE_FILE.to_vec(alloc)?);
@@ -87,21 +90,21 @@ fn job_is_refused(
     }
 }
 
-/// Whether a call is refused for a write, and has left the index.
-fn is_refused(
+/// Whether a call fails with `Write`, and leaves the index unchanged.
+fn is_rejected(
     alloc: Global,
     call: Call<'_>,
     out: &mut MemSink,
     err: &mut MemSink,
 ) -> Result<bool, Fail> {
     match call {
-        Call::Grep(words) => is_write(tools::run(alloc, words, out, err)?),
-        Call::Search(words) => is_write(searched(alloc, words, out, err)?),
-        Call::Job(words) => job_is_refused(alloc, words, out, err),
+        Call::Grep(args) => is_write(tools::run(alloc, args, out, err)?),
+        Call::Search(args) => is_write(searched(alloc, args, out, err)?),
+        Call::Job(args) => job_is_rejected(alloc, args, out, err),
     }
 }
 
-/// Whether a call fills so much room, and is refused just where that is too little.
+/// Whether a call fills this capacity, and fails exactly if it is too small.
 fn fills(
     alloc: Global,
     call: Call<'_>,
@@ -111,12 +114,12 @@ fn fills(
 ) -> Result<bool, Fail> {
     let mut little = MemSink::new(alloc, room);
     let mut much = MemSink::new(alloc, 1000);
-    let refused = if are_faults {
-        is_refused(alloc, call, &mut much, &mut little)?
+    let failed = if are_faults {
+        is_rejected(alloc, call, &mut much, &mut little)?
     } else {
-        is_refused(alloc, call, &mut little, &mut much)?
+        is_rejected(alloc, call, &mut little, &mut much)?
     };
-    Ok(refused == (room < whole.len()) && whole.get(..room) == Some(little.bytes()))
+    Ok(failed == (room < whole.len()) && whole.get(..room) == Some(little.bytes()))
 }
 
 #[test]

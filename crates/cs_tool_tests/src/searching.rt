@@ -1,4 +1,4 @@
-// What no clause says of searches, and rows from outside.
+// Searches: what no clause says, and examples whose results are known independently.
 pub mod indexed;
 pub mod reports;
 mod stored;

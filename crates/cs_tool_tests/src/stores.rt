@@ -4,7 +4,7 @@ ghost use Rattle.std.specs.Prelude.{◌≡◌, ◌≤◌, length};
 use crate::fixtures::ONE_FILE;
 use cs_tree::{IoFault, Store};
 
-/// Bytes that are others after so many reads: then each read fails, or gives what stands in `then`.
+/// Bytes that change after some reads: then each read fails, or gives the bytes of `then`.
 #[derive(Drop)]
 pub struct Changing<'a> {
     first: &'a [u8],
@@ -41,7 +41,7 @@ impl<'a> Store for Changing<'a> {
     }
 }
 
-/// Fills the buffer with a front of the bytes, and answers how many.
+/// Fills the buffer with a prefix of the bytes, and returns its length.
 fn fill(buf: &mut [u8], bytes: &[u8]) -> usize
     ensures len { length buf.new ≡ length buf.old }
     ensures within { result ≤ length buf.new }
@@ -51,7 +51,7 @@ fn fill(buf: &mut [u8], bytes: &[u8]) -> usize
     n
 }
 
-/// `ONE_FILE` until so many reads were made.
+/// `ONE_FILE` for this number of reads.
 pub fn row_until(reads: usize, then: Option<&[u8]>) -> Changing<'_> {
     Changing {
         first: ONE_FILE,

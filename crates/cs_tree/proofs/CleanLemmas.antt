@@ -1,4 +1,4 @@
--- Elements one after another, and the path that they make.
+-- Lists of elements, and the path that they make.
 use denote.Ref.{Bor}
 use Rattle.std.proofs.Common.{◌≡◌, ℕ, ◌+◌, ◌<◌, List, [], ◌∷◌, ◌++◌, length, take, get_or, Bool, true, false, ◌&&◌, ◌||◌, ◌≢◌, cond, eqb, Some, None, refl, sym, ap, ◌∙◌, arith}
 use Rattle.std.proofs.lemmas.List.{map-append, take_more, reverse-append, length-map, length-reverse}
@@ -8,22 +8,23 @@ use Rattle.std.proofs.lemmas.Bool.{eq-eqb, eqb-true}
 use Rattle.std.proofs.lemmas.List.Folds.{list_any-append}
 use Rattle.std.specs.Cmp.{both_ways as same_tests}
 use Rattle.cs_tree.specs.Cover.{begins}
-use Rattle.cs_tree.specs.Clean.{elements, steps, with_element, with_slashes, path_of, absolute, clean_path, has_nul, longest_path}
+use Rattle.std.specs.List.{fold}
+use Rattle.cs_tree.specs.Clean.{elements, with_element, with_slashes, path_of, absolute, clean_path, has_nul, longest_path}
 use Rattle.cs_tree.specs.Cleaning.{clean_fault}
 use Rattle.cs_tree.specs.PathParts.{texts, parts_path, parts_fault}
 use Rattle.cs_tree.specs.declared.cleaning.PathFault.TheVariants.{Empty, Nul, TooLong}
-use Rattle.cs_tree.proofs.Splitting.{elements-append}
+use Rattle.cs_tree.proofs.SplitLemmas.{elements-append}
 
 pub on_ok : {A E : Type 0} {P Q : Type 0} (answer : Result A E) → (P → Q) → OnOk answer P → OnOk answer Q
 on_ok (Ok x) f h = f h
 on_ok (Err e) f h = tt
 
-pub steps-append : (above : List (List ℕ)) (xs ys : List (List ℕ)) → steps above (xs ++ ys) ≡ steps (steps above xs) ys
+pub steps-append : (above : List (List ℕ)) (xs ys : List (List ℕ)) → fold with_element above (xs ++ ys) ≡ fold with_element (fold with_element above xs) ys
 steps-append above [] ys = refl
 steps-append above (x ∷ xs) ys = steps-append (with_element above x) xs ys
 
-pub steps-one : (above now : List (List ℕ)) (element : List ℕ) (pieces later : List (List ℕ)) → pieces ≡ element ∷ later → now ≡ with_element above element → steps now later ≡ steps above pieces
-steps-one above now element pieces later e is = ap (λ a. steps a later) is ∙ ap (steps above) (sym e)
+pub steps-one : (above now : List (List ℕ)) (element : List ℕ) (pieces later : List (List ℕ)) → pieces ≡ element ∷ later → now ≡ with_element above element → fold with_element now later ≡ fold with_element above pieces
+steps-one above now element pieces later e is = ap (λ a. fold with_element a later) is ∙ ap (fold with_element above) (sym e)
 
 pub slashed_more : (lent : List (Bor (List ℕ))) (i : ℕ) (d : Bor (List ℕ)) → i < length lent → with_slashes (reverse (texts (take (i + 1) lent))) ≡ with_slashes (reverse (texts (take i lent))) ++ slash ∷ (get_or lent i d).now
 slashed_more lent i d h = ap (λ xs. with_slashes (reverse (texts xs))) (take_more lent i d h) ∙ ap (λ xs. with_slashes (reverse xs)) (map-append (λ (t : Bor (List ℕ)). t.now) (take i lent) (get_or lent i d ∷ [])) ∙ ap with_slashes (reverse-push (texts (take i lent)) (get_or lent i d).now)
@@ -47,15 +48,15 @@ path_relative : (folder text : List ℕ) → begins (slash ∷ []) text ≡ fals
 path_relative folder text h = ap (λ b. cond b text (folder ++ slash ∷ text)) h
 
 pub cleaned_absolute : (folder text : List ℕ) → begins (slash ∷ []) text ≡ true → parts_path [] text ≡ clean_path folder text
-cleaned_absolute folder text h = ap (λ t. path_of (steps [] (elements t))) (sym (path_absolute folder text h))
+cleaned_absolute folder text h = ap (λ t. path_of (fold with_element [] (elements t))) (sym (path_absolute folder text h))
 
 pub cleaned_relative : (folder text : List ℕ) → begins (slash ∷ []) text ≡ false → parts_path folder text ≡ clean_path folder text
 cleaned_relative folder text h =
     ap path_of (sym (steps-append [] (elements folder) (elements text)))
-    ∙ ap (λ es. path_of (steps [] es)) (sym (elements-append folder text))
-    ∙ ap (λ t. path_of (steps [] (elements t))) (sym (path_relative folder text h))
+    ∙ ap (λ es. path_of (fold with_element [] es)) (sym (elements-append folder text))
+    ∙ ap (λ t. path_of (fold with_element [] (elements t))) (sym (path_relative folder text h))
 
--- the fault of the parts is that of the path
+-- the error of the parts is that of the path
 fault_of : (parts_nul nul : Bool) (parts path : List ℕ) → parts_nul ≡ nul → parts ≡ path → cond parts_nul (Some Nul) (cond (nat_lt longest_path (length parts)) (Some TooLong) None) ≡ cond nul (Some Nul) (cond (nat_lt longest_path (length path)) (Some TooLong) None)
 fault_of parts_nul nul parts path e f = ap (λ b. cond b (Some Nul) (cond (nat_lt longest_path (length parts)) (Some TooLong) None)) e ∙ ap (λ p. cond nul (Some Nul) (cond (nat_lt longest_path (length p)) (Some TooLong) None)) f
 

@@ -1,20 +1,21 @@
--- Worked rows, by computation.
+-- Examples, by computation.
 use Rattle.std.proofs.Common.{◌≡◌, ℕ, List, true, false, [], ◌∷◌, Some, Ok, Err, refl}
 use Rattle.std.specs.Prelude.{codes}
-use Rattle.cs_tree.specs.Told.{Taken, with_bytes, after_flush}
-use Rattle.cs_tree.specs.Taken.{TakesFront}
-use Rattle.cs_tree.specs.Memory.{nothing_taken}
-use Rattle.cs_tree.specs.ReadCounts.{no_reads, after_open, after_read}
+use Rattle.cs_tree.specs.Sinks.{SinkModel, with_bytes, after_flush}
+use Rattle.cs_tree.specs.TakesPrefix.{TakesPrefix}
+use Rattle.cs_tree.specs.MemStreams.{empty_sink}
+use Rattle.cs_tree.specs.ReadCounts.{after_open, after_read}
+use Rattle.cs_tree.specs.MemTrees.{no_reads}
 use Rattle.cs_tree.specs.declared.fault.TreeFault.TheVariants.{Failed}
 use Rattle.cs_tree.specs.Clean.{clean_path, is_clean}
-use Rattle.cs_tree.specs.Cleaning.{is_settled}
+use Rattle.cs_tree.specs.Cleaning.{is_normalized}
 use Rattle.cs_tree.specs.Proper.{is_proper_path}
 use Rattle.cs_tree.specs.Puts.{put_fault}
 use Rattle.cs_tree.specs.Snapshot.{file}
 use Rattle.cs_tree.specs.declared.mem_tree.PutFault.TheVariants.{BadPath}
 use Rattle.std.specs.FinMap as map
 use Rattle.cs_tree.specs.Cover.{covers}
-use Rattle.cs_tree.specs.Reached.{elements_under}
+use Rattle.cs_tree.specs.Reachability.{elements_under}
 use Rattle.cs_tree.specs.Store.{part_of}
 
 dots_go : clean_path (codes "/w") (codes "a/./b/../c/") ≡ codes "/w/a/c"
@@ -35,11 +36,11 @@ the_root_is_no_proper_path = refl
 a_slash_at_the_end_is_cleaned : is_clean (codes "/a/") ≡ false
 a_slash_at_the_end_is_cleaned = refl
 
-a_relative_path_is_not_settled : is_settled (codes "a/b") ≡ false
-a_relative_path_is_not_settled = refl
+a_relative_path_is_not_normalized : is_normalized (codes "a/b") ≡ false
+a_relative_path_is_not_normalized = refl
 
-a_clean_path_is_settled : is_settled (codes "/a/.b") ≡ true
-a_clean_path_is_settled = refl
+a_clean_path_is_normalized : is_normalized (codes "/a/.b") ≡ true
+a_clean_path_is_normalized = refl
 
 nothing_is_put_at_the_root : put_fault map.empty (codes "/") (file []) ≡ Some BadPath
 nothing_is_put_at_the_root = refl
@@ -65,16 +66,16 @@ a_part_begins_at_its_position = refl
 a_part_ends_with_the_bytes : part_of (codes "abc") 2 5 ≡ codes "c"
 a_part_ends_with_the_bytes = refl
 
--- ---- what sinks take
+-- ---- sinks
 
--- so many bytes of these were flushed, at once
-abbrev flushed_once : List ℕ → ℕ → Taken
+-- these bytes were written, and one flush flushed this many of them
+abbrev flushed_once : List ℕ → ℕ → SinkModel
 flushed_once bytes flushed = record { bytes = bytes; flushed = flushed; flushes = 1 }
 
-front_of_a_line : TakesFront (codes "t:one\n") (Some (flushed_once (codes "s:two\n") 6)) (Some (flushed_once (codes "s:two\nt:o") 6))
-front_of_a_line = record { count = 3; grows = refl }
+prefix_of_a_line : TakesPrefix (codes "t:one\n") (Some (flushed_once (codes "s:two\n") 6)) (Some (flushed_once (codes "s:two\nt:o") 6))
+prefix_of_a_line = record { count = 3; grows = refl }
 
-a_line_and_a_flush : after_flush (with_bytes nothing_taken (codes "t:one\n")) ≡ flushed_once (codes "t:one\n") 6
+a_line_and_a_flush : after_flush (with_bytes empty_sink (codes "t:one\n")) ≡ flushed_once (codes "t:one\n") 6
 a_line_and_a_flush = refl
 
 a_second_flush_is_counted : after_flush (flushed_once (codes "t") 0) ≡ record { bytes = codes "t"; flushed = 1; flushes = 2 }

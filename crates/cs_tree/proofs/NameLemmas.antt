@@ -1,4 +1,4 @@
--- The names that a folder lists, and those of them whose paths another path covers.
+-- The names of a folder, and those that a path covers.
 use Rattle.std.proofs.Common.{◌≡◌, ℕ, ◌+◌, ◌<◌, Bool, true, false, not, ◌&&◌, ◌||◌, List, [], ◌∷◌, ◌++◌, length, map, take, drop, get_or, refl, sym, ap, subst, ◌∙◌, eqb, cond, inl, inr, ◌⊎◌, arith, length-append}
 use Rattle.cs_tree.specs.Covering.{Covers, itself, below, root}
 use Rattle.cs_tree.specs.Folders.{stem_of, child, is_element, are_distinct, are_elements}
@@ -11,12 +11,12 @@ use Rattle.std.specs.Cmp.{both_ways as same_tests}
 use Rattle.std.specs.Cmp.Lexicographic.{bytes_decides}
 use Rattle.std.specs.List.{list_any, list_all}
 use Rattle.cs_tree.specs.Cover.{begins, covers}
-use Rattle.cs_tree.proofs.Covering.{covers_says, covers_from, covers_chain, begins_rest}
-use Rattle.cs_tree.proofs.Splitting.{NoSlash, stem-other}
+use Rattle.cs_tree.proofs.CoverLemmas.{covers_says, covers_from, covers_trans, begins_rest}
+use Rattle.cs_tree.proofs.SplitLemmas.{NoSlash, stem-other}
 
 -- ---- lists
 
--- what the front of a list is mapped to, with one more of its members
+-- the first items of a mapped list, with one more item
 pub mapped_more : {X : Type 0} (f : X → List ℕ) (xs : List X) (i : ℕ) (x : X) → i < length xs → x ≡ get_or xs i x → map f (take (i + 1) xs) ≡ map f (take i xs) ++ f x ∷ []
 mapped_more f xs i x low is = ap (map f) (take_more xs i x low ∙ ap (λ y. take i xs ++ y ∷ []) (sym is)) ∙ map-append f (take i xs) (x ∷ [])
 
@@ -33,7 +33,7 @@ module _ {X Y : Type 0} (view : X → Y) (test : Y → Bool) where
   ]
 
 module _ {X : Type 0} where
-  -- tests that agree where a third passes
+  -- two tests that agree on all items that satisfy a third one give the same filtered list
   pub same_filters : (p q r : X → Bool) → ((x : X) → r x ≡ true → p x ≡ q x) → (xs : List X) → list_all r xs ≡ true → filter p xs ≡ filter q xs
   same_filters p q r agree [] h = refl
   same_filters p q r agree (x ∷ xs) h =
@@ -92,7 +92,7 @@ are_elements-filter p names h =
     let parts = and_parts (list_all is_element names) (are_distinct names) h in
     and_from _ _ (list_all-filter p is_element names parts.0) (distinct-filter p names parts.1)
 
--- ---- what a path covers of a folder's children
+-- ---- the entries of a folder that a path covers
 
 -- a slash after which the names differ
 slash_split : (p q n rest : List ℕ) → NoSlash n → q ++ slash ∷ n ≡ p ++ slash ∷ rest → (p ≡ q) ⊎ ((r : List ℕ) × (q ≡ p ++ slash ∷ r))
@@ -109,7 +109,7 @@ slash_split (a ∷ p) (b ∷ q) n rest h e =
       | inr found ↦ inr (found.0, ap (λ x. x ∷ q) heads ∙ ap (λ xs. a ∷ xs) found.1)
     ]
 
--- a path that covers what stands before a slash in a child's path covers the folder
+-- a path that covers the text before a slash of an entry's path covers the folder
 stem_covered : (path folder : List ℕ) → (path ≡ stem_of folder) ⊎ ((r : List ℕ) × (stem_of folder ≡ path ++ slash ∷ r)) → covers path folder ≡ true
 stem_covered path folder h =
     elim (cases_Bool (bytes_eq folder (slash ∷ []))) [
@@ -128,14 +128,14 @@ stem_covered path folder h =
 pub name_parts : (name : List ℕ) → is_element name ≡ true → NoSlash name
 name_parts name h = not-true _ (and_parts (not (list_any (λ b. eqb b slash) name)) _ (and_parts (not (bytes_eq name [])) _ h).1).0
 
--- a path that does not cover a folder covers of its children only itself
+-- a path that does not cover a folder covers only itself of the folder's entries
 pub covers_child : (path folder name : List ℕ) → begins (slash ∷ []) folder ≡ true → covers path folder ≡ false → is_element name ≡ true → covers path (child folder name) ≡ bytes_eq (child folder name) path
 covers_child path folder name rooted apart good = same_tests _ _ (λ h. says (covers_says path (child folder name) h)) (λ h. covers_from path (child folder name) (itself (sym ((bytes_decides (child folder name) path).0 h))))
   where
     says : Covers path (child folder name) → bytes_eq (child folder name) path ≡ true
     says (itself e) = (bytes_decides (child folder name) path).1 (sym e)
     says (below rest e) = absurd (true≢false (sym (stem_covered path folder (slash_split path (stem_of folder) name rest (name_parts name good) e)) ∙ apart))
-    says (root rest e f) = let front = begins_rest (slash ∷ []) folder rooted in absurd (true≢false (sym (covers_from path folder (root front.0 e front.1)) ∙ apart))
+    says (root rest e f) = let prefix = begins_rest (slash ∷ []) folder rooted in absurd (true≢false (sym (covers_from path folder (root prefix.0 e prefix.1)) ∙ apart))
 
 pub folder_covers_child : (folder name : List ℕ) → covers folder (child folder name) ≡ true
 folder_covers_child folder name =
@@ -144,13 +144,13 @@ folder_covers_child folder name =
       | inr other ↦ covers_from folder (child folder name) (below name (ap (λ stem. stem ++ slash ∷ name) (stem-other folder other)))
     ]
 
--- what is left of a folder's names where a path is taken away
+-- the names of a folder that remain when a path is removed
 pub names_beside : (path folder : List ℕ) (names : List (List ℕ)) → begins (slash ∷ []) folder ≡ true → covers path folder ≡ false → are_elements names ≡ true → filter (λ name. not (bytes_eq (child folder name) path)) names ≡ filter (λ name. not (covers path (child folder name))) names
 names_beside path folder names rooted apart good =
     sym (same_filters _ _ is_element (λ name h. ap not (covers_child path folder name rooted apart h)) names (and_parts (list_all is_element names) _ good).0)
 
 pub names_below : (path folder : List ℕ) (names : List (List ℕ)) → covers path folder ≡ true → filter (λ name. not (covers path (child folder name))) names ≡ []
-names_below path folder names h = filter_none _ (λ name. ap not (covers_chain path folder (child folder name) h (folder_covers_child folder name))) names
+names_below path folder names h = filter_none _ (λ name. ap not (covers_trans path folder (child folder name) h (folder_covers_child folder name))) names
 
 -- ---- one more name
 

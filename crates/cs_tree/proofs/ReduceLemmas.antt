@@ -1,4 +1,4 @@
--- Paths in order, and those that no other one covers.
+-- Sorted paths, and those that no other path covers.
 use denote.Ref.{Bor}
 use Rattle.cs_tree.specs.PathSet.{Paths}
 use Rattle.cs_tree.specs.NameOrder.{bytes_cmp}
@@ -21,9 +21,9 @@ use Rattle.std.proofs.lemmas.List.Kept.{Any-dedup, Contains-from_dedup, IsStrict
 use Rattle.cs_tree.specs.Cover.{is_alone, least}
 use Rattle.cs_tree.specs.PathParts.{texts}
 use Rattle.cs_tree.specs.PathSet as set
-use Rattle.cs_tree.proofs.BeforeLemmas.{less_from}
+use Rattle.cs_tree.proofs.NameOrderLemmas.{less_from}
 use Rattle.cs_tree.proofs.NameLemmas.{list_any-map}
-use Rattle.cs_tree.proofs.Sets.{tied_is, same_set, items_in_order, contains_retained, some_item, item_passes, some_member, member_passes}
+use Rattle.cs_tree.proofs.PathSetLemmas.{tied_is, same_set, items_in_order, contains_retained, some_item, item_satisfies, some_member, member_satisfies}
 
 -- ---- sets of paths as lists
 
@@ -35,11 +35,11 @@ found-marked q (path ∷ paths) =
 pub contains-from_list : (paths : List (List ℕ)) (q : List ℕ) → set.contains (set.from_list paths) q ≡ list_any (eq_by_cmp bytes_cmp q) paths
 contains-from_list paths q = ap is_some (map'.get-from_entries nat_list_cmp_total (set.unit_entries paths) q) ∙ found-marked q paths
 
--- whether one of the paths passes, by the list and by the set
+-- whether some path satisfies the test, by the list and by the set
 pub any-from_list : (test : List ℕ → Bool) (ps : List (List ℕ)) → list_any test ps ≡ list_any test (set.items (set.from_list ps))
 any-from_list test ps = same_tests _ _
-    (λ h. let some = some_item test ps h in member_passes (set.from_list ps) test some.0 (contains-from_list ps some.0 ∙ some.1) some.2)
-    (λ h. let some = some_member (set.from_list ps) test h in item_passes test some.path ps some.passes (sym (contains-from_list ps some.path) ∙ some.member))
+    (λ h. let some = some_item test ps h in member_satisfies (set.from_list ps) test some.0 (contains-from_list ps some.0 ∙ some.1) some.2)
+    (λ h. let some = some_member (set.from_list ps) test h in item_satisfies test some.path ps some.accepts (sym (contains-from_list ps some.path) ∙ some.member))
 
 below-marked : (x : List ℕ) (ys : List (List ℕ)) → AllByRecursion (λ y. bytes_cmp x y ≡ Less) ys → below_all bytes_cmp x (set.unit_entries ys) ≡ true
 below-marked x [] h = refl
@@ -50,7 +50,7 @@ unfolding IsStrictlySortedBy
 is_sorted-marked [] h = refl
 is_sorted-marked (y ∷ ys) h = and_from (below_all bytes_cmp y (set.unit_entries ys)) _ (below-marked y ys h.0) (is_sorted-marked ys h.1)
 
--- paths in order are the items of the set of them
+-- the items of a sorted list's set are that list
 pub items-from_list : (ys : List (List ℕ)) → IsStrictlySortedBy bytes_cmp ys → set.items (set.from_list ys) ≡ ys
 items-from_list ys h = items_in_order ys (subst T (sym (is_sorted-marked ys h)) tt)
 
@@ -58,7 +58,7 @@ above_all : (p q : List ℕ) (ps : List (List ℕ)) → bytes_cmp p q ≡ Less �
 above_all p q [] h all = tt
 above_all p q (r ∷ ps) h all = (nat_list_cmp_total.trans p q r h all.0, above_all p q ps h all.1)
 
--- where each path is below the next one, each is below all later ones
+-- if each path is less than the next one, each is less than all later ones
 pub strictly_from : (ps : List (List ℕ)) → are_ascending ps ≡ true → IsStrictlySortedBy bytes_cmp ps
 unfolding IsStrictlySortedBy
 strictly_from [] up = tt
@@ -91,7 +91,7 @@ ascending_from [] h = refl
 ascending_from (p ∷ []) h = refl
 ascending_from (p ∷ q ∷ ps) h = and_from _ _ (ap is_lt h.0.0) (ascending_from (q ∷ ps) h.1)
 
--- the paths of a set ascend
+-- the items of a set ascend
 pub items_ascend : (paths : Paths) → are_ascending (set.items paths) ≡ true
 items_ascend paths = ascending_from (set.items paths) (sorted-items paths)
 
@@ -104,14 +104,14 @@ list_any-filter q test (path ∷ paths) = step (list_any-filter q test paths) (e
     and_false false = refl
 
     step : list_any (eq_by_cmp bytes_cmp q) (filter test paths) ≡ (list_any (eq_by_cmp bytes_cmp q) paths && test q) → (e t : Bool) → eq_by_cmp bytes_cmp q path ≡ e → test path ≡ t → list_any (eq_by_cmp bytes_cmp q) (cond t (path ∷ filter test paths) (filter test paths)) ≡ ((e || list_any (eq_by_cmp bytes_cmp q) paths) && test q)
-    step rest true true tied passes = or_left (eq_by_cmp bytes_cmp q path) _ tied ∙ sym (ap test (tied_is q path tied) ∙ passes)
+    step rest true true tied accepts = or_left (eq_by_cmp bytes_cmp q path) _ tied ∙ sym (ap test (tied_is q path tied) ∙ accepts)
     step rest true false tied fails =
         let fails_q : test q ≡ false = ap test (tied_is q path tied) ∙ fails in
         rest ∙ ap (λ b. list_any (eq_by_cmp bytes_cmp q) paths && b) fails_q ∙ and_false (list_any (eq_by_cmp bytes_cmp q) paths) ∙ sym fails_q
-    step rest false true apart passes = ap (λ b. b || list_any (eq_by_cmp bytes_cmp q) (filter test paths)) apart ∙ rest
+    step rest false true apart accepts = ap (λ b. b || list_any (eq_by_cmp bytes_cmp q) (filter test paths)) apart ∙ rest
     step rest false false apart fails = rest
 
--- the items that pass are those of the set that is left
+-- the items that satisfy the test are those of the retained set
 pub filter-items : (paths : Paths) (test : List ℕ → Bool) → filter test (set.items paths) ≡ set.items (set.retain paths test)
 filter-items paths test =
     let strict = IsStrictlySortedBy-filter bytes_cmp test (set.items paths) (sorted-items paths) in
@@ -122,7 +122,7 @@ filter-items paths test =
     ∙ ap (λ b. b && test q) (sym (map'.contains_key-keys paths q))
     ∙ sym (contains_retained paths test q)))
 
--- ---- texts in order, each once
+-- ---- sorted and distinct texts
 
 abbrev Text : Type 0
 Text = Bor (List ℕ)
@@ -170,8 +170,8 @@ ordered_items lent sorted ordered moved rising left =
     ∙ sym (list_any-map (λ (text : Text). text.now) (eq_by_cmp bytes_cmp q) lent)
     ∙ sym (contains-from_list (texts lent) q)))
 
--- ---- what is kept
+-- ---- the least paths
 
--- the least of the paths, where the items of their set are these
+-- the least paths of a list are those of its set
 pub filter-least : (paths : Paths) (items : List (List ℕ)) → items ≡ set.items paths → filter (is_alone items) items ≡ set.items (least paths)
 filter-least paths items e = ap (λ xs. filter (is_alone xs) xs) e ∙ filter-items paths (is_alone (set.items paths))

@@ -1,31 +1,31 @@
--- Worked rows of walks, by computation.
+-- Examples of walks, by computation.
 use Rattle.std.proofs.Common.{◌≡◌, true, false, [], ◌∷◌, Some, None, refl}
 use Rattle.cs_tree.specs.NamesAscending.{are_ascending}
 use Rattle.std.specs.Prelude.{codes}
-use Rattle.cs_tree.specs.Reached.{is_left_out}
+use Rattle.cs_tree.specs.Reachability.{is_excluded}
 use Rattle.cs_tree.specs.Snapshot.{folder, cut, other, bad, missing}
-use Rattle.cs_tree.specs.Walks.{trouble_at, is_file, is_among, fault_among, are_alone, failures_walked}
-use Rattle.cs_tree.specs.Visits.{times_covered, times_left}
+use Rattle.cs_tree.specs.Walks.{path_fault, is_file, is_among, fault_among, are_alone, failures_walked}
+use Rattle.cs_tree.specs.WalkSteps.{times_covered, fault_count}
 use Rattle.cs_tree.specs.declared.fault.TreeFault.TheVariants.{Missing, Denied}
 use Rattle.cs_tree.specs.declared.walking.WalkFault.TheVariants.{Tree, Unnamed, TooLong}
 
-a_dot_in_front_is_left_out : is_left_out (codes ".a") ≡ true
-a_dot_in_front_is_left_out = refl
+a_leading_dot_is_excluded : is_excluded (codes ".a") ≡ true
+a_leading_dot_is_excluded = refl
 
-a_tilde_at_the_end_is_left_out : is_left_out (codes "d~") ≡ true
-a_tilde_at_the_end_is_left_out = refl
+a_trailing_tilde_is_excluded : is_excluded (codes "d~") ≡ true
+a_trailing_tilde_is_excluded = refl
 
-a_tilde_within_is_not_left_out : is_left_out (codes "d~e") ≡ false
-a_tilde_within_is_not_left_out = refl
+an_inner_tilde_is_not_excluded : is_excluded (codes "d~e") ≡ false
+an_inner_tilde_is_not_excluded = refl
 
-a_missing_path_is_left : trouble_at (codes "/v") (bad missing) ≡ Some (Tree Missing)
-a_missing_path_is_left = refl
+a_missing_path_has_a_fault : path_fault (codes "/v") (bad missing) ≡ Some (Tree Missing)
+a_missing_path_has_a_fault = refl
 
-a_folder_with_a_name_that_is_no_text_is_left : trouble_at (codes "/t") (folder (codes "a" ∷ []) true) ≡ Some Unnamed
-a_folder_with_a_name_that_is_no_text_is_left = refl
+a_folder_with_a_non_text_name_has_a_fault : path_fault (codes "/t") (folder (codes "a" ∷ []) true) ≡ Some Unnamed
+a_folder_with_a_non_text_name_has_a_fault = refl
 
-a_link_is_no_trouble : trouble_at (codes "/t/o") other ≡ None
-a_link_is_no_trouble = refl
+a_link_has_no_fault : path_fault (codes "/t/o") other ≡ None
+a_link_has_no_fault = refl
 
 a_link_is_no_file : is_file other ≡ false
 a_link_is_no_file = refl
@@ -66,5 +66,5 @@ a_path_that_stands_twice_is_not_alone = refl
 a_name_is_covered_twice : times_covered (codes "/" ∷ codes "/b" ∷ codes "/a" ∷ []) (codes "/a/c") ≡ 2
 a_name_is_covered_twice = refl
 
-a_path_is_left_twice : times_left ((codes "/a", TooLong) ∷ (codes "/b", Unnamed) ∷ (codes "/a", Unnamed) ∷ []) (codes "/a") ≡ 2
-a_path_is_left_twice = refl
+a_path_has_two_faults : fault_count ((codes "/a", TooLong) ∷ (codes "/b", Unnamed) ∷ (codes "/a", Unnamed) ∷ []) (codes "/a") ≡ 2
+a_path_has_two_faults = refl

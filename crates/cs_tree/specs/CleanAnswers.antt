@@ -1,11 +1,11 @@
--- What cleaning answers.
+-- The answers of `clean`.
 use Rattle.std.specs.Prelude.{◌≡◌, ◌⊎◌, Option, Some, None, Result, Ok, Err, String}
 use Rattle.cs_tree.specs.declared.cleaning.PathFault.{PathFault}
 use Rattle.cs_tree.specs.declared.cleaning.PathFault.TheVariants.{TooLong, Memory}
 use Rattle.std.specs.declared.alloc.Global.{Global}
 
--- The answer is that of the first test that fails, but that memory may run out before a path is known to
--- be too long. Where no test fails, it is refused at most for memory.
+-- The error is that of the first failed test, or an allocation failure, which may come before the length test. If no
+-- test fails, the only error is an allocation failure.
 abbrev pub CleanAnswers : Option PathFault → Result (String Global) PathFault → Type 0
 CleanAnswers (Some TooLong) answer = (answer ≡ Err TooLong) ⊎ (answer ≡ Err Memory)
 CleanAnswers (Some fault) answer = answer ≡ Err fault

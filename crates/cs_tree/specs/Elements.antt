@@ -3,7 +3,7 @@ use Rattle.std.specs.Prelude.{ℕ, Bool, true, not, ◌&&◌, nat_eq, List, [], 
 use Rattle.std.specs.Path.{slash}
 use Rattle.std.specs.List.{list_any, list_all}
 
--- whether the name is one of the names
+-- whether the name is in the list
 abbrev pub is_among : List (List ℕ) → List ℕ → Bool
 is_among names name = list_any (λ one. bytes_eq one name) names
 
@@ -18,6 +18,6 @@ abbrev pub are_distinct : List (List ℕ) → Bool
 are_distinct [] = true
 are_distinct (name ∷ names) = not (is_among names name) && are_distinct names
 
--- whether a folder may list these
+-- whether a folder may list these names
 abbrev pub are_elements : List (List ℕ) → Bool
 are_elements names = list_all is_element names && are_distinct names

@@ -1,10 +1,9 @@
--- The order of names and paths: by their bytes.
+-- The order of names and paths: lexicographic, by bytes.
 -- docs/FORMAT.md, "Paths and names".
 use Rattle.std.specs.Prelude.{ℕ, List}
 use Rattle.std.specs.declared.cmp.Ordering.{Ordering}
 use Rattle.std.specs.Ordering.{nat_cmp}
 use Rattle.std.specs.Cmp.Lexicographic.{slice_cmp}
 
--- the order of names, by their bytes
 abbrev pub bytes_cmp : List ℕ → List ℕ → Ordering
 bytes_cmp = slice_cmp nat_cmp

@@ -1,10 +1,10 @@
--- Names in ascending order.
+-- Strictly ascending lists of names.
 -- docs/FORMAT.md, "Paths and names".
 use Rattle.std.specs.Prelude.{ℕ, Bool, true, ◌&&◌, List, [], ◌∷◌}
 use Rattle.std.specs.Ordering.{is_lt}
 use Rattle.cs_tree.specs.NameOrder.{bytes_cmp}
 
--- each name is below the next one
+-- each name is less than the next one
 abbrev pub are_ascending : List (List ℕ) → Bool
 are_ascending [] = true
 are_ascending (a ∷ []) = true

@@ -1,25 +1,37 @@
--- What reading a whole source gives, up to a limit. docs/PROMISES.md, "Sources and sinks".
-use Rattle.std.specs.Prelude.{◌≡◌, ℕ, ◌+◌, ◌≤◌, List, length, Option, Some, None, Result, MatchResult, Vec}
+-- Reads of a whole source up to a limit, and of a part of a store. docs/PROMISES.md, "Sources and sinks".
+use Rattle.std.specs.Prelude.{◌≡◌, ℕ, ◌+◌, ◌≤◌, List, length, take, Option, Some, None, IfSome, IfOk, Result, MatchResult, Vec}
 use Rattle.std.specs.Result.{result_map_both}
 use Rattle.std.specs.declared.alloc.Global.{Global}
 use Rattle.cs_tree.specs.declared.fault.IoFault.{IoFault}
 use Rattle.cs_tree.specs.declared.fault.IoFault.TheVariants.{Failed, Memory}
-use Rattle.cs_tree.specs.Told.{Told, ends, fails}
-use Rattle.cs_tree.specs.Loss.{LosesAtMost}
-use Rattle.cs_tree.specs.Transfers.{Loses, IsAt}
+use Rattle.cs_tree.specs.StreamModels.{SourceModel, ends, fails}
+use Rattle.cs_tree.specs.ConsumesAtMost.{ConsumesAtMost}
+use Rattle.cs_tree.specs.Store.{part_of}
+use Rattle.cs_tree.specs.Transfers.{Consumes, IsAt}
 
--- a reading up to a limit has failed only where the bytes are within the limit, and failure follows them
-abbrev pub FailsWithin : ℕ → IoFault → Option Told → Type 0
+-- reading up to a limit fails only if the bytes are within the limit and a failure follows them
+abbrev pub FailsWithin : ℕ → IoFault → Option SourceModel → Type 0
 FailsWithin limit fault None = Unit {0}
-FailsWithin limit Memory (Some told) = Unit {0}
-FailsWithin limit Failed (Some told) = (length told.bytes ≤ limit) × (told.ending ≡ fails)
+FailsWithin limit Memory (Some model) = Unit {0}
+FailsWithin limit Failed (Some model) = (length model.bytes ≤ limit) × (model.ending ≡ fails)
 
--- All bytes up to the limit are read, and one more where there are more.
-abbrev pub ReadGivesAll : Option Told → Option Told → ℕ → Result (List ℕ) IoFault → Type 0
-ReadGivesAll told later limit answer =
-    MatchResult answer (λ bytes. Loses told later bytes × (length bytes ≤ limit → IsAt ends later))
-    (λ fault. LosesAtMost (limit + 1) told later × FailsWithin limit fault told)
+-- All bytes up to the limit are read, and one more if there are more.
+abbrev pub ReadGivesAll : Option SourceModel → Option SourceModel → ℕ → Result (List ℕ) IoFault → Type 0
+ReadGivesAll model later limit answer =
+    MatchResult answer (λ bytes. Consumes model later bytes × (length bytes ≤ limit → IsAt ends later))
+    (λ fault. ConsumesAtMost (limit + 1) model later × FailsWithin limit fault model)
 
--- the answer, with a vector as the list of its items
+-- the result, with the vector as the list of its items
 abbrev pub items_of : Result (Vec ℕ Global) IoFault → Result (List ℕ) IoFault
 items_of answer = result_map_both (λ v. v.items) (λ fault. fault) answer
+
+-- ---- stores
+
+-- The start of the buffer has all bytes at the offset, as far as they fit.
+abbrev pub FillShows : Option (List ℕ) → ℕ → Result ℕ IoFault → List ℕ → Type 0
+FillShows model at answer buf =
+    IfSome model (λ bytes. IfOk answer (λ n. take n buf ≡ part_of bytes at (length buf)))
+
+-- The part is that of the store's bytes.
+abbrev pub PartShows : Option (List ℕ) → ℕ → ℕ → Result (List ℕ) IoFault → Type 0
+PartShows model at n answer = IfSome model (λ bytes. IfOk answer (λ part. part ≡ part_of bytes at n))

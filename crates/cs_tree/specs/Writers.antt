@@ -1,4 +1,4 @@
--- The reader of std below a source, and the writer below a sink.
+-- The std reader inside a source, and the std writer inside a sink.
 use Rattle.cs_tree.specs.declared.std_io.StdSink.{StdSink}
 use Rattle.cs_tree.specs.declared.std_io.StdSource.{StdSource}
 

@@ -1,4 +1,5 @@
-// What a path is among paths that ascend: what covers it is searched among its fronts.
+// Coverage tests against an ascending list of paths, by binary search for each ancestor of the
+// path.
 ghost use Rattle.std.specs.Prelude.{◌≡◌, ◌∷◌, [], true, ◌&&◌, not, map, bytes_eq};
 ghost use Rattle.std.specs.Path.{slash};
 ghost use Rattle.std.specs.List.{list_any};
@@ -9,7 +10,7 @@ ghost use Rattle.cs_tree.specs.Cover.{is_ancestor, is_alone as is_alone', is_amo
 use crate::paths::is_absolute;
 use std::convert::AsStr;
 
-/// Whether no other one of the paths, which ascend, covers the path. Takes no memory.
+/// Whether no other path of the ascending list covers this path. Allocates nothing.
 pub fn is_alone<P: AsStr>(paths: &[P], path: &str) -> bool
     requires { are_ascending (map P.text paths.now) ≡ true }
     ensures { result ≡ is_alone' (map P.text paths.now) path.now }
@@ -23,7 +24,7 @@ pub fn is_alone<P: AsStr>(paths: &[P], path: &str) -> bool
     true
 }
 
-/// Whether some of the paths, which ascend, covers the name. Takes no memory.
+/// Whether a path of the ascending list covers the name. Allocates nothing.
 pub fn is_covered<P: AsStr>(paths: &[P], name: &str) -> bool
     requires { are_ascending (map P.text paths.now) ≡ true }
     ensures { result ≡ is_covered' (set.from_list (map P.text paths.now)) name.now }
@@ -37,30 +38,30 @@ pub fn is_covered<P: AsStr>(paths: &[P], name: &str) -> bool
     is_absolute(name) && is_listed(paths, "/")
 }
 
-/// Whether the path begins with a slash and goes on.
+/// Whether the path is absolute and not the root.
 fn is_below_root(path: &str) -> bool
     ensures { result ≡ (is_absolute' path.now && not (bytes_eq path.now (slash ∷ []))) }
 {
     is_absolute(path) && path != "/"
 }
 
-/// Whether the path goes on by a slash after one of the paths.
+/// Whether a path of the list is an ancestor of this path.
 fn is_below_one<P: AsStr>(paths: &[P], path: &str) -> bool
     requires { are_ascending (map P.text paths.now) ≡ true }
     ensures { result ≡ list_any (λ above. is_ancestor above path.now) (map P.text paths.now) }
 {
-    // Paths between a path and the one that covers it may be others: `/a`, `/a-b`, `/a/b`.
+    // The list may have other paths between a path and its ancestor, as in `/a`, `/a-b`, `/a/b`.
     let mut rest = path;
-    'fronts: while let Some((front, _name)) = rest.rsplit_once('/') {
-        if is_listed(paths, front) {
+    'ancestors: while let Some((prefix, _name)) = rest.rsplit_once('/') {
+        if is_listed(paths, prefix) {
             return true;
         }
-        rest = front;
+        rest = prefix;
     }
     false
 }
 
-/// Whether the path is one of the paths.
+/// Whether the path is in the list.
 fn is_listed<P: AsStr>(paths: &[P], path: &str) -> bool
     requires { are_ascending (map P.text paths.now) ≡ true }
     ensures { result ≡ is_among (map P.text paths.now) path.now }

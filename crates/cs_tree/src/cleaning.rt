@@ -1,9 +1,10 @@
-// Paths made absolute and clean.
+// Absolute, clean paths. Cleaning is purely lexical, like Go's `path.Clean`.
 ghost use Rattle.std.specs.Prelude.{◌≡◌, ◌≤◌, ◌↔◌, ◌||◌, true, false, IsTrue, reverse, map, string_bytes, length, vec_len, OnOk, OnErr, IfOk};
 ghost use Rattle.cs_tree.specs.CleanAnswers.{CleanAnswers};
 ghost use Rattle.cs_tree.specs.Cover.{is_absolute as is_absolute'};
-ghost use Rattle.cs_tree.specs.Clean.{absolute, clean_path, elements, with_element, steps, path_of, longest_path, has_nul as has_nul'};
-ghost use Rattle.cs_tree.specs.Cleaning.{clean_fault, is_settled as is_settled'};
+ghost use Rattle.std.specs.List.{fold};
+ghost use Rattle.cs_tree.specs.Clean.{absolute, clean_path, elements, with_element, path_of, longest_path, has_nul as has_nul'};
+ghost use Rattle.cs_tree.specs.Cleaning.{clean_fault, is_normalized as is_normalized'};
 ghost use Rattle.cs_tree.specs.PathParts.{parts_fault, parts_path, texts};
 ghost use Rattle.cs_tree.specs.declared.cleaning.PathFault.TheVariants as path;
 
@@ -11,13 +12,13 @@ use crate::paths::{has_nul, is_absolute, is_clean};
 use std::alloc::{AllocError, AllocFailed, Global};
 use thiserror::Error;
 
-/// The longest path that is looked at, in bytes.
+/// The longest path, in bytes.
 pub const LONGEST_PATH: usize = 4095;
 
-/// Why a path can't be cleaned.
+/// Why a path cannot be cleaned.
 #[derive(Clone, Copy, Debug, PartialEq, Eq, Error)]
 pub enum PathFault {
-    /// The path has no byte.
+    /// The path is empty.
     #[error("the path is empty")]
     Empty,
     /// The path has a NUL, or the folder that it is joined to has one.
@@ -26,7 +27,7 @@ pub enum PathFault {
     /// The cleaned path has more than 4095 bytes.
     #[error("the path is too long")]
     TooLong,
-    /// A growth was refused.
+    /// An allocation failed.
     #[error("out of memory")]
     Memory,
 }
@@ -39,8 +40,9 @@ impl From<AllocError> for PathFault {
     }
 }
 
-/// The path made absolute and clean by its text: joined to the folder unless it begins with `/`,
-/// without empty elements and `.`, and without `..` and the element before it.
+/// The absolute, clean form of a path: the path is joined to the folder unless it begins with `/`;
+/// empty elements and `.` are removed, and `..` removes the element before it. So `clean("/w",
+/// "a/../c/")` is `/w/c`.
 pub fn clean(alloc: Global, folder: &str, text: &str) -> Result<String, PathFault>
     requires { is_absolute' folder.now ≡ true }
     ensures ok { IfOk result (λ path. string_bytes path ≡ clean_path folder.now text.now) }
@@ -55,7 +57,7 @@ pub fn clean(alloc: Global, folder: &str, text: &str) -> Result<String, PathFaul
     clean_parts(alloc, folder, text)
 }
 
-/// The path of the elements of two texts, if neither has a NUL and it is short enough.
+/// The path made of the elements of both texts, unless one has a NUL or the result is too long.
 fn clean_parts(alloc: Global, folder: &str, text: &str) -> Result<String, PathFault>
     ensures ok { IfOk result (λ path. string_bytes path ≡ parts_path folder.now text.now) }
     ensures answer { CleanAnswers (parts_fault folder.now text.now) result }
@@ -70,7 +72,7 @@ fn clean_parts(alloc: Global, folder: &str, text: &str) -> Result<String, PathFa
     Ok(path)
 }
 
-/// The path of the elements of two texts.
+/// The path made of the elements of both texts.
 fn clean_path(alloc: Global, folder: &str, text: &str) -> Result<String, AllocError>
     ensures { IfOk result (λ path. string_bytes path ≡ parts_path folder.now text.now) }
 {
@@ -80,10 +82,10 @@ fn clean_path(alloc: Global, folder: &str, text: &str) -> Result<String, AllocEr
     path_from(alloc, &above)
 }
 
-/// Goes on by each element of a text.
+/// Adds each element of a text.
 fn step_all<'a>(above: &mut Vec<&'a str>, text: &'a str) -> Result<(), AllocError>
     ensures { OnOk result (reverse (texts above.new.items)
-        ≡ steps (reverse (texts above.old.items)) (elements text.now)) }
+        ≡ fold with_element (reverse (texts above.old.items)) (elements text.now)) }
 {
     let mut rest = text;
     'elements: while let Some((element, later)) = rest.split_once('/') {
@@ -93,7 +95,7 @@ fn step_all<'a>(above: &mut Vec<&'a str>, text: &'a str) -> Result<(), AllocErro
     step(above, rest)
 }
 
-/// Goes on by one element.
+/// Adds one element: `..` removes the last one, and an empty element or `.` changes nothing.
 fn step<'a>(above: &mut Vec<&'a str>, element: &'a str) -> Result<(), AllocError>
     ensures { OnOk result (reverse (texts above.new.items)
         ≡ with_element (reverse (texts above.old.items)) element.now) }
@@ -106,7 +108,7 @@ fn step<'a>(above: &mut Vec<&'a str>, element: &'a str) -> Result<(), AllocError
     Ok(())
 }
 
-/// The path of elements.
+/// The absolute path made of these elements.
 fn path_from(alloc: Global, above: &[&str]) -> Result<String, AllocError>
     ensures { IfOk result (λ path. string_bytes path ≡ path_of (reverse (texts above.now))) }
 {
@@ -121,15 +123,16 @@ fn path_from(alloc: Global, above: &[&str]) -> Result<String, AllocError>
     Ok(path)
 }
 
-/// Whether cleaning takes the path and leaves it as it is, from whatever folder. Takes no memory.
-pub fn is_settled(path: &str) -> bool
-    ensures { result ≡ is_settled' path.now }
+/// Whether `clean` accepts the path and returns it unchanged, whatever the folder is. Allocates
+/// nothing.
+pub fn is_normalized(path: &str) -> bool
+    ensures { result ≡ is_normalized' path.now }
 {
-    is_whole(path) && is_clean(path)
+    is_within_limits(path) && is_clean(path)
 }
 
-/// Whether the path has no NUL, and is short enough.
-fn is_whole(path: &str) -> bool
+/// Whether the path has no NUL and at most 4095 bytes.
+fn is_within_limits(path: &str) -> bool
     ensures { IsTrue result ↔ ((has_nul' path.now ≡ false) × (length path.now ≤ longest_path)) }
 {
     !has_nul(path) && path.len() <= LONGEST_PATH

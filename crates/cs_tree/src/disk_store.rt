@@ -1,20 +1,20 @@
-// A file of the real disk, read by position.
+// A file of the real disk, read by offset.
 ghost use Rattle.std.specs.Prelude.{◌≡◌, ◌≢◌, ◌≤◌, ◌↔◌, IfOk, IsOk, Err, length};
 ghost use Rattle.std.specs.Fs.{metadata_len, file_type, IsFile};
 ghost use Rattle.cs_tree.specs.Transfers.{is_io_failure};
 ghost use Rattle.cs_tree.specs.FailureCount.{count_after};
 
-use crate::again::read_at_again;
 use crate::disk_tree::fault_of;
 use crate::fault::{IoFault, TreeFault};
+use crate::retry::retry_read_at;
 use crate::std_io::counted_read;
 use crate::store::Store;
 use std::fs::{Metadata, OpenFile};
 use std::os::unix::fs::FileExt;
 
-/// A file of the disk that was opened once: what takes its name later changes nothing of what is read.
-/// It tells nothing. A file that has shrunk gives fewer bytes than its length says, and each of the
-/// system's errors is `Failed`, but that a read is made again where a signal interrupts it.
+/// An open file of the disk. Later changes of the name do not affect it. It has no model. A file
+/// that has shrunk gives fewer bytes than its length says. Every error of the system is `Failed`,
+/// except that an interrupted read is retried.
 #[derive(Drop)]
 pub struct DiskStore<F: Drop> {
     file: F,
@@ -23,8 +23,8 @@ pub struct DiskStore<F: Drop> {
 }
 
 impl<F: OpenFile + FileExt + Drop> DiskStore<F> {
-    /// Takes an open file, with the length that it has now. What is no regular file, as a pipe, is not
-    /// read by position, and is refused.
+    /// Wraps an open file, with its current length. Returns an error unless it is a regular file,
+    /// since a pipe cannot be read by offset.
     pub fn new(file: F) -> Result<DiskStore<F>, TreeFault>
         ensures { IfOk result (λ store. ⟦<DiskStore<F> as Store>⟧.failed store ≡ 0) }
     {
@@ -67,7 +67,7 @@ impl<F: OpenFile + FileExt + Drop> Store for DiskStore<F> {
             ≡ count_after is_io_failure result (⟦<DiskStore<F> as Store>⟧.failed self.old) }
         ensures no_memory { result ≢ Err IoFault.Memory }
     {
-        let answer = read_at_again(&self.file, buf, at as u64);
+        let answer = retry_read_at(&self.file, buf, at as u64);
         counted_read(&mut self.failed, answer)
     }
 

@@ -7,10 +7,10 @@ ghost use Rattle.cs_tree.specs.Folders.{is_element as is_element', are_elements}
 ghost use Rattle.cs_tree.specs.Trees.{listing_names, IsReadFault, is_tree_failure};
 ghost use Rattle.cs_tree.specs.FailureCount.{count_after};
 
-use crate::again::{gave_up, is_interrupted, read_again};
 use crate::fault::{TreeFault, counted_answer};
 use crate::ordering::order_names;
 use crate::paths::is_element;
+use crate::retry::{gave_up, is_interrupted, retry_read};
 use crate::tree::{Kind, Listing, Tree};
 use std::alloc::Global;
 use std::fs::{DirEntry, Metadata, OpenFile};
@@ -19,9 +19,8 @@ use std::os::unix::fs::MetadataExt;
 use std::rt::Files;
 use std::{fs, io};
 
-/// The real disk, by a runtime. It tells nothing. Paths go to the system as they are, so that one
-/// which does not begin with `/` is taken from the current folder. A call that a signal interrupts is
-/// made again.
+/// The real disk, by a runtime. It has no model. Paths go to the system unchanged, so a relative
+/// path is relative to the current folder. An interrupted call is retried.
 #[derive(Drop)]
 pub struct DiskTree<R: Files + Drop> {
     rt: R,
@@ -31,36 +30,37 @@ pub struct DiskTree<R: Files + Drop> {
     failed: u64,
 }
 
-/// What `open` opens.
+/// What `open` accepts.
 #[derive(Clone, Copy, PartialEq, Eq)]
 enum Opens {
-    /// All but folders, as a pipe or a terminal. It may wait.
+    /// Anything except folders. To open or read a pipe or a terminal may block.
     Anything,
-    /// Regular files alone.
+    /// Only regular files.
     Files,
 }
 
-/// Two names are those of one file where both numbers are the same.
+/// The identity of a file, its device and inode: names with the same identity are links to one
+/// file.
 #[derive(Clone, Copy, PartialEq, Eq)]
 struct FileId {
     device: u64,
     node: u64,
 }
 
-/// What the system shows standard output as.
+/// The path of standard output (Linux).
 const OUTPUT: &str = "/proc/self/fd/1";
 
 impl<R: Files + AllocGlobal + Clone + Drop> DiskTree<R> {
-    /// The disk, of which `open` opens whatever is no folder, and waits at a pipe until it is written
-    /// to. Takes no memory.
+    /// The disk. `open` accepts anything except folders, and blocks on a pipe until it is written
+    /// to. Allocates nothing.
     pub fn new(rt: R) -> DiskTree<R>
         ensures { ⟦<DiskTree<R> as Tree>⟧.failed result ≡ 0 }
     {
         DiskTree::of_kind(rt, Opens::Anything)
     }
 
-    /// The disk, of which `open` opens regular files alone, and links to them. All else is `Failed`,
-    /// and a pipe is not waited for. Takes no memory.
+    /// The disk. `open` accepts regular files and links to them. Everything else is `Failed`, and a
+    /// pipe does not block. Allocates nothing.
     pub fn of_files(rt: R) -> DiskTree<R>
         ensures { ⟦<DiskTree<R> as Tree>⟧.failed result ≡ 0 }
     {
@@ -79,10 +79,11 @@ impl<R: Files + AllocGlobal + Clone + Drop> DiskTree<R> {
         }
     }
 
-    /// From now on `open` refuses the file that standard output goes to, as `Output`, by whichever name. An output
-    /// that is no regular file, as a terminal, is opened; and so is all where the system shows no output. No clause says
-    /// what the system shows, so tests show that the output is left out, and no other file.
-    pub fn leave_output(&mut self)
+    /// From now on `open` returns `Output` for the file that standard output goes to, under any of
+    /// its names. Only a regular file is excluded, so a terminal can still be opened. Nothing is
+    /// excluded if the system does not name the output (no `/proc`). No clause covers this; tests
+    /// show that the output is excluded, and no other file.
+    pub fn exclude_output(&mut self)
         ensures { ⟦<DiskTree<R> as Tree>⟧.failed self.new
             ≡ ⟦<DiskTree<R> as Tree>⟧.failed self.old }
     {
@@ -96,9 +97,9 @@ impl<R: Files + AllocGlobal + Clone + Drop> DiskTree<R> {
 impl<R: Files + AllocGlobal + Clone + Drop> Tree for DiskTree<R> {
     ghost failed = { λ t. t.failed };
 
-    ghost counts_told = { λ _ told. told };
+    ghost counts_modelled = { λ _ model. model };
 
-    /// Follows no link.
+    /// Does not follow a symbolic link.
     fn kind(&mut self, path: &str) -> Result<Kind, TreeFault> {
         let answer = match fs::symlink_metadata(&self.rt, path) {
             Ok(metadata) => Ok(kind_of(&metadata)),
@@ -115,7 +116,7 @@ impl<R: Files + AllocGlobal + Clone + Drop> Tree for DiskTree<R> {
         counted_answer(&mut self.failed, answer)
     }
 
-    /// Follows links.
+    /// Follows symbolic links.
     fn open(&mut self, path: &str) -> Result<(), TreeFault> {
         self.opened = None;
         match open_file(&self.rt, self.opens, self.output, path) {
@@ -165,7 +166,7 @@ fn id_of(metadata: &Metadata) -> FileId {
     }
 }
 
-/// The system's errors as faults of a tree.
+/// Maps errors of the system to errors of a tree.
 pub(crate) fn fault_of(kind: ErrorKind) -> TreeFault {
     match kind {
         ErrorKind::NotFound | ErrorKind::NotADirectory => TreeFault::Missing,
@@ -175,14 +176,14 @@ pub(crate) fn fault_of(kind: ErrorKind) -> TreeFault {
     }
 }
 
-/// What a folder lists. Where a signal interrupts it, the folder is read again from its start.
+/// The entries of a folder. After an interrupted call the folder is read again from its start.
 fn list_folder<R: Files + AllocGlobal + Clone + Drop>(
     alloc: Global,
     rt: &R,
     path: &str,
 ) -> io::Result<Listing>
     ensures names { IfOk result (λ listing. are_elements (listing_names listing) ≡ true) }
-    ensures again { IfErr result (λ error. error_kind error ≢ ErrorKind.Interrupted) }
+    ensures retried { IfErr result (λ error. error_kind error ≢ ErrorKind.Interrupted) }
 {
     'tries: for _ in 0..u64::MAX {
         match list_once(alloc, rt, path) {
@@ -207,12 +208,12 @@ fn list_once<R: Files + AllocGlobal + Clone + Drop>(
     'entries: for entry in fs::read_dir(rt, path)? {
         list_entry(alloc, &mut listing, entry)?;
     }
-    // A folder that changes while it is read may give a name twice.
+    // A folder that changes during the read may list a name twice.
     order_names(&mut listing.names);
     Ok(listing)
 }
 
-/// Lists one more entry, whose name may be none.
+/// Adds one entry to the listing. An entry whose name is not text only sets `unnamed`.
 fn list_entry<R: Files + AllocGlobal + Clone + Drop>(
     alloc: Global,
     listing: &mut Listing,
@@ -235,9 +236,9 @@ fn list_entry<R: Files + AllocGlobal + Clone + Drop>(
     Ok(())
 }
 
-/// Opens what stands at a path, unless it is the output, a folder, or no regular file where these are opened alone.
-/// Whether it is one of these is asked before it is opened, so that a pipe is not waited for; what becomes a folder
-/// meanwhile is open, and cannot be read.
+/// Opens a path, unless it is the output or a folder. With `Opens::Files` it opens only regular
+/// files, and looks the path up before it opens it, so that a pipe does not block. If the file
+/// becomes a folder in between, the open succeeds and the reads fail.
 fn open_file<R: Files + Drop>(
     rt: &R,
     opens: Opens,
@@ -257,7 +258,7 @@ fn open_file<R: Files + Drop>(
     Ok(file)
 }
 
-/// Refuses what is not opened.
+/// Returns an error for a file that must not be opened.
 fn is_opened(
     metadata: io::Result<Metadata>,
     opens: Opens,
@@ -272,13 +273,13 @@ fn is_opened(
     }
 }
 
-/// A read that is refused has failed, whatever the system's error says, unless memory ran out.
+/// Reads some bytes. Every error of the system is `Failed`, except `Memory` if it is out of memory.
 fn read_some<F: Read>(file: &mut F, buf: &mut [u8]) -> Result<usize, TreeFault>
     ensures within { IfOk result (λ n. n ≤ length buf.new) }
     ensures fault { IfErr result IsReadFault }
     ensures bytes { ReadConsumes (F.remaining file.old) (F.remaining file.new) result buf.new }
 {
-    match read_again(file, buf) {
+    match retry_read(file, buf) {
         Ok(n) => Ok(n),
         Err(error) if error.kind() == ErrorKind::OutOfMemory => Err(TreeFault::Memory),
         Err(_) => Err(TreeFault::Failed),

@@ -1,17 +1,17 @@
-// A tree of which one call fails.
+// Fault injection for tests: a tree in which one call fails.
 ghost use Rattle.std.specs.Prelude.{◌≡◌, ◌≢◌, ◌≤◌, ◌-◌, ℕ, Option, None, IfOk, IfErr, Ok, Err, length, true, nat_eq, option_map};
 ghost use Rattle.cs_tree.specs.FailureCount.{count_after};
 ghost use Rattle.cs_tree.specs.Folders.{are_elements};
 ghost use Rattle.cs_tree.specs.Fuses.{Blows, KeepsInner, KeepsInnerOpen, calls_left, inner_tree};
 ghost use Rattle.cs_tree.specs.ReadCounts.{after_open, after_read};
-ghost use Rattle.cs_tree.specs.Trees.{Answers, AsksPath, OpensFile, TreeReadGives, IsReadFault, is_tree_failure, kind_of, listing_of, listing_value, listing_names};
+ghost use Rattle.cs_tree.specs.Trees.{Answers, RequestsPath, OpensFile, TreeReadGives, IsReadFault, is_tree_failure, kind_of, listing_of, listing_value, listing_names};
 
 use crate::fault::{TreeFault, counted_answer};
 use crate::tree::{Kind, Listing, Tree};
 use std::alloc::Global;
 
-/// A tree that passes its calls on to another one, but for one that fails. It tells nothing, and each call
-/// leaves of the other one what that one's own call leaves.
+/// A tree that forwards its calls to another one, except for one call, which fails. It has no
+/// model; its clauses say what each call does to the inner tree.
 #[derive(Drop)]
 pub struct FuseTree<T: Drop> {
     inner: T,
@@ -20,8 +20,8 @@ pub struct FuseTree<T: Drop> {
 }
 
 impl<T: Tree + Drop> FuseTree<T> {
-    /// The `k`th call answers `Failed`, counted from 1 over `kind`, `entries`, `open` and `read`, and never
-    /// reaches the tree. With 0 none does. Takes no memory.
+    /// The `k`th call returns `Failed` without reaching the inner tree. Calls of `kind`, `entries`,
+    /// `open` and `read` are counted, from 1. With 0 every call is forwarded. Allocates nothing.
     pub fn new(inner: T, k: u64) -> FuseTree<T>
         ensures left { calls_left result ≡ k }
         ensures inner { inner_tree result ≡ inner }
@@ -34,7 +34,7 @@ impl<T: Tree + Drop> FuseTree<T> {
         }
     }
 
-    /// Counts one more call. Whether it is the one that fails.
+    /// Counts one call, and returns whether it is the one that fails.
     fn blows(&mut self) -> bool
         ensures blows { result ≡ nat_eq (calls_left self.old) 1 }
         ensures left { calls_left self.new ≡ calls_left self.old - 1 }
@@ -50,15 +50,16 @@ impl<T: Tree + Drop> FuseTree<T> {
 impl<T: Tree + Drop> Tree for FuseTree<T> {
     ghost failed = { λ t. t.failed };
 
-    ghost counts_told = { λ _ told. told };
+    ghost counts_modelled = { λ _ model. model };
 
     fn kind(&mut self, path: &str) -> Result<Kind, TreeFault>
         ensures blows { Blows self.old self.new result
             (Answers (λ kind. kind) (T.snapshot (inner_tree self.old)) kind_of path.now result) }
         ensures keeps { KeepsInner T.snapshot self.old self.new }
         ensures open { KeepsInnerOpen T.snapshot T.opened self.old self.new }
-        ensures asked { calls_left self.old ≢ 1 → AsksPath (T.longest_asked (inner_tree self.old))
-            (T.longest_asked (inner_tree self.new)) path.now }
+        ensures requested { calls_left self.old ≢ 1 → RequestsPath
+            (T.longest_requested (inner_tree self.old))
+            (T.longest_requested (inner_tree self.new)) path.now }
         ensures counts { KeepsInner T.read_counts self.old self.new }
         ensures counted { calls_left self.old ≢ 1 → T.failed (inner_tree self.new)
             ≡ count_after is_tree_failure result (T.failed (inner_tree self.old)) }
@@ -80,8 +81,9 @@ impl<T: Tree + Drop> Tree for FuseTree<T> {
         ensures names { IfOk result (λ listing. are_elements (listing_names listing) ≡ true) }
         ensures keeps { KeepsInner T.snapshot self.old self.new }
         ensures open { KeepsInnerOpen T.snapshot T.opened self.old self.new }
-        ensures asked { calls_left self.old ≢ 1 → AsksPath (T.longest_asked (inner_tree self.old))
-            (T.longest_asked (inner_tree self.new)) path.now }
+        ensures requested { calls_left self.old ≢ 1 → RequestsPath
+            (T.longest_requested (inner_tree self.old))
+            (T.longest_requested (inner_tree self.new)) path.now }
         ensures counts { KeepsInner T.read_counts self.old self.new }
         ensures counted { calls_left self.old ≢ 1 → T.failed (inner_tree self.new)
             ≡ count_after is_tree_failure result (T.failed (inner_tree self.old)) }
@@ -102,8 +104,9 @@ impl<T: Tree + Drop> Tree for FuseTree<T> {
             (OpensFile (T.snapshot (inner_tree self.old)) path.now result
             (T.opened (inner_tree self.new))) }
         ensures keeps { KeepsInner T.snapshot self.old self.new }
-        ensures asked { calls_left self.old ≢ 1 → AsksPath (T.longest_asked (inner_tree self.old))
-            (T.longest_asked (inner_tree self.new)) path.now }
+        ensures requested { calls_left self.old ≢ 1 → RequestsPath
+            (T.longest_requested (inner_tree self.old))
+            (T.longest_requested (inner_tree self.new)) path.now }
         ensures counts { calls_left self.old ≢ 1 → T.read_counts (inner_tree self.new)
             ≡ option_map after_open (T.read_counts (inner_tree self.old)) }
         ensures counted { calls_left self.old ≢ 1 → T.failed (inner_tree self.new)
@@ -127,7 +130,7 @@ impl<T: Tree + Drop> Tree for FuseTree<T> {
             (TreeReadGives (T.snapshot (inner_tree self.old))
             (T.opened (inner_tree self.old)) (T.opened (inner_tree self.new)) result buf.new) }
         ensures keeps { KeepsInner T.snapshot self.old self.new }
-        ensures asked { KeepsInner T.longest_asked self.old self.new }
+        ensures requested { KeepsInner T.longest_requested self.old self.new }
         ensures counts { calls_left self.old ≢ 1 → T.read_counts (inner_tree self.new)
             ≡ option_map (after_read result) (T.read_counts (inner_tree self.old)) }
         ensures counted { calls_left self.old ≢ 1 → T.failed (inner_tree self.new)

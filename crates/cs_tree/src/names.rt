@@ -1,18 +1,18 @@
-// The names that a folder in memory lists.
+// The names in a folder of a tree in memory.
 ghost use Rattle.std.specs.Prelude.{◌≡◌, ◌++◌, [], true, not, map, filter, string_bytes, length, nat_eq, OnOk, OnErr, IfOk, if◌then◌else◌, bytes_eq};
 ghost use Rattle.cs_tree.specs.Folders.{is_element};
 ghost use Rattle.std.specs.List.{list_any};
 ghost use Rattle.cs_tree.specs.Cover.{is_absolute};
 ghost use Rattle.cs_tree.specs.Changes.{names_with, names_left};
-ghost use Rattle.cs_tree.specs.MemoryItems.{stored_names};
+ghost use Rattle.cs_tree.specs.MemTrees.{mem_names};
 
-use crate::in_memory::Names;
+use crate::mem_types::Names;
 use crate::paths::{covers, is_child};
 use std::alloc::{AllocError, Global};
 
 impl Names {
     pub(crate) fn new(alloc: Global) -> Names
-        ensures { stored_names result ≡ [] }
+        ensures { mem_names result ≡ [] }
     {
         Names {
             list: Vec::new(alloc),
@@ -20,7 +20,7 @@ impl Names {
     }
 
     pub(crate) fn is_empty(&self) -> bool
-        ensures { result ≡ nat_eq (length (stored_names self.now)) 0 }
+        ensures { result ≡ nat_eq (length (mem_names self.now)) 0 }
     {
         self.list.is_empty()
     }
@@ -32,12 +32,12 @@ impl Names {
         self.list.iter().any(|listed| listed.as_str() == name)
     }
 
-    /// Lists the name, unless it does already.
+    /// Adds the name, unless the folder has it.
     pub(crate) fn add(&mut self, alloc: Global, name: &str) -> Result<(), AllocError>
         requires { is_element name.now ≡ true }
-        ensures ok { OnOk result (stored_names self.new
-            ≡ names_with name.now (stored_names self.old)) }
-        ensures err { OnErr result (stored_names self.new ≡ stored_names self.old) }
+        ensures ok { OnOk result (mem_names self.new
+            ≡ names_with name.now (mem_names self.old)) }
+        ensures err { OnErr result (mem_names self.new ≡ mem_names self.old) }
     {
         if self.lists(name) {
             return Ok(());
@@ -47,11 +47,11 @@ impl Names {
         Ok(())
     }
 
-    /// Takes away each name under which the folder lists what the path covers.
+    /// Removes each name whose path the path covers.
     pub(crate) fn remove(&mut self, folder: &str, path: &str)
         requires { is_absolute folder.now ≡ true }
-        ensures { stored_names self.new
-            ≡ names_left path.now folder.now (stored_names self.old) }
+        ensures { mem_names self.new
+            ≡ names_left path.now folder.now (mem_names self.old) }
     {
         if covers(path, folder) {
             self.list.clear();
@@ -61,9 +61,9 @@ impl Names {
         }
     }
 
-    /// The names, in their order.
+    /// A copy of the names, in their order.
     pub(crate) fn copy(&self, alloc: Global) -> Result<Vec<String>, AllocError>
-        ensures { IfOk result (λ names. map string_bytes names.items ≡ stored_names self.now) }
+        ensures { IfOk result (λ names. map string_bytes names.items ≡ mem_names self.now) }
     {
         let mut names = Vec::new(alloc);
         for name in &self.list {

@@ -1,4 +1,4 @@
-// What a path covers, and the elements of a path.
+// Paths: covering, clean paths, and elements.
 ghost use Rattle.std.specs.Prelude.{◌≡◌, ◌≢◌, ◌++◌, [], true, false, MatchOption, IsTrue, ◌↔◌, List, ℕ, length, ◌<◌, ◌&&◌, not, nat_eq, bytes_eq};
 ghost use Rattle.std.specs.Path.{slash};
 ghost use Rattle.cs_tree.specs.Below.{ends_element as ends_element'};
@@ -9,8 +9,9 @@ ghost use Rattle.cs_tree.specs.Changes.{parent_of};
 ghost use Rattle.cs_tree.specs.Clean.{is_clean as is_clean', has_nul as has_nul'};
 ghost use Rattle.cs_tree.specs.Proper.{is_proper as is_proper', is_proper_path as is_proper_path'};
 
-/// Whether the path covers the name: it is the name, the name lies below it, or it is the root and
-/// the name begins with `/`. Both are compared by their bytes. Takes no memory.
+/// Whether the path covers the name: it is the name, an ancestor of the name, or it is `/` and the
+/// name begins with `/`. The comparison is by bytes, so `/a/b` does not cover `/a/bc`. Allocates
+/// nothing.
 pub fn covers(path: &str, name: &str) -> bool
     ensures { result ≡ covers' path.now name.now }
 {
@@ -20,7 +21,7 @@ pub fn covers(path: &str, name: &str) -> bool
     ends_element(rest) || path == "/"
 }
 
-/// Whether an element ends before the rest: it is empty, or begins with a slash.
+/// Whether an element of a path ends where `rest` begins: `rest` is empty or begins with a slash.
 fn ends_element(rest: &[u8]) -> bool
     ensures { result ≡ ends_element' rest.now }
 {
@@ -30,7 +31,7 @@ fn ends_element(rest: &[u8]) -> bool
     }
 }
 
-/// Whether the path is that of what the folder lists under the name.
+/// Whether the path is that of the folder's child with the name.
 pub(crate) fn is_child(path: &str, folder: &str, name: &str) -> bool
     ensures { result ≡ bytes_eq (child folder.now name.now) path.now }
 {
@@ -43,7 +44,7 @@ pub(crate) fn is_child(path: &str, folder: &str, name: &str) -> bool
     }
 }
 
-/// The path without the folder's text at its front, where the root has none.
+/// The rest of the path after the folder's path. The root counts as the empty text here.
 fn after_folder<'a>(path: &'a str, folder: &str) -> Option<&'a [u8]>
     ensures { MatchOption result
         ((rest : List ℕ) → path.now ≢ stem_of folder.now ++ rest)
@@ -55,22 +56,22 @@ fn after_folder<'a>(path: &'a str, folder: &str) -> Option<&'a [u8]>
     path.as_bytes().strip_prefix(folder.as_bytes())
 }
 
-/// Whether the element is not empty, and neither `.` nor `..`.
+/// Whether the element is not empty, `.` or `..`.
 fn is_proper(element: &str) -> bool
     ensures { result ≡ is_proper' element.now }
 {
     !(element.is_empty() || element == ".") && element != ".."
 }
 
-/// Whether cleaning leaves the path as it is: it is the root, or its elements are proper. Takes no
-/// memory.
+/// Whether cleaning leaves the path unchanged: it is the root, or its elements are proper.
+/// Allocates nothing.
 pub(crate) fn is_clean(path: &str) -> bool
     ensures { result ≡ is_clean' path.now }
 {
     path == "/" || is_proper_path(path)
 }
 
-/// Whether the path begins with a slash, and has proper elements alone after it.
+/// Whether the path is a slash and proper elements after it.
 fn is_proper_path(path: &str) -> bool
     ensures { result ≡ is_proper_path' path.now }
 {
@@ -115,17 +116,17 @@ fn has_slash(text: &str) -> bool
     text.as_bytes().iter().any(|byte| *byte == b'/')
 }
 
-/// The folder that a path stands in, and its name there.
+/// The parent folder of a path, and its last element.
 pub(crate) fn split_name(path: &str) -> Option<(&str, &str)>
     ensures { MatchOption result
         (is_clean' path.now ≡ false)
         (λ parts. (parts.0.now ≡ parent_of path.now) × (parts.1.now ≡ last_element path.now)) }
 {
-    let Some((front, name)) = path.rsplit_once('/') else {
+    let Some((prefix, name)) = path.rsplit_once('/') else {
         return None;
     };
-    if front.is_empty() {
+    if prefix.is_empty() {
         return Some(("/", name));
     }
-    Some((front, name))
+    Some((prefix, name))
 }

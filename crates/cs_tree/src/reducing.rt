@@ -1,4 +1,4 @@
-// Which of some paths are left when those that others cover are taken away.
+// The least paths of a list: those that no other path covers.
 ghost use Rattle.std.specs.Prelude.{◌≡◌, true, map, filter, string_bytes, IfOk};
 ghost use Rattle.cs_tree.specs.NamesAscending.{are_ascending};
 ghost use Rattle.cs_tree.specs.Cover.{is_alone as is_alone'};
@@ -9,8 +9,8 @@ ghost use Rattle.cs_tree.specs.PathSet as set;
 use crate::among::is_alone;
 use std::alloc::{AllocError, Global};
 
-/// The paths that no other one covers, ascending and each once. Any texts are taken, also such as are
-/// not clean.
+/// The paths that no other path of the list covers, ascending and distinct. The paths need not be
+/// clean.
 pub fn reduce(alloc: Global, paths: &[String]) -> Result<Vec<String>, AllocError>
     ensures { IfOk result (λ kept. map string_bytes kept.items
         ≡ least_of (map string_bytes paths.now)) }
@@ -19,7 +19,7 @@ pub fn reduce(alloc: Global, paths: &[String]) -> Result<Vec<String>, AllocError
     paths_alone(alloc, &ordered)
 }
 
-/// The paths ascending, each once.
+/// The paths, sorted and distinct.
 fn in_order(alloc: Global, paths: &[String]) -> Result<Vec<&str>, AllocError>
     ensures { IfOk result (λ ordered. texts ordered.items
         ≡ set.items (set.from_list (map string_bytes paths.now))) }
@@ -30,7 +30,7 @@ fn in_order(alloc: Global, paths: &[String]) -> Result<Vec<&str>, AllocError>
     Ok(ordered)
 }
 
-/// The texts of the paths.
+/// The paths as borrowed texts.
 fn texts_of(alloc: Global, paths: &[String]) -> Result<Vec<&str>, AllocError>
     ensures { IfOk result (λ lent. texts lent.items ≡ map string_bytes paths.now) }
 {
@@ -41,7 +41,7 @@ fn texts_of(alloc: Global, paths: &[String]) -> Result<Vec<&str>, AllocError>
     Ok(lent)
 }
 
-/// Those of the paths that no other one covers.
+/// The paths that no other one covers.
 fn paths_alone(alloc: Global, ordered: &[&str]) -> Result<Vec<String>, AllocError>
     requires { are_ascending (texts ordered.now) ≡ true }
     ensures { IfOk result (λ kept. map string_bytes kept.items

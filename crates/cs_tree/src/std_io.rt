@@ -1,18 +1,19 @@
-// The system's readers and writers, by std's `Read` and `Write`.
+// Sources and sinks over std's `Read` and `Write`.
 ghost use Rattle.std.specs.Prelude.{◌≡◌, ◌≢◌, ◌≤◌, ◌<◌, ℕ, List, [], Option, None, Ok, Err, IfOk, MatchResult, length, take};
-ghost use Rattle.cs_tree.specs.Transfers.{ReadGives, Writes, is_io_failure};
+ghost use Rattle.cs_tree.specs.Transfers.{ReadGives, is_io_failure};
+ghost use Rattle.cs_tree.specs.Sinks.{Writes, Grows};
 ghost use Rattle.cs_tree.specs.FailureCount.{count_after};
 ghost use Rattle.std.specs.Io.KnownBytes.{Keeps, ReadConsumes, WriteAppends};
 ghost use Rattle.cs_tree.specs.Writers.{reader_of, writer_of};
-ghost use Rattle.cs_tree.specs.Told.{Told, Grows};
+ghost use Rattle.cs_tree.specs.StreamModels.{SourceModel};
 
-use crate::again::{flush_again, read_again, write_again};
 use crate::fault::{IoFault, io_failure};
+use crate::retry::{retry_flush, retry_read, retry_write};
 use crate::sink::Sink;
 use crate::source::Source;
 use std::io::{self, Read, Write};
 
-/// The system's answer to a read: each error has failed, and is counted.
+/// The system's answer to a read. An error is `Failed`, and is counted.
 pub(crate) fn counted_read(failed: &mut u64, answer: io::Result<usize>) -> Result<usize, IoFault>
     ensures answer { MatchResult answer (λ n. result ≡ Ok n) (λ _. result ≡ Err IoFault.Failed) }
     ensures failed { failed.new ≡ count_after is_io_failure result failed.old }
@@ -23,8 +24,8 @@ pub(crate) fn counted_read(failed: &mut u64, answer: io::Result<usize>) -> Resul
     }
 }
 
-/// A reader of std as a source. It tells nothing, and each of the reader's errors is `Failed`, but that a
-/// read is made again where a signal interrupts it.
+/// A source over a reader of std. It has no model. Every error of the reader is `Failed`, except
+/// that an interrupted read is retried.
 #[derive(Drop)]
 pub struct StdSource<R: Drop> {
     inner: R,
@@ -32,7 +33,7 @@ pub struct StdSource<R: Drop> {
 }
 
 impl<R: Read + Drop> StdSource<R> {
-    /// The reader, of which no read has failed yet. Takes no memory.
+    /// A source over the reader, with no failure so far. Allocates nothing.
     pub fn new(inner: R) -> StdSource<R>
         ensures { ⟦<StdSource<R> as Source>⟧.failed result ≡ 0 }
     {
@@ -46,9 +47,9 @@ impl<R: Read + Drop> StdSource<R> {
 impl<R: Read + Drop> Source for StdSource<R> {
     ghost failed = { λ s. s.read_failures };
 
-    ghost keeps_itself = { λ _. tt };
+    ghost keeps_refl = { λ _. tt };
 
-    ghost keeps_chain = { λ _ _ _ _ _. tt };
+    ghost keeps_trans = { λ _ _ _ _ _. tt };
 
     fn read(&mut self, buf: &mut [u8]) -> Result<usize, IoFault>
         ensures within { IfOk result (λ n. n ≤ length buf.new) }
@@ -58,7 +59,7 @@ impl<R: Read + Drop> Source for StdSource<R> {
             ≡ count_after is_io_failure result (⟦<StdSource<R> as Source>⟧.failed self.old) }
         ensures no_memory { result ≢ Err IoFault.Memory }
     {
-        let answer = read_again(&mut self.inner, buf);
+        let answer = retry_read(&mut self.inner, buf);
         counted_read(&mut self.read_failures, answer)
     }
 
@@ -67,8 +68,8 @@ impl<R: Read + Drop> Source for StdSource<R> {
     }
 }
 
-/// A writer of std as a sink. It tells nothing. Each of the writer's errors is `Failed`, and so is a
-/// write of some bytes that took none. A call that a signal interrupts is made again.
+/// A sink over a writer of std. It has no model. Every error of the writer is `Failed`, and so is a
+/// write that returns 0 for a `buf` that is not empty. An interrupted call is retried.
 #[derive(Drop)]
 pub struct StdSink<W: Drop> {
     inner: W,
@@ -76,7 +77,7 @@ pub struct StdSink<W: Drop> {
 }
 
 impl<W: Write + Drop> StdSink<W> {
-    /// The writer, of which no call has failed yet. Takes no memory.
+    /// A sink over the writer, with no failure so far. Allocates nothing.
     pub fn new(inner: W) -> StdSink<W>
         ensures { ⟦<StdSink<W> as Sink>⟧.failed result ≡ 0 }
     {
@@ -96,7 +97,7 @@ impl<W: Write + Drop> Sink for StdSink<W> {
             ≡ count_after is_io_failure result (⟦<StdSink<W> as Sink>⟧.failed self.old) }
         ensures no_memory { result ≢ Err IoFault.Memory }
     {
-        match write_again(&mut self.inner, buf) {
+        match retry_write(&mut self.inner, buf) {
             Ok(n) if n > 0 || buf.is_empty() => Ok(n),
             _ => Err(io_failure(&mut self.failed)),
         }
@@ -108,7 +109,7 @@ impl<W: Write + Drop> Sink for StdSink<W> {
             ≡ count_after is_io_failure result (⟦<StdSink<W> as Sink>⟧.failed self.old) }
         ensures no_memory { result ≢ Err IoFault.Memory }
     {
-        match flush_again(&mut self.inner) {
+        match retry_flush(&mut self.inner) {
             Ok(()) => Ok(()),
             Err(_) => Err(io_failure(&mut self.failed)),
         }

@@ -1,51 +1,53 @@
-// Where bytes lie.
-ghost use Rattle.std.specs.Prelude.{◌≡◌, ◌≤◌, ◌<◌, ◌+◌, ◌^◌, vec_len, ℕ, List, Option, None, IfOk, length};
+// Stores: bytes that are read by offset.
+ghost use Rattle.std.specs.Prelude.{◌≡◌, ◌≤◌, ◌<◌, ◌+◌, ◌^◌, vec_len, ℕ, List, Option, None, IfOk, IfSome, length};
 ghost use Rattle.cs_tree.specs.Transfers.{is_io_failure};
-ghost use Rattle.cs_tree.specs.WholeReads.{items_of};
+ghost use Rattle.cs_tree.specs.WholeReads.{items_of, FillShows, PartShows};
 ghost use Rattle.cs_tree.specs.FailureCount.{count_after};
-ghost use Rattle.cs_tree.specs.Store.{HasLength, ReadShows, FillShows, PartShows};
+ghost use Rattle.cs_tree.specs.ByteList.{AreBytes};
+ghost use Rattle.cs_tree.specs.Store.{HasLength, ReadShows};
 
 use crate::fault::IoFault;
 use std::alloc::Global;
 
-/// Where bytes lie, to be read by position: a file that was opened once, or memory.
+/// Bytes that are read by offset: an open file, or memory.
 pub trait Store {
-    /// The bytes, where the type tells.
-    ghost told: { Self → Option (List ℕ) } = { λ _. None };
+    /// The model: the bytes. None if the type is unmodelled.
+    ghost model: { Self → Option (List ℕ) } = { λ _. None };
 
-    /// How many bytes there are, or were when a file was opened.
+    /// The length in bytes; for a file, its length when it was opened.
     ghost size: { Self → ℕ };
 
-    /// How many reads have failed, up to 2^64 - 1.
+    /// The number of failed reads, at most 2^64 - 1.
     ghost failed: { Self → ℕ };
 
-    /// How many bytes there are, or were when a file was opened. No read changes it.
+    /// The length in bytes; for a file, its length when it was opened. No read changes it.
     fn len(&self) -> usize
         ensures size { result ≡ size self.now }
-        ensures told { HasLength (told self.now) result };
+        ensures model { HasLength (model self.now) result }
+        ensures bytes { IfSome (model self.now) AreBytes };
 
-    /// Reads some bytes from the position `at` on into the front of `buf`, and answers how many. None
-    /// into a `buf` that has room is the end: no byte stands at `at`.
+    /// Reads some bytes from the offset `at` on into the start of `buf` and returns their number,
+    /// which is 0 only if there is no byte at `at` or `buf` is empty.
     fn read_at(&mut self, buf: &mut [u8], at: usize) -> Result<usize, IoFault>
         ensures within { IfOk result (λ n. n ≤ length buf.new) }
-        ensures bytes { ReadShows (told self.old) at result buf.new }
-        ensures keeps { told self.new ≡ told self.old }
+        ensures bytes { ReadShows (model self.old) at result buf.new }
+        ensures keeps { model self.new ≡ model self.old }
         ensures size { size self.new ≡ size self.old }
         ensures failed { failed self.new ≡ count_after is_io_failure result (failed self.old) };
 
-    /// How many reads have answered `Failed`. At 2^64 - 1 it stays.
+    /// The number of reads that returned `Failed`. It saturates at 2^64 - 1.
     fn failures(&self) -> u64
         ensures { result ≡ failed self.now };
 }
 
-/// Fills `buf` with the bytes from the position `at` on, and answers how many there are: fewer than
-/// its length only where the store ends sooner.
+/// Fills `buf` with the bytes from the offset `at` on and returns their number, which is less than
+/// the length of `buf` only if the store ends first.
 pub fn fill_at<S: Store>(store: &mut S, buf: &mut [u8], at: usize) -> Result<usize, IoFault>
     requires { at + length buf.old < 2 ^ 64 }
     ensures len { length buf.new ≡ length buf.old }
     ensures within { IfOk result (λ n. n ≤ length buf.new) }
-    ensures bytes { FillShows (S.told store.old) at result buf.new }
-    ensures keeps { S.told store.new ≡ S.told store.old }
+    ensures bytes { FillShows (S.model store.old) at result buf.new }
+    ensures keeps { S.model store.new ≡ S.model store.old }
     ensures size { S.size store.new ≡ S.size store.old }
     ensures failed { S.failed store.new ≡ count_after is_io_failure result (S.failed store.old) }
 {
@@ -60,7 +62,7 @@ pub fn fill_at<S: Store>(store: &mut S, buf: &mut [u8], at: usize) -> Result<usi
     Ok(filled)
 }
 
-/// The bytes from the position `at` on, so many of them, and fewer only where the store ends sooner.
+/// The `len` bytes from the offset `at` on, or fewer if the store ends first.
 pub fn read_part<S: Store>(
     alloc: Global,
     store: &mut S,
@@ -69,8 +71,8 @@ pub fn read_part<S: Store>(
 ) -> Result<Vec<u8>, IoFault>
     requires { at + len < 2 ^ 64 }
     ensures bound { IfOk result (λ part. vec_len part ≤ len) }
-    ensures bytes { PartShows (S.told store.old) at len (items_of result) }
-    ensures keeps { S.told store.new ≡ S.told store.old }
+    ensures bytes { PartShows (S.model store.old) at len (items_of result) }
+    ensures keeps { S.model store.new ≡ S.model store.old }
     ensures size { S.size store.new ≡ S.size store.old }
     ensures failed { S.failed store.new ≡ count_after is_io_failure result (S.failed store.old) }
 {

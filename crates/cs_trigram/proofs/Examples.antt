@@ -1,8 +1,8 @@
--- Worked rows of the definitions.
+-- Worked examples of the definitions.
 use Rattle.std.proofs.Common.{◌≡◌, [], ◌∷◌, ◌++◌, Some, None, refl}
-use Rattle.cs_trigram.specs.Scans.{finding, text, left_out, unread}
+use Rattle.cs_trigram.specs.Scans.{scan_outcome, text, skipped_for, read_failed}
 use Rattle.std.specs.Prelude.{codes}
-use Rattle.cs_tree.specs.Told.{ends, fails}
+use Rattle.cs_tree.specs.StreamModels.{ends, fails}
 use Rattle.cs_trigram.specs.declared.scan.Reason.TheVariants.{Nul, Utf8, TooLong, LongLine, ManyTrigrams}
 use Rattle.cs_trigram.specs.Trigram.{trigram_sequence, tri}
 use Rattle.cs_trigram.specs.Text.{limits, skip, text_trigrams}
@@ -24,7 +24,7 @@ tri_in_order = refl
 tri_of_a_line : text_trigrams limits (codes "abcd" ++ 10 ∷ []) ≡ Some (6382179 ∷ 6447972 ∷ 6513674 ∷ [])
 tri_of_a_line = refl
 
--- ---- which byte may stand after which
+-- ---- pairs of bytes
 
 two_bytes : text_trigrams limits (0xc3 ∷ 0xa9 ∷ []) ≡ Some []
 two_bytes = refl
@@ -53,7 +53,7 @@ highest_lead = refl
 nothing_before_f8 : skip limits (0x61 ∷ 0xf8 ∷ []) ≡ Some Utf8
 nothing_before_f8 = refl
 
--- ---- lines, at a limit of 5
+-- ---- lines, with a limit of 5
 
 a_full_line : text_trigrams (record { bytes = 100; line = 5; trigrams = 9 }) (codes "aaaa" ++ 10 ∷ []) ≡ Some (6381834 ∷ 6381921 ∷ [])
 a_full_line = refl
@@ -67,7 +67,7 @@ a_newline_too_far = refl
 two_full_lines : skip (record { bytes = 100; line = 5; trigrams = 9 }) (codes "aaaa" ++ 10 ∷ codes "bbbb" ++ 10 ∷ []) ≡ None
 two_full_lines = refl
 
--- ---- bytes, at a limit of 4
+-- ---- bytes, with a limit of 4
 
 the_most_bytes : skip (record { bytes = 4; line = 5; trigrams = 9 }) (codes "abcd") ≡ None
 the_most_bytes = refl
@@ -78,7 +78,7 @@ one_byte_too_many = refl
 too_long_goes_before_the_line : skip (record { bytes = 4; line = 4; trigrams = 9 }) (codes "abcde") ≡ Some TooLong
 too_long_goes_before_the_line = refl
 
--- ---- trigrams, at a limit of 2
+-- ---- trigrams, with a limit of 2
 
 the_most_trigrams : skip (record { bytes = 100; line = 50; trigrams = 2 }) (codes "abcd") ≡ None
 the_most_trigrams = refl
@@ -89,16 +89,16 @@ one_trigram_too_many = refl
 a_bad_byte_goes_before : skip (record { bytes = 100; line = 50; trigrams = 2 }) (codes "abcde" ++ 255 ∷ []) ≡ Some Utf8
 a_bad_byte_goes_before = refl
 
--- ---- what a scan finds
+-- ---- results of a scan
 
-read_to_the_end : finding limits (record { bytes = codes "abc"; ending = ends }) ≡ text (6382179 ∷ []) 3
+read_to_the_end : scan_outcome limits (record { bytes = codes "abc"; ending = ends }) ≡ text (6382179 ∷ []) 3
 read_to_the_end = refl
 
-read_fails : finding limits (record { bytes = codes "abc"; ending = fails }) ≡ unread
+read_fails : scan_outcome limits (record { bytes = codes "abc"; ending = fails }) ≡ read_failed
 read_fails = refl
 
-read_fails_too_late : finding limits (record { bytes = 0x61 ∷ 0x00 ∷ codes "abc"; ending = fails }) ≡ left_out Nul
+read_fails_too_late : scan_outcome limits (record { bytes = 0x61 ∷ 0x00 ∷ codes "abc"; ending = fails }) ≡ skipped_for Nul
 read_fails_too_late = refl
 
-many_trigrams_of_what_fails : finding (record { bytes = 100; line = 50; trigrams = 2 }) (record { bytes = codes "abcde"; ending = fails }) ≡ unread
+many_trigrams_of_what_fails : scan_outcome (record { bytes = 100; line = 50; trigrams = 2 }) (record { bytes = codes "abcde"; ending = fails }) ≡ read_failed
 many_trigrams_of_what_fails = refl

@@ -1,9 +1,9 @@
--- What follows from the definitions alone.
+-- Proofs of the laws.
 use Rattle.std.proofs.Common.{◌≡◌, ℕ, true, eqb, List, [], ◌∷◌, ◌++◌, length, Option, Some, None, refl, sym, ap, ◌∙◌, inl, inr}
 use Rattle.std.specs.Prelude.{is_none, if◌then◌else◌}
-use Rattle.cs_trigram.specs.Scans.{found_or, finding_at, text, left_out}
+use Rattle.cs_trigram.specs.Scans.{skipped_or, scan_outcome_of, text, skipped_for}
 use Rattle.std.proofs.lemmas.Bool.{false≢true, or_cases, or_left, or_right, eq-eqb, eqb-true}
-use Rattle.cs_tree.specs.Told.{ends}
+use Rattle.cs_tree.specs.StreamModels.{ends}
 use Rattle.cs_trigram.specs.declared.limits.Limits.{Limits}
 use Rattle.cs_trigram.specs.declared.scan.Reason.{Reason}
 use Rattle.cs_trigram.specs.Trigram.{trigram, trigram_sequence, tri, has}
@@ -40,7 +40,7 @@ has-each before after a b c =
     ∙ has-before before (a ∷ b ∷ c ∷ after) (trigram a b c)
     (or_left (eqb (trigram a b c) (trigram a b c)) (has (trigram_sequence (b ∷ c ∷ after)) (trigram a b c)) (eq-eqb (trigram a b c) (trigram a b c) refl))
 
--- a number that the trigrams have is that of a part
+-- the number is that of a substring of three bytes
 abbrev IsPartOf : ℕ → List ℕ → Type 0
 IsPartOf n bytes =
     (before after : List ℕ) × (a b c : ℕ) × (bytes ≡ before ++ (a ∷ b ∷ c ∷ after)) × (n ≡ trigram a b c)
@@ -58,24 +58,24 @@ has-sequence (a ∷ b ∷ c ∷ rest) n h =
 pub has-only : (bytes : List ℕ) (n : ℕ) → has (tri bytes) n ≡ true → IsPartOf n bytes
 has-only bytes n h = has-sequence bytes n (sym (has-set_of_numbers n (trigram_sequence bytes)) ∙ h)
 
--- the trigrams of what no rule leaves out
+-- the trigrams of a file that is not skipped
 abbrev pub none_skipped : Option Reason → List ℕ → Option (List ℕ)
 none_skipped why trigrams = if is_none why then Some trigrams else None
 
-found_text : (o : Option Reason) (set trigrams : List ℕ) (long count : ℕ) → text trigrams count ≡ found_or o (text set long) → (none_skipped o set ≡ Some trigrams) × (count ≡ long)
+found_text : (o : Option Reason) (set trigrams : List ℕ) (long count : ℕ) → text trigrams count ≡ skipped_or o (text set long) → (none_skipped o set ≡ Some trigrams) × (count ≡ long)
 found_text None set trigrams long count h =
     let same : trigrams ≡ set = cc in
     (ap Some (sym same), cc)
 found_text (Some r) set trigrams long count h = absurd (cc)
 
-pub text-found : (most : Limits) (bytes trigrams : List ℕ) (count : ℕ) → text trigrams count ≡ finding_at most bytes ends → (text_trigrams most bytes ≡ Some trigrams) × (count ≡ length bytes)
+pub text-found : (most : Limits) (bytes trigrams : List ℕ) (count : ℕ) → text trigrams count ≡ scan_outcome_of most bytes ends → (text_trigrams most bytes ≡ Some trigrams) × (count ≡ length bytes)
 text-found most bytes trigrams count h = found_text (skip most bytes) (tri bytes) trigrams (length bytes) count h
 
-found_left_out : (o : Option Reason) (set : List ℕ) (long : ℕ) (reason : Reason) → left_out reason ≡ found_or o (text set long) → (o ≡ Some reason) × (none_skipped o set ≡ None)
+found_left_out : (o : Option Reason) (set : List ℕ) (long : ℕ) (reason : Reason) → skipped_for reason ≡ skipped_or o (text set long) → (o ≡ Some reason) × (none_skipped o set ≡ None)
 found_left_out None set long reason h = absurd (cc)
 found_left_out (Some r) set long reason h =
     let same : reason ≡ r = cc in
     (ap Some (sym same), refl)
 
-pub left_out-found : (most : Limits) (bytes : List ℕ) (reason : Reason) → left_out reason ≡ finding_at most bytes ends → (skip most bytes ≡ Some reason) × (text_trigrams most bytes ≡ None)
-left_out-found most bytes reason h = found_left_out (skip most bytes) (tri bytes) (length bytes) reason h
+pub skipped_for-found : (most : Limits) (bytes : List ℕ) (reason : Reason) → skipped_for reason ≡ scan_outcome_of most bytes ends → (skip most bytes ≡ Some reason) × (text_trigrams most bytes ≡ None)
+skipped_for-found most bytes reason h = found_left_out (skip most bytes) (tri bytes) (length bytes) reason h

@@ -1,4 +1,4 @@
--- Members of lists of words.
+-- Members of lists of strings.
 use Rattle.std.proofs.Common.{◌≡◌, ℕ, suc, ◌≤◌, ◌⊎◌, inl, inr, not, true, List, [], ◌∷◌, ◌++◌, length, map, refl, sym, ◌∙◌, ap, subst, arith}
 use Rattle.std.specs.Str.{bytes_eq}
 use Rattle.std.proofs.lemmas.Bool.{or_cases, or_left, or_right, false≢true, and_parts, and_from, both_ways, not-true, false_from_ne_true}
@@ -6,7 +6,7 @@ use Rattle.std.proofs.lemmas.Slice.Eq.{bytes_eq-Decides}
 use Rattle.cs_tree.specs.Cover.{is_among}
 use Rattle.cs_tree.specs.Folders.{are_distinct}
 
--- a list without words has no member; that with a word more has it and those of the rest
+-- the empty list has no member; a longer list has its first string and the members of the rest
 pub no_member : (w : List ℕ) → is_among [] w ≡ true → ⊥
 no_member w m = false≢true m
 
@@ -62,7 +62,7 @@ map_member f v (x ∷ xs) m =
       | inr n ↦ later_member (f v) (f x) (map f xs) (map_member f v xs n)
     ]
 
--- the list without a member
+-- a list without one member
 removed : (w : List ℕ) (us : List (List ℕ)) → is_among us w ≡ true →
     (rest : List (List ℕ)) × (length us ≡ suc (length rest)) × ((v : List ℕ) → is_among us v ≡ true → (v ≡ w → ⊥) → is_among rest v ≡ true)
 removed w [] m = absurd (no_member w m)
@@ -78,7 +78,7 @@ removed w (u ∷ us) m =
           )
     ]
 
--- the first of distinct words is not among the others, which are distinct
+-- the first of distinct strings is not among the others, which are distinct
 pub distinct_head : (w : List ℕ) (ws : List (List ℕ)) → are_distinct (w ∷ ws) ≡ true → is_among ws w ≡ true → ⊥
 distinct_head w ws d m = both_ways (is_among ws w) (not-true (is_among ws w) (and_parts (not (is_among ws w)) (are_distinct ws) d).0) m
 
@@ -89,7 +89,7 @@ pub distinct_more : (w : List ℕ) (ws : List (List ℕ)) → (is_among ws w ≡
 distinct_more w ws new d =
     and_from (not (is_among ws w)) (are_distinct ws) (ap not (false_from_ne_true (is_among ws w) new)) d
 
--- distinct words among others are at most as many
+-- distinct strings that are members of a list are at most as many
 pub different_within : (ws us : List (List ℕ)) → are_distinct ws ≡ true → ((w : List ℕ) → is_among ws w ≡ true → is_among us w ≡ true) → length ws ≤ length us
 different_within [] us d f = omega arith
 different_within (w ∷ ws) us d f =

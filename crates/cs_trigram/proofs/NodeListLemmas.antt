@@ -10,14 +10,14 @@ use Rattle.std.proofs.Math.Seq.{take-suc, take-length}
 use Rattle.std.proofs.lemmas.Bool.{and_right}
 use Rattle.std.proofs.lemmas.List.{take-append-drop}
 use Rattle.cs_syntax.proofs.TreeLemmas.{trees_from}
-use Rattle.cs_trigram.specs.FiniteWords.{is_finite, are_finite}
+use Rattle.cs_trigram.specs.ExactStrings.{is_finite, are_finite}
 
--- the part before a place
-pub trees_before : (parts : List Node) (at : ℕ) (part : Node) → 0 < at → at ≤ length parts → part ≡ get_or parts (at - 1) part →
-    trees_of (drop (at - 1) parts) ≡ more (tree_of part) (trees_of (drop at parts))
-trees_before parts at part some le is =
-    let next : at - 1 + 1 ≡ at = omega arith in
-    trees_from parts (at - 1) part (omega arith) is ∙ ap (λ n. more (tree_of part) (trees_of (drop n parts))) next
+-- the part before an index
+pub trees_before : (parts : List Node) (index : ℕ) (part : Node) → 0 < index → index ≤ length parts → part ≡ get_or parts (index - 1) part →
+    trees_of (drop (index - 1) parts) ≡ more (tree_of part) (trees_of (drop index parts))
+trees_before parts index part some le is =
+    let next : index - 1 + 1 ≡ index = omega arith in
+    trees_from parts (index - 1) part (omega arith) is ∙ ap (λ n. more (tree_of part) (trees_of (drop n parts))) next
 
 pub not_finite : (parts : List Node) (i : ℕ) (part : Node) → i < length parts → part ≡ get_or parts i part → is_finite (tree_of part) ≡ false →
     are_finite (trees_of parts) ≡ false
@@ -25,7 +25,7 @@ not_finite [] i part lt is not_it = absurd (omega arith)
 not_finite (x ∷ xs) zero part lt is not_it = ap (λ (y : Node). is_finite (tree_of y) && are_finite (trees_of xs)) (sym is) ∙ ap (λ b. b && are_finite (trees_of xs)) not_it
 not_finite (x ∷ xs) (suc i) part lt is not_it = and_right (is_finite (tree_of x)) (are_finite (trees_of xs)) (not_finite xs i part (omega arith) is not_it)
 
--- an answer that is no `Some`
+-- an answer other than `Some`
 pub none_of : {A : Type 0} (o : Option A) (N : Type 0) (S : A → Type 0) → MatchOption o N S → ((x : A) → o ≡ Some x → ⊥) → N
 none_of None N S m other = m
 none_of (Some x) N S m other = absurd (other x refl)
@@ -37,11 +37,11 @@ trees_append : (xs ys : List Node) → trees_of (xs ++ ys) ≡ append (trees_of 
 trees_append [] ys = refl
 trees_append (x ∷ xs) ys = ap (more (tree_of x)) (trees_append xs ys)
 
--- the parts up to a place, and those from it on
+-- the parts before an index and those from it on
 pub trees_split : (parts : List Node) (i : ℕ) → trees_of parts ≡ append (trees_of (take i parts)) (trees_of (drop i parts))
 trees_split parts i = ap trees_of (sym (take-append-drop i parts)) ∙ trees_append (take i parts) (drop i parts)
 
--- one part more
+-- one more part
 pub trees_to : (parts : List Node) (i : ℕ) (part : Node) → i < length parts → part ≡ get_or parts i part →
     trees_of (take (i + 1) parts) ≡ append (trees_of (take i parts)) (more (tree_of part) none)
 trees_to parts i part lt is =
@@ -57,7 +57,7 @@ if_ok (Err e) P Q h f = tt
 pub none_is : {A : Type 0} (o : Option A) (N : Type 0) (S : A → Type 0) → MatchOption o N S → o ≡ None → N
 none_is {A} o N S m e = subst (λ (p : Option A). MatchOption p N S) e m
 
--- the parts from a place on, as a slice has them
+-- the slice of the parts from an index on is the list without the parts before it
 pub rest_is : (parts : List Node) (i : ℕ) → take (length parts - i) (drop i parts) ≡ drop i parts
 rest_is parts i =
     ap (λ n. take n (drop i parts)) (sym (length-drop i parts)) ∙ take-length (drop i parts)

@@ -1,20 +1,21 @@
--- Worked rows: what queries lose, and how sharp they are.
+-- Worked examples: what a query loses, and how selective it is.
 use Rattle.std.proofs.Common.{◌≡◌, ℕ, zero, suc, inl, inr, Bool, true, false, List, [], ◌∷◌, ◌++◌, refl, sym, ap, subst, ◌∙◌, arith, codes, Some, None, replicate}
 use Rattle.std.specs.Prelude.{◌↔◌, ◌&&◌, encode_utf8, nat_le}
 use Rattle.std.specs.List.{list_all}
 use Rattle.std.proofs.lemmas.Bool.{true≢false, and_parts, or_cases, leb-true}
-use Rattle.cs_syntax.specs.Matching.{Tree, Trees, empty, one_of, one_char, cat, alt, rep, word_edge, none, more, member, HasMatch, TakesAll}
+use Rattle.cs_syntax.specs.Matching.{Tree, Trees, empty, one_of, one_char, cat, alt, rep, word_edge, none, more, member, HasMatch, MatchesSequence}
 use Rattle.cs_syntax.specs.Characters.{is_scalar, has_char}
 use Rattle.cs_tree.specs.Cover.{is_among}
 use Rattle.cs_trigram.proofs.MemberLemmas.{first_member, later_member, member_cases, only_member}
 use Rattle.cs_trigram.specs.Trigram.{tri}
 use Rattle.cs_trigram.specs.Query.{HasTrigrams, LosesNoLine}
-use Rattle.cs_trigram.specs.FiniteWords.{is_finite, HasWord, ConcatenatesWords, HaveFewWords, HasFewWords}
-use Rattle.cs_trigram.specs.PlainRuns.{ShowsPlainRuns, IsSharp, RequiresWord}
+use Rattle.cs_trigram.specs.ExactStrings.{is_finite, HasExactString, ConcatenatesExactStrings, HaveFewExactStrings}
+use Rattle.cs_trigram.specs.ExactQuery.{HasFewExactStrings, RequiresExactString}
+use Rattle.cs_trigram.specs.ExactRuns.{HasExactRuns, IsSelective}
 use Rattle.cs_trigram.specs.declared.queries.Query.TheVariants.{All, Tri}
-use Rattle.cs_trigram.proofs.QueryLemmas.{holds-All, holds-Tri}
-use Rattle.cs_trigram.proofs.FewLemmas.{concatenates_one, spells_one}
-use Rattle.cs_trigram.proofs.PlainRunLemmas.{taken_plain_runs}
+use Rattle.cs_trigram.proofs.QueryLemmas.{matches_set-All, matches_set-Tri}
+use Rattle.cs_trigram.proofs.LeadingRunLemmas.{concatenates_one, exact_of_one}
+use Rattle.cs_trigram.proofs.ExactRunLemmas.{match_has_exact_runs}
 
 -- the set of one byte
 abbrev only : ℕ → List Bool
@@ -30,39 +31,39 @@ has_no_other zero (suc n) h = cc
 has_no_other (suc b) zero h = cc
 has_no_other (suc b) (suc n) h = ap suc (has_no_other b n h)
 
--- letters in a row
+-- a sequence of letters
 abbrev letters : List ℕ → Trees
 letters [] = none
 letters (b ∷ text) = more (one_of (only b)) (letters text)
 
-concatenates : (text : List ℕ) → ConcatenatesWords (letters text) text
+concatenates : (text : List ℕ) → ConcatenatesExactStrings (letters text) text
 concatenates [] = refl
 concatenates (b ∷ text) = (b ∷ [], text, (b, has_it b, refl), concatenates text, refl)
 
-concatenates_no_other : (text word : List ℕ) → ConcatenatesWords (letters text) word → word ≡ text
-concatenates_no_other [] word j = j
-concatenates_no_other (b ∷ text) word j =
+concatenates_no_other : (text string : List ℕ) → ConcatenatesExactStrings (letters text) string → string ≡ text
+concatenates_no_other [] string j = j
+concatenates_no_other (b ∷ text) string j =
     let letter = j.2 in
     let first : j.0 ≡ b ∷ [] = letter.2 ∙ ap (λ n. n ∷ []) (has_no_other b letter.0 letter.1) in
     let rest = concatenates_no_other text j.1 j.3 in
     j.4 ∙ (λ i. first i ++ rest i)
 
--- ---- a word: its shows are its trigrams
+-- ---- a literal string has the exact run of its trigrams
 
 abbrev hello : List ℕ
 hello = codes "hello"
 
-hello_is_a_run : HaveFewWords (letters hello)
+hello_is_a_run : HaveFewExactStrings (letters hello)
 hello_is_a_run = (
   refl,
   (
     (hello, concatenates hello),
-    (hello ∷ [], omega arith, λ word j. first_member word hello [] (concatenates_no_other hello word j)),
+    (hello ∷ [], omega arith, λ string j. first_member string hello [] (concatenates_no_other hello string j)),
   ),
 )
 
-hello_takes_hello : TakesAll hello (letters hello) 0 5
-hello_takes_hello = (
+hello_matches_hello : MatchesSequence hello (letters hello) 0 5
+hello_matches_hello = (
   1,
   (omega arith, refl, refl),
   (
@@ -83,46 +84,46 @@ hello_takes_hello = (
 trigrams_of_hello : tri hello ≡ 6646892 ∷ 6841708 ∷ 7105647 ∷ []
 trigrams_of_hello = refl
 
-plain_runs_of_hello : (set : ℕ → Bool) → ShowsPlainRuns set (cat (letters hello)) ↔ (list_all set (6646892 ∷ 6841708 ∷ 7105647 ∷ []) ≡ true)
-plain_runs_of_hello set = (
-  λ shows. let shown = shows.1.0 none (letters hello) none refl hello_is_a_run in subst (HasTrigrams set) (concatenates_no_other hello shown.0 shown.1) shown.2,
-  λ known. taken_plain_runs hello set known (cat (letters hello)) 0 5 hello_takes_hello,
+exact_runs_of_hello : (set : ℕ → Bool) → HasExactRuns set (cat (letters hello)) ↔ (list_all set (6646892 ∷ 6841708 ∷ 7105647 ∷ []) ≡ true)
+exact_runs_of_hello set = (
+  λ has_run. let has_runs = has_run.1.0 none (letters hello) none refl hello_is_a_run in subst (HasTrigrams set) (concatenates_no_other hello has_runs.0 has_runs.1) has_runs.2,
+  λ known. match_has_exact_runs hello set known (cat (letters hello)) 0 5 hello_matches_hello,
 )
 
--- ---- `(ab|cd)ef`: to ask for nothing is not sharp
+-- ---- `(ab|cd)ef`: a query that requires nothing is not selective
 
-abbrev choice : Trees
-choice = more (alt (more (cat (letters (codes "ab"))) (more (cat (letters (codes "cd"))) none))) (letters (codes "ef"))
+abbrev alternation : Trees
+alternation = more (alt (more (cat (letters (codes "ab"))) (more (cat (letters (codes "cd"))) none))) (letters (codes "ef"))
 
-choice_concatenates : (word : List ℕ) → ConcatenatesWords choice word → is_among (codes "abef" ∷ codes "cdef" ∷ []) word ≡ true
-choice_concatenates word j =
-    let back = concatenates_no_other (codes "ef") j.1 j.3 in
+alternation_concatenates : (string : List ℕ) → ConcatenatesExactStrings alternation string → is_among (codes "abef" ∷ codes "cdef" ∷ []) string ≡ true
+alternation_concatenates string j =
+    let suffix = concatenates_no_other (codes "ef") j.1 j.3 in
     elim j.2 [
-      | inl first ↦ let front = concatenates_no_other (codes "ab") j.0 first in first_member word (codes "abef") (codes "cdef" ∷ []) (j.4 ∙ (λ i. front i ++ back i))
+      | inl first ↦ let prefix = concatenates_no_other (codes "ab") j.0 first in first_member string (codes "abef") (codes "cdef" ∷ []) (j.4 ∙ (λ i. prefix i ++ suffix i))
       | inr rest ↦ elim rest [
-        | inl second ↦ let front = concatenates_no_other (codes "cd") j.0 second in later_member word (codes "abef") (codes "cdef" ∷ []) (first_member word (codes "cdef") [] (j.4 ∙ (λ i. front i ++ back i)))
+        | inl second ↦ let prefix = concatenates_no_other (codes "cd") j.0 second in later_member string (codes "abef") (codes "cdef" ∷ []) (first_member string (codes "cdef") [] (j.4 ∙ (λ i. prefix i ++ suffix i)))
         | inr neither ↦ absurd neither
       ]
     ]
 
-choice_is_a_run : HaveFewWords choice
-choice_is_a_run = (
+alternation_is_a_run : HaveFewExactStrings alternation
+alternation_is_a_run = (
   refl,
   (
     (codes "abef", (codes "ab", codes "ef", inl (concatenates (codes "ab")), concatenates (codes "ef"), refl)),
-    (codes "abef" ∷ codes "cdef" ∷ [], omega arith, choice_concatenates),
+    (codes "abef" ∷ codes "cdef" ∷ [], omega arith, alternation_concatenates),
   ),
 )
 
-asking_nothing_is_not_sharp : IsSharp All (cat choice) → ⊥
-asking_nothing_is_not_sharp sharp =
-    let shown = (sharp (λ n. false) (holds-All (λ n. false))).1.0 none choice none refl choice_is_a_run in
-    elim (member_cases shown.0 (codes "abef") (codes "cdef" ∷ []) (choice_concatenates shown.0 shown.1)) [
-      | inl first ↦ true≢false (sym (subst (HasTrigrams (λ n. false)) first shown.2))
-      | inr rest ↦ true≢false (sym (subst (HasTrigrams (λ n. false)) (only_member shown.0 (codes "cdef") rest) shown.2))
+requiring_nothing_is_not_selective : IsSelective All (cat alternation) → ⊥
+requiring_nothing_is_not_selective selective =
+    let has_runs = (selective (λ n. false) (matches_set-All (λ n. false))).1.0 none alternation none refl alternation_is_a_run in
+    elim (member_cases has_runs.0 (codes "abef") (codes "cdef" ∷ []) (alternation_concatenates has_runs.0 has_runs.1)) [
+      | inl first ↦ true≢false (sym (subst (HasTrigrams (λ n. false)) first has_runs.2))
+      | inr rest ↦ true≢false (sym (subst (HasTrigrams (λ n. false)) (only_member has_runs.0 (codes "cdef") rest) has_runs.2))
     ]
 
--- ---- `abc?`: to ask for `abc` loses the line `ab`
+-- ---- `abc?`: a query that requires `abc` loses the line `ab`
 
 abbrev optional : Tree
 optional = cat (more (one_of (only 97)) (more (one_of (only 98)) (more (rep (one_of (only 99)) 0 (Some 1)) none)))
@@ -144,9 +145,9 @@ ab_is_found = (
   ),
 )
 
-asking_for_an_optional_letter_loses_a_line : LosesNoLine (Tri 6382179) optional → ⊥
-asking_for_an_optional_letter_loses_a_line loses =
-    true≢false (sym (loses (codes "ab") (λ n. false) ab_is_found refl) ∙ holds-Tri (λ n. false) 6382179)
+requiring_an_optional_letter_loses_a_line : LosesNoLine (Tri 6382179) optional → ⊥
+requiring_an_optional_letter_loses_a_line loses =
+    true≢false (sym (loses (codes "ab") (λ n. false) ab_is_found refl) ∙ matches_set-Tri (λ n. false) 6382179)
 
 -- ---- which trees are finite
 
@@ -162,7 +163,8 @@ a_repeat_with_too_small_a_most_is_not = refl
 an_edge_is_finite : is_finite word_edge ≡ true
 an_edge_is_finite = refl
 
--- ---- `[€]`, a character past ASCII: to ask for nothing is not sharp, and does not require its word
+-- ---- `[€]`, a character beyond ASCII: a query that requires nothing is not selective, and does not require
+-- its string
 
 abbrev euro : Tree
 euro = one_char ((8364, 8364) ∷ [])
@@ -174,11 +176,11 @@ euro_in_utf8 : encode_utf8 8364 ≡ euro_bytes
 unfolding lib.Utf8.encode
 euro_in_utf8 = refl
 
-euro_is_a_word : HasWord euro euro_bytes
-euro_is_a_word = (8364, refl, sym euro_in_utf8)
+euro_is_an_exact_string : HasExactString euro euro_bytes
+euro_is_an_exact_string = (8364, refl, sym euro_in_utf8)
 
-euro_is_the_only_word : (word : List ℕ) → HasWord euro word → word ≡ euro_bytes
-euro_is_the_only_word word w = w.2 ∙ ap encode_utf8 (same w.0 w.1) ∙ euro_in_utf8
+euro_is_the_only_exact_string : (string : List ℕ) → HasExactString euro string → string ≡ euro_bytes
+euro_is_the_only_exact_string string w = w.2 ∙ ap encode_utf8 (same w.0 w.1) ∙ euro_in_utf8
   where
     same : (c : ℕ) → has_char ((8364, 8364) ∷ []) c ≡ true → c ≡ 8364
     same c h = elim (or_cases (nat_le 8364 c && nat_le c 8364) false (and_parts (is_scalar c) _ h).1) [
@@ -190,24 +192,24 @@ euro_is_the_only_word word w = w.2 ∙ ap encode_utf8 (same w.0 w.1) ∙ euro_in
       | inr never ↦ absurd (true≢false (sym never))
     ]
 
-euro_has_few_words : HasFewWords euro
-euro_has_few_words = (
+euro_has_few_exact_strings : HasFewExactStrings euro
+euro_has_few_exact_strings = (
   refl,
   (
-    (euro_bytes, concatenates_one euro euro_bytes euro_is_a_word),
-    (euro_bytes ∷ [], omega arith, λ word j. first_member word euro_bytes [] (euro_is_the_only_word word (spells_one euro word j))),
+    (euro_bytes, concatenates_one euro euro_bytes euro_is_an_exact_string),
+    (euro_bytes ∷ [], omega arith, λ string j. first_member string euro_bytes [] (euro_is_the_only_exact_string string (exact_of_one euro string j))),
   ),
 )
 
 trigrams_of_euro : tri euro_bytes ≡ 14844588 ∷ []
 trigrams_of_euro = refl
 
-asking_nothing_of_a_character_is_not_sharp : IsSharp All euro → ⊥
-asking_nothing_of_a_character_is_not_sharp sharp =
-    let shown = (sharp (λ n. false) (holds-All (λ n. false))).0 euro_has_few_words in
-    true≢false (sym (subst (HasTrigrams (λ n. false)) (euro_is_the_only_word shown.0 (spells_one euro shown.0 shown.1)) shown.2))
+requiring_nothing_of_a_character_is_not_selective : IsSelective All euro → ⊥
+requiring_nothing_of_a_character_is_not_selective selective =
+    let has_runs = (selective (λ n. false) (matches_set-All (λ n. false))).0 euro_has_few_exact_strings in
+    true≢false (sym (subst (HasTrigrams (λ n. false)) (euro_is_the_only_exact_string has_runs.0 (exact_of_one euro has_runs.0 has_runs.1)) has_runs.2))
 
-asking_nothing_of_a_character_requires_no_word : RequiresWord All euro → ⊥
-asking_nothing_of_a_character_requires_no_word requires =
-    let shown = (requires (λ n. false)).0 (holds-All (λ n. false)) in
-    true≢false (sym (subst (HasTrigrams (λ n. false)) (euro_is_the_only_word shown.0 (spells_one euro shown.0 shown.1)) shown.2))
+requiring_nothing_of_a_character_requires_no_string : RequiresExactString All euro → ⊥
+requiring_nothing_of_a_character_requires_no_string requires =
+    let has_runs = (requires (λ n. false)).0 (matches_set-All (λ n. false)) in
+    true≢false (sym (subst (HasTrigrams (λ n. false)) (euro_is_the_only_exact_string has_runs.0 (exact_of_one euro has_runs.0 has_runs.1)) has_runs.2))

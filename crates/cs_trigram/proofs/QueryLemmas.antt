@@ -1,4 +1,4 @@
--- The equations of `holds`, one for each variant.
+-- The equations of `matches_set`, one for each variant.
 use Rattle.std.proofs.Common.{◌≡◌, ℕ, ◌+◌, ◌≤◌, ◌&&◌, ◌||◌, Bool, true, false, List, [], ◌∷◌, ◌++◌, drop, length, Vec, Global, refl, sym, ◌∙◌, ap, arith, length-drop}
 use Rattle.cs_trigram.specs.QueryNumbers.{numbers_step, are_trigrams}
 use Rattle.std.specs.Prelude.{nat_lt}
@@ -8,30 +8,30 @@ use Rattle.std.proofs.lemmas.Bool.{and_from}
 use Rattle.std.proofs.lemmas.List.Folds.{list_all-map, list_all-append, list_any-append}
 use Rattle.cs_tree.proofs.NameLemmas.{list_any-map}
 use Rattle.cs_trigram.specs.Trigram.{trigram_sequence, set_of_numbers}
-use Rattle.cs_trigram.specs.Query.{holds, holds_step, has_trigrams}
-use Rattle.cs_trigram.specs.Sample.{all_hold, some_holds, has_any}
+use Rattle.cs_trigram.specs.Query.{matches_set, matches_set_step}
+use Rattle.cs_trigram.specs.Analysis.{has_trigrams, all_match, some_matches, has_any}
 use Rattle.cs_trigram.specs.declared.queries.Query.{Query, Query-F, fold-roll-Query}
 use Rattle.cs_trigram.specs.declared.queries.Query.TheVariants.{All, Nothing, Tri, And, Or, rolls-All, rolls-Nothing, rolls-Tri, rolls-And, rolls-Or}
 
 module _ (set : ℕ → Bool) where
-  pub holds-All : holds All set ≡ true
-  holds-All = ap (λ q. holds q set) (sym rolls-All) ∙ fold-roll-Query Bool (holds_step set) Query-F.All
+  pub matches_set-All : matches_set All set ≡ true
+  matches_set-All = ap (λ q. matches_set q set) (sym rolls-All) ∙ fold-roll-Query Bool (matches_set_step set) Query-F.All
 
-  pub holds-Nothing : holds Nothing set ≡ false
-  holds-Nothing = ap (λ q. holds q set) (sym rolls-Nothing) ∙ fold-roll-Query Bool (holds_step set) Query-F.Nothing
+  pub matches_set-Nothing : matches_set Nothing set ≡ false
+  matches_set-Nothing = ap (λ q. matches_set q set) (sym rolls-Nothing) ∙ fold-roll-Query Bool (matches_set_step set) Query-F.Nothing
 
-  pub holds-Tri : (n : ℕ) → holds (Tri n) set ≡ set n
-  holds-Tri n = ap (λ q. holds q set) (sym (rolls-Tri n)) ∙ fold-roll-Query Bool (holds_step set) (Query-F.Tri n)
+  pub matches_set-Tri : (n : ℕ) → matches_set (Tri n) set ≡ set n
+  matches_set-Tri n = ap (λ q. matches_set q set) (sym (rolls-Tri n)) ∙ fold-roll-Query Bool (matches_set_step set) (Query-F.Tri n)
 
-  pub holds-And : (members : Vec Query Global) → holds (And members) set ≡ all_hold members.items set
-  holds-And members =
-      ap (λ q. holds q set) (sym (rolls-And members)) ∙ fold-roll-Query Bool (holds_step set) (Query-F.And members)
-      ∙ list_all-map (λ b. b) (λ q. holds q set) members.items
+  pub matches_set-And : (members : Vec Query Global) → matches_set (And members) set ≡ all_match members.items set
+  matches_set-And members =
+      ap (λ q. matches_set q set) (sym (rolls-And members)) ∙ fold-roll-Query Bool (matches_set_step set) (Query-F.And members)
+      ∙ list_all-map (λ b. b) (λ q. matches_set q set) members.items
 
-  pub holds-Or : (members : Vec Query Global) → holds (Or members) set ≡ some_holds members.items set
-  holds-Or members =
-      ap (λ q. holds q set) (sym (rolls-Or members)) ∙ fold-roll-Query Bool (holds_step set) (Query-F.Or members)
-      ∙ list_any-map (λ q. holds q set) (λ b. b) members.items
+  pub matches_set-Or : (members : Vec Query Global) → matches_set (Or members) set ≡ some_matches members.items set
+  matches_set-Or members =
+      ap (λ q. matches_set q set) (sym (rolls-Or members)) ∙ fold-roll-Query Bool (matches_set_step set) (Query-F.Or members)
+      ∙ list_any-map (λ q. matches_set q set) (λ b. b) members.items
 
 pub numbers-All : are_trigrams All ≡ true
 numbers-All = ap are_trigrams (sym rolls-All) ∙ fold-roll-Query Bool numbers_step Query-F.All
@@ -49,10 +49,10 @@ numbers-Or members =
     ap are_trigrams (sym (rolls-Or members)) ∙ fold-roll-Query Bool numbers_step (Query-F.Or members)
     ∙ list_all-map (λ b. b) are_trigrams members.items
 
--- a member more
-pub all_hold_push : (set : ℕ → Bool) (queries : List Query) (q : Query) → all_hold (queries ++ q ∷ []) set ≡ (all_hold queries set && holds q set)
-all_hold_push set queries q =
-    list_all-append (λ x. holds x set) queries (q ∷ []) ∙ ap (λ b. all_hold queries set && b) (and-true (holds q set))
+-- one more member
+pub all_match_push : (set : ℕ → Bool) (queries : List Query) (q : Query) → all_match (queries ++ q ∷ []) set ≡ (all_match queries set && matches_set q set)
+all_match_push set queries q =
+    list_all-append (λ x. matches_set x set) queries (q ∷ []) ∙ ap (λ b. all_match queries set && b) (and-true (matches_set q set))
 
 pub numbers_push : (queries : List Query) (q : Query) → list_all are_trigrams (queries ++ q ∷ []) ≡ (list_all are_trigrams queries && are_trigrams q)
 numbers_push queries q = list_all-append are_trigrams queries (q ∷ []) ∙ ap (λ b. list_all are_trigrams queries && b) (and-true (are_trigrams q))
@@ -60,9 +60,9 @@ numbers_push queries q = list_all-append are_trigrams queries (q ∷ []) ∙ ap 
 pub numbers_more : (queries : List Query) (q : Query) → list_all are_trigrams queries ≡ true → are_trigrams q ≡ true → list_all are_trigrams (queries ++ q ∷ []) ≡ true
 numbers_more queries q a b = numbers_push queries q ∙ and_from (list_all are_trigrams queries) (are_trigrams q) a b
 
-pub some_holds_push : (set : ℕ → Bool) (queries : List Query) (q : Query) → some_holds (queries ++ q ∷ []) set ≡ (some_holds queries set || holds q set)
-some_holds_push set queries q =
-    list_any-append (λ x. holds x set) queries (q ∷ []) ∙ ap (λ b. some_holds queries set || b) (or-false (holds q set))
+pub some_matches_push : (set : ℕ → Bool) (queries : List Query) (q : Query) → some_matches (queries ++ q ∷ []) set ≡ (some_matches queries set || matches_set q set)
+some_matches_push set queries q =
+    list_any-append (λ x. matches_set x set) queries (q ∷ []) ∙ ap (λ b. some_matches queries set || b) (or-false (matches_set q set))
 
 pub trigrams_short : (text : List ℕ) → length text ≤ 2 → trigram_sequence text ≡ []
 trigrams_short [] h = refl
@@ -70,22 +70,22 @@ trigrams_short (a ∷ []) h = refl
 trigrams_short (a ∷ b ∷ []) h = refl
 trigrams_short (a ∷ b ∷ c ∷ rest) h = absurd (omega arith)
 
-pub trigram_end : (set : ℕ → Bool) (members : List Query) (text : List ℕ) (at : ℕ) → length text ≤ at + 2 →
-    (all_hold members set && list_all set (trigram_sequence (drop at text))) ≡ all_hold members set
-trigram_end set members text at le =
-    ap (λ (ns : List ℕ). all_hold members set && list_all set ns) (trigrams_short (drop at text) (omega (arith, length-drop at text))) ∙ and-true (all_hold members set)
+pub trigram_end : (set : ℕ → Bool) (members : List Query) (text : List ℕ) (offset : ℕ) → length text ≤ offset + 2 →
+    (all_match members set && list_all set (trigram_sequence (drop offset text))) ≡ all_match members set
+trigram_end set members text offset le =
+    ap (λ (ns : List ℕ). all_match members set && list_all set ns) (trigrams_short (drop offset text) (omega (arith, length-drop offset text))) ∙ and-true (all_match members set)
 
--- one word more
-pub word_step : (set : ℕ → Bool) (members : List Query) (q : Query) (w : List ℕ) (ws : List (List ℕ)) → holds q set ≡ has_trigrams set w →
-    (some_holds (members ++ q ∷ []) set || has_any set ws) ≡ (some_holds members set || has_any set (w ∷ ws))
-word_step set members q w ws e =
-    ap (λ b. b || has_any set ws) (some_holds_push set members q ∙ ap (λ b. some_holds members set || b) e)
-    ∙ or_assoc (some_holds members set) (has_trigrams set w) (has_any set ws)
+-- one more string
+pub text_step : (set : ℕ → Bool) (members : List Query) (q : Query) (w : List ℕ) (ws : List (List ℕ)) → matches_set q set ≡ has_trigrams set w →
+    (some_matches (members ++ q ∷ []) set || has_any set ws) ≡ (some_matches members set || has_any set (w ∷ ws))
+text_step set members q w ws e =
+    ap (λ b. b || has_any set ws) (some_matches_push set members q ∙ ap (λ b. some_matches members set || b) e)
+    ∙ or_assoc (some_matches members set) (has_trigrams set w) (has_any set ws)
 
-pub word_end : (set : ℕ → Bool) (members : List Query) → (some_holds members set || has_any set []) ≡ some_holds members set
-word_end set members = or-false (some_holds members set)
+pub end_of_text : (set : ℕ → Bool) (members : List Query) → (some_matches members set || has_any set []) ≡ some_matches members set
+end_of_text set members = or-false (some_matches members set)
 
--- a word without trigrams is always there
+-- a string without a trigram is required trivially
 pub short_there : (set : ℕ → Bool) (rest : List (List ℕ)) (w : List ℕ) (b : Bool) → length w ≤ 2 → (b || has_any set (w ∷ rest)) ≡ true
 short_there set rest w b le =
     ap (λ (ns : List ℕ). b || (list_all set (set_of_numbers ns) || has_any set rest)) (trigrams_short w le) ∙ or-true b

@@ -6,7 +6,7 @@ use Rattle.std.specs.Prelude.{filter}
 use Rattle.std.specs.List.{AllByRecursion}
 use Rattle.cs_trigram.specs.Trigram.{Ascends, with_number, set_of_numbers, has}
 use Rattle.cs_trigram.specs.TrigramSets.{AreDistinct}
-use Rattle.cs_syntax.proofs.QuotedLemmas.{of_each}
+use Rattle.cs_syntax.proofs.QuoteMetaLemmas.{of_each}
 
 -- every number of the list is above n
 abbrev pub Above : ℕ → List ℕ → Type 0
@@ -92,7 +92,7 @@ pub has-append : (g : ℕ) (xs ys : List ℕ) → has (xs ++ ys) g ≡ (has xs g
 has-append g [] ys = refl
 has-append g (x ∷ xs) ys = elim (eqb x g) as (λ b. (b || has (xs ++ ys) g) ≡ ((b || has xs g) || has ys g)) [ true ↦ refl | false ↦ has-append g xs ys ]
 
--- what is below the first of an ascending list is no member
+-- a number below the first of an ascending list is not a member
 pub below_none : (n : ℕ) (ms : List ℕ) → Above n ms → Ascends ms → has ms n ≡ false
 below_none n [] h up = refl
 below_none n (m ∷ ms) h up =
@@ -103,7 +103,7 @@ below_none n (m ∷ ms) h up =
     further [] g = tt
     further (k ∷ ks) g = omega (arith, h, g)
 
--- ascending lists of the same members are one
+-- ascending lists with the same members are equal
 pub ascends_same : (xs ys : List ℕ) → Ascends xs → Ascends ys → ((g : ℕ) → has xs g ≡ has ys g) → xs ≡ ys
 ascends_same [] [] a b h = refl
 ascends_same [] (y ∷ ys) a b h = absurd (true≢false (sym (h y ∙ or_left (eqb y y) (has ys y) (eq-eqb y y refl))))
@@ -128,14 +128,14 @@ ascends_same (x ∷ xs) (y ∷ ys) a b h =
               ap (λ t. t || has xs g) (sym apart) ∙ h g ∙ ap (λ k. eqb k g || has ys g) (sym e) ∙ ap (λ t. t || has ys g) apart
         ]
 
--- ---- what a number more changes
+-- ---- inserting a number
 
--- a number put at the end of a list is put into its set
+-- a number appended to a list is inserted into its set
 pub set_of_numbers-push : (xs : List ℕ) (n : ℕ) → set_of_numbers (xs ++ n ∷ []) ≡ with_number n (set_of_numbers xs)
 set_of_numbers-push xs n = ascends_same (set_of_numbers (xs ++ n ∷ [])) (with_number n (set_of_numbers xs)) (ascends_set (xs ++ n ∷ [])) (ascends_with_number n (set_of_numbers xs) (ascends_set xs)) (λ g.
     has-set_of_numbers g (xs ++ n ∷ []) ∙ has-append g xs (n ∷ []) ∙ ap (λ t. has xs g || t) (or-false (eqb n g)) ∙ or_comm (has xs g) (eqb n g) ∙ ap (λ t. eqb n g || t) (sym (has-set_of_numbers g xs)) ∙ sym (has-with_number n g (set_of_numbers xs)))
 
--- a member changes nothing
+-- inserting a member changes nothing
 pub with_number-member : (n : ℕ) (set : List ℕ) → Ascends set → has set n ≡ true → with_number n set ≡ set
 with_number-member n set up member = ascends_same (with_number n set) set (ascends_with_number n set up) up (λ g. has-with_number n g set ∙ same g (cases_Bool (eqb n g)))
   where
@@ -174,7 +174,7 @@ pub length-set_of_numbers-le : (xs : List ℕ) → length (set_of_numbers xs) �
 length-set_of_numbers-le [] = omega arith
 length-set_of_numbers-le (x ∷ xs) = omega (arith, length-with_number-le x (set_of_numbers xs), length-set_of_numbers-le xs)
 
--- distinct numbers are as many as their set has
+-- distinct numbers are as many as their set
 pub length-distinct : (ns : List ℕ) → AreDistinct ns → length ns ≡ length (set_of_numbers ns)
 length-distinct [] distinct = refl
 length-distinct (n ∷ ns) distinct =
@@ -182,7 +182,7 @@ length-distinct (n ∷ ns) distinct =
     let rest = length-distinct ns distinct.1 in
     omega (arith, more, rest)
 
--- numbers as many as their set has are distinct
+-- numbers that are as many as their set are distinct
 pub distinct-length : (ns : List ℕ) → length ns ≡ length (set_of_numbers ns) → AreDistinct ns
 distinct-length [] many = tt
 distinct-length (n ∷ ns) many = (
@@ -196,18 +196,18 @@ distinct-length (n ∷ ns) many = (
     stays : has ns n ≡ true → length (with_number n (set_of_numbers ns)) ≡ length (set_of_numbers ns)
     stays there = ap length (with_number-member n (set_of_numbers ns) (ascends_set ns) (has-set_of_numbers n ns ∙ there))
 
--- ---- what holds of each member
+-- ---- properties of all members
 
 -- a property of each member holds of all numbers of the list
 pub members_all : (P : ℕ → Type 0) (ns : List ℕ) → ((n : ℕ) → has ns n ≡ true → P n) → AllByRecursion P ns
 members_all P [] h = tt
 members_all P (n ∷ ns) h = (h n (or_left (eqb n n) _ (eq-eqb n n refl)), members_all P ns (λ m e. h m (or_right (eqb n m) _ e)))
 
--- what holds of each number of a set holds of those that it was made of
+-- a property of all numbers of a set is one of all numbers of the list
 pub all_from_set : (P : ℕ → Type 0) (ns : List ℕ) → AllByRecursion P (set_of_numbers ns) → AllByRecursion P ns
 all_from_set P ns all = members_all P ns (λ n h. of_each P (set_of_numbers ns) n all (has-set_of_numbers n ns ∙ h))
 
--- all numbers behind the first of an ascending list are above it
+-- all numbers after the first of an ascending list are greater
 pub all_above : (n : ℕ) (ms : List ℕ) → Ascends (n ∷ ms) → AllByRecursion (λ m. n < m) ms
 all_above n [] up = tt
 all_above n (m ∷ ms) up = (up.0, all_above n ms (skip ms up.0 up.1))
@@ -216,12 +216,12 @@ all_above n (m ∷ ms) up = (up.0, all_above n ms (skip ms up.0 up.1))
     skip [] h up = tt
     skip (k ∷ ks) h up = (let g = up.0 in omega (arith, h, g), up.1)
 
--- ascending numbers below a bound are not more than it
+-- ascending numbers below a bound are at most as many as the bound
 pub ascends-short : (n : ℕ) (ms : List ℕ) (bound : ℕ) → Ascends (n ∷ ms) → AllByRecursion (λ m. m < bound) (n ∷ ms) → n + length (n ∷ ms) ≤ bound
 ascends-short n [] bound up all = omega (arith, all.0)
 ascends-short n (m ∷ ms) bound up all = omega (arith, up.0, ascends-short m ms bound up.1 all.1)
 
--- ---- some of the numbers
+-- ---- filters
 
 above_filter : (p : ℕ → Bool) (n : ℕ) (xs : List ℕ) → Above n xs → Ascends xs → Above n (filter p xs)
 above_filter p n [] h up = tt
@@ -256,7 +256,7 @@ has-filter p (x ∷ xs) k = elim (cases_Bool (eqb x k)) [
       ∙ sym (ap (λ b. (b || has xs k) && p k) apart)
 ]
 
--- tests that agree on the members pass the same numbers
+-- tests that agree on the members give the same filter
 pub filter_within : (p q : ℕ → Bool) (xs : List ℕ) → ((x : ℕ) → has xs x ≡ true → p x ≡ q x) → filter p xs ≡ filter q xs
 filter_within p q [] h = refl
 filter_within p q (x ∷ xs) h =

@@ -1,4 +1,4 @@
--- The numbers in a query are those of trigrams.
+-- The numbers in a query are trigrams.
 use Rattle.std.specs.Prelude.{Bool, true, nat_lt}
 use Rattle.cs_trigram.specs.TrigramSets.{trigram_count}
 use Rattle.std.specs.List.{list_all}
@@ -6,7 +6,7 @@ use Rattle.cs_trigram.specs.declared.queries.Query.{Query}
 use Rattle.cs_trigram.specs.declared.queries.Query.TheOpen.{Query-F}
 use Rattle.cs_trigram.specs.declared.queries.Query.TheFolds.{fold-Query}
 
--- one level: a number is that of three bytes
+-- one level of a query, its members already tested
 abbrev pub numbers_step : Query-F Bool → Bool
 numbers_step Query-F.All = true
 numbers_step Query-F.Nothing = true
@@ -14,6 +14,6 @@ numbers_step (Query-F.Tri number) = nat_lt number trigram_count
 numbers_step (Query-F.And members) = list_all (λ small. small) members.items
 numbers_step (Query-F.Or members) = list_all (λ small. small) members.items
 
--- whether each number in the query is that of three bytes, and so below 2^24
+-- whether each number in the query is a trigram: it is below 2^24
 abbrev pub are_trigrams : Query → Bool
 are_trigrams query = fold-Query Bool numbers_step query

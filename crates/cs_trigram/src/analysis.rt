@@ -1,79 +1,87 @@
-// The query of a pattern, in one walk from its leaves.
+// The query of a pattern, computed bottom-up in one pass over its tree (`analyze` in Go's
+// codesearch; Cox, "Regular Expression Matching with a Trigram Index").
 ghost use Rattle.std.specs.Prelude.{IfOk, IsTrue};
 ghost use Rattle.cs_trigram.specs.QueryNumbers.{are_trigrams};
 ghost use Rattle.cs_syntax.specs.Matching.{cat, alt};
 ghost use Rattle.cs_syntax.specs.Node.{tree_of};
 ghost use Rattle.cs_syntax.specs.NodeList.{trees_of};
 ghost use Rattle.cs_trigram.specs.Query.{LosesNoLine};
-ghost use Rattle.cs_trigram.specs.FiniteWords.{HasFewWords};
-ghost use Rattle.cs_trigram.specs.PlainRuns.{IsSharp, RequiresWord};
-ghost use Rattle.cs_trigram.specs.Known.{IsKnown};
+ghost use Rattle.cs_trigram.specs.ExactQuery.{HasFewExactStrings, RequiresExactString};
+ghost use Rattle.cs_trigram.specs.ExactRuns.{IsSelective};
+ghost use Rattle.cs_trigram.specs.RegexpInfo.{IsInfoOf};
 
-use crate::branches::AskedChoice;
-use crate::counted::Counted;
-use crate::known::{Known, known_of_rounds, known_of_words, query_of_words};
+use crate::alternation::AlternationInfo;
+use crate::exact_set::ExactSet;
+use crate::expansion::{empty_string, strings_of_chars, strings_of_set};
 use crate::queries::Query;
-use crate::sequence::Sequence;
-use crate::spelling::{no_bytes, words_of_chars, words_of_set};
+use crate::regexp_info::{RegexpInfo, info_of_exact, info_of_repeat, query_of_exact};
+use crate::sequence::SequenceInfo;
 use cs_syntax::{Node, Pattern};
 use std::alloc::{AllocError, Global};
 
-/// What a pattern asks of the trigrams of a text. It holds of each text with a line in which the
-/// pattern finds something. It asks at least for the trigrams of a word of each run of neighbours
-/// with at most twenty words, as for `abe` and `bef`, or `cde` and `def`, of `(ab|cd)ef`; of a
-/// pattern that itself has at most twenty words for those of one of these, and for nothing else.
+/// The trigram query of a pattern. It matches the trigrams of each text that has a matching line,
+/// so that a search that skips the other texts loses no line.
+///
+/// For each run of neighbouring parts that has one to twenty exact strings, it requires at least
+/// the trigrams of one of these strings: for `(ab|cd)ef` the trigrams `abe` and `bef`, or `cde` and
+/// `def`. If the whole pattern has one to twenty exact strings, the query requires the trigrams of
+/// one of them, and nothing else.
+///
+/// # Errors
+///
+/// `AllocError` if an allocation fails.
 pub fn query(alloc: Global, pattern: &Pattern) -> Result<Query, AllocError>
     ensures sound { IfOk result (λ query. LosesNoLine query pattern.now) }
-    ensures sharp { IfOk result (λ query. IsSharp query pattern.now) }
-    ensures words { IfOk result (λ query. HasFewWords pattern.now → RequiresWord query pattern.now) }
+    ensures selective { IfOk result (λ query. IsSelective query pattern.now) }
+    ensures exact { IfOk result (λ query. HasFewExactStrings pattern.now → RequiresExactString query pattern.now) }
     ensures numbers { IfOk result (λ query. IsTrue (are_trigrams query)) }
 {
-    let Known {
-        words,
+    let RegexpInfo {
+        exact,
         ends: _,
         query,
-    } = known_of(alloc, pattern.tree())?;
-    query_of_words(alloc, &words, query)
+    } = analyze(alloc, pattern.tree())?;
+    query_of_exact(alloc, &exact, query)
 }
 
 #[cycle(query)]
-fn known_of(alloc: Global, node: &Node) -> Result<Known, AllocError>
-    ensures { IfOk result (λ known. IsKnown known (tree_of node.now)) }
+fn analyze(alloc: Global, node: &Node) -> Result<RegexpInfo, AllocError>
+    ensures { IfOk result (λ info. IsInfoOf info (tree_of node.now)) }
 {
     match node {
-        Node::Cat(parts) => known_of_sequence(alloc, parts),
-        Node::Alt(parts) => known_of_choice(alloc, parts),
-        Node::Rep(x, least, most) => known_of_rounds(alloc, known_of(alloc, x)?, *least, *most),
-        Node::Set(set) => known_of_words(alloc, Counted::of(words_of_set(alloc, set)?)),
-        Node::Chars(set) => known_of_words(alloc, Counted::of(words_of_chars(alloc, set)?)),
+        Node::Cat(parts) => analyze_sequence(alloc, parts),
+        Node::Alt(parts) => analyze_alternation(alloc, parts),
+        Node::Rep(x, least, most) => info_of_repeat(alloc, analyze(alloc, x)?, *least, *most),
+        Node::Set(set) => info_of_exact(alloc, ExactSet::of(strings_of_set(alloc, set)?)),
+        Node::Chars(set) => info_of_exact(alloc, ExactSet::of(strings_of_chars(alloc, set)?)),
         Node::Empty | Node::LineStart | Node::LineEnd | Node::WordEdge | Node::NotWordEdge => {
-            known_of_words(alloc, Counted::Few(no_bytes(alloc)?))
+            info_of_exact(alloc, ExactSet::Few(empty_string(alloc)?))
         }
     }
 }
 
 #[cycle(query)]
-fn known_of_sequence(alloc: Global, parts: &[Node]) -> Result<Known, AllocError>
-    ensures { IfOk result (λ known. IsKnown known (cat (trees_of parts.now))) }
+fn analyze_sequence(alloc: Global, parts: &[Node]) -> Result<RegexpInfo, AllocError>
+    ensures { IfOk result (λ info. IsInfoOf info (cat (trees_of parts.now))) }
 {
-    let mut sequence = Sequence::new(alloc)?;
-    let mut at = parts.len();
-    'parts: while at > 0 {
-        at -= 1;
-        sequence.add(alloc, known_of(alloc, &parts[at])?)?;
+    let mut sequence = SequenceInfo::new(alloc)?;
+    let mut index = parts.len();
+    'parts: while index > 0 {
+        index -= 1;
+        sequence.add(alloc, analyze(alloc, &parts[index])?)?;
     }
     sequence.finish(alloc)
 }
 
 #[cycle(query)]
-fn known_of_choice(alloc: Global, parts: &[Node]) -> Result<Known, AllocError>
-    ensures { IfOk result (λ known. IsKnown known (alt (trees_of parts.now))) }
+fn analyze_alternation(alloc: Global, parts: &[Node]) -> Result<RegexpInfo, AllocError>
+    ensures { IfOk result (λ info. IsInfoOf info (alt (trees_of parts.now))) }
 {
-    let mut choice = AskedChoice::new(alloc);
-    let mut at = parts.len();
-    'parts: while at > 0 {
-        at -= 1;
-        choice.add(alloc, known_of(alloc, &parts[at])?)?;
+    let mut alternation = AlternationInfo::new(alloc);
+    let mut index = parts.len();
+    'parts: while index > 0 {
+        index -= 1;
+        alternation.add(alloc, analyze(alloc, &parts[index])?)?;
     }
-    Ok(choice.finish())
+    Ok(alternation.finish())
 }

@@ -1,24 +1,25 @@
-// A scanner with limits of its own.
+// A scanner whose limits are parameters.
 ghost use Rattle.std.specs.Prelude.{◌≡◌, ◌+◌, IfOk};
-ghost use Rattle.cs_tree.specs.Loss.{LosesAtMost};
-ghost use Rattle.cs_trigram.specs.Scans.{IsScanOf, HasTrigramSet, IsRightGathering, GathersOnce, is_scan_failure};
+ghost use Rattle.cs_tree.specs.ConsumesAtMost.{ConsumesAtMost};
+ghost use Rattle.cs_trigram.specs.Scans.{IsScanOf, HasTrigramSet, IsGatheringOf, HasDistinctTrigrams, is_scan_failure};
 ghost use Rattle.cs_tree.specs.FailureCount.{count_after};
 ghost use Rattle.cs_trigram.specs.Small.{IsSmall};
 
 use crate::gatherer::Gatherer;
 use crate::limits::Limits;
 use crate::scan::{Gathered, Scan, ScanFault};
-use crate::sorter::Sorter;
+use crate::trigram_sorter::TrigramSorter;
 use cs_tree::Source;
 use std::alloc::{AllocError, Global};
 use std::marker::Model;
 
-/// A scanner with limits of its own, which are all that a contract sees of it: the most bytes of a file and of a line,
-/// and the most trigrams. `Scanner` is the one at the limits of files that are indexed.
+/// A scanner whose limits are parameters: the most bytes of a file, the most bytes of a line, and
+/// the most trigrams. Contracts see only these limits of it. `Scanner` has the limits of indexed
+/// files.
 #[derive(Drop)]
 pub struct BoundedScanner {
     alloc: Global,
-    sorter: Sorter,
+    sorter: TrigramSorter,
     gatherer: Gatherer,
 }
 
@@ -35,41 +36,42 @@ impl Model for BoundedScanner {
 }
 
 impl BoundedScanner {
-    /// A scanner that has its buffer and its table, about 2.6 MB.
+    /// A scanner with its buffer and its bitmap, about 2.6 MB in all.
     pub fn new(alloc: Global, limits: Limits) -> Result<BoundedScanner, AllocError>
         requires { IsSmall limits }
         ensures { IfOk result (λ scanner. scanner ≡ limits) }
     {
         Ok(BoundedScanner {
             alloc,
-            sorter: Sorter::new(alloc, limits.trigrams)?,
+            sorter: TrigramSorter::new(alloc, limits.trigrams)?,
             gatherer: Gatherer::new(alloc, limits)?,
         })
     }
 
-    /// What the file is that the source gives.
+    /// Scans a file. Returns its trigrams if it is text, otherwise the reason to skip it.
     pub fn scan<R: Source>(&mut self, source: &mut R) -> Result<Scan, ScanFault>
-        ensures told { IsScanOf self.old (R.told source.old) result }
+        ensures model { IsScanOf self.old (R.model source.old) result }
         ensures trigrams { IfOk result HasTrigramSet }
         ensures failed { R.failed source.new ≡
             count_after is_scan_failure result (R.failed source.old) }
-        ensures bounded { LosesAtMost (self.old.bytes + 1) (R.told source.old) (R.told source.new) }
+        ensures bounded { ConsumesAtMost (self.old.bytes + 1) (R.model source.old) (R.model source.new) }
         ensures keeps { R.Keeps source.old source.new }
         ensures same { self.new ≡ self.old }
     {
         self.gatherer.scan(self.alloc, &mut self.sorter, source)
     }
 
-    /// What the file is that the source gives, with its trigrams as they were found.
+    /// Scans a file. The trigrams of the result are borrowed from the scanner, in the order of
+    /// their first occurrence.
     pub fn gather<R: Source>(&mut self, source: &mut R) -> Result<Gathered<'_>, ScanFault>
-        ensures told { IsRightGathering self.old (R.told source.old) result }
-        ensures trigrams { IfOk result GathersOnce }
+        ensures model { IsGatheringOf self.old (R.model source.old) result }
+        ensures trigrams { IfOk result HasDistinctTrigrams }
         ensures failed { R.failed source.new ≡
             count_after is_scan_failure result (R.failed source.old) }
-        ensures bounded { LosesAtMost (self.old.bytes + 1) (R.told source.old) (R.told source.new) }
+        ensures bounded { ConsumesAtMost (self.old.bytes + 1) (R.model source.old) (R.model source.new) }
         ensures keeps { R.Keeps source.old source.new }
     {
-        let ended = self.gatherer.read(source)?;
-        Ok(self.gatherer.gathering(ended))
+        let outcome = self.gatherer.read(source)?;
+        Ok(self.gatherer.gathering(outcome))
     }
 }

@@ -1,75 +1,80 @@
-// How the texts that a tree takes begin and end.
+// The prefixes and suffixes of the matches of a tree (`prefix` and `suffix` in Go's codesearch).
 ghost use Rattle.std.specs.Prelude.{IfOk, ℕ, Option};
 ghost use Rattle.cs_syntax.specs.Matching.{Tree, Trees, none, more, rep};
-ghost use Rattle.cs_trigram.specs.Affixes.{AreAffixes, AreAffixesOfRepeat};
-ghost use Rattle.cs_trigram.specs.Counted.{Counts};
+ghost use Rattle.cs_trigram.specs.EndStrings.{AreEndStrings, AreEndStringsOfRepeat};
+ghost use Rattle.cs_trigram.specs.ExactSet.{IsExactSetOf};
 ghost use Rattle.cs_trigram.specs.Ends.{AreEnds, AreEndsOfAll, AreEndsOfSome};
 
-use crate::affixes::{
-    Affix, Side, affixes_of_words, any_affix, concatenate_affixes, either_affixes, empty_affix,
+use crate::end_strings::{
+    EndString, Side, any_end_string, concatenate_end_strings, empty_end_string, end_strings_of,
+    union_of_end_strings,
 };
-use crate::counted::Counted;
+use crate::exact_set::ExactSet;
 use std::alloc::{AllocError, Global};
 
-/// So many rounds are told apart at most.
-const ROUNDS: u32 = 3;
+/// The most iterations that a repeat is unrolled to: an end string has at most three bytes.
+const MAX_ITERATIONS: u32 = 3;
 
-/// How the texts of a tree begin and how they end.
+/// The prefixes and the suffixes of the matches of a tree.
 #[derive(Drop)]
 pub(crate) struct Ends {
-    pub(crate) prefixes: Vec<Affix>,
-    pub(crate) suffixes: Vec<Affix>,
+    pub(crate) prefixes: Vec<EndString>,
+    pub(crate) suffixes: Vec<EndString>,
 }
 
-/// What the texts of a tree with these words have at a side.
-fn affixes_of_counted(alloc: Global, side: Side, words: &Counted) -> Result<Vec<Affix>, AllocError>
-    ensures { IfOk result (λ affixes. (t : Tree) → Counts words.now t →
-        AreAffixes side affixes.items t) }
-{
-    match words {
-        Counted::Few(few) => affixes_of_words(alloc, side, few),
-        _ => any_affix(alloc),
-    }
-}
-
-/// What the texts of at least so many rounds have at a side.
-fn affixes_of_rounds(
+/// The end strings of a tree with this exact set.
+fn end_strings_of_exact(
     alloc: Global,
     side: Side,
-    once: &[Affix],
-    least: u32,
-) -> Result<Vec<Affix>, AllocError>
-    ensures { IfOk result (λ affixes. (t : Tree) → AreAffixes side once.now t →
-        AreAffixesOfRepeat side affixes.items t least) }
+    strings: &ExactSet,
+) -> Result<Vec<EndString>, AllocError>
+    ensures { IfOk result (λ end_strings. (t : Tree) → IsExactSetOf strings.now t →
+        AreEndStrings side end_strings.items t) }
 {
-    let begun = concatenate_affixes(alloc, side, once, &any_affix(alloc)?)?;
-    let mut affixes = either_affixes(alloc, side, begun, &empty_affix(alloc)?)?;
-    for _round in 0..least.min(ROUNDS) {
-        affixes = concatenate_affixes(alloc, side, once, &affixes)?;
+    match strings {
+        ExactSet::Few(few) => end_strings_of(alloc, side, few),
+        _ => any_end_string(alloc),
     }
-    Ok(affixes)
+}
+
+/// The end strings of at least `least` iterations.
+fn end_strings_of_repeat(
+    alloc: Global,
+    side: Side,
+    once: &[EndString],
+    least: u32,
+) -> Result<Vec<EndString>, AllocError>
+    ensures { IfOk result (λ end_strings. (t : Tree) → AreEndStrings side once.now t →
+        AreEndStringsOfRepeat side end_strings.items t least) }
+{
+    let begun = concatenate_end_strings(alloc, side, once, &any_end_string(alloc)?)?;
+    let mut end_strings = union_of_end_strings(alloc, side, begun, &empty_end_string(alloc)?)?;
+    for _iteration in 0..least.min(MAX_ITERATIONS) {
+        end_strings = concatenate_end_strings(alloc, side, once, &end_strings)?;
+    }
+    Ok(end_strings)
 }
 
 impl Ends {
-    /// Of a tree with these words.
-    pub(crate) fn of_counted(alloc: Global, words: &Counted) -> Result<Ends, AllocError>
-        ensures { IfOk result (λ ends. (t : Tree) → Counts words.now t → AreEnds ends t) }
+    /// The ends of a tree with this exact set.
+    pub(crate) fn of_exact(alloc: Global, strings: &ExactSet) -> Result<Ends, AllocError>
+        ensures { IfOk result (λ ends. (t : Tree) → IsExactSetOf strings.now t → AreEnds ends t) }
     {
-        let prefixes = affixes_of_counted(alloc, Side::Prefix, words)?;
-        let suffixes = affixes_of_counted(alloc, Side::Suffix, words)?;
+        let prefixes = end_strings_of_exact(alloc, Side::Prefix, strings)?;
+        let suffixes = end_strings_of_exact(alloc, Side::Suffix, strings)?;
         Ok(Ends { prefixes, suffixes })
     }
 
-    /// Of a sequence of no parts.
+    /// The ends of an empty sequence.
     pub(crate) fn of_no_part(alloc: Global) -> Result<Ends, AllocError>
         ensures { IfOk result (λ ends. AreEndsOfAll ends none) }
     {
-        let prefixes = empty_affix(alloc)?;
-        let suffixes = empty_affix(alloc)?;
+        let prefixes = empty_end_string(alloc)?;
+        let suffixes = empty_end_string(alloc)?;
         Ok(Ends { prefixes, suffixes })
     }
 
-    /// Of a choice without branches.
+    /// The ends of an alternation without branches.
     pub(crate) fn of_no_branch(alloc: Global) -> Ends
         ensures { AreEndsOfSome result none }
     {
@@ -79,34 +84,44 @@ impl Ends {
         }
     }
 
-    /// Of a part and those behind it.
-    pub(crate) fn before(&self, alloc: Global, behind: &Ends) -> Result<Ends, AllocError>
+    /// The ends of a part followed by other parts.
+    pub(crate) fn before(&self, alloc: Global, following: &Ends) -> Result<Ends, AllocError>
         ensures { IfOk result (λ ends. (t : Tree) (ts : Trees) → AreEnds self.now t →
-            AreEndsOfAll behind.now ts → AreEndsOfAll ends (more t ts)) }
+            AreEndsOfAll following.now ts → AreEndsOfAll ends (more t ts)) }
     {
-        let prefixes = concatenate_affixes(alloc, Side::Prefix, &self.prefixes, &behind.prefixes)?;
-        let suffixes = concatenate_affixes(alloc, Side::Suffix, &behind.suffixes, &self.suffixes)?;
+        let prefixes = concatenate_end_strings(
+            alloc,
+            Side::Prefix,
+            &self.prefixes,
+            &following.prefixes,
+        )?;
+        let suffixes = concatenate_end_strings(
+            alloc,
+            Side::Suffix,
+            &following.suffixes,
+            &self.suffixes,
+        )?;
         Ok(Ends { prefixes, suffixes })
     }
 
-    /// Of a branch and the others.
+    /// The ends of a branch and of the other branches together.
     pub(crate) fn or(&self, alloc: Global, others: Ends) -> Result<Ends, AllocError>
         ensures { IfOk result (λ ends. (t : Tree) (ts : Trees) → AreEnds self.now t →
             AreEndsOfSome others ts → AreEndsOfSome ends (more t ts)) }
     {
         let Ends { prefixes, suffixes } = others;
-        let prefixes = either_affixes(alloc, Side::Prefix, prefixes, &self.prefixes)?;
-        let suffixes = either_affixes(alloc, Side::Suffix, suffixes, &self.suffixes)?;
+        let prefixes = union_of_end_strings(alloc, Side::Prefix, prefixes, &self.prefixes)?;
+        let suffixes = union_of_end_strings(alloc, Side::Suffix, suffixes, &self.suffixes)?;
         Ok(Ends { prefixes, suffixes })
     }
 
-    /// Of at least so many rounds.
-    pub(crate) fn of_rounds(&self, alloc: Global, least: u32) -> Result<Ends, AllocError>
+    /// The ends of at least `least` iterations.
+    pub(crate) fn of_repeat(&self, alloc: Global, least: u32) -> Result<Ends, AllocError>
         ensures { IfOk result (λ ends. (t : Tree) (most : Option ℕ) → AreEnds self.now t →
             AreEnds ends (rep t least most)) }
     {
-        let prefixes = affixes_of_rounds(alloc, Side::Prefix, &self.prefixes, least)?;
-        let suffixes = affixes_of_rounds(alloc, Side::Suffix, &self.suffixes, least)?;
+        let prefixes = end_strings_of_repeat(alloc, Side::Prefix, &self.prefixes, least)?;
+        let suffixes = end_strings_of_repeat(alloc, Side::Suffix, &self.suffixes, least)?;
         Ok(Ends { prefixes, suffixes })
     }
 }

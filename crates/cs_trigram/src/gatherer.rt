@@ -1,93 +1,97 @@
-// The trigrams of a file, gathered block by block.
+// Reads a file block by block, tests the text rules and collects the trigrams.
 ghost use Rattle.std.specs.Prelude.{◌≡◌, ◌+◌, ◌<◌, ◌≤◌, ◌^◌, ℕ, List, [], None, Ok, length, IfOk};
 ghost use Rattle.std.specs.List.{AllByRecursion};
-ghost use Rattle.cs_tree.specs.Loss.{LosesAtMost};
+ghost use Rattle.cs_tree.specs.ConsumesAtMost.{ConsumesAtMost};
 ghost use Rattle.cs_tree.specs.FailureCount.{count_after};
-ghost use Rattle.cs_tree.specs.Told.{ends};
-ghost use Rattle.cs_trigram.specs.Scans.{Finding, finding_at, is_scan_failure, SaysInAnyOrder, GathersOnce, IsScanOf, HasTrigramSet};
+ghost use Rattle.cs_tree.specs.StreamModels.{ends};
+ghost use Rattle.cs_trigram.specs.Scans.{ScanOutcome, scan_outcome_of, is_scan_failure, ReportsUnordered, HasDistinctTrigrams, IsScanOf, HasTrigramSet};
 ghost use Rattle.cs_trigram.specs.Text.{first_broken};
 ghost use Rattle.cs_trigram.specs.Trigram.{set_of_numbers};
 ghost use Rattle.cs_trigram.specs.TrigramSets.{trigram_count, AreDistinct};
 ghost use Rattle.cs_trigram.specs.Small.{IsSmall};
-ghost use Rattle.cs_trigram.specs.declared.found.TheConstants.{WITH_TWO};
-ghost use Rattle.cs_trigram.specs.Found.{Knows, IsSound, numbers_of};
-ghost use Rattle.cs_trigram.specs.Ended.{SaysOf, IsRightOf, HasNumbers};
+ghost use Rattle.cs_trigram.specs.declared.seen_trigrams.TheConstants.{WITH_TWO};
+ghost use Rattle.cs_trigram.specs.SeenTrigrams.{HasSeenBytes, IsSound, numbers_of};
+ghost use Rattle.cs_trigram.specs.Outcome.{ReportsOutcome, IsOutcomeOf, HasTrigramNumbers};
 
 use crate::blocks::{block, carry, read_block, with_two_before};
-use crate::found::{BLOCK, FoundTrigrams};
+use crate::fast_path::validate;
 use crate::limits::Limits;
-use crate::place::Place;
-use crate::quick::pass;
+use crate::position::Position;
 use crate::scan::{Gathered, Reason, Scan, ScanFault};
-use crate::sorter::Sorter;
+use crate::seen_trigrams::{BLOCK, SeenTrigrams};
+use crate::trigram_sorter::TrigramSorter;
 use cs_tree::{IoFault, Source};
 use std::alloc::{AllocError, Global};
 
-/// What a file is, of which the trigrams are found.
-pub(crate) enum Ended {
-    /// A text of so many bytes.
+/// Whether a file is text.
+pub(crate) enum Outcome {
+    /// Text of this many bytes.
     Text(u64),
-    /// It is left out.
+    /// The file is skipped.
     Skip(Reason),
 }
 
-/// What there is to say of a file that was read to its end.
-fn at_end(found: &FoundTrigrams, bytes: u64) -> Ended
-    ensures says { (most : Limits) (front : List ℕ) → Knows most.trigrams found.now front →
-        first_broken most [] front ≡ None → bytes ≡ length front →
-        SaysOf (numbers_of found.now) (Ok result) (finding_at most front ends) }
-    ensures trigrams { (most : Limits) (front : List ℕ) → Knows most.trigrams found.now front →
-        first_broken most [] front ≡ None → HasNumbers (numbers_of found.now) result }
+/// The outcome for a file whose bytes break no rule.
+fn outcome_at_end(found: &SeenTrigrams, bytes: u64) -> Outcome
+    ensures reports { (most : Limits) (prefix : List ℕ) → HasSeenBytes most.trigrams found.now prefix →
+        first_broken most [] prefix ≡ None → bytes ≡ length prefix →
+        ReportsOutcome (numbers_of found.now) (Ok result) (scan_outcome_of most prefix ends) }
+    ensures trigrams { (most : Limits) (prefix : List ℕ) → HasSeenBytes most.trigrams found.now prefix →
+        first_broken most [] prefix ≡ None → HasTrigramNumbers (numbers_of found.now) result }
 {
-    if found.is_over() {
-        return Ended::Skip(Reason::ManyTrigrams);
+    if found.is_over_limit() {
+        return Outcome::Skip(Reason::ManyTrigrams);
     }
-    Ended::Text(bytes)
+    Outcome::Text(bytes)
 }
 
 /// Reads a file to its end, or to the first byte that breaks a rule.
-fn read_through<R: Source>(
+fn read_to_end<R: Source>(
     limits: &Limits,
     buffer: &mut [u8],
-    found: &mut FoundTrigrams,
+    found: &mut SeenTrigrams,
     source: &mut R,
-) -> Result<Ended, ScanFault>
+) -> Result<Outcome, ScanFault>
     requires small { IsSmall limits.now }
     requires room { length buffer.old ≡ WITH_TWO }
-    requires empty { Knows limits.now.trigrams found.old [] }
-    ensures told { IsRightOf limits.now (numbers_of found.new) (R.told source.old) result }
-    ensures trigrams { IfOk result (HasNumbers (numbers_of found.new)) }
+    requires empty { HasSeenBytes limits.now.trigrams found.old [] }
+    ensures model { IsOutcomeOf limits.now (numbers_of found.new) (R.model source.old) result }
+    ensures trigrams { IfOk result (HasTrigramNumbers (numbers_of found.new)) }
     ensures failed { R.failed source.new ≡
         count_after is_scan_failure result (R.failed source.old) }
-    ensures bounded { LosesAtMost (limits.now.bytes + 1) (R.told source.old) (R.told source.new) }
+    ensures bounded { ConsumesAtMost (limits.now.bytes + 1) (R.model source.old) (R.model source.new) }
     ensures keeps { R.Keeps source.old source.new }
     ensures sound { IsSound found.new }
     ensures list { length found.new.list.items ≡ limits.now.trigrams + WITH_TWO }
 {
-    let mut place = Place::START;
-    'pieces: loop {
-        let room = (limits.bytes + 1 - place.count).min(BLOCK as u64) as usize;
+    let mut position = Position::START;
+    'chunks: loop {
+        let room = (limits.bytes + 1 - position.count).min(BLOCK as u64) as usize;
         let n = match read_block(buffer, room, source) {
             Ok(n) => n,
             Err(IoFault::Failed) => return Err(ScanFault::Read),
             Err(IoFault::Memory) => return Err(ScanFault::Memory),
         };
         if n == 0 {
-            return Ok(at_end(found, place.count));
+            return Ok(outcome_at_end(found, position.count));
         }
-        match pass(limits, place, block(buffer, n)) {
+        match validate(limits, position, block(buffer, n)) {
             Ok(next) => {
-                found.take(with_two_before(buffer, place.count, n));
+                found.add_block(with_two_before(buffer, position.count, n));
                 carry(buffer, n);
-                place = next;
+                position = next;
             }
-            Err(reason) => return Ok(Ended::Skip(reason)),
+            Err(reason) => return Ok(Outcome::Skip(reason)),
         }
     }
 }
 
-/// The set of some numbers, of which no two are equal.
-fn set_of(alloc: Global, sorter: &mut Sorter, numbers: &[u32]) -> Result<Vec<u32>, AllocError>
+/// The sorted set of distinct numbers.
+fn set_of(
+    alloc: Global,
+    sorter: &mut TrigramSorter,
+    numbers: &[u32],
+) -> Result<Vec<u32>, AllocError>
     requires fits { length numbers.now < 2 ^ 32 }
     requires below { AllByRecursion (λ n. n < trigram_count) numbers.now }
     requires once { AreDistinct numbers.now }
@@ -98,19 +102,18 @@ fn set_of(alloc: Global, sorter: &mut Sorter, numbers: &[u32]) -> Result<Vec<u32
     Ok(set)
 }
 
-/// What gathers the trigrams of one file after another. Those of the last one stay until the next is
-/// read.
+/// Reads files, one after another. The trigrams of the last file stay until the next one is read.
 #[derive(Drop)]
 pub(crate) struct Gatherer {
     limits: Limits,
     buffer: Vec<u8>,
-    found: FoundTrigrams,
+    found: SeenTrigrams,
 }
 
 impl Gatherer {
     ghost use Rattle.cs_trigram.specs.Scanning.{IsPrepared, IsPreparedFor};
 
-    /// A gatherer that has its buffer and its table, about 2.6 MB.
+    /// A gatherer with its buffer and its bitmap, about 2.6 MB in all.
     pub(crate) fn new(alloc: Global, limits: Limits) -> Result<Gatherer, AllocError>
         requires { IsSmall limits }
         ensures { IfOk result (IsPreparedFor limits) }
@@ -118,65 +121,65 @@ impl Gatherer {
         Ok(Gatherer {
             limits,
             buffer: vec![in alloc; 0u8; BLOCK + 2]?,
-            found: FoundTrigrams::new(alloc, limits.trigrams)?,
+            found: SeenTrigrams::new(alloc, limits.trigrams)?,
         })
     }
 
-    /// Reads a file, and says what it is.
-    pub(crate) fn read<R: Source>(&mut self, source: &mut R) -> Result<Ended, ScanFault>
+    /// Reads a file.
+    pub(crate) fn read<R: Source>(&mut self, source: &mut R) -> Result<Outcome, ScanFault>
         requires { IsPrepared self.old }
-        ensures told { IsRightOf self.old.limits (numbers_of self.new.found)
-            (R.told source.old) result }
-        ensures trigrams { IfOk result (HasNumbers (numbers_of self.new.found)) }
+        ensures model { IsOutcomeOf self.old.limits (numbers_of self.new.found)
+            (R.model source.old) result }
+        ensures trigrams { IfOk result (HasTrigramNumbers (numbers_of self.new.found)) }
         ensures failed { R.failed source.new ≡
             count_after is_scan_failure result (R.failed source.old) }
-        ensures bounded { LosesAtMost (self.old.limits.bytes + 1)
-            (R.told source.old) (R.told source.new) }
+        ensures bounded { ConsumesAtMost (self.old.limits.bytes + 1)
+            (R.model source.old) (R.model source.new) }
         ensures keeps { R.Keeps source.old source.new }
         ensures ready { IsPreparedFor self.old.limits self.new }
     {
         self.found.clear();
-        read_through(&self.limits, &mut self.buffer, &mut self.found, source)
+        read_to_end(&self.limits, &mut self.buffer, &mut self.found, source)
     }
 
-    /// What a file is that was read last, with its trigrams as they were found.
-    pub(crate) fn gathering(&self, ended: Ended) -> Gathered<'_>
-        ensures says { (finding : Finding) → SaysOf (numbers_of self.now.found) (Ok ended) finding →
-            SaysInAnyOrder (Ok result) finding }
-        ensures trigrams { HasNumbers (numbers_of self.now.found) ended → GathersOnce result }
+    /// The outcome of the last file, with its trigrams in the order of their first occurrence.
+    pub(crate) fn gathering(&self, outcome: Outcome) -> Gathered<'_>
+        ensures reports { (scan_outcome : ScanOutcome) → ReportsOutcome (numbers_of self.now.found) (Ok outcome) scan_outcome →
+            ReportsUnordered (Ok result) scan_outcome }
+        ensures trigrams { HasTrigramNumbers (numbers_of self.now.found) outcome → HasDistinctTrigrams result }
     {
-        match ended {
-            Ended::Text(bytes) => Gathered::Text {
+        match outcome {
+            Outcome::Text(bytes) => Gathered::Text {
                 trigrams: self.found.numbers(),
                 bytes,
             },
-            Ended::Skip(reason) => Gathered::Skip(reason),
+            Outcome::Skip(reason) => Gathered::Skip(reason),
         }
     }
 
-    /// Reads a file, and says what it is, with its trigrams in order.
+    /// Reads a file, and sorts its trigrams.
     pub(crate) fn scan<R: Source>(
         &mut self,
         alloc: Global,
-        sorter: &mut Sorter,
+        sorter: &mut TrigramSorter,
         source: &mut R,
     ) -> Result<Scan, ScanFault>
         requires { IsPrepared self.old }
-        ensures told { IsScanOf self.old.limits (R.told source.old) result }
+        ensures model { IsScanOf self.old.limits (R.model source.old) result }
         ensures trigrams { IfOk result HasTrigramSet }
         ensures failed { R.failed source.new ≡
             count_after is_scan_failure result (R.failed source.old) }
-        ensures bounded { LosesAtMost (self.old.limits.bytes + 1)
-            (R.told source.old) (R.told source.new) }
+        ensures bounded { ConsumesAtMost (self.old.limits.bytes + 1)
+            (R.model source.old) (R.model source.new) }
         ensures keeps { R.Keeps source.old source.new }
         ensures ready { IsPreparedFor self.old.limits self.new }
     {
         match self.read(source)? {
-            Ended::Text(bytes) => {
+            Outcome::Text(bytes) => {
                 let trigrams = set_of(alloc, sorter, self.found.numbers())?;
                 Ok(Scan::Text { trigrams, bytes })
             }
-            Ended::Skip(reason) => Ok(Scan::Skip(reason)),
+            Outcome::Skip(reason) => Ok(Scan::Skip(reason)),
         }
     }
 }

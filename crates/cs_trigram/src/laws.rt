@@ -1,17 +1,19 @@
-//! What follows from the definitions alone.
+//! Laws of the definitions: these functions do nothing, and their contracts follow from the
+//! definitions alone.
 ghost use Rattle.std.specs.Prelude.{◌≡◌, ◌<◌, ◌++◌, ◌∷◌, ℕ, Bool, List, [], Option, Some, None, length, true, false};
-ghost use Rattle.cs_trigram.specs.Scans.{finding_at, text, left_out};
+ghost use Rattle.cs_trigram.specs.Scans.{scan_outcome_of, text, skipped_for};
 ghost use Rattle.std.specs.List.{AllByRecursion};
-ghost use Rattle.cs_tree.specs.Told.{ends};
+ghost use Rattle.cs_tree.specs.StreamModels.{ends};
 ghost use Rattle.cs_syntax.specs.Matching.{Tree, HasMatch};
 ghost use Rattle.cs_trigram.specs.declared.limits.Limits.{Limits};
 ghost use Rattle.cs_trigram.specs.declared.scan.Reason.{Reason};
 ghost use Rattle.cs_trigram.specs.Trigram.{trigram, tri, closing_trigram, Ascends, has};
 ghost use Rattle.cs_trigram.specs.Query.{HasTrigrams};
-ghost use Rattle.cs_trigram.specs.PlainRuns.{ShowsPlainRuns};
+ghost use Rattle.cs_trigram.specs.ExactRuns.{HasExactRuns};
 ghost use Rattle.cs_trigram.specs.Text.{first_broken, skip, text_trigrams};
 
-/// The trigrams of some bytes ascend. Among them is the number of each part of three bytes, and no other number.
+/// The trigrams of some bytes ascend. They are the numbers of the substrings of three bytes, and no
+/// others.
 pub fn each_part_has_its_trigram()
     ensures ascend { (bytes : List ℕ) → Ascends (tri bytes) }
     ensures parts { (before after : List ℕ) (a b c : ℕ) →
@@ -20,31 +22,32 @@ pub fn each_part_has_its_trigram()
         × (a b c : ℕ) × (bytes ≡ before ++ (a ∷ b ∷ c ∷ after)) × (n ≡ trigram a b c) }
 {}
 
-/// The trigrams of a part are trigrams of the whole.
+/// The trigrams of a substring are trigrams of the whole.
 pub fn a_part_has_no_other_trigram()
     ensures { (before part after : List ℕ) (n : ℕ) →
         has (tri part) n ≡ true → has (tri (before ++ (part ++ after))) n ≡ true }
 {}
 
-/// No trigram of a text is ff ff ff, since no byte above f7 may stand in it.
+/// No trigram of a text is ff ff ff, since a text has no byte above f7.
 pub fn no_trigram_of_a_text_is_the_last()
     ensures { (most : Limits) (bytes : List ℕ) →
         first_broken most [] bytes ≡ None → AllByRecursion (λ n. n < closing_trigram) (tri bytes) }
 {}
 
-/// What is found of bytes that end is whether they are text, and their trigrams.
+/// The outcome of a scan of a whole file says whether its bytes are text, and which trigrams they
+/// have.
 pub fn what_is_found_of_a_whole_file()
     ensures text { (most : Limits) (bytes trigrams : List ℕ) (count : ℕ) →
-        text trigrams count ≡ finding_at most bytes ends →
+        text trigrams count ≡ scan_outcome_of most bytes ends →
         text_trigrams most bytes ≡ Some trigrams × count ≡ length bytes }
-    ensures left_out { (most : Limits) (bytes : List ℕ) (reason : Reason) →
-        left_out reason ≡ finding_at most bytes ends →
+    ensures skipped_for { (most : Limits) (bytes : List ℕ) (reason : Reason) →
+        skipped_for reason ≡ scan_outcome_of most bytes ends →
         skip most bytes ≡ Some reason × text_trigrams most bytes ≡ None }
 {}
 
-/// What has the trigrams of a line in which a tree finds something shows the plain runs of the tree. So a query that
-/// asks for these alone loses no line.
-pub fn found_lines_show_the_plain_runs()
+/// A set that has the trigrams of a matching line has the exact runs of the tree. So a query that
+/// requires only the exact runs loses no line.
+pub fn matching_lines_have_the_exact_runs()
     ensures { (tree : Tree) (line : List ℕ) (set : ℕ → Bool) →
-        HasMatch tree line → HasTrigrams set line → ShowsPlainRuns set tree }
+        HasMatch tree line → HasTrigrams set line → HasExactRuns set tree }
 {}

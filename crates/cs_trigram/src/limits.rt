@@ -1,6 +1,7 @@
-// How much a scan takes.
+// The limits of a scan.
 
-/// The most bytes of a file, the most bytes of a line with its newline, and the most trigrams.
+/// The most bytes of a file, the most bytes of a line with its newline, and the most distinct
+/// trigrams.
 #[derive(Clone, Copy, Debug, PartialEq, Eq)]
 pub struct Limits {
     pub bytes: u64,
@@ -8,7 +9,7 @@ pub struct Limits {
     pub trigrams: usize,
 }
 
-/// The limits of a file that is indexed.
+/// The limits of an indexed file.
 pub(crate) const LIMITS: Limits = Limits {
     bytes: 1 << 30,
     line: 2000,

@@ -1,16 +1,16 @@
-// Queries over sets of trigrams.
+// Trigram queries.
 
-/// A condition on a set of trigrams, as that of a text.
+/// A condition on a set of trigrams: a tree of conjunctions and disjunctions.
 #[derive(Drop)]
 pub enum Query {
-    /// Each set meets it.
+    /// Matches every set.
     All,
-    /// No set meets it.
+    /// Matches no set.
     Nothing,
-    /// The set has the trigram, as its number below 2^24.
+    /// Matches the sets with this trigram, a number below 2^24.
     Tri(u32),
-    /// Each member is met.
+    /// Matches if each member does.
     And(Vec<Query>),
-    /// Some member is met.
+    /// Matches if some member does.
     Or(Vec<Query>),
 }

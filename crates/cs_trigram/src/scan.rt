@@ -1,53 +1,55 @@
-// What a scan answers.
+// The results of a scan.
 ghost use Rattle.std.specs.Prelude.{◌≡◌};
 ghost use Rattle.cs_trigram.specs.declared.scan.ScanFault.TheVariants as fault;
 
 use std::alloc::{AllocError, AllocFailed};
 use thiserror::Error;
 
-/// Why a file is left out. The first byte that breaks a rule gives the reason, and at one byte the
-/// rules go in this order.
+/// Why a file is skipped. The first byte that breaks a rule gives the reason; if it breaks several,
+/// the first of them in this order.
 #[derive(Clone, Copy, Debug, PartialEq, Eq)]
 pub enum Reason {
     /// A byte is `00`, as in `61 00`.
     Nul,
-    /// A byte may not stand after the one before it, as in `e9 61`. Before the first byte stands `00`.
+    /// A byte may not follow the one before it in UTF-8, as in `e9 61`. The start of the file
+    /// counts as `00`.
     Utf8,
-    /// There are more than 2^30 bytes.
+    /// The file has more than 2^30 bytes.
     TooLong,
-    /// A line has more than 2000 bytes, its newline counted.
+    /// A line has more than 2000 bytes, its newline included.
     LongLine,
-    /// There are more than 20000 trigrams. It is the reason only where no byte breaks a rule.
+    /// The file has more than 20000 distinct trigrams. This is the reason only if no byte breaks a
+    /// rule.
     ManyTrigrams,
 }
 
-/// What a file is.
+/// The result of a scan.
 #[derive(Debug, Drop, PartialEq, Eq)]
 pub enum Scan {
-    /// A text: its trigrams, each the number `65536 * a + 256 * b + c` of three bytes, strictly
-    /// ascending, and how many bytes it has.
+    /// Text: its trigrams, strictly ascending, each the number `65536 * a + 256 * b + c` of its
+    /// three bytes, and its length in bytes.
     Text { trigrams: Vec<u32>, bytes: u64 },
-    /// It is left out.
+    /// The file is skipped.
     Skip(Reason),
 }
 
-/// What a file is, of which the trigrams are lent by the scanner.
+/// The result of a scan whose trigrams are borrowed from the scanner.
 #[derive(Clone, Copy, Debug, PartialEq, Eq)]
 pub enum Gathered<'a> {
-    /// A text: its trigrams, each once, in the order in which they were found, and how many bytes it
-    /// has.
+    /// Text: its trigrams, each once, in the order of their first occurrence, and its length in
+    /// bytes.
     Text { trigrams: &'a [u32], bytes: u64 },
-    /// It is left out.
+    /// The file is skipped.
     Skip(Reason),
 }
 
-/// Why a scan was given up.
+/// Why a scan failed.
 #[derive(Clone, Copy, Debug, PartialEq, Eq, Error)]
 pub enum ScanFault {
-    /// A read failed, after bytes that break no rule.
+    /// A read failed, and the bytes before it break no rule.
     #[error("the input failed")]
     Read,
-    /// A growth was refused.
+    /// An allocation failed.
     #[error("out of memory")]
     Memory,
 }

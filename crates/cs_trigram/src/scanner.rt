@@ -1,24 +1,24 @@
-// The scanner of files that are indexed.
+// The scanner of indexed files.
 ghost use Rattle.std.specs.Prelude.{◌≡◌, ◌+◌, IfOk};
-ghost use Rattle.cs_tree.specs.Loss.{LosesAtMost};
-ghost use Rattle.cs_trigram.specs.Scans.{IsScanOf, HasTrigramSet, IsRightGathering, GathersOnce, is_scan_failure};
+ghost use Rattle.cs_tree.specs.ConsumesAtMost.{ConsumesAtMost};
+ghost use Rattle.cs_trigram.specs.Scans.{IsScanOf, HasTrigramSet, IsGatheringOf, HasDistinctTrigrams, is_scan_failure};
 ghost use Rattle.cs_tree.specs.FailureCount.{count_after};
 ghost use Rattle.cs_trigram.specs.Text.{limits};
 
 use crate::gatherer::Gatherer;
 use crate::limits::LIMITS;
 use crate::scan::{Gathered, Scan, ScanFault};
-use crate::sorter::Sorter;
+use crate::trigram_sorter::TrigramSorter;
 use cs_tree::Source;
 use std::alloc::{AllocError, Global};
 use std::marker::Model;
 
-/// A scanner of files. It is used for one after another, and each answer is that of the file alone:
-/// nothing is kept of it, so that a contract sees nothing of a scanner.
+/// A scanner of files, reusable for one file after another. Each result depends only on its file,
+/// so contracts see nothing of the scanner itself.
 #[derive(Drop)]
 pub struct Scanner {
     alloc: Global,
-    sorter: Sorter,
+    sorter: TrigramSorter,
     gatherer: Gatherer,
 }
 
@@ -34,48 +34,47 @@ impl Model for Scanner {
 }
 
 impl Scanner {
-    /// A scanner with its buffer and its table, about 2.6 MB.
+    /// A scanner with its buffer and its bitmap, about 2.6 MB in all.
     pub fn new(alloc: Global) -> Result<Scanner, AllocError> {
         Ok(Scanner {
             alloc,
-            sorter: Sorter::new(alloc, LIMITS.trigrams)?,
+            sorter: TrigramSorter::new(alloc, LIMITS.trigrams)?,
             gatherer: Gatherer::new(alloc, LIMITS)?,
         })
     }
 
-    /// Reads a file, and answers whether it is text, and its trigrams. No read follows the one
-    /// that gave a byte that breaks a rule.
+    /// Scans a file. Returns its trigrams if it is text, otherwise the reason to skip it. Reading
+    /// stops after the block with the first byte that breaks a rule.
     ///
     /// # Errors
     ///
-    /// `Read` where a read failed, after bytes that break no rule; `Memory` where a growth was
-    /// refused.
+    /// `Read` if a read fails, after bytes that break no rule; `Memory` if an allocation fails.
     pub fn scan<R: Source>(&mut self, source: &mut R) -> Result<Scan, ScanFault>
-        ensures told { IsScanOf limits (R.told source.old) result }
+        ensures model { IsScanOf limits (R.model source.old) result }
         ensures trigrams { IfOk result HasTrigramSet }
         ensures failed { R.failed source.new ≡
             count_after is_scan_failure result (R.failed source.old) }
-        ensures bounded { LosesAtMost (limits.bytes + 1) (R.told source.old) (R.told source.new) }
+        ensures bounded { ConsumesAtMost (limits.bytes + 1) (R.model source.old) (R.model source.new) }
         ensures keeps { R.Keeps source.old source.new }
     {
         self.gatherer.scan(self.alloc, &mut self.sorter, source)
     }
 
-    /// Reads a file as `scan` does, and lends its trigrams in the order in which they were found. No
-    /// memory is asked for, and nothing is put in order.
+    /// Scans a file as `scan` does. The trigrams of the result are borrowed from the scanner, in
+    /// the order of their first occurrence: nothing is sorted or allocated.
     ///
     /// # Errors
     ///
-    /// As those of `scan`.
+    /// Those of `scan`.
     pub fn gather<R: Source>(&mut self, source: &mut R) -> Result<Gathered<'_>, ScanFault>
-        ensures told { IsRightGathering limits (R.told source.old) result }
-        ensures trigrams { IfOk result GathersOnce }
+        ensures model { IsGatheringOf limits (R.model source.old) result }
+        ensures trigrams { IfOk result HasDistinctTrigrams }
         ensures failed { R.failed source.new ≡
             count_after is_scan_failure result (R.failed source.old) }
-        ensures bounded { LosesAtMost (limits.bytes + 1) (R.told source.old) (R.told source.new) }
+        ensures bounded { ConsumesAtMost (limits.bytes + 1) (R.model source.old) (R.model source.new) }
         ensures keeps { R.Keeps source.old source.new }
     {
-        let ended = self.gatherer.read(source)?;
-        Ok(self.gatherer.gathering(ended))
+        let outcome = self.gatherer.read(source)?;
+        Ok(self.gatherer.gathering(outcome))
     }
 }

@@ -1,71 +1,84 @@
-// What is known of a sequence, part by part from the last to the first.
+// The analysis of a sequence, part by part from the last to the first (`concat` in Go's
+// codesearch).
 ghost use Rattle.std.specs.Prelude.{IfOk, OnOk};
 ghost use Rattle.cs_syntax.specs.Matching.{Tree, Trees, none, more, cat};
-ghost use Rattle.cs_trigram.specs.Asked.{IsAskedOf};
-ghost use Rattle.cs_trigram.specs.Counted.{Counts};
-ghost use Rattle.cs_trigram.specs.Known.{IsKnown, IsSequence};
-ghost use Rattle.cs_trigram.specs.Sample.{IsOwn};
+ghost use Rattle.cs_trigram.specs.SequenceQuery.{IsSequenceQueryOf};
+ghost use Rattle.cs_trigram.specs.ExactSet.{IsExactSetOf};
+ghost use Rattle.cs_trigram.specs.RegexpInfo.{IsInfoOf, IsSequence};
+ghost use Rattle.cs_trigram.specs.Analysis.{IsMatchQuery};
 
-use crate::asked::Asked;
-use crate::counted::Counted;
 use crate::ends::Ends;
-use crate::known::Known;
+use crate::exact_set::ExactSet;
+use crate::expansion::empty_string;
 use crate::queries::Query;
-use crate::spelling::no_bytes;
+use crate::regexp_info::RegexpInfo;
+use crate::sequence_query::SequenceQuery;
 use std::alloc::{AllocError, Global};
 use std::mem;
 
-/// What is known of the parts of a sequence, from some part on.
+/// The analysis of the last parts of a sequence.
 #[derive(Drop)]
-pub(crate) struct Sequence {
-    words: Counted,
+pub(crate) struct SequenceInfo {
+    exact: ExactSet,
     ends: Ends,
-    asked: Asked,
+    sequence_query: SequenceQuery,
 }
 
-/// What the parts of a sequence with these words ask, where the words are not few.
-fn query_of(alloc: Global, words: &Counted, asked: Asked) -> Result<Query, AllocError>
-    ensures { IfOk result (λ query. (ts : Trees) → Counts words.now (cat ts) → IsAskedOf asked ts →
-        IsOwn query (cat ts)) }
+/// The query of a sequence with this exact set, valid if the set is not small.
+fn query_of(
+    alloc: Global,
+    exact: &ExactSet,
+    sequence_query: SequenceQuery,
+) -> Result<Query, AllocError>
+    ensures { IfOk result (λ query. (ts : Trees) → IsExactSetOf exact.now (cat ts) → IsSequenceQueryOf sequence_query ts →
+        IsMatchQuery query (cat ts)) }
 {
-    if let Some(_) = words.few() {
+    if let Some(_) = exact.few() {
         return Ok(Query::All);
     }
-    asked.finish(alloc)
+    sequence_query.finish(alloc)
 }
 
-impl Sequence {
-    /// Of no parts.
-    pub(crate) fn new(alloc: Global) -> Result<Sequence, AllocError>
+impl SequenceInfo {
+    /// The analysis of no parts.
+    pub(crate) fn new(alloc: Global) -> Result<SequenceInfo, AllocError>
         ensures { IfOk result (λ sequence. IsSequence sequence none) }
     {
-        let words = Counted::Few(no_bytes(alloc)?);
+        let exact = ExactSet::Few(empty_string(alloc)?);
         let ends = Ends::of_no_part(alloc)?;
-        let asked = Asked::new(alloc)?;
-        Ok(Sequence { words, ends, asked })
+        let sequence_query = SequenceQuery::new(alloc)?;
+        Ok(SequenceInfo {
+            exact,
+            ends,
+            sequence_query,
+        })
     }
 
-    /// A part goes before.
-    pub(crate) fn add(&mut self, alloc: Global, part: Known) -> Result<(), AllocError>
-        ensures { OnOk result ((t : Tree) (ts : Trees) → IsKnown part t → IsSequence self.old ts →
+    /// Prepends a part.
+    pub(crate) fn add(&mut self, alloc: Global, part: RegexpInfo) -> Result<(), AllocError>
+        ensures { OnOk result ((t : Tree) (ts : Trees) → IsInfoOf part t → IsSequence self.old ts →
             IsSequence self.new (more t ts)) }
     {
-        let Known { words, ends, query } = part;
-        let behind = mem::replace(&mut self.words, Counted::Endless);
-        self.words = words.concatenate(alloc, behind)?;
-        self.asked
-            .add(alloc, query, words, &ends.suffixes, &self.ends.prefixes)?;
+        let RegexpInfo { exact, ends, query } = part;
+        let following = mem::replace(&mut self.exact, ExactSet::Infinite);
+        self.exact = exact.concatenate(alloc, following)?;
+        self.sequence_query
+            .add(alloc, query, exact, &ends.suffixes, &self.ends.prefixes)?;
         self.ends = ends.before(alloc, &self.ends)?;
         Ok(())
     }
 
-    /// Of the whole sequence.
-    pub(crate) fn finish(self, alloc: Global) -> Result<Known, AllocError>
-        ensures { IfOk result (λ known. (ts : Trees) → IsSequence self ts →
-            IsKnown known (cat ts)) }
+    /// The analysis of the whole sequence.
+    pub(crate) fn finish(self, alloc: Global) -> Result<RegexpInfo, AllocError>
+        ensures { IfOk result (λ info. (ts : Trees) → IsSequence self ts →
+            IsInfoOf info (cat ts)) }
     {
-        let Sequence { words, ends, asked } = self;
-        let query = query_of(alloc, &words, asked)?;
-        Ok(Known { words, ends, query })
+        let SequenceInfo {
+            exact,
+            ends,
+            sequence_query,
+        } = self;
+        let query = query_of(alloc, &exact, sequence_query)?;
+        Ok(RegexpInfo { exact, ends, query })
     }
 }

@@ -1,7 +1,8 @@
-// The names that may have what a query asks for.
+// Candidates: the files whose trigrams match a query, by intersection and union of posting lists
+// (Go: `PostingQuery` in index/read.go).
 ghost use Rattle.std.specs.Prelude.{◌≡◌, ◌∷◌, ◌||◌, [], ℕ, Bool, true, false, filter, length, slice_index_or, IfOk, IfErr, IfSome};
 ghost use Rattle.cs_index.specs.Postings.{IsListFault, read_for};
-ghost use Rattle.cs_index.specs.Sifting.{AreMarkedToo, common_ids, ids_of_each, ids_of_some};
+ghost use Rattle.cs_index.specs.Intersection.{AreMarkedToo, common_ids, conjunction_ids, disjunction_ids};
 ghost use Rattle.cs_trigram.specs.Trigram.{has, Ascends};
 ghost use Rattle.std.specs.List.{list_all, list_any, range_with_len};
 ghost use Rattle.cs_index.specs.Opening.{rises};
@@ -13,28 +14,28 @@ ghost use Rattle.cs_trigram.specs.declared.queries.Query.TheVariants.{Tri};
 use crate::fault::IndexFault;
 use crate::reading::id_marks::{mark_ids, mark_list, marked_ids};
 use crate::reading::index::Index;
-use crate::reading::intersection::Sifter;
+use crate::reading::intersection::Intersection;
 use crate::reading::postings::Postings;
 use cs_trigram::Query;
 use std::alloc::{AllocError, Global};
 
 impl<'a> Index<'a> {
-    /// The ids of the names whose trigrams meet the query, ascending. Each list that the query
-    /// asks for is read to its end.
+    /// The ids of the names whose trigrams match the query, ascending. Each posting list that the
+    /// query mentions is read to its end, so that damage is always found.
     pub fn candidates(&self, alloc: Global, query: &Query) -> Result<Vec<u32>, IndexFault>
         ensures ids { IfOk result (λ ids. ids.items ≡ candidates_of self.now query.now) }
         ensures whole { IfOk result (λ _. is_answerable self.now query.now ≡ true) }
         ensures fault { IfErr result (IsListFault (is_answerable self.now query.now)) }
     {
-        // Naming a field opens what holds of every index: its trigrams rise.
-        let _entries = &self.cut;
-        ids_meeting(self, alloc, query)
+        // Naming a field makes the invariant of `Index` available: its trigrams are ascending.
+        let _entries = &self.slices;
+        ids_of_query(self, alloc, query)
     }
 }
 
-/// The ids of the names whose trigrams meet the query.
+/// The ids of the names whose trigrams match the query.
 #[cycle(candidates)]
-fn ids_meeting(index: &Index, alloc: Global, query: &Query) -> Result<Vec<u32>, IndexFault>
+fn ids_of_query(index: &Index, alloc: Global, query: &Query) -> Result<Vec<u32>, IndexFault>
     requires { rises index.now.entries ≡ true }
     ensures ids { IfOk result (λ ids. ids.items ≡ candidates_of index.now query.now) }
     ensures whole { IfOk result (λ _. is_answerable index.now query.now ≡ true) }
@@ -44,16 +45,16 @@ fn ids_meeting(index: &Index, alloc: Global, query: &Query) -> Result<Vec<u32>, 
         Query::All => Ok(every_id(alloc, index.len())?),
         Query::Nothing => Ok(Vec::new(alloc)),
         Query::Tri(trigram) => ids_of(alloc, trigram_postings(index, *trigram)),
-        Query::And(members) => ids_meeting_each(index, alloc, members),
-        Query::Or(members) => ids_meeting_some(index, alloc, members),
+        Query::And(members) => ids_of_and(index, alloc, members),
+        Query::Or(members) => ids_of_or(index, alloc, members),
     }
 }
 
-/// The ids of the names that meet each member.
+/// Conjunction: the ids that match every member.
 #[cycle(candidates)]
-fn ids_meeting_each(index: &Index, alloc: Global, members: &[Query]) -> Result<Vec<u32>, IndexFault>
+fn ids_of_and(index: &Index, alloc: Global, members: &[Query]) -> Result<Vec<u32>, IndexFault>
     requires { rises index.now.entries ≡ true }
-    ensures ids { IfOk result (λ ids. ids.items ≡ ids_of_each index.now members.now) }
+    ensures ids { IfOk result (λ ids. ids.items ≡ conjunction_ids index.now members.now) }
     ensures whole { IfOk result (λ _. list_all (is_answerable index.now) members.now ≡ true) }
     ensures fault { IfErr result (IsListFault (list_all (is_answerable index.now) members.now)) }
 {
@@ -64,7 +65,7 @@ fn ids_meeting_each(index: &Index, alloc: Global, members: &[Query]) -> Result<V
     Ok(ids)
 }
 
-/// The ids that meet the member too.
+/// The ids that match the member too.
 #[cycle(candidates)]
 fn narrow(
     index: &Index,
@@ -80,16 +81,16 @@ fn narrow(
     ensures fault { IfErr result (IsListFault (is_answerable index.now member.now)) }
 {
     match member {
-        Query::Tri(trigram) => keep_listed(ids, trigram_postings(index, *trigram)),
-        _ => Ok(keep_common(ids, &ids_meeting(index, alloc, member)?)),
+        Query::Tri(trigram) => intersect_list(ids, trigram_postings(index, *trigram)),
+        _ => Ok(intersect_ids(ids, &ids_of_query(index, alloc, member)?)),
     }
 }
 
-/// The ids of the names that meet some member.
+/// Disjunction: the ids that match at least one member.
 #[cycle(candidates)]
-fn ids_meeting_some(index: &Index, alloc: Global, members: &[Query]) -> Result<Vec<u32>, IndexFault>
+fn ids_of_or(index: &Index, alloc: Global, members: &[Query]) -> Result<Vec<u32>, IndexFault>
     requires { rises index.now.entries ≡ true }
-    ensures ids { IfOk result (λ ids. ids.items ≡ ids_of_some index.now members.now) }
+    ensures ids { IfOk result (λ ids. ids.items ≡ disjunction_ids index.now members.now) }
     ensures whole { IfOk result (λ _. list_all (is_answerable index.now) members.now ≡ true) }
     ensures fault { IfErr result (IsListFault (list_all (is_answerable index.now) members.now)) }
 {
@@ -100,7 +101,7 @@ fn ids_meeting_some(index: &Index, alloc: Global, members: &[Query]) -> Result<V
     Ok(marked_ids(alloc, &marks)?)
 }
 
-/// Marks the ids of the names that meet the member.
+/// Marks the ids that match the member.
 #[cycle(candidates)]
 fn mark(index: &Index, alloc: Global, marks: &mut [bool], member: &Query) -> Result<(), IndexFault>
     requires rises { rises index.now.entries ≡ true }
@@ -113,17 +114,17 @@ fn mark(index: &Index, alloc: Global, marks: &mut [bool], member: &Query) -> Res
     match member {
         Query::Tri(trigram) => mark_list(marks, trigram_postings(index, *trigram)),
         _ => {
-            mark_ids(marks, &ids_meeting(index, alloc, member)?);
+            mark_ids(marks, &ids_of_query(index, alloc, member)?);
             Ok(())
         }
     }
 }
 
-/// The ids to begin with where each member is to be met: those of the member that has the fewest.
+/// The initial ids of a conjunction: the list of its rarest trigram, or every id.
 fn first_ids(index: &Index, alloc: Global, members: &[Query]) -> Result<Vec<u32>, IndexFault>
     requires { rises index.now.entries ≡ true }
     ensures ids { IfOk result
-        (λ ids. common_ids index.now members.now ids.items ≡ ids_of_each index.now members.now) }
+        (λ ids. common_ids index.now members.now ids.items ≡ conjunction_ids index.now members.now) }
     ensures ascend { IfOk result (λ ids. Ascends ids.items) }
     ensures fault { IfErr result (IsListFault (list_all (is_answerable index.now) members.now)) }
 {
@@ -133,7 +134,7 @@ fn first_ids(index: &Index, alloc: Global, members: &[Query]) -> Result<Vec<u32>
     }
 }
 
-/// The trigram with the fewest ids among the members.
+/// The trigram with the shortest posting list among the members.
 fn rarest(index: &Index, members: &[Query]) -> Option<u32>
     ensures { IfSome result
         (λ g. (test : Query' → Bool) → list_all test members.now ≡ true → test (Tri g) ≡ true) }
@@ -151,7 +152,7 @@ fn rarest(index: &Index, members: &[Query]) -> Option<u32>
     found
 }
 
-/// The list of a trigram, without ids where it has no entry.
+/// The posting list of a trigram; empty if the trigram has no entry.
 fn trigram_postings<'a>(index: &Index<'a>, trigram: u32) -> Postings<'a>
     ensures { result ≡ read_for index.now trigram }
 {
@@ -161,7 +162,7 @@ fn trigram_postings<'a>(index: &Index<'a>, trigram: u32) -> Postings<'a>
     }
 }
 
-/// The ids of a list.
+/// The ids of a posting list.
 fn ids_of(alloc: Global, list: Postings) -> Result<Vec<u32>, IndexFault>
     ensures ids { IfOk result (λ ids. ids.items ≡ list.entry.ids) }
     ensures whole { IfOk result (λ _. list.entry.whole ≡ true) }
@@ -174,35 +175,35 @@ fn ids_of(alloc: Global, list: Postings) -> Result<Vec<u32>, IndexFault>
     Ok(ids)
 }
 
-/// The ids that the list has too. It is read to its end even where no id is left.
-fn keep_listed(ids: Vec<u32>, list: Postings) -> Result<Vec<u32>, IndexFault>
+/// The intersection of ids with a posting list. The list is read to its end even if no id is left.
+fn intersect_list(ids: Vec<u32>, list: Postings) -> Result<Vec<u32>, IndexFault>
     requires ids { Ascends ids.items }
     requires list { Ascends list.ids }
     ensures ids { IfOk result (λ kept. kept.items ≡ filter (has list.entry.ids) ids.items) }
     ensures whole { IfOk result (λ _. list.entry.whole ≡ true) }
     ensures fault { IfErr result (IsListFault list.entry.whole) }
 {
-    let mut sifter = Sifter::new(ids);
+    let mut common = Intersection::new(ids);
     for id in list {
-        sifter.pass(id?);
+        common.advance(id?);
     }
-    Ok(sifter.finish())
+    Ok(common.finish())
 }
 
-/// The ids that others have too.
-fn keep_common(ids: Vec<u32>, others: &[u32]) -> Vec<u32>
+/// The intersection of two lists of ids.
+fn intersect_ids(ids: Vec<u32>, others: &[u32]) -> Vec<u32>
     requires ids { Ascends ids.items }
     requires others { Ascends others.now }
     ensures { result.items ≡ filter (has others.now) ids.items }
 {
-    let mut sifter = Sifter::new(ids);
+    let mut common = Intersection::new(ids);
     for id in others {
-        sifter.pass(*id);
+        common.advance(*id);
     }
-    sifter.finish()
+    common.finish()
 }
 
-/// Each id below a number.
+/// All ids less than a number.
 fn every_id(alloc: Global, count: u32) -> Result<Vec<u32>, AllocError>
     ensures { IfOk result (λ ids. ids.items ≡ range_with_len 0 count) }
 {

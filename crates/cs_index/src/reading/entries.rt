@@ -1,18 +1,18 @@
-// The name index, and the entries of the list index.
+// The name index and the list index.
 ghost use Rattle.std.specs.Prelude.{◌≡◌, ◌≤◌, ◌<◌, ◌+◌, ◌*◌, ◌/◌, ◌^◌, ◌∷◌, [], ◌||◌, ℕ, None, true, length, Some, IfSome, IfNone};
 ghost use Rattle.cs_index.specs.Postings.{entry_of};
 ghost use Rattle.cs_index.specs.PostingLists.{read_list};
 ghost use Rattle.std.specs.List.{list_all};
-ghost use Rattle.cs_index.specs.Image.{ListEntry};
+ghost use Rattle.cs_index.specs.Encoding.{ListEntry};
 ghost use Rattle.cs_index.specs.Opening.{entries_in, entry_at, trigram_at, is_entry, is_list_index, is_name_index, is_names_section, rises, texts_of};
-ghost use Rattle.cs_index.specs.Rising.{most_ids};
+ghost use Rattle.cs_index.specs.AscendingIds.{max_ids};
 
 use crate::reading::bytes::{first_text, read_number, read_trigram};
 use crate::reading::postings::Postings;
 
 const ENTRY_LEN: usize = 11;
 
-/// Whether the name index has the offset of each name, and one number more.
+/// Whether the name index is the offset of each name, and one more number.
 pub(crate) fn has_offsets(name_index: &[u8], names: &[u8]) -> bool
     requires { is_names_section names.now ≡ true }
     ensures { result ≡ is_name_index name_index.now (texts_of names.now) }
@@ -34,7 +34,7 @@ pub(crate) fn has_offsets(name_index: &[u8], names: &[u8]) -> bool
     name_index.len() - at == 4
 }
 
-/// Whether a list index is entries of ascending trigrams that have room in a section of some bytes.
+/// Whether the list index is entries of ascending trigrams that fit a section of `room` bytes.
 #[tactic(auto, unfolding(crate::specs::Opening::is_list_index))]
 pub(crate) fn has_entries(list_index: &[u8], room: usize) -> bool
     ensures { result ≡ is_list_index room list_index.now }
@@ -48,7 +48,7 @@ pub(crate) fn has_entries(list_index: &[u8], room: usize) -> bool
     entries_fit(list_index, room)
 }
 
-/// Whether each trigram is below the next.
+/// Whether the trigrams of the entries are strictly ascending.
 fn trigrams_rise(list_index: &[u8]) -> bool
     ensures { result ≡ rises (entries_in list_index.now) }
 {
@@ -62,7 +62,7 @@ fn trigrams_rise(list_index: &[u8]) -> bool
     true
 }
 
-/// Whether each entry has room for its list.
+/// Whether every entry fits a section of `room` bytes.
 fn entries_fit(list_index: &[u8], room: usize) -> bool
     ensures { result ≡ list_all (is_entry room) (entries_in list_index.now) }
 {
@@ -76,7 +76,7 @@ fn entries_fit(list_index: &[u8], room: usize) -> bool
     true
 }
 
-/// Whether the entry has room for its list.
+/// Whether the entry fits a section of `room` bytes.
 fn entry_fits(list_index: &[u8], at: usize, room: usize) -> bool
     requires { at + ENTRY_LEN ≤ length list_index.now }
     ensures { result ≡ is_entry room (entry_at list_index.now at) }
@@ -87,8 +87,8 @@ fn entry_fits(list_index: &[u8], at: usize, room: usize) -> bool
     offset + 4 <= room && (trigram < 0xffffff || count == 0)
 }
 
-/// Where the entry of a trigram begins.
-pub(crate) fn place_of(list_index: &[u8], trigram: u32) -> Option<usize>
+/// The offset of a trigram's entry in the list index.
+pub(crate) fn entry_offset(list_index: &[u8], trigram: u32) -> Option<usize>
     requires { rises (entries_in list_index.now) ≡ true }
     ensures some { IfSome result
         (λ at. entry_of (entries_in list_index.now) trigram ≡ Some (entry_at list_index.now at)) }
@@ -96,9 +96,9 @@ pub(crate) fn place_of(list_index: &[u8], trigram: u32) -> Option<usize>
     ensures none { IfNone result (entry_of (entries_in list_index.now) trigram ≡ None) }
 {
     let count = list_index.len() / ENTRY_LEN;
-    let place = first_from(list_index, trigram, count);
-    let at = ENTRY_LEN * place;
-    if place >= count {
+    let position = first_from(list_index, trigram, count);
+    let at = ENTRY_LEN * position;
+    if position >= count {
         return None;
     }
     if read_trigram(list_index, at) != trigram {
@@ -107,7 +107,7 @@ pub(crate) fn place_of(list_index: &[u8], trigram: u32) -> Option<usize>
     Some(at)
 }
 
-/// The first place whose trigram is not below one, among some entries.
+/// Binary search: the index of the first entry whose trigram is not less than `trigram`.
 fn first_from(list_index: &[u8], trigram: u32, count: usize) -> usize
     requires count { count ≡ length list_index.now / ENTRY_LEN }
     requires rise { rises (entries_in list_index.now) ≡ true }
@@ -129,7 +129,7 @@ fn first_from(list_index: &[u8], trigram: u32, count: usize) -> usize
     low
 }
 
-/// The ids of the entry that begins at a place.
+/// The posting list of the entry at an offset.
 pub(crate) fn entry_postings<'a>(
     postings: &'a [u8],
     list_index: &[u8],
@@ -137,7 +137,7 @@ pub(crate) fn entry_postings<'a>(
     name_count: u32,
 ) -> Postings<'a>
     requires within { at + ENTRY_LEN ≤ length list_index.now }
-    requires bound { name_count < most_ids }
+    requires bound { name_count < max_ids }
     ensures { result ≡ read_list postings.now name_count (entry_at list_index.now at) }
 {
     let count = read_number(list_index, at + 3);

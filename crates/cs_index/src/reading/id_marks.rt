@@ -1,7 +1,7 @@
-// Marks of ids.
+// A set of ids as one flag for each id: the union of posting lists.
 ghost use Rattle.std.specs.Prelude.{◌≡◌, ◌||◌, ◌<◌, ◌^◌, ℕ, false, length, filter, slice_index_or, IfOk, IfErr, true};
 ghost use Rattle.cs_index.specs.Postings.{IsListFault};
-ghost use Rattle.cs_index.specs.Sifting.{AreMarkedToo, ids_with_mark};
+ghost use Rattle.cs_index.specs.Intersection.{AreMarkedToo, ids_with_mark};
 ghost use Rattle.cs_trigram.specs.Trigram.{has};
 ghost use Rattle.std.specs.List.{AllByRecursion, range_with_len};
 
@@ -9,7 +9,7 @@ use crate::fault::IndexFault;
 use crate::reading::postings::Postings;
 use std::alloc::{AllocError, Global};
 
-/// Marks each id of a list.
+/// Marks every id of a posting list.
 pub(crate) fn mark_list(marks: &mut [bool], list: Postings) -> Result<(), IndexFault>
     requires { AllByRecursion (λ id. id < length marks.old) list.ids }
     ensures marked { IfOk result (λ _. AreMarkedToo marks.old list.entry.ids marks.new) }
@@ -22,7 +22,7 @@ pub(crate) fn mark_list(marks: &mut [bool], list: Postings) -> Result<(), IndexF
     Ok(())
 }
 
-/// Marks each of some ids.
+/// Marks every id of a slice.
 pub(crate) fn mark_ids(marks: &mut [bool], ids: &[u32])
     requires { AllByRecursion (λ id. id < length marks.old) ids.now }
     ensures { AreMarkedToo marks.old ids.now marks.new }
@@ -32,7 +32,7 @@ pub(crate) fn mark_ids(marks: &mut [bool], ids: &[u32])
     }
 }
 
-/// The ids that are marked, ascending.
+/// The marked ids, ascending.
 pub(crate) fn marked_ids(alloc: Global, marks: &[bool]) -> Result<Vec<u32>, AllocError>
     requires { length marks.now < 2 ^ 32 }
     ensures { IfOk result (λ ids. ids.items ≡ ids_with_mark marks.now) }

@@ -1,28 +1,30 @@
-// The reader of an index.
+// An index that is read in place.
 ghost use Rattle.std.specs.Prelude.{◌≡◌, ◌==◌, ◌<◌, ◌^◌, ℕ, List, Err, IfOk, IfErr, length, slice_get, option_map};
 ghost use Rattle.cs_index.specs.Postings.{entry_of};
 ghost use Rattle.cs_tree.specs.NamesAscending.{are_ascending};
-ghost use Rattle.cs_index.specs.SectionsRead.{AreRead, IsRead};
+ghost use Rattle.cs_index.specs.ValidSections.{AreValidSections, AreOpenedSections};
 ghost use Rattle.std.specs.Option.{option_copied, option_map_or};
-ghost use Rattle.cs_index.specs.Image.{ListEntry};
+ghost use Rattle.cs_index.specs.Encoding.{ListEntry};
 ghost use Rattle.cs_index.specs.Opening.{opening, read_sections};
+ghost use Rattle.cs_index.specs.Decoding.{DecodesAs};
+ghost use Rattle.cs_index.specs.Failing.{Fails};
 ghost use Rattle.cs_index.specs.OpenedParts.{ids_read};
-ghost use Rattle.cs_index.specs.Cut.{lent_sections};
-ghost use Rattle.cs_index.specs.Parts.{AreParts};
-ghost use Rattle.cs_index.specs.Starts.{with_lists};
+ghost use Rattle.cs_index.specs.SectionSlices.{borrowed_sections};
+ghost use Rattle.cs_index.specs.ValidParts.{AreValidParts};
+ghost use Rattle.cs_index.specs.StoredOpening.{with_lists};
 
 use crate::fault::IndexFault;
 use crate::reading::bytes::{ascend, is_closed, is_complete, read_number, read_trigram};
-use crate::reading::cutting::{Cut, split};
-use crate::reading::entries::{entry_postings, has_entries, has_offsets, place_of};
+use crate::reading::entries::{entry_offset, entry_postings, has_entries, has_offsets};
 use crate::reading::postings::Postings;
+use crate::reading::section_slices::{SectionSlices, split};
 use crate::reading::texts::Texts;
 use std::marker::Model;
 
-/// An index, lent from its bytes. No call takes memory.
+/// An index that borrows its bytes. No method allocates, except those with an allocator.
 #[derive(Drop)]
 pub struct Index<'a> {
-    pub(crate) cut: Cut<'a>,
+    pub(crate) slices: SectionSlices<'a>,
 }
 
 impl<'a> Model for Index<'a> {
@@ -31,137 +33,146 @@ impl<'a> Model for Index<'a> {
     ghost Value = { Parts };
 
     ghost use Rattle.cs_index.specs.Opening.{parts_of};
-    ghost use Rattle.cs_index.specs.SectionsRead.{IsRead};
-    ghost use Rattle.cs_index.specs.Cut.{lent_sections};
+    ghost use Rattle.cs_index.specs.ValidSections.{AreOpenedSections};
+    ghost use Rattle.cs_index.specs.SectionSlices.{borrowed_sections};
 
-    ghost view = { λ s. parts_of (lent_sections s.cut) };
+    ghost view = { λ s. parts_of (borrowed_sections s.slices) };
 
-    ghost invariant = { λ s. IsRead (lent_sections s.cut) };
+    ghost invariant = { λ s. AreOpenedSections (borrowed_sections s.slices) };
 }
 
 impl<'a> Index<'a> {
-    /// Opens the bytes of an index. The lists are read later.
+    /// Opens the bytes of an index. The posting lists are tested when they are read.
     pub fn open(bytes: &'a [u8]) -> Result<Index<'a>, IndexFault>
-        ensures { result ≡ opening bytes.now }
+        ensures opens { result ≡ opening bytes.now }
+        ensures decodes { IfOk result (DecodesAs bytes.now) }
+        ensures fails { IfErr result (Fails bytes.now) }
     {
         match split(bytes) {
-            Ok(cut) => read(cut),
+            Ok(slices) => read(slices),
             Err(fault) => Err(fault),
         }
     }
 
-    /// How many names there are.
+    /// The number of names.
     pub fn len(&self) -> u32
         ensures { result ≡ length self.now.names }
     {
-        (self.cut.name_index.len() / 4 - 1) as u32
+        (self.slices.name_index.len() / 4 - 1) as u32
     }
 
-    /// Whether there is no name.
+    /// Whether there are no names.
     pub fn is_empty(&self) -> bool
         ensures { result ≡ (length self.now.names == 0) }
     {
         self.len() == 0
     }
 
-    /// The path at a place.
-    pub fn path(&self, place: u32) -> Option<&'a str>
-        ensures { option_copied result ≡ slice_get self.now.paths place }
+    /// The path at a position.
+    pub fn path(&self, position: u32) -> Option<&'a str>
+        ensures { option_copied result ≡ slice_get self.now.paths position }
     {
-        self.paths().nth(place as usize)
+        self.paths().nth(position as usize)
     }
 
-    /// The paths, in their order.
+    /// The paths, in the order of the index.
     pub fn paths(&self) -> Texts<'a>
         ensures { result ≡ self.now.paths }
     {
-        Texts::new(self.cut.paths)
+        Texts::new(self.slices.paths)
     }
 
-    /// The name that has the id.
+    /// The name with an id.
     pub fn name(&self, id: u32) -> Option<&'a str>
         ensures { option_copied result ≡ slice_get self.now.names id }
     {
         if id >= self.len() {
             return None;
         }
-        let start = read_number(self.cut.name_index, 4 * id as usize) as usize;
-        Texts::new(&self.cut.names[start..]).next()
+        let start = read_number(self.slices.name_index, 4 * id as usize) as usize;
+        Texts::new(&self.slices.names[start..]).next()
     }
 
     /// The names, in the order of their ids.
     pub fn names(&self) -> Texts<'a>
         ensures { result ≡ self.now.names }
     {
-        Texts::new(self.cut.names)
+        Texts::new(self.slices.names)
     }
 
-    /// Whether each name is below the next. The clause `parts` says what holds of every index that
-    /// was opened: a caller who goes on to the names and the lists has it from here.
+    /// Whether the names are strictly ascending. The clause `parts` states the invariant of every
+    /// opened index, for callers that use its names and lists.
     pub fn in_order(&self) -> bool
         ensures order { result ≡ are_ascending self.now.names }
-        ensures parts { AreParts self.now }
+        ensures parts { AreValidParts self.now }
     {
-        ascend(self.cut.names)
+        ascend(self.slices.names)
     }
 
-    /// How many lists there are.
+    /// The number of posting lists.
     pub fn lists(&self) -> u32
         ensures { result ≡ length self.now.entries }
     {
-        (self.cut.list_index.len() / 11) as u32
+        (self.slices.list_index.len() / 11) as u32
     }
 
-    /// The trigram and the ids of the list at a place.
-    pub fn list_at(&self, place: u32) -> Option<(u32, Postings<'a>)>
+    /// The trigram and the ids of the list at a position of the list index.
+    pub fn list_at(&self, position: u32) -> Option<(u32, Postings<'a>)>
         ensures { result ≡
             option_map (λ (e : ListEntry). (e.trigram, ids_read self.now e))
-            (slice_get self.now.entries place) }
+            (slice_get self.now.entries position) }
     {
-        if place >= self.lists() {
+        if position >= self.lists() {
             return None;
         }
-        let at = 11 * place as usize;
+        let at = 11 * position as usize;
         Some((
-            read_trigram(self.cut.list_index, at),
-            entry_postings(self.cut.postings, self.cut.list_index, at, self.len()),
+            read_trigram(self.slices.list_index, at),
+            entry_postings(self.slices.postings, self.slices.list_index, at, self.len()),
         ))
     }
 
-    /// The ids of a trigram, where it has an entry.
+    /// The ids of a trigram, if it has an entry.
     pub fn postings(&self, trigram: u32) -> Option<Postings<'a>>
         ensures { result ≡ option_map (ids_read self.now) (entry_of self.now.entries trigram) }
     {
-        let at = place_of(self.cut.list_index, trigram)?;
-        Some(entry_postings(self.cut.postings, self.cut.list_index, at, self.len()))
+        let at = entry_offset(self.slices.list_index, trigram)?;
+        Some(entry_postings(self.slices.postings, self.slices.list_index, at, self.len()))
     }
 
-    /// How many ids the list of a trigram is said to have.
+    /// The number of ids of a trigram, as its entry says; 0 if it has no entry.
     pub fn count(&self, trigram: u32) -> u32
         ensures { result ≡
             option_map_or (λ (e : ListEntry). e.count) (entry_of self.now.entries trigram) 0 }
     {
-        match place_of(self.cut.list_index, trigram) {
-            Some(at) => read_number(self.cut.list_index, at + 3),
+        match entry_offset(self.slices.list_index, trigram) {
+            Some(at) => read_number(self.slices.list_index, at + 3),
             None => 0,
         }
     }
 }
 
-/// Reads the sections.
-fn read<'a>(cut: Cut<'a>) -> Result<Index<'a>, IndexFault>
-    requires names { length cut.name_index.now < 2 ^ 32 }
-    requires lists { length cut.list_index.now < 2 ^ 32 }
-    ensures { result ≡ read_sections (lent_sections cut.entry) }
+/// Tests the sections and makes them an index.
+fn read<'a>(slices: SectionSlices<'a>) -> Result<Index<'a>, IndexFault>
+    requires names { length slices.name_index.now < 2 ^ 32 }
+    requires lists { length slices.list_index.now < 2 ^ 32 }
+    ensures { result ≡ read_sections (borrowed_sections slices.entry) }
 {
-    let room = cut.postings.len();
-    if let Err(fault) = test_sections(cut.paths, cut.names, cut.name_index, cut.list_index, room) {
+    let room = slices.postings.len();
+    if let Err(fault) = test_sections(
+        slices.paths,
+        slices.names,
+        slices.name_index,
+        slices.list_index,
+        room,
+    ) {
         return Err(fault);
     }
-    Ok(Index { cut })
+    Ok(Index { slices })
 }
 
-/// Tests the sections in their order. Of the lists the length is enough.
+/// Tests the sections, in the order of the variants of `IndexFault`. The posting lists are not
+/// read; `room` is their length in bytes.
 pub(crate) fn test_sections(
     paths: &[u8],
     names: &[u8],
@@ -170,7 +181,7 @@ pub(crate) fn test_sections(
     room: usize,
 ) -> Result<(), IndexFault>
     ensures read { IfOk result
-        (λ _. AreRead paths.now names.now name_index.now list_index.now room) }
+        (λ _. AreValidSections paths.now names.now name_index.now list_index.now room) }
     ensures fault { IfErr result (λ fault. (postings : List ℕ) → length postings ≡ room →
         read_sections (with_lists paths.now names.now name_index.now list_index.now postings)
         ≡ Err fault) }

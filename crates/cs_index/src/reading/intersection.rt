@@ -1,24 +1,25 @@
-// Ids that are kept where a second list has them too.
+// Intersection of two ascending lists of ids by a linear merge, in place.
 ghost use Rattle.std.specs.Prelude.{◌≡◌, ◌∷◌, ◌++◌, [], filter, nat_lt, if◌then◌else◌, ◌≤◌, ◌<◌, ℕ, length, slice_index};
-ghost use Rattle.cs_index.specs.Sifting.{after_id, Sift};
+ghost use Rattle.cs_index.specs.Intersection.{after_id, IntersectionState};
 ghost use Rattle.cs_trigram.specs.Trigram.{has, Ascends};
 
 use std::marker::Model;
 
-/// Ascending ids: those that were kept, and those that are left.
+/// An intersection in progress. The first `kept` ids are the result so far; the ids from `at` on
+/// are not yet compared.
 #[derive(Drop)]
-pub(crate) struct Sifter {
+pub(crate) struct Intersection {
     ids: Vec<u32>,
     kept: usize,
     at: usize,
 }
 
-impl Model for Sifter {
+impl Model for Intersection {
     ghost use Rattle.cs_trigram.specs.Trigram.{Ascends};
-    ghost use Rattle.cs_index.specs.Sifting.{Sift};
+    ghost use Rattle.cs_index.specs.Intersection.{IntersectionState};
     ghost use Rattle.std.specs.Prelude.{take, drop, length, ◌≤◌};
 
-    ghost Value = { Sift };
+    ghost Value = { IntersectionState };
 
     ghost view = { λ s. record { kept = take s.kept s.ids.items; left = drop s.at s.ids.items } };
 
@@ -26,21 +27,21 @@ impl Model for Sifter {
         Ascends (drop s.at s.ids.items) };
 }
 
-impl Sifter {
-    /// Ids of which none is kept yet.
-    pub(crate) fn new(ids: Vec<u32>) -> Sifter
+impl Intersection {
+    /// An intersection of these ids, none of which is compared yet.
+    pub(crate) fn new(ids: Vec<u32>) -> Intersection
         requires { Ascends ids.items }
         ensures { result ≡ record { kept = []; left = ids.items } }
     {
-        Sifter {
+        Intersection {
             ids,
             kept: 0,
             at: 0,
         }
     }
 
-    /// Keeps the id where it is left, and passes over those up to it.
-    pub(crate) fn pass(&mut self, id: u32)
+    /// Advances to `id`, and keeps it if it is one of the ids left.
+    pub(crate) fn advance(&mut self, id: u32)
         ensures { self.new ≡ after_id self.old id }
     {
         let at = first_from(&self.ids, self.at, id);
@@ -53,7 +54,7 @@ impl Sifter {
         }
     }
 
-    /// The ids that were kept.
+    /// The ids that both lists have.
     pub(crate) fn finish(mut self) -> Vec<u32>
         ensures { result.items ≡ self.kept }
     {
@@ -62,7 +63,7 @@ impl Sifter {
     }
 }
 
-/// The first place from one on whose id is not below an id.
+/// The index of the first id, from `from` on, that is not less than `id`.
 fn first_from(ids: &[u32], from: usize, id: u32) -> usize
     requires { from ≤ length ids.now }
     ensures after { from ≤ result }

@@ -1,14 +1,14 @@
-// The ids of an index in the order of their names.
+// The ids of an index sorted by name.
 ghost use Rattle.std.specs.Prelude.{◌≡◌, IfOk, List, ℕ, option_map, map};
 ghost use Rattle.cs_tree.specs.NamesAscending.{are_ascending};
 ghost use Rattle.cs_index.specs.Order.{IsOrderOf, with_ids, name_in, id_in};
-ghost use Rattle.cs_index.specs.LentNames.{lent_names};
+ghost use Rattle.cs_index.specs.BorrowedNames.{borrowed_names};
 
 use crate::reading::index::Index;
 use std::alloc::{AllocError, Global};
 
 impl<'a> Index<'a> {
-    /// The ids in ascending order of their names, or `None` where a name is held twice.
+    /// The ids in ascending order of their names, or `None` if two names are equal.
     pub fn order(&self, alloc: Global) -> Result<Option<Vec<u32>>, AllocError>
         ensures { IfOk result (λ order.
             IsOrderOf self.now.names (option_map (λ ids. ids.items) order)) }
@@ -24,7 +24,7 @@ impl<'a> Index<'a> {
 
     /// The names with their ids.
     fn names_with_ids(&self, alloc: Global) -> Result<Vec<(&'a str, u32)>, AllocError>
-        ensures { IfOk result (λ named. lent_names named.items ≡ with_ids self.now.names) }
+        ensures { IfOk result (λ named. borrowed_names named.items ≡ with_ids self.now.names) }
     {
         let count = self.len();
         let mut named = Vec::with_capacity(alloc, count as usize)?;
@@ -36,9 +36,9 @@ impl<'a> Index<'a> {
     }
 }
 
-/// Whether each name is below the next.
+/// Whether the names are strictly ascending.
 fn names_ascend(named: &[(&str, u32)]) -> bool
-    ensures { result ≡ are_ascending (map name_in (lent_names named.now)) }
+    ensures { result ≡ are_ascending (map name_in (borrowed_names named.now)) }
 {
     for at in 1..named.len() {
         if named[at - 1].0.cmp(named[at].0).is_ge() {
@@ -48,9 +48,9 @@ fn names_ascend(named: &[(&str, u32)]) -> bool
     true
 }
 
-/// Their ids.
+/// The ids of the pairs.
 fn ids_in_order(alloc: Global, named: &[(&str, u32)]) -> Result<Vec<u32>, AllocError>
-    ensures { IfOk result (λ ids. ids.items ≡ map id_in (lent_names named.now)) }
+    ensures { IfOk result (λ ids. ids.items ≡ map id_in (borrowed_names named.now)) }
 {
     let mut ids = Vec::with_capacity(alloc, named.len())?;
     for (_, id) in named {

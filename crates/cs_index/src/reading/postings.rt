@@ -1,17 +1,17 @@
-// The ids of a list, read from the bytes of an index.
+// A posting list, decoded id by id from the bytes of an index (Go: `postReader` in index/read.go).
 ghost use Rattle.std.specs.Prelude.{◌≡◌, ◌≤◌, ◌<◌, ◌^◌, ◌+◌, ◌++◌, Some, None, List, ℕ, Option, drop, length, IfSome, MatchOption};
 ghost use Rattle.std.specs.List.{AllByRecursion};
-ghost use Rattle.cs_index.specs.Rising.{ids_onward, most_ids};
+ghost use Rattle.cs_index.specs.AscendingIds.{ids_onward, max_ids};
 ghost use Rattle.cs_index.specs.Postings.{ids_given, nothing_read};
 ghost use Rattle.cs_index.specs.PostingLists.{varint_at, read_varint, Ids, damage, read_ids};
 ghost use Rattle.std.specs.Iterator.{YieldsFirst, item_count};
 
+use crate::encoded_run::EncodedRun;
 use crate::fault::IndexFault;
-use crate::stretch::Stretch;
 use std::marker::Model;
 
-/// The ids of a list, ascending. Where the list is damaged, the ids before the damage and one
-/// `BadList`.
+/// The ids of a posting list, ascending. If the list is damaged: the ids before the damage, then
+/// one `BadList`.
 #[derive(Drop)]
 pub struct Postings<'a> {
     bytes: &'a [u8],
@@ -23,19 +23,20 @@ pub struct Postings<'a> {
 
 impl<'a> Model for Postings<'a> {
     ghost use Rattle.cs_index.specs.PostingLists.{Ids};
-    ghost use Rattle.cs_index.specs.ListRest.{ids_left, IsLeft};
+    ghost use Rattle.cs_index.specs.PostingsInvariant.{remaining_ids, IsPostingsState};
 
     ghost Value = { Ids };
 
-    ghost view = { λ s. ids_left s.has_ended s.name_count s.left s.next s.bytes.now };
+    ghost view = { λ s. remaining_ids s.has_ended s.name_count s.left s.next s.bytes.now };
 
-    ghost invariant = { λ s. IsLeft s.name_count s.next };
+    ghost invariant = { λ s. IsPostingsState s.name_count s.next };
 }
 
 impl<'a> Postings<'a> {
-    /// The ids at the front of the bytes: so many of them, each below the number of names.
+    /// A posting list of `count` ids, each less than `name_count`, encoded in a prefix of the
+    /// bytes.
     pub fn new(bytes: &'a [u8], count: u32, name_count: u32) -> Postings<'a>
-        requires { name_count < most_ids }
+        requires { name_count < max_ids }
         ensures { result ≡ read_ids name_count count 0 bytes.now }
     {
         Postings {
@@ -60,26 +61,26 @@ impl<'a> Postings<'a> {
         }
     }
 
-    /// Passes ids below `end` that follow the one that was given last, as far as they are written in one
-    /// byte or two and in no more than they need, and answers them: 0 is the one right after the last.
-    /// Where `last` is another, none is passed.
-    pub fn stretch(&mut self, last: u32, end: u32) -> Stretch<'a>
+    /// Skips the ids less than `end` that follow `last`, the id that was yielded last, and returns
+    /// them as an encoded run. It ends before the first delta that is longer than two bytes or not
+    /// canonical. If `last` is another id, the run is empty.
+    pub fn encoded_run(&mut self, last: u32, end: u32) -> EncodedRun<'a>
         ensures ids { self.old.ids ≡ ids_onward (last + 1) result ++ self.new.ids }
         ensures below { AllByRecursion (λ id. last + 1 + id < end) result }
         ensures whole { self.new.whole ≡ self.old.whole }
     {
         if self.has_ended || self.next == 0 || last != self.next - 1 {
-            return Stretch::none();
+            return EncodedRun::none();
         }
         let room = end.min(self.name_count).saturating_sub(self.next);
-        let (ids, rest) = Stretch::front(self.bytes, self.left, room);
+        let (ids, rest) = EncodedRun::prefix(self.bytes, self.left, room);
         self.bytes = rest;
         self.left -= ids.len();
         self.next += ids.next();
         ids
     }
 
-    /// A list that is damaged at once.
+    /// A list that is damaged from the start.
     pub(crate) fn damage() -> Postings<'a>
         ensures { result ≡ damage }
     {
@@ -98,7 +99,7 @@ impl<'a> Iterator for Postings<'a> {
         if self.has_ended {
             return None;
         }
-        let Some((delta, len)) = varint_of(self.bytes) else {
+        let Some((delta, len)) = decode_varint(self.bytes) else {
             self.has_ended = true;
             return Some(Err(IndexFault::BadList));
         };
@@ -121,8 +122,8 @@ impl<'a> Iterator for Postings<'a> {
     }
 }
 
-/// The varint at the front of the bytes, and how many of them it takes.
-fn varint_of(bytes: &[u8]) -> Option<(u32, usize)>
+/// Decodes the first varint: its value and its length. A varint of one byte is the fast path.
+fn decode_varint(bytes: &[u8]) -> Option<(u32, usize)>
     ensures value { MatchOption result (read_varint bytes.now ≡ None)
         (λ found. read_varint bytes.now ≡ Some (found.0, drop found.1 bytes.now)) }
     ensures within { IfSome result (λ found. found.1 ≤ length bytes.now) }
@@ -133,7 +134,7 @@ fn varint_of(bytes: &[u8]) -> Option<(u32, usize)>
     }
 }
 
-/// The varint at the front, of any length.
+/// Decodes a varint of any length.
 fn long_varint(bytes: &[u8]) -> Option<(u32, usize)>
     ensures value { MatchOption result (read_varint bytes.now ≡ None)
         (λ found. read_varint bytes.now ≡ Some (found.0, drop found.1 bytes.now)) }
@@ -146,7 +147,7 @@ fn long_varint(bytes: &[u8]) -> Option<(u32, usize)>
     Some((value as u32, len))
 }
 
-/// The number of at most some groups of seven bits.
+/// Decodes a varint of at most `room` bytes, from the last byte to the first.
 fn groups(room: u32, bytes: &[u8]) -> Option<(u64, usize)>
     requires { room ≤ 5 }
     ensures value { MatchOption result (varint_at room bytes.now ≡ None)

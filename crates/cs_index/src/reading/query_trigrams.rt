@@ -1,16 +1,16 @@
-// The trigrams that a query asks for.
+// The trigrams of a query.
 ghost use Rattle.std.specs.Prelude.{◌≡◌, ◌||◌, ℕ, IfOk, OnOk};
 ghost use Rattle.std.specs.List.{list_any};
 ghost use Rattle.cs_trigram.specs.Trigram.{has, Ascends};
-ghost use Rattle.cs_index.specs.Answerable.{asks_for};
+ghost use Rattle.cs_index.specs.Answerable.{mentions};
 
 use cs_trigram::Query;
 use std::alloc::{AllocError, Global};
 
-/// The trigrams that a query asks for, ascending.
-pub(crate) fn asked_trigrams(alloc: Global, query: &Query) -> Result<Vec<u32>, AllocError>
-    ensures asked { IfOk result
-        (λ trigrams. (g : ℕ) → has trigrams.items g ≡ asks_for query.now g) }
+/// The trigrams that a query mentions, ascending.
+pub(crate) fn mentioned_trigrams(alloc: Global, query: &Query) -> Result<Vec<u32>, AllocError>
+    ensures mentioned { IfOk result
+        (λ trigrams. (g : ℕ) → has trigrams.items g ≡ mentions query.now g) }
     ensures ascend { IfOk result (λ trigrams. Ascends trigrams.items) }
 {
     let mut trigrams = Vec::new(alloc);
@@ -20,11 +20,11 @@ pub(crate) fn asked_trigrams(alloc: Global, query: &Query) -> Result<Vec<u32>, A
     Ok(trigrams)
 }
 
-/// Appends the trigrams that a query asks for.
+/// Appends the trigrams that a query mentions.
 #[cycle(gather)]
 fn gather(trigrams: &mut Vec<u32>, query: &Query) -> Result<(), AllocError>
     ensures { OnOk result ((g : ℕ) →
-        has trigrams.new.items g ≡ (has trigrams.old.items g || asks_for query.now g)) }
+        has trigrams.new.items g ≡ (has trigrams.old.items g || mentions query.now g)) }
 {
     match query {
         Query::All | Query::Nothing => Ok(()),
@@ -36,11 +36,11 @@ fn gather(trigrams: &mut Vec<u32>, query: &Query) -> Result<(), AllocError>
     }
 }
 
-/// Appends the trigrams that some member asks for.
+/// Appends the trigrams that the members mention.
 #[cycle(gather)]
 fn gather_each(trigrams: &mut Vec<u32>, members: &[Query]) -> Result<(), AllocError>
     ensures { OnOk result ((g : ℕ) → has trigrams.new.items g
-        ≡ (has trigrams.old.items g || list_any (λ q. asks_for q g) members.now)) }
+        ≡ (has trigrams.old.items g || list_any (λ q. mentions q g) members.now)) }
 {
     for member in members {
         gather(trigrams, member)?;

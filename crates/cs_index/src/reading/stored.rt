@@ -1,20 +1,20 @@
-// An index that lies in a store: what of it is held in memory.
+// An index in a store: its names and tables are in memory, its posting lists stay in the store.
 ghost use Rattle.std.specs.Prelude.{◌≡◌, ◌≤◌, ◌<◌, ◌^◌, length, IfOk, IfSome};
 ghost use Rattle.cs_tree.specs.FailureCount.{count_after};
 ghost use Rattle.cs_tree.specs.Transfers.{is_io_failure};
-ghost use Rattle.cs_index.specs.Starts.{AreInOrder, sections_at, SectionsOpenAs};
-ghost use Rattle.cs_index.specs.Stored.{LiesBefore, OpensAs};
+ghost use Rattle.cs_index.specs.StoredOpening.{AreAscendingOffsets, sections_at, SectionsOpenAs};
+ghost use Rattle.cs_index.specs.Stored.{EndsBy, DecodesOrFails};
+ghost use Rattle.cs_index.specs.Opening.{OpensAs};
 
 use crate::fault::IndexFault;
 use crate::reading::index::test_sections;
-use crate::reading::starts::{SectionStarts, find_starts};
+use crate::reading::section_offsets::{SectionOffsets, find_offsets};
 use crate::reading::texts::Texts;
 use cs_tree::{IoFault, Store, read_part};
 use std::alloc::Global;
 use std::marker::Model;
 
-/// An index that lies in a store. Its paths, its names and the entries of its lists are held in
-/// memory; the lists are not.
+/// An index in a store. Its paths, names and both tables are in memory; its posting lists are not.
 #[derive(Drop)]
 pub struct StoredIndex {
     pub(crate) paths: Vec<u8>,
@@ -32,7 +32,7 @@ impl Model for StoredIndex {
 
     ghost use Rattle.std.specs.Prelude.{◌<◌, ◌^◌, ◌+◌};
     ghost use Rattle.cs_index.specs.Opening.{entries_in, texts_of};
-    ghost use Rattle.cs_index.specs.SectionsRead.{AreHeld};
+    ghost use Rattle.cs_index.specs.ValidSections.{AreBoundedSections};
 
     ghost view = { λ s. record {
       paths = texts_of s.paths.items;
@@ -43,30 +43,31 @@ impl Model for StoredIndex {
     } };
 
     ghost invariant = { λ s.
-        AreHeld s.paths.items s.names.items s.name_index.items s.list_index.items s.room
+        AreBoundedSections s.paths.items s.names.items s.name_index.items s.list_index.items s.room
         × (s.start + s.room < 2 ^ 32) };
 }
 
 impl StoredIndex {
-    /// Opens the index that lies in a store, by the tests that `Index::open` makes, in their order.
-    /// No list is read.
+    /// Opens the index in a store, by the tests of `Index::open` in the same order. Reads no
+    /// posting list.
     pub fn open<S: Store>(
         alloc: Global,
         store: &mut S,
     ) -> Result<Result<StoredIndex, IndexFault>, IoFault>
-        ensures opens { IfSome (S.told store.old) (λ bytes. IfOk result (OpensAs bytes)) }
-        ensures keeps { S.told store.new ≡ S.told store.old }
+        ensures opens { IfSome (S.model store.old) (λ bytes. IfOk result (OpensAs bytes)) }
+        ensures decodes { IfSome (S.model store.old) (λ bytes. IfOk result (DecodesOrFails bytes)) }
+        ensures keeps { S.model store.new ≡ S.model store.old }
         ensures size { S.size store.new ≡ S.size store.old }
         ensures failed { S.failed store.new
             ≡ count_after is_io_failure result (S.failed store.old) }
     {
-        match find_starts(alloc, store)? {
+        match find_offsets(alloc, store)? {
             Ok(starts) => read_stored(alloc, store, starts),
             Err(fault) => Ok(Err(fault)),
         }
     }
 
-    /// The paths, in their order.
+    /// The paths, in the order of the index.
     pub fn paths(&self) -> Texts<'_>
         ensures { result ≡ self.now.paths }
     {
@@ -74,22 +75,22 @@ impl StoredIndex {
     }
 }
 
-/// Reads the sections but the lists, and tests them.
+/// Reads all sections except the posting lists, and tests them.
 fn read_stored<S: Store>(
     alloc: Global,
     store: &mut S,
-    starts: SectionStarts,
+    starts: SectionOffsets,
 ) -> Result<Result<StoredIndex, IndexFault>, IoFault>
-    requires { AreInOrder starts }
-    ensures opens { IfSome (S.told store.old)
+    requires { AreAscendingOffsets starts }
+    ensures opens { IfSome (S.model store.old)
         (λ bytes. starts.trailer ≤ length bytes →
         IfOk result (SectionsOpenAs bytes (sections_at bytes starts))) }
-    ensures within { IfOk result (λ answer. IfOk answer (λ held. LiesBefore held starts.trailer)) }
-    ensures keeps { S.told store.new ≡ S.told store.old }
+    ensures within { IfOk result (λ answer. IfOk answer (λ stored. EndsBy stored starts.trailer)) }
+    ensures keeps { S.model store.new ≡ S.model store.old }
     ensures size { S.size store.new ≡ S.size store.old }
     ensures failed { S.failed store.new ≡ count_after is_io_failure result (S.failed store.old) }
 {
-    let SectionStarts {
+    let SectionOffsets {
         paths,
         names,
         postings,

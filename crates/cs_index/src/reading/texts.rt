@@ -1,4 +1,4 @@
-// The strings of a section, one after the other.
+// An iterator over the strings of a section.
 ghost use Rattle.std.specs.Prelude.{◌≡◌, ◌||◌, ◌∷◌, [], true};
 ghost use Rattle.std.specs.Iterator.{YieldsFirstRef, item_count};
 ghost use Rattle.cs_index.specs.Opening.{is_names_section, texts_of};
@@ -6,7 +6,7 @@ ghost use Rattle.cs_index.specs.Opening.{is_names_section, texts_of};
 use crate::reading::bytes::first_text;
 use std::marker::Model;
 
-/// The names of an index, by their ids, or its paths, each lent from the bytes of the index.
+/// The names of an index, by id, or its paths; each is borrowed from the bytes of the index.
 #[derive(Drop)]
 pub struct Texts<'a> {
     section: &'a [u8],

@@ -1,35 +1,36 @@
-// The one layer that lays out the bytes of an index.
+// The section writer: the one layer that encodes an index.
 ghost use Rattle.std.specs.Prelude.{◌≡◌, ◌≢◌, ◌<◌, ◌≤◌, ◌+◌, ◌^◌, ◌⊎◌, ◌↔◌, [], List, ℕ, true, false, length, map, string_bytes, None, Some, Err, IfOk, IfErr, OnOk, OnErr};
 ghost use Rattle.cs_trigram.specs.Trigram.{closing_trigram};
 ghost use Rattle.cs_index.specs.IdStream.{ids_in, IsStream};
-ghost use Rattle.cs_index.specs.Rising.{next_after, ids_onward, most_ids};
+ghost use Rattle.cs_index.specs.AscendingIds.{next_after, ids_onward, max_ids};
 ghost use Rattle.std.specs.List.{AllByRecursion};
-ghost use Rattle.cs_index.specs.Image.{image_of, IsString};
+ghost use Rattle.cs_index.specs.Encoding.{encoding_of, IsString};
 ghost use Rattle.cs_index.specs.Indexable.{IsIndexable};
 ghost use Rattle.cs_index.specs.Built.{are_paths, is_above, is_storable};
-ghost use Rattle.cs_index.specs.Laid.{entries_laid, last_ids, with_laid_name, with_last_id, with_last_ids, with_list, AllBelow};
-ghost use Rattle.cs_index.specs.LaidLists.{with_posting};
+ghost use Rattle.cs_index.specs.Written.{entries_written, last_ids, with_written_name, with_last_id, with_last_ids, with_list, AllBelow};
+ghost use Rattle.cs_index.specs.WrittenLists.{with_posting};
 
+use crate::encoded_run::EncodedRun;
 use crate::fault::BuildFault;
-use crate::stretch::Stretch;
-use crate::writing::laying::{ListAt, lay_back, lay_both, lay_front};
-use crate::writing::storable_texts::are_listed;
+use crate::writing::output::{WrittenList, append_both, write_prefix, write_tables};
+use crate::writing::storable_texts::are_index_paths;
 use crate::writing::strings::{Strings, strings_of};
-use crate::writing::varint::{groups_of, push_varint};
+use crate::writing::varint::{encode_varint, push_varint};
 use std::alloc::{AllocError, Global};
 use std::marker::Model;
 
-/// An index that is laid out as its names and lists come: first all names, then list after list.
-/// The bytes begin with the first id of the first list. The list at hand is laid but for its
-/// closing zero; the entries of those before it wait for the end. A list that was begun is pending
-/// until it is given an id.
+/// Writes an index in the order of its bytes: all names, then one posting list after the other.
+///
+/// Nothing is written before the first id of the first list. `out` ends with the current list
+/// without its closing zero; `entries` has an entry for each earlier list. A list that was begun
+/// stays pending until it gets an id.
 #[derive(Drop)]
 pub struct Sections {
     alloc: Global,
     paths: Strings,
     names: Strings,
     out: Vec<u8>,
-    entries: Vec<ListAt>,
+    entries: Vec<WrittenList>,
     pending: Option<u32>,
     trigram: u32,
     count: u32,
@@ -38,18 +39,18 @@ pub struct Sections {
 }
 
 impl Model for Sections {
-    ghost use Rattle.cs_index.specs.Laid.{Laid};
-    ghost use Rattle.cs_index.specs.Laying.{laid_of, IsSections};
+    ghost use Rattle.cs_index.specs.Written.{Written};
+    ghost use Rattle.cs_index.specs.SectionsInvariant.{written_of, IsSections};
 
-    ghost Value = { Laid };
+    ghost Value = { Written };
 
-    ghost view = { laid_of };
+    ghost view = { written_of };
 
     ghost invariant = { IsSections };
 }
 
 impl Sections {
-    /// The sections of an index of these paths, without a name.
+    /// A writer with these paths and no names.
     pub fn new(alloc: Global, paths: &[String]) -> Result<Sections, BuildFault>
         ensures ok { IfOk result (λ sections. (sections.paths ≡ map string_bytes paths.now)
             × (sections.names ≡ []) × (sections.lists ≡ []) × (sections.last_trigram ≡ None)) }
@@ -58,18 +59,18 @@ impl Sections {
         ensures other { IfErr result
             (λ fault. (fault ≡ BuildFault.BadPaths) ⊎ (fault ≡ BuildFault.Memory)) }
     {
-        if !are_listed(paths) {
+        if !are_index_paths(paths) {
             return Err(BuildFault::BadPaths);
         }
         let paths = strings_of(alloc, paths)?;
         Ok(Sections::of(alloc, paths, Strings::new(alloc)))
     }
 
-    /// The sections of an index of these paths and names.
+    /// A writer with these paths and names.
     pub(crate) fn of(alloc: Global, paths: Strings, names: Strings) -> Sections
         requires each_path { AllByRecursion IsString paths }
         requires each_name { AllByRecursion IsString names }
-        requires bound { length names ≤ most_ids }
+        requires bound { length names ≤ max_ids }
         ensures { result ≡
             record { paths = paths; names = names; lists = []; last_trigram = None } }
     {
@@ -87,13 +88,13 @@ impl Sections {
         }
     }
 
-    /// Adds a name, and answers its id. A refused call changes nothing.
+    /// Appends a name and returns its id. On error nothing changes.
     pub fn name(&mut self, name: &str) -> Result<u32, AllocError>
         requires unlisted { self.old.lists ≡ [] }
         requires storable { is_storable name.now ≡ true }
         requires above { is_above self.old.names name.now ≡ true }
-        requires bound { length self.old.names < most_ids }
-        ensures ok { OnOk result (self.new ≡ with_laid_name self.old name.now) }
+        requires bound { length self.old.names < max_ids }
+        ensures ok { OnOk result (self.new ≡ with_written_name self.old name.now) }
         ensures id { IfOk result (λ id. id ≡ length self.old.names) }
         ensures err { OnErr result (self.new ≡ self.old) }
     {
@@ -102,7 +103,7 @@ impl Sections {
         Ok(id)
     }
 
-    /// Begins a list. A list that is given no id leaves no trace. Takes no memory.
+    /// Begins a posting list. A list that gets no id is not written. Does not allocate.
     pub fn list(&mut self, trigram: u32)
         requires below { trigram < closing_trigram }
         requires above { AllBelow self.old.lists trigram }
@@ -111,7 +112,7 @@ impl Sections {
         self.pending = Some(trigram);
     }
 
-    /// Gives the list that was begun last one more id. A refused call changes nothing.
+    /// Appends an id to the current list. On error nothing changes.
     #[inline]
     pub fn id(&mut self, id: u32) -> Result<(), AllocError>
         requires begun { self.old.last_trigram ≢ None }
@@ -128,15 +129,16 @@ impl Sections {
                 Ok(())
             }
             Some(trigram) => {
-                let (bytes, len) = groups_of(id + 1);
+                let (bytes, len) = encode_varint(id + 1);
                 self.begin(trigram, &bytes[..len], 1, id + 1)
             }
         }
     }
 
-    /// Gives the list that was begun last more ids, which follow its last one. A refused call changes nothing.
+    /// Appends an encoded run, relative to the last id of the current list. On error nothing
+    /// changes.
     #[inline]
-    pub fn stretch(&mut self, ids: &Stretch<'_>) -> Result<(), AllocError>
+    pub fn encoded_run(&mut self, ids: &EncodedRun<'_>) -> Result<(), AllocError>
         requires some { last_ids self.old ≢ [] }
         requires named { next_after 0 (last_ids self.old) + next_after 0 ids.now
             ≤ length self.old.names }
@@ -150,7 +152,7 @@ impl Sections {
         Ok(())
     }
 
-    /// Begins a list with some ids. A refused call changes nothing.
+    /// Begins a list with encoded ids. On error nothing changes.
     pub(crate) fn begin(
         &mut self,
         trigram: u32,
@@ -191,9 +193,9 @@ impl Sections {
             (self.new ≡ with_posting self.old (trigram, ids_in ids.now count)) }
         ensures err { OnErr result (self.new ≡ self.old) }
     {
-        let mut out = lay_front(self.alloc, &self.paths, &self.names)?;
+        let mut out = write_prefix(self.alloc, &self.paths, &self.names)?;
         let start = out.len();
-        lay_both(&mut out, &trigram.to_be_bytes()[1..], ids)?;
+        append_both(&mut out, &trigram.to_be_bytes()[1..], ids)?;
         self.out = out;
         self.pending = None;
         self.trigram = trigram;
@@ -203,8 +205,8 @@ impl Sections {
         Ok(())
     }
 
-    /// Closes the list at hand, and begins the next. The highest byte of a trigram is zero: it
-    /// closes the list.
+    /// Closes the current list and begins the next one. The closing zero is the highest byte of the
+    /// next trigram as a four-byte number.
     fn begin_next(
         &mut self,
         trigram: u32,
@@ -224,8 +226,8 @@ impl Sections {
     {
         self.entries.reserve(1)?;
         let start = self.out.len() + 1;
-        lay_both(&mut self.out, &trigram.to_be_bytes(), ids)?;
-        self.entries.push_reserved(ListAt {
+        append_both(&mut self.out, &trigram.to_be_bytes(), ids)?;
+        self.entries.push_reserved(WrittenList {
             trigram: self.trigram,
             count: self.count,
             start: self.start,
@@ -238,41 +240,40 @@ impl Sections {
         Ok(())
     }
 
-    /// The index.
+    /// Encodes the index. `TooLarge` if it would be longer than 2^32 - 1 bytes.
     pub fn finish(self) -> Result<Vec<u8>, BuildFault>
-        ensures ok { IfOk result (λ index. index.items ≡ image_of self.paths (entries_laid self)) }
-        ensures indexable { IfOk result (λ _. IsIndexable self.paths (entries_laid self)) }
+        ensures ok { IfOk result (λ index. index.items ≡ encoding_of self.paths (entries_written self)) }
+        ensures indexable { IfOk result (λ _. IsIndexable self.paths (entries_written self)) }
         ensures too_large { result ≡ Err BuildFault.TooLarge →
-            2 ^ 32 ≤ length (image_of self.paths (entries_laid self)) }
+            2 ^ 32 ≤ length (encoding_of self.paths (entries_written self)) }
         ensures other { IfErr result
             (λ fault. (fault ≡ BuildFault.TooLarge) ⊎ (fault ≡ BuildFault.Memory)) }
     {
         self.finish_within(u32::MAX)
     }
 
-    /// The index, unless it has more than a number of bytes: `finish` with a limit of the caller's
-    /// own.
-    pub fn finish_within(mut self, most: u32) -> Result<Vec<u8>, BuildFault>
-        ensures ok { IfOk result (λ index. index.items ≡ image_of self.paths (entries_laid self)) }
-        ensures within { IfOk result (λ index. length index.items ≤ most) }
-        ensures indexable { IfOk result (λ _. IsIndexable self.paths (entries_laid self)) }
+    /// `finish` with a maximum length of the index, in bytes, as a parameter.
+    pub fn finish_within(mut self, limit: u32) -> Result<Vec<u8>, BuildFault>
+        ensures ok { IfOk result (λ index. index.items ≡ encoding_of self.paths (entries_written self)) }
+        ensures within { IfOk result (λ index. length index.items ≤ limit) }
+        ensures indexable { IfOk result (λ _. IsIndexable self.paths (entries_written self)) }
         ensures too_large { result ≡ Err BuildFault.TooLarge →
-            most < length (image_of self.paths (entries_laid self)) }
+            limit < length (encoding_of self.paths (entries_written self)) }
         ensures other { IfErr result
             (λ fault. (fault ≡ BuildFault.TooLarge) ⊎ (fault ≡ BuildFault.Memory)) }
     {
         if self.count == 0 {
-            let out = lay_front(self.alloc, &self.paths, &self.names)?;
-            return lay_back(out, &self.paths, &self.names, &[], most);
+            let out = write_prefix(self.alloc, &self.paths, &self.names)?;
+            return write_tables(out, &self.paths, &self.names, &[], limit);
         }
         self.out.reserve(1)?;
         self.entries.reserve(1)?;
         self.out.push_reserved(0);
-        self.entries.push_reserved(ListAt {
+        self.entries.push_reserved(WrittenList {
             trigram: self.trigram,
             count: self.count,
             start: self.start,
         });
-        lay_back(self.out, &self.paths, &self.names, &self.entries, most)
+        write_tables(self.out, &self.paths, &self.names, &self.entries, limit)
     }
 }

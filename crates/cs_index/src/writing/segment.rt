@@ -1,164 +1,168 @@
-// The keys of a batch, put in order and kept in a byte each.
+// A segment: the sorted packed postings of a batch, compressed to one byte each.
 ghost use Rattle.std.specs.Prelude.{◌≡◌, ◌≢◌, ◌<◌, ◌≤◌, ◌+◌, ◌*◌, ◌%◌, ◌++◌, [], ℕ, None, length, drop, slice_index, slice_index_or, IfOk, IfSome, OnOk};
 ghost use Rattle.std.specs.List.{AllByRecursion};
-ghost use Rattle.cs_index.specs.Keys.{trigram_of, AreOfTrigram};
-ghost use Rattle.cs_index.specs.Rising.{most_ids, RiseWithin};
-ghost use Rattle.cs_index.specs.Segments.{gaps_of, ids_of_segment, keys_in, AreAhead, AreHeads, AreSortedKeys, BeginsWith};
+ghost use Rattle.cs_index.specs.PackedPostings.{trigram_of, AreOfTrigram};
+ghost use Rattle.cs_index.specs.AscendingIds.{max_ids, AscendWithin};
+ghost use Rattle.cs_index.specs.Segments.{delta_bytes_of, ids_of_segment, post_in, AreAhead, AreHeaders, IsSortedPost, BeginsWith};
 ghost use Rattle.cs_trigram.specs.Trigram.{Ascends};
 
-use crate::writing::keys::{PLACES, run_of};
-use crate::writing::segments::FRONTS;
+use crate::writing::packed_postings::{TRIGRAM_UNIT, chunk_len};
+use crate::writing::segments::HIGH_BYTE_PAIRS;
 use crate::writing::stream::IdStream;
 use std::alloc::{AllocError, Global};
 use std::marker::Model;
 
-/// Keys in order. A head is a trigram times 256 and how many keys it has; each of these has a byte,
-/// which says how far its file lies behind the one before it. Keys before the places `head` and
-/// `gap` are given away.
+/// Sorted packed postings. A header is a trigram times 256 plus its number of postings; each
+/// posting is stored as a delta of one byte. The headers before `next_header` and the deltas before
+/// `next_delta` are already emitted.
 #[derive(Drop)]
 pub(crate) struct Segment {
     base: u32,
-    heads: Vec<u32>,
-    gaps: Vec<u8>,
-    head: usize,
-    gap: usize,
+    headers: Vec<u32>,
+    delta_bytes: Vec<u8>,
+    next_header: usize,
+    next_delta: usize,
 }
 
 impl Model for Segment {
-    ghost use Rattle.cs_index.specs.Segments.{SegmentKeys};
-    ghost use Rattle.cs_index.specs.Packing.{keys_left, IsSegment};
+    ghost use Rattle.cs_index.specs.Segments.{SegmentPost};
+    ghost use Rattle.cs_index.specs.SegmentInvariant.{post_left, IsSegment};
 
-    ghost Value = { SegmentKeys };
+    ghost Value = { SegmentPost };
 
-    ghost view = { keys_left };
+    ghost view = { post_left };
 
     ghost invariant = { IsSegment };
 }
 
 impl Segment {
-    /// The segment of the keys of a batch.
-    pub(crate) fn of(alloc: Global, keys: &[u32], base: u32) -> Result<Segment, AllocError>
-        requires order { AreSortedKeys keys.now }
-        requires near { AllByRecursion (λ key. key % 256 < 128) keys.now }
-        ensures { IfOk result (λ segment. segment ≡ record { base = base; keys = keys.now }) }
+    /// Compresses sorted packed postings.
+    pub(crate) fn of(alloc: Global, post: &[u32], base: u32) -> Result<Segment, AllocError>
+        requires order { IsSortedPost post.now }
+        requires near { AllByRecursion (λ posting. posting % 256 < 128) post.now }
+        ensures { IfOk result (λ segment. segment ≡ record { base = base; post = post.now }) }
     {
-        let mut heads = Vec::new(alloc);
-        let mut gaps = Vec::with_capacity(alloc, keys.len())?;
+        let mut headers = Vec::new(alloc);
+        let mut delta_bytes = Vec::with_capacity(alloc, post.len())?;
         let mut at = 0;
-        'runs: while at < keys.len() {
-            let run = &keys[at..at + run_of(&keys[at..])];
-            push_run(&mut heads, &mut gaps, run)?;
-            at += run.len();
+        'chunks: while at < post.len() {
+            let chunk = &post[at..at + chunk_len(&post[at..])];
+            push_chunk(&mut headers, &mut delta_bytes, chunk)?;
+            at += chunk.len();
         }
-        heads.shrink_to_fit();
+        headers.shrink_to_fit();
         Ok(Segment {
             base,
-            heads,
-            gaps,
-            head: 0,
-            gap: 0,
+            headers,
+            delta_bytes,
+            next_header: 0,
+            next_delta: 0,
         })
     }
 
-    /// The two bytes that the first trigram begins with, or their number where no key is left.
+    /// The high two bytes of the first trigram, or `HIGH_BYTE_PAIRS` if no posting is left.
     #[inline]
-    pub(crate) fn front(&self) -> u32
-        ensures ahead { AreAhead result self.now.keys }
+    pub(crate) fn high(&self) -> u32
+        ensures ahead { AreAhead result self.now.post }
         ensures within { result ≤ 65536 }
-        ensures least { (n : ℕ) → n ≤ 65536 → AreAhead n self.now.keys → n ≤ result }
+        ensures least { (n : ℕ) → n ≤ 65536 → AreAhead n self.now.post → n ≤ result }
     {
-        match self.heads.get(self.head) {
-            Some(head) => *head / PLACES / 256,
-            None => FRONTS,
+        match self.headers.get(self.next_header) {
+            Some(header) => *header / TRIGRAM_UNIT / 256,
+            None => HIGH_BYTE_PAIRS,
         }
     }
 
-    /// The last byte of the first trigram, if it begins with these two bytes.
+    /// The low byte of the first trigram, if its high bytes are these.
     #[inline]
-    fn begins_with(&self, front: u32) -> Option<u32>
-        requires { AreAhead front self.now.keys }
+    fn begins_with(&self, high: u32) -> Option<u32>
+        requires { AreAhead high self.now.post }
         ensures some { IfSome result
-            (λ last. (last < 256) × BeginsWith (front * 256 + last) self.now.keys) }
-        ensures none { result ≡ None → AreAhead (front + 1) self.now.keys }
+            (λ last. (last < 256) × BeginsWith (high * 256 + last) self.now.post) }
+        ensures none { result ≡ None → AreAhead (high + 1) self.now.post }
     {
-        let head = *self.heads.get(self.head)?;
-        let trigram = head / PLACES;
-        if trigram / 256 != front {
+        let header = *self.headers.get(self.next_header)?;
+        let trigram = header / TRIGRAM_UNIT;
+        if trigram / 256 != high {
             return None;
         }
         Some(trigram % 256)
     }
 
-    /// Gives the ids of the keys of the first head to its list.
+    /// Appends the ids of the first header to its list.
     #[inline]
-    fn give_first(&mut self, list: &mut IdStream) -> Result<(), AllocError>
-        requires some { self.old.keys ≢ [] }
-        requires rise { (g : ℕ) → BeginsWith g self.old.keys →
-            RiseWithin most_ids 0 (list.old ++ ids_of_segment self.old g) }
-        ensures given { OnOk result ((g : ℕ) → BeginsWith g self.old.keys →
+    fn emit_first(&mut self, list: &mut IdStream) -> Result<(), AllocError>
+        requires some { self.old.post ≢ [] }
+        requires rise { (g : ℕ) → BeginsWith g self.old.post →
+            AscendWithin max_ids 0 (list.old ++ ids_of_segment self.old g) }
+        ensures given { OnOk result ((g : ℕ) → BeginsWith g self.old.post →
             list.new ++ ids_of_segment self.new g ≡ list.old ++ ids_of_segment self.old g) }
-        ensures others { OnOk result ((g h : ℕ) → BeginsWith g self.old.keys → h ≢ g →
+        ensures others { OnOk result ((g h : ℕ) → BeginsWith g self.old.post → h ≢ g →
             ids_of_segment self.new h ≡ ids_of_segment self.old h) }
         ensures rest { OnOk result
-            ((n : ℕ) × (0 < n) × (self.new.keys ≡ drop n self.old.keys)) }
+            ((n : ℕ) × (0 < n) × (self.new.post ≡ drop n self.old.post)) }
     {
-        let count = (self.heads[self.head] % PLACES) as usize;
-        let end = self.gap + count;
-        list.extend(self.base, &self.gaps[self.gap..end])?;
-        self.head += 1;
-        self.gap = end;
+        let count = (self.headers[self.next_header] % TRIGRAM_UNIT) as usize;
+        let end = self.next_delta + count;
+        list.extend(self.base, &self.delta_bytes[self.next_delta..end])?;
+        self.next_header += 1;
+        self.next_delta = end;
         Ok(())
     }
 
-    /// Gives the ids of the trigrams that begin with two bytes to their lists, one for each last byte.
-    pub(crate) fn give(&mut self, front: u32, lists: &mut [IdStream]) -> Result<(), AllocError>
+    /// Appends the ids of all trigrams with the same high bytes to the list of their low byte.
+    pub(crate) fn emit(&mut self, high: u32, lists: &mut [IdStream]) -> Result<(), AllocError>
         requires long { length lists.old ≡ 256 }
-        requires ahead { AreAhead front self.old.keys }
-        requires rise { (last : ℕ) → last < 256 → RiseWithin most_ids 0
-            (slice_index_or lists.old last [] ++ ids_of_segment self.old (front * 256 + last)) }
+        requires ahead { AreAhead high self.old.post }
+        requires rise { (last : ℕ) → last < 256 → AscendWithin max_ids 0
+            (slice_index_or lists.old last [] ++ ids_of_segment self.old (high * 256 + last)) }
         ensures long { length lists.new ≡ 256 }
         ensures given { OnOk result ((last : ℕ) → last < 256 → slice_index_or lists.new last [] ≡
-            slice_index_or lists.old last [] ++ ids_of_segment self.old (front * 256 + last)) }
-        ensures later { OnOk result ((g : ℕ) → (front + 1) * 256 ≤ g →
+            slice_index_or lists.old last [] ++ ids_of_segment self.old (high * 256 + last)) }
+        ensures later { OnOk result ((g : ℕ) → (high + 1) * 256 ≤ g →
             ids_of_segment self.new g ≡ ids_of_segment self.old g) }
-        ensures ahead { OnOk result (AreAhead (front + 1) self.new.keys) }
+        ensures ahead { OnOk result (AreAhead (high + 1) self.new.post) }
     {
-        'heads: while let Some(last) = self.begins_with(front) {
-            self.give_first(&mut lists[last as usize])?;
+        'headers: while let Some(last) = self.begins_with(high) {
+            self.emit_first(&mut lists[last as usize])?;
         }
         Ok(())
     }
 }
 
-/// Adds the head and the gaps of a run.
-fn push_run(heads: &mut Vec<u32>, gaps: &mut Vec<u8>, run: &[u32]) -> Result<(), AllocError>
-    requires some { 0 < length run.now }
-    requires bound { length run.now < 256 }
-    requires one { AreOfTrigram (trigram_of (slice_index run.now 0)) run.now }
-    requires near { AllByRecursion (λ key. key % 256 < 128) run.now }
-    requires ascending { Ascends run.now }
-    requires are { AreHeads heads.old.items gaps.old.items }
-    requires short { AllByRecursion (λ gap. gap < 128) gaps.old.items }
-    ensures keys { OnOk result (keys_in heads.new.items gaps.new.items ≡
-        keys_in heads.old.items gaps.old.items ++ run.now) }
-    ensures are { OnOk result (AreHeads heads.new.items gaps.new.items) }
-    ensures short { OnOk result (AllByRecursion (λ gap. gap < 128) gaps.new.items) }
+/// Appends the header and the deltas of the postings of one trigram.
+fn push_chunk(
+    headers: &mut Vec<u32>,
+    delta_bytes: &mut Vec<u8>,
+    chunk: &[u32],
+) -> Result<(), AllocError>
+    requires some { 0 < length chunk.now }
+    requires bound { length chunk.now < 256 }
+    requires one { AreOfTrigram (trigram_of (slice_index chunk.now 0)) chunk.now }
+    requires near { AllByRecursion (λ posting. posting % 256 < 128) chunk.now }
+    requires ascending { Ascends chunk.now }
+    requires are { AreHeaders headers.old.items delta_bytes.old.items }
+    requires short { AllByRecursion (λ delta_byte. delta_byte < 128) delta_bytes.old.items }
+    ensures post { OnOk result (post_in headers.new.items delta_bytes.new.items ≡
+        post_in headers.old.items delta_bytes.old.items ++ chunk.now) }
+    ensures are { OnOk result (AreHeaders headers.new.items delta_bytes.new.items) }
+    ensures short { OnOk result (AllByRecursion (λ delta_byte. delta_byte < 128) delta_bytes.new.items) }
 {
-    let start = run[0] / PLACES * PLACES;
-    heads.push(start + run.len() as u32)?;
-    push_gaps(gaps, start, run)
+    let start = chunk[0] / TRIGRAM_UNIT * TRIGRAM_UNIT;
+    headers.push(start + chunk.len() as u32)?;
+    push_deltas(delta_bytes, start, chunk)
 }
 
-/// Adds the gaps of keys that follow a number.
-fn push_gaps(gaps: &mut Vec<u8>, from: u32, keys: &[u32]) -> Result<(), AllocError>
-    requires near { AllByRecursion (λ key. (from ≤ key) × (key < from + 128)) keys.now }
-    requires ascending { Ascends keys.now }
-    ensures { OnOk result (gaps.new.items ≡ gaps.old.items ++ gaps_of from keys.now) }
+/// Appends the deltas of ascending postings.
+fn push_deltas(delta_bytes: &mut Vec<u8>, from: u32, post: &[u32]) -> Result<(), AllocError>
+    requires near { AllByRecursion (λ posting. (from ≤ posting) × (posting < from + 128)) post.now }
+    requires ascending { Ascends post.now }
+    ensures { OnOk result (delta_bytes.new.items ≡ delta_bytes.old.items ++ delta_bytes_of from post.now) }
 {
     let mut last = from;
-    'keys: for key in keys {
-        gaps.push((*key - last) as u8)?;
-        last = *key;
+    'post: for posting in post {
+        delta_bytes.push((*posting - last) as u8)?;
+        last = *posting;
     }
     Ok(())
 }

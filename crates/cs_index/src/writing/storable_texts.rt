@@ -1,4 +1,4 @@
-// Which texts, and which paths, an index may hold.
+// Which strings and which paths an index can store.
 ghost use Rattle.std.specs.Prelude.{◌≡◌, true, map, nat_lt, string_bytes};
 ghost use Rattle.std.specs.List.{list_all};
 ghost use Rattle.std.specs.declared.string.String.{String};
@@ -9,7 +9,7 @@ ghost use Rattle.cs_tree.specs.NamesAscending.{are_ascending};
 
 use cs_tree::is_alone;
 
-/// Whether the text is not empty and has no NUL.
+/// Whether the text is not empty and contains no NUL.
 pub(crate) fn is_text(text: &str) -> bool
     ensures { result ≡ is_storable text.now }
 {
@@ -22,11 +22,11 @@ fn has_no_nul(bytes: &[u8]) -> bool
     bytes.iter().all(|b| 0 < *b)
 }
 
-/// Whether an index may be built of the paths.
-pub(crate) fn are_listed(paths: &[String]) -> bool
+/// Whether an index can have these paths.
+pub(crate) fn are_index_paths(paths: &[String]) -> bool
     ensures { result ≡ are_paths (map string_bytes paths.now) }
 {
-    are_texts(paths) && ascend_apart(paths)
+    are_texts(paths) && ascend_without_cover(paths)
 }
 
 fn are_texts(paths: &[String]) -> bool
@@ -36,14 +36,14 @@ fn are_texts(paths: &[String]) -> bool
     paths.iter().all(|path| is_text(path.as_str()))
 }
 
-/// Whether the paths strictly ascend and none covers another.
-fn ascend_apart(paths: &[String]) -> bool
+/// Whether the paths are strictly ascending and none covers another.
+fn ascend_without_cover(paths: &[String]) -> bool
     ensures { result ≡ are_reduced (map string_bytes paths.now) }
 {
-    ascend(paths) && stand_apart(paths)
+    ascend(paths) && none_covers_another(paths)
 }
 
-/// Whether each path is below the next.
+/// Whether the paths are strictly ascending.
 fn ascend(paths: &[String]) -> bool
     ensures { result ≡ are_ascending (map string_bytes paths.now) }
 {
@@ -57,8 +57,8 @@ fn ascend(paths: &[String]) -> bool
     true
 }
 
-/// Whether none of the paths, which ascend, covers another.
-fn stand_apart(paths: &[String]) -> bool
+/// Whether none of the ascending paths covers another.
+fn none_covers_another(paths: &[String]) -> bool
     requires { are_ascending (map string_bytes paths.now) ≡ true }
     ensures { result ≡ list_all (λ (path : String Global).
         is_alone' (map string_bytes paths.now) (string_bytes path)) paths.now }

@@ -1,16 +1,16 @@
-// The ids of one trigram, as a stream of varints.
+// The ids of one trigram as a stream of varints.
 ghost use Rattle.std.specs.Prelude.{◌≡◌, ◌<◌, ◌+◌, ◌++◌, [], List, ℕ, length, OnOk, OnErr};
 ghost use Rattle.std.specs.List.{AllByRecursion};
-ghost use Rattle.cs_index.specs.Rising.{most_ids, next_after, RiseWithin};
-ghost use Rattle.cs_index.specs.Image.{stream_of};
+ghost use Rattle.cs_index.specs.AscendingIds.{max_ids, next_after, AscendWithin};
+ghost use Rattle.cs_index.specs.Encoding.{stream_of};
 ghost use Rattle.cs_index.specs.Segments.{sums_from};
 
-use crate::writing::laying::lay_both;
-use crate::writing::varint::groups_of;
+use crate::writing::output::append_both;
+use crate::writing::varint::encode_varint;
 use std::alloc::{AllocError, Global};
 use std::marker::Model;
 
-/// Ascending ids, kept as the varints of their deltas.
+/// Ascending ids, encoded as varint deltas.
 #[derive(Drop)]
 pub(crate) struct IdStream {
     deltas: Vec<u8>,
@@ -46,38 +46,38 @@ impl IdStream {
         self.count
     }
 
-    /// One more than the last id, or 0.
+    /// One more than the last id, or 0 if there is none.
     pub(crate) fn next(&self) -> u32
         ensures value { result ≡ next_after 0 self.now }
-        ensures rise { RiseWithin most_ids 0 self.now }
+        ensures rise { AscendWithin max_ids 0 self.now }
     {
         self.next
     }
 
-    /// The bytes of the ids as a posting list has them.
+    /// The varint deltas, as a posting list stores them.
     pub(crate) fn bytes(&self) -> &[u8]
         ensures { result.now ≡ stream_of self.now }
     {
         &self.deltas
     }
 
-    /// Adds ids that rise from a number on by some gaps. A refusal changes nothing.
+    /// Appends ids: the partial sums of the deltas, starting from `from`. On error nothing changes.
     #[inline]
-    pub(crate) fn extend(&mut self, from: u32, gaps: &[u8]) -> Result<(), AllocError>
-        requires some { 0 < length gaps.now }
-        requires short { AllByRecursion (λ gap. gap < 128) gaps.now }
-        requires rise { RiseWithin most_ids (next_after 0 self.old) (sums_from from gaps.now) }
-        ensures ok { OnOk result (self.new ≡ self.old ++ sums_from from gaps.now) }
+    pub(crate) fn extend(&mut self, from: u32, delta_bytes: &[u8]) -> Result<(), AllocError>
+        requires some { 0 < length delta_bytes.now }
+        requires short { AllByRecursion (λ delta_byte. delta_byte < 128) delta_bytes.now }
+        requires rise { AscendWithin max_ids (next_after 0 self.old) (sums_from from delta_bytes.now) }
+        ensures ok { OnOk result (self.new ≡ self.old ++ sums_from from delta_bytes.now) }
         ensures err { OnErr result (self.new ≡ self.old) }
     {
-        let (first, len) = groups_of(from + gaps[0] as u32 + 1 - self.next);
-        lay_both(&mut self.deltas, &first[..len], &gaps[1..])?;
-        self.count += gaps.len() as u32;
-        self.next = last_of(from, gaps) + 1;
+        let (first, len) = encode_varint(from + delta_bytes[0] as u32 + 1 - self.next);
+        append_both(&mut self.deltas, &first[..len], &delta_bytes[1..])?;
+        self.count += delta_bytes.len() as u32;
+        self.next = last_of(from, delta_bytes) + 1;
         Ok(())
     }
 
-    /// Takes all ids away.
+    /// Removes all ids.
     pub(crate) fn clear(&mut self)
         ensures { self.new ≡ [] }
     {
@@ -87,14 +87,14 @@ impl IdStream {
     }
 }
 
-/// The last of some ids that rise from a number on by some gaps, or that number.
-fn last_of(from: u32, gaps: &[u8]) -> u32
-    requires { AllByRecursion (λ id. id < most_ids) (sums_from from gaps.now) }
-    ensures { result + 1 ≡ next_after (from + 1) (sums_from from gaps.now) }
+/// The sum of `from` and the deltas.
+fn last_of(from: u32, delta_bytes: &[u8]) -> u32
+    requires { AllByRecursion (λ id. id < max_ids) (sums_from from delta_bytes.now) }
+    ensures { result + 1 ≡ next_after (from + 1) (sums_from from delta_bytes.now) }
 {
     let mut last = from;
-    'gaps: for gap in gaps {
-        last += *gap as u32;
+    'delta_bytes: for delta_byte in delta_bytes {
+        last += *delta_byte as u32;
     }
     last
 }

@@ -1,15 +1,15 @@
-// Strings in a row.
+// A sequence of NUL-terminated strings.
 ghost use Rattle.std.specs.Prelude.{◌≡◌, ◌<◌, ◌+◌, ◌-◌, ◌^◌, ◌++◌, ◌∷◌, [], List, ℕ, Option, length, OnOk, OnErr, slice_get, true, IsTrue, ◌↔◌, flat_map, map, take, drop, string_bytes, IfOk};
 ghost use Rattle.std.specs.Option.{option_copied};
-ghost use Rattle.cs_index.specs.Image.{strings_section, name_offsets, with_nul, four_bytes, IsString};
+ghost use Rattle.cs_index.specs.Encoding.{strings_section, name_offsets, with_nul, four_bytes, IsString};
 ghost use Rattle.cs_index.specs.Built.{are_paths, is_above, is_storable};
 ghost use Rattle.std.specs.List.{AllByRecursion, concat};
 
-use crate::writing::numbers::{lay_number, lay_numbers};
+use crate::writing::numbers::{write_number, write_numbers};
 use std::alloc::{AllocError, Global};
 use std::marker::Model;
 
-/// Strings, each with its NUL, and where each one begins.
+/// NUL-terminated strings and their offsets.
 #[derive(Drop)]
 pub(crate) struct Strings {
     bytes: Vec<u8>,
@@ -44,14 +44,14 @@ impl Strings {
         self.starts.len()
     }
 
-    /// The bytes of the strings, each with its NUL.
+    /// The bytes of the strings, each followed by a NUL.
     pub(crate) fn bytes(&self) -> &[u8]
         ensures { result.now ≡ concat (map with_nul self.now) }
     {
         &self.bytes
     }
 
-    /// Whether a text is above the last one.
+    /// Whether a text is greater than the last string.
     pub(crate) fn is_below(&self, text: &str) -> bool
         ensures { result ≡ is_above self.now text.now }
     {
@@ -61,8 +61,8 @@ impl Strings {
         }
     }
 
-    /// Appends the strings and one NUL.
-    pub(crate) fn lay(&self, out: &mut Vec<u8>) -> Result<(), AllocError>
+    /// Appends the strings and a final NUL.
+    pub(crate) fn write(&self, out: &mut Vec<u8>) -> Result<(), AllocError>
         ensures { OnOk result (out.new.items ≡ out.old.items ++ strings_section self.now) }
     {
         out.extend_from_slice(&self.bytes)?;
@@ -70,17 +70,17 @@ impl Strings {
         Ok(())
     }
 
-    /// Appends where each string begins, and where the last one ends.
-    pub(crate) fn lay_starts(&self, out: &mut Vec<u8>) -> Result<(), AllocError>
+    /// Appends the offset of each string, and the offset after the last one.
+    pub(crate) fn write_starts(&self, out: &mut Vec<u8>) -> Result<(), AllocError>
         requires { length (concat (map with_nul self.now)) < 2 ^ 32 }
         ensures { OnOk result (out.new.items ≡ out.old.items ++
             (name_offsets self.now ++ four_bytes (length (concat (map with_nul self.now))))) }
     {
-        lay_numbers(out, &self.starts)?;
-        lay_number(out, self.bytes.len() as u32)
+        write_numbers(out, &self.starts)?;
+        write_number(out, self.bytes.len() as u32)
     }
 
-    /// The last text.
+    /// The last string.
     fn last(&self) -> Option<&[u8]>
         ensures { option_copied result ≡ slice_get self.now (length self.now - 1) }
     {
@@ -88,7 +88,7 @@ impl Strings {
         Some(text_from(&self.bytes, start))
     }
 
-    /// Adds a text. A refusal changes nothing.
+    /// Appends a string. On error nothing changes.
     pub(crate) fn push(&mut self, text: &str) -> Result<(), AllocError>
         requires { is_storable text.now ≡ true }
         ensures ok { OnOk result (self.new ≡ self.old ++ text.now ∷ []) }
@@ -105,7 +105,7 @@ impl Strings {
     }
 }
 
-/// The paths as strings in a row.
+/// The paths as a sequence of strings.
 pub(crate) fn strings_of(alloc: Global, paths: &[String]) -> Result<Strings, AllocError>
     requires { are_paths (map string_bytes paths.now) ≡ true }
     ensures texts { IfOk result (λ texts. texts ≡ map string_bytes paths.now) }
@@ -118,7 +118,7 @@ pub(crate) fn strings_of(alloc: Global, paths: &[String]) -> Result<Strings, All
     Ok(texts)
 }
 
-/// What lies before the NUL at the end.
+/// The bytes from `start` to the final NUL.
 fn text_from(bytes: &[u8], start: usize) -> &[u8]
     requires { start < length bytes.now }
     ensures { result.now ≡ take (length bytes.now - 1 - start) (drop start bytes.now) }

@@ -1,10 +1,10 @@
-// Varints.
+// Encoding of varints (LEB128).
 ghost use Rattle.std.specs.Prelude.{◌≤◌, take, length, ◌≡◌, ◌<◌, ◌^◌, ◌++◌, OnOk, OnErr, suc, ◌+◌};
-ghost use Rattle.cs_index.specs.Image.{varint, varint_within};
+ghost use Rattle.cs_index.specs.Encoding.{varint, varint_within};
 
 use std::alloc::AllocError;
 
-/// Appends a number, in as few bytes as possible. A refusal leaves the bytes.
+/// Appends a number in as few bytes as possible. On error nothing is appended.
 #[inline]
 pub(crate) fn push_varint(out: &mut Vec<u8>, n: u32) -> Result<(), AllocError>
     ensures ok { OnOk result (out.new.items ≡ out.old.items ++ varint n) }
@@ -14,12 +14,12 @@ pub(crate) fn push_varint(out: &mut Vec<u8>, n: u32) -> Result<(), AllocError>
         out.push(n as u8)?;
         return Ok(());
     }
-    let (bytes, len) = groups_of(n);
+    let (bytes, len) = encode_varint(n);
     out.extend_from_slice(&bytes[..len])
 }
 
-/// The bytes of a number, and how many they are.
-pub(crate) fn groups_of(n: u32) -> ([u8; 5], usize)
+/// The varint of a number, and its length.
+pub(crate) fn encode_varint(n: u32) -> ([u8; 5], usize)
     ensures groups { take result.1 result.0 ≡ varint n }
     ensures within { result.1 ≤ 5 }
 {

@@ -1,20 +1,20 @@
-// A plain reading of an index: docs/FORMAT.md, "The index as it is read".
+// A reference reader of an index: docs/FORMAT.md, "The index as it is read".
 use crate::fixtures::number;
 use cs_index::IndexFault;
 use std::str::from_utf8;
 
-/// What bytes spell.
+/// What bytes decode as.
 #[derive(Drop)]
 pub struct Plain<'a> {
-    /// Each path with a NUL behind it.
+    /// Each path, followed by a NUL.
     pub paths: &'a str,
-    /// Each name with a NUL behind it.
+    /// Each name, followed by a NUL.
     pub names: &'a str,
     lists: &'a [u8],
     pub entries: &'a [u8],
 }
 
-/// The number of the four bytes at a place.
+/// The number in the four bytes at an offset.
 fn number_at(bytes: &[u8], at: usize) -> Option<usize> {
     match bytes.get(at..)? {
         [a, b, c, d, ..] => Some(u32::from_be_bytes([*a, *b, *c, *d]) as usize),
@@ -32,7 +32,7 @@ struct SectionBytes<'a> {
     entries: &'a [u8],
 }
 
-/// The sections, whose offsets stand at the front of the end.
+/// The sections, by the offsets at the start of the trailer.
 fn sections<'a>(body: &'a [u8], end: &[u8]) -> Option<SectionBytes<'a>> {
     let names = number_at(end, 4)?;
     let lists = number_at(end, 8)?;
@@ -50,7 +50,7 @@ fn sections<'a>(body: &'a [u8], end: &[u8]) -> Option<SectionBytes<'a>> {
     })
 }
 
-/// The same, or why there are none.
+/// The sections, or the error of the offsets.
 fn parts(bytes: &[u8]) -> Result<SectionBytes<'_>, IndexFault> {
     if !bytes.starts_with(b"csearch index 1\n") {
         return Err(IndexFault::BadMagic);
@@ -64,18 +64,18 @@ fn parts(bytes: &[u8]) -> Result<SectionBytes<'_>, IndexFault> {
     sections(body, end).ok_or(IndexFault::BadOffsets)
 }
 
-/// Whether this is texts that are not empty, each with a NUL behind it.
+/// Whether this is a list of texts that are not empty, each followed by a NUL.
 fn are_texts(texts: &str) -> bool {
     texts.is_empty() || texts.ends_with("\0") && !texts.starts_with("\0") && !texts.contains("\0\0")
 }
 
-/// The paths, behind which a NUL stands.
+/// The paths, which end with a NUL.
 fn paths_of(section: &[u8]) -> Option<&str> {
     let texts = from_utf8(section).ok()?.strip_suffix("\0")?;
     are_texts(texts).then_some(texts)
 }
 
-/// The names, behind which a NUL may stand.
+/// The names, which may end with a NUL.
 fn names_of(section: &[u8]) -> Option<&str> {
     let texts = from_utf8(section).ok()?;
     if are_texts(texts) {
@@ -84,18 +84,18 @@ fn names_of(section: &[u8]) -> Option<&str> {
     paths_of(section)
 }
 
-/// Whether these are the offsets of the names, and four bytes more.
+/// Whether these are the offsets of the names, and four more bytes.
 fn are_offsets(names: &str, index: &[u8]) -> bool {
-    let mut place = 0usize;
+    let mut at = 0usize;
     let mut offset = 0usize;
     for name in names.split_terminator('\0') {
-        if number_at(index, place) != Some(offset) {
+        if number_at(index, at) != Some(offset) {
             return false;
         }
-        place = place.wrapping_add(4);
+        at = at.wrapping_add(4);
         offset = offset.wrapping_add(name.len()).wrapping_add(1);
     }
-    index.len() == place.wrapping_add(4)
+    index.len() == at.wrapping_add(4)
 }
 
 /// Whether these are entries of ascending trigrams, each with room for its list.
@@ -116,8 +116,8 @@ fn are_entries(entries: &[u8], lists: &[u8]) -> bool {
     true
 }
 
-/// What the bytes spell, or the first fault of them.
-pub fn spelled(bytes: &[u8]) -> Result<Plain<'_>, IndexFault> {
+/// What the bytes decode as, or their first error.
+pub fn decoded(bytes: &[u8]) -> Result<Plain<'_>, IndexFault> {
     let parts = parts(bytes)?;
     let paths = paths_of(parts.paths).ok_or(IndexFault::BadPaths)?;
     let names = names_of(parts.names).ok_or(IndexFault::BadNames)?;
@@ -147,51 +147,51 @@ pub fn has_damage(reads: &Reads) -> bool {
 
 const SCALES: [u64; 5] = [1, 1 << 7, 1 << 14, 1 << 21, 1 << 28];
 
-/// A number of seven bits a byte, and how many bytes it has.
+/// A varint, and the number of its bytes.
 fn varint(bytes: &[u8]) -> Option<(u64, usize)> {
     let mut value = 0u64;
-    for (place, scale) in SCALES.iter().enumerate() {
-        let byte = *bytes.get(place)?;
+    for (i, scale) in SCALES.iter().enumerate() {
+        let byte = *bytes.get(i)?;
         value = value.wrapping_add(u64::from(byte & 127).wrapping_mul(*scale));
         if byte < 128 {
-            return (value < 1 << 32).then_some((value, place + 1));
+            return (value < 1 << 32).then_some((value, i + 1));
         }
     }
     None
 }
 
 impl<'a> Plain<'a> {
-    /// How many names there are.
+    /// The number of names.
     pub fn count(&self) -> usize {
         self.names.split_terminator('\0').count()
     }
 
-    /// What is read of the list of an entry, where there are at most two names.
+    /// What is read of the list of an entry, for at most two names.
     pub fn reads(&self, entry: &[u8]) -> Reads {
         let mut reads = [None; 3];
         let mut left = self.list(entry).unwrap_or(b"");
         let count = number_at(entry, 3).unwrap_or(0);
         let mut ids = 0u64;
-        for place in 0..3 {
+        for i in 0..3 {
             let Some((delta, len)) = varint(left) else {
-                reads[place] = BAD;
+                reads[i] = BAD;
                 return reads;
             };
             ids = ids.wrapping_add(delta);
-            if place == count && delta == 0 {
+            if i == count && delta == 0 {
                 return reads;
             }
-            if place >= count || delta == 0 || ids > self.count() as u64 {
-                reads[place] = BAD;
+            if i >= count || delta == 0 || ids > self.count() as u64 {
+                reads[i] = BAD;
                 return reads;
             }
-            reads[place] = Some(Ok(u32::try_from(ids.wrapping_sub(1)).unwrap_or(0)));
+            reads[i] = Some(Ok(u32::try_from(ids.wrapping_sub(1)).unwrap_or(0)));
             left = left.get(len..).unwrap_or(b"");
         }
         reads
     }
 
-    /// The list of an entry, behind its trigram.
+    /// The list of an entry, after its trigram.
     fn list(&self, entry: &[u8]) -> Option<&[u8]> {
         let list = self.lists.get(number_at(entry, 7)?..)?;
         list.strip_prefix(entry.get(..3)?)

@@ -1,11 +1,11 @@
-// The writer over worked rows.
+// The writer: worked examples.
 use crate::fixtures::{Files, ROW, builder_of, index_of, strings};
 use crate::index::reading::EMPTY;
 use cs_index::{BuildFault, Builder};
 use std::alloc::{AllocError, Global};
 use std::test::Fail;
 
-/// Whether the index of a path with one file has these bytes.
+/// Whether the index of a path with one file is these bytes.
 fn writes_one(alloc: Global, want: &[u8]) -> Result<bool, BuildFault> {
     let mut builder = builder_of(alloc, &["/a"])?;
     let id = builder.add("/a/x", &[0x616263, 0x626364, 0x63640a])?;
@@ -13,19 +13,19 @@ fn writes_one(alloc: Global, want: &[u8]) -> Result<bool, BuildFault> {
     Ok(id == 0 && index.as_slice() == want)
 }
 
-/// Whether the index of a path and its files has so many bytes, and these at a place.
+/// Whether the index of a path and its files has this size, and these bytes at an offset.
 fn writes(
     alloc: Global,
     path: &str,
     files: Files<'_>,
     count: usize,
-    place: usize,
+    offset: usize,
     want: &[u8],
 ) -> bool {
     let Some(index) = index_of(alloc, &[path], files) else {
         return false;
     };
-    match index.split_at_checked(place) {
+    match index.split_at_checked(offset) {
         Some((_before, rest)) => index.len() == count && rest.starts_with(want),
         None => false,
     }
@@ -44,18 +44,18 @@ const SAME: Files<'static> = &[
     ("/t/8", b"abc"),
 ];
 
-/// The list of these bytes, which is of deltas, and the closing list.
+/// The list of these bytes, which are deltas, and the closing list.
 const DELTAS: &[u8] = b"abc\x02\x05\x01\x01\0\xff\xff\xff\0";
 
 #[test]
-fn rows_are_written(rt: HostRuntime) {
+fn rows_are_encoded(rt: HostRuntime) {
     assert!(rt; writes_one(rt.alloc(), ROW) == Ok(true));
     assert!(rt; writes(rt.alloc(), "/a", &[], 65, 0, EMPTY));
     assert!(rt; writes(rt.alloc(), "/t", SAME, 65 + 45 + 8 + 36 + 11, 66, DELTAS));
 }
 
-/// Why no index of the paths is begun.
-fn refusal(alloc: Global, paths: &[&str]) -> Result<Option<BuildFault>, AllocError> {
+/// Why an index of the paths cannot be begun.
+fn error_of(alloc: Global, paths: &[&str]) -> Result<Option<BuildFault>, AllocError> {
     Ok(Builder::new(alloc, &strings(alloc, paths)?).err())
 }
 
@@ -70,16 +70,16 @@ const BAD_PATHS: &[&[&str]] = &[
 ];
 
 #[test]
-fn paths_are_refused(rt: HostRuntime) {
+fn paths_are_rejected(rt: HostRuntime) {
     for paths in BAD_PATHS {
         assert!(rt;
-            refusal(rt.alloc(), paths) == Ok(Some(BuildFault::BadPaths)),
+            error_of(rt.alloc(), paths) == Ok(Some(BuildFault::BadPaths)),
             "of {paths:?}"
         );
     }
 }
 
-/// Names one after another, and what adding them answers.
+/// Names in a row, and the answers of adding them.
 const NAMES: &[(&str, Result<u32, BuildFault>)] = &[
     ("", Err(BuildFault::BadName)),
     ("/\0", Err(BuildFault::BadName)),
@@ -89,7 +89,7 @@ const NAMES: &[(&str, Result<u32, BuildFault>)] = &[
 ];
 
 #[test]
-fn names_are_refused(rt: HostRuntime) -> Result<(), Fail> {
+fn names_are_rejected(rt: HostRuntime) -> Result<(), Fail> {
     let mut builder = builder_of(rt.alloc(), &["/a"])?;
     for (name, answer) in NAMES {
         assert!(rt; builder.add(name, &[]) == *answer, "of {name:?}");
@@ -98,7 +98,7 @@ fn names_are_refused(rt: HostRuntime) -> Result<(), Fail> {
     Ok(())
 }
 
-/// Whether names are added within limits, and refused past them.
+/// Whether names are added within limits, and rejected past them.
 fn keeps_limits(alloc: Global) -> Result<bool, BuildFault> {
     let mut builder = builder_of(alloc, &["/a"])?;
     Ok(
@@ -109,13 +109,13 @@ fn keeps_limits(alloc: Global) -> Result<bool, BuildFault> {
     )
 }
 
-/// How long an empty index is, within so many bytes.
+/// The size of an empty index within a limit of bytes.
 fn length_within(alloc: Global, most: u32) -> Result<usize, BuildFault> {
     let index = builder_of(alloc, &["/a"])?.finish_within(most)?;
     Ok(index.len())
 }
 
-/// At 24 the lists have no room, at 64 the trailer.
+/// At 24 there is no room for the lists, at 64 none for the trailer.
 const WITHIN: &[(u32, Result<usize, BuildFault>)] = &[
     (24, Err(BuildFault::TooLarge)),
     (64, Err(BuildFault::TooLarge)),

@@ -1,4 +1,4 @@
-// The candidates of queries over worked rows.
+// The candidates of queries: worked examples.
 use crate::fixtures::{Files, ROW, changed, index_of, number};
 use cs_index::{Index, IndexFault};
 use cs_trigram::Query;
@@ -6,7 +6,7 @@ use std::alloc::{AllocError, Global};
 use std::process::Abort;
 use std::test::Fail;
 
-/// A query for all of the queries, or for some.
+/// The conjunction or disjunction of the queries.
 fn joined(all: bool, queries: Vec<Query>) -> Query {
     if all {
         Query::And(queries)
@@ -15,7 +15,7 @@ fn joined(all: bool, queries: Vec<Query>) -> Query {
     }
 }
 
-/// The query for all of the trigrams, or for some.
+/// The conjunction or disjunction of the trigrams.
 fn query_of(alloc: Global, all: bool, trigrams: &[&str]) -> Result<Query, AllocError> {
     let mut queries = Vec::new(alloc);
     for trigram in trigrams {
@@ -30,7 +30,7 @@ const FILES: Files<'static> = &[
     ("/g/3", b"Search\n"),
 ];
 
-/// Whether the query has just these candidates in the index.
+/// Whether the query has exactly these candidates in the index.
 fn finds(alloc: Global, index: &Index<'_>, query: &Query, want: &[u32]) -> bool {
     match index.candidates(alloc, query) {
         Ok(found) => found.as_slice() == want,
@@ -38,8 +38,8 @@ fn finds(alloc: Global, index: &Index<'_>, query: &Query, want: &[u32]) -> bool 
     }
 }
 
-/// The same of a query that may be missing.
-fn finds_some(alloc: Global, index: &Index<'_>, query: Option<Query>, want: &[u32]) -> bool {
+/// The same for a query that may be missing.
+fn matches_some(alloc: Global, index: &Index<'_>, query: Option<Query>, want: &[u32]) -> bool {
     match query {
         Some(query) => finds(alloc, index, &query, want),
         None => false,
@@ -48,7 +48,7 @@ fn finds_some(alloc: Global, index: &Index<'_>, query: Option<Query>, want: &[u3
 
 const EACH: &[&str] = &["Goo", "oog", "ogl", "gle", "Sea", "ear", "arc", "rch"];
 
-/// Whether all of the trigrams are asked for or some, these, and the candidates.
+/// Whether it is a conjunction or a disjunction, the trigrams, and the candidates.
 const FOUND: &[(bool, &[&str], &[u32])] = &[
     (true, EACH, &[0]),
     (false, &["le\n", "Sea"], &[0, 1, 2]),
@@ -58,21 +58,21 @@ const FOUND: &[(bool, &[&str], &[u32])] = &[
 ];
 
 /// Whether queries of one trigram, of nothing and of all have their candidates.
-fn finds_alone(alloc: Global, index: &Index<'_>) -> bool {
+fn matches_alone(alloc: Global, index: &Index<'_>) -> bool {
     finds(alloc, index, &Query::Tri(number(b"Goo")), &[0, 1])
         && finds(alloc, index, &Query::Tri(number(b"xyz")), &[])
         && finds(alloc, index, &Query::Nothing, &[])
         && finds(alloc, index, &Query::All, &[0, 1, 2])
 }
 
-/// Whether all of some queries are asked for or some, whether all of the trigrams of each are or some, these, and the
-/// candidates.
+/// Whether the outer query is a conjunction or a disjunction, the same of each inner one, their
+/// trigrams, and the candidates.
 const NESTED: &[(bool, bool, &[&[&str]], &[u32])] = &[
     (true, false, &[&["Goo", "xyz"], &["Sea", "wxy"]], &[0]),
     (false, true, &[&["Goo", "le\n"], &["Goo", "Sea"]], &[0, 1]),
 ];
 
-/// The query for all of the members, or for some, which are queries of trigrams each.
+/// The conjunction or disjunction of the members, which are queries of trigrams.
 fn nested(
     alloc: Global,
     all: bool,
@@ -87,14 +87,17 @@ fn nested(
 }
 
 /// The query of each row has its candidates in the index.
-fn finds_rows(rt: &(impl Abort + AllocGlobal), index: &Index<'_>) {
+fn matches_rows(rt: &(impl Abort + AllocGlobal), index: &Index<'_>) {
     for (all, trigrams, want) in FOUND {
         let query = query_of(rt.alloc(), *all, trigrams).ok();
-        assert!(rt; finds_some(rt.alloc(), index, query, want), "{trigrams:?}");
+        assert!(rt;
+            matches_some(rt.alloc(), index, query, want),
+            "{trigrams:?}"
+        );
     }
     for (all, all_of_each, members, want) in NESTED {
         let query = nested(rt.alloc(), *all, *all_of_each, members).ok();
-        assert!(rt; finds_some(rt.alloc(), index, query, want), "{members:?}");
+        assert!(rt; matches_some(rt.alloc(), index, query, want), "{members:?}");
     }
 }
 
@@ -102,18 +105,18 @@ fn finds_rows(rt: &(impl Abort + AllocGlobal), index: &Index<'_>) {
 fn names_are_found(rt: HostRuntime) -> Result<(), Fail> {
     let bytes = index_of(rt.alloc(), &["/g"], FILES).ok_or("index")?;
     let index = Index::open(&bytes)?;
-    finds_rows(&rt, &index);
-    assert!(rt; finds_alone(rt.alloc(), &index));
+    matches_rows(&rt, &index);
+    assert!(rt; matches_alone(rt.alloc(), &index));
     Ok(())
 }
 
-/// Whether the list of the query is told as damaged.
+/// Whether the list of the query is reported as damaged.
 fn is_damaged(alloc: Global, index: &Index<'_>, query: &Query) -> bool {
     index.candidates(alloc, query).err() == Some(IndexFault::BadList)
 }
 
-/// Whether each query of a damaged list tells so, and one of another list does not.
-fn tells_damage(alloc: Global, index: &Index<'_>) -> Result<bool, AllocError> {
+/// Whether each query of a damaged list reports it, and one of another list does not.
+fn reports_damage(alloc: Global, index: &Index<'_>) -> Result<bool, AllocError> {
     let behind = query_of(alloc, true, &["xyz", "abc"])?;
     let beside = query_of(alloc, false, &["bcd", "abc"])?;
     Ok(
@@ -125,9 +128,9 @@ fn tells_damage(alloc: Global, index: &Index<'_>) -> Result<bool, AllocError> {
 }
 
 #[test]
-fn damage_is_found(rt: HostRuntime) -> Result<(), Fail> {
+fn damage_is_detected(rt: HostRuntime) -> Result<(), Fail> {
     let bytes = changed(ROW, &[(59, 0x02)]);
     let index = Index::open(&bytes)?;
-    assert!(rt; tells_damage(rt.alloc(), &index) == Ok(true));
+    assert!(rt; reports_damage(rt.alloc(), &index) == Ok(true));
     Ok(())
 }

@@ -1,16 +1,16 @@
-// The reader over worked rows.
+// The reader: worked examples.
 use crate::fixtures::{ROW, UNSORTED, changed};
 use cs_index::{Index, IndexFault, Postings, Texts};
 
-/// The path `/a` and no name.
+/// An index of the path `/a` and no name.
 pub const EMPTY: &[u8; 65] =
     b"csearch index 1\n/a\0\0\0\xff\xff\xff\0\0\0\0\0\0\0\0\x10\0\0\0\x14\0\0\0\x15\0\0\0\x19\0\0\0\x1d\ncsearch trailr\n";
 
-/// `UNSORTED` without the last NUL of its names, and with other bytes last in its name index.
+/// `UNSORTED` without the last NUL of its names, and with other bytes at the end of its name index.
 const UNCLOSED: &[u8; 114] =
     b"csearch index 1\n/a\0\0/a/b/z\0/a/b-x\0abc\x01\x01\0\xff\xff\xff\0\0\0\0\0\0\0\0\x07wxyzabc\0\0\0\x02\0\0\0\0\xff\xff\xff\0\0\0\0\0\0\0\x06\0\0\0\x10\0\0\0\x14\0\0\0\x22\0\0\0\x2c\0\0\0\x38\ncsearch trailr\n";
 
-/// What an index answers: each list is a trigram and its ids.
+/// The answers of an index: each list is a trigram and its ids.
 #[derive(Drop)]
 struct Wanted<'a> {
     paths: &'a [&'a str],
@@ -19,7 +19,7 @@ struct Wanted<'a> {
     lists: &'a [(u32, &'a [u32])],
 }
 
-/// Whether these ids are given, and then the end.
+/// Whether the iterator gives these ids, and then the end.
 fn are_ids(ids: Postings, want: &[u32]) -> bool {
     let mut ids = ids;
     for at in 0..4 {
@@ -30,7 +30,7 @@ fn are_ids(ids: Postings, want: &[u32]) -> bool {
     true
 }
 
-/// Whether these texts are given, one by one, and then the end.
+/// Whether the iterator gives these texts, and then the end.
 fn are_texts(texts: Texts, want: &[&str]) -> bool {
     let mut texts = texts;
     for at in 0..4 {
@@ -41,16 +41,16 @@ fn are_texts(texts: Texts, want: &[&str]) -> bool {
     true
 }
 
-/// Whether the calls by place answer so, up to a place that has nothing.
-fn are_by_place(index: &Index, want: &Wanted) -> bool {
-    for place in 0..4 {
-        if index.path(place) != want.paths.get(place as usize).copied() {
+/// Whether the calls by index give these answers, and nothing past them.
+fn are_by_index(index: &Index, want: &Wanted) -> bool {
+    for i in 0..4 {
+        if index.path(i) != want.paths.get(i as usize).copied() {
             return false;
         }
-        if index.name(place) != want.names.get(place as usize).copied() {
+        if index.name(i) != want.names.get(i as usize).copied() {
             return false;
         }
-        let is_list = match (index.list_at(place), want.lists.get(place as usize)) {
+        let is_list = match (index.list_at(i), want.lists.get(i as usize)) {
             (Some((trigram, ids)), Some(list)) => trigram == list.0 && are_ids(ids, list.1),
             (None, None) => true,
             _ => false,
@@ -62,7 +62,7 @@ fn are_by_place(index: &Index, want: &Wanted) -> bool {
     true
 }
 
-/// Whether the trigram has the list that is wanted, or none.
+/// Whether the trigram has the wanted list, or none.
 fn is_list_of(index: &Index, want: &Wanted, trigram: u32) -> bool {
     for list in want.lists {
         if list.0 == trigram {
@@ -76,11 +76,11 @@ fn is_list_of(index: &Index, want: &Wanted, trigram: u32) -> bool {
 }
 
 /// Trigrams of the rows, and others.
-const ASKED: [u32; 5] = [0x616263, 0x626364, 0x63640a, 0xffffff, 0x78797a];
+const QUERIED: [u32; 5] = [0x616263, 0x626364, 0x63640a, 0xffffff, 0x78797a];
 
-/// Whether each of `ASKED` has the list that is wanted, or none.
+/// Whether each of `QUERIED` has the wanted list, or none.
 fn are_by_trigram(index: &Index, want: &Wanted) -> bool {
-    for trigram in ASKED {
+    for trigram in QUERIED {
         if !is_list_of(index, want, trigram) {
             return false;
         }
@@ -88,7 +88,7 @@ fn are_by_trigram(index: &Index, want: &Wanted) -> bool {
     true
 }
 
-/// Whether there are so many names and lists, in this order.
+/// Whether there are this many names and lists, in this order.
 fn are_counted(index: &Index, want: &Wanted) -> bool {
     index.len() as usize == want.names.len()
         && index.is_empty() == want.names.is_empty()
@@ -96,16 +96,16 @@ fn are_counted(index: &Index, want: &Wanted) -> bool {
         && index.in_order() == want.in_order
 }
 
-/// Whether the index answers so to each call.
+/// Whether the index gives these answers to each call.
 fn answers(index: &Index, want: &Wanted) -> bool {
     are_counted(index, want)
         && are_texts(index.paths(), want.paths)
         && are_texts(index.names(), want.names)
-        && are_by_place(index, want)
+        && are_by_index(index, want)
         && are_by_trigram(index, want)
 }
 
-/// Whether the bytes open as an index that answers so.
+/// Whether the bytes open as an index with these answers.
 fn opens_so(bytes: &[u8], want: &Wanted) -> bool {
     match Index::open(bytes) {
         Ok(index) => answers(&index, want),
@@ -113,7 +113,7 @@ fn opens_so(bytes: &[u8], want: &Wanted) -> bool {
     }
 }
 
-/// Bytes of `ROW` that are changed, and why it is refused then. Paths come before names.
+/// Changed bytes of `ROW`, and the error that they cause. Paths come before names.
 const CHANGES: &[(&[(usize, u8)], Option<IndexFault>)] = &[
     (&[(0, 0x00)], Some(IndexFault::BadMagic)),
     (&[(121, 0x00)], Some(IndexFault::BadTrailer)),
@@ -133,14 +133,14 @@ const CHANGES: &[(&[(usize, u8)], Option<IndexFault>)] = &[
 ];
 
 #[test]
-fn changed_bytes_are_refused(rt: HostRuntime) {
+fn changed_bytes_are_rejected(rt: HostRuntime) {
     for (changes, want) in CHANGES {
         let bytes = changed(ROW, changes);
         assert!(rt; Index::open(&bytes).err() == *want, "at {changes:?}");
     }
 }
 
-/// What `ROW` answers.
+/// The answers of `ROW`.
 const ONE_FILE: Wanted<'static> = Wanted {
     paths: &["/a"],
     names: &["/a/x"],
@@ -151,15 +151,15 @@ const ONE_FILE: Wanted<'static> = Wanted {
 /// The first byte of the closing list, and the last byte of the name index.
 #[test]
 fn some_bytes_may_be_anything(rt: HostRuntime) {
-    for place in [41, 52] {
+    for offset in [41, 52] {
         for byte in 0..=255 {
-            let bytes = changed(ROW, &[(place, byte)]);
-            assert!(rt; opens_so(&bytes, &ONE_FILE), "{byte} at {place}");
+            let bytes = changed(ROW, &[(offset, byte)]);
+            assert!(rt; opens_so(&bytes, &ONE_FILE), "{byte} at {offset}");
         }
     }
 }
 
-/// What `UNSORTED` and `UNCLOSED` answer.
+/// The answers of `UNSORTED` and `UNCLOSED`.
 const TWO_FILES: Wanted<'static> = Wanted {
     paths: &["/a"],
     names: &["/a/b/z", "/a/b-x"],
@@ -167,7 +167,7 @@ const TWO_FILES: Wanted<'static> = Wanted {
     lists: &[(0x616263, &[0, 1]), (0xffffff, &[])],
 };
 
-/// The last offset may be any four bytes, and the NUL behind the names may be missing.
+/// The last offset may be any four bytes, and the NUL after the names may be missing.
 #[test]
 fn other_writers_are_read(rt: HostRuntime) {
     for [a, b, c, d] in [*b"\0\0\0\x0e", *b"wxyz"] {
@@ -178,7 +178,7 @@ fn other_writers_are_read(rt: HostRuntime) {
     }
 }
 
-/// What `EMPTY` answers.
+/// The answers of `EMPTY`.
 const NO_FILE: Wanted<'static> = Wanted {
     paths: &["/a"],
     names: &[],
@@ -197,22 +197,22 @@ fn first_three(ids: Postings) -> [Option<Result<u32, IndexFault>>; 3] {
     [ids.next(), ids.next(), ids.next()]
 }
 
-/// The first three answers of the list of `abc` in `ROW`, with another byte at the place.
-fn damaged(place: usize, byte: u8) -> Option<[Option<Result<u32, IndexFault>>; 3]> {
-    let bytes = changed(ROW, &[(place, byte)]);
+/// The first three answers of the list of `abc` in `ROW`, with another byte at the offset.
+fn damaged(offset: usize, byte: u8) -> Option<[Option<Result<u32, IndexFault>>; 3]> {
+    let bytes = changed(ROW, &[(offset, byte)]);
     let index = Index::open(&bytes).ok()?;
     Some(first_three(index.postings(0x616263)?))
 }
 
 #[test]
-fn damage_is_told(rt: HostRuntime) {
+fn damage_is_reported(rt: HostRuntime) {
     let bad = Some(Err(IndexFault::BadList));
     assert!(rt; damaged(63, 0x0f) == Some([bad, None, None]));
     assert!(rt; damaged(59, 0x02) == Some([Some(Ok(0)), bad, None]));
 }
 
-/// Why so many bytes of an index are refused.
-fn fault_of_front(end: usize) -> IndexFault {
+/// The error of the first bytes of an index.
+fn fault_of_prefix(end: usize) -> IndexFault {
     if end < 16 {
         IndexFault::BadMagic
     } else {
@@ -221,11 +221,11 @@ fn fault_of_front(end: usize) -> IndexFault {
 }
 
 #[test]
-fn prefixes_are_refused(rt: HostRuntime) {
+fn prefixes_are_rejected(rt: HostRuntime) {
     for bytes in [ROW.as_slice(), UNSORTED, EMPTY] {
         for end in 0..bytes.len() {
             assert!(rt;
-                Index::open(&bytes[..end]).err() == Some(fault_of_front(end)),
+                Index::open(&bytes[..end]).err() == Some(fault_of_prefix(end)),
                 "at {end} of {}",
                 bytes.len()
             );

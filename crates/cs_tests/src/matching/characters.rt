@@ -1,4 +1,5 @@
-// Sets of characters: their runs, and the bytes that they take. Wants are those of Unicode's rules for UTF-8.
+// Character sets: their ranges and encodings. The expected values are those of Unicode's rules for
+// UTF-8.
 use crate::matching::finding::finds;
 use cs_syntax::CharSet;
 use std::alloc::{AllocError, Global};
@@ -24,7 +25,7 @@ const CHARACTERS: &[(&[u8], bool)] = &[
     (b"", false),
 ];
 
-/// Patterns of one set of characters, with lines and whether each is one of its characters.
+/// Patterns of one character set, with lines and whether each is one of its characters.
 const ROWS: &[(&str, &[(&[u8], bool)])] = &[
     ("^[\\0-\\x{10ffff}]$", CHARACTERS),
     ("^[^\\n]$", &[(b"\n", false), (b"\xe2\x82\xac", true)]),
@@ -40,7 +41,7 @@ const ROWS: &[(&str, &[(&[u8], bool)])] = &[
 ];
 
 #[test]
-fn takes_one_character(rt: HostRuntime) {
+fn matches_one_character(rt: HostRuntime) {
     for (pattern, lines) in ROWS {
         assert!(rt;
             finds(rt.alloc(), pattern, *lines) == Some(true),
@@ -55,8 +56,8 @@ const JOINED: &[(u32, u32)] = &[(97, 122), (0xD7F0, 0xE010)];
 
 const OTHERS: &[(u32, u32)] = &[(0, 96), (123, 0xD7EF), (0xE011, 0x10_FFFF)];
 
-/// Whether the sets of the ranges, of all others, and of both have their runs and members.
-fn have_runs(alloc: Global) -> Result<bool, AllocError> {
+/// Whether the sets of the ranges, of their complement, and of both have their ranges and members.
+fn have_ranges(alloc: Global) -> Result<bool, AllocError> {
     let set = CharSet::from_ranges(alloc, APART)?;
     let others = set.complement(alloc)?;
     let all = others.union(alloc, &set)?;
@@ -72,6 +73,6 @@ fn have_runs(alloc: Global) -> Result<bool, AllocError> {
 }
 
 #[test]
-fn runs_are_maximal(rt: HostRuntime) {
-    assert_eq!(rt; have_runs(rt.alloc()), Ok(true));
+fn ranges_are_maximal(rt: HostRuntime) {
+    assert_eq!(rt; have_ranges(rt.alloc()), Ok(true));
 }

@@ -1,4 +1,4 @@
-// Lines that are found: rows from outside.
+// Matching lines: examples whose results are known independently.
 use cs_match::{Matcher, Program, laws};
 use cs_syntax::parse;
 use std::alloc::{AllocError, Global};
@@ -10,14 +10,14 @@ pub fn program_of(alloc: Global, pattern: &str) -> Option<Program> {
     Program::compile(alloc, &pattern).ok()
 }
 
-/// Whether a matcher of the pattern finds something in each line where that is wanted, and nothing in the others.
+/// Whether a matcher of the pattern matches each line that is wanted, and no other.
 pub fn finds(alloc: Global, pattern: &str, lines: &[(&[u8], bool)]) -> Option<bool> {
     let program = program_of(alloc, pattern)?;
     let mut matcher = Matcher::new(alloc, &program).ok()?;
     Some(answers(&mut matcher, lines))
 }
 
-/// The same of a matcher.
+/// The same for a matcher.
 fn answers(matcher: &mut Matcher<'_>, lines: &[(&[u8], bool)]) -> bool {
     for (line, want) in lines {
         if matcher.is_match(line) != *want {
@@ -79,7 +79,7 @@ const ROWS: &[(&str, &str, bool)] = &[
 
 #[test]
 fn rows_of_patterns_and_lines(rt: HostRuntime) {
-    laws::finding_is_decided();
+    laws::matching_is_decidable();
     for (pattern, line, want) in ROWS {
         assert!(rt;
             finds(rt.alloc(), pattern, &[(line.as_bytes(), *want)]) == Some(true),
@@ -88,9 +88,9 @@ fn rows_of_patterns_and_lines(rt: HostRuntime) {
     }
 }
 
-/// Patterns, lines of bytes, and whether something is found.
+/// Patterns, lines of bytes, and whether they match.
 const ROWS_OF_BYTES: &[(&str, &[u8], bool)] = &[
-    // The pattern asks for the character, which is two bytes, and not for the byte.
+    // `\xe9` in a pattern is a character, which is encoded in two bytes.
     ("^\\xe9$", b"\xe9", false),
     ("^.$", b"\xff", false),
     ("^.$", b"\xc0\x80", false),
@@ -103,7 +103,7 @@ const ROWS_OF_BYTES: &[(&str, &[u8], bool)] = &[
     ("^[^é]$", b"\xe9", false),
     ("^[^é]", b"\xa9", false),
     ("\\D", b"\xff\xc3", false),
-    // What is broken is taken by no character, and the search goes on behind it.
+    // An invalid sequence is not a character, and the search continues after it.
     ("a.b", b"a\xffb a\xc3\xa9b", true),
     ("a.b", b"a\xffb a\xc3b", false),
     ("^\\C*€$", b"\xff\xe2\x82\xac", true),
@@ -128,7 +128,7 @@ const LINES: &[(&[u8], bool)] = &[
     (b"ac", true),
 ];
 
-/// One matcher answers for each line alone.
+/// A matcher's answer depends on the line alone.
 #[test]
 fn lines_one_after_another(rt: HostRuntime) {
     for count in 1..7 {
@@ -150,18 +150,19 @@ fn letters(number: usize) -> [u8; 11] {
     line
 }
 
-/// The first of such lines that is answered wrongly, or by one set of states alone: found are those whose second is `a`.
+/// The first of these lines for which the answer is wrong, or the matcher has only one DFA state. A
+/// line matches if its second letter is `a`.
 fn wrong_line(matcher: &mut Matcher<'_>) -> Option<usize> {
     for i in 0..4096usize {
         let line = letters(if i < 2048 { i } else { 4095 - i });
-        if matcher.is_match(&line) != (line[1] == b'a') || matcher.standings() <= 1 {
+        if matcher.is_match(&line) != (line[1] == b'a') || matcher.state_count() <= 1 {
             return Some(i);
         }
     }
     None
 }
 
-/// More sets than the table has rows for, in ascending order and in descending order.
+/// More states than the table has, in ascending and in descending order.
 #[test]
 fn more_sets_than_rows(rt: HostRuntime) -> Result<(), Fail> {
     let program = program_of(rt.alloc(), "a(a|b){9}$").ok_or("program")?;
@@ -171,7 +172,7 @@ fn more_sets_than_rows(rt: HostRuntime) -> Result<(), Fail> {
     Ok(())
 }
 
-/// So many of a text, another text, and as many of a third.
+/// A text repeated, another text, and as many copies of a third one.
 type Repeated<'a> = (&'a str, usize, &'a str, &'a str);
 
 /// The whole text.
@@ -182,7 +183,7 @@ fn text_of(alloc: Global, parts: &Repeated<'_>) -> Result<String, AllocError> {
     format!(in alloc; "{before}{middle}{after}")
 }
 
-/// Whether something is found in the line, as that is wanted.
+/// Whether the line matches as wanted.
 fn finds_in(
     alloc: Global,
     pattern: &Repeated<'_>,
@@ -194,8 +195,8 @@ fn finds_in(
     finds(alloc, pattern.as_str(), &[(line.as_bytes(), want)])
 }
 
-/// Loops in one another to the parser's depth, a pattern of nearly the greatest weight, many loops
-/// that stay open, and phrases whose marks take more than one word.
+/// Loops nested to the parser's depth, a pattern of nearly the largest weight, many loops that stay
+/// open, and an alternation of sequences whose position set needs more than one machine word.
 const LARGE: &[(Repeated<'static>, Repeated<'static>, bool)] = &[
     (("(", 200, "a", ")*b"), ("a", 100, "", "b"), true),
     (("a", 9998, "", ""), ("a", 100, "", ""), false),

@@ -1,11 +1,11 @@
-// Trees in memory and on the real disk, and readers and writers that fail in mid-stream.
+// Trees in memory and on the real disk, and readers and writers that fail midway.
 ghost use Rattle.std.specs.Prelude.{◌≡◌, true};
 ghost use Rattle.cs_tree.specs.Cover.{is_absolute};
 
 use crate::fixtures::{spaced, strings, tree_of};
 use cs_tree::{
     DiskTree, IoFault, Item, Kind, MemTree, PathFault, PutFault, Sink, Source, StdSink, StdSource,
-    Tree, TreeFault, TreeReader, clean, covers, is_settled, read_all, reduce,
+    Tree, TreeFault, TreeReader, clean, covers, is_normalized, read_all, reduce,
 };
 use std::alloc::{AllocError, Global};
 use std::io::{Read, Write};
@@ -13,7 +13,7 @@ use std::os::unix::fs::symlink;
 use std::test::*;
 use std::{fs, io};
 
-/// A reader and writer that fails at its second call, and at its third does nothing.
+/// A reader and writer that fails at its second call, and does nothing at its third.
 #[derive(Drop)]
 struct Flaky {
     calls: u32,
@@ -49,8 +49,8 @@ impl Write for Flaky {
     }
 }
 
-/// Whether a source tells that a read failed in mid-stream, and goes on.
-fn tells_a_failed_read() -> bool {
+/// Whether a source reports that a read failed midway, and continues.
+fn reports_a_failed_read() -> bool {
     let mut source = StdSource::new(Flaky { calls: 0 });
     let mut buf = [0u8; 2];
     source.read(&mut buf) == Ok(1)
@@ -59,8 +59,8 @@ fn tells_a_failed_read() -> bool {
         && source.failures() == 1
 }
 
-/// Whether a sink tells that a flush and a write failed in mid-stream, and goes on.
-fn tells_failed_writes() -> bool {
+/// Whether a sink reports that a flush and a write failed midway, and continues.
+fn reports_failed_writes() -> bool {
     let mut sink = StdSink::new(Flaky { calls: 0 });
     sink.write(b"ab") == Ok(1)
         && sink.flush() == Err(IoFault::Failed)
@@ -72,8 +72,8 @@ fn tells_failed_writes() -> bool {
 
 #[test]
 fn failures_in_mid_stream(rt: HostRuntime) {
-    assert!(rt; tells_a_failed_read());
-    assert!(rt; tells_failed_writes());
+    assert!(rt; reports_a_failed_read());
+    assert!(rt; reports_failed_writes());
 }
 
 /// Reads the open file to its end, by a reader over the tree.
@@ -82,7 +82,7 @@ fn rest_of<T: Tree>(alloc: Global, tree: &mut T) -> Result<Vec<u8>, IoFault> {
     read_all(alloc, &mut reader, 100)
 }
 
-/// Whether the open file has these bytes behind what was read of it.
+/// Whether the rest of the open file is these bytes.
 fn has_rest<T: Tree>(alloc: Global, tree: &mut T, want: &[u8]) -> bool {
     match rest_of(alloc, tree) {
         Ok(rest) => rest.as_slice() == want,
@@ -90,7 +90,7 @@ fn has_rest<T: Tree>(alloc: Global, tree: &mut T, want: &[u8]) -> bool {
     }
 }
 
-/// Whether the folder has just these names, each with a space behind it.
+/// Whether the folder has exactly these names, each followed by a space.
 fn has_names<T: Tree>(alloc: Global, tree: &mut T, path: &str, want: &str) -> bool {
     match tree.entries(alloc, path) {
         Ok(listing) => are_names(alloc, listing.names, want) == Ok(true),
@@ -98,14 +98,14 @@ fn has_names<T: Tree>(alloc: Global, tree: &mut T, path: &str, want: &str) -> bo
     }
 }
 
-/// Whether these are the names in ascending order, each with a space behind it.
+/// Whether these are the names in ascending order, each followed by a space.
 fn are_names(alloc: Global, names: Vec<String>, want: &str) -> Result<bool, AllocError> {
     let mut names = names;
     names.sort()?;
     Ok(spaced(alloc, &names)?.as_str() == want)
 }
 
-/// Paths, and what putting a folder there, or an item that is neither file nor folder, answers.
+/// Paths, and the answers of putting a folder there, or an item that is neither file nor folder.
 const PUTS: &[(&str, Kind, Result<(), PutFault>)] = &[
     ("/b/c", Kind::Folder, Err(PutFault::NoFolder)),
     ("a", Kind::Folder, Err(PutFault::BadPath)),
@@ -154,7 +154,7 @@ fn has_items(alloc: Global, tree: &mut MemTree) -> bool {
         && tree.failures() == 2
 }
 
-/// Whether an item goes with all below it.
+/// Whether everything below a removed item is removed.
 fn removes_items(alloc: Global, tree: &mut MemTree) -> bool {
     tree.remove("/a")
         && !tree.remove("/a")
@@ -164,7 +164,7 @@ fn removes_items(alloc: Global, tree: &mut MemTree) -> bool {
         && has_names(alloc, tree, "/", "")
 }
 
-/// Makes a folder of the real disk anew, with a file.
+/// Recreates a folder of the real disk, with a file.
 fn make_folder(rt: &HostRuntime, folder: &str, file: &str, text: &str) -> Result<(), Fail> {
     let _absent = fs::remove_dir_all(rt, folder);
     fs::create_dir(rt, folder)?;
@@ -181,13 +181,13 @@ fn the_real_disk(rt: HostRuntime) -> Result<(), Fail> {
     Ok(())
 }
 
-/// Whether a tree of the disk tells of what is there, and of what is not.
+/// Whether a tree of the disk reports files and missing files.
 fn answers_from_the_disk(rt: &HostRuntime) -> Result<bool, Fail> {
     let mut tree = DiskTree::new(rt.clone()?);
     Ok(reads_the_disk(rt.alloc(), &mut tree) && fails_on_the_disk(&mut tree))
 }
 
-/// Whether what is there is read.
+/// Whether a file is read.
 fn reads_the_disk<T: Tree>(alloc: Global, tree: &mut T) -> bool {
     tree.kind("cs_tree_disk_test") == Ok(Kind::Folder)
         && tree.kind("cs_tree_disk_test/x") == Ok(Kind::File)
@@ -197,7 +197,7 @@ fn reads_the_disk<T: Tree>(alloc: Global, tree: &mut T) -> bool {
         && tree.failures() == 0
 }
 
-/// Whether the failures for what is not there, and for a folder, are told.
+/// Whether the failures for a missing file and for a folder are reported.
 fn fails_on_the_disk<T: Tree>(tree: &mut T) -> bool {
     tree.kind("cs_tree_disk_test/y") == Err(TreeFault::Missing)
         && tree.kind("cs_tree_disk_test/x/y") == Err(TreeFault::Missing)
@@ -206,7 +206,7 @@ fn fails_on_the_disk<T: Tree>(tree: &mut T) -> bool {
         && tree.failures() == 4
 }
 
-/// What a link leads to, and where it stands.
+/// The target of a link, and its path.
 const LINKS: &[(&str, &str)] = &[
     ("x", "cs_tree_link_test/file"),
     (".", "cs_tree_link_test/circle"),
@@ -225,13 +225,13 @@ fn links_are_neither_files_nor_folders(rt: HostRuntime) -> Result<(), Fail> {
     Ok(())
 }
 
-/// What link a tree of the disk tells as something else, and whether it follows links.
+/// A link that a tree of the disk reports as something else, and whether it follows links.
 fn answers_from_links(rt: &HostRuntime) -> Result<(Option<&'static str>, bool), Fail> {
     let mut tree = DiskTree::new(rt.clone()?);
     Ok((wrong_link(&mut tree), follows_links(rt.alloc(), &mut tree)))
 }
 
-/// A link that the tree tells as something else, if there is one.
+/// A link that the tree reports as something else, if there is one.
 fn wrong_link<T: Tree>(tree: &mut T) -> Option<&'static str> {
     for (_target, path) in LINKS {
         if tree.kind(path) != Ok(Kind::Other) {
@@ -241,7 +241,7 @@ fn wrong_link<T: Tree>(tree: &mut T) -> Option<&'static str> {
     None
 }
 
-/// Whether what is opened by its name is read through a link.
+/// Whether a file is read through a link.
 fn follows_links<T: Tree>(alloc: Global, tree: &mut T) -> bool {
     has_names(
         alloc,
@@ -255,7 +255,7 @@ fn follows_links<T: Tree>(alloc: Global, tree: &mut T) -> bool {
         && tree.failures() == 2
 }
 
-/// Whether the path is cleaned so.
+/// Whether this is the cleaned path.
 fn is_cleaned(alloc: Global, folder: &str, text: &str, want: Result<&str, PathFault>) -> bool
     requires { is_absolute folder.now ≡ true }
 {
@@ -303,7 +303,7 @@ fn covered_names(rt: HostRuntime) {
     }
 }
 
-/// Whether just these of the paths are left.
+/// Whether exactly these paths are left by `reduce`.
 fn are_reduced(alloc: Global, paths: &[&str], want: &[&str]) -> Result<bool, AllocError> {
     let kept = reduce(alloc, &strings(alloc, paths)?)?;
     Ok(kept == strings(alloc, want)?)
@@ -330,7 +330,7 @@ fn paths_are_reduced(rt: HostRuntime) {
     }
 }
 
-const SETTLED: &[(&str, bool)] = &[
+const NORMALIZED: &[(&str, bool)] = &[
     ("/", true),
     ("/a/b-x", true),
     ("/a/..b", true),
@@ -345,8 +345,8 @@ const SETTLED: &[(&str, bool)] = &[
 ];
 
 #[test]
-fn settled_paths(rt: HostRuntime) {
-    for (path, want) in SETTLED {
-        assert!(rt; is_settled(path) == *want, "{path:?}");
+fn normalized_paths(rt: HostRuntime) {
+    for (path, want) in NORMALIZED {
+        assert!(rt; is_normalized(path) == *want, "{path:?}");
     }
 }

@@ -1,4 +1,4 @@
-// What walks find over trees in memory, and over trees that fail.
+// Walks over trees in memory, and over trees that fail.
 use crate::fixtures::{bytes_of, spaced, strings, tree_of};
 use cs_tree::{Item, Kind, Listing, MemTree, PutFault, Tree, TreeFault, WalkFault, Walked, walk};
 use std::alloc::{AllocError, Global};
@@ -8,7 +8,8 @@ fn walk_from<T: Tree>(alloc: Global, tree: &mut T, paths: &[&str]) -> Result<Wal
     walk(alloc, tree, &strings(alloc, paths)?)
 }
 
-/// Whether a walk from the paths comes to just these names, each with a space behind it, and these faults.
+/// Whether a walk from the paths finds exactly these names, each followed by a space, and these
+/// faults.
 fn walks_to<T: Tree>(
     alloc: Global,
     tree: &mut T,
@@ -32,7 +33,7 @@ fn are_faults(faults: &[(String, WalkFault)], want: &[(&str, WalkFault)]) -> boo
     true
 }
 
-/// Whether walks leave out what an element that begins with a dot names, and not what stands below it.
+/// Whether walks exclude a path whose last element begins with a dot, but not paths below it.
 fn tests_the_last_element(alloc: Global, tree: &mut MemTree) -> Result<bool, AllocError> {
     Ok(
         walks_to(alloc, tree, &["/.x"], "", &[])?
@@ -50,7 +51,7 @@ fn only_the_last_element_is_tested(rt: HostRuntime) -> Result<(), Fail> {
     Ok(())
 }
 
-/// Puts a folder with a file that fails and one that may not be read.
+/// Puts a folder with a file that fails and one that must not be read.
 fn put_failing(
     alloc: Global,
     tree: &mut MemTree,
@@ -92,7 +93,7 @@ struct Endless {
 impl Tree for Endless {
     ghost failed = { λ _. 0 };
 
-    ghost counts_told = { λ _ told. told };
+    ghost counts_modelled = { λ _ model. model };
 
     fn kind(&mut self, _path: &str) -> Result<Kind, TreeFault> {
         Ok(Kind::Folder)
@@ -120,7 +121,7 @@ impl Tree for Endless {
     }
 }
 
-/// Whether a walk of an endless tree comes to no name, and to one path of 4096 bytes.
+/// Whether a walk of an endless tree finds no name, and one path of 4096 bytes.
 fn leaves_a_long_path(alloc: Global) -> Result<bool, AllocError> {
     let walked = walk_from(alloc, &mut Endless { unnamed: false }, &["/r"])?;
     Ok(
@@ -131,7 +132,7 @@ fn leaves_a_long_path(alloc: Global) -> Result<bool, AllocError> {
     )
 }
 
-/// Whether it comes to each folder above that path too, where each has a name that is no text.
+/// Whether it also reports each folder above that path, if each has a name that is not text.
 fn faults_folders(alloc: Global) -> Result<bool, AllocError> {
     let walked = walk_from(alloc, &mut Endless { unnamed: true }, &["/r"])?;
     Ok(

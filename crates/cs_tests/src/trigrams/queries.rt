@@ -1,12 +1,11 @@
-// What patterns ask for.
+// The queries of patterns.
 use crate::fixtures::number;
 use cs_syntax::parse;
 use cs_trigram::{Query, query};
 use std::alloc::{AllocError, Global};
 use std::process::Abort;
 
-/// Whether the query holds of the set of these trigrams, which stand one after another with a blank
-/// between two.
+/// Whether the query matches the set of these trigrams, which are separated by blanks.
 #[cycle(holds)]
 fn holds(query: &Query, set: &str) -> bool {
     match query {
@@ -38,30 +37,30 @@ fn some_holds(queries: &[Query], set: &str) -> bool {
     false
 }
 
-/// The query of a pattern, in both cases or as it is written.
+/// The query of a pattern, with or without folding.
 fn query_of(alloc: Global, pattern: &str, fold: bool) -> Option<Query> {
     let pattern = parse(alloc, pattern, fold).ok()?;
     query(alloc, &pattern).ok()
 }
 
-fn query_holds(alloc: Global, pattern: &str, fold: bool, set: &str) -> Option<bool> {
+fn query_matches(alloc: Global, pattern: &str, fold: bool, set: &str) -> Option<bool> {
     Some(holds(&query_of(alloc, pattern, fold)?, set))
 }
 
-/// A pattern, the trigrams of a text, and whether the query of the pattern holds of them.
+/// A pattern, the trigrams of a text, and whether the query of the pattern matches them.
 type Row<'a> = (&'a str, &'a str, bool);
 
-/// The queries of patterns, in both cases or as they are written, hold of the rows in which that is wanted alone.
+/// The queries of patterns, with or without folding, match exactly the rows that are wanted.
 fn hold(rt: &(impl Abort + AllocGlobal), fold: bool, rows: &[Row<'_>]) {
     for (pattern, set, want) in rows {
         assert!(rt;
-            query_holds(rt.alloc(), pattern, fold, set) == Some(*want),
+            query_matches(rt.alloc(), pattern, fold, set) == Some(*want),
             "{pattern} of {set}"
         );
     }
 }
 
-const QUERIES_OF_WORDS: &[Row<'static>] = &[
+const QUERIES_OF_STRINGS: &[Row<'static>] = &[
     ("abc", "", false),
     ("a(bc)", "", false),
     ("a(bc)", "abc", true),
@@ -125,7 +124,8 @@ const QUERIES_OF_CLASSES: &[Row<'static>] = &[
     ("[a-h]bc", "hbc", true),
     ("[a-h]bc", "ibc", false),
     ("[a-h]bc", "", false),
-    // Nine words: a sharp query may leave them out, and this one asks for them up to twenty.
+    // Nine exact strings: a query at least as selective as the exact runs may leave them out; this
+    // one requires up to twenty.
     ("[a-i]bc", "abc", true),
     ("[a-i]bc", "ibc", true),
     ("[a-i]bc", "", false),
@@ -137,8 +137,8 @@ const QUERIES_IN_BOTH_CASES: &[Row<'static>] = &[
     ("abc", "abd", false),
 ];
 
-/// Each trigram of two words with anything between them is asked for.
-const QUERIES_OF_WORDS_APART: &[Row<'static>] = &[
+/// Each trigram of two strings with anything between them is required.
+const QUERIES_OF_STRINGS_APART: &[Row<'static>] = &[
     ("Google.*Search", "Goo oog ogl gle Sea ear arc rch", true),
     ("Google.*Search", "oog ogl gle Sea ear arc rch", false),
     ("Google.*Search", "Goo ogl gle Sea ear arc rch", false),
@@ -152,14 +152,14 @@ const QUERIES_OF_WORDS_APART: &[Row<'static>] = &[
 
 #[test]
 fn queries_of_patterns(rt: HostRuntime) {
-    hold(&rt, false, QUERIES_OF_WORDS);
+    hold(&rt, false, QUERIES_OF_STRINGS);
     hold(&rt, false, QUERIES_OF_REPEATS);
     hold(&rt, false, QUERIES_OF_CLASSES);
-    hold(&rt, false, QUERIES_OF_WORDS_APART);
+    hold(&rt, false, QUERIES_OF_STRINGS_APART);
     hold(&rt, true, QUERIES_IN_BOTH_CASES);
 }
 
-/// How many trigrams the query asks for, where it asks for nothing else and for all of them.
+/// The number of trigrams that the query requires, if it is a conjunction of trigrams.
 fn count_trigrams(query: &Query) -> Option<usize> {
     let Query::And(members) = query else {
         return None;
@@ -181,13 +181,13 @@ const COUNTS: &[(&str, Option<usize>)] = &[
     ("abc|abd", None),
 ];
 
-/// The same of a pattern.
+/// The same for a pattern.
 fn trigram_count(alloc: Global, pattern: &str) -> Option<Option<usize>> {
     Some(count_trigrams(&query_of(alloc, pattern, false)?))
 }
 
-/// The index narrows by the rarest of the trigrams first, where they stand side by side, and reads
-/// each list once, where each stands once.
+/// Adjacent trigrams are required together, each once. The index starts with the rarest of them and
+/// reads each list once.
 #[test]
 fn trigrams_stand_side_by_side(rt: HostRuntime) {
     for (pattern, want) in COUNTS {
@@ -198,16 +198,16 @@ fn trigrams_stand_side_by_side(rt: HostRuntime) {
     }
 }
 
-/// Whether the query of a word of the greatest weight asks for each of its trigrams.
-fn asks_for_a_long_word(alloc: Global) -> Result<bool, AllocError> {
+/// Whether the query of a literal of the largest weight requires each of its trigrams.
+fn requires_a_long_string(alloc: Global) -> Result<bool, AllocError> {
     let text = "abc".repeat(alloc, 3000)?;
     Ok(
-        query_holds(alloc, text.as_str(), false, "abc bca cab") == Some(true)
-            && query_holds(alloc, text.as_str(), false, "abc bca") == Some(false),
+        query_matches(alloc, text.as_str(), false, "abc bca cab") == Some(true)
+            && query_matches(alloc, text.as_str(), false, "abc bca") == Some(false),
     )
 }
 
 #[test]
-fn query_of_a_long_word(rt: HostRuntime) {
-    assert_eq!(rt; asks_for_a_long_word(rt.alloc()), Ok(true));
+fn query_of_a_long_string(rt: HostRuntime) {
+    assert_eq!(rt; requires_a_long_string(rt.alloc()), Ok(true));
 }

@@ -1,14 +1,14 @@
-// Rows from outside, and files of which each byte, or each piece, is read apart.
+// Scans: examples whose results are known independently, with reads of one byte or of several.
 use crate::fixtures::{by_chance, number};
 use cs_tree::MemSource;
 use cs_trigram::{BoundedScanner, Limits, Reason, Scan, ScanFault, Scanner};
 use std::alloc::{AllocError, Global};
 use std::test::Fail;
 
-/// What a scan is to answer: the trigrams and how many bytes, or why the file is left out.
+/// The wanted answer of a scan: the trigrams and the number of bytes, or why the file is skipped.
 type Want<'a> = Result<(&'a [&'a [u8; 3]], u64), Reason>;
 
-/// Whether the scan answers so.
+/// Whether the scan gives this answer.
 fn is_so(scan: &Scan, want: Want<'_>) -> bool {
     match (scan, want) {
         (Scan::Text { trigrams, bytes }, Ok((parts, count))) => {
@@ -31,7 +31,7 @@ fn are_numbers(trigrams: &[u32], parts: &[&[u8; 3]]) -> bool {
     true
 }
 
-/// Whether a scan of the file, so many bytes at a time, answers so.
+/// Whether a scan of the file, with reads of this size, gives this answer.
 fn scans(scanner: &mut Scanner, file: &[u8], step: usize, want: Want<'_>) -> bool {
     match scanner.scan(&mut MemSource::new(file, step.max(1), false)) {
         Ok(scan) => is_so(&scan, want),
@@ -39,7 +39,7 @@ fn scans(scanner: &mut Scanner, file: &[u8], step: usize, want: Want<'_>) -> boo
     }
 }
 
-/// A file of so many of one byte, and then some others.
+/// A file of one byte repeated, and then some others.
 fn many(alloc: Global, count: usize, byte: u8, others: &[u8]) -> Result<Vec<u8>, AllocError> {
     let mut file = vec![in alloc; byte; count]?;
     file.extend_from_slice(others)?;
@@ -91,7 +91,7 @@ fn lines(rt: HostRuntime) -> Result<(), Fail> {
     Ok(())
 }
 
-/// How many trigrams a scan of the file, so many bytes at a time, answers, their sum, and how many bytes.
+/// The number of trigrams of a scan with reads of this size, their sum, and the number of bytes.
 fn sums(scanner: &mut Scanner, file: &[u8], step: usize) -> Option<(usize, u64, u64)> {
     match scanner.scan(&mut MemSource::new(file, step.max(1), false)) {
         Ok(Scan::Text { trigrams, bytes }) => {
@@ -140,7 +140,7 @@ const TWICE: &[(&[u8], Want<'static>)] = &[
     (b"abcd", Ok((&[b"abc", b"bcd"], 4))),
 ];
 
-/// Whether a scan of the file answers so, and one of three bytes behind it as ever.
+/// Whether a scan of the file gives this answer, and one of three bytes after it the usual one.
 fn goes_on(scanner: &mut Scanner, file: &[u8], step: usize, want: Want<'_>) -> bool {
     scans(scanner, file, step, want) && scans(scanner, b"bcd", 2, BCD)
 }
@@ -157,13 +157,13 @@ fn used_again(rt: HostRuntime) -> Result<(), Fail> {
     Ok(())
 }
 
-/// Whether a scan of a file whose reads fail after these bytes tells that a read failed.
+/// Whether a scan of a file whose reads fail after these bytes reports a failed read.
 fn fails(scanner: &mut Scanner, file: &[u8]) -> bool {
     scanner.scan(&mut MemSource::new(file, 2, true)) == Err(ScanFault::Read)
 }
 
-/// Whether a scan tells of a NUL that stands before the read that fails.
-fn finds_a_nul(scanner: &mut Scanner) -> bool {
+/// Whether a scan reports a NUL before the read that fails.
+fn reports_a_nul(scanner: &mut Scanner) -> bool {
     scanner.scan(&mut MemSource::new(b"ab\x00c", 2, true)) == Ok(Scan::Skip(Reason::Nul))
 }
 
@@ -171,11 +171,11 @@ fn finds_a_nul(scanner: &mut Scanner) -> bool {
 fn failing_reads(rt: HostRuntime) -> Result<(), Fail> {
     let mut scanner = Scanner::new(rt.alloc())?;
     assert!(rt; fails(&mut scanner, b"") && fails(&mut scanner, b"abc"));
-    assert!(rt; finds_a_nul(&mut scanner));
+    assert!(rt; reports_a_nul(&mut scanner));
     Ok(())
 }
 
-/// Whether a scan within small limits, so many bytes at a time, answers so.
+/// Whether a scan within small limits, with reads of this size, gives this answer.
 fn scans_within(scanner: &mut BoundedScanner, file: &[u8], step: usize, want: Want<'_>) -> bool {
     match scanner.scan(&mut MemSource::new(file, step.max(1), false)) {
         Ok(scan) => is_so(&scan, want),
@@ -217,14 +217,14 @@ fn small_limits(rt: HostRuntime) -> Result<(), Fail> {
     Ok(())
 }
 
-/// Some bytes, then a letter of two bytes so many times, and then some others.
+/// Some bytes, then a letter of two bytes repeated, and then some others.
 fn letters(
     alloc: Global,
-    front: &[u8],
+    prefix: &[u8],
     count: usize,
     others: &[u8],
 ) -> Result<Vec<u8>, AllocError> {
-    let mut file = Vec::from_slice(alloc, front)?;
+    let mut file = Vec::from_slice(alloc, prefix)?;
     for _letter in 0..count {
         file.extend_from_slice(b"\xc3\xa9")?;
     }
@@ -250,12 +250,12 @@ const LETTERS: &[(&[u8], usize, &[u8], Want<'static>)] = &[
 #[test]
 fn letters_past_ascii(rt: HostRuntime) -> Result<(), Fail> {
     let mut scanner = Scanner::new(rt.alloc())?;
-    for (front, count, others, want) in LETTERS {
-        let file = letters(rt.alloc(), front, *count, others)?;
+    for (prefix, count, others, want) in LETTERS {
+        let file = letters(rt.alloc(), prefix, *count, others)?;
         for step in [1, 1023, 1024, 65_536] {
             assert!(rt;
                 scans(&mut scanner, &file, step, *want),
-                "{front:?}, {count} letters and {others:?}, {step} at a time"
+                "{prefix:?}, {count} letters and {others:?}, {step} at a time"
             );
         }
     }

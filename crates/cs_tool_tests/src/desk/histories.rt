@@ -1,14 +1,14 @@
-// Jobs of cindex one after another.
+// Sequences of jobs of cindex.
 use crate::desk::Step::{File, Folder, Job, Left, Remove, Search};
-use crate::desk::{DONE, MATCHED, NO_MATCH, Step, tells};
+use crate::desk::{DONE, MATCHED, NO_MATCH, Step, has_reports};
 use crate::fixtures::ONE_PATH;
 use std::test::Fail;
 
-/// `/a/b/f` read again, and `/a/bc/y` as it was first read.
+/// An index of `/a/b/f` as it was read again, and of `/a/bc/y` as it was first read.
 const NEIGHBOURS: &[u8; 160] =
     b"csearch index 1\n/a/b\0/a/bc\0\0/a/b/f\0/a/bc/y\0\0ix\n\x01\0six\x01\0two\x02\0wo\n\x02\0\xff\xff\xff\0\0\0\0\0\0\0\0\x07\0\0\0\x0fix\n\0\0\0\x01\0\0\0\0six\0\0\0\x01\0\0\0\x05two\0\0\0\x01\0\0\0\x0awo\n\0\0\0\x01\0\0\0\x0f\0\0\0\x10\0\0\0\x1c\0\0\0\x2c\0\0\0\x44\0\0\0\x50\ncsearch trailr\n";
 
-/// `/a/b/f` read again below the path `/a`, and `/a/g` as it was first read.
+/// An index of the path `/a`, with `/a/b/f` as it was read again and `/a/g` as it was first read.
 const PART: &[u8; 149] =
     b"csearch index 1\n/a\0\0/a/b/f\0/a/g\0\0ix\n\x01\0six\x01\0two\x02\0wo\n\x02\0\xff\xff\xff\0\0\0\0\0\0\0\0\x07\0\0\0\x0cix\n\0\0\0\x01\0\0\0\0six\0\0\0\x01\0\0\0\x05two\0\0\0\x01\0\0\0\x0awo\n\0\0\0\x01\0\0\0\x0f\0\0\0\x10\0\0\0\x14\0\0\0\x21\0\0\0\x39\0\0\0\x45\ncsearch trailr\n";
 
@@ -79,7 +79,7 @@ const A_PATH_THAT_VANISHES: &[Step<'static>] = &[
     Search("-brute -l .", NO_MATCH, "", ""),
 ];
 
-/// Each of these.
+/// All of these.
 const ALL: &[&[Step<'static>]] = &[
     NEIGHBOURS_OF_A_PATH,
     A_FILE_AND_A_FOLDER_IN_TURN,
@@ -89,5 +89,5 @@ const ALL: &[&[Step<'static>]] = &[
 
 #[test]
 fn histories(rt: HostRuntime) -> Result<(), Fail> {
-    tells(&rt, ALL)
+    has_reports(&rt, ALL)
 }

@@ -1,10 +1,10 @@
-// Searches through an index.
+// Searches of an index.
 use crate::desk::Step::{Cut, Denied, File, Folder, Index, Job, Remove, Search};
-use crate::desk::{DONE, MATCHED, NO_MATCH, Step, tells};
+use crate::desk::{DONE, MATCHED, NO_MATCH, Step, has_reports};
 use crate::fixtures::ONE_FILE;
+use cs_args::ToolFault;
 use cs_search::Status;
 use cs_syntax::{PatternError, PatternFault};
-use cs_words::ToolFault;
 use std::test::Fail;
 
 const ONE_FILE_STEPS: &[Step<'static>] = &[
@@ -72,7 +72,7 @@ const PATTERNS_FOR_NAMES: &[Step<'static>] = &[
     Search("-i -f ^/G GOOGLE", NO_MATCH, "", ""),
 ];
 
-/// Each of these.
+/// All of these.
 const ALL: &[&[Step<'static>]] = &[
     ONE_FILE_STEPS,
     FILES_THAT_HAVE_CHANGED,
@@ -82,5 +82,5 @@ const ALL: &[&[Step<'static>]] = &[
 
 #[test]
 fn searches(rt: HostRuntime) -> Result<(), Fail> {
-    tells(&rt, ALL)
+    has_reports(&rt, ALL)
 }

@@ -1,31 +1,31 @@
-// Indexes of small trees, byte for byte, and jobs that are refused.
+// Indexes of small trees, byte for byte, and failing jobs.
 use crate::desk::Step::{Cut, File, Folder, Index, Job, Left, Other, Search};
-use crate::desk::{DONE, MATCHED, NO_MATCH, Step, tells};
+use crate::desk::{DONE, MATCHED, NO_MATCH, Step, has_reports};
 use crate::fixtures::{ONE_FILE, UNSORTED};
+use cs_args::{CindexFault, Reply, ToolFault};
 use cs_index::IndexFault;
-use cs_words::{CindexFault, Reply, ToolFault};
 use std::test::Fail;
 
 const EMPTY: &[u8; 65] =
     b"csearch index 1\n/a\0\0\0\xff\xff\xff\0\0\0\0\0\0\0\0\x10\0\0\0\x14\0\0\0\x15\0\0\0\x19\0\0\0\x1d\ncsearch trailr\n";
 
-/// The path `/.x` without a file.
+/// An index of the path `/.x` without a file.
 const NO_FILE: &[u8; 66] =
     b"csearch index 1\n/.x\0\0\0\xff\xff\xff\0\0\0\0\0\0\0\0\x10\0\0\0\x15\0\0\0\x16\0\0\0\x1a\0\0\0\x1e\ncsearch trailr\n";
 
-/// A file without text.
+/// An index of an empty file.
 const EMPTY_FILE: &[u8; 74] =
     b"csearch index 1\n/t\0\0/t/e\0\0\xff\xff\xff\0\0\0\0\0\0\0\0\x05\0\0\0\x10\0\0\0\x14\0\0\0\x1a\0\0\0\x1e\0\0\0\x26\ncsearch trailr\n";
 
-/// Three files without a trigram.
+/// An index of three files without a trigram.
 const NO_TRIGRAMS: &[u8; 92] =
     b"csearch index 1\n/t\0\0/t/e\0/t/f\0/t/g\0\0\xff\xff\xff\0\0\0\0\0\0\0\0\x05\0\0\0\x0a\0\0\0\x0f\0\0\0\x10\0\0\0\x14\0\0\0\x24\0\0\0\x28\0\0\0\x38\ncsearch trailr\n";
 
 /// `UNSORTED` with one of its names twice.
-const HELD_TWICE: &[u8; 115] =
+const NAME_TWICE: &[u8; 115] =
     b"csearch index 1\n/a\0\0/a/b-x\0/a/b-x\0\0abc\x01\x01\0\xff\xff\xff\0\0\0\0\0\0\0\0\x07\0\0\0\x0eabc\0\0\0\x02\0\0\0\0\xff\xff\xff\0\0\0\0\0\0\0\x06\0\0\0\x10\0\0\0\x14\0\0\0\x23\0\0\0\x2d\0\0\0\x39\ncsearch trailr\n";
 
-/// `UNSORTED` after a job on `/a/b-x`, which has then `six`.
+/// `UNSORTED` after a job on `/a/b-x`, which then has `six`.
 const RENUMBERED: &[u8; 135] =
     b"csearch index 1\n/a\0\0/a/b-x\0/a/b/z\0\0abc\x02\0ix\n\x01\0six\x01\0\xff\xff\xff\0\0\0\0\0\0\0\0\x07\0\0\0\x0eabc\0\0\0\x01\0\0\0\0ix\n\0\0\0\x01\0\0\0\x05six\0\0\0\x01\0\0\0\x0a\0\0\0\x10\0\0\0\x14\0\0\0\x23\0\0\0\x36\0\0\0\x42\ncsearch trailr\n";
 
@@ -33,7 +33,7 @@ const RENUMBERED: &[u8; 135] =
 const CUT: &[u8; 114] =
     b"csearch index 1\n/a\0\0/a/b/z\0/a/b-x\0\0abc\x01\x01\0\xff\xff\xff\0\0\0\0\0\0\0\0\x07\0\0\0\x0eabc\0\0\0\x02\0\0\0\0\xff\xff\xff\0\0\0\0\0\0\0\x06\0\0\0\x10\0\0\0\x14\0\0\0\x23\0\0\0\x2d\0\0\0\x39\ncsearch trailr";
 
-/// `ONE_FILE`, of which the entry of `abc` says that two files have it.
+/// `ONE_FILE` with an entry of `abc` that counts two files.
 const DAMAGED: &[u8; 122] =
     b"csearch index 1\n/a\0\0/a/x\0\0abc\x01\0bcd\x01\0cd\n\x01\0\xff\xff\xff\0\0\0\0\0\0\0\0\x05abc\0\0\0\x02\0\0\0\0bcd\0\0\0\x01\0\0\0\x05cd\n\0\0\0\x01\0\0\0\x0a\0\0\0\x10\0\0\0\x14\0\0\0\x1a\0\0\0\x2d\0\0\0\x35\ncsearch trailr\n";
 
@@ -139,9 +139,9 @@ const FOREIGN_INDEXES: &[Step<'static>] = &[
     Job(&["/a/b-x"], DONE, "", ""),
     Left(Some(RENUMBERED)),
     Search("abc", MATCHED, "/a/b/z:abc\n", ""),
-    Index(Some(HELD_TWICE)),
+    Index(Some(NAME_TWICE)),
     Job(&["/a"], Reply::Refused(CindexFault::Unsorted), "", ""),
-    Left(Some(HELD_TWICE)),
+    Left(Some(NAME_TWICE)),
     Job(&["-reset", "/a"], DONE, "", ""),
     Index(Some(CUT)),
     Search(
@@ -172,7 +172,7 @@ const DAMAGED_LISTS: &[Step<'static>] = &[
     Left(Some(DAMAGED)),
 ];
 
-/// Each of these.
+/// All of these.
 const ALL: &[&[Step<'static>]] = &[
     AN_EMPTY_FOLDER,
     ONE_FILE_STEPS,
@@ -189,5 +189,5 @@ const ALL: &[&[Step<'static>]] = &[
 
 #[test]
 fn indexes(rt: HostRuntime) -> Result<(), Fail> {
-    tells(&rt, ALL)
+    has_reports(&rt, ALL)
 }

@@ -2,17 +2,17 @@
 ghost use Rattle.std.specs.Prelude.{IfOk, All};
 ghost use Rattle.cs_history.specs.Jobs.{HasAbsoluteFolder};
 
-use crate::fixtures::{Placed, tree_of};
+use crate::fixtures::{TreeItem, tree_of};
 use crate::indexing::job_of;
+use cs_args::{CindexFault, IndexJob, Reply};
 use cs_cindex::cindex;
 use cs_tree::{MemSink, MemTree, PutFault};
-use cs_words::{CindexFault, IndexJob, Reply};
 use std::alloc::{AllocError, Global};
 use std::test::Fail;
 
-/// The index of paths, over a tree with these things in it.
-pub fn index_of(alloc: Global, paths: &[&str], placed: &[Placed<'_>]) -> Result<Vec<u8>, Fail> {
-    index_over(alloc, paths, tree_of(alloc, placed)?)
+/// The index of paths, over a tree with these items.
+pub fn index_of(alloc: Global, paths: &[&str], items: &[TreeItem<'_>]) -> Result<Vec<u8>, Fail> {
+    index_over(alloc, paths, tree_of(alloc, items)?)
 }
 
 /// The index of paths, over a tree.
@@ -37,7 +37,7 @@ pub fn index_over(alloc: Global, paths: &[&str], tree: MemTree) -> Result<Vec<u8
     Ok(index.ok_or("no index")?)
 }
 
-/// What three jobs give, one after another over no index.
+/// The result of three jobs in a row, without an index before them.
 #[derive(Drop)]
 pub struct Three {
     pub index: Option<Vec<u8>>,
@@ -46,10 +46,10 @@ pub struct Three {
     err: MemSink,
 }
 
-/// Three jobs in one call, each over a tree of its own with the same in it.
-pub fn run_three(alloc: Global, words: [&[&str]; 3], placed: &[Placed<'_>]) -> Result<Three, Fail> {
-    let jobs = jobs_of(alloc, words)?;
-    let mut trees = three_trees(alloc, placed)?;
+/// Three jobs in one call, each over a tree of its own with the same items.
+pub fn run_three(alloc: Global, args: [&[&str]; 3], items: &[TreeItem<'_>]) -> Result<Three, Fail> {
+    let jobs = jobs_of(alloc, args)?;
+    let mut trees = three_trees(alloc, items)?;
     let mut replies = [Reply::Done; 3];
     let mut out = MemSink::new(alloc, 1000);
     let mut err = MemSink::new(alloc, 1000);
@@ -70,23 +70,23 @@ pub fn run_three(alloc: Global, words: [&[&str]; 3], placed: &[Placed<'_>]) -> R
     })
 }
 
-fn jobs_of(alloc: Global, words: [&[&str]; 3]) -> Result<[IndexJob; 3], AllocError>
+fn jobs_of(alloc: Global, args: [&[&str]; 3]) -> Result<[IndexJob; 3], AllocError>
     ensures { IfOk result (All HasAbsoluteFolder) }
 {
-    let first = job_of(alloc, words[0])?;
-    let second = job_of(alloc, words[1])?;
-    let third = job_of(alloc, words[2])?;
+    let first = job_of(alloc, args[0])?;
+    let second = job_of(alloc, args[1])?;
+    let third = job_of(alloc, args[2])?;
     Ok([first, second, third])
 }
 
-fn three_trees(alloc: Global, placed: &[Placed<'_>]) -> Result<[MemTree; 3], PutFault> {
-    let first = tree_of(alloc, placed)?;
-    let second = tree_of(alloc, placed)?;
-    let third = tree_of(alloc, placed)?;
+fn three_trees(alloc: Global, items: &[TreeItem<'_>]) -> Result<[MemTree; 3], PutFault> {
+    let first = tree_of(alloc, items)?;
+    let second = tree_of(alloc, items)?;
+    let third = tree_of(alloc, items)?;
     Ok([first, second, third])
 }
 
-const FOLDERS: &[Placed<'static>] = &[
+const FOLDERS: &[TreeItem<'static>] = &[
     ("/a", None),
     ("/a/f", Some("one\n")),
     ("/b", None),
@@ -94,7 +94,7 @@ const FOLDERS: &[Placed<'static>] = &[
 ];
 
 impl Three {
-    /// Whether the replies are these, and the last job of the three has listed `/a` alone.
+    /// Whether the replies are these, and the last of the three jobs has listed `/a` alone.
     fn lists_one(&self, replies: [Reply; 3]) -> bool {
         self.replies == replies
             && self.out.bytes() == b"/a\n".as_slice()
@@ -115,19 +115,19 @@ fn a_list_sees_the_jobs_before_it(rt: HostRuntime) -> Result<(), Fail> {
     Ok(())
 }
 
-/// Whether a refused job between two others leaves no trace.
-fn refused_between(alloc: Global) -> Result<bool, Fail> {
-    let refused = Reply::Refused(CindexFault::BadPath(1));
+/// Whether a failed job between two others leaves no trace.
+fn rejected_between(alloc: Global) -> Result<bool, Fail> {
+    let failed = Reply::Refused(CindexFault::BadPath(1));
     let alone = index_of(alloc, &["/a"], FOLDERS)?;
     let three = run_three(alloc, [&["/a"], &["/b", ""], &["-list"]], FOLDERS)?;
     Ok(
-        three.lists_one([Reply::Done, refused, Reply::Done])
+        three.lists_one([Reply::Done, failed, Reply::Done])
             && three.index.as_deref() == Some(alone.as_slice()),
     )
 }
 
 #[test]
-fn a_refused_job_between_others(rt: HostRuntime) -> Result<(), Fail> {
-    assert!(rt; refused_between(rt.alloc())?);
+fn a_failed_job_between_others(rt: HostRuntime) -> Result<(), Fail> {
+    assert!(rt; rejected_between(rt.alloc())?);
     Ok(())
 }

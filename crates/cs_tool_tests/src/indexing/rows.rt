@@ -1,9 +1,9 @@
-// Worked rows, byte for byte, over trees in memory.
+// Worked examples, byte for byte, over trees in memory.
 use crate::fixtures::{ONE_PATH, tree_of};
 use crate::indexing::job_of;
+use cs_args::{CindexFault, Reply};
 use cs_cindex::cindex;
 use cs_tree::{Item, MemSink, MemTree, PutFault, Sink};
-use cs_words::{CindexFault, Reply};
 use std::alloc::Global;
 use std::test::Fail;
 
@@ -11,10 +11,10 @@ use std::test::Fail;
 fn index_of(
     alloc: Global,
     tree: MemTree,
-    words: &[&str],
+    args: &[&str],
     err: &mut MemSink,
 ) -> Result<(Option<Vec<u8>>, Reply), Fail> {
-    let jobs = [job_of(alloc, words)?];
+    let jobs = [job_of(alloc, args)?];
     let mut trees = [tree];
     let mut replies = [Reply::Done];
     let mut out = MemSink::new(alloc, 1000);
@@ -22,7 +22,8 @@ fn index_of(
     Ok((index, replies[0]))
 }
 
-/// A folder with a file that is no text, one that may not be read, one that fails, and one that is no file.
+/// A folder with a file that is not text, one that must not be read, one that fails, and an item
+/// that is not a file.
 fn odd_files(alloc: Global) -> Result<MemTree, PutFault> {
     let mut tree = tree_of(alloc, &[("/v", None), ("/v/a", Some("a\0"))])?;
     tree.put("/v/b", Item::Denied)?;
@@ -47,8 +48,8 @@ fn the_faults_of_the_walk_come_first(rt: HostRuntime) -> Result<(), Fail> {
     Ok(())
 }
 
-/// Whether a job is refused whose line on a missing path has room in part.
-fn is_refused(alloc: Global) -> Result<bool, Fail> {
+/// Whether a job fails if the line on a missing path fits only in part.
+fn is_rejected(alloc: Global) -> Result<bool, Fail> {
     let tree = MemTree::new(alloc, 4)?;
     let mut err = MemSink::new(alloc, 10);
     let (_index, reply) = index_of(alloc, tree, &["/v"], &mut err)?;
@@ -60,7 +61,7 @@ fn is_refused(alloc: Global) -> Result<bool, Fail> {
 }
 
 #[test]
-fn a_line_that_is_not_taken(rt: HostRuntime) -> Result<(), Fail> {
-    assert!(rt; is_refused(rt.alloc())?);
+fn a_line_that_is_not_written(rt: HostRuntime) -> Result<(), Fail> {
+    assert!(rt; is_rejected(rt.alloc())?);
     Ok(())
 }

@@ -1,9 +1,9 @@
-// The paths of an index that lies in a store, of which a read fails.
+// The paths of a stored index, with a failing read.
 use crate::stores::{Changing, row_until};
+use cs_args::Reply;
 use cs_cindex::list_stored;
 use cs_index::StoredIndex;
 use cs_tree::{IoFault, MemSink, Store};
-use cs_words::Reply;
 use std::alloc::Global;
 
 /// The reply to `-list` over a store.
@@ -13,10 +13,11 @@ fn list_by(alloc: Global, store: &mut Changing<'_>, out: &mut MemSink) -> Result
     Ok(list_stored(opened, out, &mut err))
 }
 
-/// How many reads a listing of `ONE_FILE` makes: none is of a list.
+/// The number of reads of a listing of `ONE_FILE`; no posting list is read.
 const READS: usize = 6;
 
-/// Whether a listing whose reads fail after so many gives this reply, prints this and has met so many failures.
+/// Whether a listing whose reads fail after this number gives this reply, this output and this
+/// number of failures.
 fn lists(
     alloc: Global,
     reads: usize,

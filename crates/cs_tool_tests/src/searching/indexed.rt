@@ -1,27 +1,27 @@
-// Searches of an index, over trees that lack the files that are not to be opened.
+// Searches of an index, over trees without the files that must not be opened.
 use crate::desk::have;
-use crate::fixtures::{Placed, tree_of, words_of};
+use crate::fixtures::{TreeItem, args_of, tree_of};
 use crate::indexing::jobs::index_of;
+use cs_args::{Job, SearchJob, Tool, ToolFault, read_words};
 use cs_search::{Status, csearch};
 use cs_tree::{MemSink, Tree};
-use cs_words::{Job, SearchJob, Tool, ToolFault, read_words};
 use std::alloc::Global;
 use std::test::Fail;
 
-/// Three files, of which one has a line that matches `Google.*Search`.
-pub const GOOGLE: &[Placed<'static>] = &[
+/// Three files. One has a line that matches `Google.*Search`.
+pub const GOOGLE: &[TreeItem<'static>] = &[
     ("/g", None),
     ("/g/1", Some("Google Search\n")),
     ("/g/2", Some("Google\n")),
     ("/g/3", Some("Search\n")),
 ];
 
-/// The first of them alone.
-pub const FIRST: &[Placed<'static>] = &[("/g", None), ("/g/1", Some("Google Search\n"))];
+/// The first of them.
+pub const FIRST: &[TreeItem<'static>] = &[("/g", None), ("/g/1", Some("Google Search\n"))];
 
-/// One file with the eight trigrams of `Google.*Search`, eight files that each lack another one of them, and one that
-/// has them all and no match.
-const LACKING: &[Placed<'static>] = &[
+/// One file with the eight trigrams of `Google.*Search`, eight files that each lack another one of
+/// them, and one that has all of them and no match.
+const LACKING: &[TreeItem<'static>] = &[
     ("/g", None),
     ("/g/0", Some("Google Search\n")),
     ("/g/1", Some("oogle Search\n")),
@@ -36,38 +36,38 @@ const LACKING: &[Placed<'static>] = &[
 ];
 
 /// Those of them that have all trigrams.
-const HAVING: &[Placed<'static>] = &[
+const HAVING: &[TreeItem<'static>] = &[
     ("/g", None),
     ("/g/0", Some("Google Search\n")),
     ("/g/9", Some("Search\nGoogle\n")),
 ];
 
-/// The job of the words of csearch, between spaces.
+/// The job of csearch with these arguments, separated by spaces.
 fn job_of(alloc: Global, text: &str) -> Result<SearchJob, Fail> {
-    match read_words(alloc, Tool::Csearch, "/w", &words_of(alloc, text, ' ')?)? {
+    match read_words(alloc, Tool::Csearch, "/w", &args_of(alloc, text, ' ')?)? {
         Job::Search(job) => Ok(job),
-        _ => Err(Fail::from("words")),
+        _ => Err(Fail::from("arguments")),
     }
 }
 
-/// A search of the index, where there is one, over the tree.
+/// A search of the index, if there is one, over the tree.
 pub fn search<T: Tree>(
     alloc: Global,
-    words: &str,
+    args: &str,
     index: Option<&[u8]>,
     tree: &mut T,
     out: &mut MemSink,
     err: &mut MemSink,
 ) -> Result<Result<Status, ToolFault>, Fail> {
-    let job = job_of(alloc, words)?;
+    let job = job_of(alloc, args)?;
     Ok(csearch(alloc, &job, index, tree, out, err))
 }
 
-/// Files that an index is made of, those that are there when it is searched, the words, and what is printed on both
-/// outputs.
+/// The indexed files, the files at the time of the search, the arguments, and what is printed on
+/// both outputs.
 type Row<'a> = (
-    &'a [Placed<'a>],
-    &'a [Placed<'a>],
+    &'a [TreeItem<'a>],
+    &'a [TreeItem<'a>],
     &'a str,
     &'a str,
     &'a str,
@@ -93,12 +93,12 @@ const ROWS: &[Row<'static>] = &[
 
 /// Whether such a search matches and prints this.
 fn prints(alloc: Global, row: &Row<'_>) -> Result<bool, Fail> {
-    let (indexed, there, words, lines, faults) = *row;
+    let (indexed, there, args, lines, faults) = *row;
     let index = index_of(alloc, &["/g"], indexed)?;
     let mut tree = tree_of(alloc, there)?;
     let mut out = MemSink::new(alloc, 1000);
     let mut err = MemSink::new(alloc, 1000);
-    let status = search(alloc, words, Some(&index), &mut tree, &mut out, &mut err)?;
+    let status = search(alloc, args, Some(&index), &mut tree, &mut out, &mut err)?;
     Ok(status == Ok(Status::Matched) && have(&out, lines, &err, faults))
 }
 

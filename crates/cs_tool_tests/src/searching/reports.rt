@@ -1,10 +1,10 @@
-// Searches at small limits and in small buffers.
+// Searches with small limits and small buffers.
 use crate::fixtures::PLAIN;
+use cs_args::{Style, ToolFault};
 use cs_match::{Matcher, Program};
-use cs_search::{Form, GrepFault, Grepped, LineBuffer, ReadFault, grep, grep_within};
+use cs_search::{GrepFault, Grepped, LineBuffer, Printer, ReadFault, grep, grep_within};
 use cs_syntax::parse;
 use cs_tree::{MemSink, MemSource, Source};
-use cs_words::{Style, ToolFault};
 use std::alloc::Global;
 use std::process::Abort;
 
@@ -16,10 +16,10 @@ struct Given<'a> {
     most: usize,
 }
 
-/// What a search of it prints, whether some line matched, and the fault.
+/// The output of a search, whether some line matched, and the error.
 type Wanted<'a> = (&'a str, bool, Option<ReadFault>);
 
-/// How an input is searched: by reads of at most so many bytes, into a buffer that begins with so many.
+/// The step of a read, and the initial size of the buffer.
 #[derive(Clone, Copy, Debug)]
 struct Sizes {
     step: usize,
@@ -31,7 +31,7 @@ pub fn program_of(alloc: Global, pattern: &str) -> Result<Program, ToolFault> {
     Ok(Program::compile(alloc, &pattern)?)
 }
 
-/// What a search of the first `most` bytes answers, by way of a buffer that begins with `size` bytes.
+/// The answer of a search of the first `most` bytes, with a buffer of initially `size` bytes.
 fn answer_by<R: Source>(
     alloc: Global,
     matcher: &mut Matcher<'_>,
@@ -42,11 +42,11 @@ fn answer_by<R: Source>(
     out: &mut MemSink,
 ) -> Result<Grepped, GrepFault> {
     let mut buffer = LineBuffer::of_size(alloc, size.max(1))?;
-    let form = Form { name: "t", style };
+    let form = Printer { name: "t", style };
     grep_within(&form, input, most.min(1000), &mut buffer, matcher, out)
 }
 
-/// The same by a matcher of the program.
+/// The same with a matcher of the program.
 pub fn answer_within<R: Source>(
     alloc: Global,
     program: &Program,
@@ -60,10 +60,10 @@ pub fn answer_within<R: Source>(
     answer_by(alloc, &mut matcher, input, most, size, style, out)
 }
 
-/// A pattern, what is searched for it, how it is printed, and what is wanted.
+/// A pattern, the input, the style, and what is wanted.
 type Row<'a> = (&'a str, Given<'a>, Style, Wanted<'a>);
 
-/// Whether a search by such sizes prints and answers what is wanted.
+/// Whether a search with these sizes prints and answers what is wanted.
 fn is_right(
     alloc: Global,
     program: &Program,
@@ -80,7 +80,7 @@ fn is_right(
     Ok(out.bytes() == lines.as_bytes() && answer.matched == matched && answer.fault == fault)
 }
 
-/// The sizes by which a search is not right, of several.
+/// The sizes with which a search is wrong.
 fn wrong_sizes_by(
     alloc: Global,
     program: &Program,
@@ -97,7 +97,7 @@ fn wrong_sizes_by(
     Ok(None)
 }
 
-/// The same of a search for the pattern of the row.
+/// The same for the pattern of the row.
 fn wrong_sizes(alloc: Global, row: &Row<'_>) -> Result<Option<Sizes>, ToolFault> {
     let program = program_of(alloc, row.0)?;
     Ok(wrong_sizes_by(alloc, &program, row)?)
@@ -275,7 +275,7 @@ fn inputs_that_are_too_long(rt: HostRuntime) -> Result<(), ToolFault> {
     searches(&rt, rt.alloc(), LONG_ONES)
 }
 
-/// What a search under `-l` answers.
+/// The answer of a search with `-l`.
 fn listed(
     alloc: Global,
     program: &Program,
@@ -286,8 +286,8 @@ fn listed(
     grep(alloc, "t", input, &mut matcher, LIST, out)
 }
 
-/// Whether the input is read no further than to the block of the first hit.
-fn stops_at_its_hit(alloc: Global, program: &Program) -> Result<bool, GrepFault> {
+/// Whether the input is read only up to the block of the first match.
+fn stops_at_its_match(alloc: Global, program: &Program) -> Result<bool, GrepFault> {
     let mut input = MemSource::new(b"one\ntwo\n", 4, false);
     let mut out = MemSink::new(alloc, 1000);
     let answer = listed(alloc, program, &mut input, &mut out)?;
@@ -295,13 +295,13 @@ fn stops_at_its_hit(alloc: Global, program: &Program) -> Result<bool, GrepFault>
     Ok(answer.matched && input.read(&mut next) == Ok(4) && next.starts_with(b"two\n"))
 }
 
-/// The same of a search for `one`.
-fn one_stops_at_its_hit(alloc: Global) -> Result<bool, ToolFault> {
+/// The same for a search of `one`.
+fn one_stops_at_its_match(alloc: Global) -> Result<bool, ToolFault> {
     let program = program_of(alloc, "one")?;
-    Ok(stops_at_its_hit(alloc, &program)?)
+    Ok(stops_at_its_match(alloc, &program)?)
 }
 
 #[test]
-fn a_list_reads_no_further_than_its_hit(rt: HostRuntime) {
-    assert!(rt; one_stops_at_its_hit(rt.alloc()) == Ok(true));
+fn a_list_reads_no_further_than_its_match(rt: HostRuntime) {
+    assert!(rt; one_stops_at_its_match(rt.alloc()) == Ok(true));
 }

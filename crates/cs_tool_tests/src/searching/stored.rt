@@ -1,21 +1,21 @@
-// Searches by an index that lies in a store, of which a read fails, or whose bytes change while it is read.
-use crate::fixtures::{ONE_FILE, UNSORTED, tree_of, words_of};
+// Searches of a stored index, with a failing read, or with bytes that change during the reads.
+use crate::fixtures::{ONE_FILE, UNSORTED, args_of, tree_of};
 use crate::stores::{Changing, row_until};
+use cs_args::{Job, SearchJob, Tool, ToolFault, read_words};
 use cs_index::StoredIndex;
 use cs_search::{Status, csearch_stored};
 use cs_tree::{IoFault, MemSink, MemTree, PutFault, Store};
-use cs_words::{Job, SearchJob, Tool, ToolFault, read_words};
 use std::alloc::Global;
 use std::test::Fail;
 
-/// What a search answers.
+/// The answer of a search.
 type Answer = Result<Status, ToolFault>;
 
-/// The job of the words of csearch.
+/// The job of csearch with these arguments.
 fn job_of(alloc: Global, text: &str) -> Result<SearchJob, Fail> {
-    match read_words(alloc, Tool::Csearch, "/w", &words_of(alloc, text, ' ')?) {
+    match read_words(alloc, Tool::Csearch, "/w", &args_of(alloc, text, ' ')?) {
         Ok(Job::Search(job)) => Ok(job),
-        _ => Err(Fail::from("words")),
+        _ => Err(Fail::from("arguments")),
     }
 }
 
@@ -24,7 +24,7 @@ fn tree(alloc: Global) -> Result<MemTree, PutFault> {
     tree_of(alloc, &[("/a", None), ("/a/x", Some("abcd\n"))])
 }
 
-/// What is printed and answered by a store.
+/// The output and the answer of a search by a store.
 fn run(
     alloc: Global,
     job: &SearchJob,
@@ -40,19 +40,20 @@ fn run(
 /// A search by a store.
 fn search_stored(
     alloc: Global,
-    words: &str,
+    args: &str,
     store: &mut Changing<'_>,
     out: &mut MemSink,
 ) -> Result<Result<Answer, IoFault>, Fail> {
-    let job = job_of(alloc, words)?;
+    let job = job_of(alloc, args)?;
     let mut tree = tree(alloc)?;
     Ok(run(alloc, &job, store, &mut tree, out))
 }
 
-/// How many reads a search of `ONE_FILE` for one trigram makes.
+/// The number of reads of a search of `ONE_FILE` for one trigram.
 const READS: usize = 7;
 
-/// Whether a search that reads fail after so many is refused, prints nothing and has met one failure.
+/// Whether a search whose reads fail after this number fails, prints nothing and counts one
+/// failure.
 fn fails(alloc: Global, reads: usize) -> Result<bool, Fail> {
     let mut out = MemSink::new(alloc, 1000);
     let mut store = row_until(reads, None);
@@ -68,11 +69,11 @@ fn reads_that_fail(rt: HostRuntime) -> Result<(), Fail> {
     Ok(())
 }
 
-/// Whether a search that may make so many reads prints the line of `ONE_FILE`, and has met no failure.
-fn matches_within(alloc: Global, reads: usize, words: &str) -> Result<bool, Fail> {
+/// Whether a search with this number of reads prints the line of `ONE_FILE`, and counts no failure.
+fn matches_within(alloc: Global, reads: usize, args: &str) -> Result<bool, Fail> {
     let mut out = MemSink::new(alloc, 1000);
     let mut store = row_until(reads, None);
-    let answer = search_stored(alloc, words, &mut store, &mut out)?;
+    let answer = search_stored(alloc, args, &mut store, &mut out)?;
     Ok(
         answer == Ok(Ok(Status::Matched))
             && out.bytes() == b"/a/x:abcd\n".as_slice()
@@ -80,7 +81,7 @@ fn matches_within(alloc: Global, reads: usize, words: &str) -> Result<bool, Fail
     )
 }
 
-/// By `-brute` no list is read.
+/// With `-brute` no list is read.
 #[test]
 fn enough_reads(rt: HostRuntime) -> Result<(), Fail> {
     let alloc = rt.alloc();
@@ -90,7 +91,7 @@ fn enough_reads(rt: HostRuntime) -> Result<(), Fail> {
     Ok(())
 }
 
-/// Whether a store that has other bytes after so many reads is searched to an end.
+/// Whether a search ends over a store that changes after this number of reads.
 fn ends(alloc: Global, reads: usize, then: &[u8]) -> Result<bool, Fail> {
     let mut out = MemSink::new(alloc, 1000);
     let mut store = row_until(reads, Some(then));

@@ -1,21 +1,21 @@
-// Runs of cgrep over inputs that fail, and those whose outputs fail.
+// Runs of cgrep over failing inputs and with failing outputs.
 use crate::desk::have;
-use crate::fixtures::words_of;
+use crate::fixtures::args_of;
+use cs_args::{GrepJob, Job, Tool, ToolFault, read_words};
 use cs_search::{Status, cgrep};
 use cs_tree::{IoFault, Item, MemSink, MemSource, MemTree, PutFault, Sink};
-use cs_words::{GrepJob, Job, Tool, ToolFault, read_words};
 use std::alloc::Global;
 use std::test::Fail;
 
-/// The job of the words of cgrep, between spaces.
+/// The job of cgrep with these arguments, separated by spaces.
 pub fn job_of(alloc: Global, text: &str) -> Result<GrepJob, Fail> {
-    match read_words(alloc, Tool::Cgrep, "/w", &words_of(alloc, text, ' ')?)? {
+    match read_words(alloc, Tool::Cgrep, "/w", &args_of(alloc, text, ' ')?)? {
         Job::Grep(job) => Ok(job),
-        _ => Err(Fail::from("words")),
+        _ => Err(Fail::from("arguments")),
     }
 }
 
-/// A file with three lines, one that fails after two, and one that may not be read.
+/// A file with three lines, one that fails after two, and one that must not be read.
 fn tree_of(alloc: Global) -> Result<MemTree, PutFault> {
     let mut tree = MemTree::new(alloc, 4)?;
     tree.put("/t", Item::Folder)?;
@@ -28,11 +28,11 @@ fn tree_of(alloc: Global) -> Result<MemTree, PutFault> {
 /// A run over the tree, with a standard input that fails after two lines.
 pub fn run<O: Sink, E: Sink>(
     alloc: Global,
-    words: &str,
+    args: &str,
     out: &mut O,
     err: &mut E,
 ) -> Result<Result<Status, ToolFault>, Fail> {
-    let job = job_of(alloc, words)?;
+    let job = job_of(alloc, args)?;
     let mut tree = tree_of(alloc)?;
     let mut input = MemSource::new(b"one\ntwo\non", 4, true);
     Ok(cgrep(alloc, &job, &mut tree, &mut input, out, err))
@@ -40,7 +40,7 @@ pub fn run<O: Sink, E: Sink>(
 
 const FAILED: &str = "cgrep: <standard input>: cannot be read\n";
 
-/// Words of searches that match, what they print, and the lines on standard error.
+/// Arguments of matching searches, the output, and the lines on standard error.
 const ROWS: &[(&str, &str, &str)] = &[
     (
         "two /t/x /t/d /t /t/c /t/p",
@@ -55,25 +55,25 @@ const ROWS: &[(&str, &str, &str)] = &[
 ];
 
 /// Whether such a search prints this.
-fn prints(alloc: Global, words: &str, lines: &str, faults: &str) -> Result<bool, Fail> {
+fn prints(alloc: Global, args: &str, lines: &str, faults: &str) -> Result<bool, Fail> {
     let mut out = MemSink::new(alloc, 1000);
     let mut err = MemSink::new(alloc, 1000);
-    let status = run(alloc, words, &mut out, &mut err)?;
+    let status = run(alloc, args, &mut out, &mut err)?;
     Ok(status == Ok(Status::Matched) && have(&out, lines, &err, faults))
 }
 
 #[test]
 fn what_fails_leaves_the_others(rt: HostRuntime) -> Result<(), Fail> {
-    for (words, lines, faults) in ROWS {
-        assert!(rt; prints(rt.alloc(), *words, *lines, *faults)?, "{words}");
+    for (args, lines, faults) in ROWS {
+        assert!(rt; prints(rt.alloc(), *args, *lines, *faults)?, "{args}");
     }
     Ok(())
 }
 
-/// An output that takes all bytes, and fails at its flush.
+/// An output that accepts all bytes, and fails at its flush.
 #[derive(Drop)]
 struct Stuck {
-    taken: Vec<u8>,
+    written: Vec<u8>,
     failed: u64,
 }
 
@@ -81,7 +81,7 @@ impl Sink for Stuck {
     ghost failed = { λ s. s.failed };
 
     fn write(&mut self, buf: &[u8]) -> Result<usize, IoFault> {
-        match self.taken.extend_from_slice(buf) {
+        match self.written.extend_from_slice(buf) {
             Ok(()) => Ok(buf.len()),
             Err(_) => Err(IoFault::Memory),
         }
@@ -97,26 +97,26 @@ impl Sink for Stuck {
     }
 }
 
-/// A sink that has taken nothing.
+/// An empty sink.
 fn unflushed(alloc: Global) -> Stuck {
     Stuck {
-        taken: Vec::new(alloc),
+        written: Vec::new(alloc),
         failed: 0,
     }
 }
 
-/// The lines of a search that is refused at a flush.
+/// The output of a search that fails at a flush.
 const LINES: &[u8] = b"/t/p:one\n/t/p:one\n";
 
-/// Whether a search is refused whose output is not flushed.
+/// Whether a search fails if its output is not flushed.
 fn needs_its_output(alloc: Global) -> Result<bool, Fail> {
     let mut out = unflushed(alloc);
     let mut err = MemSink::new(alloc, 1000);
     let status = run(alloc, "one /t/p", &mut out, &mut err)?;
-    Ok(status == Err(ToolFault::Write) && out.taken.as_slice() == LINES)
+    Ok(status == Err(ToolFault::Write) && out.written.as_slice() == LINES)
 }
 
-/// Whether a search is refused whose fault lines are not flushed.
+/// Whether a search fails if its error lines are not flushed.
 fn needs_its_fault_lines(alloc: Global) -> Result<bool, Fail> {
     let mut out = MemSink::new(alloc, 1000);
     let mut err = unflushed(alloc);

@@ -1,7 +1,7 @@
 use Rattle.std.proofs.Common.{◌≡◌, ◌≢◌, ◌<◌, length, get_or, refl, arith, ◌∙◌, get_or-set_other}
 use Rattle.std.proofs.Math.Seq.{map-set_same}
 use Rattle.std.proofs.lemmas.List.{get_or_default}
-use Rattle.cs_cindex.proofs.CallLemmas.{indexes_none, indexes_more, right_all_more, steps_more, asked_none, asked_more}
+use Rattle.cs_cindex.proofs.JobSequenceLemmas.{indexes_none, indexes_more, right_all_more, steps_more, requested_none, requested_more}
 use Rattle.cs_cindex.specs.Bytes.{index_bytes}
 use Rattle.cs_cindex.proofs.cindexing.cindex.Goals as goal
 
@@ -11,7 +11,7 @@ jobs-init g c = record {
   rest = λ k d h. refl;
   index = indexes_none (index_bytes c.args.old);
   steps = refl;
-  asked = asked_none g.T.Tree.longest_asked c.args.trees.now;
+  requested = requested_none g.T.Tree.longest_requested c.args.trees.now;
   right = λ earlier p. tt;
 }
 
@@ -31,7 +31,7 @@ jobs-preserved g c =
           c.requires.trees (c.jobs.auto.replies ∙ c.requires.replies) within c.index-jobs-i.is again inv.index c.do_job-next.ensures.step.step.index;
       steps = steps_more snapshot g.T.Tree.failed c.args.jobs.now c.args.trees.now c.jobs.trees c.jobs.replies c.jobs.i c.index-jobs-i.result tree c.do_job-next.new.tree c.do_job-next.result.1 _ _ _
           c.requires.trees (c.jobs.auto.trees ∙ c.requires.trees) (c.jobs.auto.replies ∙ c.requires.replies) within c.index-jobs-i.is again inv.steps c.do_job-next.ensures.step;
-      asked = asked_more g.T.Tree.longest_asked c.args.trees.now c.jobs.trees c.jobs.i c.index-trees-i.result c.do_job-next.new.tree (omega (arith, in_trees, c.jobs.auto.trees)) inv.asked c.do_job-next.ensures.asked;
+      requested = requested_more g.T.Tree.longest_requested c.args.trees.now c.jobs.trees c.jobs.i c.index-trees-i.result c.do_job-next.new.tree (omega (arith, in_trees, c.jobs.auto.trees)) inv.requested c.do_job-next.ensures.requested;
       right = right_all_more snapshot c.args.jobs.now c.args.trees.now c.jobs.replies c.jobs.i c.index-jobs-i.result tree c.do_job-next.result.1 _ _
           c.requires.trees (c.jobs.auto.replies ∙ c.requires.replies) within c.index-jobs-i.is again inv.index inv.right c.do_job-next.ensures.replies;
     }

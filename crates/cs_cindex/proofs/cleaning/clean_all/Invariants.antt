@@ -4,9 +4,9 @@ use Rattle.cs_tree.specs.Clean.{clean_path}
 use Rattle.cs_tree.specs.Cleaning.{clean_fault}
 use Rattle.cs_cindex.proofs.cleaning.clean_all.Given as goal
 
--- the paths so far are cleaned, and cleaning refused none of them
+-- the paths so far are cleaned, without an error
 abbrev pub invariant-paths : goal.invariant-paths
 invariant-paths l = record {
-  cleaned_are : map string_bytes l.given.items ≡ map (λ text. clean_path l.folder text) (map string_bytes (take l.place l.paths));
-  good : (k : ℕ) → k < l.place → is_some (clean_fault l.folder (get_or (map string_bytes l.paths) k [])) ≡ false;
+  cleaned_are : map string_bytes l.given.items ≡ map (λ text. clean_path l.folder text) (map string_bytes (take l.path_index l.paths));
+  good : (k : ℕ) → k < l.path_index → is_some (clean_fault l.folder (get_or (map string_bytes l.paths) k [])) ≡ false;
 }

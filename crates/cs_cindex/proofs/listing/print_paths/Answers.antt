@@ -3,13 +3,13 @@ use Rattle.std.specs.Prelude.{codes}
 use Rattle.std.proofs.lemmas.Result.{err_from_is_err_and}
 use Rattle.cs_cindex.specs.Output.{path_lines}
 use Rattle.cs_cindex.proofs.JobOutputLemmas.{lines_more, lines_cut, lines_end}
-use Rattle.cs_tree.proofs.Growing.{Grows-chain, Grows-same}
+use Rattle.cs_tree.proofs.GrowsLemmas.{Grows-chain, Grows-same}
 use Rattle.cs_cindex.proofs.listing.print_paths.Goals as goal
 
 pub paths-init : goal.paths-init
 paths-init g c =
     let all : c.into_iter-path-iterator.result ≡ c.args.paths = search rules in
-    record { done = []; grows = Grows-same (g.O.Sink.taken c.args.out.now); whole = ap path_lines all; failures = refl }
+    record { done = []; grows = Grows-same (g.O.Sink.model c.args.out.now); whole = ap path_lines all; failures = refl }
 
 pub paths-preserved : goal.paths-preserved
 paths-preserved g c = record {

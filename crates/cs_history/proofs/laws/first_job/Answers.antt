@@ -3,4 +3,4 @@ use Rattle.cs_history.proofs.IndexLemmas.{index_first}
 use Rattle.cs_history.proofs.laws.first_job.Goals as goal
 
 pub returns : goal.returns
-returns c = λ visit. sym (index_first visit)
+returns c = λ update. sym (index_first update)

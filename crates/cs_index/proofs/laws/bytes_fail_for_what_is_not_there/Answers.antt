@@ -1,4 +1,4 @@
-use Rattle.cs_index.proofs.FailingLemmas.{fails_so, so_fails}
+use Rattle.cs_index.proofs.decoding.FirstFailure.{fails_so, so_fails}
 use Rattle.cs_index.proofs.laws.bytes_fail_for_what_is_not_there.Goals as goal
 
 pub returns : goal.returns

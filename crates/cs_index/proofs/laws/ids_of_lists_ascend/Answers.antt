@@ -1,7 +1,7 @@
 use Rattle.std.proofs.Common.{length}
 use Rattle.cs_index.specs.OpenedParts.{ids_read}
-use Rattle.cs_index.proofs.SiftLemmas.{rise_ascends}
-use Rattle.cs_index.proofs.QueryTrigramLemmas.{entry_rises}
+use Rattle.cs_index.proofs.candidates.Intersection.{rise_ascends}
+use Rattle.cs_index.proofs.candidates.QueryMembers.{entry_rises}
 use Rattle.cs_index.proofs.laws.ids_of_lists_ascend.Goals as goal
 
 pub returns : goal.returns

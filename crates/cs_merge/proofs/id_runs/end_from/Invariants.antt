@@ -1,12 +1,12 @@
 use Rattle.std.proofs.Common.{◌<◌, ◌≤◌, ◌-◌, length}
-use Rattle.cs_merge.specs.Renumbering.{MoveTogether}
+use Rattle.cs_merge.specs.IdMap.{IsRun}
 use Rattle.cs_merge.proofs.id_runs.end_from.Given as goal
 
 abbrev pub invariant-ids : goal.invariant-ids
 invariant-ids l = record {
   some : l.id < l.end;
   within : l.end ≤ length l.new_ids;
-  together : MoveTogether l.new_ids l.id l.end;
+  together : IsRun l.new_ids l.id l.end;
 }
 
 abbrev pub decreases-ids : goal.decreases-ids

@@ -1,4 +1,4 @@
-use Rattle.cs_merge.proofs.JoinLemmas.{files_replaced, paths_replaced}
+use Rattle.cs_merge.proofs.MergeLemmas.{files_replaced, paths_replaced}
 use Rattle.cs_merge.proofs.laws.what_is_covered_is_replaced.Goals as goal
 
 pub returns-clause-paths : goal.returns-clause-paths

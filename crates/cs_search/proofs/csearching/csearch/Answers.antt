@@ -1,18 +1,18 @@
 use Rattle.std.proofs.Common.{subst, refl, sym}
 use Rattle.std.specs.Prelude.{option_copied}
 use Rattle.std.proofs.lemmas.Result.{err_from_is_err_and}
-use Rattle.cs_tree.proofs.Growing.{Grows-same}
-use Rattle.cs_tree.specs.Failures.{CountsOne}
+use Rattle.cs_tree.proofs.GrowsLemmas.{Grows-same}
+use Rattle.cs_tree.specs.Sinks.{CountsOne}
 use Rattle.cs_search.proofs.CgrepLemmas.{all_silent}
 use Rattle.cs_search.proofs.SearchLemmas.{refused_first}
 use Rattle.cs_search.proofs.csearching.csearch.Goals as goal
 
--- ---- nothing is lent
+-- ---- no plan, or no index
 
 pub returns-in_err-plan-clause-searches : goal.returns-in_err-plan-clause-searches
 returns-in_err-plan-clause-searches g c =
     let p = err_from_is_err_and c.from_residual.result c.from_residual.ensures.1 in
-    rw (p.1, p.2) (refused_first c.args.job.now (option_copied c.args.index) (g.T.Tree.snapshot c.args.tree.now) (g.T.Tree.failed c.args.tree.now) (record { out = g.O.Sink.taken c.args.out.now; err = g.E.Sink.taken c.args.err.now }) _ c.in_err-plan.ensures.refused)
+    rw (p.1, p.2) (refused_first c.args.job.now (option_copied c.args.index) (g.T.Tree.snapshot c.args.tree.now) (g.T.Tree.failed c.args.tree.now) (record { out = g.O.Sink.model c.args.out.now; err = g.E.Sink.model c.args.err.now }) _ c.in_err-plan.ensures.refused)
 
 pub returns-in_err-plan-clause-writes : goal.returns-in_err-plan-clause-writes
 returns-in_err-plan-clause-writes g c =
@@ -24,7 +24,7 @@ returns-in_err-plan-clause-writes g c =
 pub returns-in_err-plan-clause-silent : goal.returns-in_err-plan-clause-silent
 returns-in_err-plan-clause-silent g c = all_silent _ c.from_residual.result ((Grows-same _, Grows-same _), refl, refl)
 
--- ---- a search by what is lent
+-- ---- the search by the plan and the index
 
 pub returns-clause-searches : goal.returns-clause-searches
-returns-clause-searches g c = c.search_by.ensures.searches (option_copied c.args.index) c.in_ok-plan.ensures.lent
+returns-clause-searches g c = c.search_by.ensures.searches (option_copied c.args.index) c.in_ok-plan.ensures.answering

@@ -1,18 +1,18 @@
 use Rattle.std.proofs.Common.{◌≡◌, ◌≤◌, ◌+◌, ◌-◌, true, Bool, List, ℕ, length}
-use Rattle.cs_match.specs.Finding.{Decides}
-use Rattle.cs_match.specs.LineParts.{IsPart}
+use Rattle.cs_match.specs.Deciding.{Decides}
+use Rattle.cs_match.specs.NoNewline.{HasNoNewline}
 use Rattle.cs_search.specs.Buffer.{pending_bytes}
-use Rattle.cs_search.specs.Progress.{HasRead, HasTested}
+use Rattle.cs_search.specs.Progress.{HasReadInput, HasTested}
 use Rattle.cs_search.specs.TestedLines.{Tests}
 use Rattle.cs_search.proofs.input.search_input.Given as goal
 
 abbrev pub invariant-pieces : goal.invariant-pieces
 invariant-pieces g l = record {
-  bound : l.tally.lines + length (pending_bytes l.buffer) + l.left ≤ l.most;
-  part : IsPart (pending_bytes l.buffer);
-  read : HasRead (g.R.Source.told l.initial.input) (g.R.Source.told l.input) (l.most - l.left) (pending_bytes l.buffer) l.tally.lines;
-  tested : (finds : List ℕ → Bool) → Decides finds l.initial.matcher.tree → HasTested (g.R.Source.told l.initial.input) (l.most - l.left) (λ lines. Tests l.form.style l.form.name.now finds lines l.initial.tally l.tally (g.O.Sink.taken l.initial.out) (g.O.Sink.taken l.out));
-  unlisted : l.form.style.list ≡ true → l.tally.hits ≡ 0;
+  bound : l.tally.lines + length (pending_bytes l.buffer) + l.left ≤ l.limit;
+  part : HasNoNewline (pending_bytes l.buffer);
+  read : HasReadInput (g.R.Source.model l.initial.input) (g.R.Source.model l.input) (l.limit - l.left) (pending_bytes l.buffer) l.tally.lines;
+  tested : (has_match : List ℕ → Bool) → Decides has_match l.initial.matcher.tree → HasTested (g.R.Source.model l.initial.input) (l.limit - l.left) (λ lines. Tests l.printer.style l.printer.name.now has_match lines l.initial.tally l.tally (g.O.Sink.model l.initial.out) (g.O.Sink.model l.out));
+  unlisted : l.printer.style.list ≡ true → l.tally.matches ≡ 0;
   same : l.matcher.tree ≡ l.initial.matcher.tree;
   read_failed : g.R.Source.failed l.input ≡ g.R.Source.failed l.initial.input;
   write_failed : g.O.Sink.failed l.out ≡ g.O.Sink.failed l.initial.out;

@@ -7,10 +7,10 @@ unfolding AreWholeLines
 returns-in-None-clause-whole c = tt
 
 pub returns-in-None-clause-rest : goal.returns-in-None-clause-rest
-returns-in-None-clause-rest c = part_searched c.args.block.now c.args.clean c.requires.clean c.in-None.ensures
+returns-in-None-clause-rest c = part_searched c.args.block.now c.args.scanned c.requires.scanned c.in-None.ensures
 
 pub returns-in-Some-clause-whole : goal.returns-in-Some-clause-whole
-returns-in-Some-clause-whole c = whole_last c.args.block.now c.args.clean c.in-Some.at c.in-Some.ensures
+returns-in-Some-clause-whole c = whole_last c.args.block.now c.args.scanned c.in-Some.offset c.in-Some.ensures
 
 pub returns-in-Some-clause-rest : goal.returns-in-Some-clause-rest
-returns-in-Some-clause-rest c = part_last c.args.block.now c.args.clean c.in-Some.at c.in-Some.ensures
+returns-in-Some-clause-rest c = part_last c.args.block.now c.args.scanned c.in-Some.offset c.in-Some.ensures

@@ -1,136 +1,183 @@
-use Rattle.std.proofs.Common.{◌≡◌, ◌≤◌, ◌+◌, ◌-◌, ◌∷◌, ◌++◌, [], Bool, List, ℕ, Option, length, take, drop, refl, sym, ap, subst, ◌∙◌, arith, length-append}
+use Rattle.std.proofs.Common.{◌≡◌, ◌≤◌, ◌+◌, ◌-◌, ◌∷◌, ◌++◌, [], Bool, List, ℕ, Option, length, take, drop, refl, sym, ap, subst, ◌∙◌, arith, length-append, length-take}
 use Rattle.std.proofs.lemmas.Bool.{false≢true}
-use Rattle.cs_tree.specs.Told.{Taken}
-use Rattle.cs_words.specs.declared.jobs.Style.{Style}
-use Rattle.cs_match.specs.Finding.{Decides}
-use Rattle.cs_match.specs.Lines.{ended_lines}
-use Rattle.cs_match.specs.Skipping.{AreWholeLines}
-use Rattle.cs_match.proofs.WholeLemmas.{whole_drop, whole_line, ended_line}
+use Rattle.std.proofs.lemmas.List.{take_rest, take_all}
+use Rattle.cs_tree.specs.Sinks.{SinkModel}
+use Rattle.cs_args.specs.declared.jobs.Style.{Style}
+use Rattle.cs_match.specs.Deciding.{Decides}
+use Rattle.cs_match.specs.Lines.{terminated_lines}
+use Rattle.cs_match.specs.Skipping.{AreWholeLines, IsLineAfter, NoneMatch}
+use Rattle.cs_match.proofs.WholeLineLemmas.{whole_drop, whole_line, terminated_line, ended_prefix}
 use Rattle.cs_search.specs.declared.tally.Tally.{Tally}
-use Rattle.cs_search.specs.TestedLines.{Tests, TestsFront, IsListed}
-use Rattle.cs_search.proofs.BlockLemmas.{ended_front, ended_all, lines_on, whole_on, counted_within}
-use Rattle.cs_search.proofs.TestedLemmas.{Tests-none, Tests-more, Tests-passed, Tests-counted, IsListed-first, IsListed-more}
-use Rattle.cs_index.proofs.ResultLemmas.{any_err}
-use Rattle.cs_search.proofs.FrontLemmas.{TestsFront-more, TestsFront-after}
+use Rattle.cs_search.specs.TestedLines.{Tests, TestsPrefix, IsListed}
+use Rattle.cs_search.proofs.BlockLemmas.{lines_on, whole_on, counted_within}
+use Rattle.cs_search.proofs.LineTestLemmas.{Tests-none, Tests-more, Tests-skipped, Tests-counted, IsListed-first, IsListed-more}
+use Rattle.cs_index.proofs.common.ResultClauses.{any_err}
+use Rattle.cs_search.proofs.PrintedPrefixLemmas.{TestsPrefix-more, TestsPrefix-after}
 use Rattle.cs_search.proofs.line_search.search_lines.Goals as goal
-use Rattle.cs_search.proofs.line_search.search_lines.Goals.{else-form-via-then-form+else-tally-gt0, else-form-via-else-form}
 
--- the lines up to one place, and on to another
+-- the lines up to one offset, and on to the next
 module _ (block : List ℕ) (from to : ℕ) (rising : from ≤ to) (whole : AreWholeLines (take from block)) where
-  counted_on : (before mid after : ℕ) → mid ≡ before + length (ended_lines (take from block)) → after ≡ mid + length (ended_lines (take (to - from) (drop from block))) → after ≡ before + length (ended_lines (take to block))
+  counted_on : (before mid after : ℕ) → mid ≡ before + length (terminated_lines (take from block)) → after ≡ mid + length (terminated_lines (take (to - from) (drop from block))) → after ≡ before + length (terminated_lines (take to block))
   counted_on before mid after h k =
-      omega (arith, h, k, ap (λ (ls : List (List ℕ)). length ls) (lines_on block from to rising whole), length-append (ended_lines (take from block)) (ended_lines (take (to - from) (drop from block))))
+      omega (arith, h, k, ap (λ (ls : List (List ℕ)). length ls) (lines_on block from to rising whole), length-append (terminated_lines (take from block)) (terminated_lines (take (to - from) (drop from block))))
 
-  tests_on : (style : Style) (name : List ℕ) (finds : List ℕ → Bool) (before mid after : Tally) (taken now later : Option Taken) → mid.lines ≡ before.lines + length (ended_lines (take from block)) → Tests style name finds (ended_lines (take from block)) before mid taken now → Tests style name finds (ended_lines (take (to - from) (drop from block))) mid after now later → Tests style name finds (ended_lines (take to block)) before after taken later
-  tests_on style name finds before mid after taken now later counted first next =
-      subst (λ (ls : List (List ℕ)). Tests style name finds ls before after taken later) (sym (lines_on block from to rising whole))
-      (Tests-more style name finds (ended_lines (take from block)) (ended_lines (take (to - from) (drop from block))) before mid after taken now later counted first next)
+  tests_on : (style : Style) (name : List ℕ) (has_match : List ℕ → Bool) (before mid after : Tally) (sink now later : Option SinkModel) → mid.lines ≡ before.lines + length (terminated_lines (take from block)) → Tests style name has_match (terminated_lines (take from block)) before mid sink now → Tests style name has_match (terminated_lines (take (to - from) (drop from block))) mid after now later → Tests style name has_match (terminated_lines (take to block)) before after sink later
+  tests_on style name has_match before mid after sink now later counted first next =
+      subst (λ (ls : List (List ℕ)). Tests style name has_match ls before after sink later) (sym (lines_on block from to rising whole))
+      (Tests-more style name has_match (terminated_lines (take from block)) (terminated_lines (take (to - from) (drop from block))) before mid after sink now later counted first next)
 
-pub lines-init : goal.lines-init
-unfolding ended_lines AreWholeLines
-lines-init g c =
-    let block = c.args.block.now in
-    let to = c.pass_lines-at.result in
-    let e = c.pass_lines-at.ensures in
-    let none : c.args.tally.now.lines ≡ c.args.tally.now.lines + length (ended_lines (take 0 block)) = omega arith in
-    record {
-      within = e.high;
-      whole = whole_on block 0 to e.low tt e.whole;
-      counted = counted_on block 0 to e.low tt c.args.tally.now.lines c.args.tally.now.lines c.pass_lines-at.new.tally.lines none e.lines;
-      tests = λ finds decides. tests_on block 0 to e.low tt _ _ finds _ c.args.tally.now _ _ (g.O.Sink.taken c.args.out.now) _ none
-          (Tests-none c.args.form.now.style c.args.form.now.name.now finds c.args.tally.now (g.O.Sink.taken c.args.out.now))
-          (Tests-passed c.args.form.now.style c.args.form.now.name.now finds _ c.args.tally.now c.pass_lines-at.new.tally (g.O.Sink.taken c.args.out.now) (e.none finds decides) e.hits);
-      unlisted = λ listed. e.hits ∙ c.requires.unlisted listed;
-      same = e.same;
-      failed = refl;
-    }
+-- a line after some whole lines
+module _ (block : List ℕ) (offset start end : ℕ) (line : IsLineAfter block offset start end) (whole : AreWholeLines (take offset block)) where
+  up_to_line : AreWholeLines (take start block)
+  up_to_line = whole_on block offset start line.low whole line.before
+
+  after_start : start ≤ end + 1
+  after_start = omega (arith, line.order)
+
+  one : terminated_lines (take (end + 1 - start) (drop start block)) ≡ take (end - start) (drop start block) ∷ []
+  one = terminated_line block start end line.order line.part line.newline
+
+  up_to_next : AreWholeLines (take (end + 1) block)
+  up_to_next = whole_on block start (end + 1) after_start up_to_line (whole_line block start end line.order line.newline)
+
+  -- all lines: those before this one, this one, and those after it
+  around : (terminated_lines (take start block) ++ take (end - start) (drop start block) ∷ []) ++ terminated_lines (drop (end + 1) block) ≡ terminated_lines block
+  around =
+      ap (λ ls. ls ++ terminated_lines (drop (end + 1) block)) (sym (lines_on block start (end + 1) after_start up_to_line ∙ ap (λ ls. terminated_lines (take start block) ++ ls) one))
+      ∙ sym (ended_prefix block (end + 1) up_to_next)
+
+  -- lines that were tested, and the skipped ones up to this line
+  module _ (style : Style) (name : List ℕ) (has_match : List ℕ → Bool) (before mid after : Tally) (sink now : Option SinkModel) where
+    tests_to_line : mid.lines ≡ before.lines + length (terminated_lines (take offset block)) → Tests style name has_match (terminated_lines (take offset block)) before mid sink now → NoneMatch has_match (terminated_lines (take (start - offset) (drop offset block))) → after.matches ≡ mid.matches → Tests style name has_match (terminated_lines (take start block)) before after sink now
+    tests_to_line counted tests none same =
+        tests_on block offset start line.low whole style name has_match before mid after sink now now counted tests
+        (Tests-skipped style name has_match (terminated_lines (take (start - offset) (drop offset block))) mid after now none same)
 
 pub returns-then-counts-clause-tests : goal.returns-then-counts-clause-tests
-returns-then-counts-clause-tests g c = λ finds decides.
+returns-then-counts-clause-tests g c = λ has_match decides.
     let counts = c.counts.ensures c.if-counts.true in
-    Tests-counted c.args.form.now.style c.args.form.now.name.now finds (ended_lines c.args.block.now) c.args.tally.now c.count_lines.new.tally (g.O.Sink.taken c.args.out.now) counts.0 counts.1 (c.count_lines.ensures.hits finds decides)
+    Tests-counted c.args.printer.now.style c.args.printer.now.name.now has_match (terminated_lines c.args.block.now) c.args.tally.now c.count_lines.new.tally (g.O.Sink.model c.args.out.now) counts.0 counts.1 (c.count_lines.ensures.matches has_match decides)
 
-pub search_line-requires : goal.search_line-requires
-search_line-requires g c =
+pub lines-init : goal.lines-init
+unfolding terminated_lines AreWholeLines
+lines-init g c = record {
+  within = omega arith;
+  whole = tt;
+  counted = omega arith;
+  tests = λ has_match decides. Tests-none c.args.printer.now.style c.args.printer.now.name.now has_match c.args.tally.now (g.O.Sink.model c.args.out.now);
+  unlisted = c.requires.unlisted;
+  same = refl;
+  failed = refl;
+}
+
+pub next_match-requires-clause-whole : goal.next_match-requires-clause-whole
+next_match-requires-clause-whole g c = whole_drop c.lines.offset c.args.block.now c.requires.whole
+
+pub count_skipped-requires : goal.count_skipped-requires
+count_skipped-requires g c =
     let i = c.lines.invariant in
-    let e = c.in-Some.ensures in
-    omega (arith, counted_within c.args.block.now c.lines.at, c.requires.room, i.counted, e.0, e.1)
+    let l = c.in-Some.ensures.line in
+    omega (arith, counted_within c.args.block.now c.lines.offset, c.requires.room, i.counted, l.low, l.order, l.high, length-take (c.in-Some.line.start - c.lines.offset) (drop c.lines.offset c.args.block.now))
 
-pub returns-in_err-search_line-clause-front : goal.returns-in_err-search_line-clause-front
-returns-in_err-search_line-clause-front g c =
-    any_err c.from_residual.result (λ finds decides.
+pub report_match-requires : goal.report_match-requires
+report_match-requires g c =
+    let i = c.lines.invariant in
+    let l = c.in-Some.ensures.line in
+    let counted = counted_on c.args.block.now c.lines.offset c.in-Some.line.start l.low i.whole c.args.tally.now.lines c.lines.tally.lines c.count_skipped.new.tally.lines i.counted c.count_skipped.ensures.lines in
+    omega (arith, counted_within c.args.block.now c.in-Some.line.start, c.requires.room, counted, l.order, l.high)
+
+pub returns-in_err-report_match-clause-prefix : goal.returns-in_err-report_match-clause-prefix
+returns-in_err-report_match-clause-prefix g c =
+    any_err c.from_residual.result (λ has_match decides.
     let i = c.lines.invariant in
     let e = c.in-Some.ensures in
     let block = c.args.block.now in
-    let at = c.lines.at in
-    let end = c.in-Some.end in
-    let rising : at ≤ end + 1 = omega (arith, e.0) in
-    let line = take (end - at) (drop at block) in
-    let more : ended_lines (take (end + 1) block) ≡ ended_lines (take at block) ++ line ∷ [] = lines_on block at (end + 1) rising i.whole ∙ ap (λ ls. ended_lines (take at block) ++ ls) (ended_line block at end e.0 e.2 e.3) in
-    let there = whole_on block at (end + 1) rising i.whole (whole_line block at end e.0 e.3) in
-    let front = TestsFront-after _ _ finds (ended_lines (take at block)) (line ∷ []) c.args.tally.now c.lines.tally (g.O.Sink.taken c.args.out.now) (g.O.Sink.taken c.lines.out) (g.O.Sink.taken c.search_line.new.out) i.unlisted i.counted (i.tests finds decides) (c.in_err-search_line.ensures.front finds (subst (Decides finds) (sym i.same) decides)) in
-    subst (λ (ls : List (List ℕ)). TestsFront c.args.form.now.style c.args.form.now.name.now finds ls (c.args.tally.now.lines + 1) (g.O.Sink.taken c.args.out.now) (g.O.Sink.taken c.search_line.new.out)) (ap (λ ls. ls ++ ended_lines (drop (end + 1) block)) (sym more) ∙ sym (ended_front block (end + 1) there))
-    (TestsFront-more _ _ finds _ (ended_lines (drop (end + 1) block)) _ _ _ front))
+    let offset = c.lines.offset in
+    let start = c.in-Some.line.start in
+    let end = c.in-Some.line.end in
+    let style = c.args.printer.now.style in
+    let name = c.args.printer.now.name.now in
+    let line = take (end - start) (drop start block) in
+    let mid = c.count_skipped.new.tally in
+    let there = subst (Decides has_match) (sym i.same) decides in
+    let counted = counted_on block offset start e.line.low i.whole c.args.tally.now.lines c.lines.tally.lines mid.lines i.counted c.count_skipped.ensures.lines in
+    let tests = tests_to_line block offset start end e.line i.whole style name has_match c.args.tally.now c.lines.tally mid (g.O.Sink.model c.args.out.now) (g.O.Sink.model c.lines.out) i.counted (i.tests has_match decides) (e.none has_match there) c.count_skipped.ensures.matches in
+    let prefix = TestsPrefix-after style name has_match (terminated_lines (take start block)) (line ∷ []) c.args.tally.now mid (g.O.Sink.model c.args.out.now) (g.O.Sink.model c.lines.out) (g.O.Sink.model c.report_match.new.out) (λ listed. c.count_skipped.ensures.matches ∙ i.unlisted listed) counted tests (c.in_err-report_match.ensures.prefix has_match ((there line).1 e.found)) in
+    subst (λ (ls : List (List ℕ)). TestsPrefix style name has_match ls (c.args.tally.now.lines + 1) (g.O.Sink.model c.args.out.now) (g.O.Sink.model c.report_match.new.out)) (around block offset start end e.line i.whole)
+    (TestsPrefix-more _ _ has_match _ (terminated_lines (drop (end + 1) block)) _ _ _ prefix))
 
-pub returns-then-tally-gt0-clause-tests : goal.returns-then-tally-gt0-clause-tests
-returns-then-tally-gt0-clause-tests g c = λ finds decides.
+pub returns-then-printer-clause-tests : goal.returns-then-printer-clause-tests
+returns-then-printer-clause-tests g c = λ has_match decides.
     let i = c.lines.invariant in
     let e = c.in-Some.ensures in
     let block = c.args.block.now in
-    let at = c.lines.at in
-    let end = c.in-Some.end in
-    let line = take (end - at) (drop at block) in
-    let rising : at ≤ end + 1 = omega (arith, e.0) in
-    let more : ended_lines (take (end + 1) block) ≡ ended_lines (take at block) ++ line ∷ [] = lines_on block at (end + 1) rising i.whole ∙ ap (λ ls. ended_lines (take at block) ++ ls) (ended_line block at end e.0 e.2 e.3) in
-    let there = whole_on block at (end + 1) rising i.whole (whole_line block at end e.0 e.3) in
-    let first = IsListed-first _ _ finds (ended_lines (take at block)) line _ _ _ _ _ _ c.if-form.true (i.unlisted c.if-form.true) i.counted (i.tests finds decides) (c.in_ok-search_line.ensures.tests finds (subst (Decides finds) (sym i.same) decides)) c.if-tally-gt0.true in
-    subst (λ (ls : List (List ℕ)). IsListed c.args.form.now.style c.args.form.now.name.now finds ls (c.args.tally.now.lines + 1) c.search_line.new.tally (g.O.Sink.taken c.args.out.now) (g.O.Sink.taken c.search_line.new.out)) (ap (λ ls. ls ++ ended_lines (drop (end + 1) block)) (sym more) ∙ sym (ended_front block (end + 1) there))
-    (IsListed-more _ _ finds _ (ended_lines (drop (end + 1) block)) _ _ _ _ first)
-
-pub pass_lines-at-requires-in-Some-clause-whole : goal.pass_lines-at-requires-in-Some-clause-whole
-pass_lines-at-requires-in-Some-clause-whole g c = whole_drop (c.in-Some.end + 1) c.args.block.now c.requires.whole
-
-pub pass_lines-at-requires-in-Some-clause-room : goal.pass_lines-at-requires-in-Some-clause-room
-pass_lines-at-requires-in-Some-clause-room g c =
-    let i = c.lines.invariant in
-    let e = c.in-Some.ensures in
-    omega (arith, counted_within c.args.block.now c.lines.at, c.requires.room, i.counted, e.0, e.1, c.in_ok-search_line.ensures.lines)
+    let offset = c.lines.offset in
+    let start = c.in-Some.line.start in
+    let end = c.in-Some.line.end in
+    let style = c.args.printer.now.style in
+    let name = c.args.printer.now.name.now in
+    let line = take (end - start) (drop start block) in
+    let mid = c.count_skipped.new.tally in
+    let there = subst (Decides has_match) (sym i.same) decides in
+    let counted = counted_on block offset start e.line.low i.whole c.args.tally.now.lines c.lines.tally.lines mid.lines i.counted c.count_skipped.ensures.lines in
+    let tests = tests_to_line block offset start end e.line i.whole style name has_match c.args.tally.now c.lines.tally mid (g.O.Sink.model c.args.out.now) (g.O.Sink.model c.lines.out) i.counted (i.tests has_match decides) (e.none has_match there) c.count_skipped.ensures.matches in
+    let first = IsListed-first style name has_match (terminated_lines (take start block)) line c.args.tally.now mid c.report_match.new.tally (g.O.Sink.model c.args.out.now) (g.O.Sink.model c.lines.out) (g.O.Sink.model c.report_match.new.out) c.if-printer.true (c.count_skipped.ensures.matches ∙ i.unlisted c.if-printer.true) counted tests (c.in_ok-report_match.ensures.tests has_match ((there line).1 e.found)) (omega (arith, c.in_ok-report_match.ensures.matches)) in
+    subst (λ (ls : List (List ℕ)). IsListed style name has_match ls (c.args.tally.now.lines + 1) c.report_match.new.tally (g.O.Sink.model c.args.out.now) (g.O.Sink.model c.report_match.new.out)) (around block offset start end e.line i.whole)
+    (IsListed-more _ _ has_match _ (terminated_lines (drop (end + 1) block)) _ _ _ _ first)
 
 pub lines-preserved : goal.lines-preserved
 lines-preserved g c =
     let i = c.lines.invariant in
     let e = c.in-Some.ensures in
-    let l = c.in_ok-search_line.ensures in
-    let p = c.pass_lines-at-in-Some.ensures in
     let block = c.args.block.now in
-    let at = c.lines.at in
-    let end = c.in-Some.end in
-    let to = c.pass_lines-at-in-Some.result in
-    let tally = c.search_line.new.tally in
-    let rising : at ≤ end + 1 = omega (arith, e.0) in
-    let one = ended_line block at end e.0 e.2 e.3 in
-    let there = whole_on block at (end + 1) rising i.whole (whole_line block at end e.0 e.3) in
-    let counted = counted_on block at (end + 1) rising i.whole c.args.tally.now.lines c.lines.tally.lines tally.lines i.counted (l.lines ∙ ap (λ (ls : List (List ℕ)). c.lines.tally.lines + length ls) (sym one)) in
+    let offset = c.lines.offset in
+    let start = c.in-Some.line.start in
+    let end = c.in-Some.line.end in
+    let style = c.args.printer.now.style in
+    let name = c.args.printer.now.name.now in
+    let line = take (end - start) (drop start block) in
+    let mid = c.count_skipped.new.tally in
+    let next = c.report_match.new.tally in
+    let reported = c.in_ok-report_match.ensures in
+    let before = up_to_line block offset start end e.line i.whole in
+    let rising = after_start block offset start end e.line i.whole in
+    let single = one block offset start end e.line i.whole in
+    let counted = counted_on block offset start e.line.low i.whole c.args.tally.now.lines c.lines.tally.lines mid.lines i.counted c.count_skipped.ensures.lines in
     record {
-      within = p.high;
-      whole = whole_on block (end + 1) to p.low there p.whole;
-      counted = counted_on block (end + 1) to p.low there c.args.tally.now.lines tally.lines c.pass_lines-at-in-Some.new.tally.lines counted p.lines;
-      tests = λ finds decides.
-          let line = subst (λ (ls : List (List ℕ)). Tests c.args.form.now.style c.args.form.now.name.now finds ls c.lines.tally tally (g.O.Sink.taken c.lines.out) (g.O.Sink.taken c.search_line.new.out)) (sym one) (l.tests finds (subst (Decides finds) (sym i.same) decides)) in
-          tests_on block (end + 1) to p.low there _ _ finds c.args.tally.now tally _ _ (g.O.Sink.taken c.search_line.new.out) _ counted
-          (tests_on block at (end + 1) rising i.whole _ _ finds c.args.tally.now c.lines.tally tally _ (g.O.Sink.taken c.lines.out) _ i.counted (i.tests finds decides) line)
-          (Tests-passed c.args.form.now.style c.args.form.now.name.now finds _ tally c.pass_lines-at-in-Some.new.tally (g.O.Sink.taken c.search_line.new.out) (p.none finds (subst (Decides finds) (sym (l.same ∙ i.same)) decides)) p.hits);
-      unlisted = elim c.else-form.branch [ else-form-via-then-form+else-tally-gt0 w ↦ λ listed. omega (arith, p.hits, w.if-tally-gt0.false) | else-form-via-else-form w ↦ λ listed. absurd (false≢true (sym w.if-form.false ∙ listed)) ];
-      same = p.same ∙ l.same ∙ i.same;
-      failed = l.failed ∙ i.failed;
+      within = omega (arith, e.line.high);
+      whole = up_to_next block offset start end e.line i.whole;
+      counted = counted_on block start (end + 1) rising before c.args.tally.now.lines mid.lines next.lines counted (reported.lines ∙ ap (λ (ls : List (List ℕ)). mid.lines + length ls) (sym single));
+      tests = λ has_match decides.
+          let there = subst (Decides has_match) (sym i.same) decides in
+          let tests = tests_to_line block offset start end e.line i.whole style name has_match c.args.tally.now c.lines.tally mid (g.O.Sink.model c.args.out.now) (g.O.Sink.model c.lines.out) i.counted (i.tests has_match decides) (e.none has_match there) c.count_skipped.ensures.matches in
+          let last = subst (λ (ls : List (List ℕ)). Tests style name has_match ls mid next (g.O.Sink.model c.lines.out) (g.O.Sink.model c.report_match.new.out)) (sym single) (reported.tests has_match ((there line).1 e.found)) in
+          tests_on block start (end + 1) rising before style name has_match c.args.tally.now mid next (g.O.Sink.model c.args.out.now) (g.O.Sink.model c.lines.out) (g.O.Sink.model c.report_match.new.out) counted tests last;
+      unlisted = λ listed. absurd (false≢true (sym c.if-printer.false ∙ listed));
+      same = e.same ∙ i.same;
+      failed = reported.failed ∙ i.failed;
     }
+
+pub count_skipped-requires-2 : goal.count_skipped-requires-2
+count_skipped-requires-2 g c =
+    let i = c.lines.invariant in
+    omega (arith, counted_within c.args.block.now c.lines.offset, c.requires.room, i.counted, i.within, length-take (length c.args.block.now - c.lines.offset) (drop c.lines.offset c.args.block.now))
 
 pub returns-clause-lines : goal.returns-clause-lines
 returns-clause-lines g c = λ _.
     let i = c.lines.invariant in
-    i.counted ∙ ap (λ (ls : List (List ℕ)). c.args.tally.now.lines + length ls) (sym (ended_all c.args.block.now c.lines.at i.whole c.in_default.ensures))
+    let block = c.args.block.now in
+    counted_on block c.lines.offset (length block) i.within i.whole c.args.tally.now.lines c.lines.tally.lines c.count_skipped-2.new.tally.lines i.counted c.count_skipped-2.ensures.lines
+    ∙ ap (λ text. c.args.tally.now.lines + length (terminated_lines text)) (take_all (length block) block (omega arith))
 
 pub returns-clause-tests : goal.returns-clause-tests
-returns-clause-tests g c = λ finds decides.
+returns-clause-tests g c = λ has_match decides.
     let i = c.lines.invariant in
-    subst (λ (ls : List (List ℕ)). Tests c.args.form.now.style c.args.form.now.name.now finds ls c.args.tally.now c.lines.tally (g.O.Sink.taken c.args.out.now) (g.O.Sink.taken c.lines.out)) (sym (ended_all c.args.block.now c.lines.at i.whole c.in_default.ensures)) (i.tests finds decides)
+    let block = c.args.block.now in
+    let style = c.args.printer.now.style in
+    let name = c.args.printer.now.name.now in
+    let sink = g.O.Sink.model c.args.out.now in
+    let now = g.O.Sink.model c.lines.out in
+    let none = subst (λ text. NoneMatch has_match (terminated_lines text)) (sym (take_rest block c.lines.offset)) (c.in_default.ensures.none has_match (subst (Decides has_match) (sym i.same) decides)) in
+    subst (λ text. Tests style name has_match (terminated_lines text) c.args.tally.now c.count_skipped-2.new.tally sink now) (take_all (length block) block (omega arith))
+    (tests_on block c.lines.offset (length block) i.within i.whole style name has_match c.args.tally.now c.lines.tally c.count_skipped-2.new.tally sink now now i.counted (i.tests has_match decides)
+    (Tests-skipped style name has_match _ c.lines.tally c.count_skipped-2.new.tally now none c.count_skipped-2.ensures.matches))

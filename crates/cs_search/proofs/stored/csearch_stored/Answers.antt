@@ -1,22 +1,22 @@
 use Rattle.std.proofs.Common.{Some, sym, subst}
-use Rattle.cs_index.proofs.StoredLemmas.{told_so}
-use Rattle.cs_search.specs.Plans.{IsLent}
+use Rattle.cs_index.proofs.stored.SectionReads.{if_some_map}
+use Rattle.cs_search.specs.Plans.{AnswersQuery}
 use Rattle.cs_search.specs.declared.status.Status.{Status}
 use Rattle.cs_search.proofs.SearchLemmas.{refused_first, unopened_unready, unopened_as}
 use Rattle.cs_search.proofs.stored.csearch_stored.Goals as goal
 
--- a search by the part that was read
+-- a search by the part of the index that was read
 pub returns-in-Ok-clause-searches : goal.returns-in-Ok-clause-searches
 returns-in-Ok-clause-searches g c =
-    told_so _ _ (g.S.Store.told c.args.store.now)
-    (λ bytes lent. c.search_by-answer.ensures.searches (Some bytes) (subst (IsLent c.in-Ok.plan.query (Some bytes)) (sym c.index.ensures) lent))
-    (rw c.in-Ok.is at c.in_ok-ready.ensures.lent)
+    if_some_map _ _ (g.S.Store.model c.args.store.now)
+    (λ bytes answering. c.search_by-answer.ensures.searches (Some bytes) (subst (AnswersQuery c.in-Ok.plan.query (Some bytes)) (sym c.index.ensures) answering))
+    (rw c.in-Ok.is at c.in_ok-ready.ensures.answering)
 
--- a job that is refused
+-- a job with an error
 pub returns-in-Err-clause-searches : goal.returns-in-Err-clause-searches
 returns-in-Err-clause-searches g c =
-    told_so _ _ (g.S.Store.told c.args.store.now)
-    (λ bytes refused. refused_first c.args.job.now (Some bytes) (g.T.Tree.snapshot c.args.tree.now) (g.T.Tree.failed c.args.tree.now) (record { out = g.O.Sink.taken c.args.out.now; err = g.E.Sink.taken c.args.err.now }) c.in-Err.fault refused)
+    if_some_map _ _ (g.S.Store.model c.args.store.now)
+    (λ bytes refused. refused_first c.args.job.now (Some bytes) (g.T.Tree.snapshot c.args.tree.now) (g.T.Tree.failed c.args.tree.now) (record { out = g.O.Sink.model c.args.out.now; err = g.E.Sink.model c.args.err.now }) c.in-Err.fault refused)
     (rw c.in-Err.is at c.in_ok-ready.ensures.refused)
 
 -- ---- an index that does not open

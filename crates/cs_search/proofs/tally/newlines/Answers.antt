@@ -1,14 +1,14 @@
 use Rattle.std.proofs.Common.{◌≡◌, ◌+◌, ◌≤◌, ◌++◌, List, ℕ, length, ◌∙◌, ap, arith}
-use Rattle.cs_match.specs.Lines.{ended_lines}
-use Rattle.cs_match.proofs.LinesLemmas.{lines_within, length-ended_append}
+use Rattle.cs_match.specs.Lines.{terminated_lines}
+use Rattle.cs_match.proofs.LinesLemmas.{lines_within, length-terminated_append}
 use Rattle.cs_search.proofs.tally.newlines.Goals as goal
 
--- a text is a part and more, and the lines of all are those of a block
-counted : (count few : ℕ) (rest part more block : List ℕ) → count + length (ended_lines rest) ≡ length (ended_lines block)
-    → rest ≡ part ++ more → few ≡ length (ended_lines part)
-    → (count + few ≤ length block) × (count + few + length (ended_lines more) ≡ length (ended_lines block))
+-- a block splits into a part and a rest, and its lines are those of both
+counted : (count few : ℕ) (rest part more block : List ℕ) → count + length (terminated_lines rest) ≡ length (terminated_lines block)
+    → rest ≡ part ++ more → few ≡ length (terminated_lines part)
+    → (count + few ≤ length block) × (count + few + length (terminated_lines more) ≡ length (terminated_lines block))
 counted count few rest part more block all cut is =
-    let e : length (ended_lines rest) ≡ length (ended_lines part) + length (ended_lines more) = ap (λ text. length (ended_lines text)) cut ∙ length-ended_append part more in
+    let e : length (terminated_lines rest) ≡ length (terminated_lines part) + length (terminated_lines more) = ap (λ text. length (terminated_lines text)) cut ∙ length-terminated_append part more in
     (omega (arith, lines_within block), omega arith)
 
 pub overflow_add-count : goal.overflow_add-count

@@ -1,6 +1,6 @@
 use Rattle.std.proofs.Common.{◌≡◌, ◌-◌, ◌^◌, eqb, ap, ◌∙◌, arith}
 use Rattle.std.specs.Int.{bit_at}
-use Rattle.cs_syntax.proofs.SetWordLemmas.{run_bits, low_ones_between}
+use Rattle.cs_syntax.proofs.ByteSetWordLemmas.{range_bits, low_ones_between}
 use Rattle.cs_syntax.proofs.byte_set.ones.Goals as goal
 
 pub returns : goal.returns
@@ -10,5 +10,5 @@ returns c = λ i within.
     let between : c.saturating_sub-3.result ≡ 2 ^ to - 2 ^ from =
     omega (arith, c.saturating_sub-3.ensures, c.low_ones.ensures, c.low_ones-2.ensures, low_ones_between to from) in
     ap (λ x. eqb (bit_at x i) 1) between
-    ∙ run_bits c.args.low c.args.high c.args.first from to i within
+    ∙ range_bits c.args.low c.args.high c.args.first from to i within
     (omega (arith, c.min-from.ensures, c.saturating_sub.ensures)) (omega (arith, c.min-to.ensures, c.saturating_sub-2.ensures))

@@ -1,4 +1,4 @@
-use Rattle.cs_syntax.proofs.CharRunLemmas.{folded_more, folded_all}
+use Rattle.cs_syntax.proofs.CharRangeLemmas.{folded_more, folded_all}
 use Rattle.cs_syntax.proofs.class_sets.add_folded.Goals as goal
 
 pub loop-range-preserved : goal.loop-range-preserved

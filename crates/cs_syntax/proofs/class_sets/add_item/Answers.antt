@@ -1,7 +1,7 @@
 use Rattle.std.proofs.Common.{sym}
 use Rattle.std.proofs.lemmas.Result.{on_ok_weaker}
 use Rattle.cs_syntax.specs.ClassSets.{is_in_item}
-use Rattle.cs_syntax.proofs.CharRunLemmas.{chars_added, adds_same, xor-true, xor-false}
+use Rattle.cs_syntax.proofs.CharRangeLemmas.{chars_added, adds_same, xor-true, xor-false}
 use Rattle.cs_syntax.proofs.class_sets.add_item.Goals as goal
 
 pub returns-in-Range : goal.returns-in-Range

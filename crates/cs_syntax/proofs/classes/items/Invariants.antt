@@ -9,9 +9,9 @@ use Rattle.cs_syntax.proofs.classes.items.Given as goal
 abbrev pub invariant-items : goal.invariant-items
 invariant-items l =
     record {
-      so_far : (is : List ClassItem) × HaveItems l.fold is l.ranges.items × (with_items is (items_from 0 (l.behind + l.at) (nat_eq l.at 0) (drop l.at l.text)) ≡ items_from 0 l.behind true l.text);
-      within : l.at ≤ length l.text;
+      so_far : (is : List ClassItem) × HaveItems l.fold is l.ranges.items × (with_items is (items_from 0 (l.distance + l.offset) (nat_eq l.offset 0) (drop l.offset l.text)) ≡ items_from 0 l.distance true l.text);
+      within : l.offset ≤ length l.text;
     }
 
 abbrev pub decreases-items : goal.decreases-items
-decreases-items l = length l.text - l.at
+decreases-items l = length l.text - l.offset

@@ -2,8 +2,8 @@ use Rattle.std.proofs.Common.{arith}
 use Rattle.cs_syntax.proofs.LoweringLemmas.{fits_below, within_pushed, within_left}
 use Rattle.cs_syntax.proofs.lowering.add_within.Goals as goal
 
-pub forms-requires-clause-fit : goal.forms-requires-clause-fit
-forms-requires-clause-fit c = fits_below c.args.lead c.args.more c.min-high.result c.args.to (omega arith) c.requires.fit
+pub utf8_encodings-requires-clause-fit : goal.utf8_encodings-requires-clause-fit
+utf8_encodings-requires-clause-fit c = fits_below c.args.lead c.args.more c.min-high.result c.args.to (omega arith) c.requires.fit
 
 pub returns-in_ok-push : goal.returns-in_ok-push
 returns-in_ok-push c =

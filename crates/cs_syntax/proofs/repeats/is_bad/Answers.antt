@@ -4,5 +4,5 @@ use Rattle.cs_syntax.proofs.repeats.is_bad.Goals as goal
 pub returns-in-None : goal.returns-in-None
 returns-in-None c = search rules
 
-pub returns-else-most-gt-MOST_TIMES : goal.returns-else-most-gt-MOST_TIMES
-returns-else-most-gt-MOST_TIMES c = search rules
+pub returns-else-most-gt-MAX_REPEAT : goal.returns-else-most-gt-MAX_REPEAT
+returns-else-most-gt-MAX_REPEAT c = search rules

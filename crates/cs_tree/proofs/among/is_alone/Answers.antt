@@ -2,7 +2,7 @@ use Rattle.std.specs.Prelude.{bytes_eq}
 use Rattle.std.specs.Path.{slash}
 use Rattle.std.proofs.Common.{not, ◌||◌, ◌&&◌, ◌∷◌, [], map, sym, ◌∙◌}
 use Rattle.cs_tree.specs.Cover.{begins, is_among}
-use Rattle.cs_tree.proofs.AmongLemmas.{alone_is}
+use Rattle.cs_tree.proofs.AncestorLemmas.{alone_is}
 use Rattle.cs_tree.proofs.among.is_alone.Goals as goal
 
 pub returns-then-is_below_one : goal.returns-then-is_below_one

@@ -2,7 +2,7 @@ use Rattle.std.proofs.Common.{◌||◌, ◌&&◌, ◌∷◌, [], map, sym, ◌�
 use Rattle.std.specs.List.{list_any}
 use Rattle.std.specs.Path.{slash}
 use Rattle.cs_tree.specs.Cover.{begins, is_among, is_ancestor}
-use Rattle.cs_tree.proofs.AmongLemmas.{covered_is}
+use Rattle.cs_tree.proofs.AncestorLemmas.{covered_is}
 use Rattle.cs_tree.proofs.among.is_covered.Goals as goal
 
 pub returns-then-is_listed : goal.returns-then-is_listed

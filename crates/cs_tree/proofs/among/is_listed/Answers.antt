@@ -2,7 +2,7 @@ use Rattle.std.proofs.Common.{rules, of_calls, ◌∙◌}
 use Rattle.std.proofs.lemmas.Fn.{always_returns_same}
 use Rattle.std.specs.Ordering.{nat_cmp}
 use Rattle.std.specs.Cmp.Lexicographic.{slice_cmp}
-use Rattle.cs_tree.proofs.AmongLemmas.{listed}
+use Rattle.cs_tree.proofs.AncestorLemmas.{listed}
 use Rattle.cs_tree.proofs.among.is_listed.Goals as goal
 
 pub returns : goal.returns

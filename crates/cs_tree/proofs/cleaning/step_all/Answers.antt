@@ -1,8 +1,9 @@
 use Rattle.std.proofs.Common.{rules, sym, ap, ◌∙◌}
 use Rattle.std.specs.Prelude.{reverse}
-use Rattle.cs_tree.specs.Clean.{elements, steps}
+use Rattle.std.specs.List.{fold}
+use Rattle.cs_tree.specs.Clean.{elements, with_element}
 use Rattle.cs_tree.specs.PathParts.{texts}
-use Rattle.cs_tree.proofs.Splitting.{split_says}
+use Rattle.cs_tree.proofs.SplitLemmas.{split_says}
 use Rattle.cs_tree.proofs.CleanLemmas.{on_ok, steps-one}
 use Rattle.cs_tree.proofs.cleaning.step_all.Goals as goal
 
@@ -18,4 +19,4 @@ elements-preserved c =
 pub returns : goal.returns
 returns c =
     let split = (rw c.in_default.is at (split_says c.elements.rest.now c.split_once.result c.split_once.ensures.cases)) in
-    on_ok c.step-2.result (λ is. is ∙ sym (ap (steps (reverse (texts c.elements.above.items))) split) ∙ c.elements.invariant.left) c.step-2.ensures
+    on_ok c.step-2.result (λ is. is ∙ sym (ap (fold with_element (reverse (texts c.elements.above.items))) split) ∙ c.elements.invariant.left) c.step-2.ensures

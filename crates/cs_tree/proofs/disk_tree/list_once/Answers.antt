@@ -1,6 +1,6 @@
 use Rattle.std.proofs.Common.{map}
 use Rattle.std.specs.Prelude.{string_bytes}
-use Rattle.cs_tree.proofs.Listed.{names_in_order}
+use Rattle.cs_tree.proofs.ListingLemmas.{names_in_order}
 use Rattle.cs_tree.proofs.disk_tree.list_once.Goals as goal
 
 pub returns : goal.returns

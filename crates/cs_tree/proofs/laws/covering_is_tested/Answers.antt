@@ -1,4 +1,4 @@
-use Rattle.cs_tree.proofs.Covering.{covers_says, covers_from}
+use Rattle.cs_tree.proofs.CoverLemmas.{covers_says, covers_from}
 use Rattle.cs_tree.proofs.laws.covering_is_tested.Goals as goal
 
 pub returns : goal.returns

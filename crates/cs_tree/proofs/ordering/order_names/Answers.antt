@@ -4,7 +4,7 @@ use Rattle.std.proofs.lemmas.List.Filters.{dedup_is}
 use Rattle.std.proofs.lemmas.List.Sorted.{list_any-IsPermutation}
 use Rattle.std.specs.Prelude.{string_bytes, bytes_eq}
 use Rattle.std.specs.List.{list_any}
-use Rattle.cs_tree.proofs.InOrder.{sorted_once, once_same, same_key}
+use Rattle.cs_tree.proofs.SortLemmas.{sorted_once, once_same, same_key}
 use Rattle.cs_tree.proofs.NameLemmas.{list_any-map}
 use Rattle.cs_tree.proofs.ordering.order_names.Goals as goal
 

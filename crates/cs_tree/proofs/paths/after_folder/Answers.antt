@@ -1,5 +1,5 @@
 use Rattle.std.proofs.Common.{sym, ◌∙◌}
-use Rattle.cs_tree.proofs.Splitting.{after_other}
+use Rattle.cs_tree.proofs.SplitLemmas.{after_other}
 use Rattle.cs_tree.proofs.paths.after_folder.Goals as goal
 
 pub returns : goal.returns

@@ -1,7 +1,7 @@
 use Rattle.std.specs.Prelude.{bytes_eq}
 use Rattle.std.specs.Path.{slash}
 use Rattle.std.proofs.Common.{◌||◌, ◌∷◌, [], sym, ap, ◌∙◌}
-use Rattle.cs_tree.proofs.Covering.{covers_cut}
+use Rattle.cs_tree.proofs.CoverLemmas.{covers_cut}
 use Rattle.cs_tree.proofs.paths.covers.Goals as goal
 
 pub returns-in_default : goal.returns-in_default

@@ -2,7 +2,7 @@ use Rattle.std.specs.Prelude.{bytes_eq}
 use Rattle.std.proofs.Common.{◌∷◌, ◌++◌, sym, ◌∙◌, ap}
 use Rattle.cs_tree.specs.Folders.{stem_of}
 use Rattle.std.proofs.lemmas.Bool.{ne_eqb}
-use Rattle.cs_tree.proofs.Splitting.{child_same, child_apart}
+use Rattle.cs_tree.proofs.SplitLemmas.{child_same, child_apart}
 use Rattle.cs_tree.proofs.paths.is_child.Goals as goal
 
 pub returns-then-first-eq47 : goal.returns-then-first-eq47

@@ -1,5 +1,5 @@
 use Rattle.std.proofs.Common.{sym, ◌∙◌}
-use Rattle.cs_tree.proofs.SettledLemmas.{clean_below}
+use Rattle.cs_tree.proofs.NormalizedLemmas.{clean_below}
 use Rattle.cs_tree.proofs.paths.is_clean.Goals as goal
 
 pub returns-else-eq : goal.returns-else-eq

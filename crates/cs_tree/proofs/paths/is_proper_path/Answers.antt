@@ -1,7 +1,7 @@
 use Rattle.std.specs.Path.{slash}
 use Rattle.std.proofs.Common.{rules, sym, ◌∙◌, arith}
 use Rattle.std.proofs.lemmas.Str.Pattern.{strip_prefix_char}
-use Rattle.cs_tree.proofs.Splitting.{split_says, unclean, proper_more, proper_last}
+use Rattle.cs_tree.proofs.SplitLemmas.{split_says, unclean, proper_more, proper_last}
 use Rattle.cs_tree.proofs.paths.is_proper_path.Goals as goal
 
 pub returns-in_default : goal.returns-in_default

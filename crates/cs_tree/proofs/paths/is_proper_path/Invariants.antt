@@ -6,7 +6,7 @@ use Rattle.cs_tree.specs.Clean.{elements}
 use Rattle.cs_tree.specs.Proper.{is_proper, is_proper_path}
 use Rattle.cs_tree.proofs.paths.is_proper_path.Given as goal
 
--- the path is proper exactly where each element that is left is proper
+-- the path is proper exactly if the remaining elements are proper
 abbrev pub invariant-elements : goal.invariant-elements
 invariant-elements l = record {
   text : shadow (Utf8 l.rest);

@@ -1,7 +1,7 @@
 use Rattle.std.proofs.Common.{sym, ◌∙◌}
 use Rattle.std.proofs.lemmas.Bool.{eqb-true, eq-eqb, true≢false}
-use Rattle.cs_tree.proofs.Splitting.{rsplit_says, last_element-last, parent_root, parent_front}
-use Rattle.cs_tree.proofs.SettledLemmas.{clean_by_elements}
+use Rattle.cs_tree.proofs.SplitLemmas.{rsplit_says, last_element-last, parent_root, parent_prefix}
+use Rattle.cs_tree.proofs.NormalizedLemmas.{clean_by_elements}
 use Rattle.cs_tree.proofs.paths.split_name.Goals as goal
 
 pub returns-in_default : goal.returns-in_default
@@ -15,4 +15,4 @@ returns-then-is_empty c =
 pub returns : goal.returns
 returns c =
     let split = (rw c.in-Some.is at (rsplit_says c.args.path.now c.rsplit_once.result c.rsplit_once.ensures.cases)) in
-    (parent_front _ _ _ split (λ e. true≢false (sym (eq-eqb _ 0 e) ∙ sym c.is_empty.ensures ∙ c.if-is_empty.false)), sym (last_element-last _ _ _ split))
+    (parent_prefix _ _ _ split (λ e. true≢false (sym (eq-eqb _ 0 e) ∙ sym c.is_empty.ensures ∙ c.if-is_empty.false)), sym (last_element-last _ _ _ split))

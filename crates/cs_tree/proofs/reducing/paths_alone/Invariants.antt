@@ -4,6 +4,6 @@ use Rattle.cs_tree.specs.PathParts.{texts}
 use Rattle.cs_tree.specs.Cover.{is_alone}
 use Rattle.cs_tree.proofs.reducing.paths_alone.Given as goal
 
--- of the paths so far, those that no other one covers are kept
+-- the kept paths are those of the paths so far that no other one covers
 abbrev pub invariant-loop-path : goal.invariant-loop-path
 invariant-loop-path l = map string_bytes l.kept.items ≡ filter (is_alone (texts l.ordered)) (texts (take l.path-index l.ordered))

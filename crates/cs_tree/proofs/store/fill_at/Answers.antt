@@ -1,5 +1,5 @@
 use Rattle.std.proofs.Common.{rules}
-use Rattle.cs_tree.proofs.Filling.{filled_on}
+use Rattle.cs_tree.proofs.FillLemmas.{filled_on}
 use Rattle.cs_tree.proofs.store.fill_at.Goals as goal
 
 pub reads-preserved : goal.reads-preserved
@@ -13,6 +13,6 @@ reads-preserved g c =
       size = search rules;
       failed = search rules;
       filled =
-          filled_on (g.S.Store.told c.args.store.now) (g.S.Store.told l.store) c.args.at l.filled c.in_ok-n.n _ l.buf
+          filled_on (g.S.Store.model c.args.store.now) (g.S.Store.model l.store) c.args.at l.filled c.in_ok-n.n _ l.buf
           c.read_at.new.buf l.invariant.keeps l.invariant.within (search rules) l.invariant.filled read.bytes;
     }

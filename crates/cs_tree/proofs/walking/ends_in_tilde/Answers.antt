@@ -1,6 +1,6 @@
 use Rattle.std.proofs.Common.{◌-◌, length, sym, ap, ◌∙◌}
 use Rattle.std.specs.List.{slice_get}
-use Rattle.cs_tree.proofs.NameEnds.{tilde_last, tilde_none}
+use Rattle.cs_tree.proofs.NameEndLemmas.{tilde_last, tilde_none}
 use Rattle.cs_tree.proofs.walking.ends_in_tilde.Goals as goal
 
 pub returns-in-Some : goal.returns-in-Some

@@ -1,5 +1,5 @@
 use Rattle.std.proofs.Common.{sym}
-use Rattle.cs_tree.proofs.NameEnds.{name_after}
+use Rattle.cs_tree.proofs.NameEndLemmas.{name_after}
 use Rattle.cs_tree.proofs.walking.last_element.Goals as goal
 
 pub returns-in-Some : goal.returns-in-Some

@@ -8,10 +8,10 @@ use Rattle.std.specs.Cmp.Lexicographic.{nat_list_cmp_total}
 use Rattle.std.specs.List.{list_any, dedup}
 use Rattle.std.specs.Ordering.{is_lt}
 use Rattle.std.specs.declared.alloc.Global.{Global}
-use Rattle.cs_tree.specs.Walks.{LeftPath, is_among, left_paths, left_entry}
+use Rattle.cs_tree.specs.Walks.{FaultEntry, is_among, fault_paths, fault_entry}
 use Rattle.cs_tree.specs.declared.walking.WalkFault.{WalkFault}
-use Rattle.cs_tree.proofs.InOrder.{sorted_once, once_same, same_key, by_key, kept_once}
-use Rattle.cs_tree.proofs.LeftOnce.{whole_once}
+use Rattle.cs_tree.proofs.SortLemmas.{sorted_once, once_same, same_key, by_key, kept_once}
+use Rattle.cs_tree.proofs.FaultCountLemmas.{whole_once}
 use Rattle.cs_tree.proofs.NameLemmas.{list_any-map}
 use Rattle.cs_tree.proofs.walking.order_faults.Goals as goal
 
@@ -21,7 +21,7 @@ Entry = String Global × WalkFault
 abbrev path_of : Entry → List ℕ
 path_of entry = string_bytes entry.0
 
-paths_seen : (entries : List Entry) → left_paths (map left_entry entries) ≡ map path_of entries
+paths_seen : (entries : List Entry) → fault_paths (map fault_entry entries) ≡ map path_of entries
 paths_seen [] = refl
 paths_seen (entry ∷ entries) = ap (λ paths. path_of entry ∷ paths) (paths_seen entries)
 
@@ -50,13 +50,13 @@ returns-clause-kept c =
     let sorted = c.sort_unstable_by.new.self.items in
     let once : c.dedup_by.new.self.items ≡ dedup (same_key path_of) sorted = dedup_same _ (same_key path_of) _ (λ x y b f' x' y' h. search rules) sorted _ c.dedup_by.ensures.filtered in
     λ left h.
-    kept_once left_entry (λ (x y : LeftPath). bytes_eq x.0 y.0) c.args.faults.now.items sorted left c.sort_unstable_by.ensures.permutation
-    (subst (λ entries. Contains (map left_entry entries) left) once h)
+    kept_once fault_entry (λ (x y : FaultEntry). bytes_eq x.0 y.0) c.args.faults.now.items sorted left c.sort_unstable_by.ensures.permutation
+    (subst (λ entries. Contains (map fault_entry entries) left) once h)
 
 pub returns-clause-whole : goal.returns-clause-whole
 returns-clause-whole c =
     let sorted = c.sort_unstable_by.new.self.items in
     let once : c.dedup_by.new.self.items ≡ dedup (same_key path_of) sorted = dedup_same _ (same_key path_of) _ (λ x y b f' x' y' h. search rules) sorted _ c.dedup_by.ensures.filtered in
-    λ left_once.
-    subst (λ entries. IsPermutation (map left_entry c.args.faults.now.items) (map left_entry entries)) (sym once)
-    (whole_once left_entry c.args.faults.now.items sorted c.sort_unstable_by.ensures.permutation left_once)
+    λ fault_once.
+    subst (λ entries. IsPermutation (map fault_entry c.args.faults.now.items) (map fault_entry entries)) (sym once)
+    (whole_once fault_entry c.args.faults.now.items sorted c.sort_unstable_by.ensures.permutation fault_once)

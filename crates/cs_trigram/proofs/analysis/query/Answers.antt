@@ -1,18 +1,18 @@
 use Rattle.std.proofs.Common.{sym, subst}
 use Rattle.cs_syntax.specs.Node.{tree_of}
-use Rattle.cs_trigram.specs.FiniteWords.{HasFewWords}
-use Rattle.cs_trigram.specs.PlainRuns.{IsSharp, RequiresWord}
+use Rattle.cs_trigram.specs.ExactQuery.{HasFewExactStrings, RequiresExactString}
+use Rattle.cs_trigram.specs.ExactRuns.{IsSelective}
 use Rattle.cs_trigram.proofs.NodeListLemmas.{if_ok}
 use Rattle.cs_trigram.proofs.analysis.query.Goals as goal
 
-pub returns-clause-words : goal.returns-clause-words
-returns-clause-words c =
+pub returns-clause-exact : goal.returns-clause-exact
+returns-clause-exact c =
     let is = c.tree.ensures.tree in
-    if_ok c.query_of_words.result _ _ c.query_of_words.ensures.words
-    (λ q words. λ few. subst (RequiresWord q) is (words (tree_of c.tree.result.now) c.in_ok-words.ensures.words (subst HasFewWords (sym is) few)))
+    if_ok c.query_of_exact.result _ _ c.query_of_exact.ensures.exact
+    (λ q exact. λ few. subst (RequiresExactString q) is (exact (tree_of c.tree.result.now) c.in_ok-exact.ensures.exact (subst HasFewExactStrings (sym is) few)))
 
-pub returns-clause-sharp : goal.returns-clause-sharp
-returns-clause-sharp c =
-    let known = c.in_ok-words.ensures in
-    if_ok c.query_of_words.result _ _ c.query_of_words.ensures.right
-    (λ q right. subst (IsSharp q) c.tree.ensures.tree (right (tree_of c.tree.result.now) known.words known.query).sharp)
+pub returns-clause-selective : goal.returns-clause-selective
+returns-clause-selective c =
+    let info = c.in_ok-exact.ensures in
+    if_ok c.query_of_exact.result _ _ c.query_of_exact.ensures.right
+    (λ q right. subst (IsSelective q) c.tree.ensures.tree (right (tree_of c.tree.result.now) info.exact info.query).selective)

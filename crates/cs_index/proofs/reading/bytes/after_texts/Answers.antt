@@ -1,7 +1,7 @@
 use Rattle.std.proofs.Common.{◌≡◌, ◌∙◌, ◌&&◌, ◌∷◌, [], ap, sym, true, false}
 use Rattle.std.specs.Str.{is_utf8}
 use Rattle.cs_index.specs.Opening.{is_section}
-use Rattle.cs_index.proofs.SectionReadLemmas.{section_after, not_utf8, yes_utf8}
+use Rattle.cs_index.proofs.decoding.StringScan.{section_after, not_utf8, yes_utf8}
 use Rattle.cs_index.proofs.reading.bytes.after_texts.Goals as goal
 
 pub returns-then-is_err-clause-none : goal.returns-then-is_err-clause-none

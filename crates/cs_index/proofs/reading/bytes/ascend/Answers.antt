@@ -3,7 +3,7 @@ use Rattle.cs_tree.specs.NameOrder.{bytes_cmp}
 use Rattle.cs_tree.specs.NamesAscending.{are_ascending}
 use Rattle.std.specs.Ordering.{is_ge}
 use Rattle.cs_index.specs.Opening.{texts_of}
-use Rattle.cs_index.proofs.SectionReadLemmas.{texts_after, formed_after, none_formed, below_texts, falls, climbs}
+use Rattle.cs_index.proofs.decoding.StringScan.{texts_after, formed_after, none_formed, below_texts, falls, climbs}
 use Rattle.cs_index.proofs.reading.bytes.ascend.Goals as goal
 
 pub texts-init : goal.texts-init

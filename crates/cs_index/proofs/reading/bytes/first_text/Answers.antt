@@ -1,7 +1,7 @@
 use Rattle.std.proofs.Common.{◌∙◌, ap, sym, get_or, arith, Option, None, Some}
 use Rattle.std.proofs.lemmas.Bool.{eqb-true}
 use Rattle.std.specs.Option.{IfNone}
-use Rattle.cs_index.proofs.SectionReadLemmas.{nul_first, none_left, none_ended, above_take, above_all, apart_from}
+use Rattle.cs_index.proofs.decoding.StringScan.{nul_first, none_left, none_ended, above_take, above_all, apart_from}
 use Rattle.cs_index.proofs.reading.bytes.first_text.Goals as goal
 
 any_none : {X : Type 0} {P : Type 0} (o : Option X) → P → IfNone o P

@@ -1,4 +1,4 @@
-use Rattle.cs_index.proofs.ToldLemmas.{range_push}
+use Rattle.cs_index.proofs.postings.IteratorSteps.{range_push}
 use Rattle.cs_index.proofs.reading.candidates.every_id.Goals as goal
 
 pub loop-id-preserved : goal.loop-id-preserved

@@ -7,10 +7,10 @@ use Rattle.std.specs.List.{list_all, range_with_len}
 use Rattle.cs_trigram.specs.declared.queries.Query.{Query}
 use Rattle.cs_index.specs.Candidates.{candidates_of}
 use Rattle.cs_index.specs.Answerable.{is_answerable}
-use Rattle.cs_index.proofs.ResultLemmas.{both_ok}
-use Rattle.cs_index.proofs.SiftLemmas.{ascends_range}
-use Rattle.cs_index.proofs.ToldLemmas.{fault_of}
-use Rattle.cs_index.proofs.QueryTrigramLemmas.{candidates-Tri, every_member, list_ascends, rarest_damaged, rarest_first}
+use Rattle.cs_index.proofs.common.ResultClauses.{both_ok}
+use Rattle.cs_index.proofs.candidates.Intersection.{ascends_range}
+use Rattle.cs_index.proofs.postings.IteratorSteps.{fault_of}
+use Rattle.cs_index.proofs.candidates.QueryMembers.{candidates-Tri, every_member, list_ascends, rarest_damaged, rarest_first}
 use Rattle.cs_index.proofs.reading.candidates.first_ids.Goals as goal
 
 pub returns-in-Some-clause-ids : goal.returns-in-Some-clause-ids

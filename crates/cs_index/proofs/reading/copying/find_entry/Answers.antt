@@ -1,10 +1,10 @@
 use Rattle.std.proofs.Common.{arith}
-use Rattle.cs_index.proofs.CopiesLemmas.{is_found}
-use Rattle.cs_index.proofs.OpenLemmas.{entries_rise}
+use Rattle.cs_index.proofs.stored.CopiedLists.{is_found}
+use Rattle.cs_index.proofs.decoding.IndexFields.{entries_rise}
 use Rattle.cs_index.proofs.reading.copying.find_entry.Goals as goal
 
-pub place_of-requires : goal.place_of-requires
-place_of-requires c = entries_rise c.args.room c.args.list_index.now c.requires
+pub entry_offset-requires : goal.entry_offset-requires
+entry_offset-requires c = entries_rise c.args.room c.args.list_index.now c.requires
 
 pub returns-clause-some : goal.returns-clause-some
 returns-clause-some c =

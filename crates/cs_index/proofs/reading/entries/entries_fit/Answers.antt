@@ -1,8 +1,8 @@
 use Rattle.std.proofs.Common.{◌≡◌, ◌+◌, ◌-◌, ◌/◌, ◌∙◌, ◌&&◌, ap, sym, true, ℕ, List, length, arith}
 use Rattle.std.specs.List.{list_all}
-use Rattle.cs_index.specs.Image.{ListEntry}
+use Rattle.cs_index.specs.Encoding.{ListEntry}
 use Rattle.cs_index.specs.Opening.{entries_from, entry_at, is_entry}
-use Rattle.cs_index.proofs.EntryLemmas.{in_from, one_entry}
+use Rattle.cs_index.proofs.decoding.EntryTables.{in_from, one_entry}
 use Rattle.cs_index.proofs.reading.entries.entries_fit.Goals as goal
 
 pub entries-init : goal.entries-init

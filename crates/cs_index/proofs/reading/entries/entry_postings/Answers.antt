@@ -2,7 +2,7 @@ use Rattle.std.proofs.Common.{◌≡◌, ◌≤◌, ◌<◌, ◌+◌, ◌∙◌,
 use Rattle.cs_index.specs.PostingLists.{read_ids}
 use Rattle.std.proofs.lemmas.List.{take_rest}
 use Rattle.cs_index.specs.Opening.{number_at, trigram_at}
-use Rattle.cs_index.proofs.ListReadLemmas.{list_short, list_other, list_there}
+use Rattle.cs_index.proofs.postings.ListAtEntry.{list_short, list_other, list_there}
 use Rattle.cs_index.proofs.reading.entries.entry_postings.Goals as goal
 
 pub returns-then-postings-offset : goal.returns-then-postings-offset

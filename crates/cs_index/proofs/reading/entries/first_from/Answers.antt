@@ -1,9 +1,9 @@
 use Rattle.std.proofs.Common.{◌≡◌, ◌≤◌, ◌<◌, ◌+◌, ◌-◌, ◌*◌, ◌/◌, subst, true, ℕ, List, length, arith}
 use Rattle.cs_index.specs.Opening.{entries_from, rises, trigram_at}
-use Rattle.cs_index.proofs.EntryLemmas.{rise_to, rises_in}
+use Rattle.cs_index.proofs.decoding.EntryTables.{rise_to, rises_in}
 use Rattle.cs_index.proofs.reading.entries.first_from.Goals as goal
 
--- what stands before a low trigram, and behind a high one
+-- the entries before a lower trigram, and after a higher one
 before : (bytes : List ℕ) (n middle g k : ℕ) → n ≡ length bytes / 11 → rises (entries_from bytes 0 (length bytes / 11)) ≡ true → middle < n → trigram_at bytes (11 * middle) < g → k < middle + 1 → trigram_at bytes (11 * k) < g
 before bytes n middle g k at up h less l =
     let order = rise_to bytes (length bytes / 11) k middle up (omega (arith, l)) (omega (arith, h, at)) in

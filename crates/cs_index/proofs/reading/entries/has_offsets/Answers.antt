@@ -1,11 +1,11 @@
 use Rattle.std.specs.Prelude.{bytes_eq}
 use Rattle.std.proofs.Common.{◌≡◌, ◌+◌, ◌*◌, ◌&&◌, eqb, ◌∙◌, ◌++◌, ap, sym, ℕ, List, length, map, arith, length-append}
 use Rattle.std.proofs.lemmas.List.{length_push}
-use Rattle.cs_index.specs.Image.{with_nul, starts_from}
+use Rattle.cs_index.specs.Encoding.{with_nul, starts_from}
 use Rattle.cs_index.specs.Opening.{is_name_index, numbers_from, texts_of}
-use Rattle.cs_index.specs.SectionsRead.{has_starts}
-use Rattle.cs_index.proofs.SectionReadLemmas.{texts_after, formed_after, none_formed}
-use Rattle.cs_index.proofs.EntryLemmas.{offsets_short, offsets_wrong, offsets_step, offsets_end}
+use Rattle.cs_index.specs.ValidSections.{has_starts}
+use Rattle.cs_index.proofs.decoding.StringScan.{texts_after, formed_after, none_formed}
+use Rattle.cs_index.proofs.decoding.EntryTables.{offsets_short, offsets_wrong, offsets_step, offsets_end}
 use Rattle.cs_index.proofs.reading.entries.has_offsets.Goals as goal
 
 pub names-init : goal.names-init

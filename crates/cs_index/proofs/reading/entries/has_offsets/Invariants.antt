@@ -1,6 +1,6 @@
 use Rattle.std.proofs.Common.{◌≡◌, ◌≤◌, ◌+◌, ◌||◌, ◌∷◌, [], true, length}
 use Rattle.cs_index.specs.Opening.{is_name_index, is_section, texts_of}
-use Rattle.cs_index.specs.SectionsRead.{has_starts}
+use Rattle.cs_index.specs.ValidSections.{has_starts}
 use Rattle.cs_index.proofs.reading.entries.has_offsets.Given as goal
 
 abbrev pub invariant-names : goal.invariant-names

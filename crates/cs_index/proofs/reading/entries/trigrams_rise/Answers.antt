@@ -1,13 +1,13 @@
 use Rattle.std.proofs.Common.{◌≡◌, ◌≤◌, ◌+◌, ◌-◌, ◌/◌, ◌∙◌, ◌&&◌, ap, sym, true, false, ltb, ℕ, List, length, arith}
 use Rattle.std.proofs.lemmas.Bool.{lt-ltb, le-ltb}
 use Rattle.cs_index.specs.Opening.{entries_from, rises, trigram_at}
-use Rattle.cs_index.proofs.EntryLemmas.{in_from, one_entry, two_entries}
+use Rattle.cs_index.proofs.decoding.EntryTables.{in_from, one_entry, two_entries}
 use Rattle.cs_index.proofs.reading.entries.trigrams_rise.Goals as goal
 
 pub entries-init : goal.entries-init
 entries-init c = record { within = omega arith; left = ap rises (in_from c.args.list_index.now) }
 
--- the first two of the entries that are left
+-- the first two of the remaining entries
 first_two : (bytes : List ℕ) (at : ℕ) → 22 ≤ length bytes - at → rises (entries_from bytes at ((length bytes - at) / 11)) ≡ (ltb (trigram_at bytes at) (trigram_at bytes (at + 11)) && rises (entries_from bytes (at + 11) ((length bytes - (at + 11)) / 11)))
 first_two bytes at h =
     ap (λ n. rises (entries_from bytes at n)) (two_entries (length bytes) at h)

@@ -1,7 +1,7 @@
 use Rattle.std.proofs.Common.{◌≡◌, ◌<◌, ◌+◌, ◌∙◌, ◌∷◌, ◌||◌, ap, sym, subst, List, ℕ, suc, false, true, length, get_or, drop, length-set, drop-cons, arith}
 use Rattle.cs_trigram.specs.Trigram.{has}
 use Rattle.std.specs.List.{AllByRecursion}
-use Rattle.cs_index.proofs.ToldLemmas.{mark_step}
+use Rattle.cs_index.proofs.postings.IteratorSteps.{mark_step}
 use Rattle.cs_index.proofs.reading.id_marks.mark_ids.Goals as goal
 
 pub loop-id-preserved : goal.loop-id-preserved

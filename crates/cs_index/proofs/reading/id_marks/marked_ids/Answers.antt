@@ -1,7 +1,7 @@
 use Rattle.std.proofs.Common.{◌∙◌, ◌∷◌, ◌++◌, [], ap, sym, false, cond, List, ℕ, length, get_or, Bool, Vec, Global}
 use Rattle.std.specs.Prelude.{filter}
 use Rattle.std.specs.List.{range_with_len}
-use Rattle.cs_index.proofs.ToldLemmas.{marked_step}
+use Rattle.cs_index.proofs.postings.IteratorSteps.{marked_step}
 use Rattle.cs_index.proofs.reading.id_marks.marked_ids.Goals as goal
 use Rattle.cs_index.proofs.reading.id_marks.marked_ids.Goals.{then-is_marked+in_ok-push, else-is_marked}
 

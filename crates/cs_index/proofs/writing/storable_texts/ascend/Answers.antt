@@ -1,5 +1,5 @@
 use Rattle.std.proofs.Common.{◌∙◌}
-use Rattle.cs_index.proofs.PathOrderLemmas.{last_up}
+use Rattle.cs_index.proofs.names.ReducedPaths.{last_up}
 use Rattle.cs_index.proofs.writing.storable_texts.ascend.Goals as goal
 
 pub returns : goal.returns

@@ -2,7 +2,7 @@ use Rattle.std.proofs.Common.{◌≡◌, ◌≤◌, ◌-◌, length, map, drop, 
 use Rattle.cs_tree.specs.NamesAscending.{are_ascending}
 use Rattle.cs_index.proofs.writing.storable_texts.ascend.Given as goal
 
--- the paths rise where those from the last one that was looked at do
+-- all paths are ascending exactly if those from the last one on are
 abbrev pub invariant-paths : goal.invariant-paths
 invariant-paths l = record {
   some : 1 ≤ l.at;

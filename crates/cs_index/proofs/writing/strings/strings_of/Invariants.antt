@@ -1,5 +1,5 @@
 use Rattle.std.proofs.Common.{◌≡◌, ◌++◌, map, drop, string_bytes, true}
-use Rattle.cs_index.specs.Image.{IsString}
+use Rattle.cs_index.specs.Encoding.{IsString}
 use Rattle.std.specs.List.{AllByRecursion, list_all}
 use Rattle.cs_index.specs.Built.{is_storable}
 use Rattle.cs_index.proofs.writing.strings.strings_of.Given as goal

@@ -1,5 +1,5 @@
 use Rattle.std.proofs.Common.{◌∙◌, ◌++◌, ap, sym}
-use Rattle.cs_index.proofs.StreamLemmas.{short_varint}
+use Rattle.cs_index.proofs.postings.StreamPush.{short_varint}
 use Rattle.cs_index.proofs.writing.varint.push_varint.Goals as goal
 
 pub returns-then-n-lt128-clause-ok : goal.returns-then-n-lt128-clause-ok

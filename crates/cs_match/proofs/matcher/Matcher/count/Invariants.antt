@@ -1,13 +1,13 @@
 use Rattle.std.proofs.Common.{◌-◌, ◌≡◌, length}
-use Rattle.cs_match.specs.Finding.{Decides}
-use Rattle.cs_match.specs.Counting.{CountsHits}
+use Rattle.cs_match.specs.Deciding.{Decides}
+use Rattle.cs_match.specs.Counting.{CountsMatchingLines}
 use Rattle.cs_match.proofs.matcher.Matcher.count.Given as goal
 
 abbrev pub invariant-lines : goal.invariant-lines
 invariant-lines l = record {
-  counted : CountsHits (λ finds. Decides finds l.fn.self.tree) l.block 0 l.at l.hits;
+  counted : CountsMatchingLines (λ has_match. Decides has_match l.fn.self.tree) l.block 0 l.offset l.matching_lines;
   same : l.self.tree ≡ l.fn.self.tree;
 }
 
 abbrev pub decreases-lines : goal.decreases-lines
-decreases-lines l = length l.block - l.at
+decreases-lines l = length l.block - l.offset

@@ -1,27 +1,30 @@
-use Rattle.std.proofs.Common.{◌≡◌, ◌+◌, ℕ, Bool, List, subst, arith}
-use Rattle.cs_syntax.specs.Matching.{Tree}
-use Rattle.cs_match.specs.Finding.{Decides}
-use Rattle.cs_match.specs.Counting.{CountsHits}
-use Rattle.cs_match.proofs.CountingLemmas.{counted_passed, counted_append}
-use Rattle.cs_match.proofs.WholeLemmas.{whole_from}
+use Rattle.std.proofs.Common.{◌+◌, ℕ, Bool, List, true, length, subst, sym, arith}
+use Rattle.std.proofs.lemmas.List.{take_rest}
+use Rattle.cs_match.specs.Deciding.{Decides}
+use Rattle.cs_match.specs.Lines.{terminated_lines}
+use Rattle.cs_match.specs.Skipping.{NoneMatch}
+use Rattle.cs_match.proofs.CountingLemmas.{counted_skipped, counted_append, counted_line}
+use Rattle.cs_match.proofs.WholeLineLemmas.{whole_rest}
 use Rattle.cs_match.proofs.matcher.Matcher.count_next.Goals as goal
 
-pub returns-then-at-block-clause-counted : goal.returns-then-at-block-clause-counted
-returns-then-at-block-clause-counted c =
-    let e = c.skip-at.ensures in
-    counted_passed (λ finds. Decides finds c.args.self.now.tree) c.args.block.now c.args.from c.skip-at.result (record { lines = record { low = e.low; high = e.high; whole = e.whole }; none = e.none })
-
-pub count_lines-counted-requires-clause-whole : goal.count_lines-counted-requires-clause-whole
-count_lines-counted-requires-clause-whole c = whole_from c.args.block.now c.args.from c.skip-at.result c.skip-at.ensures.low c.requires.whole
-
-pub returns-clause-counted : goal.returns-clause-counted
-returns-clause-counted c =
-    let e = c.skip-at.ensures in
-    let kind = λ (finds : List ℕ → Bool). Decides finds c.args.self.now.tree in
+pub returns-in-Some-clause-counted : goal.returns-in-Some-clause-counted
+returns-in-Some-clause-counted c =
+    let e = c.in-Some.ensures in
+    let l = e.line in
+    let kind = λ (has_match : List ℕ → Bool). Decides has_match c.args.self.now.tree in
     let block = c.args.block.now in
-    let at = c.skip-at.result in
-    let line = c.count_lines-counted.result in
-    let passed = counted_passed kind block c.args.from at (record { lines = record { low = e.low; high = e.high; whole = e.whole }; none = e.none }) in
-    let behind = subst (λ (tree : Tree). CountsHits (λ finds. Decides finds tree) block at line.to line.hits) e.same c.count_lines-counted.ensures.counted in
-    let number : 0 + line.hits ≡ line.hits = omega arith in
-    subst (CountsHits kind block c.args.from line.to) number (counted_append kind block c.args.from at line.to 0 line.hits passed behind)
+    let line = c.in-Some.line in
+    counted_append kind block c.args.from line.start (line.end + 1) 0 1
+    (counted_skipped kind block c.args.from line.start (record { lines = record { low = l.low; high = omega (arith, l.order, l.high); whole = l.before }; none = e.none }))
+    (counted_line kind block line.start line.end true l.order l.high l.part l.newline (λ has_match decides. (decides _).1 e.found))
+
+pub returns-in-None-clause-counted : goal.returns-in-None-clause-counted
+returns-in-None-clause-counted c =
+    let kind = λ (has_match : List ℕ → Bool). Decides has_match c.args.self.now.tree in
+    let block = c.args.block.now in
+    let from = c.args.from in
+    counted_skipped kind block from (length block)
+    (record {
+      lines = record { low = omega (arith, c.requires.within); high = omega arith; whole = whole_rest block from c.requires.whole };
+      none = λ has_match decides. subst (λ text. NoneMatch has_match (terminated_lines text)) (sym (take_rest block from)) (c.in-None.ensures.none has_match decides);
+    })

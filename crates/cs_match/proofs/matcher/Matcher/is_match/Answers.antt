@@ -6,4 +6,4 @@ use Rattle.cs_match.proofs.matcher.Matcher.is_match.Goals as goal
 
 pub returns-clause-found : goal.returns-clause-found
 returns-clause-found c =
-    subst (λ (a : Automaton). IsTrue c.is_match-found.result ↔ HasMatch a.tree c.args.line.now) c.self.view_is c.is_match-found.ensures.found
+    subst (λ (a : Automaton). IsTrue c.is_match.result ↔ HasMatch a.tree c.args.line.now) c.self.view_is c.is_match.ensures.found

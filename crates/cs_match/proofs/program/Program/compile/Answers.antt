@@ -1,24 +1,24 @@
 use Rattle.std.proofs.Common.{◌≡◌, ◌↔◌, sym, ◌∙◌, ap, subst, arith}
 use Rattle.cs_syntax.specs.Matching.{Tree, HasMatch}
 use Rattle.cs_syntax.specs.Node.{tree_of}
-use Rattle.cs_match.specs.Places.{IsLooped}
+use Rattle.cs_match.specs.Glushkov.{IsExpanded}
 use Rattle.cs_match.specs.Size.{FitsWeight}
 use Rattle.cs_match.specs.Expansion.{expansion}
-use Rattle.cs_match.proofs.PlaceCountLemmas.{places_light, repeats_light}
-use Rattle.cs_match.proofs.ExpansionLemmas.{expansion_found, is_looped}
+use Rattle.cs_match.proofs.PositionCountLemmas.{positions_light, repeats_light}
+use Rattle.cs_match.proofs.ExpansionLemmas.{expansion_matches, is_expanded}
 use Rattle.cs_match.proofs.program.Program.compile.Goals as goal
 
 pub invariant_of-result : goal.invariant_of-result
 invariant_of-result c =
-    ((c.count-count.ensures, c.count_repeats-repeats.ensures, subst IsLooped (sym c.in_ok-root.ensures) (is_looped (tree_of c.tree.result.now))), c.in_ok-needle.ensures, c.in_ok-sieve.ensures, c.in_ok-shifts.ensures)
+    ((c.count-count.ensures, c.count_repeats-repeats.ensures, subst IsExpanded (sym c.in_ok-root.ensures) (is_expanded (tree_of c.tree.result.now))), c.in_ok-literal.ensures, c.in_ok-prefilter.ensures, c.in_ok-bits.ensures)
 
 pub returns-clause-alike : goal.returns-clause-alike
 returns-clause-alike c = λ line.
     let same : tree_of c.in_ok-root.root ≡ expansion c.args.pattern.now = c.in_ok-root.ensures ∙ ap expansion c.tree.ensures.tree in
-    subst (λ (t : Tree). HasMatch t line ↔ HasMatch c.args.pattern.now line) (sym same) (expansion_found c.args.pattern.now line)
+    subst (λ (t : Tree). HasMatch t line ↔ HasMatch c.args.pattern.now line) (sym same) (expansion_matches c.args.pattern.now line)
 
 pub count-count-requires : goal.count-count-requires
-count-count-requires c = rw c.in_ok-root.ensures (omega (arith, places_light (tree_of c.tree.result.now)))
+count-count-requires c = rw c.in_ok-root.ensures (omega (arith, positions_light (tree_of c.tree.result.now)))
 
 pub count_repeats-repeats-requires : goal.count_repeats-repeats-requires
 count_repeats-repeats-requires c = rw c.in_ok-root.ensures (omega (arith, repeats_light (tree_of c.tree.result.now)))
@@ -26,4 +26,4 @@ count_repeats-repeats-requires c = rw c.in_ok-root.ensures (omega (arith, repeat
 pub returns-clause-small : goal.returns-clause-small
 returns-clause-small c =
     let same : tree_of c.in_ok-root.root ≡ expansion c.args.pattern.now = c.in_ok-root.ensures ∙ ap expansion c.tree.ensures.tree in
-    subst (λ (t : Tree). FitsWeight t c.args.pattern.now) (sym same) (places_light c.args.pattern.now)
+    subst (λ (t : Tree). FitsWeight t c.args.pattern.now) (sym same) (positions_light c.args.pattern.now)

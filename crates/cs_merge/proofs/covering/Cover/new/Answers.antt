@@ -5,7 +5,7 @@ use Rattle.cs_tree.specs.NamesAscending.{are_ascending}
 use Rattle.cs_tree.specs.PathParts.{texts}
 use Rattle.cs_tree.specs.PathSet as set
 use Rattle.cs_tree.proofs.ReduceLemmas.{ordered_items, items_ascend}
-use Rattle.cs_merge.proofs.HoldingLemmas.{set_of_items}
+use Rattle.cs_merge.proofs.DecodedContentLemmas.{set_of_items}
 use Rattle.cs_merge.proofs.covering.Cover.new.Goals as goal
 
 pub invariant_of-result : goal.invariant_of-result

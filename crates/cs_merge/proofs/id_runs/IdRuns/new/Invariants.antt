@@ -1,10 +1,10 @@
 use Rattle.std.proofs.Common.{◌≡◌, length}
-use Rattle.cs_merge.specs.Renumbering.{AreEndsOfMoves, MoveTogether}
+use Rattle.cs_merge.specs.IdMap.{AreRunEnds, IsRun}
 use Rattle.cs_merge.proofs.id_runs.IdRuns.new.Given as goal
 
 abbrev pub invariant-ids : goal.invariant-ids
 invariant-ids l = record {
   long : length l.ends.items ≡ l.id;
-  are : AreEndsOfMoves l.new_ids l.ends.items;
-  together : MoveTogether l.new_ids l.id l.end;
+  are : AreRunEnds l.new_ids l.ends.items;
+  together : IsRun l.new_ids l.id l.end;
 }

@@ -1,6 +1,6 @@
 use Rattle.std.proofs.Common.{◌≡◌, Some, sym, ◌∙◌, arith}
-use Rattle.cs_merge.specs.Renumbering.{new_id}
-use Rattle.cs_merge.proofs.PartLemmas.{is_new_id, moved_from}
+use Rattle.cs_merge.specs.IdMap.{new_id}
+use Rattle.cs_merge.proofs.SortedRunLemmas.{is_new_id, moved_from}
 use Rattle.cs_merge.proofs.id_runs.IdRuns.new_end.Goals as goal
 
 pub returns : goal.returns

@@ -1,7 +1,7 @@
 use Rattle.std.proofs.Common.{◌++◌, ◌-◌, ◌+◌, take, drop, ap, sym, subst, ◌∙◌, arith, length-take, length-drop}
-use Rattle.cs_tree.specs.Transfers.{Loses}
+use Rattle.cs_tree.specs.Transfers.{Consumes}
 use Rattle.cs_search.specs.Buffer.{pending_bytes}
-use Rattle.cs_index.proofs.ResultLemmas.{any_err}
+use Rattle.cs_index.proofs.common.ResultClauses.{any_err}
 use Rattle.cs_search.proofs.BufferLemmas.{refilled, pending_same, pending_more, GrowsBy-append, gained}
 use Rattle.cs_search.proofs.buffer.LineBuffer.fill.Goals as goal
 
@@ -30,9 +30,9 @@ returns-clause-gains g c =
     ∙ ap (λ l. l ++ take n (drop buffer.end bytes)) c.in_ok-make_room.ensures.same)
     (omega (arith, length-take n (drop buffer.end bytes), length-drop buffer.end bytes, c.in_ok-n.ensures.size))
 
-pub returns-clause-told : goal.returns-clause-told
+pub returns-clause-model : goal.returns-clause-model
 unfolding pending_bytes
-returns-clause-told g c =
+returns-clause-model g c =
     let buffer = c.make_room.new.self in
     let bytes = c.read_behind.new.bytes in
     let n = c.in_ok-n.n in
@@ -42,6 +42,6 @@ returns-clause-told g c =
     ap (λ l. take (buffer.end + n - buffer.start) (drop buffer.start l)) (refilled buffer.bytes.len buffer.bytes.items bytes size)
     ∙ pending_more buffer bytes before n
     ∙ ap (λ l. l ++ take n (drop buffer.end bytes)) c.in_ok-make_room.ensures.same) in (
-      subst (Loses (g.R.Source.told c.args.input.now) (g.R.Source.told c.read_behind.new.input)) (sym e) c.in_ok-n.ensures.told.0,
-      λ none. c.in_ok-n.ensures.told.1 none (omega (arith, length-drop buffer.end bytes, c.in_ok-make_room.ensures.room, size)),
+      subst (Consumes (g.R.Source.model c.args.input.now) (g.R.Source.model c.read_behind.new.input)) (sym e) c.in_ok-n.ensures.model.0,
+      λ none. c.in_ok-n.ensures.model.1 none (omega (arith, length-drop buffer.end bytes, c.in_ok-make_room.ensures.room, size)),
     )

@@ -1,6 +1,6 @@
 use Rattle.std.proofs.Common.{subst}
 use Rattle.std.proofs.lemmas.Result.{err_from_is_err_and}
-use Rattle.cs_syntax.specs.Refusal.{IsRefused}
+use Rattle.cs_syntax.specs.ParseErrors.{IsParseError}
 use Rattle.std.specs.Prelude.{string_bytes}
 use Rattle.cs_search.proofs.CsearchLemmas.{pattern_first, reads_job, right_query}
 use Rattle.cs_search.proofs.plan.Plan.new.Goals as goal
@@ -10,7 +10,7 @@ returns-in_err-pattern-clause-refused c =
     let p = err_from_is_err_and c.from_residual.result c.from_residual.ensures.1 in
     let job = c.args.job.now in
     let error = c.in_err-pattern.field-0.0 in
-    rw (p.1, p.2) (λ index. pattern_first job index error (subst (λ text. IsRefused text job.fold error) c.as_str.ensures.value c.in_err-pattern.ensures.refused))
+    rw (p.1, p.2) (λ index. pattern_first job index error (subst (λ text. IsParseError text job.fold error) c.as_str.ensures.value c.in_err-pattern.ensures.rejected))
 
 pub returns-clause-plan : goal.returns-clause-plan
 returns-clause-plan c =

@@ -4,7 +4,7 @@ use Rattle.std.proofs.lemmas.List.{get_or-replicate}
 use Rattle.std.proofs.lemmas.List.Elements.{All-replicate}
 use Rattle.std.proofs.lemmas.Nat.Bits.{bit_at_ones}
 use Rattle.cs_syntax.specs.ByteSet.{all_bytes}
-use Rattle.cs_syntax.proofs.SetWordLemmas.{set_of_words, set_words-set_of_bits}
+use Rattle.cs_syntax.proofs.ByteSetWordLemmas.{set_of_words, set_words-set_of_bits}
 use Rattle.cs_syntax.proofs.byte_set.ByteSet.all.Goals as goal
 
 pub invariant_of-result : goal.invariant_of-result

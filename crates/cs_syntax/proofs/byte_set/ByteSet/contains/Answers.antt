@@ -1,7 +1,7 @@
 use Rattle.std.proofs.Common.{◌%◌, eqb, ◌∙◌, ap, sym}
 use Rattle.std.proofs.lemmas.Nat.Bits.{shr_and_one}
 use Rattle.cs_syntax.specs.Matching.{member}
-use Rattle.cs_syntax.proofs.SetWordLemmas.{set_of_bits_at}
+use Rattle.cs_syntax.proofs.ByteSetWordLemmas.{set_of_bits_at}
 use Rattle.cs_syntax.proofs.byte_set.ByteSet.contains.Goals as goal
 
 pub returns : goal.returns

@@ -1,6 +1,6 @@
 use Rattle.std.proofs.Common.{length, ◌∙◌, ap, sym}
 use Rattle.cs_syntax.specs.Members.{count}
-use Rattle.cs_syntax.proofs.SetWordLemmas.{length-set_of_bits, ones_count}
+use Rattle.cs_syntax.proofs.ByteSetWordLemmas.{length-set_of_bits, ones_count}
 use Rattle.cs_syntax.proofs.byte_set.ByteSet.len.Goals as goal
 
 pub returns-clause-members : goal.returns-clause-members

@@ -1,5 +1,5 @@
 use Rattle.std.proofs.Common.{arith}
-use Rattle.cs_syntax.proofs.SetWordLemmas.{set_words-set_of_bits, answers_begin, answered_no, answered_yes, answered_all}
+use Rattle.cs_syntax.proofs.ByteSetWordLemmas.{set_words-set_of_bits, answers_begin, answered_no, answered_yes, answered_all}
 use Rattle.cs_syntax.proofs.byte_set.ByteSet.of.Goals as goal
 use Rattle.cs_syntax.proofs.byte_set.ByteSet.of.Goals.{then-test, else-test}
 

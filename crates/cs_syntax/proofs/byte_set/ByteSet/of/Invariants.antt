@@ -1,4 +1,4 @@
-use Rattle.cs_syntax.proofs.SetWordLemmas.{HaveAnswers}
+use Rattle.cs_syntax.proofs.ByteSetWordLemmas.{HaveAnswers}
 use Rattle.cs_syntax.proofs.byte_set.ByteSet.of.Given as goal
 
 abbrev pub invariant-loop-b : goal.invariant-loop-b

@@ -2,7 +2,7 @@ use Rattle.std.proofs.Common.{◌≡◌, ◌+◌, ◌*◌, ◌^◌, ◌<◌, ℕ
 use Rattle.std.specs.Int.{bit_at}
 use Rattle.std.proofs.lemmas.List.Elements.{All-from_get_or}
 use Rattle.cs_syntax.specs.Ranges.{is_in_ranges}
-use Rattle.cs_syntax.proofs.SetWordLemmas.{set_words-set_of_bits, set_of_words, by_four}
+use Rattle.cs_syntax.proofs.ByteSetWordLemmas.{set_words-set_of_bits, set_of_words, by_four}
 use Rattle.cs_syntax.proofs.byte_set.ByteSet.of_range.Goals as goal
 
 pub invariant_of-result : goal.invariant_of-result

@@ -1,7 +1,7 @@
 use Rattle.std.proofs.Common.{false, ◌&&◌, sym, ap, ◌∙◌}
 use Rattle.std.specs.Bool.{xor}
 use Rattle.cs_syntax.specs.Characters.{is_scalar}
-use Rattle.cs_syntax.proofs.CharRunLemmas.{runs_of_is, others_of, xor-false}
+use Rattle.cs_syntax.proofs.CharRangeLemmas.{canonical_ranges_unique, others_of, xor-false}
 use Rattle.cs_syntax.proofs.char_set.CharSet.of_ranges.Goals as goal
 
 pub returns-then-negated : goal.returns-then-negated
@@ -10,5 +10,5 @@ returns-then-negated c =
 
 pub returns-else-negated : goal.returns-else-negated
 returns-else-negated c = λ test have.
-    rw c.if-negated.false (runs_of_is (λ x. xor false (test x)) c.in_ok-set.set c.in_ok-set.ensures.maximal
+    rw c.if-negated.false (canonical_ranges_unique (λ x. xor false (test x)) c.in_ok-set.set c.in_ok-set.ensures.maximal
     (λ x. c.in_ok-set.ensures.members x ∙ have x ∙ ap (λ b. is_scalar x && b) (sym (xor-false (test x)))))

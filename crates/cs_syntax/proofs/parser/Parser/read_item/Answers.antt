@@ -1,65 +1,65 @@
 use Rattle.std.proofs.Common.{◌≡◌, inl, inr, ◌+◌, ◌-◌, ◌∷◌, suc, take, drop, get_or, true≢false, sym, ◌∙◌, ap, rules}
-use Rattle.cs_syntax.specs.Fronts.{item, fault}
-use Rattle.cs_syntax.specs.Items.{front}
+use Rattle.cs_syntax.specs.Tokens.{item, fault}
+use Rattle.cs_syntax.specs.Items.{next_token}
 use Rattle.cs_syntax.specs.ItemViews.{item_view}
-use Rattle.cs_syntax.specs.ParserState.{state_of, reading_on, IsRefusal}
-use Rattle.cs_syntax.proofs.ListLemmas.{here_is, tail_is, own_text, behind_item}
-use Rattle.cs_syntax.proofs.ItemLemmas.{reading_on-skip, goes_on-reads, fault-reads, still-operand, stop_is_refusal}
+use Rattle.cs_syntax.specs.ParserState.{state_of, parse_from_state, IsErrorOf}
+use Rattle.cs_syntax.proofs.ListLemmas.{here_is, tail_is, lexeme_is, suffix_after_item}
+use Rattle.cs_syntax.proofs.ParserStepLemmas.{parse_from_state-skip, goes_on-reads, fault-reads, still-operand, stop_is_error}
 use Rattle.cs_syntax.proofs.parser.Parser.read_item.Goals as goal
 
-pub returns-in_ok-take-in-Ok-clause-same : goal.returns-in_ok-take-in-Ok-clause-same
+pub returns-in_ok-apply-in-Ok-clause-same : goal.returns-in_ok-apply-in-Ok-clause-same
 unfolding state_of
-returns-in_ok-take-in-Ok-clause-same c =
+returns-in_ok-apply-in-Ok-clause-same c =
     let text = c.args.text.now in
-    let at = c.args.at in
+    let offset = c.args.offset in
     let len = c.in-Ok.len in
-    let b = get_or text at 0 in
+    let b = get_or text offset 0 in
     let s = state_of c.args.self.now in
-    let new = state_of c.take.new.self in
-    let tail = tail_is text (at + 1) in
-    let own = take (at + 1 + len - at) (drop at text) in
-    let found : front s.flags b (drop (at + 1) text) ≡ item (item_view own c.in-Ok.item) len =
-    ap (front s.flags b) (sym tail) ∙ c.in-Ok.ensures.value
+    let new = state_of c.apply.new.self in
+    let tail = tail_is text (offset + 1) in
+    let lexeme = take (offset + 1 + len - offset) (drop offset text) in
+    let found : next_token s.flags b (drop (offset + 1) text) ≡ item (item_view lexeme c.in-Ok.item) len =
+    ap (next_token s.flags b) (sym tail) ∙ c.in-Ok.ensures.value
     ∙ ap (λ t. item (item_view (take (suc len) (b ∷ t)) c.in-Ok.item) len) tail
-    ∙ ap (λ o. item (item_view o c.in-Ok.item) len) (sym (own_text text at len c.requires.inside)) in
-    ap (reading_on new 0 (at + 1 + len)) (sym (behind_item text at len))
-    ∙ sym (reading_on-skip new len (at + 1) (drop (at + 1) text))
-    ∙ goes_on-reads len at b (drop (at + 1) text) (item_view own c.in-Ok.item) s new c.requires.kept found c.in_ok-take-in-Ok.ensures.goes_on
-    ∙ ap (reading_on s 0 at) (sym (here_is text at c.requires.inside))
+    ∙ ap (λ o. item (item_view o c.in-Ok.item) len) (sym (lexeme_is text offset len c.requires.inside)) in
+    ap (parse_from_state new 0 (offset + 1 + len)) (sym (suffix_after_item text offset len))
+    ∙ sym (parse_from_state-skip new len (offset + 1) (drop (offset + 1) text))
+    ∙ goes_on-reads len offset b (drop (offset + 1) text) (item_view lexeme c.in-Ok.item) s new c.requires.kept found c.in_ok-apply-in-Ok.ensures.goes_on
+    ∙ ap (parse_from_state s 0 offset) (sym (here_is text offset c.requires.inside))
 
-pub returns-in_ok-take-in-Ok-clause-still : goal.returns-in_ok-take-in-Ok-clause-still
-returns-in_ok-take-in-Ok-clause-still c =
-    still-operand (item_view _ c.in-Ok.item) c.args.at (state_of c.args.self.now) (state_of c.take.new.self) c.in_ok-take-in-Ok.ensures.goes_on
+pub returns-in_ok-apply-in-Ok-clause-still : goal.returns-in_ok-apply-in-Ok-clause-still
+returns-in_ok-apply-in-Ok-clause-still c =
+    still-operand (item_view _ c.in-Ok.item) c.args.offset (state_of c.args.self.now) (state_of c.apply.new.self) c.in_ok-apply-in-Ok.ensures.goes_on
 
-pub returns-in_err-take-in-Ok-clause-refused : goal.returns-in_err-take-in-Ok-clause-refused
+pub returns-in_err-apply-in-Ok-clause-rejected : goal.returns-in_err-apply-in-Ok-clause-rejected
 unfolding state_of
-returns-in_err-take-in-Ok-clause-refused c =
+returns-in_err-apply-in-Ok-clause-rejected c =
     let text = c.args.text.now in
-    let at = c.args.at in
+    let offset = c.args.offset in
     let len = c.in-Ok.len in
-    let b = get_or text at 0 in
+    let b = get_or text offset 0 in
     let s = state_of c.args.self.now in
-    let tail = tail_is text (at + 1) in
-    let own = take (at + 1 + len - at) (drop at text) in
-    let found : front s.flags b (drop (at + 1) text) ≡ item (item_view own c.in-Ok.item) len =
-    ap (front s.flags b) (sym tail) ∙ c.in-Ok.ensures.value
+    let tail = tail_is text (offset + 1) in
+    let lexeme = take (offset + 1 + len - offset) (drop offset text) in
+    let found : next_token s.flags b (drop (offset + 1) text) ≡ item (item_view lexeme c.in-Ok.item) len =
+    ap (next_token s.flags b) (sym tail) ∙ c.in-Ok.ensures.value
     ∙ ap (λ t. item (item_view (take (suc len) (b ∷ t)) c.in-Ok.item) len) tail
-    ∙ ap (λ o. item (item_view o c.in-Ok.item) len) (sym (own_text text at len c.requires.inside)) in
-    let is : IsRefusal (reading_on s 0 at (drop at text)) c.in_err-take-in-Ok.field-0.0 =
-    stop_is_refusal (item_view own c.in-Ok.item) s at b len text (drop (at + 1) text) c.in_err-take-in-Ok.field-0.0 (here_is text at c.requires.inside) found c.in_err-take-in-Ok.ensures.refused in
+    ∙ ap (λ o. item (item_view o c.in-Ok.item) len) (sym (lexeme_is text offset len c.requires.inside)) in
+    let is : IsErrorOf (parse_from_state s 0 offset (drop offset text)) c.in_err-apply-in-Ok.field-0.0 =
+    stop_is_error (item_view lexeme c.in-Ok.item) s offset b len text (drop (offset + 1) text) c.in_err-apply-in-Ok.field-0.0 (here_is text offset c.requires.inside) found c.in_err-apply-in-Ok.ensures.rejected in
     search rules
 
-pub returns-else-eq-clause-refused : goal.returns-else-eq-clause-refused
+pub returns-else-eq-clause-rejected : goal.returns-else-eq-clause-rejected
 unfolding state_of
-returns-else-eq-clause-refused c =
+returns-else-eq-clause-rejected c =
     let text = c.args.text.now in
-    let at = c.args.at in
-    let b = get_or text at 0 in
+    let offset = c.args.offset in
+    let b = get_or text offset 0 in
     let s = state_of c.args.self.now in
     elim c.in-Err.ensures.value [
       | inl memory ↦ let same = rw memory at c.eq.ensures in absurd (true≢false (sym same ∙ c.if-eq.false))
       | inr is ↦
-          let found : front s.flags b (drop (at + 1) text) ≡ fault c.in-Err.m.fault c.in-Err.m.behind =
-          ap (front s.flags b) (sym (tail_is text (at + 1))) ∙ is in
-          inr (ap (reading_on s 0 at) (here_is text at c.requires.inside) ∙ fault-reads at b c.in-Err.m.behind (drop (at + 1) text) s c.in-Err.m.fault found)
+          let found : next_token s.flags b (drop (offset + 1) text) ≡ fault c.in-Err.m.fault c.in-Err.m.distance =
+          ap (next_token s.flags b) (sym (tail_is text (offset + 1))) ∙ is in
+          inr (ap (parse_from_state s 0 offset) (here_is text offset c.requires.inside) ∙ fault-reads offset b c.in-Err.m.distance (drop (offset + 1) text) s c.in-Err.m.fault found)
     ]

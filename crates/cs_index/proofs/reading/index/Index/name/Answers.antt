@@ -2,31 +2,31 @@ use Rattle.std.proofs.Common.{◌≡◌, ◌≤◌, ◌<◌, ◌-◌, ◌*◌, �
 use Rattle.std.proofs.lemmas.List.{take_rest}
 use Rattle.cs_index.specs.Opening.{is_names_section, number_at, texts_of}
 use Rattle.cs_index.specs.OpenedParts.{Parts}
-use Rattle.cs_index.proofs.OpenLemmas.{offsets_long}
-use Rattle.cs_index.proofs.NameOffsetLemmas.{name_begins, name_given}
+use Rattle.cs_index.proofs.decoding.IndexFields.{offsets_long}
+use Rattle.cs_index.proofs.decoding.NameOffsets.{name_begins, name_given}
 use Rattle.cs_index.proofs.reading.index.Index.name.Goals as goal
 
--- the id is one of a name
+-- the id is less than the number of names
 below : (names : List ℕ) (now : Parts) (id count : ℕ) → texts_of names ≡ now.names → count ≡ length now.names → id < count → id < length (texts_of names)
 below names now id count is counted h = let same = ap length is in omega (arith, same, counted, h)
 
 pub read_number-start-requires : goal.read_number-start-requires
 read_number-start-requires c =
-    let long = offsets_long c.self.inside.cut.name_index.now (texts_of c.self.inside.cut.names.now) c.self.invariant.read.offsets in
-    let within = below c.self.inside.cut.names.now c.args.self.now c.args.id c.len.result (ap (λ (p : Parts). p.names) c.self.view_is) c.len.ensures c.if-id-len.false in
+    let long = offsets_long c.self.inside.slices.name_index.now (texts_of c.self.inside.slices.names.now) c.self.invariant.read.offsets in
+    let within = below c.self.inside.slices.names.now c.args.self.now c.args.id c.len.result (ap (λ (p : Parts). p.names) c.self.view_is) c.len.ensures c.if-id-len.false in
     omega (arith, long, within)
 
 pub slice_bounds-new-count : goal.slice_bounds-new-count
 slice_bounds-new-count c =
-    let within = below c.self.inside.cut.names.now c.args.self.now c.args.id c.len.result (ap (λ (p : Parts). p.names) c.self.view_is) c.len.ensures c.if-id-len.false in
-    let names = name_begins c.self.inside.cut.names.now c.self.inside.cut.name_index.now c.args.id c.self.invariant.read.each_name c.self.invariant.read.offsets within in
-    subst (λ n. n ≤ length c.self.inside.cut.names.now) (sym c.read_number-start.ensures) names.within
+    let within = below c.self.inside.slices.names.now c.args.self.now c.args.id c.len.result (ap (λ (p : Parts). p.names) c.self.view_is) c.len.ensures c.if-id-len.false in
+    let names = name_begins c.self.inside.slices.names.now c.self.inside.slices.name_index.now c.args.id c.self.invariant.read.each_name c.self.invariant.read.offsets within in
+    subst (λ n. n ≤ length c.self.inside.slices.names.now) (sym c.read_number-start.ensures) names.within
 
 pub slice_bounds-new-start : goal.slice_bounds-new-start
 slice_bounds-new-start c =
-    let within = below c.self.inside.cut.names.now c.args.self.now c.args.id c.len.result (ap (λ (p : Parts). p.names) c.self.view_is) c.len.ensures c.if-id-len.false in
-    let names = name_begins c.self.inside.cut.names.now c.self.inside.cut.name_index.now c.args.id c.self.invariant.read.each_name c.self.invariant.read.offsets within in
-    subst (λ n. n ≤ length c.self.inside.cut.names.now) (sym c.read_number-start.ensures) names.within
+    let within = below c.self.inside.slices.names.now c.args.self.now c.args.id c.len.result (ap (λ (p : Parts). p.names) c.self.view_is) c.len.ensures c.if-id-len.false in
+    let names = name_begins c.self.inside.slices.names.now c.self.inside.slices.name_index.now c.args.id c.self.invariant.read.each_name c.self.invariant.read.offsets within in
+    subst (λ n. n ≤ length c.self.inside.slices.names.now) (sym c.read_number-start.ensures) names.within
 
 -- the bytes from the offset on
 rest_at : (names : List ℕ) (start offset : ℕ) → start ≡ offset → take (length names - start) (drop start names) ≡ drop offset names
@@ -34,13 +34,13 @@ rest_at names start offset at = take_rest names start ∙ ap (λ n. drop n names
 
 pub new-requires : goal.new-requires
 new-requires c =
-    let within = below c.self.inside.cut.names.now c.args.self.now c.args.id c.len.result (ap (λ (p : Parts). p.names) c.self.view_is) c.len.ensures c.if-id-len.false in
-    let names = name_begins c.self.inside.cut.names.now c.self.inside.cut.name_index.now c.args.id c.self.invariant.read.each_name c.self.invariant.read.offsets within in
-    ap is_names_section (rest_at c.self.inside.cut.names.now c.read_number-start.result (number_at c.self.inside.cut.name_index.now (4 * c.args.id)) c.read_number-start.ensures) ∙ names.formed
+    let within = below c.self.inside.slices.names.now c.args.self.now c.args.id c.len.result (ap (λ (p : Parts). p.names) c.self.view_is) c.len.ensures c.if-id-len.false in
+    let names = name_begins c.self.inside.slices.names.now c.self.inside.slices.name_index.now c.args.id c.self.invariant.read.each_name c.self.invariant.read.offsets within in
+    ap is_names_section (rest_at c.self.inside.slices.names.now c.read_number-start.result (number_at c.self.inside.slices.name_index.now (4 * c.args.id)) c.read_number-start.ensures) ∙ names.formed
 
 pub returns : goal.returns
 returns c =
-    let within = below c.self.inside.cut.names.now c.args.self.now c.args.id c.len.result (ap (λ (p : Parts). p.names) c.self.view_is) c.len.ensures c.if-id-len.false in
-    let names = name_begins c.self.inside.cut.names.now c.self.inside.cut.name_index.now c.args.id c.self.invariant.read.each_name c.self.invariant.read.offsets within in
-    let rest = c.new.ensures ∙ ap texts_of (rest_at c.self.inside.cut.names.now c.read_number-start.result (number_at c.self.inside.cut.name_index.now (4 * c.args.id)) c.read_number-start.ensures) ∙ names.texts ∙ ap (λ (p : Parts). drop c.args.id p.names) c.self.view_is in
+    let within = below c.self.inside.slices.names.now c.args.self.now c.args.id c.len.result (ap (λ (p : Parts). p.names) c.self.view_is) c.len.ensures c.if-id-len.false in
+    let names = name_begins c.self.inside.slices.names.now c.self.inside.slices.name_index.now c.args.id c.self.invariant.read.each_name c.self.invariant.read.offsets within in
+    let rest = c.new.ensures ∙ ap texts_of (rest_at c.self.inside.slices.names.now c.read_number-start.result (number_at c.self.inside.slices.name_index.now (4 * c.args.id)) c.read_number-start.ensures) ∙ names.texts ∙ ap (λ (p : Parts). drop c.args.id p.names) c.self.view_is in
     name_given c.args.self.now.names c.new.result c.next.new.self c.args.id c.next.result rest c.next.ensures.steps

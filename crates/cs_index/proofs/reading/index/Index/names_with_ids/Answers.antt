@@ -1,14 +1,14 @@
 use Rattle.std.proofs.Common.{◌≡◌, ◌++◌, ◌∷◌, [], length, sym, ap, ◌∙◌, arith}
 use Rattle.cs_index.specs.Order.{with_ids}
-use Rattle.cs_index.specs.LentNames.{lent_names}
+use Rattle.cs_index.specs.BorrowedNames.{borrowed_names}
 use Rattle.cs_tree.specs.PathParts.{texts}
-use Rattle.cs_index.proofs.NameOrderLemmas.{texts-push, texts_more, lent-push, with_ids-push, as_many, one_left, all_taken}
+use Rattle.cs_index.proofs.names.SortedNames.{texts-push, texts_more, borrowed-push, with_ids-push, as_many, one_left, all_taken}
 use Rattle.cs_index.proofs.reading.index.Index.names_with_ids.Goals as goal
 
 pub names-init : goal.names-init
 names-init c = record {
   taken = sym (c.into_iter-name-iterator.ensures.into_iter_gives ∙ c.names-name-items.ensures);
-  named = ap lent_names c.in_ok-named.ensures.items;
+  named = ap borrowed_names c.in_ok-named.ensures.items;
 }
 
 pub overflow_cast-id : goal.overflow_cast-id
@@ -25,7 +25,7 @@ names-preserved c =
     let id : c.len-id.result ≡ length (texts c.names.yielded) = c.len-id.ensures ∙ c.names.named.ok.0 ∙ many in
     record {
       taken = c.names.invariant.taken ∙ ap (λ rest. texts c.names.yielded ++ rest) c.in-Some.ensures.steps ∙ sym (texts_more c.names.yielded c.in-Some.name c.next.new.self);
-      named = ap lent_names c.in_ok-push.ensures.items ∙ lent-push c.names.named.items (c.in-Some.name, c.len-id.result)
+      named = ap borrowed_names c.in_ok-push.ensures.items ∙ borrowed-push c.names.named.items (c.in-Some.name, c.len-id.result)
           ∙ ap (λ ns. ns ++ (c.in-Some.name.now, c.len-id.result) ∷ []) c.names.invariant.named
           ∙ ap (λ n. with_ids (texts c.names.yielded) ++ (c.in-Some.name.now, n) ∷ []) id
           ∙ sym (with_ids-push (texts c.names.yielded) c.in-Some.name.now)

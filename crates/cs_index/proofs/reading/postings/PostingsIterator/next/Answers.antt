@@ -1,7 +1,7 @@
 use Rattle.std.proofs.Common.{◌-◌, ap, ℕ, List, Result, length, take, drop, inl, inr, arith, rules}
 use Rattle.std.proofs.lemmas.List.{take_rest}
 use Rattle.cs_index.specs.declared.fault.IndexFault.{IndexFault}
-use Rattle.cs_index.proofs.IdStepLemmas.{step_ok, step_bad}
+use Rattle.cs_index.proofs.postings.ReadStep.{step_ok, step_bad}
 use Rattle.cs_index.proofs.reading.postings.PostingsIterator.next.Goals as goal
 use Rattle.cs_index.proofs.reading.postings.PostingsIterator.next.Goals.{then-delta-eq0-2-via-then-delta-eq0-2, then-delta-eq0-2-via-else-delta-eq0-2+then-delta-self}
 

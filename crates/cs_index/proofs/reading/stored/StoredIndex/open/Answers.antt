@@ -1,19 +1,35 @@
-use Rattle.std.proofs.Common.{subst}
-use Rattle.cs_index.specs.Starts.{IsCutAt}
-use Rattle.cs_index.proofs.ResultLemmas.{both_ok}
-use Rattle.cs_index.proofs.StoredLemmas.{not_opened, opened, told_so, told_twice}
+use Rattle.std.proofs.Common.{Ok, Err, subst}
+use Rattle.cs_index.specs.StoredOpening.{IsSplitAt}
+use Rattle.cs_index.proofs.common.ResultClauses.{both_ok}
+use Rattle.cs_index.proofs.stored.SectionReads.{not_opened, opened, if_some_map, model_decodes, if_some_both}
 use Rattle.cs_index.proofs.reading.stored.StoredIndex.open.Goals as goal
 
 pub returns-in-Ok-clause-opens : goal.returns-in-Ok-clause-opens
 returns-in-Ok-clause-opens g c =
-    told_so _ _ (g.S.Store.told c.args.store.now)
+    if_some_map _ _ (g.S.Store.model c.args.store.now)
     (λ bytes both.
-    let cut = subst (IsCutAt bytes) c.in-Ok.is both.0 in
-    both_ok c.read_stored.result _ _ _ (λ answer read before. opened bytes c.in-Ok.starts answer cut.0 cut.1 read before) (both.1 cut.1) c.read_stored.ensures.within)
-    (told_twice _ _ (g.S.Store.told c.args.store.now) _ c.in_ok-starts.ensures.keeps c.in_ok-starts.ensures.cut c.read_stored.ensures.opens)
+    let slices = subst (IsSplitAt bytes) c.in-Ok.is both.0 in
+    both_ok c.read_stored.result _ _ _ (λ answer read before. opened bytes c.in-Ok.starts answer slices.0 slices.1 read before) (both.1 slices.1) c.read_stored.ensures.within)
+    (if_some_both _ _ (g.S.Store.model c.args.store.now) _ c.in_ok-starts.ensures.keeps c.in_ok-starts.ensures.slices c.read_stored.ensures.opens)
 
 pub returns-in-Err-clause-opens : goal.returns-in-Err-clause-opens
 returns-in-Err-clause-opens g c =
-    told_so _ _ (g.S.Store.told c.args.store.now)
-    (λ bytes is. not_opened bytes c.in-Err.fault (subst (IsCutAt bytes) c.in-Err.is is))
-    c.in_ok-starts.ensures.cut
+    if_some_map _ _ (g.S.Store.model c.args.store.now)
+    (λ bytes is. not_opened bytes c.in-Err.fault (subst (IsSplitAt bytes) c.in-Err.is is))
+    c.in_ok-starts.ensures.slices
+
+pub returns-in-Ok-clause-decodes : goal.returns-in-Ok-clause-decodes
+returns-in-Ok-clause-decodes g c =
+    model_decodes (g.S.Store.model c.args.store.now) c.read_stored.result c.in_ok-starts.ensures.bytes
+    (if_some_map _ _ (g.S.Store.model c.args.store.now)
+    (λ bytes both.
+    let slices = subst (IsSplitAt bytes) c.in-Ok.is both.0 in
+    both_ok c.read_stored.result _ _ _ (λ answer read before. opened bytes c.in-Ok.starts answer slices.0 slices.1 read before) (both.1 slices.1) c.read_stored.ensures.within)
+    (if_some_both _ _ (g.S.Store.model c.args.store.now) _ c.in_ok-starts.ensures.keeps c.in_ok-starts.ensures.slices c.read_stored.ensures.opens))
+
+pub returns-in-Err-clause-decodes : goal.returns-in-Err-clause-decodes
+returns-in-Err-clause-decodes g c =
+    model_decodes (g.S.Store.model c.args.store.now) (Ok (Err c.in-Err.fault)) c.in_ok-starts.ensures.bytes
+    (if_some_map _ _ (g.S.Store.model c.args.store.now)
+    (λ bytes is. not_opened bytes c.in-Err.fault (subst (IsSplitAt bytes) c.in-Err.is is))
+    c.in_ok-starts.ensures.slices)

@@ -1,7 +1,7 @@
 use Rattle.std.proofs.Common.{◌≡◌, ◌∙◌, ◌∷◌, [], ap, sym, List, ℕ, length, arith}
 use Rattle.cs_index.specs.Opening.{texts_of}
-use Rattle.cs_index.proofs.SectionReadLemmas.{texts_after, formed_after, none_formed}
-use Rattle.cs_index.proofs.SectionStringLemmas.{lent_some}
+use Rattle.cs_index.proofs.decoding.StringScan.{texts_after, formed_after, none_formed}
+use Rattle.cs_index.proofs.decoding.StringSections.{borrowed_some}
 use Rattle.cs_index.proofs.reading.texts.TextsIterator.next.Goals as goal
 
 pub returns-in_err-text-clause-steps : goal.returns-in_err-text-clause-steps
@@ -19,8 +19,8 @@ returns-clause-steps c =
     let rest : List ℕ = c.in_ok-text.rest.now in
     let good = (formed_after c.self.inside.section.now text rest c.in_ok-text.ensures.text c.in_ok-text.ensures.above c.in_ok-text.ensures.some c.self.invariant).0 in
     let texts : c.args.self.now ≡ text ∷ texts_of rest = sym c.self.view_is ∙ texts_after c.self.inside.section.now text rest c.in_ok-text.ensures.text c.in_ok-text.ensures.above c.in_ok-text.ensures.some in
-    let lent = lent_some _ c.from_utf8.result c.ok.result text c.ok.ensures.value c.from_utf8.ensures.cases good in
-    rw lent.1 (texts ∙ ap (λ t. t ∷ texts_of rest) (sym lent.2))
+    let borrowed = borrowed_some _ c.from_utf8.result c.ok.result text c.ok.ensures.value c.from_utf8.ensures.cases good in
+    rw borrowed.1 (texts ∙ ap (λ t. t ∷ texts_of rest) (sym borrowed.2))
 
 pub returns-clause-goes : goal.returns-clause-goes
 returns-clause-goes c =
@@ -29,5 +29,5 @@ returns-clause-goes c =
     let good = (formed_after c.self.inside.section.now text rest c.in_ok-text.ensures.text c.in_ok-text.ensures.above c.in_ok-text.ensures.some c.self.invariant).0 in
     let texts : c.args.self.now ≡ text ∷ texts_of rest = sym c.self.view_is ∙ texts_after c.self.inside.section.now text rest c.in_ok-text.ensures.text c.in_ok-text.ensures.above c.in_ok-text.ensures.some in
     let less = ap (λ (ts : List (List ℕ)). length ts) texts in
-    let lent = lent_some _ c.from_utf8.result c.ok.result text c.ok.ensures.value c.from_utf8.ensures.cases good in
-    rw lent.1 (record { on = λ _. (tt, tt, omega (arith, less)); keeps = tt; rests = λ _. tt })
+    let borrowed = borrowed_some _ c.from_utf8.result c.ok.result text c.ok.ensures.value c.from_utf8.ensures.cases good in
+    rw borrowed.1 (record { on = λ _. (tt, tt, omega (arith, less)); keeps = tt; rests = λ _. tt })

@@ -4,27 +4,27 @@ use Rattle.std.specs.List.{AllByRecursion}
 use Rattle.cs_trigram.specs.Trigram.{set_of_numbers, closing_trigram}
 use Rattle.cs_trigram.proofs.SetLemmas.{ascends_set}
 use Rattle.cs_index.specs.PostingLists.{entries_of}
-use Rattle.cs_index.specs.Image.{Posting, Entry}
+use Rattle.cs_index.specs.Encoding.{PostingList, Entry}
 use Rattle.cs_trigram.specs.TrigramSets.{AreDistinct}
-use Rattle.cs_index.specs.Gathering.{ordered_lists, GiveSame}
-use Rattle.cs_index.specs.Keys.{keys_of, with_keys, AreWaiting}
-use Rattle.cs_index.specs.Waiting.{lists_with, IsBatch}
+use Rattle.cs_index.specs.Gathering.{ordered_lists, HaveSameIds}
+use Rattle.cs_index.specs.PackedPostings.{post_of, with_post, AreBuffered}
+use Rattle.cs_index.specs.BatchInvariant.{lists_with, IsBatch}
 use Rattle.cs_index.specs.declared.writing.batch.Batch.{Batch}
 use Rattle.cs_index.specs.declared.writing.builder.Builder.TheInside.{Inside}
-use Rattle.cs_index.specs.Building.{complete_lists, built_of}
+use Rattle.cs_index.specs.BuilderInvariant.{complete_lists, built_of}
 use Rattle.cs_index.specs.Built.{Built, IsBuilt, with_entry}
-use Rattle.cs_index.proofs.ResultLemmas.{any_err}
-use Rattle.cs_index.proofs.GatheredLemmas.{length-entries_of}
-use Rattle.cs_index.proofs.BuiltLemmas.{entries_added, entries_given}
-use Rattle.cs_index.proofs.BuildingLemmas.{built_added}
-use Rattle.cs_index.proofs.KeyLemmas.{file_given, waiting_added}
+use Rattle.cs_index.proofs.common.ResultClauses.{any_err}
+use Rattle.cs_index.proofs.encoding.InvertedLists.{length-entries_of}
+use Rattle.cs_index.proofs.writer.EntriesOfLists.{entries_added, entries_given}
+use Rattle.cs_index.proofs.writer.BuilderAdd.{built_added}
+use Rattle.cs_index.proofs.writer.PackedPostings.{file_given, buffered_added}
 use Rattle.cs_trigram.proofs.SetLemmas.{all_set}
 use Rattle.cs_index.proofs.writing.builder.Builder.add_above.Goals as goal
 
 many : (b : Inside) → length b.names ≡ length (built_of b).entries
 many b = sym (length-entries_of 0 b.names (ordered_lists (complete_lists b)))
 
--- the number of names, by the value
+-- the number of names in the model
 counted : (b : Inside) (now : Built) (id : ℕ) → built_of b ≡ now → id ≡ length b.names → id ≡ length now.entries
 counted b now id is e = e ∙ many b ∙ ap (λ (built : Built). length built.entries) is
 
@@ -38,80 +38,80 @@ make_room-requires-clause-bound c =
     let count = counted c.self.inside c.args.self.now c.len-id.result c.self.view_is c.len-id.ensures in
     omega (arith, count, c.requires.bound)
 
--- Names, lists and a batch are those of a value.
-record Hold (b : Inside) (now : Built) (names : List (List ℕ)) (lists : List Posting) (batch : Batch) : Type 0 where
-  held : IsBatch (length names) lists batch
+-- The names, lists and batch of a model.
+record Hold (b : Inside) (now : Built) (names : List (List ℕ)) (lists : List PostingList) (batch : Batch) : Type 0 where
+  is_batch : IsBatch (length names) lists batch
   is : ◌≡◌ {A = Built} (record {
     paths = b.paths;
     entries = entries_of 0 names (ordered_lists (lists_with lists
         batch));
   }) now
 
--- once there is room, the value is as it was
-roomy : (b : Inside) (now : Built) (lists : List Posting) (batch : Batch) (id : ℕ) → built_of b ≡ now →
-    id ≡ length b.names → IsBatch id lists batch → GiveSame (lists_with lists batch) (complete_lists b) →
+-- making room keeps the model
+roomy : (b : Inside) (now : Built) (lists : List PostingList) (batch : Batch) (id : ℕ) → built_of b ≡ now →
+    id ≡ length b.names → IsBatch id lists batch → HaveSameIds (lists_with lists batch) (complete_lists b) →
     Hold b now b.names lists batch
-roomy b now lists batch id is at held same = record {
-  held = subst (λ n. IsBatch n lists batch) at held;
+roomy b now lists batch id is at is_batch same = record {
+  is_batch = subst (λ n. IsBatch n lists batch) at is_batch;
   is = ap (λ (es : List Entry). let built : Built = record { paths = b.paths; entries = es } in built)
       (entries_given 0 b.names (lists_with lists batch) (complete_lists b) same) ∙ is;
 }
 
--- another batch of the same keys
-waits_same : (name_count : ℕ) (lists : List Posting) (room batch : Batch) → batch.keys.items ≡ room.keys.items →
+-- another batch with the same postings
+buffered_same : (name_count : ℕ) (lists : List PostingList) (room batch : Batch) → batch.post.items ≡ room.post.items →
     batch.base ≡ room.base →
-    AreWaiting name_count room.base lists room.keys.items → AreWaiting name_count batch.base lists batch.keys.items
-waits_same name_count lists room batch keys base waits =
-    subst (λ n. AreWaiting name_count n lists batch.keys.items) (sym base)
-    (subst (AreWaiting name_count room.base lists) (sym keys) waits)
+    AreBuffered name_count room.base lists room.post.items → AreBuffered name_count batch.base lists batch.post.items
+buffered_same name_count lists room batch post base buffered =
+    subst (λ n. AreBuffered name_count n lists batch.post.items) (sym base)
+    (subst (AreBuffered name_count room.base lists) (sym post) buffered)
 
-same_keys : (b : Inside) (now : Built) (names : List (List ℕ)) (lists : List Posting) (room batch : Batch) →
-    batch.keys.items ≡ room.keys.items → batch.base ≡ room.base → names ≡ b.names →
+same_post : (b : Inside) (now : Built) (names : List (List ℕ)) (lists : List PostingList) (room batch : Batch) →
+    batch.post.items ≡ room.post.items → batch.base ≡ room.base → names ≡ b.names →
     Hold b now b.names lists room → Hold b now names lists batch
-same_keys b now names lists room batch keys base named h = record {
-  held = subst (λ (ns : List (List ℕ)). IsBatch (length ns) lists batch) (sym named) (record {
-    begun = omega (arith, base, h.held.begun);
-    bound = omega (arith, base, h.held.bound);
-    waits = waits_same (length b.names) lists room batch keys base h.held.waits;
+same_post b now names lists room batch post base named h = record {
+  is_batch = subst (λ (ns : List (List ℕ)). IsBatch (length ns) lists batch) (sym named) (record {
+    begun = omega (arith, base, h.is_batch.begun);
+    bound = omega (arith, base, h.is_batch.bound);
+    buffered = buffered_same (length b.names) lists room batch post base h.is_batch.buffered;
   });
   is = (λ i. record {
     paths = b.paths;
-    entries = entries_of 0 (named i) (ordered_lists (with_keys (base i) lists (keys i)));
+    entries = entries_of 0 (named i) (ordered_lists (with_post (base i) lists (post i)));
   }) ∙ h.is;
 }
 
--- one name more, with its keys behind those that wait
-added : (b : Inside) (now : Built) (names : List (List ℕ)) (name gs : List ℕ) (lists : List Posting) (room batch :
+-- one more name, with its postings at the end of the batch
+added : (b : Inside) (now : Built) (names : List (List ℕ)) (name gs : List ℕ) (lists : List PostingList) (room batch :
     Batch) →
-    names ≡ b.names ++ name ∷ [] → batch.keys.items ≡ room.keys.items ++ keys_of (length b.names - room.base) gs →
+    names ≡ b.names ++ name ∷ [] → batch.post.items ≡ room.post.items ++ post_of (length b.names - room.base) gs →
     batch.base ≡ room.base → length b.names < room.base + 128 → AreDistinct gs →
     AllByRecursion (λ g. g < closing_trigram) gs → Hold b now b.names lists room →
     Hold b (with_entry now name (set_of_numbers gs)) names lists batch
-added b now names name gs lists room batch named keys base bound distinct below h =
+added b now names name gs lists room batch named post base bound distinct below h =
     let n : ℕ = length b.names in
-    let place : ℕ = n - room.base in
-    let rest : List ℕ = room.keys.items in
-    let at : room.base + place ≡ n = omega (arith, h.held.begun) in
-    let small : place < 256 = omega (arith, bound) in
+    let position : ℕ = n - room.base in
+    let rest : List ℕ = room.post.items in
+    let at : room.base + position ≡ n = omega (arith, h.is_batch.begun) in
+    let small : position < 256 = omega (arith, bound) in
     let more : length (b.names ++ name ∷ []) ≡ n + 1 = length_push b.names name in
-    let waits : AreWaiting (n + 1) room.base lists (rest ++ keys_of place gs) =
-    waiting_added n room.base place lists rest gs h.held.waits small at distinct below in
+    let buffered : AreBuffered (n + 1) room.base lists (rest ++ post_of position gs) =
+    buffered_added n room.base position lists rest gs h.is_batch.buffered small at distinct below in
     record {
-      held = subst (λ (ns : List (List ℕ)). IsBatch (length ns) lists batch) (sym named) (subst (λ m. IsBatch m
+      is_batch = subst (λ (ns : List (List ℕ)). IsBatch (length ns) lists batch) (sym named) (subst (λ m. IsBatch m
           lists batch) (sym more) (record {
-            begun = omega (arith, base, h.held.begun);
+            begun = omega (arith, base, h.is_batch.begun);
             bound = omega (arith, base, bound);
-            waits = subst (λ m. AreWaiting (n + 1) m lists batch.keys.items) (sym base)
-                (subst (AreWaiting (n + 1) room.base lists) (sym keys) waits);
+            buffered = subst (λ m. AreBuffered (n + 1) m lists batch.post.items) (sym base)
+                (subst (AreBuffered (n + 1) room.base lists) (sym post) buffered);
           }));
       is = (λ i. record {
         paths = b.paths;
-        entries = entries_of 0 (named i) (ordered_lists (with_keys (base i) lists (keys i)));
+        entries = entries_of 0 (named i) (ordered_lists (with_post (base i) lists (post i)));
       })
           ∙ ap (λ (es : List Entry). let built : Built = record { paths = b.paths; entries = es } in built)
-          (entries_added b.names name (with_keys room.base lists rest) (with_keys room.base lists (rest ++ keys_of
-          place gs)) gs
-          (file_given n room.base place lists rest gs h.held.waits small at))
+          (entries_added b.names name (with_post room.base lists rest) (with_post room.base lists (rest ++ post_of
+          position gs)) gs
+          (file_given n room.base position lists rest gs h.is_batch.buffered small at))
           ∙ ap (λ (built : Built). with_entry built name (set_of_numbers gs)) h.is;
     }
 
@@ -120,7 +120,7 @@ invariant_of-self c =
     let b : Inside = c.self.inside in
     let h = roomy b c.args.self.now c.make_room.new.lists c.make_room.new.self c.len-id.result c.self.view_is
     c.len-id.ensures c.make_room.ensures.batch c.make_room.ensures.same in
-    record { batch = h.held; built = subst IsBuilt (c.self.view_is ∙ sym h.is) c.self.invariant.built }
+    record { batch = h.is_batch; built = subst IsBuilt (c.self.view_is ∙ sym h.is) c.self.invariant.built }
 
 pub returns-in_err-make_room-clause-err : goal.returns-in_err-make_room-clause-err
 returns-in_err-make_room-clause-err c =
@@ -134,17 +134,17 @@ invariant_of-self-in_err-reserve c =
     let b : Inside = c.self.inside in
     let room = roomy b c.args.self.now c.make_room.new.lists c.make_room.new.self c.len-id.result c.self.view_is
     c.len-id.ensures c.make_room.ensures.batch c.make_room.ensures.same in
-    let h = same_keys b c.args.self.now b.names c.make_room.new.lists c.make_room.new.self c.reserve.new.self
-    c.reserve.ensures.keys c.reserve.ensures.base refl room in
-    record { batch = h.held; built = subst IsBuilt (c.self.view_is ∙ sym h.is) c.self.invariant.built }
+    let h = same_post b c.args.self.now b.names c.make_room.new.lists c.make_room.new.self c.reserve.new.self
+    c.reserve.ensures.post c.reserve.ensures.base refl room in
+    record { batch = h.is_batch; built = subst IsBuilt (c.self.view_is ∙ sym h.is) c.self.invariant.built }
 
 pub returns-in_err-reserve-clause-err : goal.returns-in_err-reserve-clause-err
 returns-in_err-reserve-clause-err c =
     let b : Inside = c.self.inside in
     let room = roomy b c.args.self.now c.make_room.new.lists c.make_room.new.self c.len-id.result c.self.view_is
     c.len-id.ensures c.make_room.ensures.batch c.make_room.ensures.same in
-    let h = same_keys b c.args.self.now b.names c.make_room.new.lists c.make_room.new.self c.reserve.new.self
-    c.reserve.ensures.keys c.reserve.ensures.base refl room in
+    let h = same_post b c.args.self.now b.names c.make_room.new.lists c.make_room.new.self c.reserve.new.self
+    c.reserve.ensures.post c.reserve.ensures.base refl room in
     any_err c.from_residual-in_err-reserve.result h.is
 
 pub invariant_of-self-in_err-push : goal.invariant_of-self-in_err-push
@@ -152,49 +152,49 @@ invariant_of-self-in_err-push c =
     let b : Inside = c.self.inside in
     let room = roomy b c.args.self.now c.make_room.new.lists c.make_room.new.self c.len-id.result c.self.view_is
     c.len-id.ensures c.make_room.ensures.batch c.make_room.ensures.same in
-    let h = same_keys b c.args.self.now c.push.new.self c.make_room.new.lists c.make_room.new.self
-    c.reserve.new.self c.reserve.ensures.keys c.reserve.ensures.base
+    let h = same_post b c.args.self.now c.push.new.self c.make_room.new.lists c.make_room.new.self
+    c.reserve.new.self c.reserve.ensures.post c.reserve.ensures.base
     c.in_err-push.ensures.err room in
-    record { batch = h.held; built = subst IsBuilt (c.self.view_is ∙ sym h.is) c.self.invariant.built }
+    record { batch = h.is_batch; built = subst IsBuilt (c.self.view_is ∙ sym h.is) c.self.invariant.built }
 
 pub returns-in_err-push-clause-err : goal.returns-in_err-push-clause-err
 returns-in_err-push-clause-err c =
     let b : Inside = c.self.inside in
     let room = roomy b c.args.self.now c.make_room.new.lists c.make_room.new.self c.len-id.result c.self.view_is
     c.len-id.ensures c.make_room.ensures.batch c.make_room.ensures.same in
-    let h = same_keys b c.args.self.now c.push.new.self c.make_room.new.lists c.make_room.new.self
-    c.reserve.new.self c.reserve.ensures.keys c.reserve.ensures.base
+    let h = same_post b c.args.self.now c.push.new.self c.make_room.new.lists c.make_room.new.self
+    c.reserve.new.self c.reserve.ensures.post c.reserve.ensures.base
     c.in_err-push.ensures.err room in
     any_err c.from_residual-in_err-push.result h.is
 
--- the value once the name is held
-more : (b : Inside) (now : Built) (names : List (List ℕ)) (name gs : List ℕ) (lists : List Posting) (id : ℕ) (room
+-- the model with the name
+more : (b : Inside) (now : Built) (names : List (List ℕ)) (name gs : List ℕ) (lists : List PostingList) (id : ℕ) (room
     spare batch : Batch) →
     built_of b ≡ now → id ≡ length b.names → IsBatch id lists room →
-    GiveSame (lists_with lists room) (complete_lists b) →
-    spare.keys.items ≡ room.keys.items → spare.base ≡ room.base → id < room.base + 128 →
-    names ≡ b.names ++ name ∷ [] → batch.keys.items ≡ spare.keys.items ++ keys_of (id - spare.base) gs →
+    HaveSameIds (lists_with lists room) (complete_lists b) →
+    spare.post.items ≡ room.post.items → spare.base ≡ room.base → id < room.base + 128 →
+    names ≡ b.names ++ name ∷ [] → batch.post.items ≡ spare.post.items ++ post_of (id - spare.base) gs →
     batch.base ≡ spare.base → AreDistinct gs →
     AllByRecursion (λ g. g < closing_trigram) gs →
     Hold b (with_entry now name (set_of_numbers gs)) names lists batch
-more b now names name gs lists id room spare batch is at held same keys base bound named pushed base'
+more b now names name gs lists id room spare batch is at is_batch same post base bound named pushed base'
     distinct below =
     added b now names name gs lists spare batch named (pushed
-    ∙ ap (λ n. spare.keys.items ++ keys_of (n - spare.base) gs) at)
+    ∙ ap (λ n. spare.post.items ++ post_of (n - spare.base) gs) at)
     base' (omega (arith, bound, at, base)) distinct below
-    (same_keys b now b.names lists room spare keys base refl (roomy b now lists room id is at held same))
+    (same_post b now b.names lists room spare post base refl (roomy b now lists room id is at is_batch same))
 
 pub invariant_of-self-2 : goal.invariant_of-self-2
 invariant_of-self-2 c =
     let b : Inside = c.self.inside in
     let h = more b c.args.self.now c.push.new.self c.args.name.now c.args.trigrams.now c.make_room.new.lists
     c.len-id.result c.make_room.new.self c.reserve.new.self c.push-2.new.self
-    c.self.view_is c.len-id.ensures c.make_room.ensures.batch c.make_room.ensures.same c.reserve.ensures.keys
+    c.self.view_is c.len-id.ensures c.make_room.ensures.batch c.make_room.ensures.same c.reserve.ensures.post
     c.reserve.ensures.base c.in_ok-make_room.ensures.room
-    c.in_ok-push.ensures.ok c.push-2.ensures.keys c.push-2.ensures.base c.requires.distinct
+    c.in_ok-push.ensures.ok c.push-2.ensures.post c.push-2.ensures.base c.requires.distinct
     c.requires.below in
     record {
-      batch = h.held;
+      batch = h.is_batch;
       built = subst IsBuilt (sym h.is) (built_added c.args.self.now c.args.name.now (set_of_numbers
           c.args.trigrams.now) (subst IsBuilt c.self.view_is c.self.invariant.built) c.in_ok-push.ensures.each
           c.requires.above (
@@ -209,9 +209,9 @@ returns-clause-ok c =
     let b : Inside = c.self.inside in
     let h = more b c.args.self.now c.push.new.self c.args.name.now c.args.trigrams.now c.make_room.new.lists
     c.len-id.result c.make_room.new.self c.reserve.new.self c.push-2.new.self
-    c.self.view_is c.len-id.ensures c.make_room.ensures.batch c.make_room.ensures.same c.reserve.ensures.keys
+    c.self.view_is c.len-id.ensures c.make_room.ensures.batch c.make_room.ensures.same c.reserve.ensures.post
     c.reserve.ensures.base c.in_ok-make_room.ensures.room
-    c.in_ok-push.ensures.ok c.push-2.ensures.keys c.push-2.ensures.base c.requires.distinct
+    c.in_ok-push.ensures.ok c.push-2.ensures.post c.push-2.ensures.base c.requires.distinct
     c.requires.below in
     h.is
 

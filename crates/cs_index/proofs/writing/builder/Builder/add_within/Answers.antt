@@ -1,5 +1,5 @@
 use Rattle.std.proofs.Common.{rules}
-use Rattle.cs_index.proofs.KeyLemmas.{once_below}
+use Rattle.cs_index.proofs.writer.PackedPostings.{once_below}
 use Rattle.cs_index.proofs.writing.builder.Builder.add_within.Goals as goal
 
 pub add_above-requires-clause-distinct : goal.add_above-requires-clause-distinct

@@ -1,8 +1,8 @@
 use Rattle.std.proofs.Common.{◌∙◌, ap, sym, length, arith}
 use Rattle.cs_index.specs.Gathering.{ordered_lists}
-use Rattle.cs_index.specs.Building.{complete_lists}
+use Rattle.cs_index.specs.BuilderInvariant.{complete_lists}
 use Rattle.cs_index.specs.Built.{Built}
-use Rattle.cs_index.proofs.GatheredLemmas.{length-entries_of}
+use Rattle.cs_index.proofs.encoding.InvertedLists.{length-entries_of}
 use Rattle.cs_index.proofs.writing.builder.Builder.len.Goals as goal
 
 pub overflow_cast-result : goal.overflow_cast-result

@@ -1,9 +1,9 @@
 use Rattle.std.proofs.Common.{◌∙◌, ap, sym}
-use Rattle.cs_index.specs.Image.{names_of}
+use Rattle.cs_index.specs.Encoding.{names_of}
 use Rattle.cs_index.specs.Gathering.{ordered_lists}
-use Rattle.cs_index.specs.Building.{complete_lists}
+use Rattle.cs_index.specs.BuilderInvariant.{complete_lists}
 use Rattle.cs_index.specs.Built.{Built, is_above}
-use Rattle.cs_index.proofs.BuildingLemmas.{names_entries}
+use Rattle.cs_index.proofs.writer.BuilderAdd.{names_entries}
 use Rattle.cs_index.proofs.writing.builder.Builder.names_are_below.Goals as goal
 
 pub returns : goal.returns

@@ -1,6 +1,6 @@
 use Rattle.std.proofs.Common.{◌≡◌, ◌∙◌, ◌-◌, ◌<◌, ap, sym, subst, List, ℕ, length, Some, None, slice_get, take, drop}
 use Rattle.std.specs.Option.{option_copied}
-use Rattle.cs_index.proofs.StringLemmas.{last_text, no_text}
+use Rattle.cs_index.proofs.writer.StringsPush.{last_text, no_text}
 use Rattle.cs_index.proofs.writing.strings.Strings.last.Goals as goal
 
 pub returns-in_err-start : goal.returns-in_err-start

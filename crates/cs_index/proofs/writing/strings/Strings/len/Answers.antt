@@ -1,5 +1,5 @@
 use Rattle.std.proofs.Common.{◌∙◌, ap, length, List, ℕ}
-use Rattle.cs_index.proofs.StringLemmas.{count_texts}
+use Rattle.cs_index.proofs.writer.StringsPush.{count_texts}
 use Rattle.cs_index.proofs.writing.strings.Strings.len.Goals as goal
 
 pub returns : goal.returns

@@ -1,0 +1,4 @@
+pub mod ArgSplitLemmas
+mod MessageLemmas
+mod Examples
+mod ReadOptionsLemmas

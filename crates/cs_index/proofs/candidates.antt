@@ -1,0 +1,4 @@
+pub mod Intersection
+pub mod QueryMembers
+pub mod QueryTrigrams
+pub mod RequiredLists

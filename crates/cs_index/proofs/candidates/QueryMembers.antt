@@ -1,0 +1,293 @@
+-- Queries by their members.
+use Rattle.std.proofs.Common.{◌≡◌, ℕ, ◌+◌, ◌<◌, Bool, true, false, not, cond, ◌&&◌, ◌||◌, eqb, List, [], ◌∷◌, length, map, Vec, Global, Option, Some, None, refl, sym, ap, subst, ◌∙◌, inl, inr, find, take, drop}
+use Rattle.cs_index.specs.Postings.{entry_of, nothing_read, read_for}
+use Rattle.cs_index.specs.AscendingIds.{AscendWithin}
+use Rattle.cs_index.specs.PostingLists.{Ids, damage, read_ids, set_at}
+use Rattle.cs_trigram.specs.Trigram.{has, Ascends}
+use Rattle.std.proofs.lemmas.Bool.{true≢false, cases_Bool, cond_both, eqb-true, or_left, or_parts}
+use Rattle.std.proofs.lemmas.List.Folds.{list_all-map}
+use Rattle.std.specs.Prelude.{filter, option_map, unwrap_or, bytes_eq}
+use Rattle.std.specs.List.{AllByRecursion, list_all, list_any, range_with_len}
+use Rattle.cs_trigram.specs.Query.{matches_set, matches_set_step}
+use Rattle.cs_trigram.specs.declared.queries.Query.{Query, Query-F, fold-roll-Query}
+use Rattle.cs_trigram.specs.declared.queries.Query.TheVariants.{All, Nothing, Tri, And, Or, rolls-All, rolls-Nothing, rolls-Tri, rolls-And, rolls-Or}
+use Rattle.cs_index.specs.Encoding.{ListEntry, PostingList, three_bytes}
+use Rattle.cs_index.specs.Opening.{rises}
+use Rattle.cs_index.specs.OpenedParts.{Parts, ids_read, lists_in, whole_ids}
+use Rattle.cs_index.specs.Candidates.{candidates_of, name_matches, ids_where}
+use Rattle.cs_index.specs.Answerable.{mentions, mentions_step, is_answerable}
+use Rattle.cs_index.proofs.decoding.DecodableBytesOpen.{rise_read}
+use Rattle.cs_index.proofs.candidates.Intersection.{ascends_range, below_range, filter_all, filter_filter, has_below, has_range, read_rise, rise_ascends, rise_below}
+use Rattle.cs_trigram.proofs.QueryLemmas.{matches_set-All, matches_set-Nothing, matches_set-Tri}
+use Rattle.cs_trigram.proofs.SetLemmas.{ascends_tail, ascends_head, below_none, ascends_same, ascends_filter, filter_within, has-filter}
+use Rattle.cs_tree.proofs.NameLemmas.{list_any-map}
+
+-- ---- unfolding of queries
+
+module _ (set : ℕ → Bool) where
+  pub matches_set-And : (members : Vec Query Global) → matches_set (And members) set ≡ list_all (λ q. matches_set q set) members.items
+  matches_set-And members =
+      ap (λ q. matches_set q set) (sym (rolls-And members)) ∙ fold-roll-Query Bool (matches_set_step set) (Query-F.And members)
+      ∙ list_all-map (λ b. b) (λ q. matches_set q set) members.items
+
+  pub matches_set-Or : (members : Vec Query Global) → matches_set (Or members) set ≡ list_any (λ q. matches_set q set) members.items
+  matches_set-Or members =
+      ap (λ q. matches_set q set) (sym (rolls-Or members)) ∙ fold-roll-Query Bool (matches_set_step set) (Query-F.Or members)
+      ∙ list_any-map (λ q. matches_set q set) (λ b. b) members.items
+
+module _ (g : ℕ) where
+  is_mentioned-All : mentions All g ≡ false
+  is_mentioned-All = ap (λ q. mentions q g) (sym rolls-All) ∙ fold-roll-Query Bool (mentions_step g) Query-F.All
+
+  is_mentioned-Nothing : mentions Nothing g ≡ false
+  is_mentioned-Nothing = ap (λ q. mentions q g) (sym rolls-Nothing) ∙ fold-roll-Query Bool (mentions_step g) Query-F.Nothing
+
+  pub is_mentioned-Tri : (n : ℕ) → mentions (Tri n) g ≡ eqb g n
+  is_mentioned-Tri n = ap (λ q. mentions q g) (sym (rolls-Tri n)) ∙ fold-roll-Query Bool (mentions_step g) (Query-F.Tri n)
+
+  pub is_mentioned-And : (members : Vec Query Global) → mentions (And members) g ≡ list_any (λ q. mentions q g) members.items
+  is_mentioned-And members =
+      ap (λ q. mentions q g) (sym (rolls-And members)) ∙ fold-roll-Query Bool (mentions_step g) (Query-F.And members)
+      ∙ list_any-map (λ q. mentions q g) (λ b. b) members.items
+
+  pub is_mentioned-Or : (members : Vec Query Global) → mentions (Or members) g ≡ list_any (λ q. mentions q g) members.items
+  is_mentioned-Or members =
+      ap (λ q. mentions q g) (sym (rolls-Or members)) ∙ fold-roll-Query Bool (mentions_step g) (Query-F.Or members)
+      ∙ list_any-map (λ q. mentions q g) (λ b. b) members.items
+
+-- ---- lists of members
+
+-- the test of an entry
+passes : (ListEntry → Bool) → (ℕ → Bool) → ListEntry → Bool
+passes whole mentioned e = not (mentioned e.trigram) || whole e
+
+all_true : (es : List ListEntry) → list_all (λ _. true) es ≡ true
+all_true [] = refl
+all_true (e ∷ es) = all_true es
+
+both_all : (p q : ListEntry → Bool) (es : List ListEntry) → list_all (λ e. p e && q e) es ≡ (list_all p es && list_all q es)
+both_all p q [] = refl
+both_all p q (e ∷ es) = ap (λ b. (p e && q e) && b) (both_all p q es) ∙ swap (p e) (q e) (list_all p es) (list_all q es)
+  where
+    swap : (a b c d : Bool) → ((a && b) && (c && d)) ≡ ((a && c) && (b && d))
+    swap true true c d = refl
+    swap true false true d = refl
+    swap true false false d = refl
+    swap false b c d = refl
+
+split : (a b w : Bool) → (not (a || b) || w) ≡ ((not a || w) && (not b || w))
+split true b true = sym (one b)
+  where
+    one : (b : Bool) → (not b || true) ≡ true
+    one true = refl
+    one false = refl
+split true b false = refl
+split false b w = refl
+
+-- the lists of each member are whole if those of all members are
+members_whole : (whole : ListEntry → Bool) (es : List ListEntry) (ms : List Query) → list_all (λ (e : ListEntry). not (list_any (λ m. mentions m e.trigram) ms) || whole e) es ≡ list_all (λ m. list_all (λ (e : ListEntry). not (mentions m e.trigram) || whole e) es) ms
+members_whole whole es [] = all_true es
+members_whole whole es (m ∷ ms) =
+    ap (λ (p : ListEntry → Bool). list_all p es) (λ i e. split (mentions m e.trigram) (list_any (λ n. mentions n e.trigram) ms) (whole e) i)
+    ∙ both_all (λ (e : ListEntry). not (mentions m e.trigram) || whole e) (λ (e : ListEntry). not (list_any (λ n. mentions n e.trigram) ms) || whole e) es
+    ∙ ap (λ b. list_all (λ (e : ListEntry). not (mentions m e.trigram) || whole e) es && b) (members_whole whole es ms)
+
+module _ (parts : Parts) where
+  answerable_as : (query : Query) (mentioned : ℕ → Bool) → ((g : ℕ) → mentions query g ≡ mentioned g) → is_answerable parts query ≡ list_all (λ (e : ListEntry). not (mentioned e.trigram) || (ids_read parts e).whole) parts.entries
+  unfolding is_answerable
+  answerable_as query mentioned h = ap (λ (p : ListEntry → Bool). list_all p parts.entries) (λ i e. not (h e.trigram i) || (ids_read parts e).whole)
+
+  pub answerable-All : is_answerable parts All ≡ true
+  answerable-All = answerable_as All (λ _. false) is_mentioned-All ∙ all_true parts.entries
+
+  pub answerable-Nothing : is_answerable parts Nothing ≡ true
+  answerable-Nothing = answerable_as Nothing (λ _. false) is_mentioned-Nothing ∙ all_true parts.entries
+
+  all_answerable : (ms : List Query) → list_all (λ (e : ListEntry). not (list_any (λ m. mentions m e.trigram) ms) || (ids_read parts e).whole) parts.entries ≡ list_all (is_answerable parts) ms
+  unfolding is_answerable
+  all_answerable ms = members_whole (λ e. (ids_read parts e).whole) parts.entries ms
+
+  pub answerable-And : (members : Vec Query Global) → is_answerable parts (And members) ≡ list_all (is_answerable parts) members.items
+  answerable-And members = answerable_as (And members) (λ g. list_any (λ m. mentions m g) members.items) (λ g. is_mentioned-And g members) ∙ all_answerable members.items
+
+  pub answerable-Or : (members : Vec Query Global) → is_answerable parts (Or members) ≡ list_all (is_answerable parts) members.items
+  answerable-Or members = answerable_as (Or members) (λ g. list_any (λ m. mentions m g) members.items) (λ g. is_mentioned-Or g members) ∙ all_answerable members.items
+
+  -- ---- candidates by member
+
+  candidates_as : (query : Query) (test : ℕ → Bool) → ((id : ℕ) → name_matches parts query id ≡ test id) → candidates_of parts query ≡ ids_where parts test
+  unfolding candidates_of
+  candidates_as query test h = ap (ids_where parts) (λ i id. h id i)
+
+  pub candidates-All : candidates_of parts All ≡ range_with_len 0 (length parts.names)
+  candidates-All = candidates_as All (λ _. true) (λ id. matches_set-All _) ∙ filter_all (range_with_len 0 (length parts.names))
+
+  pub candidates-Nothing : candidates_of parts Nothing ≡ []
+  candidates-Nothing = candidates_as Nothing (λ _. false) (λ id. matches_set-Nothing _) ∙ filter_none (range_with_len 0 (length parts.names))
+    where
+      filter_none : (xs : List ℕ) → filter (λ _. false) xs ≡ []
+      filter_none [] = refl
+      filter_none (x ∷ xs) = filter_none xs
+
+  pub candidates-And : (members : Vec Query Global) → candidates_of parts (And members) ≡ ids_where parts (λ id. list_all (λ m. name_matches parts m id) members.items)
+  candidates-And members = candidates_as (And members) (λ id. list_all (λ m. name_matches parts m id) members.items) (λ id. matches_set-And _ members)
+
+  pub candidates-Or : (members : Vec Query Global) → candidates_of parts (Or members) ≡ ids_where parts (λ id. list_any (λ m. name_matches parts m id) members.items)
+  candidates-Or members = candidates_as (Or members) (λ id. list_any (λ m. name_matches parts m id) members.items) (λ id. matches_set-Or _ members)
+
+-- ---- the list of a trigram
+
+no_set : (f : ListEntry → Ids) (g k : ℕ) (es : List ListEntry) → has (map (λ (e : ListEntry). e.trigram) es) g ≡ false → has (set_at k (map (λ (e : ListEntry). (e.trigram, whole_ids (f e))) es)) g ≡ false
+no_set f g k [] h = refl
+no_set f g k (e ∷ es) h =
+    let both = or_parts (eqb e.trigram g) (has (map (λ (d : ListEntry). d.trigram) es) g) h in
+    cond_both (has (whole_ids (f e)) k) ((e.trigram, whole_ids (f e)) ∷ filter (λ (p : PostingList). has p.1 k) (map (λ (d : ListEntry). (d.trigram, whole_ids (f d))) es)) (filter (λ (p : PostingList). has p.1 k) (map (λ (d : ListEntry). (d.trigram, whole_ids (f d))) es)) (λ ps. has (map (λ (p : PostingList). p.0) ps) g ≡ false)
+    (λ _. ap (λ b. b || has (set_at k (map (λ (d : ListEntry). (d.trigram, whole_ids (f d))) es)) g) both.0 ∙ no_set f g k es both.1)
+    (λ _. no_set f g k es both.1)
+
+none_mentioned : (whole : ListEntry → Bool) (g : ℕ) (es : List ListEntry) → has (map (λ (e : ListEntry). e.trigram) es) g ≡ false → list_all (λ (e : ListEntry). not (eqb e.trigram g) || whole e) es ≡ true
+none_mentioned whole g [] h = refl
+none_mentioned whole g (e ∷ es) h =
+    let both = or_parts (eqb e.trigram g) (has (map (λ (d : ListEntry). d.trigram) es) g) h in
+    (λ i. (not (both.0 i) || whole e) && none_mentioned whole g es both.1 i)
+
+-- the result of looking a trigram up
+found_ids : (ListEntry → Ids) → List ListEntry → ℕ → Ids
+found_ids f es g = unwrap_or (option_map f (find (λ (e : ListEntry). eqb e.trigram g) es)) nothing_read
+
+no_more : (e : ListEntry) (es : List ListEntry) (g : ℕ) → Ascends (map (λ (d : ListEntry). d.trigram) (e ∷ es)) → eqb e.trigram g ≡ true → has (map (λ (d : ListEntry). d.trigram) es) g ≡ false
+no_more e es g up here =
+    let ts : List ℕ = map (λ (d : ListEntry). d.trigram) es in
+    ap (has ts) (sym (eqb-true e.trigram g here)) ∙ below_none e.trigram ts (ascends_head e.trigram ts up) (ascends_tail e.trigram ts up)
+
+set_found : (f : ListEntry → Ids) (g k : ℕ) (es : List ListEntry) → Ascends (map (λ (e : ListEntry). e.trigram) es) → has (set_at k (map (λ (e : ListEntry). (e.trigram, whole_ids (f e))) es)) g ≡ has (whole_ids (found_ids f es g)) k
+unfolding found_ids
+set_found f g k [] up = refl
+set_found f g k (e ∷ es) up =
+    let rest : List PostingList = filter (λ (p : PostingList). has p.1 k) (map (λ (d : ListEntry). (d.trigram, whole_ids (f d))) es) in
+    elim (cases_Bool (eqb e.trigram g)) [
+      | inl here ↦
+          let none = no_set f g k es (no_more e es g up here) in
+          elim (cases_Bool (has (whole_ids (f e)) k)) [
+            | inl there ↦
+                ap (λ b. has (map (λ (p : PostingList). p.0) (cond b ((e.trigram, whole_ids (f e)) ∷ rest) rest)) g) there ∙ or_left (eqb e.trigram g) (has (map (λ (p : PostingList). p.0) rest) g) here
+                ∙ sym (ap (λ b. has (whole_ids (unwrap_or (option_map f (cond b (Some e) (find (λ (d : ListEntry). eqb d.trigram g) es))) nothing_read)) k) here ∙ there)
+            | inr gone ↦
+                ap (λ b. has (map (λ (p : PostingList). p.0) (cond b ((e.trigram, whole_ids (f e)) ∷ rest) rest)) g) gone ∙ none
+                ∙ sym (ap (λ b. has (whole_ids (unwrap_or (option_map f (cond b (Some e) (find (λ (d : ListEntry). eqb d.trigram g) es))) nothing_read)) k) here ∙ gone)
+          ]
+      | inr apart ↦
+          cond_both (has (whole_ids (f e)) k) ((e.trigram, whole_ids (f e)) ∷ rest) rest (λ ps. has (map (λ (p : PostingList). p.0) ps) g ≡ has (whole_ids (found_ids f es g)) k)
+          (λ _. ap (λ b. b || has (map (λ (p : PostingList). p.0) rest) g) apart ∙ set_found f g k es (ascends_tail e.trigram (map (λ (d : ListEntry). d.trigram) es) up))
+          (λ _. set_found f g k es (ascends_tail e.trigram (map (λ (d : ListEntry). d.trigram) es) up))
+          ∙ sym (ap (λ b. has (whole_ids (unwrap_or (option_map f (cond b (Some e) (find (λ (d : ListEntry). eqb d.trigram g) es))) nothing_read)) k) apart)
+    ]
+
+whole_found : (f : ListEntry → Ids) (g : ℕ) (es : List ListEntry) → Ascends (map (λ (e : ListEntry). e.trigram) es) → list_all (λ (e : ListEntry). not (eqb e.trigram g) || (f e).whole) es ≡ (found_ids f es g).whole
+unfolding found_ids
+whole_found f g [] up = refl
+whole_found f g (e ∷ es) up = elim (cases_Bool (eqb e.trigram g)) [
+  | inl here ↦
+      (λ i. (not (here i) || (f e).whole) && none_mentioned (λ d. (f d).whole) g es (no_more e es g up here) i) ∙ and_true (f e).whole
+      ∙ sym (ap (λ b. (unwrap_or (option_map f (cond b (Some e) (find (λ (d : ListEntry). eqb d.trigram g) es))) nothing_read).whole) here)
+  | inr apart ↦
+      ap (λ b. (not b || (f e).whole) && list_all (λ (d : ListEntry). not (eqb d.trigram g) || (f d).whole) es) apart
+      ∙ whole_found f g es (ascends_tail e.trigram (map (λ (d : ListEntry). d.trigram) es) up)
+      ∙ sym (ap (λ b. (unwrap_or (option_map f (cond b (Some e) (find (λ (d : ListEntry). eqb d.trigram g) es))) nothing_read).whole) apart)
+]
+  where
+    and_true : (b : Bool) → (b && true) ≡ b
+    and_true true = refl
+    and_true false = refl
+
+module _ (parts : Parts) where
+  -- the ids of an entry are ascending
+  pub entry_rises : (e : ListEntry) → AscendWithin (length parts.names) 0 (ids_read parts e).ids
+  entry_rises e =
+      cond_both (bytes_eq (take 3 (drop e.offset parts.postings)) (three_bytes e.trigram)) (read_ids (length parts.names) e.count 0 (drop (e.offset + 3) parts.postings)) damage (λ (r : Ids). AscendWithin (length parts.names) 0 r.ids)
+      (λ _. read_rise (length parts.names) e.count 0 (drop (e.offset + 3) parts.postings)) (λ _. tt)
+
+  pub list_rises : (g : ℕ) → AscendWithin (length parts.names) 0 (read_for parts g).ids
+  unfolding read_for
+  list_rises g = of (entry_of parts.entries g)
+    where
+      of : (o : Option ListEntry) → AscendWithin (length parts.names) 0 (unwrap_or (option_map (ids_read parts) o) nothing_read).ids
+      of None = tt
+      of (Some e) = entry_rises e
+
+  pub list_ascends : (g : ℕ) → Ascends (read_for parts g).ids
+  list_ascends g = rise_ascends (length parts.names) 0 (read_for parts g).ids (list_rises g)
+
+  pub list_below : (g : ℕ) → AllByRecursion (λ id. id < length parts.names) (read_for parts g).ids
+  list_below g = rise_below (length parts.names) 0 (read_for parts g).ids (list_rises g)
+
+  pub candidates_are : (query : Query) → candidates_of parts query ≡ ids_where parts (name_matches parts query)
+  unfolding candidates_of
+  candidates_are query = refl
+
+  pub candidates_ascend : (query : Query) → Ascends (candidates_of parts query)
+  candidates_ascend query = subst Ascends (sym (candidates_are query)) (ascends_filter (name_matches parts query) (range_with_len 0 (length parts.names)) (ascends_range (length parts.names)))
+
+  pub candidates_below : (query : Query) → AllByRecursion (λ id. id < length parts.names) (candidates_of parts query)
+  candidates_below query = subst (AllByRecursion (λ id. id < length parts.names)) (sym (candidates_are query)) (below_range (name_matches parts query) (length parts.names))
+
+  has_candidate : (query : Query) (id : ℕ) → has (range_with_len 0 (length parts.names)) id ≡ true → has (candidates_of parts query) id ≡ name_matches parts query id
+  has_candidate query id h = ap (λ (ids : List ℕ). has ids id) (candidates_are query) ∙ has-filter (name_matches parts query) (range_with_len 0 (length parts.names)) id ∙ ap (λ b. b && name_matches parts query id) h
+
+  -- ---- conjunctions and disjunctions
+
+  pub every_member : (ms : List Query) → filter (λ id. list_all (λ m. has (candidates_of parts m) id) ms) (range_with_len 0 (length parts.names)) ≡ ids_where parts (λ id. list_all (λ m. name_matches parts m id) ms)
+  every_member ms = filter_within (λ id. list_all (λ m. has (candidates_of parts m) id) ms) (λ id. list_all (λ m. name_matches parts m id) ms) (range_with_len 0 (length parts.names)) (λ id h. ap (λ (p : Query → Bool). list_all p ms) (λ i m. has_candidate m id h i))
+
+  pub some_member : (test : ℕ → Bool) (ms : List Query) → ((id : ℕ) → test id ≡ list_any (λ m. has (candidates_of parts m) id) ms) → filter test (range_with_len 0 (length parts.names)) ≡ ids_where parts (λ id. list_any (λ m. name_matches parts m id) ms)
+  some_member test ms is = filter_within test (λ id. list_any (λ m. name_matches parts m id) ms) (range_with_len 0 (length parts.names)) (λ id h. is id ∙ ap (λ (p : Query → Bool). list_any p ms) (λ i m. has_candidate m id h i))
+
+  -- the trigram is a member, so that it satisfies what every member satisfies
+  pub rarest_first : (g : ℕ) (ms : List Query) → ((test : Query → Bool) → list_all test ms ≡ true → test (Tri g) ≡ true) → filter (λ id. list_all (λ m. has (candidates_of parts m) id) ms) (candidates_of parts (Tri g)) ≡ ids_where parts (λ id. list_all (λ m. name_matches parts m id) ms)
+  rarest_first g ms member =
+      let all : ℕ → Bool = λ id. list_all (λ m. has (candidates_of parts m) id) ms in
+      let names : List ℕ = range_with_len 0 (length parts.names) in
+      ap (filter all) (candidates_are (Tri g)) ∙ filter_filter all (name_matches parts (Tri g)) names
+      ∙ filter_within (λ id. name_matches parts (Tri g) id && all id) (λ id. list_all (λ m. name_matches parts m id) ms) names (λ id h.
+      ap (λ (p : Query → Bool). name_matches parts (Tri g) id && list_all p ms) (λ i m. has_candidate m id h i)
+      ∙ absorbed (name_matches parts (Tri g) id) (list_all (λ m. name_matches parts m id) ms) (member (λ m. name_matches parts m id)))
+    where
+      absorbed : (a b : Bool) → (b ≡ true → a ≡ true) → (a && b) ≡ b
+      absorbed a true h = ap (λ t. t && true) (h refl)
+      absorbed true false h = refl
+      absorbed false false h = refl
+
+-- what holds of the ids that are read, and of the empty list, holds of the ids of a list
+whole_or_none : (P : List ℕ → Type 0) (r : Ids) → P r.ids → P [] → P (whole_ids r)
+whole_or_none P r ids none = cond_both r.whole r.ids [] P (λ _. ids) (λ _. none)
+
+module _ (parts : Parts) (up : rises parts.entries ≡ true) where
+  pub answerable-Tri : (g : ℕ) → is_answerable parts (Tri g) ≡ (read_for parts g).whole
+  unfolding read_for found_ids
+  answerable-Tri g = answerable_as parts (Tri g) (λ h. eqb h g) (λ h. is_mentioned-Tri h g) ∙ whole_found (ids_read parts) g parts.entries (rise_read parts.entries up)
+
+  pub set_is : (g k : ℕ) → has (set_at k (lists_in parts)) g ≡ has (whole_ids (read_for parts g)) k
+  unfolding read_for found_ids
+  set_is g k = set_found (ids_read parts) g k parts.entries (rise_read parts.entries up)
+
+  candidates-one : (g : ℕ) → candidates_of parts (Tri g) ≡ whole_ids (read_for parts g)
+  candidates-one g =
+      let r : Ids = read_for parts g in
+      let ids : List ℕ = whole_ids r in
+      let names : List ℕ = range_with_len 0 (length parts.names) in
+      candidates_as parts (Tri g) (has ids) (λ k. matches_set-Tri _ g ∙ set_is g k)
+      ∙ ascends_same (filter (has ids) names) ids (ascends_filter (has ids) names (ascends_range (length parts.names))) (whole_or_none Ascends r (list_ascends parts g) tt) (λ k.
+      has-filter (has ids) names k ∙ both k (has ids k) refl)
+    where
+      both : (k : ℕ) (b : Bool) → has (whole_ids (read_for parts g)) k ≡ b → (has (range_with_len 0 (length parts.names)) k && b) ≡ b
+      both k true e = ap (λ t. t && true) (has_range (length parts.names) k (has_below (length parts.names) (whole_ids (read_for parts g)) k (whole_or_none (AllByRecursion (λ id. id < length parts.names)) (read_for parts g) (list_below parts g) tt) e))
+      both k false e = elim (has (range_with_len 0 (length parts.names)) k) as (λ t. (t && false) ≡ false) [ true ↦ refl | false ↦ refl ]
+
+  pub candidates-Tri : (g : ℕ) → (read_for parts g).whole ≡ true → candidates_of parts (Tri g) ≡ (read_for parts g).ids
+  candidates-Tri g whole = candidates-one g ∙ ap (λ b. cond b (read_for parts g).ids []) whole
+
+  pub rarest_damaged : (g : ℕ) (ms : List Query) → ((test : Query → Bool) → list_all test ms ≡ true → test (Tri g) ≡ true) → (read_for parts g).whole ≡ false → list_all (is_answerable parts) ms ≡ false
+  rarest_damaged g ms member bad = elim (cases_Bool (list_all (is_answerable parts) ms)) [
+    | inl good ↦ absurd (true≢false (sym (member (is_answerable parts) good) ∙ answerable-Tri g ∙ bad))
+    | inr h ↦ h
+  ]

@@ -1,0 +1,10 @@
+pub mod DecodableBytesOpen
+pub mod DecodingIsUnique
+pub mod EntryTables
+pub mod FirstFailure
+pub mod IndexFields
+pub mod NameOffsets
+pub mod PartsAreValid
+pub mod StringScan
+pub mod StringSections
+pub mod VarintGroups

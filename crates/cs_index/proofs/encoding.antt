@@ -1,0 +1,9 @@
+pub mod EncodingDecodes
+pub mod EncodingOpens
+pub mod FileMapEncoding
+pub mod FixedWidthFields
+pub mod Inversion
+pub mod InvertedLists
+pub mod Layout
+pub mod ListsReadBack
+pub mod VarintRoundtrip

@@ -1,0 +1,2 @@
+pub mod ReducedPaths
+pub mod SortedNames

@@ -1,0 +1,5 @@
+pub mod EncodedRuns
+pub mod IteratorSteps
+pub mod ListAtEntry
+pub mod ReadStep
+pub mod StreamPush

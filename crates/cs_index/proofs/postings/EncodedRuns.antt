@@ -1,0 +1,226 @@
+-- Encoded runs: ids that are copied as varint deltas.
+use Rattle.std.proofs.Common.{◌≡◌, ℕ, suc, ◌+◌, ◌-◌, ◌*◌, ◌/◌, ◌%◌, ◌^◌, ◌<◌, ◌≤◌, Bool, false, cond, ltb, List, [], ◌∷◌, ◌++◌, length, get_or, take, drop, refl, sym, ap, subst, ◌∙◌, arith, append_assoc}
+use Rattle.std.proofs.lemmas.Bool.{lt-ltb, le-ltb, and_from}
+use Rattle.std.proofs.lemmas.List.{append-nil, length-map}
+use Rattle.std.proofs.Math.Seq.{take-add}
+use Rattle.std.specs.List.{AllByRecursion}
+use Rattle.std.specs.Prelude.{flat_map, fold, sum}
+use Rattle.cs_index.specs.Encoding.{varint, varint_within, deltas_from, stream_of}
+use Rattle.cs_index.specs.IdStream.{ids_in, IsStream}
+use Rattle.cs_index.specs.AscendingIds.{ids_onward, max_ids, next_after, AscendWithin}
+use Rattle.cs_index.specs.PostingLists.{Ids, read_ids, read_varint, onto, damage}
+use Rattle.cs_index.specs.PostingsInvariant.{remaining_ids}
+use Rattle.cs_index.proofs.postings.StreamPush.{rise_length, short_varint, stream_from, stream_more}
+use Rattle.cs_index.proofs.encoding.VarintRoundtrip.{varint_read, after_delta}
+
+-- ---- relative ids
+
+pub onward_next : (from next : ℕ) (ids : List ℕ) → next_after (from + next) (ids_onward from ids) ≡ from + next_after next ids
+onward_next from next [] = refl
+onward_next from next (id ∷ ids) =
+    let at : from + id + 1 ≡ from + (id + 1) = omega arith in
+    ap (λ n. next_after n (ids_onward from ids)) at ∙ onward_next from (id + 1) ids
+
+pub onward_rise : (limit name_count from next : ℕ) (ids : List ℕ) → AscendWithin limit next ids →
+    from + next_after next ids ≤ name_count → AscendWithin name_count (from + next) (ids_onward from ids)
+onward_rise limit name_count from next [] up h = tt
+onward_rise limit name_count from next (id ∷ ids) up h =
+    let long = rise_length limit (id + 1) ids up.2 in
+    let at : from + (id + 1) ≡ from + id + 1 = omega arith in (
+      omega (arith, up.0),
+      omega (arith, long, h),
+      subst (λ n. AscendWithin name_count n (ids_onward from ids)) at (onward_rise limit name_count from (id + 1) ids up.2 h),
+    )
+
+pub onward_deltas : (from next : ℕ) (ids : List ℕ) → deltas_from (from + next) (ids_onward from ids) ≡ deltas_from next ids
+onward_deltas from next [] = refl
+onward_deltas from next (id ∷ ids) =
+    let first : from + id + 1 - (from + next) ≡ id + 1 - next = omega arith in
+    let at : from + id + 1 ≡ from + (id + 1) = omega arith in
+    let rest : deltas_from (from + id + 1) (ids_onward from ids) ≡ deltas_from (id + 1) ids = ap (λ n. deltas_from n (ids_onward from ids)) at ∙ onward_deltas from (id + 1) ids in
+    λ i. first i ∷ rest i
+
+-- relative ids have the same deltas as the ids themselves
+pub onward_stream : (from : ℕ) (ids : List ℕ) → flat_map varint (deltas_from from (ids_onward from ids)) ≡ stream_of ids
+onward_stream from ids =
+    let at : from ≡ from + 0 = omega arith in
+    ap (λ n. flat_map varint (deltas_from n (ids_onward from ids))) at ∙ ap (flat_map varint) (onward_deltas from 0 ids)
+
+pub onward_last : (from : ℕ) (ids : List ℕ) → next_after from (ids_onward from ids) ≡ from + next_after 0 ids
+onward_last from ids =
+    let at : from ≡ from + 0 = omega arith in
+    ap (λ n. next_after n (ids_onward from ids)) at ∙ onward_next from 0 ids
+
+pub onward_from : (limit name_count from : ℕ) (ids : List ℕ) → AscendWithin limit 0 ids → from + next_after 0 ids ≤ name_count →
+    AscendWithin name_count from (ids_onward from ids)
+onward_from limit name_count from ids up h =
+    let at : from + 0 ≡ from = omega arith in
+    subst (λ n. AscendWithin name_count n (ids_onward from ids)) at (onward_rise limit name_count from 0 ids up h)
+
+-- ---- the first ids of a list that is read
+
+-- ids prepended to a list
+abbrev pub before : List ℕ → Ids → Ids
+before ids read = record { ids = ids ++ read.ids; whole = read.whole }
+
+read_prefix : (name_count next more : ℕ) (ids rest : List ℕ) → name_count < 2 ^ 32 → AscendWithin name_count next ids →
+    read_ids name_count (length ids + more) next (flat_map varint (deltas_from next ids) ++ rest)
+    ≡ before ids (read_ids name_count more (next_after next ids) rest)
+read_prefix name_count next more [] rest bound up =
+    let none : 0 + more ≡ more = omega arith in ap (λ n. read_ids name_count n next rest) none
+read_prefix name_count next more (id ∷ ids) rest bound up =
+    let delta : ℕ = id + 1 - next in
+    let fits : delta < 2 ^ 32 = omega (arith, bound, up.1) in
+    let at : next + delta ≡ id + 1 = omega (arith, up.0) in
+    let one : suc (length ids) + more ≡ suc (length ids + more) = omega arith in
+    ap (λ n. read_ids name_count n next (flat_map varint (deltas_from next (id ∷ ids)) ++ rest)) one
+    ∙ ap (after_delta name_count next (read_ids name_count (length ids + more)))
+    (ap read_varint (append_assoc (varint delta) (flat_map varint (deltas_from (id + 1) ids)) rest) ∙ varint_read delta _ fits)
+    ∙ ap (λ b. cond b (onto (next + delta - 1) (read_ids name_count (length ids + more) (next + delta) (flat_map varint (deltas_from (id + 1) ids) ++ rest))) damage)
+    (and_from (ltb 0 delta) (ltb (next + delta) (name_count + 1)) (lt-ltb 0 delta (omega (arith, up.0))) (lt-ltb (next + delta) (name_count + 1) (omega (arith, at, up.1))))
+    ∙ ap (λ m. onto (m - 1) (read_ids name_count (length ids + more) m (flat_map varint (deltas_from (id + 1) ids) ++ rest))) at
+    ∙ ap (onto (id + 1 - 1)) (read_prefix name_count (id + 1) more ids rest bound up.2)
+    ∙ ap (λ m. onto m (before ids (read_ids name_count more (next_after (id + 1) ids) rest))) (let back : id + 1 - 1 ≡ id = omega arith in back)
+
+pub left_prefix : (name_count next left : ℕ) (bytes rest ids : List ℕ) → name_count < 2 ^ 31 → AscendWithin max_ids 0 ids →
+    next + next_after 0 ids ≤ name_count → length ids ≤ left → bytes ≡ stream_of ids ++ rest →
+    read_ids name_count left next bytes
+    ≡ before (ids_onward next ids) (read_ids name_count (left - length ids) (next + next_after 0 ids) rest)
+left_prefix name_count next left bytes rest ids bound up within count is =
+    let long = length-map ids (λ id. next + id) in
+    let all : left ≡ length (ids_onward next ids) + (left - length ids) = omega (arith, long, count) in
+    let written : bytes ≡ flat_map varint (deltas_from next (ids_onward next ids)) ++ rest = is ∙ ap (λ s. s ++ rest) (sym (onward_stream next ids)) in
+    (λ i. read_ids name_count (all i) next (written i))
+    ∙ read_prefix name_count next (left - length ids) (ids_onward next ids) rest (omega (arith, bound)) (onward_from max_ids name_count next ids up within)
+    ∙ ap (λ n. before (ids_onward next ids) (read_ids name_count (left - length ids) n rest)) (onward_last next ids)
+
+-- relative ids are less than their bound
+pub all_below : (limit from end next : ℕ) (ids : List ℕ) → AscendWithin limit next ids → next_after next ids ≤ end - from →
+    AllByRecursion (λ id. from + id < end) ids
+all_below limit from end next [] up h = tt
+all_below limit from end next (id ∷ ids) up h =
+    let long = rise_length limit (id + 1) ids up.2 in
+    (omega (arith, long, h), all_below limit from end (id + 1) ids up.2 h)
+
+-- ---- one more step of a run
+
+-- a stream appended to another
+pub joined : (bytes : List ℕ) (len count next size ids end : ℕ) → IsStream (take len bytes) count next →
+    IsStream (take size (drop len bytes)) ids end → next + end ≤ max_ids →
+    IsStream (take (len + size) bytes) (count + ids) (next + end)
+joined bytes len count next size ids end is more fits =
+    let some : List ℕ = ids_in (take size (drop len bytes)) ids in
+    let rise : AscendWithin max_ids next (ids_onward next some) =
+    onward_from max_ids max_ids next some more.rise (omega (arith, fits, more.follows)) in
+    let push = stream_more (take len bytes) count next (ids_onward next some) is rise in
+    let all : take len bytes ++ flat_map varint (deltas_from next (ids_onward next some)) ≡ take (len + size) bytes =
+    ap (λ s. take len bytes ++ s) (onward_stream next some ∙ sym more.written) ∙ sym (take-add len size bytes) in
+    let many : count + length (ids_onward next some) ≡ count + ids = ap (λ n. count + n) (length-map some (λ id. next + id) ∙ sym more.counted) in
+    let at : next_after next (ids_onward next some) ≡ next + end = onward_last next some ∙ ap (λ n. next + n) (sym more.follows) in
+    subst (IsStream (take (len + size) bytes) (count + ids)) at
+    (subst (λ n. IsStream (take (len + size) bytes) n (next_after next (ids_onward next some))) many
+    (subst (λ s. IsStream s (count + length (ids_onward next some)) (next_after next (ids_onward next some))) all push.is))
+
+-- the stream of one id
+pub one_stream : (bytes : List ℕ) (size delta : ℕ) → 0 < delta → delta ≤ max_ids → take size bytes ≡ varint delta →
+    IsStream (take size bytes) 1 delta
+one_stream bytes size delta some bound written =
+    let back : delta - 1 + 1 ≡ delta = omega (arith, some) in
+    let is = stream_from ((delta - 1) ∷ []) (omega arith, omega (arith, some, bound), tt) in
+    let same : delta - 1 + 1 - 0 ≡ delta = omega (arith, some) in
+    let bytes_are : stream_of ((delta - 1) ∷ []) ≡ take size bytes = append-nil (varint (delta - 1 + 1 - 0))
+    ∙ ap varint same ∙ sym written in
+    subst (IsStream (take size bytes) 1) back (subst (λ s. IsStream s 1 (delta - 1 + 1)) bytes_are is)
+
+-- ---- deltas of one byte each
+
+fold_more : (n : ℕ) (ns : List ℕ) → fold (λ a b. a + b) n ns ≡ n + sum ns
+fold_more n [] = (let z : n ≡ n + 0 = omega arith in z)
+fold_more n (m ∷ ns) = fold_more (n + m) ns ∙ (let z : n + m + sum ns ≡ n + (m + sum ns) = omega arith in z)
+    ∙ ap (λ s. n + s) (sym (fold_more (0 + m) ns ∙ (let z : 0 + m + sum ns ≡ m + sum ns = omega arith in z)))
+
+sum_more : (m : ℕ) (ns : List ℕ) → sum (m ∷ ns) ≡ m + sum ns
+sum_more m ns = fold_more (0 + m) ns ∙ (let z : 0 + m + sum ns ≡ m + sum ns = omega arith in z)
+
+-- the ids that deltas encode
+abbrev ids_from : ℕ → List ℕ → List ℕ
+ids_from next [] = []
+ids_from next (delta ∷ deltas) = (next + delta - 1) ∷ ids_from (next + delta) deltas
+
+ids_written : (next : ℕ) (deltas : List ℕ) → AllByRecursion (λ delta. (0 < delta) × (delta < 128)) deltas →
+    flat_map varint (deltas_from next (ids_from next deltas)) ≡ deltas
+ids_written next [] short = refl
+ids_written next (delta ∷ deltas) short =
+    let here : next + delta - 1 + 1 - next ≡ delta = omega (arith, short.0.0) in
+    let on : next + delta - 1 + 1 ≡ next + delta = omega (arith, short.0.0) in
+    (λ i. varint (here i) ++ flat_map varint (deltas_from (on i) (ids_from (next + delta) deltas)))
+    ∙ (λ i. short_varint delta short.0.1 i ++ ids_written (next + delta) deltas short.1 i)
+
+ids_last : (next : ℕ) (deltas : List ℕ) → AllByRecursion (λ delta. (0 < delta) × (delta < 128)) deltas →
+    next_after next (ids_from next deltas) ≡ next + sum deltas
+ids_last next [] short = (let z : next ≡ next + 0 = omega arith in z)
+ids_last next (delta ∷ deltas) short =
+    let on : next + delta - 1 + 1 ≡ next + delta = omega (arith, short.0.0) in
+    ap (λ n. next_after n (ids_from (next + delta) deltas)) on
+    ∙ ids_last (next + delta) deltas short.1
+    ∙ (let z : next + delta + sum deltas ≡ next + sum (delta ∷ deltas) = omega (arith, sum_more delta deltas) in z)
+
+ids_counted : (next : ℕ) (deltas : List ℕ) → length (ids_from next deltas) ≡ length deltas
+ids_counted next [] = refl
+ids_counted next (delta ∷ deltas) = ap suc (ids_counted (next + delta) deltas)
+
+ids_rising : (next : ℕ) (deltas : List ℕ) → AllByRecursion (λ delta. (0 < delta) × (delta < 128)) deltas →
+    next + sum deltas ≤ max_ids → AscendWithin max_ids next (ids_from next deltas)
+ids_rising next [] short fits = tt
+ids_rising next (delta ∷ deltas) short fits =
+    let on : next + delta - 1 + 1 ≡ next + delta = omega (arith, short.0.0) in (
+      omega (arith, short.0.0),
+      omega (arith, short.0.0, fits, sum_more delta deltas),
+      subst (λ n. AscendWithin max_ids n (ids_from (next + delta) deltas)) (sym on)
+          (ids_rising (next + delta) deltas short.1 (omega (arith, fits, sum_more delta deltas))),
+    )
+
+pub deltas_stream : (deltas : List ℕ) → AllByRecursion (λ delta. (0 < delta) × (delta < 128)) deltas →
+    sum deltas ≤ max_ids → IsStream deltas (length deltas) (sum deltas)
+deltas_stream deltas short fits =
+    let is = stream_from (ids_from 0 deltas) (ids_rising 0 deltas short (omega (arith, fits))) in
+    let end : next_after 0 (ids_from 0 deltas) ≡ sum deltas = ids_last 0 deltas short ∙ (let z : 0 + sum deltas ≡ sum deltas = omega arith in z) in
+    subst (IsStream deltas (length deltas)) end
+    (subst (λ n. IsStream deltas n (next_after 0 (ids_from 0 deltas))) (ids_counted 0 deltas)
+    (subst (λ s. IsStream s (length (ids_from 0 deltas)) (next_after 0 (ids_from 0 deltas))) (ids_written 0 deltas short) is))
+
+pub two_bytes : (first second : ℕ) → 128 ≤ first → first < 256 → 0 < second → second < 128 →
+    first ∷ second ∷ [] ≡ varint (first - 128 + 128 * second)
+unfolding varint
+two_bytes first second large byte some small =
+    let n : ℕ = first - 128 + 128 * second in
+    let low : first ≡ n % 128 + 128 = omega (arith, large, byte) in
+    let high : second ≡ n / 128 = omega (arith, large, byte) in
+    let more : 128 ≤ n = omega (arith, some) in
+    (λ i. low i ∷ high i ∷ [])
+    ∙ ap (λ rest. (n % 128 + 128) ∷ rest) (sym (ap (λ b. cond b (n / 128 ∷ []) ((n / 128 % 128 + 128) ∷ varint_within 3 (n / 128 / 128))) (lt-ltb (n / 128) 128 (omega (arith, high, small)))))
+    ∙ sym (ap (λ b. cond b (n ∷ []) ((n % 128 + 128) ∷ varint_within 4 (n / 128))) (le-ltb n 128 more))
+
+pub one_at : (bytes : List ℕ) → 1 ≤ length bytes → get_or bytes 0 0 < 128 → take 1 bytes ≡ varint (get_or bytes 0 0)
+one_at [] some small = absurd (omega (arith, some))
+one_at (first ∷ rest) some small = sym (short_varint first small)
+
+pub two_at : (bytes : List ℕ) → 2 ≤ length bytes → ((i : ℕ) → get_or bytes i 0 < 256) → 128 ≤ get_or bytes 0 0 →
+    0 < get_or bytes 1 0 → get_or bytes 1 0 < 128 →
+    take 2 bytes ≡ varint (get_or bytes 0 0 - 128 + 128 * get_or bytes 1 0)
+two_at [] two are large some small = absurd (omega (arith, two))
+two_at (first ∷ []) two are large some small = absurd (omega (arith, two))
+two_at (first ∷ second ∷ rest) two are large some small = two_bytes first second large (are 0) some small
+
+-- ---- ids that are skipped
+
+pub run_skipped : (ended : Bool) (name_count left next last len on : ℕ) (bytes rest ids : List ℕ) (now : Ids) →
+    remaining_ids ended name_count left next bytes ≡ now → ended ≡ false → next ≡ last + 1 → name_count < 2 ^ 31 →
+    AscendWithin max_ids 0 ids → next + on ≤ name_count → len ≡ length ids → len ≤ left → on ≡ next_after 0 ids →
+    bytes ≡ stream_of ids ++ rest →
+    now ≡ before (ids_onward (last + 1) ids) (remaining_ids ended name_count (left - len) (next + on) rest)
+run_skipped ended name_count left next last len on bytes rest ids now view off at bound up within count fits go is =
+    sym view
+    ∙ ap (λ b. remaining_ids b name_count left next bytes) off
+    ∙ left_prefix name_count next left bytes rest ids bound up (omega (arith, within, go)) (omega (arith, fits, count)) is
+    ∙ (λ i. before (ids_onward (at i) ids) (remaining_ids (sym off i) name_count (left - sym count i) (next + sym go i) rest))

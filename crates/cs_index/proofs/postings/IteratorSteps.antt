@@ -1,0 +1,94 @@
+-- The items that an iterator over a posting list yields.
+use Rattle.std.proofs.Common.{◌≡◌, ℕ, ◌+◌, ◌-◌, ◌<◌, Bool, true, false, cond, ◌||◌, eqb, List, [], ◌∷◌, ◌++◌, length, get_or, set, Result, Ok, Err, refl, sym, ap, ◌∙◌, inl, inr, arith, append_assoc}
+use Rattle.cs_index.specs.Postings.{ids_given, IsListFault}
+use Rattle.cs_index.specs.PostingLists.{Ids}
+use Rattle.std.proofs.lemmas.Bool.{cases_Bool, eqb-true, eqb-false}
+use Rattle.std.proofs.lemmas.List.{get_or-set_other}
+use Rattle.std.proofs.lemmas.Grind.{get_or-set_at}
+use Rattle.std.specs.Prelude.{IfErr, filter}
+use Rattle.std.specs.Result.{IsErrAnd}
+use Rattle.std.specs.List.{range_with_len}
+use Rattle.cs_index.specs.declared.fault.IndexFault.{IndexFault}
+use Rattle.cs_index.specs.declared.fault.IndexFault.TheVariants.{BadList}
+use Rattle.cs_index.proofs.candidates.Intersection.{range_step}
+use Rattle.std.proofs.Math.Bool.{or-true}
+
+-- equal items come from equal ids
+record Same (r s : Ids) : Type 0 where
+  ids : r.ids ≡ s.ids
+  whole : r.whole ≡ s.whole
+
+yields_once : (xs ys : List ℕ) (a b : Bool) → ids_given (record { ids = xs; whole = a }) ≡ ids_given (record { ids = ys; whole = b }) → (xs ≡ ys) × (a ≡ b)
+yields_once [] [] true true e = (refl, refl)
+yields_once [] [] false false e = (refl, refl)
+yields_once [] [] true false e = cc
+yields_once [] [] false true e = cc
+yields_once [] (y ∷ ys) true b e = cc
+yields_once [] (y ∷ ys) false b e = absurd (let w : ◌≡◌ {A = Result ℕ IndexFault} (Err BadList) (Ok y) = cc in cc)
+yields_once (x ∷ xs) [] a true e = cc
+yields_once (x ∷ xs) [] a false e = absurd (let w : ◌≡◌ {A = Result ℕ IndexFault} (Ok x) (Err BadList) = cc in cc)
+yields_once (x ∷ xs) (y ∷ ys) a b e =
+    let head : ◌≡◌ {A = Result ℕ IndexFault} (Ok x) (Ok y) = cc in
+    let is : x ≡ y = cc in
+    let tail : ids_given (record { ids = xs; whole = a }) ≡ ids_given (record { ids = ys; whole = b }) = cc in
+    let rest = yields_once xs ys a b tail in
+    ((λ i. is i ∷ rest.0 i), rest.1)
+
+pub yields_ok : (r rest : Ids) (id : ℕ) → ids_given r ≡ Ok id ∷ ids_given rest → (r.ids ≡ id ∷ rest.ids) × (r.whole ≡ rest.whole)
+yields_ok r rest id e = yields_once r.ids (id ∷ rest.ids) r.whole rest.whole e
+
+pub yields_err : (r rest : Ids) (fault : IndexFault) → ids_given r ≡ Err fault ∷ ids_given rest → (fault ≡ BadList) × (r.whole ≡ false)
+yields_err r rest fault e = bad r.ids r.whole e
+  where
+    bad : (xs : List ℕ) (a : Bool) → ids_given (record { ids = xs; whole = a }) ≡ Err fault ∷ ids_given rest → (fault ≡ BadList) × (a ≡ false)
+    bad [] true h = cc
+    bad [] false h = let head : ◌≡◌ {A = Result ℕ IndexFault} (Err BadList) (Err fault) = cc in (let is : fault ≡ BadList = cc in is, refl)
+    bad (x ∷ xs) a h = absurd (let head : ◌≡◌ {A = Result ℕ IndexFault} (Ok x) (Err fault) = cc in cc)
+
+pub yields_none : (r : Ids) → ids_given r ≡ [] → (r.ids ≡ []) × (r.whole ≡ true)
+yields_none r e = none r.ids r.whole e
+  where
+    none : (xs : List ℕ) (a : Bool) → ids_given (record { ids = xs; whole = a }) ≡ [] → (xs ≡ []) × (a ≡ true)
+    none [] true h = (refl, refl)
+    none [] false h = cc
+    none (x ∷ xs) a h = cc
+
+-- ---- one more id
+
+pub mark_step : (marks : List Bool) (id k : ℕ) (rest : Bool) → id < length marks → (get_or (set marks id true) k false || rest) ≡ (get_or marks k false || (eqb id k || rest))
+mark_step marks id k rest h = elim (cases_Bool (eqb id k)) [
+  | inl here ↦
+      ap (λ b. b || rest) (get_or-set_at marks id k true false (sym (eqb-true id k here)) h)
+      ∙ sym (ap (λ b. get_or marks k false || (b || rest)) here ∙ or-true (get_or marks k false))
+  | inr apart ↦
+      ap (λ b. b || rest) (get_or-set_other marks id k true false (λ e. eqb-false id k apart (sym e)))
+      ∙ sym (ap (λ b. get_or marks k false || (b || rest)) apart)
+]
+
+pub range_push : (count id : ℕ) (ids new : List ℕ) → id < count → range_with_len 0 count ≡ ids ++ range_with_len id (count - id) → new ≡ ids ++ id ∷ [] → range_with_len 0 count ≡ new ++ range_with_len (id + 1) (count - (id + 1))
+range_push count id ids new h so_far is =
+    so_far ∙ ap (λ t. ids ++ t) (range_step id (count - id) (omega (arith, h)) ∙ ap (λ n. id ∷ range_with_len (id + 1) n) (let z : count - id - 1 ≡ count - (id + 1) = omega arith in z))
+    ∙ sym (append_assoc ids (id ∷ []) (range_with_len (id + 1) (count - (id + 1)))) ∙ ap (λ t. t ++ range_with_len (id + 1) (count - (id + 1))) (sym is)
+
+pub ids_push : (all ids left rest new : List ℕ) (id : ℕ) → all ≡ ids ++ left → left ≡ id ∷ rest → new ≡ ids ++ id ∷ [] → all ≡ new ++ rest
+ids_push all ids left rest new id so_far first is = so_far ∙ ap (λ t. ids ++ t) first ∙ sym (append_assoc ids (id ∷ []) rest) ∙ ap (λ t. t ++ rest) (sym is)
+
+-- the error of a damaged list
+pub bad_list : {X : Type 0} (r : Result X IndexFault) (fault : IndexFault) (whole : Bool) → IsErrAnd r (λ f. f ≡ fault) → (fault ≡ BadList) × (whole ≡ false) → IfErr r (IsListFault whole)
+bad_list (Ok x) fault whole h bad = tt
+bad_list (Err f) fault whole h bad = inl (h ∙ bad.0, bad.1)
+
+pub marked_step : (test : ℕ → Bool) (count id : ℕ) (all ids new : List ℕ) → id < count → all ≡ ids ++ filter test (range_with_len id (count - id)) → new ≡ cond (test id) (ids ++ id ∷ []) ids → all ≡ new ++ filter test (range_with_len (id + 1) (count - (id + 1)))
+marked_step test count id all ids new h so_far is =
+    let rest : List ℕ = filter test (range_with_len (id + 1) (count - (id + 1))) in
+    so_far ∙ ap (λ t. ids ++ t) (ap (filter test) (range_step id (count - id) (omega (arith, h)) ∙ ap (λ n. id ∷ range_with_len (id + 1) n) (let z : count - id - 1 ≡ count - (id + 1) = omega arith in z)))
+    ∙ regroup (test id) ∙ ap (λ t. t ++ rest) (sym is)
+  where
+    regroup : (b : Bool) → ids ++ cond b (id ∷ filter test (range_with_len (id + 1) (count - (id + 1)))) (filter test (range_with_len (id + 1) (count - (id + 1)))) ≡ cond b (ids ++ id ∷ []) ids ++ filter test (range_with_len (id + 1) (count - (id + 1)))
+    regroup true = sym (append_assoc ids (id ∷ []) (filter test (range_with_len (id + 1) (count - (id + 1)))))
+    regroup false = refl
+
+-- an error of a list is an error of the query
+pub fault_of : (fault : IndexFault) (whole mentioned : Bool) → (whole ≡ false → mentioned ≡ false) → IsListFault whole fault → IsListFault mentioned fault
+fault_of fault whole mentioned h (inl bad) = inl (bad.0, h bad.1)
+fault_of fault whole mentioned h (inr memory) = inr memory

@@ -1,0 +1,5 @@
+pub mod CopiedList
+pub mod CopiedLists
+pub mod PartialIndexAnswers
+pub mod SectionOffsets
+pub mod SectionReads

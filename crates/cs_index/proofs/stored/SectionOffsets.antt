@@ -1,0 +1,100 @@
+-- The section offsets of a stored index.
+use Rattle.std.proofs.Common.{◌≡◌, ℕ, zero, suc, ◌+◌, ◌-◌, ◌≤◌, true, false, cond, ◌&&◌, eqb, ltb, leb, List, [], ◌∷◌, length, take, drop, get_or, Result, Ok, Err, IfOk, IfErr, refl, sym, ap, ◌∙◌, inl, inr, arith, length-drop}
+use Rattle.std.proofs.lemmas.Bool.{cases_Bool, leb-true, le-leb}
+use Rattle.std.proofs.lemmas.List.{drop-drop, get_or-drop, take_rest}
+use Rattle.std.specs.List.{starts_with, ends_with}
+use Rattle.std.specs.Cmp.Lexicographic.{pointwise}
+use Rattle.std.specs.Prelude.{nat_eq}
+use Rattle.std.specs.Int.{from_be_bytes, w32}
+use Rattle.cs_tree.specs.Store.{part_of}
+use Rattle.cs_index.specs.declared.fault.IndexFault.{IndexFault}
+use Rattle.cs_index.specs.declared.fault.IndexFault.TheVariants.{BadMagic, BadTrailer, BadOffsets}
+use Rattle.cs_index.specs.declared.reading.section_offsets.SectionOffsets.{SectionOffsets}
+use Rattle.cs_index.specs.Encoding.{magic, trailer_magic}
+use Rattle.cs_index.specs.Opening.{are_section_offsets, split_at_offsets, split_before, split_of, has_trailer, number_at}
+use Rattle.cs_index.specs.StoredOpening.{AreDisorderedOffsets, AreTrailerOffsets, IsSplitAt, is_tail, sections_at}
+use Rattle.cs_index.proofs.decoding.IndexFields.{split_there, no_magic, no_trailer}
+
+take_twice : (n : ℕ) (xs : List ℕ) → take n (take n xs) ≡ take n xs
+take_twice zero xs = refl
+take_twice (suc n) [] = refl
+take_twice (suc n) (x ∷ xs) = ap (λ ys. x ∷ ys) (take_twice n xs)
+
+-- The first and the last bytes of an index of some length.
+pub record AreEnds (bytes header tail : List ℕ) (len : ℕ) : Type 0 where
+  pub long : length bytes ≡ len
+  pub header_is : header ≡ part_of bytes 0 16
+  pub tail_is : tail ≡ part_of bytes (len - 36) 36
+
+module _ (bytes header tail : List ℕ) (len : ℕ) (ends : AreEnds bytes header tail len) where
+  magic_at_start : starts_with nat_eq bytes magic ≡ starts_with nat_eq header magic
+  magic_at_start = ap (pointwise eqb magic) (sym (take_twice 16 bytes) ∙ ap (take 16) (sym ends.header_is))
+
+  pub wrong_magic : starts_with nat_eq header magic ≡ false → split_of bytes ≡ Err BadMagic
+  wrong_magic h = no_magic bytes (magic_at_start ∙ h)
+
+  tail_rest : 36 ≤ len → tail ≡ drop (len - 36) bytes
+  tail_rest h =
+      let all : length bytes - (len - 36) ≡ 36 = let l = ends.long in omega (arith, h, l) in
+      ends.tail_is ∙ ap (λ n. take n (drop (len - 36) bytes)) (sym all) ∙ take_rest bytes (len - 36)
+
+  tail_long : 36 ≤ len → length tail ≡ 36
+  tail_long h = let l = length-drop (len - 36) bytes in let m = ends.long in let t = ap length (tail_rest h) in omega (arith, h, l, m, t)
+
+  tail_end : 36 ≤ len → drop (length tail - 16) tail ≡ drop (length bytes - 16) bytes
+  tail_end h =
+      let l = ends.long in
+      let t = tail_long h in
+      ap (λ xs. drop (length tail - 16) xs) (tail_rest h)
+      ∙ drop-drop (length tail - 16) (len - 36) bytes
+      ∙ ap (λ n. drop n bytes) (let z : len - 36 + (length tail - 16) ≡ length bytes - 16 = omega (arith, h, l, t) in z)
+
+  trailer_at_tail : has_trailer bytes ≡ is_tail tail len
+  trailer_at_tail = elim (cases_Bool (leb 52 len)) [
+    | inl enough ↦
+        let h : 36 ≤ len = let e = leb-true 52 len enough in omega (arith, e) in
+        let long : leb 36 (length tail) ≡ true = le-leb 36 (length tail) (let t = tail_long h in omega (arith, t)) in
+        (λ i. leb 52 (ends.long i) && (ltb (ends.long i) 4294967296 && (sym long i && pointwise eqb trailer_magic (sym (tail_end h) i))))
+    | inr bound ↦
+        (λ i. leb 52 (ends.long i) && (ltb (length bytes) 4294967296 && ends_with eqb bytes trailer_magic))
+        ∙ (λ i. bound i && (ltb (length bytes) 4294967296 && ends_with eqb bytes trailer_magic))
+        ∙ sym (λ i. bound i && (ltb len 4294967296 && (leb 36 (length tail) && ends_with eqb tail trailer_magic)))
+  ]
+
+  pub wrong_trailer : starts_with nat_eq header magic ≡ true → is_tail tail len ≡ false → split_of bytes ≡ Err BadTrailer
+  wrong_trailer h g = no_trailer bytes (magic_at_start ∙ h) (trailer_at_tail ∙ g)
+
+  number_there : (k m : ℕ) → 36 ≤ len → len - 36 + k ≡ m → number_at tail k ≡ number_at bytes m
+  unfolding number_at
+  number_there k m h is =
+      let at : (j : ℕ) → get_or tail j 0 ≡ get_or bytes (len - 36 + j) 0 = λ j. ap (λ xs. get_or xs j 0) (tail_rest h) ∙ get_or-drop (len - 36) bytes j 0 in
+      let there : (j : ℕ) → len - 36 + (k + j) ≡ m + j = λ j. omega (arith, is) in
+      λ i. from_be_bytes w32 ((at k ∙ ap (λ n. get_or bytes n 0) is) i ∷ (at (k + 1) ∙ ap (λ n. get_or bytes n 0) (there 1)) i ∷ (at (k + 2) ∙ ap (λ n. get_or bytes n 0) (there 2)) i ∷ (at (k + 3) ∙ ap (λ n. get_or bytes n 0) (there 3)) i ∷ [])
+
+  -- the section offsets in the trailer
+  split_given : (a b c d e : ℕ) → 36 ≤ len → a ≡ number_at tail 0 → b ≡ number_at tail 4 → c ≡ number_at tail 8 → d ≡ number_at tail 12 → e ≡ number_at tail 16 → split_before bytes (length bytes - 36) ≡ split_at_offsets bytes a b c d e (len - 36)
+  split_given a b c d e h a_is b_is c_is d_is e_is =
+      let at : len - 36 ≡ length bytes - 36 = ap (λ n. n - 36) (sym ends.long) in
+      let p : a ≡ number_at bytes (length bytes - 36) = a_is ∙ number_there 0 (length bytes - 36) h (omega (arith, at)) in
+      let q : b ≡ number_at bytes (length bytes - 36 + 4) = b_is ∙ number_there 4 (length bytes - 36 + 4) h (omega (arith, at)) in
+      let r : c ≡ number_at bytes (length bytes - 36 + 8) = c_is ∙ number_there 8 (length bytes - 36 + 8) h (omega (arith, at)) in
+      let s : d ≡ number_at bytes (length bytes - 36 + 12) = d_is ∙ number_there 12 (length bytes - 36 + 12) h (omega (arith, at)) in
+      let t : e ≡ number_at bytes (length bytes - 36 + 16) = e_is ∙ number_there 16 (length bytes - 36 + 16) h (omega (arith, at)) in
+      λ i. split_at_offsets bytes (sym p i) (sym q i) (sym r i) (sym s i) (sym t i) (sym at i)
+
+  disordered : (a b c d e at : ℕ) → are_section_offsets a b c d e at ≡ false → split_at_offsets bytes a b c d e at ≡ Err BadOffsets
+  disordered a b c d e at h = ap (λ t. cond t (Ok (record { paths = take (b - a) (drop a bytes); names = take (c - b) (drop b bytes); postings = take (d - c) (drop c bytes); name_index = take (e - d) (drop d bytes); list_index = take (at - e) (drop e bytes) })) (Err BadOffsets)) h
+
+  pub offsets_split : (answer : Result SectionOffsets IndexFault) → starts_with nat_eq header magic ≡ true → is_tail tail len ≡ true → 52 ≤ len → IfOk answer (AreTrailerOffsets tail (len - 36)) → IfErr answer (AreDisorderedOffsets tail (len - 36)) → IsSplitAt bytes answer
+  offsets_split (Ok s) h g enough given wrong =
+      let slices = split_there bytes (magic_at_start ∙ h) (trailer_at_tail ∙ g) in
+      let ordered : split_at_offsets bytes s.paths s.names s.postings s.name_index s.list_index (len - 36) ≡ Ok (record (sections_at bytes s) { list_index = take (len - 36 - s.list_index) (drop s.list_index bytes) }) =
+      ap (λ b. cond b (Ok (record (sections_at bytes s) { list_index = take (len - 36 - s.list_index) (drop s.list_index bytes) })) (Err BadOffsets)) given.order in (
+        slices ∙ split_given s.paths s.names s.postings s.name_index s.list_index (omega (arith, enough)) given.paths given.names given.postings given.name_index given.list_index
+            ∙ ordered ∙ ap (λ n. Ok (record (sections_at bytes s) { list_index = take (n - s.list_index) (drop s.list_index bytes) })) (sym given.trailer_there),
+        (let l = ends.long in let t = given.trailer_there in omega (arith, l, t)),
+      )
+  offsets_split (Err fault) h g enough given wrong =
+      let slices = split_there bytes (magic_at_start ∙ h) (trailer_at_tail ∙ g) in
+      slices ∙ split_given _ _ _ _ _ (omega (arith, enough)) refl refl refl refl refl
+      ∙ disordered (number_at tail 0) (number_at tail 4) (number_at tail 8) (number_at tail 12) (number_at tail 16) (len - 36) wrong.disorder ∙ ap Err (sym wrong.is)

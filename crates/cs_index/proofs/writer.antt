@@ -1,0 +1,11 @@
+pub mod BuilderAdd
+pub mod EntriesOfLists
+pub mod FirstHeader
+pub mod IdAdded
+pub mod PackedPostings
+pub mod PostingChunks
+pub mod SectionsSteps
+pub mod SegmentCompression
+pub mod SegmentMerge
+pub mod StringsPush
+pub mod WrittenSteps

@@ -1,0 +1,92 @@
+// The offsets of the sections of a stored index.
+ghost use Rattle.std.specs.Prelude.{◌≡◌, ◌+◌, ◌-◌, ◌≤◌, ◌<◌, ◌^◌, List, ℕ, length, IfOk, IfErr, IfSome, Err, IsTrue};
+ghost use Rattle.cs_tree.specs.ByteList.{AreBytes};
+ghost use Rattle.cs_tree.specs.Store.{part_of};
+ghost use Rattle.cs_tree.specs.FailureCount.{count_after};
+ghost use Rattle.cs_tree.specs.Transfers.{is_io_failure};
+ghost use Rattle.cs_index.specs.StoredOpening.{AreDisorderedOffsets, AreTrailerOffsets, AreAscendingOffsets, IsSplitAt, is_tail};
+
+use crate::fault::IndexFault;
+use crate::format::{MAGIC, TRAILER_LEN, TRAILER_MAGIC};
+use crate::reading::bytes::read_number;
+use crate::reading::section_slices::rise;
+use cs_tree::{IoFault, Store, read_part};
+use std::alloc::Global;
+
+/// The offset of each section and of the trailer.
+#[derive(Clone, Copy, Drop)]
+pub(crate) struct SectionOffsets {
+    pub(crate) paths: usize,
+    pub(crate) names: usize,
+    pub(crate) postings: usize,
+    pub(crate) name_index: usize,
+    pub(crate) list_index: usize,
+    pub(crate) trailer: usize,
+}
+
+/// Reads the section offsets from the first 16 and the last 36 bytes.
+pub(crate) fn find_offsets<S: Store>(
+    alloc: Global,
+    store: &mut S,
+) -> Result<Result<SectionOffsets, IndexFault>, IoFault>
+    ensures slices { IfSome (S.model store.old) (λ bytes. IfOk result (IsSplitAt bytes)) }
+    ensures order { IfOk result (λ answer. IfOk answer AreAscendingOffsets) }
+    ensures bytes { IfOk result (λ _. IfSome (S.model store.old) AreBytes) }
+    ensures keeps { S.model store.new ≡ S.model store.old }
+    ensures size { S.size store.new ≡ S.size store.old }
+    ensures failed { S.failed store.new ≡ count_after is_io_failure result (S.failed store.old) }
+{
+    let header = read_part(alloc, store, 0, MAGIC.len())?;
+    let len = store.len();
+    let tail = read_part(alloc, store, len.saturating_sub(TRAILER_LEN), TRAILER_LEN)?;
+    Ok(offsets_of(&header, &tail, len))
+}
+
+/// The section offsets of an index of `len` bytes, by its first and last bytes.
+fn offsets_of(header: &[u8], tail: &[u8], len: usize) -> Result<SectionOffsets, IndexFault>
+    ensures slices { (bytes : List ℕ) → length bytes ≡ len → header.now ≡ part_of bytes 0 16 →
+        tail.now ≡ part_of bytes (len - TRAILER_LEN) TRAILER_LEN → IsSplitAt bytes result }
+    ensures order { IfOk result AreAscendingOffsets }
+{
+    if !header.starts_with(MAGIC) {
+        return Err(IndexFault::BadMagic);
+    }
+    if !is_trailer(tail, len) {
+        return Err(IndexFault::BadTrailer);
+    }
+    offsets_in(tail, len - TRAILER_LEN)
+}
+
+/// Whether the length is allowed and the last bytes are a trailer.
+fn is_trailer(tail: &[u8], len: usize) -> bool
+    ensures value { result ≡ is_tail tail.now len }
+    ensures enough { IsTrue result → 52 ≤ len }
+    ensures short { IsTrue result → len < 2 ^ 32 }
+    ensures long { IsTrue result → TRAILER_LEN ≤ length tail.now }
+{
+    len >= 52 && len < 1 << 32 && tail.len() >= TRAILER_LEN && tail.ends_with(TRAILER_MAGIC)
+}
+
+/// The section offsets in a trailer that begins at `at`.
+fn offsets_in(trailer: &[u8], at: usize) -> Result<SectionOffsets, IndexFault>
+    requires { 20 ≤ length trailer.now }
+    ensures offsets { IfOk result (AreTrailerOffsets trailer.now at) }
+    ensures fault { IfErr result (AreDisorderedOffsets trailer.now at) }
+{
+    let paths = read_number(trailer, 0) as usize;
+    let names = read_number(trailer, 4) as usize;
+    let postings = read_number(trailer, 8) as usize;
+    let name_index = read_number(trailer, 12) as usize;
+    let list_index = read_number(trailer, 16) as usize;
+    if !rise(paths, names, postings, name_index, list_index, at) {
+        return Err(IndexFault::BadOffsets);
+    }
+    Ok(SectionOffsets {
+        paths,
+        names,
+        postings,
+        name_index,
+        list_index,
+        trailer: at,
+    })
+}

@@ -1,0 +1,96 @@
+-- An expansion has at most 55 positions for each unit of weight, and at most as many repeats as the weight.
+use Rattle.std.proofs.Common.{◌≡◌, ℕ, zero, suc, ◌+◌, ◌-◌, ◌*◌, ◌≤◌, Bool, true, false, refl, ◌∙◌, ap, arith}
+use Rattle.std.specs.Prelude.{Option, Some, None, nat_le, if◌then◌else◌}
+use Rattle.cs_syntax.specs.Matching.{Tree, Trees, empty, one_of, one_char, cat, alt, rep, line_start, line_end, word_edge, not_word_edge, none, more}
+use Rattle.cs_syntax.specs.Weight.{weight, weights, times}
+use Rattle.cs_match.proofs.LoweredTreeLemmas.{lowered_positions, lowered_repeats}
+use Rattle.cs_match.specs.Glushkov.{position_count, position_count_of, repeats, repeats_of}
+use Rattle.cs_match.specs.Expansion.{copies, optional, never, repeat_expansion, expansion, expansions}
+use Rattle.std.proofs.lemmas.Bool.{leb-true}
+
+mul_both : (k p t w : ℕ) → k ≤ t → p ≤ w → k * p ≤ t * w
+mul_both k p t w h g = grind arith
+
+shared : (n d p : ℕ) → n * p + d * p ≡ (n + d) * p
+shared n d p = omega arith
+
+positions_copies : (n : ℕ) (t : Tree) (rest : Trees) → position_count_of (copies n t rest) ≡ n * position_count t + position_count_of rest
+positions_copies zero t rest = omega arith
+positions_copies (suc n) t rest = omega (arith, positions_copies n t rest)
+
+chosen_light : (x : Tree) (n m : ℕ) (b : Bool) → nat_le n m ≡ b →
+    position_count (if b then cat (copies n x (copies (m - n) (optional x) none)) else never) ≤ m * position_count x
+chosen_light x n m false e = omega arith
+chosen_light x n m true e =
+    let le : n ≤ m = leb-true n m e in
+    let d = m - n in
+    let split : n + d ≡ m = omega arith in
+    let shape : n * position_count x + d * position_count x ≡ m * position_count x = shared n d (position_count x) ∙ ap (λ k. k * position_count x) split in
+    omega (arith, positions_copies n x (copies d (optional x) none), positions_copies d (optional x) none, shape)
+
+repeat_light : (x : Tree) (n : ℕ) (m : Option ℕ) (w : ℕ) → position_count x ≤ w → position_count (repeat_expansion x n m) ≤ 1 + times n m * w
+repeat_light x zero None w le = omega (arith, mul_both 1 (position_count x) (times zero None) w (omega arith) le)
+repeat_light x (suc n) None w le =
+    omega (arith, positions_copies n x (more (rep x 1 None) none), mul_both (suc n) (position_count x) (times (suc n) None) w (omega arith) le)
+repeat_light x n (Some m) w le =
+    omega (arith, chosen_light x n m (nat_le n m) refl, mul_both m (position_count x) (times n (Some m)) w (omega arith) le)
+
+-- 55 positions for each iteration of each part
+each_round : (t w : ℕ) → 1 + t * (55 * w) ≤ 55 * (1 + t * w)
+each_round t w = omega arith
+
+mutual
+  pub positions_light : (t : Tree) → position_count (expansion t) ≤ 55 * weight t
+  positions_light empty = omega arith
+  positions_light (one_of set) = omega arith
+  positions_light (one_char ranges) = omega (arith, lowered_positions ranges)
+  positions_light (cat ts) = omega (arith, all_light ts)
+  positions_light (alt ts) = omega (arith, all_light ts)
+  positions_light (rep x n m) =
+      omega (arith, repeat_light (expansion x) n m (55 * weight x) (positions_light x), each_round (times n m) (weight x))
+  positions_light line_start = omega arith
+  positions_light line_end = omega arith
+  positions_light word_edge = omega arith
+  positions_light not_word_edge = omega arith
+
+  pub all_light : (ts : Trees) → position_count_of (expansions ts) ≤ 55 * weights ts
+  all_light none = omega arith
+  all_light (more t ts) = omega (arith, positions_light t, all_light ts)
+
+repeats_copies : (n : ℕ) (t : Tree) (rest : Trees) → repeats_of (copies n t rest) ≡ n * repeats t + repeats_of rest
+repeats_copies zero t rest = omega arith
+repeats_copies (suc n) t rest = omega (arith, repeats_copies n t rest)
+
+chosen_few : (x : Tree) (n m : ℕ) (b : Bool) → nat_le n m ≡ b →
+    repeats (if b then cat (copies n x (copies (m - n) (optional x) none)) else never) ≤ m * repeats x
+chosen_few x n m false e = omega arith
+chosen_few x n m true e =
+    let le : n ≤ m = leb-true n m e in
+    let d = m - n in
+    let split : n + d ≡ m = omega arith in
+    let shape : n * repeats x + d * repeats x ≡ m * repeats x = shared n d (repeats x) ∙ ap (λ k. k * repeats x) split in
+    omega (arith, repeats_copies n x (copies d (optional x) none), repeats_copies d (optional x) none, shape)
+
+repeat_few : (x : Tree) (n : ℕ) (m : Option ℕ) (w : ℕ) → repeats x ≤ w → repeats (repeat_expansion x n m) ≤ 1 + times n m * w
+repeat_few x zero None w le = omega (arith, mul_both 1 (repeats x) (times zero None) w (omega arith) le)
+repeat_few x (suc n) None w le =
+    omega (arith, repeats_copies n x (more (rep x 1 None) none), mul_both (suc n) (repeats x) (times (suc n) None) w (omega arith) le)
+repeat_few x n (Some m) w le =
+    omega (arith, chosen_few x n m (nat_le n m) refl, mul_both m (repeats x) (times n (Some m)) w (omega arith) le)
+
+mutual
+  pub repeats_light : (t : Tree) → repeats (expansion t) ≤ weight t
+  repeats_light empty = omega arith
+  repeats_light (one_of set) = omega arith
+  repeats_light (one_char ranges) = omega (arith, lowered_repeats ranges)
+  repeats_light (cat ts) = omega (arith, all_repeats_light ts)
+  repeats_light (alt ts) = omega (arith, all_repeats_light ts)
+  repeats_light (rep x n m) = repeat_few (expansion x) n m (weight x) (repeats_light x)
+  repeats_light line_start = omega arith
+  repeats_light line_end = omega arith
+  repeats_light word_edge = omega arith
+  repeats_light not_word_edge = omega arith
+
+  pub all_repeats_light : (ts : Trees) → repeats_of (expansions ts) ≤ weights ts
+  all_repeats_light none = omega arith
+  all_repeats_light (more t ts) = omega (arith, repeats_light t, all_repeats_light ts)

@@ -1,0 +1,95 @@
+-- The state after a prefix of a line has its positions and its look-around.
+use Rattle.std.proofs.Common.{◌≡◌, ℕ, zero, suc, ◌+◌, ◌-◌, ◌<◌, ◌≤◌, Bool, true, false, List, [], ◌∷◌, ◌++◌, take, length, refl, sym, ◌∙◌, ap, arith, inl, inr}
+use Rattle.std.specs.Prelude.{slice_index, nat_eq, ◌≢◌}
+use mathlib.Core.Bool.{xor}
+use Rattle.std.proofs.lemmas.List.{take_more, take_all, length-replicate}
+use Rattle.std.proofs.lemmas.Bool.{lt-ltb, le-ltb, le-leb, eq-eqb, ne_eqb, cases_eq}
+use Rattle.cs_match.proofs.GlushkovLemmas.{length-step, length-positions}
+use Rattle.cs_syntax.specs.Matching.{Tree, is_word, word_before, word_after, is_at_word_boundary}
+use Rattle.cs_match.specs.declared.state.State.{State}
+use Rattle.cs_match.specs.Glushkov.{look_around, position_count, accepts, positions, accepts_at}
+use Rattle.cs_match.specs.States.{start, ahead, look_at_end, next_state, state_through, state, successor, accepts_before}
+
+pub state_through-append : (t : Tree) (n : State) (xs ys : List ℕ) → state_through t n (xs ++ ys) ≡ state_through t (state_through t n xs) ys
+state_through-append t n [] ys = refl
+state_through-append t n (x ∷ xs) ys = state_through-append t (next_state t n x) xs ys
+
+-- each state has a truth value for each position
+pub length-successor : (t : Tree) (n : State) (b : ℕ) → length (successor t n b).positions ≡ position_count t
+length-successor t n b =
+    elim (cases_eq b 10) [
+      | inl e ↦ rw (eq-eqb b 10 e) (length-replicate (position_count t) false)
+      | inr other ↦ rw (ne_eqb b 10 other) (length-step t true n.positions (ahead n b) b)
+    ]
+
+xor-false : (b : Bool) → xor b false ≡ b
+unfolding xor
+xor-false true = refl
+xor-false false = refl
+
+module _ (t : Tree) (s : List ℕ) where
+  -- the state at offset i, in terms of the whole line
+  abbrev at_offset : ℕ → State
+  at_offset i = record { positions = positions s t (λ _. true) i; first = nat_eq i 0; word = word_before s i }
+
+  word_at : (i : ℕ) → i < length s → word_after s i ≡ is_word (slice_index s i)
+  unfolding word_after
+  word_at i lt = rw (lt-ltb i (length s) lt) refl
+
+  word_behind : (i : ℕ) → i < length s → word_before s (suc i) ≡ is_word (slice_index s i)
+  unfolding word_before
+  word_behind i lt =
+      let here : suc i - 1 ≡ i = omega arith in
+      rw (lt-ltb 0 (suc i) (omega arith), le-leb (suc i) (length s) (omega arith), here) refl
+
+  not_last : (i : ℕ) → i < length s → nat_eq i (length s) ≡ false
+  not_last i lt = ne_eqb i (length s) (λ e. omega arith)
+
+  ahead_is : (i : ℕ) → i < length s → ahead (at_offset i) (slice_index s i) ≡ look_around s i
+  unfolding is_at_word_boundary
+  ahead_is i lt = rw (word_at i lt, not_last i lt) refl
+
+  next_is : (i : ℕ) → i < length s → next_state t (at_offset i) (slice_index s i) ≡ at_offset (suc i)
+  next_is i lt = rw (ahead_is i lt, word_behind i lt, ne_eqb (suc i) 0 (λ e. omega arith)) refl
+
+  pub state_is : (i : ℕ) → i ≤ length s → state t (take i s) ≡ at_offset i
+  unfolding word_before
+  state_is zero le = refl
+  state_is (suc i) le =
+      let next : suc i ≡ i + 1 = omega arith in
+      let lt : i < length s = omega arith in
+      ap (λ n. state t (take n s)) next
+      ∙ ap (state t) (take_more s i 0 lt)
+      ∙ state_through-append t (start (position_count t)) (take i s) (slice_index s i ∷ [])
+      ∙ ap (λ n. next_state t n (slice_index s i)) (state_is i (omega arith))
+      ∙ next_is i lt
+
+  pub length-state : (i : ℕ) → i ≤ length s → length (state t (take i s)).positions ≡ position_count t
+  length-state i le = ap (λ n. length n.positions) (state_is i le) ∙ length-positions s t (λ _. true) i
+
+  -- one more byte of the line
+  pub next_more : (i : ℕ) → i < length s → next_state t (state t (take i s)) (slice_index s i) ≡ state t (take (i + 1) s)
+  next_more i lt = sym (ap (state t) (take_more s i 0 lt) ∙ state_through-append t (start (position_count t)) (take i s) (slice_index s i ∷ []))
+
+  pub accepts_ahead : (i : ℕ) → i < length s →
+      accepts t true (state t (take i s)).positions (ahead (state t (take i s)) (slice_index s i)) ≡ accepts_at s t (λ _. true) i
+  accepts_ahead i lt = rw (state_is i (omega arith), ahead_is i lt) refl
+
+  -- the same for a byte that is not a newline
+  pub beyond_more : (i : ℕ) → i < length s → slice_index s i ≢ 10 → successor t (state t (take i s)) (slice_index s i) ≡ state t (take (i + 1) s)
+  beyond_more i lt other = rw (ne_eqb (slice_index s i) 10 other) (next_more i lt)
+
+  pub accepts_in_line : (i : ℕ) → i < length s → slice_index s i ≢ 10 → accepts_before t (state t (take i s)) (slice_index s i) ≡ accepts_at s t (λ _. true) i
+  accepts_in_line i lt other = rw (ne_eqb (slice_index s i) 10 other) (accepts_ahead i lt)
+
+  end_is : look_at_end (at_offset (length s)) ≡ look_around s (length s)
+  unfolding is_at_word_boundary word_after
+  end_is = rw (eq-eqb (length s) (length s) refl, le-ltb (length s) (length s) (omega arith), xor-false (word_before s (length s))) refl
+
+  pub accepts_by_end : accepts t true (state t s).positions (look_at_end (state t s)) ≡ accepts_at s t (λ _. true) (length s)
+  accepts_by_end =
+      ap (λ n. accepts t true n.positions (look_at_end n)) (ap (state t) (sym (take_all (length s) s (omega arith))) ∙ state_is (length s) (omega arith))
+      ∙ ap (λ a. accepts t true (positions s t (λ _. true) (length s)) a) end_is
+
+  pub accepts_at_end : accepts_before t (state t s) 10 ≡ accepts_at s t (λ _. true) (length s)
+  accepts_at_end = accepts_by_end

@@ -1,0 +1,15 @@
+use Rattle.std.proofs.Common.{◌≡◌, ℕ, ◌<◌, take, true, false}
+use Rattle.cs_match.specs.Automaton.{GrowsOver}
+use Rattle.cs_match.specs.Glushkov.{accepts_at}
+use Rattle.cs_match.specs.States.{state}
+use Rattle.cs_match.specs.ConsistentDfa.{IsConsistent, HasState, tree_in}
+use Rattle.cs_match.proofs.dfa.LazyDfa.is_match.Given as goal
+
+abbrev pub invariant-loop-b : goal.invariant-loop-b
+invariant-loop-b l = record {
+  right : IsConsistent l.self;
+  same : tree_in l.self ≡ tree_in l.fn.self;
+  states : GrowsOver l.b-index l.fn.self.used l.self.used;
+  number : HasState l.self l.number (state (tree_in l.fn.self) (take l.b-index l.line));
+  none : (k : ℕ) → k < l.b-index → accepts_at l.line (tree_in l.fn.self) (λ _. true) k ≡ false;
+}

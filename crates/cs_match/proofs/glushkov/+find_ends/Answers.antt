@@ -1,0 +1,62 @@
+use Rattle.std.proofs.Common.{◌≡◌, ◌+◌, drop, sym, ◌∙◌, ap, arith}
+use Rattle.std.proofs.Math.Bool.{and_assoc, or_assoc}
+use Rattle.cs_syntax.specs.Matching.{rep}
+use Rattle.cs_syntax.specs.Node.{tree_of}
+use Rattle.cs_syntax.specs.NodeList.{trees_of}
+use Rattle.cs_syntax.proofs.NodeLemmas.{tree_of-Rep}
+use Rattle.cs_syntax.proofs.TreeLemmas.{trees_from}
+use Rattle.cs_match.specs.Glushkov.{nullable, nullable_all, nullable_some, is_final, loop_ends}
+use Rattle.cs_match.proofs.TraversalLemmas.{rep_noted, accepted_all, accepted_some, noted_more}
+use Rattle.cs_match.proofs.glushkov.+find_ends.Goals as goal
+
+pub find_ends-returns-in-Rep-clause-noted : goal.find_ends-returns-in-Rep-clause-noted
+find_ends-returns-in-Rep-clause-noted t c =
+    let x = tree_of c.deref-in-Rep.result.now in
+    let e : tree_of c.args.node.now ≡ rep x c.in-Rep.least c.in-Rep.field-2 =
+    ap tree_of c.in-Rep.is ∙ tree_of-Rep _ _ _ ∙ ap (λ n. rep (tree_of n) c.in-Rep.least c.in-Rep.field-2) (sym c.deref-in-Rep.ensures) in
+    let ms = drop c.next_repeat-own.new.cursor.position c.args.positions.now in
+    rw (e, ← c.next_repeat-own.ensures.position, c.note_loop.ensures, c.next_repeat-own.ensures.is, c.find_ends-ends.ensures.accepting)
+    (rep_noted c.args.loops.now c.find_ends-ends.new.loops c.args.cursor.now.repeat c.next_repeat-own.new.cursor.repeat (is_final x ms c.args.here) (loop_ends x ms c.args.here)
+    c.next_repeat-own.ensures.repeat c.find_ends-ends.ensures.noted)
+
+pub find_ends_all-loop-part-preserved : goal.find_ends_all-loop-part-preserved
+find_ends_all-loop-part-preserved t c =
+    let more = trees_from c.args.parts.now c.loop-part.part-index c.part-item.result c.loop-part-test.true c.part-item.is in
+    let i = c.loop-part.invariant in
+    let t = tree_of c.part-item.result in
+    let ts = trees_of (drop (c.loop-part.part-index + 1) c.args.parts.now) in
+    let position = rw more at i.position in
+    let repeat = rw more at i.repeat in
+    let next = c.find_ends-ends.ensures.position in
+    record {
+      position = omega arith;
+      within = omega arith;
+      repeat = omega arith;
+      accepting = rw (c.then-all.ensures.accepting, c.find_ends-ends.ensures.accepting, c.find_ends-ends.ensures.nullable)
+          (accepted_all t ts c.args.positions.now c.args.here c.loop-part.cursor.position _ next c.loop-part.all.accepting _ (rw more at i.accepting));
+      nullable = rw (c.then-all.ensures.nullable, c.find_ends-ends.ensures.nullable)
+          (and_assoc c.loop-part.all.nullable (nullable t c.args.here) (nullable_all ts c.args.here) ∙ rw more at i.nullable);
+      noted = noted_more t ts c.args.positions.now c.args.here c.loop-part.cursor.position _ next c.loop-part.loops c.find_ends-ends.new.loops _ c.loop-part.cursor.repeat _
+          (rw more at i.noted) c.find_ends-ends.ensures.repeat c.find_ends-ends.ensures.noted;
+    }
+
+pub find_ends_some-loop-part-preserved : goal.find_ends_some-loop-part-preserved
+find_ends_some-loop-part-preserved t c =
+    let more = trees_from c.args.parts.now c.loop-part.part-index c.part-item.result c.loop-part-test.true c.part-item.is in
+    let i = c.loop-part.invariant in
+    let t = tree_of c.part-item.result in
+    let ts = trees_of (drop (c.loop-part.part-index + 1) c.args.parts.now) in
+    let position = rw more at i.position in
+    let repeat = rw more at i.repeat in
+    let next = c.find_ends-ends.ensures.position in
+    record {
+      position = omega arith;
+      within = omega arith;
+      repeat = omega arith;
+      accepting = rw (c.or-some.ensures.accepting, c.find_ends-ends.ensures.accepting)
+          (accepted_some t ts c.args.positions.now c.args.here c.loop-part.cursor.position _ next c.loop-part.some.accepting _ (rw more at i.accepting));
+      nullable = rw (c.or-some.ensures.nullable, c.find_ends-ends.ensures.nullable)
+          (or_assoc c.loop-part.some.nullable (nullable t c.args.here) (nullable_some ts c.args.here) ∙ rw more at i.nullable);
+      noted = noted_more t ts c.args.positions.now c.args.here c.loop-part.cursor.position _ next c.loop-part.loops c.find_ends-ends.new.loops _ c.loop-part.cursor.repeat _
+          (rw more at i.noted) c.find_ends-ends.ensures.repeat c.find_ends-ends.ensures.noted;
+    }

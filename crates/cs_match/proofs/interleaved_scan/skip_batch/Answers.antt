@@ -1,0 +1,18 @@
+use Rattle.std.proofs.Common.{◌<◌, [], ◌∷◌, get_or, subst, arith}
+use Rattle.cs_match.specs.Scan.{first_special}
+use Rattle.cs_match.proofs.ScanLemmas.{skipped_parts}
+use Rattle.cs_match.proofs.interleaved_scan.skip_batch.Goals as goal
+
+pub returns-clause-skipped : goal.returns-clause-skipped
+returns-clause-skipped c =
+    let a = c.cut-a in
+    let b = c.cut-b in
+    let d = c.cut-c in
+    let e = c.cut-d in
+    let f = c.cut-e in
+    let g = c.cut-f in
+    skipped_parts c.args.transitions.now c.args.block.now c.type_inv.transitions c.type_inv.block c.args.from
+    (a.result ∷ b.result ∷ d.result ∷ e.result ∷ f.result ∷ g.result ∷ []) c.ordinary_prefix-ordinary.result c.requires.within
+    ((a.ensures.low, a.ensures.high, a.ensures.whole), ((b.ensures.low, b.ensures.high, b.ensures.whole), ((d.ensures.low, d.ensures.high, d.ensures.whole), ((e.ensures.low, e.ensures.high, e.ensures.whole), ((f.ensures.low, f.ensures.high, f.ensures.whole), ((g.ensures.low, g.ensures.high, g.ensures.whole), tt))))))
+    (omega arith)
+    (λ k low. subst (λ states. get_or states k 0 < first_special) c.six_lanes-states.ensures (c.ordinary_prefix-ordinary.ensures.ordinary k low))

@@ -1,9 +1,0 @@
-use Rattle.std.proofs.Common.{arith}
-use Rattle.cs_match.proofs.BitsLemmas.{marks_of-zeros, AreMarks-zeros}
-use Rattle.cs_match.proofs.marks.Marks.none.Goals as goal
-
-pub invariant_of-result : goal.invariant_of-result
-invariant_of-result c = rw (c.in_ok-words.ensures.items_if_clones_equal (λ y e. e)) (AreMarks-zeros _ _ (omega (arith, c.div_ceil.ensures)))
-
-pub returns : goal.returns
-returns c = rw (c.in_ok-words.ensures.items_if_clones_equal (λ y e. e)) (marks_of-zeros c.div_ceil.result c.args.places)

@@ -1,0 +1,62 @@
+use Rattle.std.proofs.Common.{◌≡◌, ◌-◌, ℕ, Bool, List, length, take, drop, arith, refl, subst, ◌∙◌, Option, Some}
+use Rattle.std.proofs.lemmas.List.{take_rest}
+use Rattle.cs_syntax.specs.Matching.{Tree}
+use Rattle.cs_match.specs.declared.matcher.Line.{Line}
+use Rattle.cs_match.specs.Deciding.{Decides}
+use Rattle.cs_match.specs.FirstMatch.{IsFirstMatch, IsSearched}
+use Rattle.cs_match.specs.Lines.{terminated_lines}
+use Rattle.cs_match.specs.Skipped.{AreSkipped}
+use Rattle.cs_match.specs.Skipping.{NoneMatch}
+use Rattle.cs_match.proofs.StateCountLemmas.{grows_none, grows_on}
+use Rattle.cs_match.proofs.WholeLineLemmas.{whole_from}
+use Rattle.cs_match.proofs.ScanLemmas.{skipped_none}
+use Rattle.cs_match.proofs.FirstMatchLemmas.{searched_after}
+use Rattle.cs_match.proofs.matcher.Matcher.next_match.Goals as goal
+
+-- a search after skipped lines, by an equal tree
+behind : (tree now : Tree) (block : List ℕ) (from offset to : ℕ) (found other : Option Line) → now ≡ tree → found ≡ other → AreSkipped (λ has_match. Decides has_match tree) block from offset → IsSearched now block offset to found → IsSearched tree block from to other
+behind tree now block from offset to found other same is skipped searched =
+    searched_after tree block from offset to other skipped (subst (IsSearched tree block offset to) is (subst (λ t. IsSearched t block offset to found) same searched))
+
+pub parts-init : goal.parts-init
+parts-init c = record { skipped = skipped_none (λ has_match. Decides has_match c.args.self.now.tree) c.args.block.now c.args.from c.requires.within; same = refl; states = grows_none _ _ _ refl }
+
+pub search_part-searched-requires-clause-whole : goal.search_part-searched-requires-clause-whole
+search_part-searched-requires-clause-whole c = whole_from c.args.block.now c.args.from c.parts.offset c.parts.invariant.skipped.lines.low c.requires.whole
+
+pub returns-in-Some-clause-line : goal.returns-in-Some-clause-line
+returns-in-Some-clause-line c =
+    let i = c.parts.invariant in
+    let searched = c.search_part-searched.result in
+    (behind c.args.self.now.tree c.parts.self.tree c.args.block.now c.args.from c.parts.offset searched.to searched.line (Some c.in-Some.line) i.same c.in-Some.is i.skipped c.search_part-searched.ensures.found).line
+
+pub returns-in-Some-clause-found : goal.returns-in-Some-clause-found
+returns-in-Some-clause-found c =
+    let i = c.parts.invariant in
+    let searched = c.search_part-searched.result in
+    (behind c.args.self.now.tree c.parts.self.tree c.args.block.now c.args.from c.parts.offset searched.to searched.line (Some c.in-Some.line) i.same c.in-Some.is i.skipped c.search_part-searched.ensures.found).found
+
+pub returns-in-Some-clause-none : goal.returns-in-Some-clause-none
+returns-in-Some-clause-none c =
+    let i = c.parts.invariant in
+    let searched = c.search_part-searched.result in
+    (behind c.args.self.now.tree c.parts.self.tree c.args.block.now c.args.from c.parts.offset searched.to searched.line (Some c.in-Some.line) i.same c.in-Some.is i.skipped c.search_part-searched.ensures.found).skipped.none
+
+pub parts-preserved : goal.parts-preserved
+parts-preserved c =
+    let i = c.parts.invariant in
+    let e = c.search_part-searched.ensures in
+    let searched = c.search_part-searched.result in
+    record {
+      skipped = behind c.args.self.now.tree c.parts.self.tree c.args.block.now c.args.from c.parts.offset searched.to searched.line _ i.same c.in-None.is i.skipped e.found;
+      same = e.same ∙ i.same;
+      states = grows_on (c.parts.offset - c.args.from) (searched.to - c.parts.offset) (searched.to - c.args.from) _ _ _ i.states e.states (omega (arith, i.skipped.lines.low, e.moves));
+    }
+
+pub returns-clause-none : goal.returns-clause-none
+returns-clause-none c = λ has_match decides.
+    let i = c.parts.invariant in
+    let block = c.args.block.now in
+    let all : c.parts.offset ≡ length block = omega (arith, i.skipped.lines.high, c.parts-test.false) in
+    subst (λ text. NoneMatch has_match (terminated_lines text)) (take_rest block c.args.from)
+    (subst (λ n. NoneMatch has_match (terminated_lines (take (n - c.args.from) (drop c.args.from block)))) all (i.skipped.none has_match decides))

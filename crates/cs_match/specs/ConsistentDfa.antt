@@ -1,0 +1,50 @@
+-- The invariant of the lazy DFA.
+use Rattle.std.specs.Prelude.{ℕ, Bool, List, ◌≡◌, length, vec_len, IfSome}
+use Rattle.cs_syntax.specs.Matching.{Tree}
+use Rattle.cs_syntax.specs.Node.{tree_of}
+use Rattle.cs_match.specs.declared.state.State.{State}
+use Rattle.cs_match.specs.declared.dfa.LazyDfa.{LazyDfa}
+use Rattle.cs_match.specs.Glushkov.{position_count, repeats, IsExpanded}
+use Rattle.cs_match.specs.BitParallel.{IsBitParallel}
+use Rattle.cs_match.specs.States.{successor, accepts_before}
+use Rattle.cs_match.specs.LazyDfa as dfa
+use Rattle.cs_match.specs.RequiredLiteral.{IsRequired}
+
+-- the tree of the DFA
+abbrev pub tree_in : LazyDfa → Tree
+tree_in dfa = tree_of dfa.root.now
+
+-- the tree is expanded, the simulation, the states and the transitions are correct, and the scratch memory
+-- has the right size
+pub record IsConsistent (t : LazyDfa) : Type 0 where
+  pub expanded : IsExpanded (tree_in t)
+  pub bits : IfSome t.bits (λ bits. IsBitParallel (tree_in t) bits.now)
+  pub cached : dfa.AreStates (tree_in t) t.cached.items t.used
+  pub transitions : dfa.AreTransitions (tree_in t) t.cached.items t.used t.transitions.items
+  pub room : length t.scratch.positions ≡ position_count (tree_in t)
+  pub loops : vec_len t.loops ≡ repeats (tree_in t)
+
+-- the DFA is consistent, and its tree requires the literal
+pub record RequiresLiteral (t : LazyDfa) (literal : List ℕ) : Type 0 where
+  pub right : IsConsistent t
+  pub required : IsRequired (tree_in t) literal
+
+-- the state with this number
+abbrev pub state_in : LazyDfa → ℕ → State
+state_in t number = dfa.state_of (tree_in t) t.cached.items number
+
+-- the state with this number accepts before the byte
+abbrev pub accepts_from : LazyDfa → ℕ → ℕ → Bool
+accepts_from t number b = accepts_before (tree_in t) (state_in t number) b
+
+-- the successor of the state with this number over the byte
+abbrev pub successor_in : LazyDfa → ℕ → ℕ → State
+successor_in t number b = successor (tree_in t) (state_in t number) b
+
+-- the number is that of a cached state, which is this one
+abbrev pub HasState : LazyDfa → ℕ → State → Type 0
+HasState t number state = dfa.IsStateNumber (tree_in t) t.cached.items t.used number state
+
+-- the number is a correct transition of the state over the byte
+abbrev pub LeadsIn : LazyDfa → State → ℕ → ℕ → Type 0
+LeadsIn t state b number = dfa.Leads (tree_in t) t.cached.items t.used state b number

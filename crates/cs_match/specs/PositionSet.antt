@@ -1,0 +1,29 @@
+-- Position sets as bit vectors.
+use Rattle.std.specs.Prelude.{◌≡◌, ℕ, ◌+◌, ◌/◌, ◌^◌, ◌<◌, ◌≤◌, All, Bool, false, ◌&&◌, ◌||◌, List, [], ◌∷◌, length, map}
+use Rattle.std.specs.List.{range_with_len}
+use Rattle.cs_syntax.specs.Bits.{has_bit}
+
+-- the set that the words represent, for this many positions
+unfoldable pub positions_of : List ℕ → ℕ → List Bool
+positions_of words count = map (has_bit words) (range_with_len 0 count)
+
+-- there are as many words as the positions need, and no bit past them is set
+pub record IsPositionSet (words : List ℕ) (count : ℕ) : Type 0 where
+  pub enough : length words ≡ (count + 63) / 64
+  pub fit : All (λ word. word < 2 ^ 64) words
+  pub no_other : (at : ℕ) → count ≤ at → has_bit words at ≡ false
+
+-- A Shift-And step: each position moves to the next one, first positions are added, and the positions of the
+-- mask are kept.
+abbrev pub shift_and : Bool → List Bool → List Bool → List Bool → List Bool
+shift_and before [] masks positions = []
+shift_and before (first ∷ firsts) [] positions = []
+shift_and before (first ∷ firsts) (mask ∷ masks) [] = []
+shift_and before (first ∷ firsts) (mask ∷ masks) (is_in ∷ positions) =
+    ((before || first) && mask) ∷ shift_and is_in firsts masks positions
+
+-- the sets have a position in common
+abbrev pub intersect : List Bool → List Bool → Bool
+intersect [] others = false
+intersect (is_in ∷ positions) [] = false
+intersect (is_in ∷ positions) (other ∷ others) = (is_in && other) || intersect positions others

@@ -1,0 +1,333 @@
+// Lazy DFA (RE2): subset construction on demand over Glushkov positions (`specs/Glushkov.antt`), with a bounded cache
+// of states that is cleared when it is full.
+ghost use Rattle.std.specs.Prelude.{◌≡◌, ◌≢◌, ◌↔◌, ◌+◌, ◌<◌, ◌≤◌, ◌*◌, ◌/◌, ℕ, IfOk, IfSome, IsTrue, MatchOption, EachIndex, length, vec_len, replicate, slice_index, slice_index_or, slice_set, true, false};
+ghost use Rattle.cs_syntax.specs.Node.{tree_of};
+ghost use Rattle.cs_syntax.specs.Matching.{HasMatch};
+ghost use Rattle.cs_match.specs.Automaton.{GrowsOver};
+ghost use Rattle.cs_match.specs.FirstMatch.{AcceptsFirst, AreScanned};
+ghost use Rattle.cs_match.specs.Lines.{newline};
+ghost use Rattle.cs_match.specs.Glushkov.{position_count, repeats, IsExpanded};
+ghost use Rattle.cs_match.specs.BitParallel.{IsBitParallel};
+ghost use Rattle.cs_match.specs.States.{start, successor, accepts_before};
+ghost use Rattle.cs_match.specs.LazyDfa.{blank_transition};
+ghost use Rattle.cs_match.specs.declared.state.State.{State};
+ghost use Rattle.cs_match.specs.ConsistentDfa.{IsConsistent, HasState, LeadsIn, tree_in, state_in, accepts_from, successor_in};
+
+use crate::bit_parallel::BitParallel;
+use crate::interleaved_scan::MATCH;
+use crate::program::Program;
+use crate::state::State;
+use cs_syntax::Node;
+use std::alloc::{AllocError, Global};
+
+/// The number of the unknown state: the transition is not computed yet. No cached state has this number or that of
+/// `MATCH`.
+const UNKNOWN: u16 = 0xFF00;
+/// The size of the state cache.
+const MOST: usize = 254;
+
+/// The cached states and their transitions.
+#[derive(Drop)]
+pub(crate) struct LazyDfa<'a> {
+    pub(crate) root: &'a Node,
+    /// The bit-parallel simulation, if the tree has one.
+    pub(crate) bits: Option<&'a BitParallel>,
+    /// The transition table: 256 state numbers for each state.
+    pub(crate) transitions: Vec<u16>,
+    /// The cached states. The first is the start state.
+    pub(crate) cached: Vec<State>,
+    /// The hashes of the cached states, compared before the states.
+    pub(crate) hashes: [u32; 256],
+    /// The number of cached states.
+    pub(crate) used: usize,
+    /// The state under construction.
+    pub(crate) scratch: State,
+    /// Scratch memory of the traversals: a flag for each repeat.
+    pub(crate) loops: Vec<bool>,
+}
+
+/// A full cache of copies of the start state.
+fn start_states(alloc: Global, position_count: usize) -> Result<Vec<State>, AllocError>
+    ensures { IfOk result (λ cached. cached.items ≡ replicate 254 (start position_count)) }
+{
+    let mut cached = Vec::with_capacity(alloc, MOST)?;
+    for i in 0..MOST {
+        let slot = State::new(alloc, position_count)?;
+        cached.push(slot)?;
+    }
+    Ok(cached)
+}
+
+/// Makes every transition unknown, except those of the match state.
+fn reset(transitions: &mut [u16])
+    ensures length { length transitions.new ≡ length transitions.old }
+    ensures blank { EachIndex transitions.new (λ k. slice_index transitions.new k
+        ≡ blank_transition k) }
+{
+    for i in 0..transitions.len() {
+        transitions[i] = if i >> 8 == 254 { MATCH } else { UNKNOWN };
+    }
+}
+
+/// A transition table in which no transition is known.
+fn blank(alloc: Global) -> Result<Vec<u16>, AllocError>
+    ensures { IfOk result (λ transitions. (length transitions.items ≡ 65536)
+        × EachIndex transitions.items (λ k. slice_index transitions.items k ≡ blank_transition k)) }
+{
+    let mut transitions = vec![in alloc; UNKNOWN; 65536]?;
+    reset(&mut transitions);
+    Ok(transitions)
+}
+
+/// The index of a cached state that equals this one, if there is one.
+fn find(
+    cached: &[State],
+    used: usize,
+    hashes: &[u32; 256],
+    hash: u32,
+    state: &State,
+) -> Option<usize>
+    requires bound { used ≤ 254 }
+    requires all { length cached.now ≡ 254 }
+    ensures { MatchOption result (Unit {0})
+        (λ slot. (slot < used) × (slice_index_or cached.now slot state.now ≡ state.now)) }
+{
+    for slot in 0..used {
+        if hashes[slot] == hash && cached[slot].is_same(state) {
+            return Some(slot);
+        }
+    }
+    None
+}
+
+/// Copies a state into the cache.
+fn put_state(cached: &mut [State], slot: usize, state: &State)
+    requires within { slot < length cached.old }
+    requires positions { length (slice_index_or cached.old slot state.now).positions
+        ≡ length state.now.positions }
+    ensures { cached.new ≡ slice_set cached.old slot state.now }
+{
+    cached[slot].copy_from(state);
+}
+
+/// Computes the successor of a state over a byte, and returns whether the state accepts before the byte.
+fn step_from(
+    root: &Node,
+    bits: Option<&BitParallel>,
+    from: &State,
+    next: &mut State,
+    loops: &mut [bool],
+    byte: u8,
+) -> bool
+    requires bits { IfSome bits (λ bits. IsBitParallel (tree_of root.now) bits.now) }
+    requires positions { length from.now.positions ≡ position_count (tree_of root.now) }
+    requires room { length next.old.positions ≡ position_count (tree_of root.now) }
+    requires loops { length loops.old ≡ repeats (tree_of root.now) }
+    ensures accepting { result ≡ accepts_before (tree_of root.now) from.now byte }
+    ensures moved { next.new ≡ successor (tree_of root.now) from.now byte }
+    ensures loops { length loops.new ≡ length loops.old }
+{
+    next.copy_from(from);
+    next.step_over(root, bits, loops, byte)
+}
+
+impl<'a> LazyDfa<'a> {
+    /// A DFA whose cache has only the start state.
+    pub(crate) fn new(alloc: Global, program: &'a Program) -> Result<LazyDfa<'a>, AllocError>
+        ensures { IfOk result (λ dfa. (tree_in dfa ≡ program.now)
+            × IsConsistent dfa × (dfa.used ≡ 1)) }
+    {
+        let position_count = program.position_count();
+        let cached = start_states(alloc, position_count)?;
+        let scratch = State::new(alloc, position_count)?;
+        let mut hashes = [0; 256];
+        hashes[0] = scratch.hash();
+        let loops = vec![in alloc; false; program.repeats()]?;
+        let transitions = blank(alloc)?;
+        Ok(LazyDfa {
+            root: program.root(),
+            bits: program.bits(),
+            transitions,
+            cached,
+            hashes,
+            used: 1,
+            scratch,
+            loops,
+        })
+    }
+
+    /// The transition of a state over a byte, computed first if it is unknown. A newline is the end of the line.
+    #[inline(always)]
+    pub(crate) fn next(&mut self, from: u16, byte: u8) -> u16
+        requires right { IsConsistent self.old }
+        requires number { HasState self.old from (state_in self.old from) }
+        ensures leads { LeadsIn self.new (state_in self.old from) byte result }
+        ensures right { IsConsistent self.new }
+        ensures same { tree_in self.new ≡ tree_in self.old }
+        ensures states { GrowsOver 1 self.old.used self.new.used }
+    {
+        let next = self.transitions[(from | u16::from(byte)) as usize];
+        if next == UNKNOWN {
+            self.fill(from, byte)
+        } else {
+            next
+        }
+    }
+
+    /// Whether the line has a match, simulated byte by byte without the cache.
+    #[cold]
+    #[inline(never)]
+    fn search(&mut self, line: &[u8]) -> bool
+        requires right { IsConsistent self.old }
+        ensures found { IsTrue result ↔ HasMatch (tree_in self.old) line.now }
+        ensures right { IsConsistent self.new }
+        ensures same { tree_in self.new ≡ tree_in self.old }
+        ensures states { self.new.used ≡ self.old.used }
+    {
+        self.scratch
+            .search(self.root, self.bits, &mut self.loops, line)
+    }
+
+    /// Whether the line has a match. If the scan reaches a newline within the line, the whole line is simulated.
+    pub(crate) fn is_match(&mut self, line: &[u8]) -> bool
+        requires right { IsConsistent self.old }
+        ensures found { IsTrue result ↔ HasMatch (tree_in self.old) line.now }
+        ensures right { IsConsistent self.new }
+        ensures same { tree_in self.new ≡ tree_in self.old }
+        ensures states { GrowsOver (length line.now + 1) self.old.used self.new.used }
+    {
+        let mut number = 0;
+        for b in line {
+            // The transition table reads a newline as the end of the line.
+            if *b == b'\n' {
+                return self.search(line);
+            }
+            number = self.next(number, *b);
+            if number == MATCH {
+                return true;
+            }
+        }
+        self.next(number, b'\n') == MATCH
+    }
+
+    /// The offset of the byte before which the automaton accepts first, in a scan over the lines of a text.
+    pub(crate) fn first_accepted(&mut self, text: &[u8]) -> Option<usize>
+        requires right { IsConsistent self.old }
+        ensures found { MatchOption result
+            (AreScanned (tree_in self.old) text.now (length text.now))
+            (AcceptsFirst (tree_in self.old) text.now) }
+        ensures right { IsConsistent self.new }
+        ensures same { tree_in self.new ≡ tree_in self.old }
+        ensures states { GrowsOver (length text.now) self.old.used self.new.used }
+    {
+        let mut number = 0;
+        for (offset, byte) in text.iter().enumerate() {
+            number = self.next(number, *byte);
+            if number == MATCH {
+                return Some(offset);
+            }
+        }
+        None
+    }
+
+    /// Computes an unknown transition and stores it.
+    #[cold]
+    #[inline(never)]
+    fn fill(&mut self, from: u16, byte: u8) -> u16
+        requires right { IsConsistent self.old }
+        requires number { HasState self.old from (state_in self.old from) }
+        ensures leads { LeadsIn self.new (state_in self.old from) byte result }
+        ensures right { IsConsistent self.new }
+        ensures same { tree_in self.new ≡ tree_in self.old }
+        ensures states { GrowsOver 1 self.old.used self.new.used }
+    {
+        if step_from(
+            self.root,
+            self.bits,
+            &self.cached[(from >> 8) as usize],
+            &mut self.scratch,
+            &mut self.loops,
+            byte,
+        ) {
+            self.put(from, byte, MATCH);
+            return MATCH;
+        }
+        if byte == b'\n' {
+            self.put(from, byte, 0);
+            return 0;
+        }
+        self.next_number(from, byte)
+    }
+
+    /// The number of the state under construction, which is cached if it is new. It is the successor of `from` over a
+    /// byte of the line, and `from` does not accept before the byte.
+    fn next_number(&mut self, from: u16, byte: u8) -> u16
+        requires right { IsConsistent self.old }
+        requires number { HasState self.old from (state_in self.old from) }
+        requires within { byte ≢ newline }
+        requires stays { accepts_from self.old from byte ≡ false }
+        requires scratch { self.old.scratch ≡ successor_in self.old from byte }
+        ensures leads { LeadsIn self.new (state_in self.old from) byte result }
+        ensures right { IsConsistent self.new }
+        ensures same { tree_in self.new ≡ tree_in self.old }
+        ensures states { GrowsOver 1 self.old.used self.new.used }
+    {
+        let hash = self.scratch.hash();
+        if let Some(slot) = find(&self.cached, self.used, &self.hashes, hash, &self.scratch) {
+            let next = slot as u16 * 256;
+            self.put(from, byte, next);
+            return next;
+        }
+        if self.used == MOST {
+            // `from` is no longer cached, so its transition is not stored.
+            self.empty();
+            return self.add(hash);
+        }
+        let next = self.add(hash);
+        self.put(from, byte, next);
+        next
+    }
+
+    /// Stores a transition.
+    fn put(&mut self, from: u16, byte: u8, next: u16)
+        requires right { IsConsistent self.old }
+        requires number { HasState self.old from (state_in self.old from) }
+        requires leads { LeadsIn self.old (state_in self.old from) byte next }
+        ensures leads { LeadsIn self.new (state_in self.old from) byte next }
+        ensures right { IsConsistent self.new }
+        ensures same { tree_in self.new ≡ tree_in self.old }
+        ensures states { self.new.used ≡ self.old.used }
+    {
+        self.transitions[(from | u16::from(byte)) as usize] = next;
+    }
+
+    /// Caches the state under construction, and returns its number.
+    fn add(&mut self, hash: u32) -> u16
+        requires right { IsConsistent self.old }
+        requires room { self.old.used < 254 }
+        ensures number { HasState self.new result self.old.scratch }
+        ensures kept { (number : ℕ) (state : State) → HasState self.old number state
+            → HasState self.new number state }
+        ensures right { IsConsistent self.new }
+        ensures same { tree_in self.new ≡ tree_in self.old }
+        ensures states { self.new.used ≡ self.old.used + 1 }
+    {
+        let slot = self.used;
+        put_state(&mut self.cached, slot, &self.scratch);
+        self.hashes[slot] = hash;
+        self.used = slot + 1;
+        slot as u16 * 256
+    }
+
+    /// Clears the cache except for the start state.
+    fn empty(&mut self)
+        requires right { IsConsistent self.old }
+        ensures one { self.new.used ≡ 1 }
+        ensures scratch { self.new.scratch ≡ self.old.scratch }
+        ensures right { IsConsistent self.new }
+        ensures same { tree_in self.new ≡ tree_in self.old }
+    {
+        reset(&mut self.transitions);
+        self.used = 1;
+    }
+}

@@ -1,0 +1,132 @@
+// Expansion of counted repeats, and lowering of character sets to byte sets (RE2's simplification).
+ghost use Rattle.std.specs.Prelude.{◌≡◌, IfOk, OnOk, None};
+ghost use Rattle.cs_syntax.specs.Matching.{rep};
+ghost use Rattle.cs_syntax.specs.Node.{tree_of};
+ghost use Rattle.cs_syntax.specs.NodeList.{trees_of};
+ghost use Rattle.cs_match.specs.Expansion.{expansion, expansions, with_copies, optional, repeat_expansion};
+
+use cs_syntax::{Node, lower};
+use std::alloc::{AllocError, Global};
+
+/// The expansion of the tree: counted repeats become copies, and character sets become trees of byte sets.
+#[cycle(expand)]
+pub(crate) fn expand(alloc: Global, node: &Node) -> Result<Node, AllocError>
+    ensures { IfOk result (λ n. tree_of n ≡ expansion (tree_of node.now)) }
+{
+    match node {
+        Node::Empty => Ok(Node::Empty),
+        Node::Set(set) => Ok(Node::Set(*set)),
+        Node::Chars(set) => lower(alloc, set),
+        Node::Cat(parts) => {
+            let parts = expand_all(alloc, parts)?;
+            Ok(Node::Cat(parts))
+        }
+        Node::Alt(parts) => {
+            let parts = expand_all(alloc, parts)?;
+            Ok(Node::Alt(parts))
+        }
+        Node::Rep(x, least, most) => expand_repeat(alloc, x, *least, *most),
+        Node::LineStart => Ok(Node::LineStart),
+        Node::LineEnd => Ok(Node::LineEnd),
+        Node::WordEdge => Ok(Node::WordEdge),
+        Node::NotWordEdge => Ok(Node::NotWordEdge),
+    }
+}
+
+/// Expands a repeat to copies, followed by a loop or by optional copies.
+#[cycle(expand)]
+fn expand_repeat(
+    alloc: Global,
+    node: &Node,
+    least: u32,
+    most: Option<u32>,
+) -> Result<Node, AllocError>
+    ensures { IfOk result
+        (λ n. tree_of n ≡ repeat_expansion (expansion (tree_of node.now)) least most) }
+{
+    let mut parts = Vec::new(alloc);
+    match most {
+        None => {
+            let last = expand(alloc, node)?;
+            if least == 0 {
+                return in_loop(alloc, last, 0);
+            }
+            add_copies(alloc, node, least - 1, &mut parts)?;
+            let last = in_loop(alloc, last, 1)?;
+            parts.push(last)?;
+            Ok(Node::Cat(parts))
+        }
+        Some(most) => {
+            if least > most {
+                return Ok(Node::Alt(parts));
+            }
+            add_copies(alloc, node, least, &mut parts)?;
+            add_optional(alloc, node, most - least, &mut parts)?;
+            Ok(Node::Cat(parts))
+        }
+    }
+}
+
+#[cycle(expand)]
+fn expand_all(alloc: Global, parts: &[Node]) -> Result<Vec<Node>, AllocError>
+    ensures { IfOk result (λ v. trees_of v.items ≡ expansions (trees_of parts.now)) }
+{
+    let mut all = Vec::new(alloc);
+    for part in parts {
+        let written = expand(alloc, part)?;
+        all.push(written)?;
+    }
+    Ok(all)
+}
+
+#[cycle(expand)]
+#[tactic(auto, using(crate::proofs::CopyLemmas::pushed_copy, cs_syntax::proofs::TreeListLemmas::append_none))]
+fn add_copies(
+    alloc: Global,
+    node: &Node,
+    count: u32,
+    parts: &mut Vec<Node>,
+) -> Result<(), AllocError>
+    ensures { OnOk result (trees_of parts.new.items
+        ≡ with_copies (trees_of parts.old.items) count (expansion (tree_of node.now))) }
+{
+    for k in 0..count {
+        let copy = expand(alloc, node)?;
+        parts.push(copy)?;
+    }
+    Ok(())
+}
+
+#[cycle(expand)]
+#[tactic(auto, using(crate::proofs::CopyLemmas::pushed_copy, cs_syntax::proofs::TreeListLemmas::append_none))]
+fn add_optional(
+    alloc: Global,
+    node: &Node,
+    count: u32,
+    parts: &mut Vec<Node>,
+) -> Result<(), AllocError>
+    ensures { OnOk result (trees_of parts.new.items
+        ≡ with_copies (trees_of parts.old.items) count (optional (expansion (tree_of node.now)))) }
+{
+    for k in 0..count {
+        let copy = expand(alloc, node)?;
+        let option = or_nothing(alloc, copy)?;
+        parts.push(option)?;
+    }
+    Ok(())
+}
+
+fn or_nothing(alloc: Global, node: Node) -> Result<Node, AllocError>
+    ensures { IfOk result (λ n. tree_of n ≡ optional (tree_of node)) }
+{
+    let mut branches = Vec::new(alloc);
+    branches.push(node)?;
+    branches.push(Node::Empty)?;
+    Ok(Node::Alt(branches))
+}
+
+fn in_loop(alloc: Global, node: Node, least: u32) -> Result<Node, AllocError>
+    ensures { IfOk result (λ n. tree_of n ≡ rep (tree_of node) least None) }
+{
+    Ok(Node::Rep(Box::new(alloc, node)?, least, None))
+}

@@ -1,0 +1,185 @@
+// Interleaved scan: six lanes scan chunks of a block by the transition table, and chunks without a match are skipped.
+// The two special states absorb, so that a lane has no branch for a byte. The scan knows nothing of patterns;
+// `specs/Scan.antt` says what it returns and what the table has to guarantee.
+ghost use Rattle.std.specs.Prelude.{◌≡◌, ◌≤◌, ◌<◌, ◌+◌, ◌∷◌, ℕ, [], map, true, length, slice_range, slice_index, drop};
+ghost use Rattle.cs_match.specs.Lines.{newline};
+ghost use Rattle.cs_match.specs.NoNewline.{HasNoNewline};
+ghost use Rattle.cs_match.specs.Skipped.{AreSkipped};
+ghost use Rattle.cs_match.specs.Skipping.{AreWholeLines};
+ghost use Rattle.cs_match.specs.Scan.{state_after, first_special, RulesOutLines};
+
+use memchr::memchr;
+
+/// The match state: the line has a match, whatever follows in it.
+pub(crate) const MATCH: u16 = 0xFE00;
+
+/// The special states, match and unknown, begin at this number.
+pub(crate) const FIRST_SPECIAL: u16 = MATCH;
+
+/// The least size of a chunk in bytes, except at the end of a block.
+const CHUNK: usize = 512;
+
+/// The least size of a batch of six chunks in bytes.
+pub(crate) const BATCH: usize = 3072;
+
+/// The state after the text.
+#[tactic(auto, using(crate::proofs::ScanLemmas::after_more, crate::proofs::ScanLemmas::after_all), unfolding(crate::specs::Scan::state_after))]
+fn scan(transitions: &[u16], from: u16, text: &[u8]) -> u16
+    requires { length transitions.now ≡ 65536 }
+    ensures { result ≡ state_after transitions.now from text.now }
+{
+    let mut state = from;
+    for byte in text {
+        state = transitions[(state | u16::from(*byte)) as usize];
+    }
+    state
+}
+
+/// The offset of the first newline at or after `from`.
+pub(crate) fn line_end(block: &[u8], from: usize) -> usize
+    requires within { from < length block.now }
+    requires whole { AreWholeLines (drop from block.now) }
+    ensures low { from ≤ result }
+    ensures high { result < length block.now }
+    ensures part { HasNoNewline (slice_range block.now from result) }
+    ensures newline { drop result block.now ≡ newline ∷ drop (result + 1) block.now }
+{
+    match memchr(b'\n', &block[from..]) {
+        Some(offset) => from + offset,
+        None => unreachable!(),
+    }
+}
+
+/// The end of the chunk that begins at `from`: after the first newline at least 512 bytes on, or the end of the
+/// block.
+pub(crate) fn cut(block: &[u8], from: usize) -> usize
+    requires within { from ≤ length block.now }
+    requires whole { AreWholeLines (drop from block.now) }
+    ensures low { from ≤ result }
+    ensures high { result ≤ length block.now }
+    ensures moves { from < length block.now → from < result }
+    ensures whole { AreWholeLines (slice_range block.now from result) }
+    ensures rest { AreWholeLines (drop result block.now) }
+{
+    if block.len() - from <= CHUNK {
+        return block.len();
+    }
+    line_end(block, from + CHUNK) + 1
+}
+
+/// The states after six texts, scanned in interleaved lanes from the start state.
+fn six_lanes(
+    transitions: &[u16],
+    a: &[u8],
+    b: &[u8],
+    c: &[u8],
+    d: &[u8],
+    e: &[u8],
+    f: &[u8],
+) -> [u16; 6]
+    requires { length transitions.now ≡ 65536 }
+    ensures { result ≡ map (state_after transitions.now 0)
+        (a.now ∷ b.now ∷ c.now ∷ d.now ∷ e.now ∷ f.now ∷ []) }
+{
+    let n = a
+        .len()
+        .min(b.len())
+        .min(c.len())
+        .min(d.len())
+        .min(e.len())
+        .min(f.len());
+    let mut s = 0u16;
+    let mut t = 0u16;
+    let mut u = 0u16;
+    let mut v = 0u16;
+    let mut w = 0u16;
+    let mut x = 0u16;
+    for i in 0..n {
+        s = transitions[(s | u16::from(a[i])) as usize];
+        t = transitions[(t | u16::from(b[i])) as usize];
+        u = transitions[(u | u16::from(c[i])) as usize];
+        v = transitions[(v | u16::from(d[i])) as usize];
+        w = transitions[(w | u16::from(e[i])) as usize];
+        x = transitions[(x | u16::from(f[i])) as usize];
+    }
+    s = scan(transitions, s, &a[n..]);
+    t = scan(transitions, t, &b[n..]);
+    u = scan(transitions, u, &c[n..]);
+    v = scan(transitions, v, &d[n..]);
+    w = scan(transitions, w, &e[n..]);
+    x = scan(transitions, x, &f[n..]);
+    [s, t, u, v, w, x]
+}
+
+/// How many leading states are ordinary.
+fn ordinary_prefix(states: &[u16]) -> usize
+    ensures most { result ≤ length states.now }
+    ensures ordinary { (k : ℕ) → k < result → slice_index states.now k < first_special }
+{
+    for (i, state) in states.iter().enumerate() {
+        if *state >= FIRST_SPECIAL {
+            return i;
+        }
+    }
+    states.len()
+}
+
+/// The end of the leading chunks of a batch that have no match, and whether these are all six.
+#[derive(Clone, Copy)]
+struct Skipped {
+    to: usize,
+    all: bool,
+}
+
+/// Skips the leading chunks of a batch whose scans end in ordinary states.
+fn skip_batch(transitions: &[u16], block: &[u8], from: usize) -> Skipped
+    requires full { length transitions.now ≡ 65536 }
+    requires within { from ≤ length block.now }
+    requires whole { AreWholeLines (drop from block.now) }
+    ensures skipped { AreSkipped (λ has_match. RulesOutLines has_match transitions.now)
+        block.now from result.to }
+    ensures moves { result.all ≡ true → from < length block.now → from < result.to }
+{
+    let a = cut(block, from);
+    let b = cut(block, a);
+    let c = cut(block, b);
+    let d = cut(block, c);
+    let e = cut(block, d);
+    let f = cut(block, e);
+    let states = six_lanes(
+        transitions,
+        &block[from..a],
+        &block[a..b],
+        &block[b..c],
+        &block[c..d],
+        &block[d..e],
+        &block[e..f],
+    );
+    let ordinary = ordinary_prefix(&states);
+    let ends = [from, a, b, c, d, e, f];
+    Skipped {
+        to: ends[ordinary],
+        all: ordinary == 6,
+    }
+}
+
+/// Skips batches while all their chunks are ordinary, then the leading ordinary chunks of the next batch. The
+/// returned offset is the start of a line or the end of the block.
+pub(crate) fn skip_interleaved(transitions: &[u16], block: &[u8], from: usize) -> usize
+    requires full { length transitions.now ≡ 65536 }
+    requires within { from ≤ length block.now }
+    requires whole { AreWholeLines (drop from block.now) }
+    ensures skipped { AreSkipped (λ has_match. RulesOutLines has_match transitions.now)
+        block.now from result }
+    ensures rest { AreWholeLines (drop result block.now) }
+{
+    let mut offset = from;
+    'batches: while offset < block.len() {
+        let skipped = skip_batch(transitions, block, offset);
+        if !skipped.all {
+            return skipped.to;
+        }
+        offset = skipped.to;
+    }
+    offset
+}

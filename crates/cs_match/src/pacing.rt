@@ -1,0 +1,144 @@
+// Which way of searching is tried next. No contract depends on it.
+ghost use Rattle.std.specs.Prelude.{◌<◌};
+
+use crate::backoff::Backoff;
+use crate::interleaved_scan::BATCH;
+
+/// Below this distance between candidates without a match the DFA alone is faster than a prefilter.
+const NEAR: usize = 256;
+
+/// How many such candidates in a row are put down to chance.
+const MOST_MISSES: usize = 16;
+
+/// After this many bytes without a match the interleaved scan is tried again.
+const FAR: usize = 1024;
+
+/// Below this distance between matching lines a counting scan is faster than a prefilter.
+const DENSE: usize = 192;
+
+/// The same distance for a program without a prefilter.
+const LESS_DENSE: usize = 2048;
+
+/// A way to find the next lines to search.
+#[derive(Clone, Copy)]
+pub(crate) enum Method {
+    /// Skip to the next candidate of the prefilter.
+    Prefilter,
+    /// Skip chunks by the interleaved scan.
+    Interleaved,
+    /// Skip nothing, and test the next line.
+    Line,
+    /// Skip nothing, and scan to the next match.
+    Single,
+}
+
+/// Counters that guess which way of searching is the fastest for the text at hand.
+#[derive(Drop)]
+pub(crate) struct Pacing {
+    has_prefilter: bool,
+    prefilter_backoff: Backoff,
+    interleaved_backoff: Backoff,
+    /// How many near candidates in a row had no match.
+    misses: usize,
+    /// How many matching lines in a row were close to the one before.
+    dense: usize,
+}
+
+impl Pacing {
+    pub(crate) fn new(has_prefilter: bool) -> Pacing {
+        Pacing {
+            has_prefilter,
+            prefilter_backoff: Backoff::new(),
+            interleaved_backoff: Backoff::new(),
+            misses: 0,
+            dense: 0,
+        }
+    }
+
+    /// The method for the next part of a block.
+    pub(crate) fn method(&mut self) -> Method {
+        if self.has_prefilter && !self.prefilter_backoff.use_one() {
+            return Method::Prefilter;
+        }
+        if !self.interleaved_backoff.use_one() {
+            Method::Interleaved
+        } else if self.has_prefilter {
+            Method::Line
+        } else {
+            Method::Single
+        }
+    }
+
+    /// Notes how many bytes a method skipped, how many bytes without a match it and the search from there found, and
+    /// whether the search ended at a match.
+    pub(crate) fn note_part(
+        &mut self,
+        method: Method,
+        skipped: usize,
+        without_match: usize,
+        found: bool,
+    ) {
+        match method {
+            Method::Prefilter => self.note_candidate(skipped, found),
+            Method::Interleaved => {
+                if skipped >= BATCH {
+                    self.interleaved_backoff.reset();
+                }
+                if found {
+                    self.interleaved_backoff.begin();
+                }
+            }
+            Method::Line => {}
+            Method::Single => {
+                if without_match >= FAR {
+                    self.interleaved_backoff.end();
+                }
+            }
+        }
+    }
+
+    /// Notes how many bytes the prefilter skipped, and whether its candidate has a match.
+    fn note_candidate(&mut self, skipped: usize, found: bool) {
+        if skipped >= NEAR {
+            self.misses = 0;
+            self.prefilter_backoff.reset();
+        } else if !found {
+            self.misses = self.misses.saturating_add(1);
+            if self.misses > MOST_MISSES {
+                self.prefilter_backoff.begin();
+            }
+        }
+    }
+
+    /// Whether matching lines are so close to one another that the counting scan pays.
+    pub(crate) fn is_dense(&self) -> bool {
+        self.dense > MOST_MISSES
+    }
+
+    /// Notes how many bytes were skipped before a matching line.
+    pub(crate) fn note_match(&mut self, skipped: usize) {
+        self.dense = if skipped < self.spacing() {
+            self.dense.saturating_add(1)
+        } else {
+            0
+        };
+    }
+
+    /// Notes how many lines of a batch match. After a sparse batch the next close match resumes the counting scan.
+    pub(crate) fn note_batch(&mut self, bytes: usize, matching_lines: u64) {
+        if (bytes / self.spacing()) as u64 > matching_lines {
+            self.dense = MOST_MISSES;
+        }
+    }
+
+    /// The largest distance between matching lines at which the counting scan pays.
+    fn spacing(&self) -> usize
+        ensures { 0 < result }
+    {
+        if self.has_prefilter {
+            DENSE
+        } else {
+            LESS_DENSE
+        }
+    }
+}

@@ -1,5 +1,0 @@
-use Rattle.cs_merge.proofs.ContentLemmas.{content_once}
-use Rattle.cs_merge.proofs.laws.images_have_one_content.Goals as goal
-
-pub returns : goal.returns
-returns c = content_once

@@ -1,0 +1,118 @@
+-- The merge of posting lists, by trigram and then by id.
+use Rattle.std.specs.Prelude.{◌≡◌, ℕ, ◌+◌, ◌<◌, ◌≤◌, true, nat_eq, nat_lt, if◌then◌else◌, ◌||◌, List, [], ◌∷◌, ◌++◌, length, take, Option, Some, None, slice_get, option_map}
+use Rattle.std.specs.List.{list_all, AllByRecursion}
+use Rattle.std.specs.Option.{option_map_or}
+use Rattle.cs_trigram.specs.Trigram.{has}
+use Rattle.cs_index.specs.AscendingIds.{next_after, AscendWithin, ids_onward}
+use Rattle.cs_index.specs.Encoding.{ListEntry}
+use Rattle.cs_index.specs.Written.{Written, AllBelow}
+use Rattle.cs_index.specs.OpenedParts.{Parts, ids_read, lists_in}
+use Rattle.cs_trigram.specs.TrigramSets.{AreDistinct}
+use Rattle.cs_index.specs.PostingLists.{Ids}
+use Rattle.cs_index.specs.Postings.{nothing_read}
+use Rattle.cs_index.specs.Segments.{list_of}
+use Rattle.cs_merge.specs.IdMap.{NewIds, new_id, AreMappedLists, IsImageOfRun}
+
+-- the minimum of two optional numbers
+abbrev pub lower_of : Option ℕ → Option ℕ → Option ℕ
+lower_of None other = other
+lower_of (Some one) None = Some one
+lower_of (Some one) (Some other) = if nat_lt other one then Some other else Some one
+
+-- the list without its first number, if that is this number
+abbrev pub without_number : ℕ → List ℕ → List ℕ
+without_number number [] = []
+without_number number (one ∷ rest) = if nat_eq one number then rest else one ∷ rest
+
+-- the remaining ids once `id` is read
+abbrev pub ids_after : ℕ → Ids → Ids
+ids_after id read = record { ids = without_number id read.ids; whole = read.whole }
+
+-- the new id of an id that is kept
+abbrev pub new_of : Option (ℕ × ℕ) → Option ℕ
+new_of next = option_map (λ (kept : ℕ × ℕ). kept.1) next
+
+-- The first new id is that of the id read last; if there is none, the list was read to its end.
+pub record IsMappedPostings (new_ids : NewIds) (first : Option ℕ) (last : ℕ) (rest : Ids) : Type 0 where
+  pub first_is : (new : ℕ) → first ≡ Some new → new_id new_ids last ≡ Some new
+  pub end : first ≡ None → (rest.ids ≡ []) × (rest.whole ≡ true)
+
+-- A run of ids, relative to `id`, follows `id` in the list. Its ids are below the limit, if there is one.
+pub record IsRunOf (id : ℕ) (limit : Option ℕ) (run ids rest : List ℕ) : Type 0 where
+  pub ids_are : without_number id ids ≡ ids_onward (id + 1) run ++ without_number id rest
+  pub below : (most : ℕ) → limit ≡ Some most → AllByRecursion (λ other. id + 1 + other < most) run
+
+-- A run of the list that has the id, up to the first id of the other list.
+pub data IsRunOfEither (id : ℕ) (run older newer older_left newer_left : List ℕ) : Type 0 where
+  of_older : IsRunOf id (slice_get newer 0) run older older_left → newer_left ≡ newer →
+      IsRunOfEither id run older newer older_left newer_left
+  of_newer : IsRunOf id (slice_get older 0) run newer newer_left → older_left ≡ older →
+      IsRunOfEither id run older newer older_left newer_left
+
+-- the trigram of the list at a position of the list index
+abbrev pub list_trigram : Parts → ℕ → Option ℕ
+list_trigram parts position = option_map (λ (e : ListEntry). e.trigram) (slice_get parts.entries position)
+
+-- the ids of the list at a position; none if that list has another trigram
+abbrev pub list_ids : Parts → ℕ → ℕ → Ids
+list_ids parts position trigram = option_map_or (λ (e : ListEntry). if nat_eq e.trigram trigram then ids_read parts e else nothing_read) (slice_get parts.entries position) nothing_read
+
+-- the next position if the list at this one has the trigram, else this position
+abbrev pub position_after : Parts → ℕ → ℕ → ℕ
+position_after parts position trigram = option_map_or (λ (e : ListEntry). if nat_eq e.trigram trigram then position + 1 else position) (slice_get parts.entries position) position
+
+-- Some ids of both lists are written to the list of the trigram, and the others remain.
+pub record IsMergedList (trigram : ℕ) (before now : Written) (older newer older_left newer_left : List ℕ) : Type 0 where
+  pub given : List ℕ
+  pub paths : now.paths ≡ before.paths
+  pub names : now.names ≡ before.names
+  pub lists : now.lists ≡ before.lists ++ list_of trigram given
+  pub each : (id : ℕ) → (has given id || (has older_left id || has newer_left id)) ≡ (has older id || has newer id)
+  pub older_rise : AscendWithin (length before.names) (next_after 0 given) older_left
+  pub newer_rise : AscendWithin (length before.names) (next_after 0 given) newer_left
+
+-- the first id of a run, and the ids that follow it, relative to it
+abbrev pub IdRun : Type 0
+IdRun = ℕ × List ℕ
+
+-- the ids of a run
+abbrev pub run_ids : IdRun → List ℕ
+run_ids id_run = id_run.0 ∷ ids_onward (id_run.0 + 1) id_run.1
+
+abbrev pub runs_ids : List IdRun → List ℕ
+runs_ids [] = []
+runs_ids (id_run ∷ id_runs) = run_ids id_run ++ runs_ids id_runs
+
+-- The ids lie in one run of the map.
+pub record IsWithinRun (new_ids : NewIds) (id_run : IdRun) : Type 0 where
+  pub end : ℕ
+  pub moved : IsImageOfRun new_ids id_run.0 end
+  pub below : AllByRecursion (λ other. id_run.0 + 1 + other < end) id_run.1
+
+-- The runs appended so far have the first ids, and `left` has the others.
+pub record AreGathered (new_ids : NewIds) (before now : List IdRun) (ids left : List ℕ) : Type 0 where
+  pub more : List IdRun
+  pub are : now ≡ before ++ more
+  pub ids_are : ids ≡ runs_ids more ++ left
+  pub each : AllByRecursion (IsWithinRun new_ids) more
+
+-- Distinct ids below the count, in any order.
+pub record AreDistinctIds (count : ℕ) (ids : List ℕ) : Type 0 where
+  pub below : (id : ℕ) → has ids id ≡ true → id < count
+  pub once : AreDistinct ids
+
+-- The lists before these positions are merged and written.
+pub record AreMergedLists (older newer : Parts) (older_ids newer_ids : NewIds) (before now : Written) (older_position newer_position : ℕ) : Type 0 where
+  pub paths : now.paths ≡ before.paths
+  pub names : now.names ≡ before.names
+  pub older_within : older_position ≤ length older.entries
+  pub newer_within : newer_position ≤ length newer.entries
+  pub older_sets : AreMappedLists older_ids (take older_position (lists_in older)) now.lists
+  pub newer_sets : AreMappedLists newer_ids (take newer_position (lists_in newer)) now.lists
+  pub older_whole : list_all (λ (e : ListEntry). (ids_read older e).whole) (take older_position older.entries) ≡ true
+  pub newer_whole : list_all (λ (e : ListEntry). (ids_read newer e).whole) (take newer_position newer.entries) ≡ true
+  -- each remaining list has a higher trigram
+  pub older_left : (entry : ListEntry) → slice_get older.entries older_position ≡ Some entry →
+      AllBelow now.lists entry.trigram
+  pub newer_left : (entry : ListEntry) → slice_get newer.entries newer_position ≡ Some entry →
+      AllBelow now.lists entry.trigram

@@ -1,0 +1,26 @@
+-- The result of a merge.
+use Rattle.std.specs.Prelude.{◌≡◌, ℕ, ◌-◌, ◌<◌, ◌^◌, true, false, List, length}
+use Rattle.cs_index.specs.OpenedParts.{Parts, are_covered}
+use Rattle.cs_index.specs.declared.fault.IndexFault.TheVariants.{BadList}
+use Rattle.cs_merge.specs.declared.fault.MergeFault.{MergeFault}
+use Rattle.cs_merge.specs.declared.fault.MergeFault.TheVariants.{Unsorted, Uncovered, Index, TooLarge, Memory}
+use Rattle.cs_merge.specs.BuildOutcome.{IsIndexWithin}
+use Rattle.cs_merge.specs.Mergeable.{both_ascend, both_distinct, both_whole, merge_index, AreMergeable, AreTested}
+
+-- the most bytes that an index can have: its offsets have 32 bits
+abbrev pub most_bytes : ℕ
+most_bytes = 2 ^ 32 - 1
+
+-- The bytes are the merged index, and at most `most` of them.
+pub record IsMerged (old newer : Parts) (most : ℕ) (bytes : List ℕ) : Type 0 where
+  pub mergeable : AreMergeable old newer
+  pub index : IsIndexWithin most (merge_index old newer) bytes
+
+-- Why two indexes cannot be merged. Each error means that the checks before it passed. Checking names that ascend
+-- allocates nothing.
+pub data IsMergeFault (old newer : Parts) (most : ℕ) (fault : MergeFault) : Type 0 where
+  unsorted : fault ≡ Unsorted → both_distinct old newer ≡ false → IsMergeFault old newer most fault
+  uncovered : fault ≡ Uncovered → both_distinct old newer ≡ true → are_covered newer ≡ false → IsMergeFault old newer most fault
+  damaged : fault ≡ Index BadList → AreTested old newer → both_whole old newer ≡ false → IsMergeFault old newer most fault
+  long : fault ≡ TooLarge → AreMergeable old newer → most < length (merge_index old newer) → IsMergeFault old newer most fault
+  refused : fault ≡ Memory → (both_ascend old newer ≡ true → AreTested old newer) → IsMergeFault old newer most fault

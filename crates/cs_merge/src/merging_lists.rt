@@ -1,0 +1,296 @@
+// The merge of the posting lists: a two-way merge by trigram, and within each list a two-way merge
+// by id that copies whole runs.
+ghost use Rattle.std.specs.Prelude.{◌≡◌, ◌⊎◌, ◌<◌, ◌^◌, ◌&&◌, ◌++◌, [], true, false, Some, length, slice_get, MatchResult, OnOk};
+ghost use Rattle.cs_trigram.specs.Trigram.{closing_trigram};
+ghost use Rattle.cs_index.specs.Written.{AllBelow};
+ghost use Rattle.cs_index.specs.Postings.{IsListFault};
+ghost use Rattle.cs_index.specs.AscendingIds.{AscendWithin};
+ghost use Rattle.cs_index.specs.OpenedParts.{lists_in};
+ghost use Rattle.cs_index.specs.ValidParts.{AreValidParts};
+ghost use Rattle.cs_merge.specs.Mergeable.{both_whole};
+ghost use Rattle.cs_merge.specs.IdMap.{new_ids_read, AreMappedLists, AreUnique, AreIdMaps, IsIncreasing, AreNewIdsFrom};
+ghost use Rattle.cs_merge.specs.ListMerge.{list_ids, lower_of, position_after, list_trigram, runs_ids, AreGathered, AreDistinctIds, IsRunOfEither, IsMergedList};
+
+use crate::id_map::IdMaps;
+use crate::id_runs::IdRuns;
+use crate::mapped_postings::MappedPostings;
+use cs_index::{EncodedRun, Index, IndexFault, Sections};
+use std::alloc::{AllocError, Global};
+
+/// Writes the merged posting lists in ascending order of trigrams. Each list is read once and to
+/// its end, even if all of its files are dropped, so that damage is always found.
+pub(crate) fn merge_lists(
+    alloc: Global,
+    sections: &mut Sections,
+    old: &Index<'_>,
+    newer: &Index<'_>,
+    ids: &IdMaps,
+) -> Result<(), IndexFault>
+    requires old_parts { AreValidParts old.now }
+    requires newer_parts { AreValidParts newer.now }
+    requires ids { AreIdMaps (length sections.old.names) ids.now.older ids.now.newer }
+    requires older_bound { length ids.now.older < 2 ^ 32 }
+    requires newer_bound { length ids.now.newer < 2 ^ 32 }
+    requires unlisted { sections.old.lists ≡ [] }
+    ensures paths { OnOk result (sections.new.paths ≡ sections.old.paths) }
+    ensures names { OnOk result (sections.new.names ≡ sections.old.names) }
+    ensures older { OnOk result (AreMappedLists ids.now.older (lists_in old.now) sections.new.lists) }
+    ensures newer { OnOk result (AreMappedLists ids.now.newer (lists_in newer.now) sections.new.lists) }
+    ensures fault { MatchResult result (λ _. both_whole old.now newer.now ≡ true)
+        (IsListFault (both_whole old.now newer.now)) }
+{
+    let older_runs = IdRuns::new(alloc, &ids.older)?;
+    let newer_runs = IdRuns::new(alloc, &ids.newer)?;
+    merge_all_lists(alloc, sections, old, newer, &older_runs, &newer_runs)
+}
+
+/// Writes the merged posting lists, once the runs of both maps are known.
+fn merge_all_lists(
+    alloc: Global,
+    sections: &mut Sections,
+    old: &Index<'_>,
+    newer: &Index<'_>,
+    older_runs: &IdRuns<'_>,
+    newer_runs: &IdRuns<'_>,
+) -> Result<(), IndexFault>
+    requires old_parts { AreValidParts old.now }
+    requires newer_parts { AreValidParts newer.now }
+    requires ids { AreIdMaps (length sections.old.names) older_runs.now newer_runs.now }
+    requires unlisted { sections.old.lists ≡ [] }
+    ensures paths { OnOk result (sections.new.paths ≡ sections.old.paths) }
+    ensures names { OnOk result (sections.new.names ≡ sections.old.names) }
+    ensures older { OnOk result (AreMappedLists older_runs.now (lists_in old.now) sections.new.lists) }
+    ensures newer { OnOk result
+        (AreMappedLists newer_runs.now (lists_in newer.now) sections.new.lists) }
+    ensures fault { MatchResult result (λ _. both_whole old.now newer.now ≡ true)
+        (IsListFault (both_whole old.now newer.now)) }
+{
+    let in_order = is_increasing(older_runs, newer_runs);
+    let mut older_position = 0;
+    let mut newer_position = 0;
+    'lists: while let Some(trigram) = lower(
+        trigram_at(old, older_position),
+        trigram_at(newer, newer_position),
+    ) {
+        let older = next_list(old, &mut older_position, trigram, &*older_runs)?;
+        let later = next_list(newer, &mut newer_position, trigram, &*newer_runs)?;
+        merge_list(
+            alloc, sections, trigram, older, later, older_runs, newer_runs, in_order,
+        )?;
+    }
+    Ok(())
+}
+
+/// Whether both maps are increasing, so that the new ids of each list ascend.
+fn is_increasing(older_runs: &IdRuns<'_>, newer_runs: &IdRuns<'_>) -> bool
+    ensures older { result ≡ true → IsIncreasing older_runs.now }
+    ensures newer { result ≡ true → IsIncreasing newer_runs.now }
+{
+    older_runs.is_increasing() && newer_runs.is_increasing()
+}
+
+/// The trigram of the list at a position of the list index.
+fn trigram_at(index: &Index<'_>, position: u32) -> Option<u32>
+    ensures { result ≡ list_trigram index.now position }
+{
+    match index.list_at(position) {
+        Some((trigram, _ids)) => Some(trigram),
+        None => None,
+    }
+}
+
+/// The new ids of the list at the position, and the position advances; no ids if that list has
+/// another trigram.
+fn next_list<'a, 'b>(
+    index: &Index<'a>,
+    position: &mut u32,
+    trigram: u32,
+    runs: &'b IdRuns<'b>,
+) -> Result<MappedPostings<'a, 'b>, IndexFault>
+    ensures position { OnOk result (position.new ≡ position_after index.now position.old trigram) }
+    ensures ids { MatchResult result
+        (λ ids. ids ≡ new_ids_read runs.now (list_ids index.now position.old trigram))
+        (λ fault. (fault ≡ IndexFault.BadList)
+        × ((list_ids index.now position.old trigram).whole ≡ false)) }
+{
+    if *position < index.lists() {
+        if let Some((found, ids)) = index.list_at(*position) {
+            if found == trigram {
+                *position += 1;
+                return MappedPostings::new(ids, runs);
+            }
+        }
+    }
+    Ok(MappedPostings::none(runs))
+}
+
+/// Writes the merged list of one trigram.
+fn merge_list<'a>(
+    alloc: Global,
+    sections: &mut Sections,
+    trigram: u32,
+    older: MappedPostings<'a, '_>,
+    newer: MappedPostings<'a, '_>,
+    older_runs: &IdRuns<'_>,
+    newer_runs: &IdRuns<'_>,
+    in_order: bool,
+) -> Result<(), IndexFault>
+    requires once { AreUnique older_runs.now newer_runs.now }
+    requires older_under { AreNewIdsFrom older_runs.now 0 older.ids }
+    requires newer_under { AreNewIdsFrom newer_runs.now 0 newer.ids }
+    requires above { AllBelow sections.old.lists trigram }
+    requires older_rise { in_order ≡ true →
+        AscendWithin (length sections.old.names) 0 older.ids }
+    requires newer_rise { in_order ≡ true →
+        AscendWithin (length sections.old.names) 0 newer.ids }
+    requires ids { AreDistinctIds (length sections.old.names) (older.ids ++ newer.ids) }
+    requires below { (trigram < closing_trigram) ⊎ ((older.ids ≡ []) × (newer.ids ≡ [])) }
+    ensures ok { OnOk result
+        (IsMergedList trigram sections.old sections.new older.entry.ids newer.entry.ids [] []) }
+    ensures fault { MatchResult result (λ _. (older.entry.whole && newer.entry.whole) ≡ true)
+        (IsListFault (older.entry.whole && newer.entry.whole)) }
+{
+    if in_order {
+        merge_ascending(sections, trigram, older, newer)
+    } else {
+        merge_by_sorting(
+            alloc, sections, trigram, older, newer, older_runs, newer_runs,
+        )
+    }
+}
+
+/// Writes the merged list of one trigram if a map is not increasing: the runs of both lists are
+/// sorted by their first new id.
+fn merge_by_sorting<'a>(
+    alloc: Global,
+    sections: &mut Sections,
+    trigram: u32,
+    older: MappedPostings<'a, '_>,
+    newer: MappedPostings<'a, '_>,
+    older_runs: &IdRuns<'_>,
+    newer_runs: &IdRuns<'_>,
+) -> Result<(), IndexFault>
+    requires once { AreUnique older_runs.now newer_runs.now }
+    requires older_under { AreNewIdsFrom older_runs.now 0 older.ids }
+    requires newer_under { AreNewIdsFrom newer_runs.now 0 newer.ids }
+    requires above { AllBelow sections.old.lists trigram }
+    requires ids { AreDistinctIds (length sections.old.names) (older.ids ++ newer.ids) }
+    requires below { (trigram < closing_trigram) ⊎ ((older.ids ≡ []) × (newer.ids ≡ [])) }
+    ensures ok { OnOk result
+        (IsMergedList trigram sections.old sections.new older.entry.ids newer.entry.ids [] []) }
+    ensures fault { MatchResult result (λ _. (older.entry.whole && newer.entry.whole) ≡ true)
+        (IsListFault (older.entry.whole && newer.entry.whole)) }
+{
+    let mut list_runs = Vec::new(alloc);
+    gather(&mut list_runs, older, older_runs)?;
+    gather(&mut list_runs, newer, newer_runs)?;
+    list_runs.sort_unstable_by(|one, other| one.0.cmp(&other.0));
+    write_runs(sections, trigram, &list_runs)?;
+    Ok(())
+}
+
+/// Splits a list into runs, each with its first new id, and appends them.
+fn gather<'a>(
+    list_runs: &mut Vec<(u32, EncodedRun<'a>)>,
+    list: MappedPostings<'a, '_>,
+    runs: &IdRuns<'_>,
+) -> Result<(), IndexFault>
+    ensures ok { OnOk result
+        (AreGathered runs.now list_runs.old.items list_runs.new.items list.entry.ids []) }
+    ensures fault { MatchResult result (λ _. list.entry.whole ≡ true)
+        (IsListFault list.entry.whole) }
+{
+    let mut rest = list;
+    'ids: while let Some(id) = rest.first() {
+        let end = runs.new_end(rest.last(), id);
+        let ids = rest.run(id, Some(end));
+        list_runs.push((id, ids))?;
+        rest.advance(id)?;
+    }
+    Ok(())
+}
+
+/// Writes the list of a trigram from runs whose ids ascend.
+fn write_runs(
+    sections: &mut Sections,
+    trigram: u32,
+    list_runs: &[(u32, EncodedRun<'_>)],
+) -> Result<(), AllocError>
+    requires above { AllBelow sections.old.lists trigram }
+    requires rise { AscendWithin (length sections.old.names) 0 (runs_ids list_runs.now) }
+    requires below { (trigram < closing_trigram) ⊎ (runs_ids list_runs.now ≡ []) }
+    ensures { OnOk result
+        (IsMergedList trigram sections.old sections.new (runs_ids list_runs.now) [] [] []) }
+{
+    if list_runs.is_empty() {
+        return Ok(());
+    }
+    sections.list(trigram);
+    'list_runs: for (first, ids) in list_runs {
+        sections.id(*first)?;
+        sections.encoded_run(ids)?;
+    }
+    Ok(())
+}
+
+/// Writes the merged list of one trigram by a two-way merge. A list without ids leaves no entry.
+fn merge_ascending<'a>(
+    sections: &mut Sections,
+    trigram: u32,
+    older: MappedPostings<'a, '_>,
+    newer: MappedPostings<'a, '_>,
+) -> Result<(), IndexFault>
+    requires above { AllBelow sections.old.lists trigram }
+    requires older_rise { AscendWithin (length sections.old.names) 0 older.ids }
+    requires newer_rise { AscendWithin (length sections.old.names) 0 newer.ids }
+    requires below { (trigram < closing_trigram) ⊎ ((older.ids ≡ []) × (newer.ids ≡ [])) }
+    ensures ok { OnOk result
+        (IsMergedList trigram sections.old sections.new older.entry.ids newer.entry.ids [] []) }
+    ensures fault { MatchResult result (λ _. (older.entry.whole && newer.entry.whole) ≡ true)
+        (IsListFault (older.entry.whole && newer.entry.whole)) }
+{
+    let mut older = older;
+    let mut newer = newer;
+    let mut next = lower(older.first(), newer.first());
+    if next.is_some() {
+        sections.list(trigram);
+    }
+    'ids: while let Some(id) = next {
+        let run = next_run(&mut older, &mut newer, id);
+        sections.id(id)?;
+        sections.encoded_run(&run)?;
+        older.advance(id)?;
+        newer.advance(id)?;
+        next = lower(older.first(), newer.first());
+    }
+    Ok(())
+}
+
+/// Reads the run of the lowest id of both lists, up to the first id of the other list.
+fn next_run<'a>(
+    older: &mut MappedPostings<'a, '_>,
+    newer: &mut MappedPostings<'a, '_>,
+    id: u32,
+) -> EncodedRun<'a>
+    requires { lower_of (slice_get older.old.ids 0) (slice_get newer.old.ids 0) ≡ Some id }
+    ensures run { IsRunOfEither id result older.old.ids newer.old.ids older.new.ids newer.new.ids }
+    ensures older_whole { older.new.whole ≡ older.old.whole }
+    ensures newer_whole { newer.new.whole ≡ newer.old.whole }
+{
+    if older.first() == Some(id) {
+        older.run(id, newer.first())
+    } else {
+        newer.run(id, older.first())
+    }
+}
+
+/// The minimum of two optional numbers.
+fn lower(one: Option<u32>, other: Option<u32>) -> Option<u32>
+    ensures { result ≡ lower_of one other }
+{
+    match (one, other) {
+        (None, _) => other,
+        (Some(_), None) => one,
+        (Some(first), Some(second)) => if second < first { other } else { one },
+    }
+}

@@ -1,0 +1,115 @@
+// The merge of the names: a two-way merge of both indexes in the order of their names.
+ghost use Rattle.std.specs.Prelude.{◌≡◌, ◌<◌, ◌≤◌, ◌+◌, ◌^◌, ◌∷◌, ◌++◌, [], true, false, Some, length, IfOk, OnOk};
+ghost use Rattle.std.specs.Option.{option_copied, option_map_or};
+ghost use Rattle.std.specs.Ordering.{is_lt};
+ghost use Rattle.cs_tree.specs.NameOrder.{bytes_cmp};
+ghost use Rattle.cs_tree.specs.PathSet as set;
+ghost use Rattle.cs_index.specs.Built.{is_above, is_storable};
+ghost use Rattle.cs_index.specs.Written.{with_written_name};
+ghost use Rattle.cs_tree.specs.Cover.{is_covered};
+ghost use Rattle.cs_index.specs.OpenedParts.{paths_in};
+ghost use Rattle.cs_merge.specs.Mergeable.{AreTested};
+ghost use Rattle.cs_merge.specs.SortedIndex.{sorted_names, IsSortedIndex};
+ghost use Rattle.cs_merge.specs.IdMap.{AreMergedNames, IsMergingNames};
+ghost use Rattle.cs_index.specs.AscendingIds.{max_ids};
+
+use crate::covering::Cover;
+use crate::id_map::{IdMap, IdMaps};
+use crate::sorted_index::SortedIndex;
+use cs_index::Sections;
+use std::alloc::{AllocError, Global};
+
+/// Writes the merged names in order, and returns the new id of each old id. Old names that a newer
+/// path covers are dropped.
+pub(crate) fn merge_names(
+    alloc: Global,
+    sections: &mut Sections,
+    old: &SortedIndex<'_, '_>,
+    newer: &SortedIndex<'_, '_>,
+) -> Result<IdMaps, AllocError>
+    requires old_sorted { IsSortedIndex old.now }
+    requires newer_sorted { IsSortedIndex newer.now }
+    requires tested { AreTested old.now.parts newer.now.parts }
+    requires unnamed { sections.old.names ≡ [] }
+    requires unlisted { sections.old.lists ≡ [] }
+    ensures paths { OnOk result (sections.new.paths ≡ sections.old.paths) }
+    ensures unlisted { OnOk result (sections.new.lists ≡ []) }
+    ensures ids { IfOk result (λ ids. AreMergedNames (is_covered (paths_in newer.now.parts))
+        old.now.parts.names newer.now.parts.names sections.new.names ids.older ids.newer) }
+{
+    let cover = Cover::new(alloc, newer.index())?;
+    let mut ranks = IdMaps {
+        older: IdMap::new(alloc),
+        newer: IdMap::new(alloc),
+    };
+    'names: while merge_next_name(sections, old, newer, &cover, &mut ranks)? {}
+    Ok(IdMaps {
+        older: old.by_id(alloc, ranks.older)?,
+        newer: newer.by_id(alloc, ranks.newer)?,
+    })
+}
+
+/// Writes or drops the lowest remaining name. False if none remains.
+fn merge_next_name(
+    sections: &mut Sections,
+    old: &SortedIndex<'_, '_>,
+    newer: &SortedIndex<'_, '_>,
+    cover: &Cover<'_>,
+    ranks: &mut IdMaps,
+) -> Result<bool, AllocError>
+    requires old_sorted { IsSortedIndex old.now }
+    requires newer_sorted { IsSortedIndex newer.now }
+    requires tested { AreTested old.now.parts newer.now.parts }
+    requires cover { set.from_list cover.now ≡ paths_in newer.now.parts }
+    requires so_far { IsMergingNames old.now newer.now sections.old sections.old
+        ranks.old.older ranks.old.newer }
+    ensures so_far { OnOk result (IsMergingNames old.now newer.now sections.old sections.new
+        ranks.new.older ranks.new.newer) }
+    ensures more { IfOk result (λ more. more ≡ true →
+        length ranks.new.older + length ranks.new.newer
+        ≡ length ranks.old.older + length ranks.old.newer + 1) }
+    ensures all { IfOk result (λ more. more ≡ false →
+        (length (sorted_names old.now) ≤ length ranks.new.older)
+        × (length (sorted_names newer.now) ≤ length ranks.new.newer)) }
+{
+    let next = newer.name(ranks.newer.len());
+    if let Some(name) = old.name(ranks.older.len()) {
+        if is_below(name, next) {
+            if cover.covers(name) {
+                ranks.older.push_dropped()?;
+            } else {
+                write_name(sections, &mut ranks.older, name)?;
+            }
+            return Ok(true);
+        }
+    }
+    let Some(name) = next else {
+        return Ok(false);
+    };
+    write_name(sections, &mut ranks.newer, name)?;
+    Ok(true)
+}
+
+/// Whether the name is below the next one, if there is one.
+fn is_below(name: &str, next: Option<&str>) -> bool
+    ensures { result
+        ≡ option_map_or (λ text. is_lt (bytes_cmp name.now text)) (option_copied next.entry) true }
+{
+    match next {
+        None => true,
+        Some(next) => name < next,
+    }
+}
+
+/// Writes the name and maps its rank to the id that it gets.
+fn write_name(sections: &mut Sections, new_ids: &mut IdMap, name: &str) -> Result<(), AllocError>
+    requires unlisted { sections.old.lists ≡ [] }
+    requires storable { is_storable name.now ≡ true }
+    requires above { is_above sections.old.names name.now ≡ true }
+    requires bound { length sections.old.names < max_ids }
+    ensures sections { OnOk result (sections.new ≡ with_written_name sections.old name.now) }
+    ensures ids { OnOk result (new_ids.new ≡ new_ids.old ++ Some (length sections.old.names) ∷ []) }
+{
+    let id = sections.name(name)?;
+    new_ids.keep(id)
+}

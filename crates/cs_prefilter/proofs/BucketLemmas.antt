@@ -1,0 +1,87 @@
+-- Buckets of a byte and of three bytes.
+use Rattle.std.proofs.Common.{◌≡◌, ℕ, ◌+◌, ◌*◌, ◌/◌, ◌%◌, ◌^◌, ◌<◌, List, length, get_or, set, ap, sym, subst, ◌∙◌, bit_and, bit_or, inl, inr, arith, w8}
+use Rattle.std.specs.Int.{bit_at}
+use Rattle.std.proofs.lemmas.Bool.{cases_eq}
+use Rattle.std.proofs.lemmas.Nat.Bits.{bit_at-zero, bit_at_and, bit_at_or, bit_at-lt, bit_at_set_same}
+use Rattle.std.proofs.lemmas.List.{get_or-set_same, get_or-set_other}
+use Rattle.cs_prefilter.specs.declared.masks.TrigramMasks.{TrigramMasks}
+use Rattle.cs_prefilter.specs.declared.class_trigram.ClassTrigram.{ClassTrigram}
+use Rattle.cs_prefilter.specs.TrigramAt.{TrigramAt}
+use Rattle.cs_prefilter.specs.Buckets.{buckets, IsInBucket, KeepsByteBuckets, buckets_of, buckets_at, KeepsBuckets, HasBucket}
+
+-- a bit that is set in both numbers is set in their bitwise and
+in_both : (a b g : ℕ) → bit_at a g ≡ 1 → bit_at b g ≡ 1 → bit_at (bit_and a b) g ≡ 1
+in_both a b g h k = omega (arith, bit_at_and a b g)
+
+in_left : (a b g : ℕ) → bit_at (bit_and a b) g ≡ 1 → bit_at a g ≡ 1
+in_left a b g h = omega (arith, bit_at_and a b g, bit_at-lt a g, bit_at-lt b g)
+
+in_right : (a b g : ℕ) → bit_at (bit_and a b) g ≡ 1 → bit_at b g ≡ 1
+in_right a b g h = omega (arith, bit_at_and a b g, bit_at-lt a g, bit_at-lt b g)
+
+-- the table, with the bit of the bucket set in one entry
+abbrev pub bit_is_set : List ℕ → ℕ → ℕ → List ℕ
+bit_is_set entries at bucket = set entries at (bit_or (get_or entries at 0) (1 * 2 ^ bucket % 2 ^ 8))
+
+bit_set_here : (entries : List ℕ) (at bucket : ℕ) → at < length entries → bucket < 8
+    → bit_at (get_or (bit_is_set entries at bucket) at 0) bucket ≡ 1
+bit_set_here entries at bucket within small =
+    ap (λ n. bit_at n bucket) (get_or-set_same entries at _ 0 within)
+    ∙ bit_at_set_same w8 (get_or entries at 0) bucket small
+
+in_either : (a b g : ℕ) → bit_at a g ≡ 1 → bit_at (bit_or a b) g ≡ 1
+in_either a b g h = omega (arith, bit_at_or a b g, bit_at-lt b g)
+
+bit_set_keeps : (entries : List ℕ) (at bucket j g : ℕ) → at < length entries → bit_at (get_or entries j 0) g ≡ 1
+    → bit_at (get_or (bit_is_set entries at bucket) j 0) g ≡ 1
+bit_set_keeps entries at bucket j g within h = elim (cases_eq j at) [
+  | inl same ↦
+      let P : ℕ → Type 0 = λ n. bit_at n g ≡ 1 in
+      subst P (sym (ap (λ i. get_or (bit_is_set entries at bucket) i 0) same ∙ get_or-set_same entries at _ 0 within))
+      (in_either (get_or entries at 0) _ g (subst (λ i. bit_at (get_or entries i 0) g ≡ 1) same h))
+  | inr other ↦ ap (λ n. bit_at n g) (get_or-set_other entries at j _ 0 other) ∙ h
+]
+
+module _ (low high : List ℕ) (at_low at_high bucket : ℕ) (in_low : at_low < length low) (in_high : at_high < length high) where
+  -- a byte is in the bucket once the bit is set for its nibbles
+  pub IsInBucket-bit_is_set : (byte : ℕ) → byte % 16 ≡ at_low → byte / 16 ≡ at_high → bucket < 8
+      → IsInBucket record { low = bit_is_set low at_low bucket; high = bit_is_set high at_high bucket } byte bucket
+  unfolding buckets
+  IsInBucket-bit_is_set byte is_low is_high small =
+      in_both _ _ bucket
+      (ap (λ i. bit_at (get_or (bit_is_set low at_low bucket) i 0) bucket) is_low ∙ bit_set_here low at_low bucket in_low small)
+      (ap (λ i. bit_at (get_or (bit_is_set high at_high bucket) i 0) bucket) is_high ∙ bit_set_here high at_high bucket in_high small)
+
+  -- other bytes keep their buckets
+  pub KeepsByteBuckets-bit_is_set : KeepsByteBuckets record { low = low; high = high } record { low = bit_is_set low at_low bucket; high = bit_is_set high at_high bucket }
+  unfolding buckets
+  KeepsByteBuckets-bit_is_set b g h =
+      in_both _ _ g
+      (bit_set_keeps low at_low bucket (b % 16) g in_low (in_left _ _ g h))
+      (bit_set_keeps high at_high bucket (b / 16) g in_high (in_right _ _ g h))
+
+-- three bytes are in a bucket if each of them is
+pub buckets_of_bytes : (trigram_masks : TrigramMasks) (a b c g : ℕ) → IsInBucket trigram_masks.first a g → IsInBucket trigram_masks.second b g → IsInBucket trigram_masks.third c g
+    → bit_at (buckets_of trigram_masks a b c) g ≡ 1
+unfolding buckets_of
+buckets_of_bytes trigram_masks a b c g one two three = in_both _ _ g one (in_both _ _ g two three)
+
+-- if the masks of each offset keep the buckets of a byte, the masks together keep those of three bytes
+pub KeepsBuckets-each : (old new : TrigramMasks) → KeepsByteBuckets old.first new.first → KeepsByteBuckets old.second new.second
+    → KeepsByteBuckets old.third new.third → KeepsBuckets old new
+unfolding buckets_of
+KeepsBuckets-each old new one two three a b c g h =
+    let later = in_right _ _ g h in
+    in_both _ _ g (one a g (in_left _ _ g h)) (in_both _ _ g (two b g (in_left _ _ g later)) (three c g (in_right _ _ g later)))
+
+-- a trigram keeps its bucket
+pub HasBucket-kept : (old new : TrigramMasks) → KeepsBuckets old new → (trigram : ClassTrigram) → HasBucket old trigram → HasBucket new trigram
+HasBucket-kept old new keeps trigram of =
+    (of.0, λ a b c in_a in_b in_c has_a has_b has_c. keeps a b c of.0 (of.1 a b c in_a in_b in_c has_a has_b has_c))
+
+-- no trigram of a bucket occurs at an offset that is not a candidate
+pub none_without_candidate : (trigram_masks : TrigramMasks) (text : List ℕ) (k : ℕ) → ((i : ℕ) → get_or text i 0 < 256)
+    → buckets_at trigram_masks text k ≡ 0 → (trigram : ClassTrigram) → HasBucket trigram_masks trigram → TrigramAt text k trigram → ⊥
+none_without_candidate trigram_masks text k bytes none trigram of occurs =
+    let set = of.1 _ _ _ (bytes k) (bytes (k + 1)) (bytes (k + 2)) occurs.first occurs.second occurs.third in
+    absurd (omega (arith, set, ap (λ n. bit_at n of.0) none, bit_at-zero of.0))

@@ -1,0 +1,4 @@
+mod BucketLemmas
+mod Examples
+mod LaneLemmas
+mod CandidateMaskLemmas

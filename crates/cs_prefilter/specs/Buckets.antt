@@ -1,0 +1,49 @@
+-- Buckets of class trigrams (Teddy): the buckets that the nibble masks give for three neighbouring bytes.
+use Rattle.std.specs.Prelude.{◌≡◌, ℕ, ◌+◌, ◌/◌, ◌%◌, ◌<◌, ◌≤◌, true, List, slice_index, bit_and}
+use Rattle.std.specs.Int.{bit_at}
+use Rattle.cs_syntax.specs.Matching.{member}
+use Rattle.cs_prefilter.specs.declared.class_trigram.ClassTrigram.{ClassTrigram}
+use Rattle.cs_prefilter.specs.declared.masks.NibbleMasks.{NibbleMasks}
+use Rattle.cs_prefilter.specs.declared.masks.TrigramMasks.{TrigramMasks}
+
+-- the buckets that both nibbles of the byte are in, one bit each
+unfoldable pub buckets : NibbleMasks → ℕ → ℕ
+buckets masks b = bit_and (slice_index masks.low (b % 16)) (slice_index masks.high (b / 16))
+
+-- the byte is in the bucket
+abbrev pub IsInBucket : NibbleMasks → ℕ → ℕ → Type 0
+IsInBucket masks b bucket = bit_at (buckets masks b) bucket ≡ 1
+
+-- each byte keeps its buckets
+abbrev pub KeepsByteBuckets : NibbleMasks → NibbleMasks → Type 0
+KeepsByteBuckets old new = (b bucket : ℕ) → IsInBucket old b bucket → IsInBucket new b bucket
+
+-- the buckets that all three bytes are in, each by the masks of its offset
+unfoldable pub buckets_of : TrigramMasks → ℕ → ℕ → ℕ → ℕ
+buckets_of trigram_masks a b c =
+    bit_and (buckets trigram_masks.first a) (bit_and (buckets trigram_masks.second b) (buckets trigram_masks.third c))
+
+-- the buckets of the three bytes at offset k
+abbrev pub buckets_at : TrigramMasks → List ℕ → ℕ → ℕ
+buckets_at trigram_masks text k =
+    buckets_of trigram_masks (slice_index text k) (slice_index text (k + 1)) (slice_index text (k + 2))
+
+-- no offset from `from` up to `to` is a candidate: its three bytes share no bucket
+abbrev pub NoCandidate : TrigramMasks → List ℕ → ℕ → ℕ → Type 0
+NoCandidate trigram_masks text from to = (k : ℕ) → from ≤ k → k < to → buckets_at trigram_masks text k ≡ 0
+
+-- any three bytes keep their buckets
+abbrev pub KeepsBuckets : TrigramMasks → TrigramMasks → Type 0
+KeepsBuckets old new =
+    (a b c bucket : ℕ) → bit_at (buckets_of old a b c) bucket ≡ 1 → bit_at (buckets_of new a b c) bucket ≡ 1
+
+-- any three bytes that the trigram matches are in the bucket
+abbrev pub TrigramIsInBucket : TrigramMasks → ClassTrigram → ℕ → Type 0
+TrigramIsInBucket trigram_masks trigram bucket =
+    (a b c : ℕ) → a < 256 → b < 256 → c < 256
+    → member trigram.first a ≡ true → member trigram.second b ≡ true → member trigram.third c ≡ true
+    → bit_at (buckets_of trigram_masks a b c) bucket ≡ 1
+
+-- the trigram is in some bucket
+abbrev pub HasBucket : TrigramMasks → ClassTrigram → Type 0
+HasBucket trigram_masks trigram = (bucket : ℕ) × TrigramIsInBucket trigram_masks trigram bucket

@@ -1,0 +1,168 @@
+// Nibble masks (shufti) with a bit for each bucket of class trigrams (Teddy).
+ghost use Rattle.std.specs.Prelude.{◌≡◌, ◌≢◌, ◌↔◌, ℕ, ◌+◌, ◌<◌, ◌≤◌, length, slice_index, true, IsTrue, All};
+ghost use Rattle.std.specs.Int.{bit_at};
+ghost use Rattle.cs_syntax.specs.Matching.{member};
+ghost use Rattle.cs_prefilter.specs.Lanes.{HasLanes};
+ghost use Rattle.cs_prefilter.specs.Buckets.{buckets, buckets_of, buckets_at, IsInBucket, KeepsByteBuckets, KeepsBuckets, TrigramIsInBucket, HasBucket, NoCandidate};
+
+use crate::class_trigram::ClassTrigram;
+use crate::lanes::{both, by_high_nibble, by_low_nibble, load, next, nonzero};
+use cs_syntax::ByteSet;
+use std::simd::prelude::*;
+
+/// The number of buckets. Each has one bit of a mask.
+const BUCKETS: usize = 8;
+
+/// The number of bytes that are looked up at once.
+const LANES: usize = 32;
+
+/// The number of offsets that are decided at once: 32 bytes contain 30 trigrams.
+const STRIDE: usize = 30;
+
+/// The nibble masks of one of the three offsets of a trigram: a table of buckets by the low nibble of a byte, and one
+/// by the high nibble. A byte is in the buckets that both of its entries contain.
+#[derive(Clone, Copy, Drop)]
+pub(crate) struct NibbleMasks {
+    low: [u8; 16],
+    high: [u8; 16],
+}
+
+impl NibbleMasks {
+    /// The masks by which no byte is in a bucket.
+    fn new() -> NibbleMasks {
+        NibbleMasks {
+            low: [0; 16],
+            high: [0; 16],
+        }
+    }
+
+    /// Adds the byte to the bucket.
+    fn add_byte(&mut self, byte: u8, bucket: usize)
+        requires { bucket < BUCKETS }
+        ensures has { IsInBucket self.new byte bucket }
+        ensures keeps { KeepsByteBuckets self.old self.new }
+    {
+        let bit = 1u8 << bucket;
+        self.low[(byte % 16) as usize] |= bit;
+        self.high[(byte / 16) as usize] |= bit;
+    }
+
+    /// Adds the bytes of the set to the bucket.
+    fn add(&mut self, set: &ByteSet, bucket: usize)
+        requires { bucket < BUCKETS }
+        ensures has { (b : ℕ) → b < 256 → member set.now b ≡ true → IsInBucket self.new b bucket }
+        ensures keeps { KeepsByteBuckets self.old self.new }
+    {
+        for byte in 0..=255u8 {
+            if set.contains(byte) {
+                self.add_byte(byte, bucket);
+            }
+        }
+    }
+
+    /// The buckets of 32 bytes.
+    #[inline(always)]
+    fn lanes(&self, bytes: u8x32) -> u8x32
+        ensures { HasLanes result (λ k. buckets self.now (slice_index bytes k)) }
+    {
+        both(
+            by_low_nibble(&self.low, bytes),
+            by_high_nibble(&self.high, bytes),
+        )
+    }
+}
+
+/// The nibble masks of the three offsets of a trigram.
+#[derive(Clone, Copy, Drop)]
+pub(crate) struct TrigramMasks {
+    first: NibbleMasks,
+    second: NibbleMasks,
+    third: NibbleMasks,
+}
+
+impl TrigramMasks {
+    /// Distributes the trigrams over the buckets. Neighbours in the list share a bucket.
+    pub(crate) fn new(trigrams: &[ClassTrigram]) -> TrigramMasks
+        ensures { All (HasBucket result) trigrams.now }
+    {
+        let mut trigram_masks = TrigramMasks {
+            first: NibbleMasks::new(),
+            second: NibbleMasks::new(),
+            third: NibbleMasks::new(),
+        };
+        for (i, trigram) in trigrams.iter().enumerate() {
+            trigram_masks.add(trigram, i.wrapping_mul(BUCKETS) / trigrams.len() % BUCKETS);
+        }
+        trigram_masks
+    }
+
+    /// Adds the trigram to the bucket.
+    fn add(&mut self, trigram: &ClassTrigram, bucket: usize)
+        requires { bucket < BUCKETS }
+        ensures has { TrigramIsInBucket self.new trigram.now bucket }
+        ensures keeps { KeepsBuckets self.old self.new }
+    {
+        self.first.add(&trigram.first, bucket);
+        self.second.add(&trigram.second, bucket);
+        self.third.add(&trigram.third, bucket);
+    }
+
+    /// The buckets of the trigrams that may occur at the next offsets.
+    #[inline(always)]
+    fn bucket_lanes(&self, text: &[u8], offset: usize) -> u8x32
+        requires { offset + LANES ≤ length text.now }
+        ensures { (k : ℕ) → k < STRIDE
+            → slice_index result k ≡ buckets_at self.now text.now (offset + k) }
+    {
+        let bytes = load(text, offset);
+        let later = both(self.second.lanes(bytes), next(self.third.lanes(bytes)));
+        both(self.first.lanes(bytes), next(later))
+    }
+
+    /// A bit for each of the next offsets, set if it is a candidate.
+    #[inline(always)]
+    fn candidate_mask(&self, text: &[u8], offset: usize) -> u64
+        requires { offset + LANES ≤ length text.now }
+        ensures { (k : ℕ) → k < STRIDE
+            → (bit_at result k ≡ 1) ↔ (buckets_at self.now text.now (offset + k) ≢ 0) }
+    {
+        nonzero(self.bucket_lanes(text, offset))
+    }
+
+    /// Whether none of the next offsets is a candidate.
+    #[inline(always)]
+    fn has_no_candidate(&self, text: &[u8], offset: usize) -> bool
+        requires { offset + LANES ≤ length text.now }
+        ensures { IsTrue result → NoCandidate self.now text.now offset (offset + STRIDE) }
+    {
+        self.candidate_mask(text, offset) == 0
+    }
+
+    /// The number of offsets before the first candidate among the next offsets; all of them if there is no candidate.
+    #[inline(always)]
+    fn len_before_candidate(&self, text: &[u8], offset: usize) -> usize
+        requires { offset + LANES ≤ length text.now }
+        ensures within { result ≤ STRIDE }
+        ensures none { NoCandidate self.now text.now offset (offset + result) }
+    {
+        (self.candidate_mask(text, offset).trailing_zeros() as usize).min(STRIDE)
+    }
+
+    /// The first candidate at or after `from`. Fewer than 32 bytes before the end of the text it stops in any case, at
+    /// an offset that may not be a candidate.
+    pub(crate) fn skip(&self, text: &[u8], from: usize) -> usize
+        requires { from ≤ length text.now }
+        ensures low { from ≤ result }
+        ensures high { result ≤ length text.now }
+        ensures none { NoCandidate self.now text.now from result }
+    {
+        let mut offset = from;
+        'scan: while text.len() - offset >= LANES {
+            if !self.has_no_candidate(text, offset) {
+                return offset + self.len_before_candidate(text, offset);
+            }
+            offset += STRIDE;
+        }
+        offset
+    }
+}

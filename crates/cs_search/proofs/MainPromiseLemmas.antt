@@ -1,0 +1,183 @@
+-- csearch prints what cgrep prints if files read as they were indexed, in particular over an index that jobs left.
+use Rattle.std.proofs.Common.{◌≡◌, ℕ, ◌<◌, ◌^◌, List, length, refl, sym, ap, subst, ◌∙◌, Bool, true, false, Option, Some, None, Result, Ok}
+use Rattle.cs_tree.specs.Sinks.{SinkModel}
+use Rattle.cs_index.specs.Roundtrip.{parts_written, IsIndexWith}
+use Rattle.std.specs.Prelude.{filter, option_map, string_bytes}
+use Rattle.std.specs.FinMap as map'
+use Rattle.cs_tree.specs.PathSet as set
+use Rattle.cs_syntax.specs.Matching.{Tree}
+use Rattle.cs_match.specs.Deciding.{Decides}
+use Rattle.cs_tree.specs.Snapshot.{Snapshot}
+use Rattle.cs_trigram.specs.declared.queries.Query.{Query, Query-F, fold-roll-Query}
+use Rattle.cs_trigram.specs.declared.queries.Query.TheVariants.{rolls-All}
+use Rattle.cs_trigram.specs.Query.{matches_set, matches_set_step, LosesNoLine}
+use Rattle.cs_index.specs.Encoding.{encoding, encoding_of}
+use Rattle.cs_index.specs.Decoding.{DecodesAs}
+use Rattle.cs_index.specs.OpenedParts.{Parts, files_read, lists_in}
+use Rattle.cs_index.proofs.decoding.DecodingIsUnique.{decoding_is_unique}
+use Rattle.cs_index.proofs.encoding.EncodingDecodes.{encoding_decodes}
+use Rattle.cs_index.proofs.encoding.EncodingOpens.{encoding_has}
+use Rattle.cs_merge.proofs.ContentLemmas.{content_indexable, ascending_sets}
+use Rattle.cs_history.specs.History.{History, index_of, paths_of, files_of}
+use Rattle.cs_history.specs.HistoryIndex.{indexed_names, IsBuiltByJobs}
+use Rattle.cs_history.specs.FileTrigrams.{ReadAsIndexed}
+use Rattle.cs_history.specs.MatchingFiles.{names_matching}
+use Rattle.cs_history.specs.Premises.{modelled_snapshot, IsShort}
+use Rattle.cs_history.specs.WellFormed.{IsHistory}
+use Rattle.cs_history.proofs.HistoryLemmas.{history_content, index_is}
+use Rattle.cs_args.specs.declared.jobs.Tool.TheVariants.{Csearch, Cgrep}
+use Rattle.cs_args.specs.declared.jobs.SearchJob.{SearchJob}
+use Rattle.cs_search.specs.Searcher.{PrintsAllFaults}
+use Rattle.cs_search.specs.InputReport.{max_searched}
+use Rattle.cs_search.specs.SearchHeadline.{SearchPremises, SearchesLikeGrep}
+use Rattle.cs_search.specs.SameSearch.{PrintsLikeCgrep}
+use Rattle.cs_search.specs.Printed.{searched_by_cgrep, Printed, all_printed, file_printed}
+use Rattle.cs_search.specs.IndexSearch.{names_at, DecidesNames}
+use Rattle.cs_index.specs.Candidates.{candidates_of}
+use Rattle.cs_index.specs.Answerable.{is_answerable}
+use Rattle.cs_index.specs.Postings.{IsListFault}
+use Rattle.cs_index.specs.declared.fault.IndexFault.{IndexFault}
+use Rattle.cs_args.specs.Faults.{index_fault}
+use Rattle.cs_search.specs.Plans.{IsPlan, AnswersQuery, RefusesPlan}
+use Rattle.cs_search.specs.declared.plan.Plan.{Plan}
+use Rattle.cs_search.specs.Csearch.{file_text, OpensWith, IsQueryOf, IndexQuery, DecidesSearch, csearch_printed, AreAccepted, OpensWhole, PrintsCandidates}
+use Rattle.cs_search.proofs.SkippedFileLemmas.{search_alike}
+use Rattle.cs_search.proofs.CgrepLemmas.{decides_program}
+use Rattle.cs_search.proofs.CsearchLemmas.{names_of_files, names_decided, accepted_plan, lists_fourth, chosen, PrintsAllFaults-chosen}
+
+-- `-brute` loses no line either
+loses : (brute : Bool) (pattern : Tree) (query : Query) → IsQueryOf brute pattern query → LosesNoLine query pattern
+loses true pattern query all = λ line set found has. ap (λ (q : Query). matches_set q set) (all ∙ sym rolls-All) ∙ fold-roll-Query Bool (matches_set_step set) Query-F.All
+loses false pattern query right = right.0
+
+-- bytes open as one index
+pub opens_once : (index : Option (List ℕ)) (a b : Parts) → OpensWith index a → OpensWith index b → a ≡ b
+opens_once None a b x y = absurd x
+opens_once (Some bytes) a b x y = decoding_is_unique bytes a b x y
+
+module _ (job : SearchJob) (index : Option (List ℕ)) (has_match keeps : List ℕ → Bool) (index_query : IndexQuery job index) (tests : DecidesSearch job has_match keeps) (tree : Snapshot) where
+  -- the search by the index and the search by cgrep print the same
+  alike : ReadAsIndexed tree (files_read index_query.parts) → all_printed (file_printed max_searched Csearch job.style has_match tree) (filter keeps (names_matching index_query.query (files_read index_query.parts))) ≡ searched_by_cgrep max_searched job.style has_match tree (filter keeps index_query.parts.names)
+  unfolding names_matching searched_by_cgrep
+  alike agrees =
+      search_alike job.style has_match keeps tree index_query.query tests.pattern (loses job.brute tests.pattern index_query.query (index_query.is_right tests.pattern tests.reads)) tests.decides Csearch Cgrep (files_read index_query.parts) agrees
+      ∙ ap (λ (names : List (List ℕ)). all_printed (file_printed max_searched Cgrep job.style has_match tree) (filter keeps names)) (names_of_files 0 index_query.parts.names (lists_in index_query.parts))
+
+-- a plan, and an index that answers its query
+module _ (job : SearchJob) (index : Option (List ℕ)) (plan : Plan) (is : IsPlan job plan) (parts : Parts) (answering : AnswersQuery plan.query index parts) where
+  abbrev index_query : IndexQuery job index
+  index_query = record { parts = answering.whole; opens = answering.opens; query = plan.query; is_right = is.query }
+
+  -- a required list is damaged
+  pub lists_refused : (fault : IndexFault) → IsListFault (is_answerable parts plan.query) fault → RefusesPlan job index (index_fault fault)
+  lists_refused fault refused =
+      lists_fourth job index fault (accepted_plan job plan is) index_query
+      (subst (λ (whole : Bool). IsListFault whole fault) answering.answers.answerable refused)
+
+  module _ (whole : is_answerable parts plan.query ≡ true) where
+    all_whole : is_answerable answering.whole plan.query ≡ true
+    all_whole = sym answering.answers.answerable ∙ whole
+
+    -- both patterns are accepted, the index opens, and the required lists are whole
+    pub ready : AreAccepted job × OpensWhole job index true
+    ready = (accepted_plan job plan is, (index_query, all_whole))
+
+    module _ (ids : List ℕ) (found : ids ≡ candidates_of parts plan.query) where
+      chosen_ids : ids ≡ candidates_of answering.whole plan.query
+      chosen_ids = found ∙ answering.answers.candidates
+
+      -- what is printed for the candidates
+      module _ (tree : Option Snapshot) (Prints : Option Printed → Type 0) where
+        abbrev Chosen : (List ℕ → Bool) → (List ℕ → Bool) → List (List ℕ) → Option Printed
+        Chosen has_match keeps names = option_map (λ (s : Snapshot). all_printed (file_printed max_searched Csearch job.style has_match s) (filter keeps (names_at names ids))) tree
+
+        pub searched : ((has_match keeps : List ℕ → Bool) → Decides has_match plan.program → DecidesNames keeps plan.file → Prints (Chosen has_match keeps parts.names)) → PrintsCandidates job index tree Prints
+        searched prints = (
+          index_query,
+          all_whole,
+          λ has_match keeps decides_search.
+              let decides = decides_program (string_bytes job.pattern) job.fold plan.program decides_search.pattern has_match is.program decides_search.reads decides_search.decides in
+              let kept = names_decided (file_text job) plan.file keeps is.file decides_search.names in
+              subst Prints (ap (Chosen has_match keeps) answering.answers.names ∙ chosen max_searched job.style has_match keeps answering.whole plan.query tree ids chosen_ids)
+              (prints has_match keeps decides kept),
+        )
+
+      -- faults of candidates are faults of indexed names
+      pub faults_chosen : {A E : Type 0} (r : Result A E) (opened : Parts) (failed failed' : ℕ) (err err' : Option SinkModel) → OpensWith index opened →
+          PrintsAllFaults Csearch (names_at parts.names ids) failed failed' err err' r → PrintsAllFaults Csearch opened.names failed failed' err err' r
+      faults_chosen r opened failed failed' err err' opens faults =
+          subst (λ (p : Parts). PrintsAllFaults Csearch p.names failed failed' err err' r) (opens_once index answering.whole opened answering.opens opens)
+          (PrintsAllFaults-chosen r Csearch answering.whole plan.query ids failed failed' err err' chosen_ids
+          (subst (λ (names : List (List ℕ)). PrintsAllFaults Csearch (names_at names ids) failed failed' err err' r) answering.answers.names faults))
+
+module _ (job : SearchJob) (index : Option (List ℕ)) (tree : Option Snapshot) (Prints : Option Printed → Type 0) (by_index : PrintsCandidates job index tree Prints) where
+  -- what is printed over a tree with a snapshot
+  model_printed : (snapshot : Snapshot) (has_match keeps : List ℕ → Bool) → tree ≡ Some snapshot → DecidesSearch job has_match keeps → Prints (Some (all_printed (file_printed max_searched Csearch job.style has_match snapshot) (filter keeps (names_matching by_index.0.query (files_read by_index.0.parts)))))
+  unfolding csearch_printed
+  model_printed snapshot has_match keeps is tests =
+      subst (λ (t : Option Snapshot). Prints (csearch_printed max_searched job.style has_match keeps by_index.0.parts by_index.0.query t)) is (by_index.2 has_match keeps tests)
+
+  pub like_cgrep : PrintsLikeCgrep job index tree (λ printed. Prints (Some printed))
+  like_cgrep parts snapshot has_match keeps opens is agrees tests =
+      let index_query = by_index.0 in
+      let same : parts ≡ index_query.parts = opens_once index parts index_query.parts opens index_query.opens in
+      let there : ReadAsIndexed snapshot (files_read index_query.parts) = subst (λ (p : Parts). ReadAsIndexed snapshot (files_read p)) same agrees in
+      subst Prints (ap (λ (p : Printed). Some p) (alike job index has_match keeps index_query tests snapshot there ∙ ap (λ (p : Parts). searched_by_cgrep max_searched job.style has_match snapshot (filter keeps p.names)) (sym same))) (model_printed snapshot has_match keeps is tests)
+
+-- ---- an index that jobs built
+
+module _ (history : History) (bytes : List ℕ) (is : IsHistory history) (by : IsBuiltByJobs history) (left : index_of history ≡ Some bytes) (short : length bytes < 2 ^ 32) where
+  pub written : Parts
+  written = parts_written (set.items (paths_of history)) (map'.entries (files_of history))
+
+  there : encoding_of (set.items (paths_of history)) (map'.entries (files_of history)) ≡ bytes
+  unfolding encoding
+  there = index_is history bytes by left
+
+  pub opens_so : DecodesAs bytes written
+  unfolding written
+  opens_so =
+      let small = subst (λ (b : List ℕ). length b < 2 ^ 32) (sym there) short in
+      subst (λ (b : List ℕ). DecodesAs b (parts_written (set.items (paths_of history)) (map'.entries (files_of history)))) there
+      (encoding_decodes (set.items (paths_of history)) (map'.entries (files_of history)) (content_indexable (paths_of history) (files_of history) (history_content history is) small))
+
+  pub has_so : IsIndexWith written (set.items (paths_of history)) (map'.entries (files_of history))
+  unfolding written
+  has_so =
+      let small = subst (λ (b : List ℕ). length b < 2 ^ 32) (sym there) short in
+      encoding_has (set.items (paths_of history)) (map'.entries (files_of history)) (content_indexable (paths_of history) (files_of history) (history_content history is) small)
+
+  pub named : (parts : Parts) → DecodesAs bytes parts → parts.names ≡ indexed_names history
+  named parts opens =
+      let same : parts ≡ written = opens_once (Some bytes) parts written opens opens_so in
+      ap (λ (p : Parts). p.names) same ∙ has_so.has_names
+
+  pub agrees_still : (parts : Parts) (tree : Snapshot) → DecodesAs bytes parts → ReadAsIndexed tree (map'.entries (files_of history)) → ReadAsIndexed tree (files_read parts)
+  agrees_still parts tree opens still =
+      let same : written ≡ parts = opens_once (Some bytes) written parts opens_so opens in
+      let files = has_so.has_files (ascending_sets (files_of history) (history_content history is).sets_are) in
+      subst (λ (p : Parts). ReadAsIndexed tree (files_read p)) same (subst (ReadAsIndexed tree) (sym files) still)
+
+module _ (job : SearchJob) (index : Option (List ℕ)) (tree : Option Snapshot) (has_match keeps : List ℕ → Bool) (index_query : IndexQuery job index) (tests : DecidesSearch job has_match keeps) (snapshot : Snapshot) (modelled : tree ≡ Some snapshot) (earlier : History) (premises : SearchPremises tree index earlier) where
+  promised : all_printed (file_printed max_searched Csearch job.style has_match snapshot) (filter keeps (names_matching index_query.query (files_read index_query.parts))) ≡ searched_by_cgrep max_searched job.style has_match (modelled_snapshot tree) (filter keeps (indexed_names earlier))
+  promised = by_bytes index refl index_query.opens premises.jobs_left.is_index premises.jobs_left.short
+    where
+      snapshot_is : snapshot ≡ modelled_snapshot tree
+      snapshot_is = sym (ap modelled_snapshot modelled)
+
+      by_bytes : (i : Option (List ℕ)) → index ≡ i → OpensWith i index_query.parts → index_of earlier ≡ index → IsShort index →
+          all_printed (file_printed max_searched Csearch job.style has_match snapshot) (filter keeps (names_matching index_query.query (files_read index_query.parts))) ≡ searched_by_cgrep max_searched job.style has_match (modelled_snapshot tree) (filter keeps (indexed_names earlier))
+      by_bytes None e opens left short = absurd opens
+      by_bytes (Some bytes) e opens left short =
+          let left' : index_of earlier ≡ Some bytes = left ∙ e in
+          let short' = subst IsShort e short in
+          let agrees = agrees_still earlier bytes premises.jobs_left.is_history premises.by_jobs left' short' index_query.parts snapshot opens (subst (λ (s : Snapshot). ReadAsIndexed s (map'.entries (files_of earlier))) (sym snapshot_is) premises.still_reads) in
+          alike job index has_match keeps index_query tests snapshot agrees
+          ∙ ap (λ (s : Snapshot). searched_by_cgrep max_searched job.style has_match s (filter keeps index_query.parts.names)) snapshot_is
+          ∙ ap (λ (names : List (List ℕ)). searched_by_cgrep max_searched job.style has_match (modelled_snapshot tree) (filter keeps names)) (named earlier bytes premises.jobs_left.is_history premises.by_jobs left' short' index_query.parts opens)
+
+pub as_promised : (job : SearchJob) (index : Option (List ℕ)) (tree : Option Snapshot) (Prints : Option Printed → Type 0) → PrintsCandidates job index tree Prints → SearchesLikeGrep job index tree (λ printed. Prints (Some printed))
+as_promised job index None Prints by_index earlier has_match keeps premises tests = absurd premises.jobs_left.trees_modelled.0
+as_promised job index (Some snapshot) Prints by_index earlier has_match keeps premises tests =
+    subst (λ (p : Printed). Prints (Some p)) (promised job index (Some snapshot) has_match keeps by_index.0 tests snapshot refl earlier premises)
+    (model_printed job index (Some snapshot) Prints by_index snapshot has_match keeps refl tests)

@@ -1,8 +1,0 @@
-use Rattle.cs_search.proofs.LeftLemmas.{opens_whole, never_refused}
-use Rattle.cs_search.proofs.laws.left_indexes_are_never_refused.Goals as goal
-
-pub returns : goal.returns
-returns c = record {
-  whole = opens_whole;
-  accepted = λ job history bytes answer left accepted refused. never_refused history bytes left job answer accepted refused;
-}

@@ -1,4 +1,0 @@
-mod ByteGroupLemmas
-mod Examples
-mod LaneLemmas
-mod MarkLemmas

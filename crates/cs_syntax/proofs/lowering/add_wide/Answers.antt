@@ -1,5 +1,0 @@
-use Rattle.cs_syntax.proofs.LoweringLemmas.{four_behind}
-use Rattle.cs_syntax.proofs.lowering.add_wide.Goals as goal
-
-pub returns : goal.returns
-returns c = four_behind _ _ _ _ _ _ _ _ _ c.in_ok-add_within.ensures c.in_ok-add_within-2.ensures c.in_ok-add_within-3.ensures c.in_ok-add_within-4.ensures

@@ -1,5 +1,0 @@
-use Rattle.std.proofs.Common.{rules}
-use Rattle.cs_tree.proofs.in_memory.MemSink.new.Goals as goal
-
-pub returns-clause-room : goal.returns-clause-room
-returns-clause-room c = search rules

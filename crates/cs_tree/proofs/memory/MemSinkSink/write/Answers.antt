@@ -1,8 +1,0 @@
-use Rattle.std.proofs.Common.{rules}
-use Rattle.cs_tree.proofs.memory.MemSinkSink.write.Goals as goal
-
-pub returns-clause-bytes : goal.returns-clause-bytes
-returns-clause-bytes c = search rules
-
-pub returns-clause-fitting : goal.returns-clause-fitting
-returns-clause-fitting c = search rules

@@ -1,0 +1,109 @@
+-- Correct queries of trees.
+use Rattle.std.proofs.Common.{◌≡◌, ℕ, zero, suc, ◌-◌, ◌<◌, ◌≤◌, inl, inr, Bool, true, false, List, [], ◌∷◌, ◌++◌, Vec, Global, sym, ◌∙◌, ap, subst, arith, refl}
+use Rattle.cs_trigram.specs.QueryNumbers.{are_trigrams}
+use Rattle.std.specs.Prelude.{Option, Some, None, slice_range}
+use Rattle.std.specs.List.{list_all}
+use Rattle.std.proofs.lemmas.Bool.{false≢true, or_cases, or_left, or_right}
+use Rattle.cs_syntax.specs.Matching.{Tree, Trees, alt, rep, none, more, Chain, MatchesSpan}
+use Rattle.cs_trigram.specs.Query.{matches_set, HasTrigrams, LosesNoLine}
+use Rattle.cs_trigram.specs.ExactRuns.{HasWhole, HasRunsWithin, HasExactRuns}
+use Rattle.cs_trigram.specs.ExactQuery.{RequiresExactString}
+use Rattle.cs_trigram.specs.Analysis.{some_matches, has_any, AreExactStrings, IsCorrect, AreCorrect, IsMatchQuery}
+use Rattle.cs_trigram.specs.declared.queries.Query.{Query}
+use Rattle.cs_trigram.specs.declared.queries.Query.TheVariants.{All, Or}
+use Rattle.cs_trigram.proofs.LeadingRunLemmas.{concatenates_one, exact_of_one}
+use Rattle.cs_trigram.proofs.SequenceQueryLemmas.{any_run_found, found_any_run}
+use Rattle.cs_trigram.proofs.ExactStringLemmas.{match_is_exact, exact_match_has_runs}
+use Rattle.cs_trigram.proofs.SubstringTrigramLemmas.{has_part}
+use Rattle.cs_trigram.proofs.QueryLemmas.{matches_set-All, matches_set-Or, some_matches_push, numbers-All, numbers-Or, numbers_more, numbers_push}
+
+-- a tree that requires nothing
+pub correct_all : (t : Tree) → ((set : ℕ → Bool) → HasExactRuns set t) → IsCorrect All t
+correct_all t has_runs = record { matching = λ s set i j h has. matches_set-All set; selective = λ set h. has_runs set; numbers = numbers-All }
+
+-- `All` is a match query of a tree without runs within it, such as a leaf
+pub leaf_match_query : (t : Tree) → ((set : ℕ → Bool) → HasRunsWithin set t) → IsMatchQuery All t
+leaf_match_query t within many = correct_all t (λ set. (λ few. absurd (many few), within set))
+
+-- zero iterations have the empty string as their exact string
+no_iteration : (x : Tree) (m : Option ℕ) (set : ℕ → Bool) → HasWhole set (rep x 0 m)
+no_iteration x None set few = absurd (false≢true few.0)
+no_iteration x (Some m) set few = ([], ([], [], (0, omega arith, omega arith, refl), refl, refl), refl)
+
+pub all_repeated : (x : Tree) (n : ℕ) (m : Option ℕ) → n ≡ 0 → IsCorrect All (rep x n m)
+all_repeated x n m e = subst (λ k. IsCorrect All (rep x k m)) (sym e) (correct_all (rep x 0 m) (λ set. (no_iteration x m set, tt)))
+
+-- at least one iteration
+pub correct_repeated : (q : Query) (x : Tree) (n : ℕ) (m : Option ℕ) → 0 < n → IsCorrect q x → IsMatchQuery q (rep x n m)
+correct_repeated q x zero m some r many = absurd (omega arith)
+correct_repeated q x (suc n) m some r many = record {
+  matching = λ s set i j h has. first s set h.0 i j h.1 h.3 has;
+  selective = λ set h. (λ few. absurd (many few), r.selective set h);
+  numbers = r.numbers;
+}
+  where
+    first : (s : List ℕ) (set : ℕ → Bool) (k i j : ℕ) → suc n ≤ k → Chain (MatchesSpan s x) k i j → HasTrigrams set s → matches_set q set ≡ true
+    first s set zero i j le c has = absurd (omega arith)
+    first s set (suc k) i j le c has = r.matching s set i c.0 c.1 has
+
+-- a tree with few exact strings
+pub correct_strings : (q : Query) (ws : List (List ℕ)) (t : Tree) → AreExactStrings ws t → ((set : ℕ → Bool) → matches_set q set ≡ has_any set ws) → are_trigrams q ≡ true → IsCorrect q t
+correct_strings q ws t strings required numbers = record {
+  matching = λ s set i j h has.
+      let r = match_is_exact s t i j strings.0 h in
+      required set ∙ found_any_run set ws (slice_range s i j) ((strings.1.each (slice_range s i j)).0 r.1) (has_part set (j - i) i s has);
+  selective = λ set h.
+      let w = any_run_found set ws (sym (required set) ∙ h) in
+      exact_match_has_runs set t w.0 ((strings.1.each w.0).1 w.1) w.2;
+  numbers = numbers;
+}
+
+-- the query of a tree with few exact strings requires one of them
+pub string_required : (q : Query) (ws : List (List ℕ)) (t : Tree) → AreExactStrings ws t → ((set : ℕ → Bool) → matches_set q set ≡ has_any set ws) → RequiresExactString q t
+string_required q ws t strings required set = (
+  λ h. let w = any_run_found set ws (sym (required set) ∙ h) in (w.0, concatenates_one t w.0 ((strings.1.each w.0).1 w.1), w.2),
+  λ w. required set ∙ found_any_run set ws w.0 ((strings.1.each w.0).0 (exact_of_one t w.0 w.1)) w.2,
+)
+
+pub correct_none : (queries : List Query) → queries ≡ [] → AreCorrect queries none
+correct_none queries e = record { matching = λ s set i j h has. absurd h; selective = λ set h. empty set (ap (λ (qs : List Query). some_matches qs set) (sym e) ∙ h); numbers = ap (list_all are_trigrams) e }
+  where
+    empty : (set : ℕ → Bool) → false ≡ true → ⊥
+    empty set h = (cc)
+
+pub right_more : (queries : List Query) (q : Query) (t : Tree) (ts : Trees) → IsCorrect q t → AreCorrect queries ts → AreCorrect (queries ++ q ∷ []) (more t ts)
+right_more queries q t ts match_query others = record {
+  matching = λ s set i j h has.
+      some_matches_push set queries q
+      ∙ elim h [
+        | inl a ↦ or_right (some_matches queries set) (matches_set q set) (match_query.matching s set i j a has)
+        | inr b ↦ or_left (some_matches queries set) (matches_set q set) (others.matching s set i j b has)
+      ];
+  selective = λ set h.
+      elim (or_cases (some_matches queries set) (matches_set q set) (sym (some_matches_push set queries q) ∙ h)) [
+        | inl a ↦ inr (others.selective set a)
+        | inr b ↦ inl (match_query.selective set b)
+      ];
+  numbers = numbers_more queries q others.numbers match_query.numbers;
+}
+
+-- a disjunction with a single query
+pub correct_one : (queries : List Query) (q : Query) (ts : Trees) → queries ≡ q ∷ [] → IsCorrect q (alt ts) → AreCorrect queries ts
+correct_one queries q ts e r = record {
+  matching = λ s set i j h has. same set ∙ r.matching s set i j h has;
+  selective = λ set h. (r.selective set (sym (same set) ∙ h)).1;
+  numbers = ap (list_all are_trigrams) e ∙ numbers_push [] q ∙ r.numbers;
+}
+  where
+    same : (set : ℕ → Bool) → some_matches queries set ≡ matches_set q set
+    same set = ap (λ (qs : List Query). some_matches qs set) e ∙ some_matches_push set [] q
+
+pub correct_alternation : (members : Vec Query Global) (ts : Trees) → AreCorrect members.items ts → IsMatchQuery (Or members) (alt ts)
+correct_alternation members ts r many = record {
+  matching = λ s set i j h has. matches_set-Or set members ∙ r.matching s set i j h has;
+  selective = λ set h. (λ few. absurd (many few), r.selective set (sym (matches_set-Or set members) ∙ h));
+  numbers = numbers-Or members ∙ r.numbers;
+}
+
+pub correct_loses_nothing : (q : Query) (t : Tree) → IsCorrect q t → LosesNoLine q t
+correct_loses_nothing q t r = λ line set f has. r.matching line set f.0 f.1 f.4 has

@@ -1,0 +1,204 @@
+-- End strings of concatenations and of trees.
+use Rattle.std.proofs.Common.{◌≡◌, ℕ, zero, suc, ◌+◌, ◌-◌, ◌<◌, ◌≤◌, ◌⊎◌, inl, inr, not, true, false, List, [], ◌∷◌, ◌++◌, take, drop, length, get_or, refl, sym, ◌∙◌, ap, subst, arith, append_assoc, drop-cons, drop_of_length-le}
+use Rattle.std.specs.Prelude.{Option, slice_range}
+use Rattle.std.specs.List.{list_all}
+use Rattle.std.proofs.lemmas.Bool.{and_parts, not-true}
+use Rattle.std.proofs.lemmas.List.{append-nil, take-append-drop}
+use Rattle.cs_syntax.specs.Matching.{Tree, Trees, empty, one_of, one_char, cat, alt, rep, line_start, line_end, word_edge, not_word_edge, none, more, Chain, MatchesSpan, MatchesSequence, MatchesBranch}
+use Rattle.cs_trigram.specs.EndStrings.{concatenation, near_part, HasEndString, HasSomeEndString, AreEndStrings, AreEndStringsOfAll}
+use Rattle.cs_trigram.specs.ShortString.{bytes_of}
+use Rattle.cs_trigram.specs.declared.end_strings.Side.{Side}
+use Rattle.cs_trigram.specs.declared.end_strings.Side.TheVariants.{Prefix, Suffix}
+use Rattle.cs_trigram.specs.declared.end_strings.EndString.{EndString}
+use Rattle.cs_trigram.proofs.ExactStringLemmas.{part_split, part_empty}
+
+pub concatenation-assoc : (side : Side) (a b c : List ℕ) → concatenation side (concatenation side a b) c ≡ concatenation side a (concatenation side b c)
+concatenation-assoc Prefix a b c = append_assoc a b c
+concatenation-assoc Suffix a b c = sym (append_assoc c b a)
+
+pub concatenation-none : (side : Side) (a : List ℕ) → concatenation side a [] ≡ a
+concatenation-none Prefix a = append-nil a
+concatenation-none Suffix a = refl
+
+pub none_concatenation : (side : Side) (a : List ℕ) → concatenation side [] a ≡ a
+none_concatenation Prefix a = refl
+none_concatenation Suffix a = append-nil a
+
+-- an end string of a concatenation, if the near one is whole and if it is not
+pub fits_concatenation : (side : Side) (near far end_string : EndString) → (bytes_of end_string.string) ≡ concatenation side (bytes_of near.string) (bytes_of far.string) → end_string.whole ≡ far.whole → near.whole ≡ true →
+    (u v : List ℕ) → HasEndString side near u → HasEndString side far v → HasEndString side end_string (concatenation side u v)
+fits_concatenation side near far end_string string whole is u v a b =
+    let same : u ≡ (bytes_of near.string) = a.1 ∙ ap (concatenation side (bytes_of near.string)) (a.2 is) ∙ concatenation-none side (bytes_of near.string) in (
+      b.0,
+      ap (λ (x : List ℕ). concatenation side x v) same ∙ ap (concatenation side (bytes_of near.string)) b.1 ∙ sym (concatenation-assoc side (bytes_of near.string) (bytes_of far.string) b.0)
+          ∙ ap (λ (x : List ℕ). concatenation side x b.0) (sym string),
+      λ e. b.2 (sym whole ∙ e),
+    )
+
+pub fits_open : (side : Side) (near end_string : EndString) → (bytes_of end_string.string) ≡ (bytes_of near.string) → end_string.whole ≡ false →
+    (u v : List ℕ) → HasEndString side near u → HasEndString side end_string (concatenation side u v)
+fits_open side near end_string string loose u v a = (
+  concatenation side a.0 v,
+  ap (λ (x : List ℕ). concatenation side x v) a.1 ∙ concatenation-assoc side (bytes_of near.string) a.0 v ∙ ap (λ (x : List ℕ). concatenation side x (concatenation side a.0 v)) (sym string),
+  λ e. let odd : false ≡ true = sym loose ∙ e in (cc),
+)
+
+-- the near end strings suffice if none is whole
+pub fits_all_open : (side : Side) (end_strings : List EndString) (u v : List ℕ) → list_all (λ (end_string : EndString). not end_string.whole) end_strings ≡ true →
+    HasSomeEndString side end_strings u → HasSomeEndString side end_strings (concatenation side u v)
+fits_all_open side [] u v loose h = h
+fits_all_open side (e ∷ end_strings) u v loose h =
+    elim h [
+      | inl a ↦ inl (fits_open side e e refl (not-true e.whole (and_parts (not e.whole) (list_all (λ (x : EndString). not x.whole) end_strings) loose).0) u v a)
+      | inr b ↦ inr (fits_all_open side end_strings u v (and_parts (not e.whole) (list_all (λ (x : EndString). not x.whole) end_strings) loose).1 b)
+    ]
+
+-- an end string with the same bytes and flag
+pub fits_same : (side : Side) (old end_string : EndString) → (bytes_of end_string.string) ≡ (bytes_of old.string) → end_string.whole ≡ old.whole → (text : List ℕ) → HasEndString side old text → HasEndString side end_string text
+fits_same side old end_string string whole text a =
+    (a.0, a.1 ∙ ap (λ (x : List ℕ). concatenation side x a.0) (sym string), λ e. a.2 (sym whole ∙ e))
+
+-- a truncated end string
+pub fits_cut : (side : Side) (old end_string : EndString) (rest : List ℕ) → (bytes_of old.string) ≡ concatenation side (bytes_of end_string.string) rest → end_string.whole ≡ false → (text : List ℕ) → HasEndString side old text → HasEndString side end_string text
+fits_cut side old end_string rest string loose text a = (
+  concatenation side rest a.0,
+  a.1 ∙ ap (λ (x : List ℕ). concatenation side x a.0) string ∙ concatenation-assoc side (bytes_of end_string.string) rest a.0,
+  λ e. let odd : false ≡ true = sym loose ∙ e in (cc),
+)
+
+-- one more end string
+pub fits_push : (side : Side) (end_strings : List EndString) (end_string : EndString) (text : List ℕ) → HasEndString side end_string text ⊎ HasSomeEndString side end_strings text → HasSomeEndString side (end_strings ++ end_string ∷ []) text
+fits_push side [] end_string text h = h
+fits_push side (e ∷ end_strings) end_string text h =
+    elim h [
+      | inl a ↦ inr (fits_push side end_strings end_string text (inl a))
+      | inr b ↦ elim b [ inl c ↦ inl c | inr d ↦ inr (fits_push side end_strings end_string text (inr d)) ]
+    ]
+
+-- the end strings from an index on
+pub fits_from : (side : Side) (end_strings : List EndString) (i : ℕ) (end_string : EndString) (text : List ℕ) → i < length end_strings →
+    HasSomeEndString side (drop i end_strings) text → HasEndString side (get_or end_strings i end_string) text ⊎ HasSomeEndString side (drop (i + 1) end_strings) text
+fits_from side end_strings i end_string text lt h =
+    let next : suc i ≡ i + 1 = omega arith in
+    let cut : drop i end_strings ≡ get_or end_strings i end_string ∷ drop (i + 1) end_strings =
+    drop-cons end_strings i end_string lt ∙ ap (λ n. get_or end_strings i end_string ∷ drop n end_strings) next in
+    subst (λ (es : List EndString). HasSomeEndString side es text) cut h
+
+pub fits_at : (side : Side) (end_strings : List EndString) (i : ℕ) (end_string : EndString) (text : List ℕ) → i < length end_strings →
+    HasEndString side (get_or end_strings i end_string) text → HasSomeEndString side end_strings text
+fits_at side [] i end_string text lt h = absurd (omega arith)
+fits_at side (e ∷ end_strings) zero end_string text lt h = inl h
+fits_at side (e ∷ end_strings) (suc i) end_string text lt h = inr (fits_at side end_strings i end_string text (omega arith) h)
+
+-- the end string of every text, and that of the empty text
+pub fits_any : (side : Side) (end_string : EndString) (text : List ℕ) → (bytes_of end_string.string) ≡ [] → end_string.whole ≡ false → HasSomeEndString side (end_string ∷ []) text
+fits_any side end_string text string loose =
+    inl (text, sym (none_concatenation side text) ∙ ap (λ (x : List ℕ). concatenation side x text) (sym string), λ e. let odd : false ≡ true = sym loose ∙ e in (cc))
+
+pub fits_none : (side : Side) (end_string : EndString) → (bytes_of end_string.string) ≡ [] → HasSomeEndString side (end_string ∷ []) []
+fits_none side end_string string = inl ([], sym (concatenation-none side []) ∙ ap (λ (x : List ℕ). concatenation side x []) (sym string), λ e. refl)
+
+pub fits_whole : (side : Side) (end_string : EndString) (text : List ℕ) → text ≡ (bytes_of end_string.string) → HasEndString side end_string text
+fits_whole side end_string text e = ([], e ∙ sym (concatenation-none side (bytes_of end_string.string)), λ w. refl)
+
+-- offsets do not decrease along a chain
+chain_rises : (R : ℕ → ℕ → Type 0) → ((i j : ℕ) → R i j → i ≤ j) → (k i j : ℕ) → Chain R k i j → i ≤ j
+chain_rises R each zero i j c = omega (arith, c)
+chain_rises R each (suc k) i j c = let a = each i c.0 c.1 in let b = chain_rises R each k c.0 j c.2 in omega (arith, a, b)
+
+module _ (s : List ℕ) where
+  mutual
+    pub rises : (t : Tree) (i j : ℕ) → MatchesSpan s t i j → i ≤ j
+    rises empty i j h = omega (arith, h)
+    rises (one_of set) i j h = omega (arith, h.2)
+    rises (one_char runs) i j h = omega (arith, h.2.0)
+    rises (cat ts) i j h = rises_all ts i j h
+    rises (alt ts) i j h = rises_some ts i j h
+    rises (rep x n m) i j h = chain_rises (MatchesSpan s x) (λ a b k. rises x a b k) h.0 i j h.3
+    rises line_start i j h = omega (arith, h.0, h.1)
+    rises line_end i j h = omega (arith, h.0, h.1)
+    rises word_edge i j h = omega (arith, h.0)
+    rises not_word_edge i j h = omega (arith, h.0)
+
+    pub rises_all : (ts : Trees) (i j : ℕ) → MatchesSequence s ts i j → i ≤ j
+    rises_all none i j h = omega (arith, h)
+    rises_all (more t ts) i j h = let a = rises t i h.0 h.1 in let b = rises_all ts h.0 j h.2 in omega (arith, a, b)
+
+    rises_some : (ts : Trees) (i j : ℕ) → MatchesBranch s ts i j → i ≤ j
+    rises_some none i j h = absurd h
+    rises_some (more t ts) i j h = elim h [ inl a ↦ rises t i j a | inr b ↦ rises_some ts i j b ]
+
+-- a sequence from its first part, and from its last part
+pub end_strings_none : (side : Side) (end_strings : List EndString) → HasSomeEndString side end_strings [] → AreEndStringsOfAll side end_strings none
+end_strings_none side end_strings h = λ s i j e. subst (HasSomeEndString side end_strings) (sym (part_empty s i) ∙ ap (slice_range s i) e) h
+
+-- one more tree before a sequence
+pub end_strings_before : (side : Side) (prefixes suffixes end_strings : List EndString) (t : Tree) (ts : Trees) →
+    ((u v : List ℕ) → HasSomeEndString side prefixes u → HasSomeEndString side suffixes v → HasSomeEndString side end_strings (u ++ v)) →
+    AreEndStrings side prefixes t → AreEndStringsOfAll side suffixes ts → AreEndStringsOfAll side end_strings (more t ts)
+end_strings_before side prefixes suffixes end_strings t ts both a b = λ s i j h.
+    subst (HasSomeEndString side end_strings) (sym (part_split s i h.0 j (rises s t i h.0 h.1) (rises_all s ts h.0 j h.2)))
+    (both (slice_range s i h.0) (slice_range s h.0 j) (a s i h.0 h.1) (b s h.0 j h.2))
+
+-- each text of at least this many iterations has one of the end strings
+abbrev pub AreEndStringsOfIterations : Side → List EndString → Tree → ℕ → Type 0
+AreEndStringsOfIterations side end_strings t n = (s : List ℕ) (k i j : ℕ) → n ≤ k → Chain (MatchesSpan s t) k i j → HasSomeEndString side end_strings (slice_range s i j)
+
+chain_last : (R : ℕ → ℕ → Type 0) (k i j : ℕ) → Chain R (suc k) i j → (l : ℕ) × Chain R k i l × R l j
+chain_last R zero i j c = (i, refl, subst (R i) c.2 c.1)
+chain_last R (suc k) i j c = let r = chain_last R k c.0 j c.2 in (r.0, (c.0, c.1, r.1), r.2)
+
+pub iteration_more : (side : Side) (once fars end_strings : List EndString) (t : Tree) (n : ℕ) →
+    ((u v : List ℕ) → HasSomeEndString side once u → HasSomeEndString side fars v → HasSomeEndString side end_strings (concatenation side u v)) →
+    AreEndStrings side once t → AreEndStringsOfIterations side fars t n → AreEndStringsOfIterations side end_strings t (n + 1)
+iteration_more side once fars end_strings t n both a b = λ s k i j le c. by side both a b s k i j le c
+  where
+    by : (side : Side) → ((u v : List ℕ) → HasSomeEndString side once u → HasSomeEndString side fars v → HasSomeEndString side end_strings (concatenation side u v)) →
+        AreEndStrings side once t → AreEndStringsOfIterations side fars t n → (s : List ℕ) (k i j : ℕ) → n + 1 ≤ k → Chain (MatchesSpan s t) k i j → HasSomeEndString side end_strings (slice_range s i j)
+    by side both a b s zero i j le c = absurd (omega arith)
+    by Prefix both a b s (suc k) i j le c =
+        subst (HasSomeEndString Prefix end_strings) (sym (part_split s i c.0 j (rises s t i c.0 c.1) (chain_rises (MatchesSpan s t) (rises s t) k c.0 j c.2)))
+        (both (slice_range s i c.0) (slice_range s c.0 j) (a s i c.0 c.1) (b s k c.0 j (omega arith) c.2))
+    by Suffix both a b s (suc k) i j le c =
+        let r = chain_last (MatchesSpan s t) k i j c in
+        subst (HasSomeEndString Suffix end_strings) (sym (part_split s i r.0 j (chain_rises (MatchesSpan s t) (rises s t) k i r.0 r.1) (rises s t r.0 j r.2)))
+        (both (slice_range s r.0 j) (slice_range s i r.0) (a s r.0 j r.2) (b s k i r.0 (omega arith) r.1))
+
+-- any number of iterations: none, or one and any text
+pub iterations_any : (side : Side) (once any loose end_strings : List EndString) (t : Tree) → ((text : List ℕ) → HasSomeEndString side any text) →
+    ((u v : List ℕ) → HasSomeEndString side once u → HasSomeEndString side any v → HasSomeEndString side loose (concatenation side u v)) →
+    HasSomeEndString side end_strings [] → ((text : List ℕ) → HasSomeEndString side loose text → HasSomeEndString side end_strings text) →
+    AreEndStrings side once t → AreEndStringsOfIterations side end_strings t 0
+iterations_any side once any loose end_strings t all both none_fits keep a = λ s k i j le c. by s k i j c
+  where
+    by : (s : List ℕ) (k i j : ℕ) → Chain (MatchesSpan s t) k i j → HasSomeEndString side end_strings (slice_range s i j)
+    by s zero i j c = subst (HasSomeEndString side end_strings) (sym (part_empty s i) ∙ ap (slice_range s i) c) none_fits
+    by s (suc k) i j c =
+        keep (slice_range s i j) (iteration_more side once any loose t 0 both a (λ r l x y le d. all (slice_range r x y)) s (suc k) i j (omega arith) c)
+
+pub end_strings_repeated : (side : Side) (end_strings : List EndString) (t : Tree) (n least : ℕ) (m : Option ℕ) → n ≤ least → AreEndStringsOfIterations side end_strings t n → AreEndStrings side end_strings (rep t least m)
+end_strings_repeated side end_strings t n least m le r = λ s i j h. r s h.0 i j (omega (arith, h.1, le)) h.3
+
+-- a text that has an end string of a list has one of an equal list
+pub fits_via : (side : Side) (xs ys : List EndString) (text : List ℕ) → ys ≡ xs → HasSomeEndString side xs text → HasSomeEndString side ys text
+fits_via side xs ys text e h = subst (λ (es : List EndString). HasSomeEndString side es text) (sym e) h
+
+-- no end string is left after the last
+pub fits_end : (side : Side) (end_strings : List EndString) (i : ℕ) (text : List ℕ) → length end_strings ≤ i → HasSomeEndString side (drop i end_strings) text → ⊥
+fits_end side end_strings i text le h = subst (λ (es : List EndString). HasSomeEndString side es text) (drop_of_length-le end_strings {i = i} le) h
+
+-- the rest of a truncated string
+abbrev pub far_part : Side → ℕ → List ℕ → List ℕ
+far_part Prefix n text = drop n text
+far_part Suffix n text = take (length text - n) text
+
+pub near_far : (side : Side) (n : ℕ) (text : List ℕ) → text ≡ concatenation side (near_part side n text) (far_part side n text)
+near_far Prefix n text = sym (take-append-drop n text)
+near_far Suffix n text = sym (take-append-drop (length text - n) text)
+
+-- the bytes at a known side
+pub near_prefix : (side : Side) (n : ℕ) (text near : List ℕ) → side ≡ Prefix → near ≡ take n text → near ≡ near_part side n text
+near_prefix side n text near is e = subst (λ (x : Side). near ≡ near_part x n text) (sym is) e
+
+pub near_suffix : (side : Side) (n : ℕ) (text near : List ℕ) → side ≡ Suffix → near ≡ drop (length text - n) text → near ≡ near_part side n text
+near_suffix side n text near is e = subst (λ (x : Side). near ≡ near_part x n text) (sym is) e

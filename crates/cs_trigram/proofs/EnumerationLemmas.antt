@@ -1,0 +1,204 @@
+-- Enumerations: strings added one by one, and cross products.
+use Rattle.std.proofs.Common.{◌≡◌, ℕ, zero, suc, ◌+◌, ◌<◌, ◌≤◌, ◌⊎◌, ◌&&◌, inl, inr, not, Bool, true, false, List, [], ◌∷◌, ◌++◌, drop, length, map, get_or, refl, sym, ◌∙◌, ap, subst, arith, drop-cons}
+use Rattle.std.specs.Prelude.{nat_le, if◌then◌else◌}
+use Rattle.std.proofs.lemmas.Bool.{leb-true, le-leb, both_ways, cases_lt}
+use Rattle.std.proofs.lemmas.List.{append_cancel_left, append_cancel_right, length-map}
+use Rattle.cs_syntax.specs.Matching.{one_of, member}
+use Rattle.cs_tree.specs.Cover.{is_among}
+use Rattle.cs_trigram.specs.ExactStrings.{HasExactString}
+use Rattle.cs_trigram.specs.Analysis.{with_string, with_strings, concatenations, IsEnumeration}
+use Rattle.cs_trigram.proofs.MemberLemmas.{different_push, member_append, member_left, member_right, member_map, map_member, different_within, different_map, no_member, first_member, later_member, member_cases, only_member}
+
+-- the one-byte strings of the members of a set below n
+abbrev pub IsByteBelow : List Bool → ℕ → List ℕ → Type 0
+IsByteBelow set n string = (b : ℕ) × (b < n) × (member set b ≡ true) × (string ≡ b ∷ [])
+
+pub with_strings_append : (strings us vs : List (List ℕ)) → with_strings strings (us ++ vs) ≡ with_strings (with_strings strings us) vs
+with_strings_append strings [] vs = refl
+with_strings_append strings (u ∷ us) vs = with_strings_append (with_string strings u) us vs
+
+-- nothing is added to more than twenty strings
+pub with_strings_full : (strings vs : List (List ℕ)) → 20 < length strings → with_strings strings vs ≡ strings
+with_strings_full strings [] lt = refl
+with_strings_full strings (v ∷ vs) lt = ap (λ (ws : List (List ℕ)). with_strings ws vs) same ∙ with_strings_full strings vs lt
+  where
+    full : (room there : Bool) → nat_le (length strings) 20 ≡ room → (if room && not there then strings ++ v ∷ [] else strings) ≡ strings
+    full true there e = let le = leb-true (length strings) 20 e in absurd (omega arith)
+    full false there e = refl
+
+    same : with_string strings v ≡ strings
+    same = full (nat_le (length strings) 20) (is_among strings v) refl
+
+pub strings_from : (strings : List (List ℕ)) (i : ℕ) (string : List ℕ) → i < length strings → string ≡ get_or strings i string →
+    drop i strings ≡ string ∷ drop (i + 1) strings
+strings_from strings i string lt is =
+    let next : suc i ≡ i + 1 = omega arith in
+    drop-cons strings i string lt ∙ ap (λ w. w ∷ drop (suc i) strings) (sym is) ∙ ap (λ n. string ∷ drop n strings) next
+
+pub enumeration_same : (ws : List (List ℕ)) (P R : List ℕ → Type 0) → IsEnumeration ws P → ((v : List ℕ) → P v → R v) → ((v : List ℕ) → R v → P v) → IsEnumeration ws R
+enumeration_same ws P R s to from =
+    record { right = λ v m. to v (s.right v m); different = s.different; whole = λ le v r. s.whole le v (from v r) }
+
+module _ (ws : List (List ℕ)) (w : List ℕ) (P R : List ℕ → Type 0) (s : IsEnumeration ws P)
+    (to : (v : List ℕ) → P v → R v) (new : R w) (from : (v : List ℕ) → R v → P v ⊎ (v ≡ w)) where
+  more_by : (room there : Bool) → nat_le (length ws) 20 ≡ room → is_among ws w ≡ there →
+      IsEnumeration (if room && not there then ws ++ w ∷ [] else ws) R
+  more_by true false r t = record {
+    right = λ v m. elim (member_append v ws (w ∷ []) m) [
+      | inl a ↦ to v (s.right v a)
+      | inr b ↦ subst R (sym (only_member v w b)) new
+    ];
+    different = different_push ws w s.different (λ m. both_ways (is_among ws w) t m);
+    whole = λ le v h. elim (from v h) [
+      | inl p ↦ member_left v ws (w ∷ []) (s.whole (leb-true (length ws) 20 r) v p)
+      | inr e ↦ member_right v ws (w ∷ []) (first_member v w [] e)
+    ];
+  }
+  more_by true true r t = record {
+    right = λ v m. to v (s.right v m);
+    different = s.different;
+    whole = λ le v h. elim (from v h) [
+      | inl p ↦ s.whole le v p
+      | inr e ↦ subst (λ (x : List ℕ). is_among ws x ≡ true) (sym e) t
+    ];
+  }
+  more_by false there r t = record {
+    right = λ v m. to v (s.right v m);
+    different = s.different;
+    whole = λ le v h. absurd (both_ways (nat_le (length ws) 20) r (le-leb (length ws) 20 le));
+  }
+
+  -- one more string
+  pub enumeration_more : IsEnumeration (with_string ws w) R
+  enumeration_more = more_by (nat_le (length ws) 20) (is_among ws w) refl refl
+
+-- more strings
+pub enumeration_strings : (ws us : List (List ℕ)) (P R : List ℕ → Type 0) → IsEnumeration ws P → ((v : List ℕ) → P v → R v) → ((v : List ℕ) → is_among us v ≡ true → R v) →
+    ((v : List ℕ) → R v → P v ⊎ (is_among us v ≡ true)) → IsEnumeration (with_strings ws us) R
+enumeration_strings ws [] P R s to new from =
+    enumeration_same ws P R s to (λ v r. elim (from v r) [ inl p ↦ p | inr n ↦ absurd (no_member v n) ])
+enumeration_strings ws (u ∷ us) P R s to new from =
+    let Q : List ℕ → Type 0 = λ v. P v ⊎ (v ≡ u) in
+    let t : IsEnumeration (with_string ws u) Q = enumeration_more ws u P Q s (λ v p. inl p) (inr refl) (λ v q. q) in
+    enumeration_strings (with_string ws u) us Q R t
+    (λ v q. elim q [ inl p ↦ to v p | inr e ↦ new v (first_member v u us e) ])
+    (λ v m. new v (later_member v u us m))
+    (λ v r. elim (from v r) [ inl p ↦ inl (inl p) | inr m ↦ elim (member_cases v u us m) [ inl e ↦ inl (inr e) | inr n ↦ inr n ] ])
+
+-- no strings
+pub no_enumeration : IsEnumeration [] (λ w. ⊥)
+no_enumeration = record { right = λ v m. no_member v m; different = refl; whole = λ le v p. absurd p }
+
+pub enumeration_of : (us : List (List ℕ)) → IsEnumeration (with_strings [] us) (λ w. is_among us w ≡ true)
+enumeration_of us = enumeration_strings [] us (λ w. ⊥) (λ w. is_among us w ≡ true) no_enumeration (λ v p. absurd p) (λ v m. m) (λ v m. inr m)
+
+pub concatenation_parts : (w : List ℕ) (us vs : List (List ℕ)) → is_among (concatenations us vs) w ≡ true →
+    (u v : List ℕ) × (is_among us u ≡ true) × (is_among vs v ≡ true) × (w ≡ u ++ v)
+concatenation_parts w [] vs m = absurd (no_member w m)
+concatenation_parts w (u ∷ us) vs m =
+    elim (member_append w (map (λ v. u ++ v) vs) (concatenations us vs) m) [
+      | inl a ↦ let r = member_map (λ v. u ++ v) w vs a in (u, r.0, first_member u u us refl, r.1, r.2)
+      | inr b ↦ let r = concatenation_parts w us vs b in (r.0, r.1, later_member r.0 u us r.2, r.3, r.4)
+    ]
+
+pub concatenation_member : (u v : List ℕ) (us vs : List (List ℕ)) → is_among us u ≡ true → is_among vs v ≡ true → is_among (concatenations us vs) (u ++ v) ≡ true
+concatenation_member u v [] vs m n = absurd (no_member u m)
+concatenation_member u v (x ∷ us) vs m n =
+    elim (member_cases u x us m) [
+      | inl e ↦ member_left (u ++ v) (map (λ y. x ++ y) vs) (concatenations us vs) (subst (λ (y : List ℕ). is_among (map (λ z. x ++ z) vs) (y ++ v) ≡ true) (sym e) (map_member (λ z. x ++ z) v vs n))
+      | inr k ↦ member_right (u ++ v) (map (λ y. x ++ y) vs) (concatenations us vs) (concatenation_member u v us vs k n)
+    ]
+
+module _ (us vs : List (List ℕ)) (P Q : List ℕ → Type 0) (s : IsEnumeration us P) (t : IsEnumeration vs Q) where
+  abbrev pub Concatenated : List ℕ → Type 0
+  Concatenated w = (u v : List ℕ) × P u × Q v × (w ≡ u ++ v)
+
+  abbrev few_of : List (List ℕ)
+  few_of = with_strings [] (concatenations us vs)
+
+  -- the prefixes are as few as the concatenations if there is a suffix
+  pub prefixes_few : (v : List ℕ) → is_among vs v ≡ true → length few_of ≤ 20 → length us ≤ 20
+  prefixes_few v m le =
+      let fits = different_within (map (λ u. u ++ v) us) few_of
+      (different_map (λ u. u ++ v) (λ a b e. append_cancel_right a b v e) us s.different)
+      (λ w n. let r = member_map (λ u. u ++ v) w us n in
+      (enumeration_of (concatenations us vs)).whole le w (subst (λ (x : List ℕ). is_among (concatenations us vs) x ≡ true) (sym r.2) (concatenation_member r.0 v us vs r.1 m))) in
+      omega (arith, fits, length-map us (λ (u : List ℕ). u ++ v))
+
+  pub suffixes_few : (u : List ℕ) → is_among us u ≡ true → length few_of ≤ 20 → length vs ≤ 20
+  suffixes_few u m le =
+      let fits = different_within (map (λ v. u ++ v) vs) few_of
+      (different_map (λ v. u ++ v) (λ a b e. append_cancel_left u a b e) vs t.different)
+      (λ w n. let r = member_map (λ v. u ++ v) w vs n in
+      (enumeration_of (concatenations us vs)).whole le w (subst (λ (x : List ℕ). is_among (concatenations us vs) x ≡ true) (sym r.2) (concatenation_member u r.0 us vs m r.1))) in
+      omega (arith, fits, length-map vs (λ (v : List ℕ). u ++ v))
+
+  -- if a string has the property, the other list is not empty, provided that it is complete
+  prefixes_whole : (xs : List (List ℕ)) → vs ≡ xs → (v : List ℕ) → Q v → length few_of ≤ 20 → length us ≤ 20
+  prefixes_whole [] e v q le =
+      let short : length vs ≤ 20 = rw e (omega arith) in absurd (no_member v (subst (λ (ws : List (List ℕ)). is_among ws v ≡ true) e (t.whole short v q)))
+  prefixes_whole (x ∷ xs) e v q le = prefixes_few x (subst (λ (ws : List (List ℕ)). is_among ws x ≡ true) (sym e) (first_member x x xs refl)) le
+
+  pub enumeration_of_concatenations : IsEnumeration few_of Concatenated
+  enumeration_of_concatenations =
+      let all = enumeration_of (concatenations us vs) in
+      record {
+        right = λ w m. let r = concatenation_parts w us vs (all.right w m) in (r.0, r.1, s.right r.0 r.2, t.right r.1 r.3, r.4);
+        different = all.different;
+        whole = λ le w j.
+            let prefix = s.whole (prefixes_whole vs refl j.1 j.3 le) j.0 j.2 in
+            let suffix = t.whole (suffixes_few j.0 prefix le) j.1 j.3 in
+            all.whole le w (subst (λ (x : List ℕ). is_among (concatenations us vs) x ≡ true) (sym j.4) (concatenation_member j.0 j.1 us vs prefix suffix));
+      }
+
+-- the one-byte strings of a set
+set_step : (set : List Bool) (ws : List (List ℕ)) (n : ℕ) → IsEnumeration ws (IsByteBelow set n) → member set n ≡ true → IsEnumeration (with_string ws (n ∷ [])) (IsByteBelow set (n + 1))
+set_step set ws n s m =
+    enumeration_more ws (n ∷ []) (IsByteBelow set n) (IsByteBelow set (n + 1)) s
+    (λ v p. (p.0, omega (arith, p.1), p.2, p.3))
+    (n, omega arith, m, refl)
+    (λ v p. elim (cases_lt p.0 n) [
+      | inl lt ↦ inl (p.0, lt, p.2, p.3)
+      | inr ge ↦ let same : p.0 ≡ n = omega (arith, p.1) in inr (p.3 ∙ ap (λ b. b ∷ []) same)
+    ])
+
+set_skip : (set : List Bool) (ws : List (List ℕ)) (n : ℕ) → IsEnumeration ws (IsByteBelow set n) → member set n ≡ false → IsEnumeration ws (IsByteBelow set (n + 1))
+set_skip set ws n s m =
+    enumeration_same ws (IsByteBelow set n) (IsByteBelow set (n + 1)) s
+    (λ v p. (p.0, omega (arith, p.1), p.2, p.3))
+    (λ v p. elim (cases_lt p.0 n) [
+      | inl lt ↦ (p.0, lt, p.2, p.3)
+      | inr ge ↦
+          let same : p.0 ≡ n = omega (arith, p.1) in
+          absurd (both_ways (member set n) m (ap (member set) (sym same) ∙ p.2))
+    ])
+
+beyond : (set : List Bool) (b : ℕ) → length set ≤ b → member set b ≡ false
+beyond [] b le = refl
+beyond (x ∷ set) zero le = absurd (omega arith)
+beyond (x ∷ set) (suc b) le = beyond set b (omega arith)
+
+pub set_whole : (set : List Bool) (ws : List (List ℕ)) (n : ℕ) → length set ≤ n → IsEnumeration ws (IsByteBelow set n) → IsEnumeration ws (HasExactString (one_of set))
+set_whole set ws n le s =
+    enumeration_same ws (IsByteBelow set n) (HasExactString (one_of set)) s
+    (λ v p. (p.0, p.2, p.3))
+    (λ v p. elim (cases_lt p.0 n) [
+      | inl lt ↦ (p.0, lt, p.1, p.2)
+      | inr ge ↦ absurd (both_ways (member set p.0) (beyond set p.0 (omega arith)) p.1)
+    ])
+
+-- an enumeration of the members below n that has more than twenty strings is one of all members
+pub set_many : (set : List Bool) (ws : List (List ℕ)) (n : ℕ) → 20 < length ws → IsEnumeration ws (IsByteBelow set n) → IsEnumeration ws (HasExactString (one_of set))
+set_many set ws n lt s = record {
+  right = λ v m. let p = s.right v m in (p.0, p.2, p.3);
+  different = s.different;
+  whole = λ le v h. absurd (omega (arith, le, lt));
+}
+
+pub set_next : (set : List Bool) (ws : List (List ℕ)) (n : ℕ) → IsEnumeration ws (IsByteBelow set n) →
+    IsEnumeration (if member set n then with_string ws (n ∷ []) else ws) (IsByteBelow set (n + 1))
+set_next set ws n s = by (member set n) refl
+  where
+    by : (b : Bool) → member set n ≡ b → IsEnumeration (if b then with_string ws (n ∷ []) else ws) (IsByteBelow set (n + 1))
+    by true e = set_step set ws n s e
+    by false e = set_skip set ws n s e

@@ -1,0 +1,233 @@
+-- Runs with few exact strings, and leading runs.
+use Rattle.std.proofs.Common.{◌≡◌, ℕ, zero, suc, ◌-◌, ◌<◌, ◌≤◌, ◌⊎◌, ◌&&◌, inl, inr, true, false, List, [], ◌∷◌, ◌++◌, take, drop, length, map, refl, sym, ◌∙◌, ap, subst, arith, append_assoc, length-append}
+use Rattle.cs_syntax.specs.TreeList.{append}
+use Rattle.std.specs.Prelude.{nat_le, nat_lt}
+use Rattle.std.proofs.Math.Bool.{and_assoc}
+use Rattle.std.proofs.Math.Seq.{take-append_seam, drop-append_seam}
+use Rattle.std.proofs.lemmas.Bool.{and_parts, and_from, leb-true, le-leb, lt-ltb, ltb-true, both_ways, false_from_ne_true}
+use Rattle.std.proofs.lemmas.List.{append-nil, length-map}
+use Rattle.cs_syntax.specs.Matching.{Tree, Trees, none, more}
+use Rattle.cs_syntax.proofs.TreeListLemmas.{append_assoc_trees}
+use Rattle.cs_tree.specs.Cover.{is_among}
+use Rattle.cs_trigram.specs.ExactStrings.{is_finite, are_finite, HasExactString, ConcatenatesExactStrings, SomeHasExactString, HaveFewExactStrings}
+use Rattle.cs_trigram.specs.Analysis.{with_strings, concatenations, is_few, IsEnumeration, AreFewStrings, IsBlocked, IsLongestLeadingRun, EnumeratesTree, EnumeratesRun, EnumeratesAlternation, AreExactStrings, AreExactStringsOfRun}
+use Rattle.cs_trigram.proofs.MemberLemmas.{map_member, different_within, no_member, first_member, only_member}
+use Rattle.cs_trigram.proofs.EnumerationLemmas.{enumeration_same, enumeration_strings, enumeration_of_concatenations}
+
+pub finite_append : (a b : Trees) → are_finite (append a b) ≡ (are_finite a && are_finite b)
+finite_append none b = refl
+finite_append (more t a) b = ap (λ r. is_finite t && r) (finite_append a b) ∙ sym (and_assoc (is_finite t) (are_finite a) (are_finite b))
+
+-- concatenations of the strings of two runs are those of the two runs together
+pub concatenates_both : (a b : Trees) (u v : List ℕ) → ConcatenatesExactStrings a u → ConcatenatesExactStrings b v → ConcatenatesExactStrings (append a b) (u ++ v)
+concatenates_both none b u v p q = subst (λ (x : List ℕ). ConcatenatesExactStrings b (x ++ v)) (sym p) q
+concatenates_both (more t a) b u v p q =
+    (p.0, p.1 ++ v, p.2, concatenates_both a b p.1 v p.3 q, ap (λ x. x ++ v) p.4 ∙ append_assoc p.0 p.1 v)
+
+pub concatenates_split : (a b : Trees) (w : List ℕ) → ConcatenatesExactStrings (append a b) w → (u v : List ℕ) × ConcatenatesExactStrings a u × ConcatenatesExactStrings b v × (w ≡ u ++ v)
+concatenates_split none b w j = ([], w, refl, j, refl)
+concatenates_split (more t a) b w j =
+    let r = concatenates_split a b j.1 j.3 in
+    (j.0 ++ r.0, r.1, (j.0, r.0, j.2, r.2, refl), r.3, j.4 ∙ ap (λ x. j.0 ++ x) r.4 ∙ sym (append_assoc j.0 r.0 r.1))
+
+-- a run of one part
+pub concatenates_one : (t : Tree) (w : List ℕ) → HasExactString t w → ConcatenatesExactStrings (more t none) w
+concatenates_one t w s = (w, [], s, refl, sym (append-nil w))
+
+pub exact_of_one : (t : Tree) (w : List ℕ) → ConcatenatesExactStrings (more t none) w → HasExactString t w
+exact_of_one t w j =
+    subst (HasExactString t) (sym (j.4 ∙ ap (λ x. j.0 ++ x) j.3 ∙ append-nil j.0)) j.2
+
+-- a run with few strings has only subruns with few strings
+pub few_prefix : (a b : Trees) → HaveFewExactStrings (append a b) → HaveFewExactStrings a
+few_prefix a b few =
+    let parts = and_parts (are_finite a) (are_finite b) (sym (finite_append a b) ∙ few.0) in
+    let first = concatenates_split a b few.1.0.0 few.1.0.1 in
+    let v = first.1 in
+    let cut : List ℕ → List ℕ = λ x. take (length x - length v) x in (
+      parts.0,
+      (
+        (first.0, first.2),
+        (
+          map cut few.1.1.0,
+          rw (length-map few.1.1.0 cut) few.1.1.1,
+          λ u j.
+              let whole = few.1.1.2 (u ++ v) (concatenates_both a b u v j first.3) in
+              let long : length (u ++ v) - length v ≡ length u = omega (arith, length-append u v) in
+              let same : cut (u ++ v) ≡ u = ap (λ n. take n (u ++ v)) long ∙ take-append_seam u v in
+              subst (λ (x : List ℕ). is_among (map cut few.1.1.0) x ≡ true) same (map_member cut (u ++ v) few.1.1.0 whole),
+        ),
+      ),
+    )
+
+pub few_suffix : (a b : Trees) → HaveFewExactStrings (append a b) → HaveFewExactStrings b
+few_suffix a b few =
+    let parts = and_parts (are_finite a) (are_finite b) (sym (finite_append a b) ∙ few.0) in
+    let first = concatenates_split a b few.1.0.0 few.1.0.1 in
+    let u = first.0 in
+    let cut : List ℕ → List ℕ = λ x. drop (length u) x in (
+      parts.1,
+      (
+        (first.1, first.3),
+        (
+          map cut few.1.1.0,
+          rw (length-map few.1.1.0 cut) few.1.1.1,
+          λ v j.
+              let whole = few.1.1.2 (u ++ v) (concatenates_both a b u v first.2 j) in
+              subst (λ (x : List ℕ). is_among (map cut few.1.1.0) x ≡ true) (drop-append_seam u v) (map_member cut (u ++ v) few.1.1.0 whole),
+        ),
+      ),
+    )
+
+-- two prefixes of one list: one of them is a prefix of the other
+pub prefixes_compare : (a x b y : Trees) → append a x ≡ append b y →
+    ((c : Trees) × (a ≡ append b c)) ⊎ ((t : Tree) × (c : Trees) × (b ≡ append a (more t c)) × (x ≡ append (more t c) y))
+prefixes_compare none x none y e = inl (none, refl)
+prefixes_compare none x (more t b) y e = inr (t, b, refl, e)
+prefixes_compare (more t a) x none y e = inl (more t a, refl)
+prefixes_compare (more t a) x (more u b) y e =
+    let head : t ≡ u = (cc) in
+    let tail : append a x ≡ append b y = (cc) in
+    elim (prefixes_compare a x b y tail) [
+      | inl l ↦ inl (l.0, ap (more t) l.1 ∙ ap (λ z. more z (append b l.0)) head)
+      | inr r ↦ inr (r.0, r.1, ap (λ z. more z b) (sym head) ∙ ap (more t) r.2, r.3)
+    ]
+
+-- each string of the longest leading run begins with a string of each leading run that has few
+pub run_begins : (ts : Trees) (ws : List (List ℕ)) → IsLongestLeadingRun ts ws → (w : List ℕ) → is_among ws w ≡ true → (run after : Trees) → ts ≡ append run after → HaveFewExactStrings run →
+    (u rest : List ℕ) × ConcatenatesExactStrings run u × (w ≡ u ++ rest)
+run_begins ts ws f w m run after e few =
+    let j = (f.each.each w).1 m in
+    elim (prefixes_compare f.run f.after run after (sym f.is ∙ e)) [
+      | inl l ↦
+          let s = concatenates_split run l.0 w (subst (λ (a : Trees). ConcatenatesExactStrings a w) l.1 j) in
+          (s.0, s.1, s.2, s.4)
+      | inr r ↦ absurd (stopped f.run f.after run r.0 (append r.1 after) r.1 f.blocked r.3 r.2 few)
+    ]
+  where
+    stopped : (a x b : Trees) (t : Tree) (rest c : Trees) → IsBlocked a x → x ≡ more t rest → b ≡ append a (more t c) → HaveFewExactStrings b → ⊥
+    stopped a none b t rest c blocked e same few = (cc)
+    stopped a (more t2 rest2) b t rest c blocked e same few =
+        let tree : t2 ≡ t = (cc) in
+        let long : HaveFewExactStrings (append (append a (more t none)) c) =
+        subst HaveFewExactStrings (same ∙ sym (append_assoc_trees a (more t none) c)) few in
+        blocked (subst (λ (z : Tree). HaveFewExactStrings (append a (more z none))) (sym tree) (few_prefix (append a (more t none)) c long))
+
+-- `is_few` as two inequalities
+pub few_count : (n : ℕ) → is_few n ≡ true → (0 < n) × (n ≤ 20)
+few_count n h = let p = and_parts (nat_lt 0 n) (nat_le n 20) h in (ltb-true 0 n p.0, leb-true n 20 p.1)
+
+pub many_count : (n : ℕ) → 20 < n → is_few n ≡ false
+many_count n lt = false_from_ne_true (is_few n) (λ e. let p = few_count n e in absurd (omega (arith, p.1, lt)))
+
+pub odd_count : (n : ℕ) → is_few n ≡ false → n ≤ 20 → n ≡ 0
+odd_count zero h le = refl
+odd_count (suc n) h le = absurd (both_ways (is_few (suc n)) h (and_from (nat_lt 0 (suc n)) (nat_le (suc n) 20) (lt-ltb 0 (suc n) (omega arith)) (le-leb (suc n) 20 le)))
+
+-- an enumeration of one to twenty strings is complete
+pub whole_enumeration : (ws : List (List ℕ)) (P : List ℕ → Type 0) → IsEnumeration ws P → 0 < length ws → length ws ≤ 20 → AreFewStrings ws P
+whole_enumeration ws P s some few =
+    record { some = some; few = few; different = s.different; each = λ w. (s.whole few w, s.right w) }
+
+pub strings_enumeration : (ws : List (List ℕ)) (P : List ℕ → Type 0) → AreFewStrings ws P → IsEnumeration ws P
+strings_enumeration ws P a =
+    record { right = λ w m. (a.each w).1 m; different = a.different; whole = λ le w p. (a.each w).0 p }
+
+-- an enumeration of no strings or of more than twenty shows that the strings of a run are not few
+pub not_few : (ws : List (List ℕ)) (ts : Trees) → IsEnumeration ws (ConcatenatesExactStrings ts) → (length ws ≤ 20 → length ws ≡ 0) → HaveFewExactStrings ts → ⊥
+not_few ws ts s odd few =
+    let fits = different_within ws few.1.1.0 s.different (λ w m. few.1.1.2 w (s.right w m)) in
+    let small : length ws ≤ 20 = omega (arith, fits, few.1.1.1) in
+    empty ws (odd small) (s.whole small few.1.0.0 few.1.0.1)
+  where
+    empty : (xs : List (List ℕ)) → length xs ≡ 0 → is_among xs few.1.0.0 ≡ true → ⊥
+    empty [] e m = no_member few.1.0.0 m
+    empty (x ∷ xs) e m = absurd (omega arith)
+
+-- the strings of a run, with a tree before it or after it
+pub prepended_enumeration : (t : Tree) (ts : Trees) (us vs : List (List ℕ)) → IsEnumeration us (HasExactString t) → IsEnumeration vs (ConcatenatesExactStrings ts) → IsEnumeration (with_strings [] (concatenations us vs)) (ConcatenatesExactStrings (more t ts))
+prepended_enumeration t ts us vs s r = enumeration_of_concatenations us vs (HasExactString t) (ConcatenatesExactStrings ts) s r
+
+pub appended_enumeration : (ts : Trees) (t : Tree) (us vs : List (List ℕ)) → IsEnumeration us (ConcatenatesExactStrings ts) → IsEnumeration vs (HasExactString t) →
+    IsEnumeration (with_strings [] (concatenations us vs)) (ConcatenatesExactStrings (append ts (more t none)))
+appended_enumeration ts t us vs s r =
+    enumeration_same _ _ _ (enumeration_of_concatenations us vs (ConcatenatesExactStrings ts) (HasExactString t) s r)
+    (λ w j. subst (ConcatenatesExactStrings (append ts (more t none))) (sym j.4) (concatenates_both ts (more t none) j.0 j.1 j.2 (concatenates_one t j.1 j.3)))
+    (λ w j. let p = concatenates_split ts (more t none) w j in (p.0, p.1, p.2, exact_of_one t p.1 p.3, p.4))
+
+pub run_step : (t : Tree) (ts : Trees) (us vs : List (List ℕ)) → EnumeratesTree us t → EnumeratesRun vs ts → EnumeratesRun (with_strings [] (concatenations us vs)) (more t ts)
+run_step t ts us vs s r = (and_from (is_finite t) (are_finite ts) s.0 r.0, prepended_enumeration t ts us vs s.1 r.1)
+
+pub alternation_step : (t : Tree) (ts : Trees) (us vs : List (List ℕ)) → EnumeratesTree us t → EnumeratesAlternation vs ts → EnumeratesAlternation (with_strings vs us) (more t ts)
+alternation_step t ts us vs s r =
+    let all : IsEnumeration (with_strings vs us) (λ w. SomeHasExactString ts w ⊎ (is_among us w ≡ true)) =
+    enumeration_strings vs us (SomeHasExactString ts) (λ w. SomeHasExactString ts w ⊎ (is_among us w ≡ true)) r.1 (λ v p. inl p) (λ v m. inr m) (λ v q. q) in (
+      and_from (is_finite t) (are_finite ts) s.0 r.0,
+      record {
+        right = λ w m. elim (all.right w m) [ inl p ↦ inr p | inr n ↦ inl (s.1.right w n) ];
+        different = all.different;
+        whole = λ le w p.
+            elim p [
+              | inl a ↦
+                  let fits = different_within us (with_strings vs us) s.1.different (λ v n. all.whole le v (inr n)) in
+                  all.whole le w (inr (s.1.whole (omega arith) w a))
+              | inr b ↦ all.whole le w (inl b)
+            ];
+      },
+    )
+
+-- a leading run that is blocked is the longest
+pub run_is_leading : (run after ts : Trees) (ws : List (List ℕ)) → ts ≡ append run after → AreExactStringsOfRun ws run → IsBlocked run after → IsLongestLeadingRun ts ws
+run_is_leading run after ts ws e strings blocked =
+    record { run = run; after = after; is = e; finite = strings.0; each = strings.1; blocked = blocked }
+
+-- few strings after a run, and too many
+pub appended_strings : (ts : Trees) (t : Tree) (ws us : List (List ℕ)) → AreExactStringsOfRun ws ts → AreExactStrings us t → is_few (length (with_strings [] (concatenations ws us))) ≡ true →
+    AreExactStringsOfRun (with_strings [] (concatenations ws us)) (append ts (more t none))
+appended_strings ts t ws us r s few =
+    let count = few_count (length (with_strings [] (concatenations ws us))) few in (
+      finite_append ts (more t none) ∙ and_from (are_finite ts) (is_finite t && true) r.0 (and_from (is_finite t) true s.0 refl),
+      whole_enumeration _ _ (appended_enumeration ts t ws us (strings_enumeration ws (ConcatenatesExactStrings ts) r.1) (strings_enumeration us (HasExactString t) s.1)) count.0 count.1,
+    )
+
+pub too_many_appended : (ts : Trees) (t : Tree) (ws us : List (List ℕ)) → AreExactStringsOfRun ws ts → AreExactStrings us t → is_few (length (with_strings [] (concatenations ws us))) ≡ false →
+    HaveFewExactStrings (append ts (more t none)) → ⊥
+too_many_appended ts t ws us r s odd =
+    not_few (with_strings [] (concatenations ws us)) (append ts (more t none))
+    (appended_enumeration ts t ws us (strings_enumeration ws (ConcatenatesExactStrings ts) r.1) (strings_enumeration us (HasExactString t) s.1)) (odd_count (length (with_strings [] (concatenations ws us))) odd)
+
+-- the strings of a run of one part
+pub run_strings : (ws : List (List ℕ)) (t : Tree) → AreExactStrings ws t → AreExactStringsOfRun ws (more t none)
+run_strings ws t s = (
+  and_from (is_finite t) true s.0 refl,
+  record {
+    some = s.1.some;
+    few = s.1.few;
+    different = s.1.different;
+    each = λ w. (λ j. (s.1.each w).0 (exact_of_one t w j), λ m. concatenates_one t w ((s.1.each w).1 m));
+  },
+)
+
+pub not_few_appended : (ts : Trees) (t : Tree) → (HaveFewExactStrings (more t none) → ⊥) → HaveFewExactStrings (append ts (more t none)) → ⊥
+not_few_appended ts t no_few few = no_few (few_suffix ts (more t none) few)
+
+-- a tree whose enumeration has one to twenty strings, and a tree whose enumeration has none or more
+pub tree_strings : (ws : List (List ℕ)) (t : Tree) → EnumeratesTree ws t → is_few (length ws) ≡ true → AreExactStrings ws t
+tree_strings ws t s few = let count = few_count (length ws) few in (s.0, whole_enumeration ws (HasExactString t) s.1 count.0 count.1)
+
+pub tree_not_few : (ws : List (List ℕ)) (t : Tree) → EnumeratesTree ws t → is_few (length ws) ≡ false → HaveFewExactStrings (more t none) → ⊥
+tree_not_few ws t s odd =
+    not_few ws (more t none)
+    (enumeration_same ws (HasExactString t) (ConcatenatesExactStrings (more t none)) s.1 (concatenates_one t) (exact_of_one t))
+    (odd_count (length ws) odd)
+
+pub tree_not_finite : (t : Tree) → is_finite t ≡ false → HaveFewExactStrings (more t none) → ⊥
+tree_not_finite t wild few = both_ways (is_finite t) wild (and_parts (is_finite t) true few.0).0
+
+pub empty_run_strings : AreFewStrings ([] ∷ []) (ConcatenatesExactStrings none)
+empty_run_strings = record {
+  some = omega arith;
+  few = omega arith;
+  different = refl;
+  each = λ w. (λ e. first_member w [] [] e, λ m. only_member w [] m);
+}

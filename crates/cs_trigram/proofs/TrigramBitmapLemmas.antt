@@ -1,0 +1,207 @@
+-- The bitmap and the list after one more number.
+use Rattle.std.proofs.Common.{◌≡◌, ◌≢◌, ◌≤◌, ◌<◌, ℕ, zero, suc, ◌+◌, ◌*◌, ◌/◌, ◌%◌, ◌^◌, Bool, true, false, ◌||◌, eqb, List, [], ◌∷◌, ◌++◌, length, take, get_or, set, refl, sym, ap, subst, ◌∙◌, inl, inr, ◌⊎◌, arith, length-append, drop, get_or-set_same, get_or-set_other, replicate, w64, bit_or, bit_and, not}
+use Rattle.std.proofs.Math.Bool.{or-false, or-true}
+use Rattle.std.proofs.lemmas.List.{append_assoc, append-nil, take-set-le, take_more_set, get_or-replicate, length-replicate, get_or_past, drop_all, drop_more}
+use Rattle.std.proofs.lemmas.Nat.{one_shl}
+use Rattle.std.proofs.lemmas.Nat.Bits.{and_pow, bit_at_set_same, bit_at_set_other, bit_at-zero}
+use Rattle.std.specs.Int.Bits.{or_add_and}
+use Rattle.std.proofs.lemmas.Bool.{false≢true, cases_eq, cases_lt, eq-eqb, ne_eqb}
+use Rattle.std.proofs.lemmas.List.Folds.{list_any_at}
+use Rattle.std.specs.Int.{bit_at, from_bool}
+use Rattle.cs_syntax.specs.Bits.{has_bit}
+use Rattle.std.specs.List.{AllByRecursion}
+use Rattle.cs_trigram.specs.Trigram.{Ascends, with_number, set_of_numbers, has}
+use Rattle.cs_trigram.specs.TrigramBitmap.{IsBitmapOf, IsSeenSet, Collects, CollectsOn}
+use Rattle.cs_trigram.proofs.SetLemmas.{has-append, has-set_of_numbers, ascends_set, set_of_numbers-push, with_number-member, length-with_number}
+
+-- the bitmap with one more bit set
+abbrev pub bit_is_set : List ℕ → ℕ → List ℕ
+bit_is_set bitmap n = set bitmap (n / 64) (bit_or (get_or bitmap (n / 64) 0) (1 * 2 ^ (n % 64) % 2 ^ 64))
+
+has-push : (numbers : List ℕ) (w n : ℕ) → has (numbers ++ w ∷ []) n ≡ (has numbers n || (eqb w n || false))
+has-push numbers w n = has-append n numbers (w ∷ [])
+
+bit-same : (bitmap : List ℕ) (w : ℕ) → w / 64 < length bitmap → has_bit (bit_is_set bitmap w) w ≡ true
+bit-same bitmap w within =
+    let low : w % 64 < 64 = omega arith in
+    rw get_or-set_same (ap (λ b. eqb b 1) (bit_at_set_same w64 (get_or bitmap (w / 64) 0) (w % 64) low))
+
+bit-other : (bitmap : List ℕ) (w n : ℕ) → w / 64 < length bitmap → (w ≡ n → ⊥) → has_bit (bit_is_set bitmap w) n ≡ has_bit bitmap n
+bit-other bitmap w n within apart = by_case (cases_eq (n / 64) (w / 64))
+  where
+    by_case : ((n / 64 ≡ w / 64) ⊎ (n / 64 ≡ w / 64 → ⊥)) → has_bit (bit_is_set bitmap w) n ≡ has_bit bitmap n
+    by_case (inl old_bits) =
+        let low : w % 64 < 64 = omega arith in
+        let other : n % 64 ≢ w % 64 = λ e. apart (omega (arith, e, old_bits)) in
+        rw (old_bits, get_or-set_same) (ap (λ b. eqb b 1) (bit_at_set_other w64 (get_or bitmap (w / 64) 0) (w % 64) low (n % 64) other))
+    by_case (inr old_bits) = rw get_or-set_other refl
+
+-- one more bit is set, and no other is changed
+pub IsBitmapOf-push : (bitmap numbers : List ℕ) (w : ℕ) → w / 64 < length bitmap → IsBitmapOf bitmap numbers → IsBitmapOf (bit_is_set bitmap w) (numbers ++ w ∷ [])
+IsBitmapOf-push bitmap numbers w within is_bitmap n = by_case (cases_eq w n)
+  where
+    by_case : ((w ≡ n) ⊎ (w ≡ n → ⊥)) → has_bit (bit_is_set bitmap w) n ≡ has (numbers ++ w ∷ []) n
+    by_case (inl same) =
+        ap (has_bit (bit_is_set bitmap w)) (sym same) ∙ bit-same bitmap w within
+        ∙ sym (has-push numbers w n ∙ ap (λ t. has numbers n || (t || false)) (eq-eqb w n same) ∙ or-true (has numbers n))
+    by_case (inr apart) =
+        bit-other bitmap w n within apart ∙ is_bitmap n
+        ∙ sym (has-push numbers w n ∙ ap (λ t. has numbers n || (t || false)) (ne_eqb w n apart) ∙ or-false (has numbers n))
+
+-- a member is inserted again
+IsSeenSet-again : (bitmap numbers set : List ℕ) (w : ℕ) → w / 64 < length bitmap → IsSeenSet bitmap numbers set → has_bit bitmap w ≡ true → IsSeenSet (bit_is_set bitmap w) numbers (with_number w set)
+IsSeenSet-again bitmap numbers set w within is_set one =
+    let member : has numbers w ≡ true = sym (is_set.is_bitmap w) ∙ one in
+    let in_set : has set w ≡ true = ap (λ s. has s w) (sym is_set.same) ∙ has-set_of_numbers w numbers ∙ member in
+    let up : Ascends set = subst Ascends is_set.same (ascends_set numbers) in
+    let stays : with_number w set ≡ set = with_number-member w set up in_set in
+    record {
+      same = is_set.same ∙ sym stays;
+      once = is_set.once ∙ ap length (sym stays);
+      is_bitmap = λ n. IsBitmapOf-push bitmap numbers w within is_set.is_bitmap n ∙ has-push numbers w n ∙ by_case n (cases_eq w n) member;
+    }
+  where
+    by_case : (n : ℕ) → ((w ≡ n) ⊎ (w ≡ n → ⊥)) → has numbers w ≡ true → (has numbers n || (eqb w n || false)) ≡ has numbers n
+    by_case n (inl same) member = ap (λ t. t || (eqb w n || false)) (ap (has numbers) (sym same) ∙ member) ∙ sym (ap (has numbers) (sym same) ∙ member)
+    by_case n (inr apart) member = ap (λ t. has numbers n || (t || false)) (ne_eqb w n apart) ∙ or-false (has numbers n)
+
+-- a number is inserted for the first time
+IsSeenSet-new : (bitmap numbers set : List ℕ) (w : ℕ) → w / 64 < length bitmap → IsSeenSet bitmap numbers set → has_bit bitmap w ≡ false → IsSeenSet (bit_is_set bitmap w) (numbers ++ w ∷ []) (with_number w set) × (length (with_number w set) ≡ length set + 1)
+IsSeenSet-new bitmap numbers set w within is_set none =
+    let new : has numbers w ≡ false = sym (is_set.is_bitmap w) ∙ none in
+    let not_in_set : has set w ≡ false = ap (λ s. has s w) (sym is_set.same) ∙ has-set_of_numbers w numbers ∙ new in
+    let more : length (with_number w set) ≡ length set + 1 = length-with_number w set not_in_set in (
+      record {
+        same = set_of_numbers-push numbers w ∙ ap (with_number w) is_set.same;
+        once = omega (arith, length-append numbers (w ∷ []), more, is_set.once);
+        is_bitmap = IsBitmapOf-push bitmap numbers w within is_set.is_bitmap;
+      },
+      more,
+    )
+
+-- One more number: it is written after the list, which grows if its bit was clear.
+pub Collects-push : (bitmap list : List ℕ) (len w : ℕ) → w / 64 < length bitmap → len < length list →
+    CollectsOn bitmap list len (bit_is_set bitmap w) (set list len w) (len + from_bool (not (has_bit bitmap w))) (w ∷ [])
+Collects-push bitmap list len w within room numbers is_set = by_case (has_bit bitmap w) refl
+  where
+    next : ℕ
+    next = len + from_bool (not (has_bit bitmap w))
+
+    members : List ℕ
+    members = set_of_numbers numbers
+
+    pushed : set_of_numbers (numbers ++ w ∷ []) ≡ with_number w members
+    pushed = set_of_numbers-push numbers w
+
+    by_case : (there : Bool) → has_bit bitmap w ≡ there → IsSeenSet (bit_is_set bitmap w) (take next (set list len w)) (set_of_numbers (numbers ++ w ∷ []))
+    by_case true one =
+        let stays : next ≡ len = omega (arith, ap (λ b. from_bool (not b)) one) in
+        let same : take next (set list len w) ≡ take len list = ap (λ n. take n (set list len w)) stays ∙ take-set-le len list len w (omega arith) in
+        rw (same, pushed) (IsSeenSet-again bitmap (take len list) members w within is_set one)
+    by_case false none =
+        let longer : next ≡ len + 1 = omega (arith, ap (λ b. from_bool (not b)) none) in
+        let same : take next (set list len w) ≡ take len list ++ w ∷ [] = ap (λ n. take n (set list len w)) longer ∙ take_more_set list len w room in
+        rw (same, pushed) (IsSeenSet-new bitmap (take len list) members w within is_set none).0
+
+-- the word of the bitmap changes exactly if the bit was clear
+pub changed : (old_bits k : ℕ) → k < 64 → from_bool (not (eqb old_bits (bit_or old_bits (1 * 2 ^ k % 2 ^ 64)))) ≡ from_bool (not (eqb (bit_at old_bits k) 1))
+changed old_bits k low = by_case (cases_eq (bit_at old_bits k) 1)
+  where
+    with : ℕ
+    with = bit_or old_bits (1 * 2 ^ k % 2 ^ 64)
+
+    by_case : ((bit_at old_bits k ≡ 1) ⊎ (bit_at old_bits k ≡ 1 → ⊥)) → from_bool (not (eqb old_bits with)) ≡ from_bool (not (eqb (bit_at old_bits k) 1))
+    by_case (inl one) =
+        let power : 1 * 2 ^ k % 2 ^ 64 ≡ 2 ^ k = one_shl k 64 low in
+        let sum = or_add_and old_bits (2 ^ k) in
+        let meet : bit_and old_bits (2 ^ k) ≡ 1 * 2 ^ k = and_pow old_bits k ∙ ap (λ b. b * 2 ^ k) one in
+        let stays : bit_or old_bits (2 ^ k) ≡ old_bits = omega (arith, sum, meet) in
+        let is : old_bits ≡ with = sym stays ∙ ap (bit_or old_bits) (sym power) in
+        ap (λ b. from_bool (not b)) (eq-eqb old_bits with is ∙ sym (eq-eqb (bit_at old_bits k) 1 one))
+    by_case (inr not_one) =
+        let apart : old_bits ≢ with = λ e. not_one (ap (λ n. bit_at n k) e ∙ bit_at_set_same w64 old_bits k low) in
+        ap (λ b. from_bool (not b)) (ne_eqb old_bits with apart ∙ sym (ne_eqb (bit_at old_bits k) 1 not_one))
+
+-- one collection after another
+pub Collects-chain : (bitmap list : List ℕ) (len : ℕ) (mid_bitmap mid_list : List ℕ) (mid_len : ℕ) (more_bitmap more_list : List ℕ) (more_len : ℕ) (xs ys : List ℕ) →
+    CollectsOn bitmap list len mid_bitmap mid_list mid_len xs → CollectsOn mid_bitmap mid_list mid_len more_bitmap more_list more_len ys →
+    CollectsOn bitmap list len more_bitmap more_list more_len (xs ++ ys)
+Collects-chain bitmap list len mid_bitmap mid_list mid_len more_bitmap more_list more_len xs ys one two numbers is_set =
+    subst (Collects more_bitmap more_list more_len) (append_assoc numbers xs ys) (two (numbers ++ xs) (one numbers is_set))
+
+-- no numbers are added
+pub Collects-nothing : (bitmap list : List ℕ) (len : ℕ) → CollectsOn bitmap list len bitmap list len []
+Collects-nothing bitmap list len numbers is_set = subst (Collects bitmap list len) (sym (append-nil numbers)) is_set
+
+-- ---- no bit is set
+
+pub IsBitmapOf-clear : (n : ℕ) → IsBitmapOf (replicate n 0) []
+IsBitmapOf-clear n k = by_case (cases_lt (k / 64) n)
+  where
+    by_case : ((k / 64 < n) ⊎ (n ≤ k / 64)) → has_bit (replicate n 0) k ≡ false
+    by_case (inl within) = rw get_or-replicate (ap (λ b. eqb b 1) (bit_at-zero (k % 64)))
+    by_case (inr over) =
+        let zeros : List ℕ = replicate n 0 in
+        let out : length zeros ≤ k / 64 = omega (arith, over, length-replicate n zero) in
+        rw (get_or_past (replicate n 0) (k / 64) 0 out) (ap (λ b. eqb b 1) (bit_at-zero (k % 64)))
+
+-- the bits that remain when those of the first i numbers are cleared belong to the others
+pub record IsPartlyCleared (bitmap numbers : List ℕ) (i : ℕ) : Type 0 where
+  pub left : (n : ℕ) → has_bit bitmap n ≡ true → has (drop i numbers) n ≡ true
+
+pub IsPartlyCleared-start : (bitmap numbers : List ℕ) → IsBitmapOf bitmap numbers → IsPartlyCleared bitmap numbers 0
+IsPartlyCleared-start bitmap numbers is_bitmap = record { left = λ n one. sym (is_bitmap n) ∙ one }
+
+pub IsPartlyCleared-end : (bitmap numbers : List ℕ) (i : ℕ) → length numbers ≤ i → IsPartlyCleared bitmap numbers i → IsBitmapOf bitmap []
+IsPartlyCleared-end bitmap numbers i over cleared n = by_case (has_bit bitmap n) refl
+  where
+    nothing : drop i numbers ≡ []
+    nothing = drop_all i numbers over
+
+    by_case : (there : Bool) → has_bit bitmap n ≡ there → has_bit bitmap n ≡ false
+    by_case true one = absurd (false≢true (ap (λ ns. has ns n) (sym nothing) ∙ cleared.left n one))
+    by_case false none = none
+
+-- the number at i has a word in the bitmap
+pub word-within : (bitmap numbers : List ℕ) (i : ℕ) → i < length numbers → IsBitmapOf bitmap numbers → get_or numbers i 0 / 64 < length bitmap
+word-within bitmap numbers i within is_bitmap = by_case (cases_lt (n / 64) (length bitmap))
+  where
+    n : ℕ
+    n = get_or numbers i 0
+
+    member : has numbers n ≡ true
+    member = list_any_at (λ m. eqb m n) numbers i 0 within (eq-eqb n n refl)
+
+    one : has_bit bitmap n ≡ true
+    one = is_bitmap n ∙ member
+
+    by_case : ((n / 64 < length bitmap) ⊎ (length bitmap ≤ n / 64)) → n / 64 < length bitmap
+    by_case (inl inside) = inside
+    by_case (inr out) =
+        let none : has_bit bitmap n ≡ false = ap (λ old_bits. eqb (bit_at old_bits (n % 64)) 1) (get_or_past bitmap (n / 64) 0 out) ∙ ap (λ b. eqb b 1) (bit_at-zero (n % 64)) in
+        absurd (false≢true (sym none ∙ one))
+
+pub IsPartlyCleared-more : (bitmap numbers : List ℕ) (i : ℕ) → i < length numbers → get_or numbers i 0 / 64 < length bitmap → IsPartlyCleared bitmap numbers i → IsPartlyCleared (set bitmap (get_or numbers i 0 / 64) 0) numbers (i + 1)
+IsPartlyCleared-more bitmap numbers i within inside cleared = record { left = λ n one. by_case n one (cases_eq (n / 64) (get_or numbers i 0 / 64)) }
+  where
+    by_case : (n : ℕ) → has_bit (set bitmap (get_or numbers i 0 / 64) 0) n ≡ true → ((n / 64 ≡ get_or numbers i 0 / 64) ⊎ (n / 64 ≡ get_or numbers i 0 / 64 → ⊥)) → has (drop (i + 1) numbers) n ≡ true
+    by_case n one (inl old_bits) =
+        let none : has_bit (set bitmap (get_or numbers i 0 / 64) 0) n ≡ false = rw (old_bits, get_or-set_same) (ap (λ b. eqb b 1) (bit_at-zero (n % 64))) in
+        absurd (false≢true (sym none ∙ one))
+    by_case n one (inr other) =
+        let stays : has_bit (set bitmap (get_or numbers i 0 / 64) 0) n ≡ has_bit bitmap n = rw get_or-set_other refl in
+        let member : has (drop i numbers) n ≡ true = cleared.left n (sym stays ∙ one) in
+        let apart : eqb (get_or numbers i 0) n ≡ false = ne_eqb (get_or numbers i 0) n (λ same. other (ap (λ k. k / 64) (sym same))) in
+        ap (λ t. t || has (drop (i + 1) numbers) n) (sym apart) ∙ ap (λ ns. has ns n) (sym (drop_more numbers i 0 within)) ∙ member
+
+-- ---- numbers with a bit are small
+
+all_by_index : (P : ℕ → Type 0) (xs : List ℕ) → ((i : ℕ) → i < length xs → P (get_or xs i 0)) → AllByRecursion P xs
+all_by_index P [] each = tt
+all_by_index P (x ∷ xs) each = (each 0 (omega arith), all_by_index P xs (λ i within. each (suc i) (omega (arith, within))))
+
+pub bits_below : (bitmap numbers : List ℕ) → length bitmap ≡ 262144 → IsBitmapOf bitmap numbers → AllByRecursion (λ n. n < 2 ^ 24) numbers
+bits_below bitmap numbers whole is_bitmap = all_by_index (λ n. n < 2 ^ 24) numbers (λ i within. small (get_or numbers i 0) (word-within bitmap numbers i within is_bitmap))
+  where
+    small : (n : ℕ) → n / 64 < length bitmap → n < 2 ^ 24
+    small n inside = omega (arith, inside, whole)

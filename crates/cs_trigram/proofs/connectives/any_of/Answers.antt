@@ -1,0 +1,23 @@
+use Rattle.std.proofs.Common.{Vec, Global, ap, ◌∙◌, arith}
+use Rattle.cs_trigram.specs.QueryNumbers.{are_trigrams}
+use Rattle.std.proofs.lemmas.Grind.{common_steps}
+use Rattle.std.specs.List.{list_all}
+use Rattle.cs_trigram.specs.declared.queries.Query.{Query}
+use Rattle.cs_trigram.specs.Analysis.{some_matches}
+use Rattle.cs_trigram.proofs.QueryLemmas.{matches_set-Or, numbers-Or}
+use Rattle.cs_trigram.proofs.connectives.any_of.Goals as goal
+use Rattle.cs_trigram.proofs.connectives.any_of.Goals.{else-len-eq1-via-else-len-eq1, else-len-eq1-via-then-len-eq1+in-None-1}
+
+pub returns-2-clause-required : goal.returns-2-clause-required
+returns-2-clause-required c = λ set.
+    elim c.else-len-eq1.branch [
+      | else-len-eq1-via-else-len-eq1 w ↦ matches_set-Or set c.else-len-eq1.members ∙ ap (λ (v : Vec Query Global). some_matches v.items set) w.members-is
+      | else-len-eq1-via-then-len-eq1+in-None-1 w ↦ absurd (grind (arith, common_steps))
+    ]
+
+pub returns-2-clause-numbers : goal.returns-2-clause-numbers
+returns-2-clause-numbers c =
+    elim c.else-len-eq1.branch [
+      | else-len-eq1-via-else-len-eq1 w ↦ numbers-Or c.else-len-eq1.members ∙ ap (λ (v : Vec Query Global). list_all are_trigrams v.items) w.members-is
+      | else-len-eq1-via-then-len-eq1+in-None-1 w ↦ absurd (grind (arith, common_steps))
+    ]

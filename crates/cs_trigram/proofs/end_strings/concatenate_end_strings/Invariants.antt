@@ -1,0 +1,7 @@
+use Rattle.cs_trigram.proofs.end_strings.concatenate_end_strings.Given as goal
+
+abbrev pub invariant-cut : goal.invariant-cut
+invariant-cut l = Unit {0}
+
+abbrev pub decreases-cut : goal.decreases-cut
+decreases-cut l = l.longest

@@ -1,0 +1,20 @@
+use Rattle.std.proofs.Common.{ℕ, List, sym, ap, subst}
+use Rattle.cs_trigram.specs.QueryNumbers.{are_trigrams}
+use Rattle.cs_syntax.specs.Matching.{none}
+use Rattle.std.specs.List.{list_all}
+use Rattle.cs_trigram.specs.ExactSet.{AreExactSetsReversed}
+use Rattle.cs_trigram.specs.Analysis.{IsQueryBeyondRun, all_match}
+use Rattle.cs_trigram.specs.declared.exact_set.ExactSet.{ExactSet}
+use Rattle.cs_trigram.specs.declared.queries.Query.{Query}
+use Rattle.cs_trigram.proofs.SequenceQueryLemmas.{query_of_none}
+use Rattle.cs_trigram.proofs.sequence_query.SequenceQuery.new.Goals as goal
+
+pub returns-clause-required : goal.returns-clause-required
+returns-clause-required c = (
+  subst (λ (ws : List (List ℕ)). IsQueryBeyondRun ws (λ set. all_match c.new.result.items set) none) (sym c.in_ok-leading.ensures)
+      (query_of_none (λ set. all_match c.new.result.items set) (λ set. ap (λ (qs : List Query). all_match qs set) c.new.ensures.items)),
+  ap (list_all are_trigrams) c.new.ensures.items,
+)
+
+pub returns-clause-parts : goal.returns-clause-parts
+returns-clause-parts c = subst (λ (cs : List ExactSet). AreExactSetsReversed cs none) (sym c.new-2.ensures.items) tt

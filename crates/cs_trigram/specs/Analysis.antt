@@ -1,0 +1,150 @@
+-- The query analysis: enumerations of exact strings up to twenty-one, and correct queries.
+use Rattle.std.specs.Prelude.{ℕ, ◌≡◌, ◌≤◌, ◌<◌, ◌↔◌, ◌&&◌, ◌++◌, ◌∷◌, [], Bool, true, not, List, length, map, nat_le, nat_lt, if◌then◌else◌, Option, IsTrue}
+use Rattle.cs_trigram.specs.QueryNumbers.{are_trigrams}
+use Rattle.cs_syntax.specs.TreeList.{append}
+use Rattle.std.specs.List.{list_any, list_all}
+use Rattle.cs_tree.specs.Cover.{is_among}
+use Rattle.cs_tree.specs.Folders.{are_distinct}
+use Rattle.cs_syntax.specs.Matching.{Tree, Trees, none, more, cat, alt, rep, member, MatchesSpan, MatchesSequence, MatchesBranch}
+use Rattle.cs_trigram.specs.Trigram.{tri}
+use Rattle.cs_trigram.specs.Query.{matches_set, HasTrigrams}
+use Rattle.cs_trigram.specs.ExactRuns.{HasRunsWithin, SomeHasExactRuns, IsSelective}
+use Rattle.cs_trigram.specs.ExactStrings.{HasExactString, ConcatenatesExactStrings, SomeHasExactString, HaveFewExactStrings, is_finite, are_finite}
+use Rattle.cs_trigram.specs.ExactQuery.{HasFewExactStrings}
+use Rattle.cs_trigram.specs.declared.queries.Query.{Query}
+
+-- adds a string that is not in the list, if there are at most twenty
+abbrev pub with_string : List (List ℕ) → List ℕ → List (List ℕ)
+with_string strings string =
+    if nat_le (length strings) 20 && not (is_among strings string) then strings ++ string ∷ []
+    else strings
+
+abbrev pub with_strings : List (List ℕ) → List (List ℕ) → List (List ℕ)
+with_strings strings [] = strings
+with_strings strings (v ∷ vs) = with_strings (with_string strings v) vs
+
+-- each string of the first list followed by each of the second
+abbrev pub concatenations : List (List ℕ) → List (List ℕ) → List (List ℕ)
+concatenations [] suffixes = []
+concatenations (u ∷ us) suffixes = map (λ v. u ++ v) suffixes ++ concatenations us suffixes
+
+-- Distinct strings with a property: all of them if they are at most twenty, else at least twenty-one.
+pub record IsEnumeration (strings : List (List ℕ)) (P : List ℕ → Type 0) : Type 0 where
+  pub right : (string : List ℕ) → IsTrue (is_among strings string) → P string
+  pub different : IsTrue (are_distinct strings)
+  pub whole : length strings ≤ 20 → (string : List ℕ) → P string → IsTrue (is_among strings string)
+
+-- the strings are the distinct concatenations, which are at most twenty
+abbrev pub AreFewConcatenations : List (List ℕ) → List (List ℕ) → List (List ℕ) → Type 0
+AreFewConcatenations strings prefixes suffixes =
+    (strings ≡ with_strings [] (concatenations prefixes suffixes)) × (length strings ≤ 20)
+
+-- at least one and at most twenty
+abbrev pub is_few : ℕ → Bool
+is_few n = nat_lt 0 n && nat_le n 20
+
+-- exactly the strings with a property, at least one and at most twenty
+pub record AreFewStrings (strings : List (List ℕ)) (P : List ℕ → Type 0) : Type 0 where
+  pub some : 0 < length strings
+  pub few : length strings ≤ 20
+  pub different : IsTrue (are_distinct strings)
+  pub each : (string : List ℕ) → P string ↔ IsTrue (is_among strings string)
+
+-- the next part cannot extend the run: its strings would not be few
+abbrev pub IsBlocked : Trees → Trees → Type 0
+IsBlocked run none = Unit {0}
+IsBlocked run (more t rest) = HaveFewExactStrings (append run (more t none)) → ⊥
+
+-- the exact strings of the longest leading run that has few
+pub record IsLongestLeadingRun (ts : Trees) (strings : List (List ℕ)) : Type 0 where
+  pub run : Trees
+  pub after : Trees
+  pub is : ts ≡ append run after
+  pub finite : are_finite run ≡ true
+  pub each : AreFewStrings strings (ConcatenatesExactStrings run)
+  pub blocked : IsBlocked run after
+
+abbrev pub all_match : List Query → (ℕ → Bool) → Bool
+all_match queries set = list_all (λ q. matches_set q set) queries
+
+abbrev pub some_matches : List Query → (ℕ → Bool) → Bool
+some_matches queries set = list_any (λ q. matches_set q set) queries
+
+-- the conjunction of the new queries is that of the old ones and of this test of sets
+abbrev pub RequiresToo : List Query → List Query → ((ℕ → Bool) → Bool) → Type 0
+RequiresToo old queries test = (set : ℕ → Bool) → all_match queries set ≡ (all_match old set && test set)
+
+-- all numbers in the new queries are trigrams exactly if all those in the old ones are and the condition holds
+abbrev pub AreTrigramsToo : List Query → List Query → Bool → Type 0
+AreTrigramsToo old queries small = list_all are_trigrams queries ≡ (list_all are_trigrams old && small)
+
+-- the query loses no line, is at least as selective as the exact runs of the tree, and its numbers are
+-- trigrams
+pub record IsCorrect (query : Query) (t : Tree) : Type 0 where
+  pub matching : (s : List ℕ) (set : ℕ → Bool) (i j : ℕ) → MatchesSpan s t i j → HasTrigrams set s →
+      matches_set query set ≡ true
+  pub selective : IsSelective query t
+  pub numbers : are_trigrams query ≡ true
+
+-- the same for the disjunction of the queries and the alternation of the trees
+pub record AreCorrect (queries : List Query) (ts : Trees) : Type 0 where
+  pub matching : (s : List ℕ) (set : ℕ → Bool) (i j : ℕ) → MatchesBranch s ts i j → HasTrigrams set s →
+      some_matches queries set ≡ true
+  pub selective : (set : ℕ → Bool) → some_matches queries set ≡ true → SomeHasExactRuns set ts
+  pub numbers : list_all are_trigrams queries ≡ true
+
+-- the query is correct for the tree, unless the exact strings of the tree are few
+abbrev pub IsMatchQuery : Query → Tree → Type 0
+IsMatchQuery query t = (HasFewExactStrings t → ⊥) → IsCorrect query t
+
+-- the same for the branches of an alternation
+abbrev pub AreMatchQueries : List Query → Trees → Type 0
+AreMatchQueries queries ts = (HasFewExactStrings (alt ts) → ⊥) → AreCorrect queries ts
+
+-- the same for at least `least` iterations of the tree
+abbrev pub IsMatchQueryOfRepeat : Query → Tree → ℕ → Type 0
+IsMatchQueryOfRepeat query t least = (most : Option ℕ) → IsMatchQuery query (rep t least most)
+
+-- the strings enumerate the exact strings of a finite tree, of a run and of an alternation
+abbrev pub EnumeratesTree : List (List ℕ) → Tree → Type 0
+EnumeratesTree strings t = (is_finite t ≡ true) × IsEnumeration strings (HasExactString t)
+
+abbrev pub EnumeratesRun : List (List ℕ) → Trees → Type 0
+EnumeratesRun strings ts = (are_finite ts ≡ true) × IsEnumeration strings (ConcatenatesExactStrings ts)
+
+abbrev pub EnumeratesAlternation : List (List ℕ) → Trees → Type 0
+EnumeratesAlternation strings ts = (are_finite ts ≡ true) × IsEnumeration strings (SomeHasExactString ts)
+
+-- adds the string of the byte, if the set has the byte
+abbrev pub with_byte : List (List ℕ) → List Bool → ℕ → List (List ℕ)
+with_byte strings set byte = if member set byte then with_string strings (byte ∷ []) else strings
+
+-- the strings are the exact strings of a finite tree or of a run, which are few
+abbrev pub AreExactStrings : List (List ℕ) → Tree → Type 0
+AreExactStrings strings t = (is_finite t ≡ true) × AreFewStrings strings (HasExactString t)
+
+abbrev pub AreExactStringsOfRun : List (List ℕ) → Trees → Type 0
+AreExactStringsOfRun strings ts = (are_finite ts ≡ true) × AreFewStrings strings (ConcatenatesExactStrings ts)
+
+-- whether the set has all trigrams of the text
+abbrev pub has_trigrams : (ℕ → Bool) → List ℕ → Bool
+has_trigrams set text = list_all set (tri text)
+
+-- the set has the trigrams of one of the strings
+abbrev pub has_any : (ℕ → Bool) → List (List ℕ) → Bool
+has_any set strings = list_any (λ w. has_trigrams set w) strings
+
+-- the query requires exactly the trigrams of the text, or of one of the strings
+abbrev pub RequiresText : Query → List ℕ → Type 0
+RequiresText query text = (set : ℕ → Bool) → matches_set query set ≡ has_trigrams set text
+
+abbrev pub RequiresSomeString : Query → List (List ℕ) → Type 0
+RequiresSomeString query strings = (set : ℕ → Bool) → matches_set query set ≡ has_any set strings
+
+-- The requirements of a sequence other than its longest leading run. Each set with the trigrams of a matching
+-- line satisfies them. If a set satisfies them and has a string of that run, it has all runs within the sequence.
+pub record IsQueryBeyondRun (leading : List (List ℕ)) (conjuncts : (ℕ → Bool) → Bool) (ts : Trees) : Type 0 where
+  pub run : IsLongestLeadingRun ts leading
+  pub matching : (s : List ℕ) (set : ℕ → Bool) (i j : ℕ) → MatchesSequence s ts i j → HasTrigrams set s →
+      conjuncts set ≡ true
+  pub selective : (set : ℕ → Bool) → conjuncts set ≡ true → has_any set leading ≡ true → HasRunsWithin set (cat ts)

@@ -1,0 +1,76 @@
+-- Prefixes and suffixes of matches. An end string is a prefix or a suffix, depending on the side.
+-- Cox, "Regular Expression Matching with a Trigram Index".
+use Rattle.std.specs.Prelude.{ℕ, ◌≡◌, ◌-◌, ◌⊎◌, ◌++◌, ◌∷◌, [], Bool, true, List, length, take, drop, nat_eq, slice_range, Option}
+use Rattle.std.specs.List.{list_all}
+use Rattle.cs_syntax.specs.Matching.{Tree, Trees, rep, MatchesSpan, MatchesSequence, MatchesBranch}
+use Rattle.cs_trigram.specs.ShortString.{bytes_of}
+use Rattle.cs_trigram.specs.declared.end_strings.Side.{Side}
+use Rattle.cs_trigram.specs.declared.end_strings.Side.TheVariants.{Prefix, Suffix}
+use Rattle.cs_trigram.specs.declared.end_strings.EndString.{EndString}
+
+-- the concatenation of a near text and a far one: the near one comes first for prefixes, and last for suffixes
+abbrev pub concatenation : Side → List ℕ → List ℕ → List ℕ
+concatenation Prefix near far = near ++ far
+concatenation Suffix near far = far ++ near
+
+-- the first or last n bytes
+abbrev pub near_part : Side → ℕ → List ℕ → List ℕ
+near_part Prefix n text = take n text
+near_part Suffix n text = drop (length text - n) text
+
+-- no end string has a byte
+abbrev pub are_all_empty : List EndString → Bool
+are_all_empty end_strings = list_all (λ end_string. nat_eq (length (bytes_of end_string.string)) 0) end_strings
+
+-- the text begins or ends with the string, and is the string if the end string is whole
+abbrev pub HasEndString : Side → EndString → List ℕ → Type 0
+HasEndString side end_string text =
+    (rest : List ℕ) × (text ≡ concatenation side (bytes_of end_string.string) rest) × (end_string.whole ≡ true → rest ≡ [])
+
+-- the text has one of the end strings
+abbrev pub HasSomeEndString : Side → List EndString → List ℕ → Type 0
+HasSomeEndString side [] text = ⊥
+HasSomeEndString side (end_string ∷ end_strings) text = HasEndString side end_string text ⊎ HasSomeEndString side end_strings text
+
+-- each text with the other end string has this one
+abbrev pub Subsumes : Side → EndString → EndString → Type 0
+Subsumes side end_string other = (text : List ℕ) → HasEndString side other text → HasEndString side end_string text
+
+-- each text with the end string has one of these
+abbrev pub SomeSubsumes : Side → List EndString → EndString → Type 0
+SomeSubsumes side end_strings end_string = (text : List ℕ) → HasEndString side end_string text → HasSomeEndString side end_strings text
+
+-- each text with one of the others has one of these
+abbrev pub SubsumeAll : Side → List EndString → List EndString → Type 0
+SubsumeAll side end_strings others =
+    (text : List ℕ) → HasSomeEndString side others text → HasSomeEndString side end_strings text
+
+-- the concatenation of a near text with the first end string and a far text with the second has this one
+abbrev pub IsEndStringOfTwo : Side → EndString → EndString → EndString → Type 0
+IsEndStringOfTwo side near far end_string =
+    (u v : List ℕ) → HasEndString side near u → HasEndString side far v → HasEndString side end_string (concatenation side u v)
+
+abbrev pub AreEndStringsOfTwo : Side → List EndString → List EndString → List EndString → Type 0
+AreEndStringsOfTwo side nears fars end_strings =
+    (u v : List ℕ) → HasSomeEndString side nears u → HasSomeEndString side fars v →
+    HasSomeEndString side end_strings (concatenation side u v)
+
+-- each match of the tree has one of the end strings
+abbrev pub AreEndStrings : Side → List EndString → Tree → Type 0
+AreEndStrings side end_strings t = (s : List ℕ) (i j : ℕ) → MatchesSpan s t i j → HasSomeEndString side end_strings (slice_range s i j)
+
+abbrev pub AreEndStringsOfAll : Side → List EndString → Trees → Type 0
+AreEndStringsOfAll side end_strings ts =
+    (s : List ℕ) (i j : ℕ) → MatchesSequence s ts i j → HasSomeEndString side end_strings (slice_range s i j)
+
+abbrev pub AreEndStringsOfSome : Side → List EndString → Trees → Type 0
+AreEndStringsOfSome side end_strings ts =
+    (s : List ℕ) (i j : ℕ) → MatchesBranch s ts i j → HasSomeEndString side end_strings (slice_range s i j)
+
+-- the same for at least `least` iterations of the tree
+abbrev pub AreEndStringsOfRepeat : Side → List EndString → Tree → ℕ → Type 0
+AreEndStringsOfRepeat side end_strings t least = (most : Option ℕ) → AreEndStrings side end_strings (rep t least most)
+
+-- the string occurs in the text
+abbrev pub OccursIn : List ℕ → List ℕ → Type 0
+OccursIn string text = (before after : List ℕ) × (text ≡ before ++ (string ++ after))

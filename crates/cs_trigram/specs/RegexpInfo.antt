@@ -1,0 +1,25 @@
+-- The result of the analysis of a tree, of the parts of a sequence and of the branches of an alternation.
+use Rattle.cs_syntax.specs.Matching.{Tree, Trees, cat, alt}
+use Rattle.cs_trigram.specs.SequenceQuery.{IsSequenceQueryOf}
+use Rattle.cs_trigram.specs.ExactSet.{IsExactSetOf, AreExactSetsReversed}
+use Rattle.cs_trigram.specs.Ends.{AreEnds, AreEndsOfAll, AreEndsOfSome}
+use Rattle.cs_trigram.specs.Analysis.{IsMatchQuery, AreMatchQueries}
+use Rattle.cs_trigram.specs.declared.regexp_info.RegexpInfo.{RegexpInfo}
+use Rattle.cs_trigram.specs.declared.sequence.SequenceInfo.{SequenceInfo}
+use Rattle.cs_trigram.specs.declared.alternation.AlternationInfo.{AlternationInfo}
+
+pub record IsInfoOf (info : RegexpInfo) (t : Tree) : Type 0 where
+  pub exact : IsExactSetOf info.exact t
+  pub ends : AreEnds info.ends t
+  pub query : IsMatchQuery info.query t
+
+pub record IsSequence (info : SequenceInfo) (ts : Trees) : Type 0 where
+  pub exact : IsExactSetOf info.exact (cat ts)
+  pub ends : AreEndsOfAll info.ends ts
+  pub parts : AreExactSetsReversed info.sequence_query.parts.items ts
+  pub required : IsSequenceQueryOf info.sequence_query ts
+
+pub record IsAlternation (info : AlternationInfo) (ts : Trees) : Type 0 where
+  pub exact : IsExactSetOf info.exact (alt ts)
+  pub ends : AreEndsOfSome info.ends ts
+  pub members : AreMatchQueries info.members.items ts

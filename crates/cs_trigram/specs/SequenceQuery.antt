@@ -1,0 +1,47 @@
+-- The query of a sequence.
+use Rattle.std.specs.Prelude.{ℕ, ◌≡◌, ◌+◌, ◌&&◌, ◌||◌, ◌++◌, Bool, true, List, length, nat_lt}
+use Rattle.cs_trigram.specs.QueryNumbers.{are_trigrams}
+use Rattle.std.specs.List.{list_all}
+use Rattle.cs_syntax.specs.Matching.{Tree, Trees, more}
+use Rattle.cs_trigram.specs.Query.{matches_set, HasTrigrams}
+use Rattle.cs_trigram.specs.EndStrings.{are_all_empty, HasSomeEndString}
+use Rattle.cs_trigram.specs.ShortString.{bytes_of}
+use Rattle.cs_trigram.specs.Analysis.{IsQueryBeyondRun, all_match, some_matches}
+use Rattle.cs_trigram.specs.declared.queries.Query.{Query}
+use Rattle.cs_trigram.specs.declared.end_strings.EndString.{EndString}
+use Rattle.cs_trigram.specs.declared.end_strings.Side.TheVariants.{Prefix, Suffix}
+use Rattle.cs_trigram.specs.declared.sequence_query.SequenceQuery.{SequenceQuery}
+
+abbrev pub IsSequenceQueryOf : SequenceQuery → Trees → Type 0
+IsSequenceQueryOf sequence_query ts =
+    IsQueryBeyondRun sequence_query.leading.items (λ set. all_match sequence_query.conjuncts.items set) ts
+    × (list_all are_trigrams sequence_query.conjuncts.items ≡ true)
+
+-- the strings of the run have at least two bytes after the first part, which has this suffix
+abbrev pub goes_two_past : List (List ℕ) → EndString → Bool
+goes_two_past leading suffix =
+    suffix.whole && list_all (λ string. nat_lt (length (bytes_of suffix.string) + 1) (length string)) leading
+
+-- the leading run has all trigrams across the end of the first part, which has these suffixes, into the parts
+-- after it, which have these prefixes
+abbrev pub has_cross_trigrams : SequenceQuery → List EndString → List EndString → Bool
+has_cross_trigrams sequence_query suffixes prefixes =
+    are_all_empty suffixes
+    || (are_all_empty prefixes || list_all (λ suffix. goes_two_past sequence_query.leading.items suffix) suffixes)
+
+-- The query matches each set that has the trigrams of two adjacent texts, the first with one of the suffixes
+-- and the second with one of the prefixes.
+abbrev pub MatchesAcross : Query → List EndString → List EndString → Type 0
+MatchesAcross query suffixes prefixes =
+    (set : ℕ → Bool) (u v : List ℕ) → HasSomeEndString Suffix suffixes u → HasSomeEndString Prefix prefixes v →
+    HasTrigrams set (u ++ v) → matches_set query set ≡ true
+
+-- the same for a disjunction
+abbrev pub SomeMatchesAcross : List Query → List EndString → List EndString → Type 0
+SomeMatchesAcross queries suffixes prefixes =
+    (set : ℕ → Bool) (u v : List ℕ) → HasSomeEndString Suffix suffixes u → HasSomeEndString Prefix prefixes v →
+    HasTrigrams set (u ++ v) → some_matches queries set ≡ true
+
+-- the new query is that of the sequence with one more part at the start
+abbrev pub ExtendsSequenceQuery : SequenceQuery → SequenceQuery → Tree → Trees → Type 0
+ExtendsSequenceQuery old sequence_query t ts = IsSequenceQueryOf old ts → IsSequenceQueryOf sequence_query (more t ts)

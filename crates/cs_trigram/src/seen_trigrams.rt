@@ -1,0 +1,196 @@
+// The set of the trigrams of a file: a bitmap of all 2^24 numbers, and the list of the members. It
+// is like `sparse.Set` in Go's codesearch, with a bitmap in place of the sparse array.
+ghost use Rattle.std.specs.Prelude.{◌≡◌, ◌+◌, ◌*◌, ◌-◌, ◌<◌, ◌≤◌, ◌^◌, ℕ, List, [], ◌∷◌, ◌++◌, length, vec_len, IfOk, IsTrue, ◌↔◌, nat_lt};
+ghost use Rattle.cs_trigram.specs.Trigram.{trigram_sequence};
+ghost use Rattle.cs_trigram.specs.TrigramSets.{trigram_count};
+ghost use Rattle.cs_trigram.specs.TrigramBitmap.{IsBitmapOf, Collects, CollectsOn};
+ghost use Rattle.cs_trigram.specs.declared.seen_trigrams.TheConstants.{WITH_TWO};
+ghost use Rattle.cs_trigram.specs.Sixgrams.{sixgram_trigrams, trigrams_of_sixgrams};
+
+use crate::connectives::trigram;
+use crate::sixgram_cache::SixgramCache;
+use std::alloc::{AllocError, Global};
+
+/// The most bytes of a read.
+pub(crate) const BLOCK: usize = 65_536;
+
+/// A block and the two bytes before it.
+const WITH_TWO: usize = BLOCK + 2;
+
+/// Inserts a number, and returns the new length of the list. To avoid a branch, the number is
+/// always written after the list, and counted only if its bit was clear.
+#[inline(always)]
+fn insert(bitmap: &mut [u64], list: &mut [u32], len: usize, number: u32) -> usize
+    requires bitmap { length bitmap.old ≡ 262144 }
+    requires room { len < length list.old }
+    requires number { number < trigram_count }
+    ensures collects { CollectsOn bitmap.old list.old len bitmap.new list.new result (number ∷ []) }
+    ensures counted { result ≤ len + 1 }
+{
+    let index = (number / 64) as usize;
+    let old_bits = bitmap[index];
+    let with = old_bits | (1u64 << (number % 64));
+    bitmap[index] = with;
+    list[len] = number;
+    len + (old_bits != with) as usize
+}
+
+/// Inserts the four trigrams of a 6-gram.
+#[inline(always)]
+fn insert_sixgram(bitmap: &mut [u64], list: &mut [u32], len: usize, sixgram: u64) -> usize
+    requires bitmap { length bitmap.old ≡ 262144 }
+    requires room { len + 4 ≤ length list.old }
+    ensures collects { CollectsOn bitmap.old list.old len bitmap.new list.new result
+        (sixgram_trigrams sixgram) }
+    ensures counted { result ≤ len + 4 }
+{
+    let mut len = len;
+    len = insert(bitmap, list, len, ((sixgram >> 24) % 0x100_0000) as u32);
+    len = insert(bitmap, list, len, ((sixgram >> 16) % 0x100_0000) as u32);
+    len = insert(bitmap, list, len, ((sixgram >> 8) % 0x100_0000) as u32);
+    insert(bitmap, list, len, (sixgram % 0x100_0000) as u32)
+}
+
+/// Inserts the trigrams of some 6-grams.
+fn insert_sixgrams(bitmap: &mut [u64], list: &mut [u32], len: usize, sixgrams: &[u64]) -> usize
+    requires bitmap { length bitmap.old ≡ 262144 }
+    requires room { len + 4 * length sixgrams.now ≤ length list.old }
+    ensures collects { CollectsOn bitmap.old list.old len bitmap.new list.new result
+        (trigrams_of_sixgrams sixgrams.now) }
+    ensures counted { result ≤ len + 4 * length sixgrams.now }
+{
+    let mut len = len;
+    for sixgram in sixgrams {
+        len = insert_sixgram(bitmap, list, len, *sixgram);
+    }
+    len
+}
+
+/// Inserts the trigrams of some bytes, from left to right.
+fn insert_trigrams(bitmap: &mut [u64], list: &mut [u32], len: usize, bytes: &[u8]) -> usize
+    requires bitmap { length bitmap.old ≡ 262144 }
+    requires room { len + length bytes.now ≤ length list.old }
+    ensures collects { CollectsOn bitmap.old list.old len bitmap.new list.new result
+        (trigram_sequence bytes.now) }
+    ensures counted { result ≤ len + length bytes.now }
+{
+    let mut len = len;
+    let mut offset = 0;
+    'trigrams: while bytes.len() - offset > 2 {
+        len = insert(
+            bitmap,
+            list,
+            len,
+            trigram(bytes[offset], bytes[offset + 1], bytes[offset + 2]),
+        );
+        offset += 1;
+    }
+    len
+}
+
+/// Inserts the trigrams of some 6-grams, and then those of some bytes.
+fn insert_split(
+    bitmap: &mut [u64],
+    list: &mut [u32],
+    len: usize,
+    sixgrams: &[u64],
+    bytes: &[u8],
+) -> usize
+    requires bitmap { length bitmap.old ≡ 262144 }
+    requires room { len + 4 * length sixgrams.now + length bytes.now ≤ length list.old }
+    ensures collects { CollectsOn bitmap.old list.old len bitmap.new list.new result
+        (trigrams_of_sixgrams sixgrams.now ++ trigram_sequence bytes.now) }
+    ensures counted { result ≤ length list.old }
+{
+    let len = insert_sixgrams(bitmap, list, len, sixgrams);
+    insert_trigrams(bitmap, list, len, bytes)
+}
+
+/// The trigrams of the bytes so far. The bits of `bitmap` and the first `len` numbers of `list` are
+/// the same set, the list in the order of first occurrence. If there are more trigrams than the
+/// limit, the set says so and its members are unspecified.
+#[derive(Drop)]
+pub(crate) struct SeenTrigrams {
+    bitmap: Vec<u64>,
+    list: Vec<u32>,
+    len: usize,
+    sixgrams: SixgramCache,
+    ghost all_numbers: { vec_len bitmap ≡ 262144 },
+    ghost room: { WITH_TWO ≤ vec_len list },
+    ghost within: { len ≤ vec_len list },
+    ghost fits: { vec_len list < 2 ^ 33 },
+}
+
+/// A bitmap with no bit set.
+fn zero_bitmap(alloc: Global, count: usize) -> Result<Vec<u64>, AllocError>
+    ensures { IfOk result (λ bitmap. (length bitmap.items ≡ count) × IsBitmapOf bitmap.items []) }
+{
+    Ok(vec![in alloc; 0u64; count]?)
+}
+
+/// Clears the bits of these numbers, which are all that are set.
+fn clear_bits(bitmap: &mut [u64], numbers: &[u32])
+    requires { IsBitmapOf bitmap.old numbers.now }
+    ensures { IsBitmapOf bitmap.new [] }
+{
+    for number in numbers {
+        bitmap[(*number / 64) as usize] = 0;
+    }
+}
+
+impl SeenTrigrams {
+    ghost use Rattle.cs_trigram.specs.SeenTrigrams.{HasSeenBytes, SeesMore, IsSound, IsOverLimit, numbers_of};
+
+    /// An empty set, with room for `most` trigrams.
+    pub(crate) fn new(alloc: Global, most: usize) -> Result<SeenTrigrams, AllocError>
+        requires { most < 2 ^ 32 }
+        ensures { IfOk result (λ found. HasSeenBytes most found []) }
+    {
+        Ok(SeenTrigrams {
+            bitmap: zero_bitmap(alloc, 262_144)?,
+            list: vec![in alloc; 0u32; most + WITH_TWO]?,
+            len: 0,
+            sixgrams: SixgramCache::new(alloc)?,
+        })
+    }
+
+    /// Adds the trigrams of a block, given with the two bytes before it.
+    pub(crate) fn add_block(&mut self, bytes: &[u8])
+        requires { length bytes.now ≤ WITH_TWO }
+        ensures { SeesMore self.old self.new (trigram_sequence bytes.now) }
+    {
+        if self.is_over_limit() {
+            return;
+        }
+        let split = self.sixgrams.split(bytes);
+        let misses = self.sixgrams.misses(split.count);
+        let rest = &bytes[split.offset..];
+        self.len = insert_split(&mut self.bitmap, &mut self.list, self.len, misses, rest);
+    }
+
+    /// Whether there are more trigrams than the limit.
+    pub(crate) fn is_over_limit(&self) -> bool
+        ensures over { IsOverLimit self.now result }
+        ensures room { result ≡ nat_lt (length self.now.list.items) (self.now.len + WITH_TWO) }
+    {
+        self.list.len() < self.len + WITH_TWO
+    }
+
+    /// The trigrams in the order of first occurrence, if they are within the limit.
+    pub(crate) fn numbers(&self) -> &[u32]
+        ensures { result.now ≡ numbers_of self.now }
+    {
+        &self.list[..self.len]
+    }
+
+    /// Empties the set, in time linear in its size.
+    pub(crate) fn clear(&mut self)
+        requires { IsSound self.old }
+        ensures { (most : ℕ) → length self.old.list.items ≡ most + WITH_TWO →
+            HasSeenBytes most self.new [] }
+    {
+        clear_bits(&mut self.bitmap, &self.list[..self.len]);
+        self.len = 0;
+        self.sixgrams.next_file();
+    }
+}

@@ -1,0 +1,192 @@
+// The query of a sequence, part by part from the last to the first: a string of each exact run, and
+// what the other parts require.
+ghost use Rattle.std.specs.Prelude.{◌≡◌, true, List, IfOk, OnOk};
+ghost use Rattle.cs_trigram.specs.QueryNumbers.{are_trigrams};
+ghost use Rattle.std.specs.List.{list_all};
+ghost use Rattle.cs_syntax.specs.Matching.{Tree, Trees, none, more, cat};
+ghost use Rattle.cs_trigram.specs.ExactQuery.{HasFewExactStrings};
+ghost use Rattle.cs_trigram.specs.EndStrings.{AreEndStrings, AreEndStringsOfAll};
+ghost use Rattle.cs_trigram.specs.ExactSet.{IsExactSetOf, AreExactSetsReversed};
+ghost use Rattle.cs_trigram.specs.Analysis.{IsCorrect, IsMatchQuery, AreExactStrings};
+ghost use Rattle.cs_trigram.specs.declared.end_strings.Side.TheVariants.{Prefix, Suffix};
+
+use crate::connectives::{add_conjunct, any_string};
+use crate::cross_product::cross_product_query;
+use crate::end_strings::{EndString, are_empty};
+use crate::exact_set::ExactSet;
+use crate::exact_string::{ExactString, are_longer, few_concatenations, prepend_to_owned};
+use crate::expansion::empty_string;
+use crate::leading_run::longest_leading_run;
+use crate::queries::Query;
+use std::alloc::{AllocError, Global};
+use std::mem;
+
+/// The query of the last parts of a sequence.
+#[derive(Drop)]
+pub(crate) struct SequenceQuery {
+    /// The exact strings of the longest leading run that has few. They are required once the run
+    /// ends.
+    leading: Vec<ExactString>,
+    /// The other requirements.
+    conjuncts: Vec<Query>,
+    /// The exact set of each part, that of the first part last.
+    parts: Vec<ExactSet>,
+}
+
+impl SequenceQuery {
+    ghost use Rattle.cs_trigram.specs.SequenceQuery.{IsSequenceQueryOf, ExtendsSequenceQuery, MatchesAcross, goes_two_past, has_cross_trigrams};
+
+    /// The query of no parts.
+    pub(crate) fn new(alloc: Global) -> Result<SequenceQuery, AllocError>
+        ensures required { IfOk result (λ sequence_query. IsSequenceQueryOf sequence_query none) }
+        ensures parts { IfOk result (λ sequence_query. AreExactSetsReversed sequence_query.parts.items none) }
+    {
+        let leading = empty_string(alloc)?;
+        Ok(SequenceQuery {
+            leading,
+            conjuncts: Vec::new(alloc),
+            parts: Vec::new(alloc),
+        })
+    }
+
+    /// Ends the leading run at a part without a small exact set, which has this query.
+    fn cut(&mut self, alloc: Global, match_query: Query) -> Result<(), AllocError>
+        ensures parts { OnOk result (self.new.parts ≡ self.old.parts) }
+        ensures required { OnOk result ((t : Tree) (ts : Trees) → ¬ HasFewExactStrings t → IsCorrect match_query t →
+            ExtendsSequenceQuery self.old self.new t ts) }
+    {
+        let finished_run = mem::replace(&mut self.leading, empty_string(alloc)?);
+        add_conjunct(&mut self.conjuncts, any_string(alloc, &finished_run)?)?;
+        add_conjunct(&mut self.conjuncts, match_query)?;
+        Ok(())
+    }
+
+    /// Prepends a part with these few exact strings.
+    fn prepend_few(&mut self, alloc: Global, strings: &[ExactString]) -> Result<(), AllocError>
+        ensures parts { OnOk result (self.new.parts ≡ self.old.parts) }
+        ensures required { OnOk result ((t : Tree) (ts : Trees) → AreExactStrings strings.now t →
+            AreExactSetsReversed self.old.parts.items ts → ExtendsSequenceQuery self.old self.new t ts) }
+    {
+        let finished_run = mem::replace(&mut self.leading, Vec::new(alloc));
+        if strings.len() == 1 {
+            self.leading = prepend_to_owned(alloc, &strings[0], finished_run)?;
+            return Ok(());
+        }
+        if let Some(longer) = few_concatenations(alloc, strings, &finished_run)? {
+            self.leading = longer;
+            return Ok(());
+        }
+        self.leading = longest_leading_run(alloc, strings, &self.parts)?;
+        add_conjunct(&mut self.conjuncts, any_string(alloc, &finished_run)?)?;
+        Ok(())
+    }
+
+    /// Prepends a part with this query and exact set, without the trigrams across its end.
+    fn prepend(
+        &mut self,
+        alloc: Global,
+        match_query: Query,
+        strings: &ExactSet,
+    ) -> Result<(), AllocError>
+        ensures parts { OnOk result (self.new.parts ≡ self.old.parts) }
+        ensures required { OnOk result ((t : Tree) (ts : Trees) → IsExactSetOf strings.now t → IsMatchQuery match_query t →
+            AreExactSetsReversed self.old.parts.items ts → ExtendsSequenceQuery self.old self.new t ts) }
+    {
+        match strings.few() {
+            Some(few) => self.prepend_few(alloc, few),
+            None => self.cut(alloc, match_query),
+        }
+    }
+
+    /// Whether the strings of the leading run have at least two bytes after its first part, which
+    /// has this suffix.
+    fn extends_past(&self, suffix: &EndString) -> bool
+        ensures { result ≡ goes_two_past self.now.leading.items suffix.now }
+    {
+        suffix.whole && are_longer(&self.leading, suffix.string.len() + 1)
+    }
+
+    /// The same, for each of these suffixes.
+    fn extend_past_all(&self, suffixes: &[EndString]) -> bool
+        ensures { result ≡ list_all (goes_two_past self.now.leading.items) suffixes.now }
+    {
+        suffixes.iter().all(|suffix| self.extends_past(suffix))
+    }
+
+    /// Whether the leading run has all trigrams across the end of its first part, which has these
+    /// suffixes, into the parts after it, which have these prefixes.
+    fn covers_cross(&self, suffixes: &[EndString], prefixes: &[EndString]) -> bool
+        ensures { result ≡ has_cross_trigrams self.now suffixes.now prefixes.now }
+    {
+        are_empty(suffixes) || are_empty(prefixes) || self.extend_past_all(suffixes)
+    }
+
+    /// The trigrams across the end of the first part that the leading run does not have.
+    fn cross_query(
+        &self,
+        alloc: Global,
+        suffixes: &[EndString],
+        prefixes: &[EndString],
+    ) -> Result<Query, AllocError>
+        ensures required { IfOk result (λ q. MatchesAcross q suffixes.now prefixes.now) }
+        ensures numbers { IfOk result (λ query. are_trigrams query ≡ true) }
+    {
+        if self.covers_cross(suffixes, prefixes) {
+            return Ok(Query::All);
+        }
+        cross_product_query(alloc, suffixes, prefixes)
+    }
+
+    /// Requires the trigrams across the end of the first part.
+    fn add_cross(
+        &mut self,
+        alloc: Global,
+        suffixes: &[EndString],
+        prefixes: &[EndString],
+    ) -> Result<(), AllocError>
+        ensures parts { OnOk result (self.new.parts ≡ self.old.parts) }
+        ensures required { OnOk result ((t : Tree) (ts : Trees) → AreEndStrings Suffix suffixes.now t →
+            AreEndStringsOfAll Prefix prefixes.now ts →
+            IsSequenceQueryOf self.old (more t ts) → IsSequenceQueryOf self.new (more t ts)) }
+    {
+        let cross_query = self.cross_query(alloc, suffixes, prefixes)?;
+        add_conjunct(&mut self.conjuncts, cross_query)?;
+        Ok(())
+    }
+
+    /// Prepends a part with this query, exact set and suffixes. The parts after it have these
+    /// prefixes.
+    pub(crate) fn add(
+        &mut self,
+        alloc: Global,
+        match_query: Query,
+        strings: ExactSet,
+        suffixes: &[EndString],
+        prefixes: &[EndString],
+    ) -> Result<(), AllocError>
+        ensures parts { OnOk result ((t : Tree) (ts : Trees) → IsExactSetOf strings t →
+            AreExactSetsReversed self.old.parts.items ts → AreExactSetsReversed self.new.parts.items (more t ts)) }
+        ensures required { OnOk result ((t : Tree) (ts : Trees) → IsExactSetOf strings t → IsMatchQuery match_query t →
+            AreEndStrings Suffix suffixes.now t → AreEndStringsOfAll Prefix prefixes.now ts →
+            AreExactSetsReversed self.old.parts.items ts → ExtendsSequenceQuery self.old self.new t ts) }
+    {
+        self.prepend(alloc, match_query, &strings)?;
+        self.add_cross(alloc, suffixes, prefixes)?;
+        self.parts.push(strings)?;
+        Ok(())
+    }
+
+    /// The query of the whole sequence.
+    pub(crate) fn finish(self, alloc: Global) -> Result<Query, AllocError>
+        ensures { IfOk result (λ query. (ts : Trees) → IsSequenceQueryOf self ts → IsMatchQuery query (cat ts)) }
+    {
+        let SequenceQuery {
+            leading,
+            mut conjuncts,
+            parts: _,
+        } = self;
+        let last = any_string(alloc, &leading)?;
+        add_conjunct(&mut conjuncts, last)?;
+        Ok(Query::And(conjuncts))
+    }
+}

@@ -1,4 +1,0 @@
-pub mod DivisionLemmas
-mod MessageLemmas
-mod WordExamples
-mod WordsLemmas

@@ -1,8 +1,0 @@
-use Rattle.std.proofs.Common.{rules}
-use Rattle.cs_words.proofs.fault.FileFault.of_tree.Goals as goal
-
-pub returns-in-Denied-clause-file : goal.returns-in-Denied-clause-file
-returns-in-Denied-clause-file c = search rules
-
-pub returns-in-Output-clause-file : goal.returns-in-Output-clause-file
-returns-in-Output-clause-file c = search rules

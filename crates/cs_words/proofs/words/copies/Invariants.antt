@@ -1,5 +1,0 @@
-use Rattle.std.specs.Prelude.{◌≡◌, map, take, string_bytes}
-use Rattle.cs_words.proofs.words.copies.Given as goal
-
-abbrev pub invariant-loop-text : goal.invariant-loop-text
-invariant-loop-text l = map string_bytes l.copies.items ≡ take l.text-index (map string_bytes l.texts)

@@ -1,6 +1,0 @@
--- What pushing to a line leaves.
-use Rattle.std.specs.Prelude.{◌≡◌, ℕ, List, ◌++◌, Result, OnOk, String, string_bytes}
-
--- where the push succeeds, the text stands behind what the line had
-abbrev pub Appends : {X E Z : Type 0} → String Z → String Z → List ℕ → Result X E → Type 0
-Appends old new text result = OnOk result (string_bytes new ≡ string_bytes old ++ text)

@@ -1,0 +1,40 @@
+#!/bin/sh
+# Makes the archive of the built program: a static program for each Linux on x86-64, a faster one for newer processors
+# if the toolchain makes it, the tools, manual, completions, editor files, and install.sh. Two builds give the same
+# bytes.
+# usage: scripts/dist.sh FOLDER    the archive is FOLDER/codesearch-VERSION-linux-x86_64.tar.xz
+# V3=1 also builds the program for newer processors (x86-64-v3), which install.sh chooses if it runs.
+
+. "$(dirname -- "$0")/release.sh"
+name=codesearch-$version-linux-x86_64
+kit=$(dirname "$(rt doc)")
+top=$fresh/$name
+mkdir -p "$top/bin"
+
+# statically OBJECT PROGRAM: links what rt has compiled
+statically() {
+    cc -static -o "$2" "$1" "$kit/c/libos_c.a" "$kit/c/liblibc_c.a"
+    strip "$2"
+}
+
+statically crates/codesearch/out/codesearch.o "$top/bin/codesearch"
+if [ -n "$V3" ]; then
+    # rt writes this program where the other one is.
+    out_folder=crates/codesearch/out
+    mkdir "$fresh/kept"
+    cp -p $out_folder/codesearch $out_folder/codesearch.o $out_folder/codesearch.stamp "$fresh/kept"
+    trap 'cp -p "$fresh"/kept/* crates/codesearch/out; rm -rf "$fresh"' EXIT
+    (cd crates/codesearch && printf '\n' | rt run --cpu x86-64-v3 -- cgrep '^$' > /dev/null 2>&1)
+    statically $out_folder/codesearch.o "$top/bin/codesearch-v3"
+fi
+cp bin/cs "$top/bin/cs"
+mkdir "$top/man" "$top/completion" "$top/editors"
+cp man/*.[157] "$top/man"
+cp completion/* "$top/completion"
+cp editors/* "$top/editors"
+cp LICENSE NOTICE CHANGELOG.md README.md scripts/install.sh "$top"
+find "$top" -type d -exec chmod 755 {} +
+find "$top" -type f -exec chmod 644 {} +
+chmod 755 "$top"/bin/* "$top/install.sh"
+tar -C "$fresh" --sort=name --owner=0 --group=0 --numeric-owner --mtime="@$SOURCE_DATE_EPOCH" --format=ustar -cf - "$name" | xz -9 -T 1 > "$out/$name.tar.xz"
+printf '%s\n' "$out/$name.tar.xz"

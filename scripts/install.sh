@@ -1,0 +1,57 @@
+#!/bin/sh
+# Installs codesearch, or removes it: the program, the tools, cs, manual, completions, editor files.
+# usage: install.sh [-u] PREFIX    PREFIX begins with /, as /usr/local
+# DESTDIR, if set, is prepended to each path. PROGRAM names a program other than the one beside this script.
+
+remove=''
+[ "$1" != -u ] || { remove=1 && shift; }
+prefix=${1%/}
+case $1 in
+    *[!A-Za-z0-9/._+-]* | [!/]* | '')
+        printf 'install.sh: PREFIX has to begin with / and may have no space: %s\n' "$1" >&2
+        exit 2
+        ;;
+esac
+set -e
+here=$(cd -- "$(dirname -- "$0")" && pwd)
+[ -d "$here/man" ] || here=${here%/*}
+to=$DESTDIR$prefix
+bash=$to/share/bash-completion/completions
+zsh=$to/share/zsh/site-functions
+fish=$to/share/fish/vendor_completions.d
+vim=$to/share/vim/vimfiles/plugin
+emacs=$to/share/emacs/site-lisp
+tools='cindex csearch cgrep'
+
+if [ -n "$remove" ]; then
+    for name in codesearch cs $tools; do rm -f "$to/bin/$name" "$bash/$name" "$fish/$name.fish"; done
+    for page in "$here"/man/*.[157]; do rm -f "$to/share/man/man${page##*.}/${page##*/}"; done
+    rm -f "$zsh/_codesearch" "$vim/codesearch.vim" "$emacs/codesearch.el"
+    exit
+fi
+
+# The program for newer processors (x86-64-v3) says by its status whether this is one.
+program=${PROGRAM:-$here/bin/codesearch}
+if [ -z "$PROGRAM" ] && [ -x "$here/bin/codesearch-v3" ]; then
+    status=0
+    "$here/bin/codesearch-v3" cgrep x < /dev/null > /dev/null 2>&1 || status=$?
+    [ $status != 1 ] || program=$here/bin/codesearch-v3
+fi
+install -d "$to/bin" "$bash" "$zsh" "$fish" "$vim" "$emacs"
+install -m 755 "$program" "$to/bin/codesearch"
+install -m 755 "$here/bin/cs" "$to/bin/cs"
+for tool in $tools; do
+    printf '#!/bin/sh\nexec "%s/bin/codesearch" %s "$@"\n' "$prefix" "$tool" > "$to/bin/$tool"
+    chmod 755 "$to/bin/$tool"
+done
+for name in codesearch cs $tools; do
+    install -m 644 "$here/completion/codesearch.bash" "$bash/$name"
+    install -m 644 "$here/completion/codesearch.fish" "$fish/$name.fish"
+done
+install -m 644 "$here/completion/_codesearch" "$zsh/_codesearch"
+install -m 644 "$here/editors/codesearch.vim" "$vim/codesearch.vim"
+install -m 644 "$here/editors/codesearch.el" "$emacs/codesearch.el"
+for page in "$here"/man/*.[157]; do
+    install -d "$to/share/man/man${page##*.}"
+    install -m 644 "$page" "$to/share/man/man${page##*.}/${page##*/}"
+done

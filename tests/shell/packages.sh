@@ -1,0 +1,76 @@
+#!/bin/sh
+# Builds the archive and the Debian package twice, looks at them, and installs, uses and removes them in a fresh Debian without
+# the toolchain.
+# usage: tests/shell/packages.sh PROGRAM
+
+. "$(dirname -- "$0")/library.sh"
+
+needs cc strip xz dpkg-deb
+SOURCE_DATE_EPOCH=1790000000
+export SOURCE_DATE_EPOCH
+version=$(cat "$root/VERSION")
+archive=codesearch-$version-linux-x86_64
+package=codesearch-verified_${version}_amd64.deb
+
+# The gate may take the program from an earlier run, without the object file that the archive's program is linked from.
+has_archive=
+if [ -f "$root/crates/codesearch/out/codesearch.o" ]; then has_archive=1; else skipped 'the archive: no object file (make dist builds it)'; fi
+
+if [ -n "$has_archive" ]; then
+    holds "'$root/scripts/dist.sh' '$fresh/one' && '$root/scripts/dist.sh' '$fresh/two'"
+    same "one/$archive.tar.xz" "two/$archive.tar.xz"
+fi
+holds "'$root/scripts/deb.sh' '$fresh/one' && '$root/scripts/deb.sh' '$fresh/two'"
+same "one/$package" "two/$package"
+if command -v lintian > /dev/null; then
+    holds "said=\$(lintian -E --allow-root '$fresh/one/$package'); printf '%s\n' \"\$said\"; ! printf '%s\n' \"\$said\" | grep -q '^[EWIX]: '"
+else
+    skipped 'lintian is not installed'
+fi
+gives 2 "'$root/scripts/install.sh' usr"
+gives 2 "'$root/scripts/install.sh' '/usr local'"
+
+# uses COMMAND: indexes, searches, and reads the index again, by the commands that COMMAND runs
+uses() {
+    $1 'mkdir -p /t/src && cd /t/src && printf "one\na marker\n" > a.c && export HOME=/t && cindex /t/src && csearch -n marker' > "$fresh/came" 2>&1
+    printf '/t/src/a.c:2:a marker\n' > "$fresh/wanted"
+    same came wanted
+    $1 'export HOME=/t; cd /t && cgrep -c one src/a.c && echo another marker >> src/a.c && cindex && csearch -c marker && codesearch cindex -list' > "$fresh/came" 2>&1
+    printf 'src/a.c: 1\n/t/src/a.c: 2\n/t/src\n' > "$fresh/wanted"
+    same came wanted
+    $1 'export HOME=/t; cd /t/src && cs -n another && rm -rf /t' > "$fresh/came" 2>&1
+    printf 'a.c:3:another marker\n' > "$fresh/wanted"
+    same came wanted
+}
+
+# ---- a folder of this machine -----------------------------------------------------------------------------------------------
+mkdir -p "$fresh/unpacked/$archive"
+if [ -n "$has_archive" ]; then
+    tar -C "$fresh/unpacked" -xJf "$fresh/one/$archive.tar.xz"
+    holds "[ \"\$(cd '$fresh/unpacked/$archive' && find . -type f | sort)\" = \"\$(cd '$fresh/unpacked/$archive' && find . -type f -readable | sort)\" ]"
+    holds "'$fresh/unpacked/$archive/install.sh' '$fresh/usr'"
+    holds "printf 'a\nmarker\n' | '$fresh/usr/bin/cgrep' -n marker | grep -q ':2:marker'"
+    for page in "$fresh"/usr/share/man/man?/*; do holds "[ -s '$page' ]"; done
+    holds "'$fresh/unpacked/$archive/install.sh' -u '$fresh/usr' && [ -z \"\$(find '$fresh/usr' -type f)\" ]"
+fi
+
+# ---- a fresh Debian ---------------------------------------------------------------------------------------------------------
+if [ "$(id -u)" != 0 ] || ! command -v debootstrap > /dev/null; then
+    skipped 'no fresh Debian: debootstrap is not installed, or this is not root'
+elif ! debootstrap --variant=minbase bookworm "$fresh/debian" http://deb.debian.org/debian > "$fresh/said" 2>&1; then
+    skipped "no fresh Debian: $(tail -n 1 "$fresh/said")"
+else
+    in_debian() { chroot "$fresh/debian" /bin/sh -c "$1"; }
+    cp -r "$fresh/unpacked/$archive" "$fresh/debian/root/$archive"
+    cp "$fresh/one/$package" "$fresh/debian/root"
+    holds "! in_debian 'command -v rt || command -v cc'"
+    if [ -n "$has_archive" ]; then
+        holds "in_debian 'cd /root/$archive && ./install.sh /usr/local'"
+        uses in_debian
+        holds "in_debian 'cd /root/$archive && ./install.sh -u /usr/local && ! command -v cindex'"
+    fi
+    holds "in_debian 'dpkg -i /root/$package'"
+    uses in_debian
+    holds "in_debian 'dpkg -r codesearch-verified && ! command -v cindex && ! command -v cs'"
+fi
+summary

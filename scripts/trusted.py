@@ -9,7 +9,7 @@ import sys
 from pathlib import Path
 
 crates = Path(__file__).resolve().parent.parent / "crates"
-IMPORT = re.compile(r"^\s*(?:pub )?(?:ghost )?use Rattle\.(cs_\w+)\.specs\.([A-Za-z_.]+?)(?:\.\{([^}]*)\}| as (\S+?))?;?$", re.M)
+IMPORT = re.compile(r"^\s*(?:pub )?(?:ghost )?use Rattle\.(cs_\w+|codesearch)\.specs\.([A-Za-z_.]+?)(?:\.\{([^}]*)\}| as (\S+?))?;?$", re.M)
 
 # the function, its file, the clauses that count besides its requirements (none: all), and the maximum number of lines
 # of definitions
@@ -18,6 +18,7 @@ CONTRACTS = [
     ("cgrep", "cs_search/src/searching.rt", [], 850),
     ("csearch_stored", "cs_search/src/stored.rt", [], 1350),
     ("list_stored", "cs_cindex/src/listing.rt", [], None),
+    ("run", "codesearch/src/running.rt", [], None),
 ]
 
 # the files of the traits
@@ -36,8 +37,8 @@ def spec(crate, module):
 
 
 def clauses(source, name, wanted):
-    """The text of the clauses of a public function, and the trait of each of its type parameters."""
-    contract = re.search(r"pub fn " + name + r"\b.*?\n\{\n", source, re.S).group(0)
+    """The text of the clauses of a function, and the trait of each of its type parameters."""
+    contract = re.search(r"pub(?:\(crate\))? fn " + name + r"\b.*?\n\{\n", source, re.S).group(0)
     parts = re.findall(r"\n\s+(ensures|requires) (\w*) ?\{(.*?)(?=\n\s+ensures|\n\s+requires|\n\{)", contract, re.S)
     bounds = dict(re.findall(r"(\w+): (\w+)", contract[: contract.index("(")]))
     return " ".join(text for kind, clause, text in parts if kind == "requires" or not wanted or clause in wanted), bounds

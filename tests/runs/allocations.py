@@ -16,9 +16,9 @@ from running import build_failer, complain, leave, read, write
 
 runs = allocations = 0
 
-# How often the last line of a job may change between the program's own line and the tool's: `cindex` reads its arguments and
-# does its job after the environment and the index file; `csearch` also reads posting lists after its query is known.
-TURNS = {"cgrep": 3, "cindex": 5, "csearch": 7}
+# How often the last line of a job may change between the program's own line and the tool's: the tool reads its arguments before
+# the program opens the index file and makes the buffer of its output; `csearch` also reads posting lists after its query is known.
+TURNS = {"cgrep": 5, "cindex": 7, "csearch": 9}
 
 
 def run(args, given=b""):

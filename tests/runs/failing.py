@@ -18,7 +18,7 @@ import time
 import running
 from running import complain, home, leave, read, write
 
-CALLS = ["read", "write", "openat", "getdents64", "statx", "fsync", "ftruncate", "flock", "rename", "close", "fchmod"]
+CALLS = ["read", "write", "openat", "getdents64", "statx", "fsync", "ftruncate", "flock", "rename", "unlink", "close", "fchmod"]
 # The calls that are retried after an interrupt.
 AGAIN = ["read", "write", "openat", "getdents64", "fsync", "flock"]
 # The timeout of a run that could block, in seconds.
@@ -199,6 +199,34 @@ def late_pipes():
         complain("late pipes", "none was opened")
 
 
+def put_pipe_beside():
+    """Replaces the file beside the index, unless it has been removed meanwhile."""
+    try:
+        put_pipe("index~")
+    except FileNotFoundError:
+        pass
+
+
+def late_temporary():
+    """A file that a killed run left beside the index becomes a pipe before the Nth file is opened: cindex does not wait for it."""
+    run(["cindex", "-reset", "t"])
+    index = read("index")
+    for when in range(1, 20):
+        leave(index)
+        write("index~", b"left")
+        delay = [strace, "-qq", "-o", "log", "-e", "trace=openat", "-e", f"inject=openat:delay_enter=400000:when={when}"]
+        swap = threading.Timer(0.2, put_pipe_beside)
+        swap.start()
+        status, out, err = bounded(["cindex", "t"], delay) or (None, b"", b"it waits")
+        swap.join()
+        if (status, err) not in ((0, b""), (2, b"codesearch: cannot write %s/index\n" % home.encode())) or read("index") != index:
+            complain(f"a late pipe beside the index at openat {when}", (status, out, err))
+        if os.path.lexists("index~"):
+            os.remove("index~")
+        if b"(DELAYED)" not in read("log"):
+            break
+
+
 def deepest():
     """A folder whose path has 4095 bytes, below folders as deep as paths allow: it cannot be read, and the walk down to it needs
     no more stack than any other one."""
@@ -233,6 +261,7 @@ def main():
     if traces:
         calls()
         late_pipes()
+        late_temporary()
     else:
         print("skipped: failing system calls and late pipes: there is no working strace")
     pipes()

@@ -328,6 +328,7 @@ for pattern in 'requires' '^use .*specs' 'fn [a-z_]*\(' '(length|take) [a-z]' '^
 done
 
 . "$root/tests/shell/indexing.sh"
+. "$root/tests/shell/storage.sh"
 . "$root/tests/shell/searching.sh"
 
 printf '%d passed, %d failed\n' "$passed" "$failed"

@@ -192,8 +192,9 @@ if truncate -s 5G results/odd 2>/dev/null; then
 else
     skipped 'an index of 5 GB: the system makes no such file'
 fi
-# The mode is that of the replaced index, or 666 without the bits of the umask; never that of an abandoned file.
-for mode in 600 640 444; do
+# The mode is that of the replaced index, or 666 without the bits of the umask; never that of an abandoned file. storage.sh
+# has the modes that are not kept whole.
+for mode in 600 644 444; do
     cp results/old index
     chmod $mode index
     printf 'left\n' > index~
@@ -285,6 +286,45 @@ for command in 'cindex -logskip trees/odd' 'cindex trees/none' 'cindex -reset tr
     holds "cmp -s index results/old"
 done
 try 2 '' 'codesearch: no current folder\n' "(mkdir gone && cd gone && rmdir ../gone && cindex trees/a)"
+
+# ---- errors: their order, and what they point at ------------------------------------------------------------------------
+# nowhere: runs the command in a folder that is removed
+nowhere() { (mkdir "$home/gone" && cd "$home/gone" && rmdir "$home/gone" && "$@"); }
+try 2 '' 'cindex: word 2 is not text\n' "nowhere cindex -x \"\$bad\""
+try 2 '' 'codesearch: no current folder\n' "nowhere cindex -x"
+try 2 '' 'codesearch: no current folder\n' "CSEARCHINDEX=\$home/trees nowhere cindex -list"
+try 2 '' 'csearch: unknown option -x\n' "nowhere csearch -x"
+try 0 "$home/trees/a/x:abcd\n" '' "nowhere csearch abc"
+try 2 '' 'cgrep: no pattern\n' "nowhere cgrep"
+# The index file is read before the other arguments.
+for command in 'cindex -x' 'cindex -list=maybe' 'csearch' 'csearch one two' "csearch '(a'"; do
+    try 2 '' "codesearch: cannot read $home/trees\n" "CSEARCHINDEX=\$home/trees $command"
+done
+for command in 'cindex -x' 'cindex -list' 'cindex trees/a' 'csearch x' 'csearch -x'; do
+    try 2 '' 'codesearch: cannot read CSEARCHINDEX\n' "CSEARCHINDEX=\$bad $command"
+    try 2 '' 'codesearch: cannot read CSEARCHINDEX\n' "(unset CSEARCHINDEX; HOME=\$bad $command)"
+done
+try 1 '' '' "CSEARCHINDEX=\$bad HOME=\$bad cgrep x"
+# The argument or the path that an error points at.
+far=/$(head -c 5000 /dev/zero | tr '\0' f)
+try 2 '' "cindex: bad path $far\n" "cindex trees/a \$far trees/b"
+try 2 '' 'cindex: bad truth value in -reset=maybe\n' "cindex -list -reset=maybe trees/a"
+try 2 '' 'csearch: extra word three\n' "csearch -n one three four"
+try 2 '' 'csearch: option -f needs a value\n' "csearch -n -i -f"
+try 2 '' 'cgrep: unknown option -x\n' "cgrep -n -i -x one"
+# An error and `-list` leave the index file alone: it is not written again, not even with the same bytes.
+stat -c '%i %y %z' index > results/untouched
+for command in "cindex ''" 'cindex -x' "cindex -reset ''" "cindex -reset trees/a \$far" 'cindex -reset -x' "csearch '(a'"; do
+    eval "$command" 2> /dev/null
+    holds "[ $? -eq 2 ] && stat -c '%i %y %z' index | cmp -s - results/untouched # after $command"
+done
+for command in 'cindex -list' 'cindex -list -reset' 'cindex -reset -list trees/b' "cindex -list ''" "cindex -list \$far"; do
+    try 0 "$home/trees/a\n" '' "$command"
+    holds "stat -c '%i %y %z' index | cmp -s - results/untouched && [ ! -e index~ ] # after $command"
+done
+holds "cmp -s index results/old"
+try 2 '' 'cindex: no index\n' "CSEARCHINDEX=\$home/none cindex -list -reset"
+holds "[ ! -e none ]"
 
 # ---- histories: after each job the index is the one of a single build --------------------------------------------------
 # afresh PATH..: the index is that of the paths, built at once
@@ -380,7 +420,7 @@ while [ $time -lt 100 ]; do
     if [ $((time % 2)) -eq 0 ]; then
         sleep "$(moment)"
     else
-        while [ ! -e index~ ] && kill -0 $! 2>/dev/null; do :; done
+        while [ ! -s index~ ] && kill -0 $! 2>/dev/null; do :; done
     fi
     kill -9 $! 2>/dev/null
     wait $! 2>/dev/null

@@ -6,35 +6,23 @@ use std::rt::Env;
 /// The initial buffer size for an argument, in bytes.
 const FIRST_CAPACITY: usize = 256;
 
-/// The arguments after the program's name.
-#[derive(Drop)]
-pub(crate) struct Args {
-    /// Those before the first that is not UTF-8.
-    pub(crate) valid: Vec<String>,
-    /// Whether some argument is not UTF-8.
-    pub(crate) has_non_text: bool,
-}
-
-/// Reads the arguments after the program's name, up to the first that is not UTF-8.
-pub(crate) fn args_of<E: Env>(alloc: Global, env: &E) -> Result<Args, AllocError> {
-    let mut valid = Vec::new(alloc);
-    let mut has_non_text = false;
+/// Reads the arguments after the program's name into `args`, up to the first that is not UTF-8. Returns whether there is
+/// such a one.
+pub(crate) fn read_args<E: Env>(
+    alloc: Global,
+    env: &E,
+    args: &mut Vec<String>,
+) -> Result<bool, AllocError> {
     for position in 1..usize::MAX {
         let Some(bytes) = arg_at(alloc, env, position)? else {
             break;
         };
         match String::from_utf8(bytes) {
-            Ok(arg) => valid.push(arg)?,
-            Err(_) => {
-                has_non_text = true;
-                break;
-            }
+            Ok(arg) => args.push(arg)?,
+            Err(_) => return Ok(true),
         }
     }
-    Ok(Args {
-        valid,
-        has_non_text,
-    })
+    Ok(false)
 }
 
 /// The bytes of an argument, if it exists. The buffer doubles until the argument fits.

@@ -1,24 +1,30 @@
-//! The program: its arguments, the standard streams, the disk, the index file and the exit status. The rest is
-//! `execute`, which takes any implementation of these, and calls the tools through `cs_tools`.
+//! The program: its arguments, the standard streams, the disk, the index file and the exit status. What it does is
+//! `Call::read` and `run`, over any implementation of these. Read `specs/Program.antt` first.
 #![tactic(auto)]
 
+ghost use Rattle.codesearch.specs.Program.{IsCall};
+
 mod args;
-mod command;
+mod call;
+mod given;
+mod laws;
+mod outcome;
+mod running;
 mod storage;
 
-use args::args_of;
-use command::{
-    FIRST_ARG, NO_FOLDER, OUT_OF_MEMORY, Outcome, execute, print_arg_error, print_error,
-    print_file_error, prints_lines, tool_of,
-};
+use args::read_args;
+use call::Call;
+use cs_storage::{IndexFolder, IndexUpdate, StorageFault, begin_update, finish_update};
 use cs_tools::Tool;
-use cs_tree::{DiskStore, DiskTree, StdSink, StdSource, is_absolute};
+use cs_tree::{BufferedSink, DiskTree, IoFault, Sink, StdSink, StdSource};
+use given::Given;
+use outcome::{Outcome, ProgramFault};
+use running::{FoundFile, World, run};
 use std::alloc::AllocError;
 use std::env;
-use std::fs::File;
-use std::io::{BufWriter, ErrorKind, Write};
+use std::io::ErrorKind;
 use std::process::ExitCode;
-use storage::{IndexFile, apply_update, index_file_name, open_index_file};
+use storage::{DiskFolder, DiskIndex, index_file_name};
 
 /// The size of the buffer of standard output, in bytes.
 const OUTPUT_BYTES: usize = 65536;
@@ -26,102 +32,158 @@ const OUTPUT_BYTES: usize = 65536;
 fn main(rt: HostRuntime) -> ExitCode {
     let status = match start(&rt) {
         Ok(status) => status,
-        Err(AllocError) => print_error(&mut StdSink::new(rt.stderr()), OUT_OF_MEMORY),
+        Err(AllocError) => report(&rt, &Outcome::Refused(ProgramFault::Memory)),
     };
     ExitCode::from(status)
 }
 
-/// Errors of the environment come in this order: the first argument, an argument that is not UTF-8, the current
-/// folder, the opening of the index file. Then the tool runs, and the index file is updated.
+/// Does what the arguments mean, and returns the exit status.
 fn start(rt: &HostRuntime) -> Result<u8, AllocError> {
-    let args = args_of(rt.alloc(), rt)?;
-    let mut err = StdSink::new(rt.stderr());
-    let Some(first) = args.valid.first() else {
-        return Ok(print_error(&mut err, FIRST_ARG));
+    let mut args = Vec::new(rt.alloc());
+    let has_non_text = read_args(rt.alloc(), rt, &mut args)?;
+    let given = Given {
+        args,
+        has_non_text,
+        folder: current_folder(rt)?,
     };
-    let Some(tool) = tool_of(first.as_str()) else {
-        return Ok(print_error(&mut err, FIRST_ARG));
+    let call = match Call::read(rt.alloc(), &given) {
+        Ok(call) => call,
+        Err(fault) => return Ok(report(rt, &Outcome::Refused(fault))),
     };
-    if args.has_non_text {
-        let position = args.valid.len();
-        return Ok(print_arg_error(rt.alloc(), first.as_str(), position, &mut err));
+    if call.tool == Tool::Cgrep {
+        let no_file = FoundFile {
+            name: "",
+            index: Ok(None),
+            claim: Ok(()),
+        };
+        let outcome = execute(rt, &call, no_file)?;
+        return Ok(report(rt, &outcome));
     }
-    match tool {
-        Tool::Cgrep => {
-            let mut tree = DiskTree::new(rt.clone()?);
-            Ok(execute_on_disk(rt, &args.valid, "", "", None, &mut tree, &mut err)?.status)
-        }
-        Tool::Csearch => execute_indexed(rt, &args.valid, "", &mut err),
-        Tool::Cindex => match current_folder(rt)? {
-            Some(folder) => execute_indexed(rt, &args.valid, folder.as_str(), &mut err),
-            None => Ok(print_error(&mut err, NO_FOLDER)),
-        },
-    }
+    execute_indexed(rt, &call)
 }
 
-/// The current folder, if it is UTF-8 and begins with `/`.
+/// The current folder, if it is UTF-8.
 fn current_folder(rt: &HostRuntime) -> Result<Option<String>, AllocError> {
     match env::current_dir(rt) {
-        Ok(folder) if is_absolute(folder.as_str()) => {
-            Ok(Some(String::from_str(rt.alloc(), folder.as_str())?))
-        }
+        Ok(folder) => Ok(Some(String::from_str(rt.alloc(), folder.as_str())?)),
         Err(error) if error.kind() == ErrorKind::OutOfMemory => Err(AllocError),
-        _ => Ok(None),
+        Err(_) => Ok(None),
     }
 }
 
-/// Runs the tool over the index file, and updates the file.
-fn execute_indexed<W: Write + Drop>(
-    rt: &HostRuntime,
-    args: &[String],
-    folder: &str,
-    err: &mut StdSink<W>,
-) -> Result<u8, AllocError> {
-    let alloc = rt.alloc();
-    let name = match index_file_name(rt) {
-        Ok(name) => name,
-        Err(fault) => return Ok(print_file_error(alloc, "cannot read", "CSEARCHINDEX", fault, err)),
+/// Does what the arguments mean over the index file.
+fn execute_indexed(rt: &HostRuntime, call: &Call<'_>) -> Result<u8, AllocError>
+    requires { IsCall call.now }
+{
+    let (name, folder) = match index_file_name(rt) {
+        Ok(name) => {
+            let folder = DiskFolder::new(rt.clone()?, name.as_str());
+            (name, folder)
+        }
+        Err(fault) => (String::from_str(rt.alloc(), "CSEARCHINDEX")?, Err(fault)),
     };
-    let IndexFile { file, seen } = match open_index_file(rt, name.as_str()) {
-        Ok(found) => found,
-        Err(fault) => return Ok(print_file_error(alloc, "cannot read", name.as_str(), fault, err)),
-    };
-    // A file that was indexed may be a pipe by now.
-    let mut tree = DiskTree::of_files(rt.clone()?);
-    let outcome = execute_on_disk(rt, args, folder, name.as_str(), file, &mut tree, err)?;
-    match apply_update(rt, name.as_str(), seen.as_ref(), &outcome.index) {
-        Ok(()) => Ok(outcome.status),
-        Err(fault) => Ok(print_file_error(alloc, "cannot write", name.as_str(), fault, err)),
+    match folder {
+        Ok(mut folder) => execute_in(rt, call, name.as_str(), &mut folder),
+        Err(fault) => {
+            let file = FoundFile {
+                name: name.as_str(),
+                index: Err(io_fault(fault)),
+                claim: Ok(()),
+            };
+            let outcome = execute(rt, call, file)?;
+            Ok(report(rt, &outcome))
+        }
     }
 }
 
-/// Runs the tool over the disk and the standard streams. A search for lines skips the file that it writes to, which
-/// would grow as it is read.
-fn execute_on_disk<W: Write + Drop>(
+/// Opens the index file, does what the arguments mean, and updates the file. A second run, and a folder that cannot be
+/// written, are found before the job.
+fn execute_in<'a>(
     rt: &HostRuntime,
-    args: &[String],
-    folder: &str,
-    name: &str,
-    file: Option<DiskStore<File>>,
-    tree: &mut DiskTree<HostRuntime>,
-    err: &mut StdSink<W>,
-) -> Result<Outcome, AllocError> {
-    let Ok(out) = BufWriter::with_capacity(rt.alloc(), OUTPUT_BYTES, rt.stdout()) else {
-        return Err(AllocError);
+    call: &'a Call<'a>,
+    name: &'a str,
+    folder: &mut DiskFolder,
+) -> Result<u8, AllocError>
+    requires { IsCall call.now }
+{
+    let index = folder.look().map_err(io_fault);
+    let claims = index.is_ok() && call.may_update();
+    let claim = if claims {
+        begin_update(folder).map_err(io_fault)
+    } else {
+        Ok(())
     };
-    if prints_lines(rt.alloc(), args)? {
+    let file = FoundFile { name, index, claim };
+    let outcome = execute(rt, call, file);
+    if claims && claim.is_ok() {
+        match finish(folder, &outcome) {
+            Ok(()) => {}
+            Err(StorageFault::Failed) => {
+                let fault = ProgramFault::Unwritable(name);
+                return Ok(report(rt, &Outcome::Refused(fault)));
+            }
+            Err(StorageFault::Memory) => return Err(AllocError),
+        }
+    }
+    Ok(report(rt, &outcome?))
+}
+
+/// Updates the claimed index file.
+fn finish(
+    folder: &mut DiskFolder,
+    outcome: &Result<Outcome<'_>, AllocError>,
+) -> Result<(), StorageFault> {
+    match outcome {
+        Ok(outcome) => {
+            let update = outcome.update().unwrap_or(&IndexUpdate::Keep);
+            finish_update(folder, update)
+        }
+        Err(AllocError) => finish_update(folder, &IndexUpdate::Keep),
+    }
+}
+
+fn io_fault(fault: StorageFault) -> IoFault {
+    match fault {
+        StorageFault::Failed => IoFault::Failed,
+        StorageFault::Memory => IoFault::Memory,
+    }
+}
+
+/// Does what the arguments mean over the disk and the standard streams.
+fn execute<'a>(
+    rt: &HostRuntime,
+    call: &'a Call<'a>,
+    file: FoundFile<'a, DiskIndex>,
+) -> Result<Outcome<'a>, AllocError>
+    requires { IsCall call.now }
+{
+    let out = BufferedSink::new(rt.alloc(), OUTPUT_BYTES, StdSink::new(rt.stdout()))?;
+    let mut tree = match call.tool {
+        Tool::Cgrep => DiskTree::new(rt.clone()?),
+        // A file that was indexed may be a pipe by now.
+        Tool::Cindex | Tool::Csearch => DiskTree::of_files(rt.clone()?),
+    };
+    // A file that the lines are written to would grow as it is read.
+    if call.prints_lines() {
         tree.exclude_output();
     }
-    let mut index = file;
-    Ok(execute(
-        rt.alloc(),
-        args,
-        folder,
-        name,
-        index.as_mut(),
+    let mut world = World {
+        alloc: rt.alloc(),
+        file,
         tree,
-        &mut StdSource::new(rt.stdin()),
-        &mut StdSink::new(out),
-        err,
-    ))
+        input: StdSource::new(rt.stdin()),
+        out,
+        err: StdSink::new(rt.stderr()),
+    };
+    let outcome = run(call, &mut world);
+    // A search that failed has not flushed the lines that it printed before.
+    let _ = world.out.flush();
+    Ok(outcome)
+}
+
+/// Prints the line of an error, and returns the exit status. If the line cannot be printed, there is nothing left to
+/// report that on.
+fn report(rt: &HostRuntime, outcome: &Outcome<'_>) -> u8 {
+    let _ = outcome.report(rt.alloc(), &mut StdSink::new(rt.stderr()));
+    outcome.status()
 }

@@ -1,6 +1,8 @@
-// The index file: its name, its opening, and its atomic replacement.
-use cs_tree::{DiskStore, IoFault, TreeFault};
-use std::alloc::AllocError;
+// The index file on the disk: its name, its opening, and FILE~ beside it.
+ghost use Rattle.std.specs.Prelude.{◌≡◌, length};
+
+use cs_storage::{IndexFolder, StorageFault, kept_mode};
+use cs_tree::{DiskStore, IoFault, Store, covers, is_absolute};
 use std::env::{self, VarError};
 use std::fs::{self, File, Metadata, Permissions, TryLockError};
 use std::io::{self, ErrorKind, Write};
@@ -10,80 +12,20 @@ use std::path::Path;
 /// One more than the maximum size of an index. A file of this size is not opened.
 const TOO_LONG: u64 = 1 << 32;
 
-/// The mode of a new index, before the umask.
+/// The maximum number of links from FILE on, as in Linux.
+const MOST_LINKS: usize = 40;
+
+/// The mode of a first index, before the umask.
 const NEW_MODE: u32 = 0o666;
 
-/// The mode of the temporary file, until it gets that of the old index.
-const TEMP_MODE: u32 = 0o600;
+/// The rights that the owner has to FILE~, at least, until it is renamed.
+const OWNER_WRITES: u32 = 0o600;
 
-/// The bits of the old index's mode that the new one gets.
+/// The bits of a mode that say who may read, write and execute.
 const MODE_BITS: u32 = 0o777;
 
 /// The super-user, who may change the owner of a file.
 const ROOT: u32 = 0;
-
-/// The update of the index file.
-#[derive(Drop)]
-pub(crate) enum IndexUpdate {
-    /// It stays unchanged.
-    Keep,
-    /// It gets these bytes.
-    Write(Vec<u8>),
-    /// It is removed.
-    Remove,
-}
-
-impl IndexUpdate {
-    /// The update after jobs that left this index, or none.
-    pub(crate) fn of(index: Option<Vec<u8>>) -> IndexUpdate {
-        match index {
-            Some(bytes) => IndexUpdate::Write(bytes),
-            None => IndexUpdate::Remove,
-        }
-    }
-}
-
-/// Why the index file cannot be read or written.
-#[derive(Clone, Copy, Debug, PartialEq, Eq, Drop)]
-pub(crate) enum StorageFault {
-    /// A call of the system failed.
-    Failed,
-    /// An allocation failed.
-    Memory,
-}
-
-impl From<io::Error> for StorageFault {
-    fn from(error: io::Error) -> StorageFault {
-        match error.kind() {
-            ErrorKind::OutOfMemory => StorageFault::Memory,
-            _ => StorageFault::Failed,
-        }
-    }
-}
-
-impl From<IoFault> for StorageFault {
-    fn from(fault: IoFault) -> StorageFault {
-        match fault {
-            IoFault::Failed => StorageFault::Failed,
-            IoFault::Memory => StorageFault::Memory,
-        }
-    }
-}
-
-impl From<TreeFault> for StorageFault {
-    fn from(fault: TreeFault) -> StorageFault {
-        match fault {
-            TreeFault::Memory => StorageFault::Memory,
-            _ => StorageFault::Failed,
-        }
-    }
-}
-
-impl From<AllocError> for StorageFault {
-    fn from(_refused: AllocError) -> StorageFault {
-        StorageFault::Memory
-    }
-}
 
 /// The name of the index file: the value of `CSEARCHINDEX`, or if that is unset or empty `.csearchindex` in the
 /// folder that `HOME` names.
@@ -106,39 +48,187 @@ fn variable(rt: &HostRuntime, name: &str) -> Result<String, StorageFault> {
     }
 }
 
-/// The index file as it was opened.
+/// The index file on the disk. It is unmodelled.
 #[derive(Drop)]
-pub(crate) struct IndexFile {
-    /// The file, if there is one.
-    pub(crate) file: Option<DiskStore<File>>,
-    /// Its metadata, when it was opened.
-    pub(crate) seen: Option<Metadata>,
+pub(crate) struct DiskFolder {
+    rt: HostRuntime,
+    /// The path of FILE, which is no link.
+    file: String,
+    /// The path of FILE~.
+    temp_path: String,
+    /// The metadata of FILE when it was opened.
+    seen: Option<Metadata>,
+    /// FILE~, if this process made it and locked it.
+    temp: Option<File>,
 }
 
-/// Opens the index file, if there is one. Only a regular file is opened: opening a pipe would block, and opening a
-/// device may have side effects.
-pub(crate) fn open_index_file(rt: &HostRuntime, file: &str) -> Result<IndexFile, StorageFault> {
-    match fs::metadata(rt, file) {
-        Ok(there) if is_readable(&there) => {}
-        Ok(_) => return Err(StorageFault::Failed),
-        Err(error) if error.kind() == ErrorKind::NotFound => {
-            return Ok(IndexFile {
-                file: None,
-                seen: None,
-            });
-        }
-        Err(error) => return Err(StorageFault::from(error)),
+impl DiskFolder {
+    /// The index file with this name, or if that is a link, the file that it leads to.
+    pub(crate) fn new(rt: HostRuntime, name: &str) -> Result<DiskFolder, StorageFault> {
+        let file = follow_links(&rt, name)?;
+        let mut temp_path = String::from_str(rt.alloc(), file.as_str())?;
+        temp_path.push('~')?;
+        Ok(DiskFolder {
+            rt,
+            file,
+            temp_path,
+            seen: None,
+            temp: None,
+        })
     }
-    let opened = fs::open(rt, file)?;
-    let seen = opened.metadata()?;
-    if !is_readable(&seen) {
+
+    /// FILE~, which has to be held.
+    fn temp(&self) -> Result<&File, StorageFault> {
+        match &self.temp {
+            Some(temp) => Ok(temp),
+            None => Err(StorageFault::Failed),
+        }
+    }
+}
+
+impl IndexFolder for DiskFolder {
+    type Index = DiskIndex;
+
+    /// Only a regular file is opened: opening a pipe would block, and opening a device may have side effects.
+    fn look(&mut self) -> Result<Option<DiskIndex>, StorageFault> {
+        match fs::metadata(&self.rt, self.file.as_str()) {
+            Ok(there) if is_readable(&there) => {}
+            Ok(_) => return Err(StorageFault::Failed),
+            Err(error) if error.kind() == ErrorKind::NotFound => return Ok(None),
+            Err(error) => return Err(StorageFault::from(error)),
+        }
+        let opened = fs::open(&self.rt, self.file.as_str())?;
+        let seen = opened.metadata()?;
+        if !is_readable(&seen) {
+            return Err(StorageFault::Failed);
+        }
+        let store = DiskStore::new(opened)?;
+        self.seen = Some(seen);
+        Ok(Some(DiskIndex(store)))
+    }
+
+    /// A file system without locks is accepted, since no other process can create FILE~ while it exists.
+    fn claim(&mut self) -> Result<(), StorageFault> {
+        let path = self.temp_path.as_str();
+        remove_stale(&self.rt, path, self.seen.as_ref())?;
+        let mode = self
+            .seen
+            .as_ref()
+            .map_or(NEW_MODE, |seen| kept_mode(seen.mode()) | OWNER_WRITES);
+        let temp = File::options()
+            .write(true)
+            .create_new(true)
+            .mode(mode)
+            .open(&self.rt, path)?;
+        if let Err(TryLockError::WouldBlock) = temp.try_lock() {
+            return Err(StorageFault::Failed);
+        }
+        check_same_file(&self.rt, path, &temp)?;
+        self.temp = Some(temp);
+        Ok(())
+    }
+
+    fn is_unchanged(&mut self) -> bool {
+        match (fs::metadata(&self.rt, self.file.as_str()), &self.seen) {
+            (Ok(there), Some(seen)) => {
+                is_same(&there, seen)
+                    && there.len() == seen.len()
+                    && (there.mtime(), there.mtime_nsec()) == (seen.mtime(), seen.mtime_nsec())
+                    && (there.ctime(), there.ctime_nsec()) == (seen.ctime(), seen.ctime_nsec())
+            }
+            (Err(error), None) => error.kind() == ErrorKind::NotFound,
+            _ => false,
+        }
+    }
+
+    fn fill(&mut self, bytes: &[u8]) -> Result<(), StorageFault> {
+        let temp = self.temp()?;
+        write_bytes(temp, bytes)?;
+        copy_rights(temp, self.seen.as_ref())?;
+        Ok(())
+    }
+
+    fn sync(&mut self) -> Result<(), StorageFault> {
+        self.temp()?.sync_all()?;
+        Ok(())
+    }
+
+    fn rename(&mut self) -> Result<(), StorageFault> {
+        let temp = self.temp()?;
+        check_same_file(&self.rt, self.temp_path.as_str(), temp)?;
+        fs::rename(&self.rt, self.temp_path.as_str(), self.file.as_str())?;
+        self.temp = None;
+        sync_folder(&self.rt, self.file.as_str());
+        Ok(())
+    }
+
+    fn remove(&mut self) -> Result<(), StorageFault> {
+        match fs::remove_file(&self.rt, self.file.as_str()) {
+            Err(error) if error.kind() != ErrorKind::NotFound => Err(StorageFault::from(error)),
+            _ => {
+                sync_folder(&self.rt, self.file.as_str());
+                Ok(())
+            }
+        }
+    }
+
+    fn release(&mut self) {
+        if let Some(temp) = self.temp.take() {
+            if check_same_file(&self.rt, self.temp_path.as_str(), &temp).is_ok() {
+                let _ = fs::remove_file(&self.rt, self.temp_path.as_str());
+            }
+        }
+    }
+}
+
+/// The opened index file.
+#[derive(Drop)]
+pub(crate) struct DiskIndex(DiskStore<File>);
+
+impl Store for DiskIndex {
+    ghost size = { λ s. ⟦<DiskStore<File> as Store>⟧.size s.0 };
+
+    ghost failed = { λ s. ⟦<DiskStore<File> as Store>⟧.failed s.0 };
+
+    fn len(&self) -> usize {
+        self.0.len()
+    }
+
+    fn read_at(&mut self, buf: &mut [u8], at: usize) -> Result<usize, IoFault> {
+        self.0.read_at(buf, at)
+    }
+
+    fn failures(&self) -> u64 {
+        self.0.failures()
+    }
+}
+
+/// The path that a path leads to, if it is a link, and the path itself otherwise.
+fn follow_links(rt: &HostRuntime, name: &str) -> Result<String, StorageFault> {
+    let mut path = String::from_str(rt.alloc(), name)?;
+    for _ in 0..MOST_LINKS {
+        match fs::symlink_metadata(rt, path.as_str()) {
+            Ok(there) if there.is_symlink() => path = target_of(rt, path.as_str())?,
+            _ => return Ok(path),
+        }
+    }
+    Err(StorageFault::Failed)
+}
+
+/// The path that a link leads to. Returns an error for a link of the system, such as /dev/stdout, which leads to whatever
+/// a process has opened.
+fn target_of(rt: &HostRuntime, link: &str) -> Result<String, StorageFault> {
+    let folder = fs::canonicalize(rt, folder_of(link))?;
+    if covers("/dev", folder.as_str()) || covers("/proc", folder.as_str()) {
         return Err(StorageFault::Failed);
     }
-    let store = DiskStore::new(opened)?;
-    Ok(IndexFile {
-        file: Some(store),
-        seen: Some(seen),
-    })
+    let target = fs::read_link(rt, link)?;
+    if is_absolute(target.as_str()) {
+        return Ok(String::from_str(rt.alloc(), target.as_str())?);
+    }
+    let folder = folder.as_str();
+    let target = target.as_str();
+    Ok(format!(in rt.alloc(); "{folder}/{target}")?)
 }
 
 /// Whether it is a regular file that is not too long for an index.
@@ -146,107 +236,17 @@ fn is_readable(there: &Metadata) -> bool {
     there.is_file() && there.len() < TOO_LONG
 }
 
-/// Applies an update to the index file, if the file is still the one that was opened.
-pub(crate) fn apply_update(
-    rt: &HostRuntime,
-    file: &str,
-    seen: Option<&Metadata>,
-    update: &IndexUpdate,
-) -> Result<(), StorageFault> {
-    match update {
-        IndexUpdate::Keep => Ok(()),
-        IndexUpdate::Remove if is_unchanged(rt, file, None) => Ok(()),
-        IndexUpdate::Remove => replace(rt, file, seen, None),
-        IndexUpdate::Write(bytes) => replace(rt, file, seen, Some(bytes)),
-    }
-}
-
-/// Writes these bytes to the index file, or removes it. The bytes go to a temporary file beside it, which is then
-/// renamed, so that the index is always whole, with its old bytes or its new ones.
-fn replace(
-    rt: &HostRuntime,
-    file: &str,
-    seen: Option<&Metadata>,
-    bytes: Option<&[u8]>,
-) -> Result<(), StorageFault> {
-    let mut temp_path = String::from_str(rt.alloc(), file)?;
-    temp_path.push('~')?;
-    let temp = create_temp(rt, temp_path.as_str(), seen)?;
-    let changed = replace_if_unchanged(rt, file, temp_path.as_str(), &temp, seen, bytes);
-    // After a rename the temporary name is free.
-    if check_same_file(rt, temp_path.as_str(), &temp).is_ok() {
-        let _ = fs::remove_file(rt, temp_path.as_str());
-    }
-    changed?;
-    sync_folder(rt, file);
-    Ok(())
-}
-
-/// Replaces or removes the index file while the temporary file is locked, unless the index file has changed since it
-/// was opened.
-fn replace_if_unchanged(
-    rt: &HostRuntime,
-    file: &str,
-    temp_path: &str,
-    temp: &File,
-    seen: Option<&Metadata>,
-    bytes: Option<&[u8]>,
-) -> io::Result<()> {
-    if !is_unchanged(rt, file, seen) {
-        return Err(busy());
-    }
-    match bytes {
-        Some(bytes) => {
-            write_and_sync(temp, bytes)?;
-            copy_mode(temp, seen)?;
-            check_same_file(rt, temp_path, temp)?;
-            fs::rename(rt, temp_path, file)
-        }
-        None => fs::remove_file(rt, file),
-    }
-}
-
-/// Whether the index file is the one that was opened, unmodified, or is still missing.
-fn is_unchanged(rt: &HostRuntime, file: &str, seen: Option<&Metadata>) -> bool {
-    match (fs::metadata(rt, file), seen) {
-        (Ok(there), Some(seen)) => {
-            is_same(&there, seen)
-                && there.len() == seen.len()
-                && (there.mtime(), there.mtime_nsec()) == (seen.mtime(), seen.mtime_nsec())
-                && (there.ctime(), there.ctime_nsec()) == (seen.ctime(), seen.ctime_nsec())
-        }
-        (Err(error), None) => error.kind() == ErrorKind::NotFound,
-        _ => false,
-    }
-}
-
-/// Creates the temporary file and locks it, so that no other process removes it. A file system without locks is
-/// accepted, since no other process can create the file while it exists.
-fn create_temp(rt: &HostRuntime, temp_path: &str, seen: Option<&Metadata>) -> io::Result<File> {
-    remove_stale(rt, temp_path)?;
-    let mode = if seen.is_some() { TEMP_MODE } else { NEW_MODE };
-    let temp = File::options()
-        .write(true)
-        .create_new(true)
-        .mode(mode)
-        .open(rt, temp_path)?;
-    if let Err(TryLockError::WouldBlock) = temp.try_lock() {
-        return Err(busy());
-    }
-    check_same_file(rt, temp_path, &temp)?;
-    Ok(temp)
-}
-
-/// Removes a temporary file that a killed process left, if it is not locked. Nothing else is opened or removed.
-fn remove_stale(rt: &HostRuntime, temp_path: &str) -> io::Result<()> {
-    match fs::symlink_metadata(rt, temp_path) {
-        Ok(there) if is_stale(rt, &there) => {
-            let stale = fs::open(rt, temp_path)?;
-            if stale.try_lock().is_err() {
+/// Removes a FILE~ that a killed process left, if it is not locked. Nothing else is opened or removed. It is opened for
+/// reading and writing, since the opening of a pipe, which may be there by now, then does not block.
+fn remove_stale(rt: &HostRuntime, path: &str, seen: Option<&Metadata>) -> io::Result<()> {
+    match fs::symlink_metadata(rt, path) {
+        Ok(there) if is_stale(rt, &there, seen) => {
+            let stale = File::options().read(true).write(true).open(rt, path)?;
+            if stale.try_lock().is_err() || !is_same(&there, &stale.metadata()?) {
                 return Err(busy());
             }
-            check_same_file(rt, temp_path, &stale)?;
-            fs::remove_file(rt, temp_path)
+            check_same_file(rt, path, &stale)?;
+            fs::remove_file(rt, path)
         }
         Ok(_) => Err(busy()),
         Err(error) if error.kind() == ErrorKind::NotFound => Ok(()),
@@ -254,19 +254,21 @@ fn remove_stale(rt: &HostRuntime, temp_path: &str) -> io::Result<()> {
     }
 }
 
-/// Whether a process of this user may have left the file: a regular file with one link that belongs to the user of
-/// this process, by `/proc/self`.
-fn is_stale(rt: &HostRuntime, there: &Metadata) -> bool {
-    match fs::metadata(rt, "/proc/self") {
-        Ok(process) => there.is_file() && there.nlink() <= 1 && there.uid() == process.uid(),
+/// Whether a process of this user may have left the file: a regular file with one link that belongs to the user of this
+/// process, by `/proc/self`, or to the owner of FILE: to whom root gives the file, or a file system that maps owners.
+fn is_stale(rt: &HostRuntime, there: &Metadata, seen: Option<&Metadata>) -> bool {
+    let is_left = there.is_file() && there.nlink() <= 1;
+    let is_ours = match fs::metadata(rt, "/proc/self") {
+        Ok(process) => there.uid() == process.uid(),
         Err(_) => false,
-    }
+    };
+    is_left && (is_ours || seen.is_some_and(|seen| there.uid() == seen.uid()))
 }
 
 /// Fails unless the open file still has this name: another process may have removed it before the lock was taken, and
 /// in a folder that is open to all anybody may at any time.
-fn check_same_file(rt: &HostRuntime, temp_path: &str, opened: &File) -> io::Result<()> {
-    let there = fs::symlink_metadata(rt, temp_path)?;
+fn check_same_file(rt: &HostRuntime, path: &str, opened: &File) -> io::Result<()> {
+    let there = fs::symlink_metadata(rt, path)?;
     if is_same(&there, &opened.metadata()?) {
         Ok(())
     } else {
@@ -283,14 +285,13 @@ fn busy() -> io::Error {
     io::Error::from(ErrorKind::WouldBlock)
 }
 
-/// Writes the bytes to a new file and syncs it.
-fn write_and_sync(mut temp: &File, bytes: &[u8]) -> io::Result<()> {
-    temp.write_all(bytes)?;
-    temp.sync_all()
+fn write_bytes(mut temp: &File, bytes: &[u8]) -> io::Result<()> {
+    temp.write_all(bytes)
 }
 
-/// Gives a new file the mode of the index that it replaces, and as root also its owner.
-fn copy_mode(temp: &File, seen: Option<&Metadata>) -> io::Result<()> {
+/// Gives FILE~ the rights of the index that it replaces, and as root also its owner. A mode that is right is not set,
+/// since some file systems refuse to set any.
+fn copy_rights(temp: &File, seen: Option<&Metadata>) -> io::Result<()> {
     let Some(seen) = seen else {
         return Ok(());
     };
@@ -298,16 +299,24 @@ fn copy_mode(temp: &File, seen: Option<&Metadata>) -> io::Result<()> {
     if own.uid() == ROOT && (own.uid(), own.gid()) != (seen.uid(), seen.gid()) {
         fchown(temp, Some(seen.uid()), Some(seen.gid()))?;
     }
-    temp.set_permissions(Permissions::from_mode(seen.mode() & MODE_BITS))
+    let mode = kept_mode(seen.mode());
+    if own.mode() & MODE_BITS == mode {
+        return Ok(());
+    }
+    temp.set_permissions(Permissions::from_mode(mode))
 }
 
 /// Syncs the folder of a renamed file. If that fails, the index is whole all the same.
 fn sync_folder(rt: &HostRuntime, file: &str) {
-    let folder = match Path::new(file).parent() {
+    if let Ok(opened) = fs::open(rt, folder_of(file)) {
+        let _ = opened.sync_all();
+    }
+}
+
+/// The path of the folder of a file.
+fn folder_of(file: &str) -> &str {
+    match Path::new(file).parent() {
         Some(folder) if !folder.as_str().is_empty() => folder.as_str(),
         _ => ".",
-    };
-    if let Ok(opened) = fs::open(rt, folder) {
-        let _ = opened.sync_all();
     }
 }

@@ -1,4 +1,7 @@
+pub mod FormValues
 pub mod Intersection
+pub mod MentionedLists
 pub mod QueryMembers
 pub mod QueryTrigrams
 pub mod RequiredLists
+pub mod WindowRows

@@ -9,7 +9,7 @@ use Rattle.cs_match.specs.declared.state.State.{State}
 use Rattle.cs_match.specs.Deciding.{Decides}
 use Rattle.cs_match.specs.Lines.{newline}
 use Rattle.cs_match.specs.NoNewline.{HasNoNewline}
-use Rattle.cs_match.specs.Glushkov.{position_count, accepts_at, IsExpanded}
+use Rattle.cs_match.specs.Glushkov.{accepts_in, IsExpanded}
 use Rattle.cs_match.specs.States.{start, next_state, state_through, successor, accepts_before}
 use Rattle.cs_match.specs.LazyDfa.{IsStateNumber, found, next, IsTransition, unknown, known, AreStates, AreTransitions}
 use Rattle.cs_match.specs.Scan.{state_after, match_state, unknown_state, first_special, IsAbsorbing, RulesOutLines}
@@ -38,14 +38,14 @@ part_at [] part i low = absurd (omega arith)
 part_at (b ∷ line) part zero low = eqb-false b newline part.0
 part_at (b ∷ line) part (suc i) low = part_at line part.1 i (omega arith)
 
-pub never_found : (t : Tree) (line : List ℕ) → IsExpanded t → HasNoNewline line → NeverAccepts t (start (position_count t)) line → HasMatch t line → ⊥
+pub never_found : (t : Tree) (line : List ℕ) → IsExpanded t → HasNoNewline line → NeverAccepts t (start t) line → HasMatch t line → ⊥
 never_found t line expanded part never found_it =
     let w = (match_where_accepted t line expanded).0 found_it in
     elim (cases_lt w.0 (length line)) [
-      | inl low ↦ both_ways (accepts_at line t (λ _. true) w.0) (sym (accepts_in_line t line w.0 low (part_at line part w.0 low)) ∙ never_at t (start (position_count t)) line never w.0 low) w.2
+      | inl low ↦ both_ways (accepts_in line t w.0) (sym (accepts_in_line t line w.0 low (part_at line part w.0 low)) ∙ never_at t (start t) line never w.0 low) w.2
       | inr high ↦
           let e : length line ≡ w.0 = omega (arith, w.1) in
-          both_ways (accepts_at line t (λ _. true) (length line)) (sym (accepts_at_end t line) ∙ never_ends t (start (position_count t)) line never) (ap (accepts_at line t (λ _. true)) e ∙ w.2)
+          both_ways (accepts_in line t (length line)) (sym (accepts_at_end t line) ∙ never_ends t (start t) line never) (ap (accepts_in line t) e ∙ w.2)
     ]
 
 -- the tree accepts before the byte at this offset of a line and its newline
@@ -61,17 +61,17 @@ accepts_last : (t : Tree) (n : State) (line : List ℕ) → AcceptsAt t n line (
 accepts_last t n [] h = h
 accepts_last t n (b ∷ line) h = accepts_last t (next_state t n b) line h
 
-pub accepts_match : (t : Tree) (line : List ℕ) → IsExpanded t → HasNoNewline line → (i : ℕ) → i ≤ length line → AcceptsAt t (start (position_count t)) line i → HasMatch t line
+pub accepts_match : (t : Tree) (line : List ℕ) → IsExpanded t → HasNoNewline line → (i : ℕ) → i ≤ length line → AcceptsAt t (start t) line i → HasMatch t line
 accepts_match t line expanded part i high accepting =
     (match_where_accepted t line expanded).1 (i, high, accepts_there)
   where
-    accepts_there : accepts_at line t (λ _. true) i ≡ true
+    accepts_there : accepts_in line t i ≡ true
     accepts_there =
         elim (cases_lt i (length line)) [
-          | inl low ↦ sym (accepts_in_line t line i low (part_at line part i low)) ∙ accepts_within t (start (position_count t)) line i low accepting
+          | inl low ↦ sym (accepts_in_line t line i low (part_at line part i low)) ∙ accepts_within t (start t) line i low accepting
           | inr past ↦
               let e : i ≡ length line = omega (arith, past, high) in
-              ap (accepts_at line t (λ _. true)) e ∙ sym (accepts_at_end t line) ∙ accepts_last t (start (position_count t)) line (subst (AcceptsAt t (start (position_count t)) line) e accepting)
+              ap (accepts_in line t) e ∙ sym (accepts_at_end t line) ∙ accepts_last t (start t) line (subst (AcceptsAt t (start t) line) e accepting)
         ]
 
 module _ (t : Tree) (cached : List State) (used : ℕ) (transitions : List ℕ) (bound : used ≤ 254) (given : AreTransitions t cached used transitions) where
@@ -112,7 +112,7 @@ module _ (t : Tree) (cached : List State) (used : ℕ) (transitions : List ℕ) 
   kind_of : (slot b transition : ℕ) → IsTransition t cached used slot b transition → (transition < first_special) ⊎ (transition ≡ match_state) ⊎ (transition ≡ unknown_state)
   kind_of slot b transition (unknown is) = inr (inr is)
   kind_of slot b transition (known low (found is h)) = inr (inl is)
-  kind_of slot b transition (known low (next h there line)) = inl (state_stays t cached used transition (successor t (get_or cached slot (start (position_count t))) b) bound there)
+  kind_of slot b transition (known low (next h there line)) = inl (state_stays t cached used transition (successor t (get_or cached slot (start t)) b) bound there)
 
   kinds : (at : ℕ) → at < 65536 → (get_or transitions at 0 < first_special) ⊎ (get_or transitions at 0 ≡ match_state) ⊎ (get_or transitions at 0 ≡ unknown_state)
   kinds at low =
@@ -132,7 +132,7 @@ module _ (t : Tree) (cached : List State) (used : ℕ) (transitions : List ℕ) 
       ]
 
   -- a transition, if the scan of the rest of the text stays ordinary
-  ordinary_here : (n : State) (b transition : ℕ) (text : List ℕ) → AreBytes text → (slot : ℕ) → get_or cached slot (start (position_count t)) ≡ n → IsTransition t cached used slot b transition → state_after transitions transition text < first_special →
+  ordinary_here : (n : State) (b transition : ℕ) (text : List ℕ) → AreBytes text → (slot : ℕ) → get_or cached slot (start t) ≡ n → IsTransition t cached used slot b transition → state_after transitions transition text < first_special →
       (accepts_before t n b ≡ false) × IsStateNumber t cached used transition (successor t n b) × (b ≡ 10 → transition ≡ 0)
   ordinary_here n b transition text bytes slot same (unknown is) ordinary = absurd (omega (arith, ordinary, ap (λ c. state_after transitions c text) is ∙ from_unknown text bytes))
   ordinary_here n b transition text bytes slot same (known low (found is h)) ordinary = absurd (omega (arith, ordinary, ap (λ c. state_after transitions c text) is ∙ from_found text bytes))
@@ -161,7 +161,7 @@ module _ (t : Tree) (cached : List State) (used : ℕ) (transitions : List ℕ) 
       (rest.0, (step.0, rest.1))
 
   -- a transition, if the scan of the rest of the text reaches the match state
-  found_here : (n : State) (b transition : ℕ) (text : List ℕ) → AreBytes text → (slot : ℕ) → get_or cached slot (start (position_count t)) ≡ n → IsTransition t cached used slot b transition → state_after transitions transition text ≡ match_state →
+  found_here : (n : State) (b transition : ℕ) (text : List ℕ) → AreBytes text → (slot : ℕ) → get_or cached slot (start t) ≡ n → IsTransition t cached used slot b transition → state_after transitions transition text ≡ match_state →
       (accepts_before t n b ≡ true) ⊎ IsStateNumber t cached used transition (successor t n b)
   found_here n b transition text bytes slot same (unknown is) end = absurd (omega (arith, end, ap (λ c. state_after transitions c text) is ∙ from_unknown text bytes))
   found_here n b transition text bytes slot same (known low (found is h)) end = inl (sym (ap (λ m. accepts_before t m b) same) ∙ h)
@@ -196,25 +196,25 @@ module _ (t : Tree) (cached : List State) (used : ℕ) (transitions : List ℕ) 
   -- the transitions rule out lines
   pub dfa_rules_out : AreStates t cached used → IsExpanded t → (has_match : List ℕ → Bool) → Decides has_match t → RulesOutLines has_match transitions
   dfa_rules_out right expanded has_match decides =
-      let first : IsStateNumber t cached used 0 (start (position_count t)) = record { whole = refl; in_use = omega (arith, right.some); same = right.first } in
+      let first : IsStateNumber t cached used 0 (start t) = record { whole = refl; in_use = omega (arith, right.some); same = right.first } in
       let terminated = λ (line : List ℕ) (bytes : AreBytes line). All-append IsByte line (newline ∷ []) bytes (All-cons IsByte newline [] (omega arith) (All-nil IsByte)) in
       record {
         absorbs = absorbs;
-        back = λ line bytes part ordinary. (ordinary_line (start (position_count t)) 0 line (terminated line bytes) part first ordinary).0;
+        back = λ line bytes part ordinary. (ordinary_line (start t) 0 line (terminated line bytes) part first ordinary).0;
         none = λ line bytes part ordinary.
-            false_from_ne_true (has_match line) (λ e. never_found t line expanded part (ordinary_line (start (position_count t)) 0 line (terminated line bytes) part first ordinary).1 ((decides line).0 e));
+            false_from_ne_true (has_match line) (λ e. never_found t line expanded part (ordinary_line (start t) 0 line (terminated line bytes) part first ordinary).1 ((decides line).0 e));
       }
 
   -- the transitions decide lines
   pub dfa_decides : AreStates t cached used → IsExpanded t → (has_match : List ℕ → Bool) → Decides has_match t → DecidesLines has_match transitions
   dfa_decides right expanded has_match decides =
-      let first : IsStateNumber t cached used 0 (start (position_count t)) = record { whole = refl; in_use = omega (arith, right.some); same = right.first } in
+      let first : IsStateNumber t cached used 0 (start t) = record { whole = refl; in_use = omega (arith, right.some); same = right.first } in
       record {
         shows = dfa_rules_out right expanded has_match decides;
         kinds = kinds;
         stays = stays;
         found = λ line bytes part end.
             let terminated = All-append IsByte line (newline ∷ []) bytes (All-cons IsByte newline [] (omega arith) (All-nil IsByte)) in
-            let w = accepted_somewhere (start (position_count t)) 0 line terminated part first end in
+            let w = accepted_somewhere (start t) 0 line terminated part first end in
             (decides line).1 (accepts_match t line expanded part w.0 w.1 w.2);
       }

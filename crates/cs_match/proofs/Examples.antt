@@ -2,21 +2,21 @@
 use Rattle.std.proofs.Common.{◌≡◌, ◌+◌, true, false, [], ◌∷◌, refl, ◌∙◌, ap, arith, codes}
 use Rattle.std.specs.Prelude.{None, slice_index}
 use mathlib.Core.Bool.{xor}
-use Rattle.cs_prefilter.specs.declared.class_trigram.ClassTrigram.{ClassTrigram}
+use Rattle.std.proofs.lemmas.Bool.{both_ways}
 use Rattle.cs_syntax.specs.Matching.{Tree, one_of, cat, rep, none, more, word_edge, line_end, member}
-use Rattle.cs_syntax.specs.Lowering.{utf8_tree}
 use Rattle.cs_match.specs.declared.look_around.LookAround.{LookAround}
 use Rattle.cs_match.specs.Lines.{lines, terminated_lines}
 use Rattle.cs_match.specs.PositionSet.{positions_of, shift_and, intersect}
-use Rattle.cs_match.specs.Glushkov.{position_count, repeats, loop_ends}
+use Rattle.cs_match.specs.Glushkov.{repeats, loop_ends}
 use Rattle.cs_match.specs.BitParallel.{lasts_by}
 use Rattle.cs_match.specs.Skipping.{AreWholeLines}
 use Rattle.cs_match.specs.States.{state, accepts_before}
+use Rattle.cs_syntax.specs.CharSteps.{finished}
+use Rattle.cs_match.specs.declared.state.State.{State}
+use Rattle.cs_match.specs.ByteClasses.{AreAlike}
 use Rattle.cs_match.specs.LazyDfa.{blank_transition}
 use Rattle.cs_match.specs.Scan.{state_after}
 use Rattle.cs_match.specs.Automaton.{GrowsOver}
-use Rattle.cs_match.specs.Size.{positions_per_weight}
-use Rattle.cs_match.specs.RequiredTrigrams.{HasTrigram, AreRequired}
 
 lines_of_two : lines (codes "ab\ncd\n") ≡ codes "ab" ∷ codes "cd" ∷ []
 unfolding lines
@@ -79,11 +79,19 @@ unfolding state_after
 after_of_two = refl
 
 -- after `a` the byte before is a word character, after `a-` it is not
-after_a_letter : state word_edge (97 ∷ []) ≡ record { positions = []; first = false; word = true }
+after_a_letter : state word_edge (97 ∷ []) ≡ record { positions = []; first = false; word = true; unfinished = finished }
 after_a_letter = refl
 
-after_a_dash : state word_edge (97 ∷ 45 ∷ []) ≡ record { positions = []; first = false; word = false }
+after_a_dash : state word_edge (97 ∷ 45 ∷ []) ≡ record { positions = []; first = false; word = false; unfinished = finished }
 after_a_dash = refl
+
+-- a tree without `\b` and `^` tells neither a word byte nor the start of the line
+after_no_question : (state line_end (97 ∷ []) ≡ state line_end (45 ∷ [])) × (state line_end [] ≡ state line_end (97 ∷ []))
+after_no_question = (refl, refl)
+
+-- a word byte is unlike another byte
+dash_and_letter : ¬ AreAlike word_edge (state word_edge []) 45 97
+dash_and_letter alike = both_ways false refl (ap (λ (n : State). n.word) alike.successor)
 
 -- `\b` accepts before the end of the line `a`, and between `a` and `-`; not between `a` and `b`
 edge_at_the_end : accepts_before word_edge (state word_edge (97 ∷ [])) 10 ≡ true
@@ -110,53 +118,6 @@ last_transition_of_the_states = refl
 
 first_transition_of_a_match : blank_transition 65024 ≡ 65024
 first_transition_of_a_match = refl
-
--- the trigram of the bytes 2, 0 and 1, and a tree that matches them
-trigram : ClassTrigram
-trigram = record { first = false ∷ false ∷ true ∷ []; second = true ∷ []; third = false ∷ true ∷ [] }
-
-three : Tree
-three = cat (more (one_of trigram.first) (more (one_of trigram.second) (more (one_of trigram.third) none)))
-
-trigram_in_a_line : HasTrigram (trigram ∷ []) (7 ∷ 2 ∷ 0 ∷ 1 ∷ [])
-unfolding trigram
-trigram_in_a_line = (1, (0, trigram, omega arith, refl, record { within = omega arith; first = refl; second = refl; third = refl }))
-
-trigram_of_three_bytes : AreRequired three (trigram ∷ [])
-unfolding three
-trigram_of_three_bytes line found =
-    let at = found.0 in
-    let a = found.4.1 in
-    let b = found.4.2.1 in
-    let c = found.4.2.2.1 in
-    let second : at + 1 ≡ found.4.0 = omega (arith, a.2) in
-    let third : at + 2 ≡ found.4.2.0 = omega (arith, a.2, b.2) in (
-      at,
-      (
-        0,
-        trigram,
-        omega arith,
-        refl,
-        record {
-          within = omega (arith, third, c.0);
-          first = a.1;
-          second = ap (λ k. member trigram.second (slice_index line k)) second ∙ b.1;
-          third = ap (λ k. member trigram.third (slice_index line k)) third ∙ c.1;
-        },
-      ),
-    )
-
--- the set of all characters has 21 positions, as has the set of all but the newline; `é` has two, and so has
--- a block of 64
-lowered_positions :
-    (position_count (utf8_tree ((0, 1114111) ∷ [])) ≡ 21)
-    × (position_count (utf8_tree ((0, 9) ∷ (11, 1114111) ∷ [])) ≡ 21)
-    × (position_count (utf8_tree ((233, 233) ∷ [])) ≡ 2)
-    × (position_count (utf8_tree ((192, 255) ∷ [])) ≡ 2)
-lowered_positions = (refl, refl, refl, refl)
-
-sets_of_a_range_of_characters : 1 + 6 + 13 + 13 + 22 ≡ positions_per_weight
-sets_of_a_range_of_characters = refl
 
 -- the first of two bytes clears the full cache, and each adds a state
 full_dfa_is_emptied : GrowsOver 2 254 3

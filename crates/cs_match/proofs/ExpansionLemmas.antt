@@ -4,8 +4,6 @@ use Rattle.std.specs.Prelude.{Option, Some, None, nat_le, ◌↔◌, if◌then�
 use Rattle.std.proofs.lemmas.Bool.{le-leb, leb-true}
 use Rattle.cs_syntax.specs.Matching.{Tree, Trees, empty, one_of, one_char, cat, alt, rep, line_start, line_end, word_edge, not_word_edge, none, more, Chain, MatchesSpan, MatchesSequence, MatchesBranch, HasMatch}
 use Rattle.cs_match.specs.Glushkov.{IsExpanded, AreExpanded}
-use Rattle.cs_syntax.proofs.LoweringLemmas.{lowered_matches}
-use Rattle.cs_match.proofs.LoweredTreeLemmas.{lowered_expanded}
 use Rattle.cs_match.specs.Expansion.{copies, optional, never, repeat_expansion, expansion, expansions}
 
 chain_map : (R S : ℕ → ℕ → Type 0) → ((i j : ℕ) → R i j → S i j) → (k i j : ℕ) → Chain R k i j → Chain S k i j
@@ -90,7 +88,7 @@ module _ (s : List ℕ) where
     pub matches_expansion : (t : Tree) (i j : ℕ) → MatchesSpan s t i j → MatchesSpan s (expansion t) i j
     matches_expansion empty i j h = h
     matches_expansion (one_of set) i j h = h
-    matches_expansion (one_char ranges) i j h = (lowered_matches s ranges i j).1 h
+    matches_expansion (one_char ranges) i j h = h
     matches_expansion (cat ts) i j h = matches_all_expansions ts i j h
     matches_expansion (alt ts) i j h = matches_some_expansions ts i j h
     matches_expansion (rep x n m) i j h =
@@ -112,7 +110,7 @@ module _ (s : List ℕ) where
     pub matches_as_read : (t : Tree) (i j : ℕ) → MatchesSpan s (expansion t) i j → MatchesSpan s t i j
     matches_as_read empty i j h = h
     matches_as_read (one_of set) i j h = h
-    matches_as_read (one_char ranges) i j h = (lowered_matches s ranges i j).0 h
+    matches_as_read (one_char ranges) i j h = h
     matches_as_read (cat ts) i j h = matches_all_as_read ts i j h
     matches_as_read (alt ts) i j h = matches_some_as_read ts i j h
     matches_as_read (rep x n m) i j h =
@@ -154,7 +152,7 @@ mutual
   pub is_expanded : (t : Tree) → IsExpanded (expansion t)
   is_expanded empty = tt
   is_expanded (one_of set) = tt
-  is_expanded (one_char ranges) = lowered_expanded ranges
+  is_expanded (one_char ranges) = tt
   is_expanded (cat ts) = are_expanded ts
   is_expanded (alt ts) = are_expanded ts
   is_expanded (rep x n m) = repeat_expanded (expansion x) n m (is_expanded x)

@@ -8,7 +8,7 @@ use Rattle.cs_match.specs.declared.matcher.Line.{Line}
 use Rattle.cs_match.specs.declared.state.State.{State}
 use Rattle.cs_match.specs.Deciding.{Decides}
 use Rattle.cs_match.specs.FirstMatch.{NeverAccepted, AreScanned, AcceptsFirst, IsFirstMatch, IsSearched}
-use Rattle.cs_match.specs.Glushkov.{position_count, IsExpanded}
+use Rattle.cs_match.specs.Glushkov.{IsExpanded}
 use Rattle.cs_match.specs.LastPart.{last_part}
 use Rattle.cs_match.specs.Lines.{newline, terminated_lines}
 use Rattle.cs_match.specs.NoNewline.{HasNoNewline}
@@ -73,7 +73,7 @@ module _ (t : Tree) where
     state_on =
         elim (cases_Bool (nat_eq byte newline)) [
           | inl e ↦ rw e (sym (ap (λ a. state t (last_part a)) more ∙ ap (state t) (restarted before byte (eqb-true byte newline e))))
-          | inr e ↦ rw e (sym (ap (λ a. state t (last_part a)) more ∙ ap (state t) (longer before byte e) ∙ state_through-append t (start (position_count t)) (last_part before) (byte ∷ [])))
+          | inr e ↦ rw e (sym (ap (λ a. state t (last_part a)) more ∙ ap (state t) (longer before byte e) ∙ state_through-append t (start t) (last_part before) (byte ∷ [])))
         ]
 
     pub scanned_on : IsExpanded t → AreScanned t text i → accepts_before t (state t (last_part before)) byte ≡ false → AreScanned t text (i + 1)
@@ -81,19 +81,19 @@ module _ (t : Tree) where
         elim (cases_Bool (nat_eq byte newline)) [
           | inl e ↦
               let here = eqb-true byte newline e in
-              let never = never_to_end (start (position_count t)) (last_part before) scanned.part (subst (λ b. accepts_before t (state t (last_part before)) b ≡ false) here stays) in
+              let never = never_to_end (start t) (last_part before) scanned.part (subst (λ b. accepts_before t (state t (last_part before)) b ≡ false) here stays) in
               record {
                 none = λ has_match decides.
                     let miss = false_from_ne_true (has_match (last_part before)) (λ found. never_found t (last_part before) expanded (HasNoNewline-last_part before) never ((decides (last_part before)).0 found)) in
                     subst (NoneMatch has_match) (sym (ap terminated_lines more ∙ ended before byte here))
                     (All-append (λ line. has_match line ≡ false) (terminated_lines before) (last_part before ∷ []) (scanned.none has_match decides)
                     (All-cons (λ line. has_match line ≡ false) (last_part before) [] miss (All-nil (λ line. has_match line ≡ false))));
-                part = subst (NeverAccepted t (start (position_count t))) (sym (ap last_part more ∙ restarted before byte here)) tt;
+                part = subst (NeverAccepted t (start t)) (sym (ap last_part more ∙ restarted before byte here)) tt;
               }
           | inr e ↦
               record {
                 none = λ has_match decides. subst (NoneMatch has_match) (sym (ap terminated_lines more ∙ same_lines before byte e)) (scanned.none has_match decides);
-                part = subst (NeverAccepted t (start (position_count t))) (sym (ap last_part more ∙ longer before byte e)) (never_more (start (position_count t)) (last_part before) byte scanned.part stays);
+                part = subst (NeverAccepted t (start t)) (sym (ap last_part more ∙ longer before byte e)) (never_more (start t) (last_part before) byte scanned.part stays);
               }
         ]
 

@@ -1,9 +1,8 @@
--- An expansion has at most 55 positions for each unit of weight, and at most as many repeats as the weight.
+-- An expansion has at most two positions for each unit of weight, and at most as many repeats as the weight.
 use Rattle.std.proofs.Common.{◌≡◌, ℕ, zero, suc, ◌+◌, ◌-◌, ◌*◌, ◌≤◌, Bool, true, false, refl, ◌∙◌, ap, arith}
 use Rattle.std.specs.Prelude.{Option, Some, None, nat_le, if◌then◌else◌}
 use Rattle.cs_syntax.specs.Matching.{Tree, Trees, empty, one_of, one_char, cat, alt, rep, line_start, line_end, word_edge, not_word_edge, none, more}
 use Rattle.cs_syntax.specs.Weight.{weight, weights, times}
-use Rattle.cs_match.proofs.LoweredTreeLemmas.{lowered_positions, lowered_repeats}
 use Rattle.cs_match.specs.Glushkov.{position_count, position_count_of, repeats, repeats_of}
 use Rattle.cs_match.specs.Expansion.{copies, optional, never, repeat_expansion, expansion, expansions}
 use Rattle.std.proofs.lemmas.Bool.{leb-true}
@@ -35,25 +34,25 @@ repeat_light x (suc n) None w le =
 repeat_light x n (Some m) w le =
     omega (arith, chosen_light x n m (nat_le n m) refl, mul_both m (position_count x) (times n (Some m)) w (omega arith) le)
 
--- 55 positions for each iteration of each part
-each_round : (t w : ℕ) → 1 + t * (55 * w) ≤ 55 * (1 + t * w)
+-- two positions for each iteration of each part
+each_round : (t w : ℕ) → 1 + t * (2 * w) ≤ 2 * (1 + t * w)
 each_round t w = omega arith
 
 mutual
-  pub positions_light : (t : Tree) → position_count (expansion t) ≤ 55 * weight t
+  pub positions_light : (t : Tree) → position_count (expansion t) ≤ 2 * weight t
   positions_light empty = omega arith
   positions_light (one_of set) = omega arith
-  positions_light (one_char ranges) = omega (arith, lowered_positions ranges)
+  positions_light (one_char ranges) = omega arith
   positions_light (cat ts) = omega (arith, all_light ts)
   positions_light (alt ts) = omega (arith, all_light ts)
   positions_light (rep x n m) =
-      omega (arith, repeat_light (expansion x) n m (55 * weight x) (positions_light x), each_round (times n m) (weight x))
+      omega (arith, repeat_light (expansion x) n m (2 * weight x) (positions_light x), each_round (times n m) (weight x))
   positions_light line_start = omega arith
   positions_light line_end = omega arith
   positions_light word_edge = omega arith
   positions_light not_word_edge = omega arith
 
-  pub all_light : (ts : Trees) → position_count_of (expansions ts) ≤ 55 * weights ts
+  pub all_light : (ts : Trees) → position_count_of (expansions ts) ≤ 2 * weights ts
   all_light none = omega arith
   all_light (more t ts) = omega (arith, positions_light t, all_light ts)
 
@@ -82,7 +81,7 @@ mutual
   pub repeats_light : (t : Tree) → repeats (expansion t) ≤ weight t
   repeats_light empty = omega arith
   repeats_light (one_of set) = omega arith
-  repeats_light (one_char ranges) = omega (arith, lowered_repeats ranges)
+  repeats_light (one_char ranges) = omega arith
   repeats_light (cat ts) = omega (arith, all_repeats_light ts)
   repeats_light (alt ts) = omega (arith, all_repeats_light ts)
   repeats_light (rep x n m) = repeat_few (expansion x) n m (weight x) (repeats_light x)

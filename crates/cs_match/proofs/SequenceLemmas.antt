@@ -4,6 +4,8 @@ use Rattle.std.proofs.Math.Bool.{and-false, and-true, or-false, or-true, or_asso
 use Rattle.std.proofs.lemmas.Bool.{and_parts}
 use Rattle.std.proofs.lemmas.List.{take-append-drop, take_all, append-nil, length-take, length-map, length-replicate, replicate-append-replicate, map-append}
 use Rattle.cs_syntax.specs.Matching.{Tree, Trees, empty, one_of, one_char, cat, alt, rep, line_start, line_end, word_edge, not_word_edge, none, more, member}
+use Rattle.cs_syntax.specs.declared.char_step.CharStep.TheVariants.{Nothing}
+use Rattle.cs_match.specs.declared.input.Input.{Input}
 use Rattle.cs_match.specs.declared.look_around.LookAround.{LookAround}
 use Rattle.cs_match.specs.declared.bit_parallel.BitParallel.{BitParallel}
 use Rattle.cs_match.specs.declared.sequences.Sequences.{Sequences}
@@ -53,7 +55,7 @@ mutual
   pub length-sets : (t : Tree) → is_sequence t ≡ true → length (byte_sets t) ≡ position_count t
   length-sets empty h = refl
   length-sets (one_of set) h = refl
-  length-sets (one_char ranges) h = refl
+  length-sets (one_char ranges) h = absurd (cc)
   length-sets (cat ts) h = length-sets_of ts h
   length-sets (alt ts) h = absurd (cc)
   length-sets (rep x n m) h = absurd (cc)
@@ -69,22 +71,22 @@ mutual
       omega (arith, length-append {A = List Bool}, length-sets t p.0, length-sets_of ts p.1)
 
 -- each position of a sequence moves to the next one, and the first is added
-record Moves (t : Tree) (a : LookAround) (b : ℕ) : Type 0 where
+record Moves (t : Tree) (a : LookAround) (b : Input) : Type 0 where
   moves : (enter : Bool) (ms : List Bool) → length ms ≡ position_count t →
-      step t enter ms a b ≡ shift_and enter (replicate (position_count t) false) (mask_by (byte_sets t) b) ms
+      step t enter ms a b ≡ shift_and enter (replicate (position_count t) false) (mask_by (byte_sets t) b.byte) ms
   accepting : (enter : Bool) (ms : List Bool) → length ms ≡ position_count t → accepts t enter ms a ≡ last_or enter ms
 
-record MoveAll (ts : Trees) (a : LookAround) (b : ℕ) : Type 0 where
+record MoveAll (ts : Trees) (a : LookAround) (b : Input) : Type 0 where
   moves : (enter : Bool) (ms : List Bool) → length ms ≡ position_count_of ts →
-      step_all ts enter ms a b ≡ shift_and enter (replicate (position_count_of ts) false) (mask_by (byte_sets_of ts) b) ms
+      step_all ts enter ms a b ≡ shift_and enter (replicate (position_count_of ts) false) (mask_by (byte_sets_of ts) b.byte) ms
   accepting : (enter : Bool) (ms : List Bool) → length ms ≡ position_count_of ts → accepts (cat ts) enter ms a ≡ last_or enter ms
 
-one_moves : (set : List Bool) (a : LookAround) (b : ℕ) → Moves (one_of set) a b
+one_moves : (set : List Bool) (a : LookAround) (b : Input) → Moves (one_of set) a b
 one_moves set a b = record { moves = moves'; accepting = accepting' }
   where
-    moves' : (enter : Bool) (ms : List Bool) → length ms ≡ 1 → step (one_of set) enter ms a b ≡ shift_and enter (false ∷ []) (member set b ∷ []) ms
+    moves' : (enter : Bool) (ms : List Bool) → length ms ≡ 1 → step (one_of set) enter ms a b ≡ shift_and enter (false ∷ []) (member set b.byte ∷ []) ms
     moves' enter [] e = absurd (omega arith)
-    moves' enter (m ∷ ms) e = ap (λ x. (x && member set b) ∷ []) (sym (or-false enter))
+    moves' enter (m ∷ ms) e = ap (λ x. (x && member set b.byte) ∷ []) (sym (or-false enter))
 
     accepting' : (enter : Bool) (ms : List Bool) → length ms ≡ 1 → accepts (one_of set) enter ms a ≡ last_or enter ms
     accepting' enter [] e = absurd (omega arith)
@@ -94,7 +96,7 @@ one_moves set a b = record { moves = moves'; accepting = accepting' }
     accepting' false (false ∷ []) e = refl
     accepting' enter (m ∷ n ∷ ms) e = absurd (omega arith)
 
-none_move : (a : LookAround) (b : ℕ) → MoveAll none a b
+none_move : (a : LookAround) (b : Input) → MoveAll none a b
 none_move a b = record { moves = moves'; accepting = accepting' }
   where
     moves' : (enter : Bool) (ms : List Bool) → length ms ≡ 0 → step_all none enter ms a b ≡ shift_and enter [] [] ms
@@ -105,11 +107,11 @@ none_move a b = record { moves = moves'; accepting = accepting' }
     accepting' false [] e = refl
     accepting' enter (m ∷ ms) e = absurd (omega arith)
 
-more_move : (t : Tree) (ts : Trees) (a : LookAround) (b : ℕ) → is_sequence t ≡ true → Moves t a b → MoveAll ts a b → MoveAll (more t ts) a b
+more_move : (t : Tree) (ts : Trees) (a : LookAround) (b : Input) → is_sequence t ≡ true → Moves t a b → MoveAll ts a b → MoveAll (more t ts) a b
 more_move t ts a b is one others = record { moves = moves'; accepting = accepting' }
   where
     moves' : (enter : Bool) (ms : List Bool) → length ms ≡ position_count t + position_count_of ts →
-        step_all (more t ts) enter ms a b ≡ shift_and enter (replicate (position_count t + position_count_of ts) false) (mask_by (byte_sets t ++ byte_sets_of ts) b) ms
+        step_all (more t ts) enter ms a b ≡ shift_and enter (replicate (position_count t + position_count_of ts) false) (mask_by (byte_sets t ++ byte_sets_of ts) b.byte) ms
     moves' enter ms e =
         let xs = take (position_count t) ms in
         let ys = drop (position_count t) ms in
@@ -117,13 +119,13 @@ more_move t ts a b is one others = record { moves = moves'; accepting = acceptin
         let of-ts : length ys ≡ position_count_of ts = length-others ms (position_count t) (position_count_of ts) e in
         let fs = replicate (position_count t) false in
         let gs = replicate (position_count_of ts) false in
-        let us = mask_by (byte_sets t) b in
-        let vs = mask_by (byte_sets_of ts) b in
+        let us = mask_by (byte_sets t) b.byte in
+        let vs = mask_by (byte_sets_of ts) b.byte in
         rw (one.moves enter xs of-t, one.accepting enter xs of-t, others.moves (last_or enter xs) ys of-ts)
-        (sym (shift_and-append enter fs gs us vs xs ys (length-replicate (position_count t) false ∙ sym of-t) (length-map (byte_sets t) (λ set. member set b) ∙ length-sets t is ∙ sym of-t))
+        (sym (shift_and-append enter fs gs us vs xs ys (length-replicate (position_count t) false ∙ sym of-t) (length-map (byte_sets t) (λ set. member set b.byte) ∙ length-sets t is ∙ sym of-t))
         ∙ ap (λ hs. shift_and enter hs (us ++ vs) (xs ++ ys)) (replicate-append-replicate (position_count t) (position_count_of ts) false)
-        ∙ ap (λ ws. shift_and enter (replicate (position_count t + position_count_of ts) false) ws (xs ++ ys)) (sym (map-append (λ set. member set b) (byte_sets t) (byte_sets_of ts)))
-        ∙ ap (λ zs. shift_and enter (replicate (position_count t + position_count_of ts) false) (mask_by (byte_sets t ++ byte_sets_of ts) b) zs) (take-append-drop (position_count t) ms))
+        ∙ ap (λ ws. shift_and enter (replicate (position_count t + position_count_of ts) false) ws (xs ++ ys)) (sym (map-append (λ set. member set b.byte) (byte_sets t) (byte_sets_of ts)))
+        ∙ ap (λ zs. shift_and enter (replicate (position_count t + position_count_of ts) false) (mask_by (byte_sets t ++ byte_sets_of ts) b.byte) zs) (take-append-drop (position_count t) ms))
 
     accepting' : (enter : Bool) (ms : List Bool) → length ms ≡ position_count t + position_count_of ts → accepts (cat (more t ts)) enter ms a ≡ last_or enter ms
     accepting' enter ms e =
@@ -138,7 +140,7 @@ more_move t ts a b is one others = record { moves = moves'; accepting = acceptin
         ∙ ap (last_or enter) (take-append-drop (position_count t) ms)
 
 mutual
-  sequence_moves : (t : Tree) (a : LookAround) (b : ℕ) → is_sequence t ≡ true → Moves t a b
+  sequence_moves : (t : Tree) (a : LookAround) (b : Input) → is_sequence t ≡ true → Moves t a b
   sequence_moves empty a b h = absurd (cc)
   sequence_moves (one_of set) a b h = one_moves set a b
   sequence_moves (one_char ranges) a b h = absurd (cc)
@@ -150,7 +152,7 @@ mutual
   sequence_moves word_edge a b h = absurd (cc)
   sequence_moves not_word_edge a b h = absurd (cc)
 
-  sequences_move : (ts : Trees) (a : LookAround) (b : ℕ) → are_sequences ts ≡ true → MoveAll ts a b
+  sequences_move : (ts : Trees) (a : LookAround) (b : Input) → are_sequences ts ≡ true → MoveAll ts a b
   sequences_move none a b h = none_move a b
   sequences_move (more t ts) a b h =
       let p = and_parts (is_sequence t) (are_sequences ts) h in
@@ -190,20 +192,20 @@ intersect_last (m ∷ k ∷ ms) n before e h =
     ap (λ i. intersect (m ∷ k ∷ ms) (replicate i false ++ true ∷ [])) f ∙ ap (λ t. t || intersect (k ∷ ms) (replicate (n - 2) false ++ true ∷ [])) (and-false m)
     ∙ ap (λ i. intersect (k ∷ ms) (replicate i false ++ true ∷ [])) g ∙ intersect_last (k ∷ ms) (n - 1) m (omega arith) (omega arith)
 
-alternation_moves : (ts : Trees) → AreSequences ts → (before : Bool) (ms : List Bool) (a : LookAround) (b : ℕ) → length ms ≡ position_count_of ts →
-    step_each ts true ms a b ≡ shift_and before (firsts_of ts) (mask_by (byte_sets_of ts) b) ms
+alternation_moves : (ts : Trees) → AreSequences ts → (before : Bool) (ms : List Bool) (a : LookAround) (b : Input) → length ms ≡ position_count_of ts →
+    step_each ts true ms a b ≡ shift_and before (firsts_of ts) (mask_by (byte_sets_of ts) b.byte) ms
 alternation_moves none are before ms a b e = refl
 alternation_moves (more t ts) are before ms a b e =
     let xs = take (position_count t) ms in
     let ys = drop (position_count t) ms in
     let of-t : length xs ≡ position_count t = length-first ms (position_count t) (position_count_of ts) e in
     let of-ts : length ys ≡ position_count_of ts = length-others ms (position_count t) (position_count_of ts) e in
-    let us = mask_by (byte_sets t) b in
-    let vs = mask_by (byte_sets_of ts) b in
+    let us = mask_by (byte_sets t) b.byte in
+    let vs = mask_by (byte_sets_of ts) b.byte in
     rw ((sequence_moves t a b are.0).moves true xs of-t, begun (position_count t) are.1 before us xs, alternation_moves ts are.2 (last_or before xs) ys a b of-ts)
-    (sym (shift_and-append before (first_of (position_count t)) (firsts_of ts) us vs xs ys (omega (arith, length-replicate (position_count t - 1) false, are.1, of-t)) (length-map (byte_sets t) (λ set. member set b) ∙ length-sets t are.0 ∙ sym of-t))
-    ∙ ap (λ ws. shift_and before (firsts_of (more t ts)) ws (xs ++ ys)) (sym (map-append (λ set. member set b) (byte_sets t) (byte_sets_of ts)))
-    ∙ ap (λ zs. shift_and before (firsts_of (more t ts)) (mask_by (byte_sets_of (more t ts)) b) zs) (take-append-drop (position_count t) ms))
+    (sym (shift_and-append before (first_of (position_count t)) (firsts_of ts) us vs xs ys (omega (arith, length-replicate (position_count t - 1) false, are.1, of-t)) (length-map (byte_sets t) (λ set. member set b.byte) ∙ length-sets t are.0 ∙ sym of-t))
+    ∙ ap (λ ws. shift_and before (firsts_of (more t ts)) ws (xs ++ ys)) (sym (map-append (λ set. member set b.byte) (byte_sets t) (byte_sets_of ts)))
+    ∙ ap (λ zs. shift_and before (firsts_of (more t ts)) (mask_by (byte_sets_of (more t ts)) b.byte) zs) (take-append-drop (position_count t) ms))
 
 alternation_accepts : (ts : Trees) → AreSequences ts → (ms : List Bool) (a : LookAround) → length ms ≡ position_count_of ts → accepts (alt ts) true ms a ≡ intersect ms (lasts_of ts)
 alternation_accepts none are [] a e = refl
@@ -214,7 +216,7 @@ alternation_accepts (more t ts) are ms a e =
     let of-t : length xs ≡ position_count t = length-first ms (position_count t) (position_count_of ts) e in
     let of-ts : length ys ≡ position_count_of ts = length-others ms (position_count t) (position_count_of ts) e in
     alt_bools (is_final t xs a) (is_final_some ts ys a) true (nullable t a) (nullable_some ts a)
-    ∙ ap (λ x. x || accepts (alt ts) true ys a) ((sequence_moves t a 0 are.0).accepting true xs of-t ∙ sym (intersect_last xs (position_count t) true of-t are.1))
+    ∙ ap (λ x. x || accepts (alt ts) true ys a) ((sequence_moves t a (record { byte = 0; char = Nothing }) are.0).accepting true xs of-t ∙ sym (intersect_last xs (position_count t) true of-t are.1))
     ∙ ap (λ x. intersect xs (last_of (position_count t)) || x) (alternation_accepts ts are.2 ys a of-ts)
     ∙ sym (intersect-append xs ys (last_of (position_count t)) (lasts_of ts) (of-t ∙ sym (length-last_of (position_count t) are.1)))
     ∙ ap (λ zs. intersect zs (lasts_of (more t ts))) (take-append-drop (position_count t) ms)
@@ -240,7 +242,7 @@ lasts_by_firsts (more t (more u us)) are h =
 -- a tree steps and accepts as the alternation of its branches
 record IsAlternationOf (t : Tree) (ts : Trees) : Type 0 where
   size : position_count t ≡ position_count_of ts
-  same_step : (ms : List Bool) (a : LookAround) (b : ℕ) → length ms ≡ position_count t → step t true ms a b ≡ step_each ts true ms a b
+  same_step : (ms : List Bool) (a : LookAround) (b : Input) → length ms ≡ position_count t → step t true ms a b ≡ step_each ts true ms a b
   same_accepting : (ms : List Bool) (a : LookAround) → length ms ≡ position_count t → accepts t true ms a ≡ accepts (alt ts) true ms a
 
 alone : (t : Tree) → IsAlternationOf t (more t none)
@@ -285,7 +287,7 @@ is_bit_parallel t sequences bits alternation some built =
       masks = λ b low. ap length (masks b low) ∙ length-mask_by ts alternation.are b ∙ sym same.size;
       moves = λ ms a b e low.
           same.same_step ms a b e ∙ alternation_moves ts alternation.are false ms a b (e ∙ same.size)
-          ∙ ap (λ fs. shift_and false fs (mask_by (byte_sets_of ts) b) ms) (sym firsts) ∙ ap (λ us. shift_and false bits.firsts us ms) (sym (masks b low));
+          ∙ ap (λ fs. shift_and false fs (mask_by (byte_sets_of ts) b.byte) ms) (sym firsts) ∙ ap (λ us. shift_and false bits.firsts us ms) (sym (masks b.byte low));
       accepting = λ ms a e. same.same_accepting ms a e ∙ alternation_accepts ts alternation.are ms a (e ∙ same.size) ∙ ap (intersect ms) (sym lasts);
     }
   where

@@ -1,62 +1,43 @@
--- Literals and trigrams that occur in no line of a text.
+-- Words that occur in no line of a text.
 use Rattle.std.proofs.Common.{◌≡◌, ℕ, suc, ◌+◌, ◌<◌, ◌≤◌, inl, inr, Bool, true, false, cond, nat_eq, List, [], ◌∷◌, ◌++◌, length, take, drop, get_or, refl, sym, ap, subst, ◌∙◌, arith, length-append}
 use Rattle.std.proofs.lemmas.Bool.{eqb-true, cases_Bool}
 use Rattle.std.proofs.lemmas.List.{get_or_append_left, length-take-le, take_more, take-append-drop}
 use Rattle.std.proofs.lemmas.List.Elements.{All-nil, All-cons, All-tail}
-use Rattle.memchr.specs.Find.{OccursAt}
 use Rattle.cs_match.specs.Lines.{newline, terminated_lines, with_byte_in_line}
 use Rattle.std.specs.Prelude.{All, Any}
-use Rattle.cs_prefilter.specs.declared.class_trigram.ClassTrigram.{ClassTrigram}
-use Rattle.cs_prefilter.specs.TrigramAt.{TrigramAt}
+use Rattle.cs_prefilter.specs.declared.word.Word.{Word}
+use Rattle.cs_prefilter.specs.WordAt.{WordAt}
 use Rattle.cs_syntax.specs.Matching.{Tree, HasMatch, member}
 use Rattle.cs_match.specs.Deciding.{Decides}
 use Rattle.cs_match.specs.Skipping.{AreWholeLines, NoneMatch}
 use Rattle.cs_match.proofs.WholeLineLemmas.{whole_terminated}
 
 -- an occurrence in a text is also one with more bytes after it, or before it
-pub record IsPlaced (TrigramAt : List ℕ → ℕ → Type 0) : Type 0 where
-  pub within : (text : List ℕ) (k : ℕ) → TrigramAt text k → k ≤ length text
-  pub prefix : (line rest : List ℕ) (k : ℕ) → TrigramAt line k → TrigramAt (line ++ rest) k
-  pub later : (b : ℕ) (text : List ℕ) (k : ℕ) → TrigramAt text k → TrigramAt (b ∷ text) (suc k)
+pub record IsPlaced (Occurs : List ℕ → ℕ → Type 0) : Type 0 where
+  pub within : (text : List ℕ) (k : ℕ) → Occurs text k → k ≤ length text
+  pub prefix : (line rest : List ℕ) (k : ℕ) → Occurs line k → Occurs (line ++ rest) k
+  pub later : (b : ℕ) (text : List ℕ) (k : ℕ) → Occurs text k → Occurs (b ∷ text) (suc k)
 
-pub literal_placed : (literal : List ℕ) → IsPlaced (λ text k. OccursAt text literal k)
-literal_placed literal = record {
-  within = λ text k h. omega (arith, h.fits);
-  prefix = λ line rest k h. record {
-    fits = omega (arith, h.fits, length-append line rest);
-    reads = λ j low. get_or_append_left line rest 0 (k + j) (omega (arith, h.fits)) ∙ h.reads j low;
-  };
-  later = λ b text k h. record {
-    fits = omega (arith, h.fits);
-    reads = λ j low. let next : suc k + j ≡ suc (k + j) = omega arith in ap (λ i. get_or (b ∷ text) i 0) next ∙ h.reads j low;
-  };
-}
-
-pub trigrams_placed : (trigrams : List ClassTrigram) → IsPlaced (λ text k. Any (TrigramAt text k) trigrams)
-trigrams_placed trigrams = record {
+pub words_placed : (words : List Word) → IsPlaced (λ text k. Any (WordAt text k) words)
+words_placed words = record {
   within = λ text k h. let w = h.4.within in omega (arith, w);
-  prefix = λ line rest k h. (h.0, h.1, h.2, h.3, trigram_prefix line rest k h.1 h.4);
-  later = λ b text k h. (h.0, h.1, h.2, h.3, trigram_later b text k h.1 h.4);
+  prefix = λ line rest k h. (h.0, h.1, h.2, h.3, word_prefix line rest k h.1 h.4);
+  later = λ b text k h. (h.0, h.1, h.2, h.3, word_later b text k h.1 h.4);
 }
   where
-    trigram_prefix : (line rest : List ℕ) (k : ℕ) (w : ClassTrigram) → TrigramAt line k w → TrigramAt (line ++ rest) k w
-    trigram_prefix line rest k w h = record {
+    word_prefix : (line rest : List ℕ) (k : ℕ) (w : Word) → WordAt line k w → WordAt (line ++ rest) k w
+    word_prefix line rest k w h = record {
       within = omega (arith, h.within, length-append line rest);
-      first = ap (member w.first) (get_or_append_left line rest 0 k (omega (arith, h.within))) ∙ h.first;
-      second = ap (member w.second) (get_or_append_left line rest 0 (k + 1) (omega (arith, h.within))) ∙ h.second;
-      third = ap (member w.third) (get_or_append_left line rest 0 (k + 2) (omega (arith, h.within))) ∙ h.third;
+      each = λ i d low. ap (member (get_or w.sets.items i d)) (get_or_append_left line rest 0 (k + i) (omega (arith, h.within))) ∙ h.each i d low;
     }
 
-    trigram_later : (b : ℕ) (text : List ℕ) (k : ℕ) (w : ClassTrigram) → TrigramAt text k w → TrigramAt (b ∷ text) (suc k) w
-    trigram_later b text k w h =
-        let next : suc k + 1 ≡ suc (k + 1) = omega arith in
-        let last : suc k + 2 ≡ suc (k + 2) = omega arith in
-        record {
-          within = omega (arith, h.within);
-          first = h.first;
-          second = ap (λ i. member w.second (get_or (b ∷ text) i 0)) next ∙ h.second;
-          third = ap (λ i. member w.third (get_or (b ∷ text) i 0)) last ∙ h.third;
-        }
+    word_later : (b : ℕ) (text : List ℕ) (k : ℕ) (w : Word) → WordAt text k w → WordAt (b ∷ text) (suc k) w
+    word_later b text k w h = record {
+      within = omega (arith, h.within);
+      each = λ i d low.
+          let next : suc k + i ≡ suc (k + i) = omega arith in
+          ap (λ j. member (get_or w.sets.items i d) (get_or (b ∷ text) j 0)) next ∙ h.each i d low;
+    }
 
 -- the first line is a prefix of the text
 abbrev Begins : List ℕ → List (List ℕ) → Type 0
@@ -74,19 +55,19 @@ unfolding terminated_lines
 begins [] = tt
 begins (b ∷ text) = begins_more b text (nat_eq b newline) refl (terminated_lines text) (begins text)
 
-module _ (TrigramAt : List ℕ → ℕ → Type 0) (placed : IsPlaced TrigramAt) where
+module _ (Occurs : List ℕ → ℕ → Type 0) (placed : IsPlaced Occurs) where
   abbrev Nowhere : List ℕ → Type 0
-  Nowhere text = (k : ℕ) → k < length text → ¬ TrigramAt text k
+  Nowhere text = (k : ℕ) → k < length text → ¬ Occurs text k
 
   -- no occurrence in the line
   abbrev IsFree : List ℕ → Type 0
-  IsFree line = ¬ ((at : ℕ) × TrigramAt line at)
+  IsFree line = ¬ ((at : ℕ) × Occurs line at)
 
   first_without : (text line after : List ℕ) → text ≡ line ++ newline ∷ after → Nowhere text → IsFree line
   first_without text line after e none has =
       let w = placed.within line has.0 has.1 in
       none has.0 (omega (arith, w, ap length e, length-append line (newline ∷ after)))
-      (subst (λ (xs : List ℕ). TrigramAt xs has.0) (sym e) (placed.prefix line (newline ∷ after) has.0 has.1))
+      (subst (λ (xs : List ℕ). Occurs xs has.0) (sym e) (placed.prefix line (newline ∷ after) has.0 has.1))
 
   without_more : (b : ℕ) (text : List ℕ) (t : Bool) (lines : List (List ℕ)) → Begins (b ∷ text) (cond t ([] ∷ lines) (with_byte_in_line b lines)) → Nowhere (b ∷ text) → All IsFree lines →
       All IsFree (cond t ([] ∷ lines) (with_byte_in_line b lines))
@@ -105,12 +86,12 @@ module _ (TrigramAt : List ℕ → ℕ → Type 0) (placed : IsPlaced TrigramAt)
       (begins_more b text (nat_eq b newline) refl (terminated_lines text) (begins text)) none (without text later)
 
   -- the lines before the first occurrence
-  pub without_before : (text : List ℕ) (at n : ℕ) → n ≤ at → at ≤ length text → ((k : ℕ) → k < at → ¬ TrigramAt text k) → All IsFree (terminated_lines (take n text))
+  pub without_before : (text : List ℕ) (at n : ℕ) → n ≤ at → at ≤ length text → ((k : ℕ) → k < at → ¬ Occurs text k) → All IsFree (terminated_lines (take n text))
   without_before text at n le within none =
       without (take n text) (λ k low h.
       let long = length-take-le n text (omega arith) in
       let whole : take n text ++ drop n text ≡ text = take-append-drop n text in
-      none k (omega (arith, long)) (subst (λ (xs : List ℕ). TrigramAt xs k) whole (placed.prefix (take n text) (drop n text) k h)))
+      none k (omega (arith, long)) (subst (λ (xs : List ℕ). Occurs xs k) whole (placed.prefix (take n text) (drop n text) k h)))
 
 pub whole_to : (text : List ℕ) (at : ℕ) → at < length text → nat_eq (get_or text at 0) newline ≡ true → AreWholeLines (take (at + 1) text)
 whole_to text at low is =

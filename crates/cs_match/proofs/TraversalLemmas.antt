@@ -1,12 +1,13 @@
 -- The two traversals of a tree: what a subtree needs of the position set and of the loop flags, and what one
 -- more part adds.
-use Rattle.std.proofs.Common.{◌≡◌, ℕ, suc, ◌+◌, ◌-◌, ◌≤◌, inl, inr, ◌<◌, ◌++◌, ◌||◌, ◌&&◌, List, [], ◌∷◌, Bool, false, take, drop, set, length, min, refl, sym, ◌∙◌, ap, arith, append_assoc, length-append, length-drop}
+use Rattle.std.proofs.Common.{◌≡◌, ℕ, zero, suc, ◌+◌, ◌-◌, ◌≤◌, inl, inr, ◌<◌, ◌++◌, ◌||◌, ◌&&◌, List, [], ◌∷◌, Bool, false, take, drop, set, length, min, refl, sym, ◌∙◌, ap, arith, append_assoc, length-append, length-drop}
 use Rattle.std.proofs.lemmas.Bool.{cases_lt}
 use Rattle.std.proofs.Math.Bool.{or_assoc}
 use Rattle.std.proofs.Math.ListN.{drop_of_length-le}
 use Rattle.std.proofs.Math.Seq.{sets, sets-eq, length-sets, set_out, set_comm, take-take, get_or-take}
 use Rattle.std.proofs.lemmas.List.{append-nil, drop-drop, drop-take, length-take, take_at, drop_at}
 use Rattle.cs_syntax.specs.Matching.{Tree, Trees, empty, one_of, one_char, cat, alt, rep, line_start, line_end, word_edge, not_word_edge, none, more}
+use Rattle.cs_match.specs.declared.input.Input.{Input}
 use Rattle.cs_match.specs.declared.look_around.LookAround.{LookAround}
 use Rattle.cs_match.specs.Glushkov.{position_count, position_count_of, repeats, repeats_of, nullable, nullable_all, nullable_some, is_final, is_final_all, is_final_some, accepts, loop_ends, loop_ends_of, step, step_all, step_each}
 use Rattle.cs_match.proofs.GlushkovLemmas.{length-step, cat_bools, alt_bools}
@@ -23,7 +24,7 @@ mutual
   is_final-take : (t : Tree) (n : ℕ) (ms : List Bool) (a : LookAround) → position_count t ≤ n → is_final t (take n ms) a ≡ is_final t ms a
   is_final-take empty n ms a le = refl
   is_final-take (one_of set) n ms a le = get_or-take n ms 0 false (omega arith)
-  is_final-take (one_char ranges) n ms a le = refl
+  is_final-take (one_char ranges) n ms a le = get_or-take n ms 0 false (omega arith)
   is_final-take (cat ts) n ms a le = is_final_all-take ts n ms a le
   is_final-take (alt ts) n ms a le = is_final_some-take ts n ms a le
   is_final-take (rep x k m) n ms a le = is_final-take x n ms a le
@@ -43,10 +44,10 @@ mutual
       rw (take-take (position_count t) n ms (omega arith), prefix_drop (position_count t) n ms (omega arith), is_final_some-take ts (n - position_count t) (drop (position_count t) ms) a (omega arith)) refl
 
 mutual
-  step-take : (t : Tree) (enter : Bool) (n : ℕ) (ms : List Bool) (a : LookAround) (b : ℕ) → position_count t ≤ n → step t enter (take n ms) a b ≡ step t enter ms a b
+  step-take : (t : Tree) (enter : Bool) (n : ℕ) (ms : List Bool) (a : LookAround) (b : Input) → position_count t ≤ n → step t enter (take n ms) a b ≡ step t enter ms a b
   step-take empty enter n ms a b le = refl
   step-take (one_of set) enter n ms a b le = refl
-  step-take (one_char ranges) enter n ms a b le = refl
+  step-take (one_char ranges) enter n ms a b le = rw (get_or-take n ms 1 false (omega arith)) refl
   step-take (cat ts) enter n ms a b le = step_all-take ts enter n ms a b le
   step-take (alt ts) enter n ms a b le = step_each-take ts enter n ms a b le
   step-take (rep x k m) enter n ms a b le = rw (is_final-take x n ms a le) (step-take x (enter || is_final x ms a) n ms a b le)
@@ -55,12 +56,12 @@ mutual
   step-take word_edge enter n ms a b le = refl
   step-take not_word_edge enter n ms a b le = refl
 
-  step_all-take : (ts : Trees) (enter : Bool) (n : ℕ) (ms : List Bool) (a : LookAround) (b : ℕ) → position_count_of ts ≤ n → step_all ts enter (take n ms) a b ≡ step_all ts enter ms a b
+  step_all-take : (ts : Trees) (enter : Bool) (n : ℕ) (ms : List Bool) (a : LookAround) (b : Input) → position_count_of ts ≤ n → step_all ts enter (take n ms) a b ≡ step_all ts enter ms a b
   step_all-take none enter n ms a b le = refl
   step_all-take (more t ts) enter n ms a b le =
       rw (take-take (position_count t) n ms (omega arith), prefix_drop (position_count t) n ms (omega arith), step_all-take ts (accepts t enter (take (position_count t) ms) a) (n - position_count t) (drop (position_count t) ms) a b (omega arith)) refl
 
-  step_each-take : (ts : Trees) (enter : Bool) (n : ℕ) (ms : List Bool) (a : LookAround) (b : ℕ) → position_count_of ts ≤ n → step_each ts enter (take n ms) a b ≡ step_each ts enter ms a b
+  step_each-take : (ts : Trees) (enter : Bool) (n : ℕ) (ms : List Bool) (a : LookAround) (b : Input) → position_count_of ts ≤ n → step_each ts enter (take n ms) a b ≡ step_each ts enter ms a b
   step_each-take none enter n ms a b le = refl
   step_each-take (more t ts) enter n ms a b le =
       rw (take-take (position_count t) n ms (omega arith), prefix_drop (position_count t) n ms (omega arith), step_each-take ts enter (n - position_count t) (drop (position_count t) ms) a b (omega arith)) refl
@@ -71,7 +72,7 @@ is_final-prefix t ms a = is_final-take t (position_count t) ms a (omega arith)
 accepts-prefix : (t : Tree) (enter : Bool) (ms : List Bool) (a : LookAround) → accepts t enter (take (position_count t) ms) a ≡ accepts t enter ms a
 accepts-prefix t enter ms a = ap (λ l. l || (enter && nullable t a)) (is_final-prefix t ms a)
 
-step-prefix : (t : Tree) (enter : Bool) (ms : List Bool) (a : LookAround) (b : ℕ) → step t enter (take (position_count t) ms) a b ≡ step t enter ms a b
+step-prefix : (t : Tree) (enter : Bool) (ms : List Bool) (a : LookAround) (b : Input) → step t enter (take (position_count t) ms) a b ≡ step t enter ms a b
 step-prefix t enter ms a b = step-take t enter (position_count t) ms a b (omega arith)
 
 -- a concatenation or an alternation is its first part and the others
@@ -85,11 +86,11 @@ accepts_alt : (t : Tree) (ts : Trees) (enter : Bool) (ms : List Bool) (a : LookA
 accepts_alt t ts enter ms a =
     rw (is_final-prefix t ms a) (alt_bools (is_final t ms a) (is_final_some ts (drop (position_count t) ms) a) enter (nullable t a) (nullable_some ts a))
 
-step_cat : (t : Tree) (ts : Trees) (enter : Bool) (ms : List Bool) (a : LookAround) (b : ℕ) →
+step_cat : (t : Tree) (ts : Trees) (enter : Bool) (ms : List Bool) (a : LookAround) (b : Input) →
     step_all (more t ts) enter ms a b ≡ step t enter ms a b ++ step_all ts (accepts t enter ms a) (drop (position_count t) ms) a b
 step_cat t ts enter ms a b = rw (step-prefix t enter ms a b, accepts-prefix t enter ms a) refl
 
-step_alt : (t : Tree) (ts : Trees) (enter : Bool) (ms : List Bool) (a : LookAround) (b : ℕ) →
+step_alt : (t : Tree) (ts : Trees) (enter : Bool) (ms : List Bool) (a : LookAround) (b : Input) →
     step_each (more t ts) enter ms a b ≡ step t enter ms a b ++ step_each ts enter (drop (position_count t) ms) a b
 step_alt t ts enter ms a b = rw (step-prefix t enter ms a b) refl
 
@@ -227,7 +228,7 @@ module _ (t : Tree) (ts : Trees) (ms : List Bool) (a : LookAround) (p next : ℕ
       (or_assoc so_far (accepts t enter (drop p ms) a) _ ∙ ap (λ b. so_far || b) (sym (accepts_alt t ts enter (drop p ms) a)) ∙ h)
 
 -- `ms` is the set before the traversal, `old` the set before a part, `new` the set after it
-module _ (t : Tree) (ts : Trees) (ms old new : List Bool) (a : LookAround) (b p next : ℕ) (enter : Bool) (is : next ≡ p + position_count t)
+module _ (t : Tree) (ts : Trees) (ms old new : List Bool) (a : LookAround) (b : Input) (p next : ℕ) (enter : Bool) (is : next ≡ p + position_count t)
     (room : p + position_count t ≤ length old) (ahead : drop p old ≡ drop p ms)
     (moved : new ≡ take p old ++ (step t enter (drop p old) a b ++ drop (p + position_count t) old)) where
   pub moved_long : length new ≡ length old
@@ -265,3 +266,21 @@ module _ (t : Tree) (ts : Trees) (ms old new : List Bool) (a : LookAround) (b p 
       let far : next + position_count_of ts ≡ p + position_count_of (more t ts) = omega arith in
       rw (next_drop t ts ms a p next is, far)
       (moved_positions (step_each (more t ts) enter (drop p ms) a b) _ _ whole (step_alt t ts enter (drop p ms) a b) h)
+
+-- two positions are written, one after the other
+put_both : (p : ℕ) (ms : List Bool) (x y : Bool) → p < length ms →
+    take (suc p) (take p ms ++ x ∷ drop (suc p) ms) ++ y ∷ drop (suc (suc p)) (take p ms ++ x ∷ drop (suc p) ms) ≡ take p ms ++ ((x ∷ y ∷ []) ++ drop (suc (suc p)) ms)
+put_both p [] x y lt = absurd (omega arith)
+put_both zero (m ∷ ms) x y lt = refl
+put_both (suc p) (m ∷ ms) x y lt = ap (λ rest. m ∷ rest) (put_both p ms x y (omega arith))
+
+pub put_two : (p : ℕ) (ms : List Bool) (x y : Bool) → p + 1 < length ms →
+    take (p + 1) (take p ms ++ x ∷ drop (p + 1) ms) ++ y ∷ drop (p + 1 + 1) (take p ms ++ x ∷ drop (p + 1) ms) ≡ take p ms ++ ((x ∷ y ∷ []) ++ drop (p + 2) ms)
+put_two p ms x y lt =
+    let one : p + 1 ≡ suc p = omega arith in
+    let two : p + 1 + 1 ≡ suc (suc p) = omega arith in
+    let both : suc (suc p) ≡ p + 2 = omega arith in
+    ap (λ q. take q (take p ms ++ x ∷ drop q ms) ++ y ∷ drop (p + 1 + 1) (take p ms ++ x ∷ drop q ms)) one
+    ∙ ap (λ r. take (suc p) (take p ms ++ x ∷ drop (suc p) ms) ++ y ∷ drop r (take p ms ++ x ∷ drop (suc p) ms)) two
+    ∙ put_both p ms x y (omega arith)
+    ∙ ap (λ r. take p ms ++ ((x ∷ y ∷ []) ++ drop r ms)) both

@@ -2,6 +2,7 @@
 -- set or a concatenation of sequences, so that each position has one successor.
 use Rattle.std.specs.Prelude.{ℕ, ◌≡◌, ◌-◌, ◌<◌, Bool, true, false, ◌&&◌, List, [], ◌∷◌, ◌++◌, drop, length, map, replicate, slice_index_or}
 use Rattle.cs_syntax.specs.Matching.{Tree, Trees, empty, one_of, one_char, cat, alt, rep, line_start, line_end, word_edge, not_word_edge, none, more, member}
+use Rattle.cs_match.specs.declared.input.Input.{Input}
 use Rattle.cs_match.specs.declared.look_around.LookAround.{LookAround}
 use Rattle.cs_match.specs.declared.bit_parallel.BitParallel.{BitParallel}
 use Rattle.cs_match.specs.Glushkov.{position_count, step, accepts}
@@ -87,7 +88,7 @@ pub record IsBitParallel (t : Tree) (bits : BitParallel) : Type 0 where
   pub lasts : length bits.lasts ≡ position_count t
   pub all : length bits.masks.items ≡ 256
   pub masks : (b : ℕ) → b < 256 → length (mask_of bits b) ≡ position_count t
-  pub moves : (positions : List Bool) (a : LookAround) (b : ℕ) → length positions ≡ position_count t → b < 256 →
-      step t true positions a b ≡ shift_and false bits.firsts (mask_of bits b) positions
+  pub moves : (positions : List Bool) (a : LookAround) (b : Input) → length positions ≡ position_count t → b.byte < 256 →
+      step t true positions a b ≡ shift_and false bits.firsts (mask_of bits b.byte) positions
   pub accepting : (positions : List Bool) (a : LookAround) → length positions ≡ position_count t →
       accepts t true positions a ≡ intersect positions bits.lasts

@@ -1,33 +1,23 @@
 -- The invariant of the lazy DFA.
-use Rattle.std.specs.Prelude.{ℕ, Bool, List, ◌≡◌, length, vec_len, IfSome}
+use Rattle.std.specs.Prelude.{ℕ, Bool, List, ◌≡◌, length, vec_len}
 use Rattle.cs_syntax.specs.Matching.{Tree}
-use Rattle.cs_syntax.specs.Node.{tree_of}
 use Rattle.cs_match.specs.declared.state.State.{State}
 use Rattle.cs_match.specs.declared.dfa.LazyDfa.{LazyDfa}
 use Rattle.cs_match.specs.Glushkov.{position_count, repeats, IsExpanded}
-use Rattle.cs_match.specs.BitParallel.{IsBitParallel}
 use Rattle.cs_match.specs.States.{successor, accepts_before}
 use Rattle.cs_match.specs.LazyDfa as dfa
-use Rattle.cs_match.specs.RequiredLiteral.{IsRequired}
 
 -- the tree of the DFA
 abbrev pub tree_in : LazyDfa → Tree
-tree_in dfa = tree_of dfa.root.now
+tree_in dfa = dfa.program.now
 
--- the tree is expanded, the simulation, the states and the transitions are correct, and the scratch memory
--- has the right size
+-- the tree is expanded, the states and the transitions are correct, and the scratch memory has the right size
 pub record IsConsistent (t : LazyDfa) : Type 0 where
   pub expanded : IsExpanded (tree_in t)
-  pub bits : IfSome t.bits (λ bits. IsBitParallel (tree_in t) bits.now)
   pub cached : dfa.AreStates (tree_in t) t.cached.items t.used
   pub transitions : dfa.AreTransitions (tree_in t) t.cached.items t.used t.transitions.items
   pub room : length t.scratch.positions ≡ position_count (tree_in t)
   pub loops : vec_len t.loops ≡ repeats (tree_in t)
-
--- the DFA is consistent, and its tree requires the literal
-pub record RequiresLiteral (t : LazyDfa) (literal : List ℕ) : Type 0 where
-  pub right : IsConsistent t
-  pub required : IsRequired (tree_in t) literal
 
 -- the state with this number
 abbrev pub state_in : LazyDfa → ℕ → State

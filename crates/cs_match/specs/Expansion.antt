@@ -1,9 +1,8 @@
 -- The expansion of a tree: counted repeats are written out as copies, so that each repeat is a loop of at
--- least 0 or 1 iterations, and character sets are lowered to byte sets. docs/PATTERNS.md, "Matching".
+-- least 0 or 1 iterations. docs/PATTERNS.md, "Matching".
 use Rattle.std.specs.Prelude.{ℕ, zero, suc, ◌-◌, Option, Some, None, nat_le, if◌then◌else◌}
 use Rattle.cs_syntax.specs.Matching.{Tree, Trees, empty, one_of, one_char, cat, alt, rep, line_start, line_end, word_edge, not_word_edge, none, more}
 use Rattle.cs_syntax.specs.TreeList.{append}
-use Rattle.cs_syntax.specs.Lowering.{utf8_tree}
 
 -- n copies of t, followed by the rest
 abbrev pub copies : ℕ → Tree → Trees → Trees
@@ -34,7 +33,7 @@ abbrev mutual
   pub expansion : Tree → Tree
   expansion empty = empty
   expansion (one_of set) = one_of set
-  expansion (one_char ranges) = utf8_tree ranges
+  expansion (one_char ranges) = one_char ranges
   expansion (cat ts) = cat (expansions ts)
   expansion (alt ts) = alt (expansions ts)
   expansion (rep x n m) = repeat_expansion (expansion x) n m

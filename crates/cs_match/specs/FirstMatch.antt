@@ -4,7 +4,6 @@ use Rattle.cs_syntax.specs.Matching.{Tree, HasMatch}
 use Rattle.cs_match.specs.declared.matcher.Line.{Line}
 use Rattle.cs_match.specs.declared.state.State.{State}
 use Rattle.cs_match.specs.Deciding.{Decides}
-use Rattle.cs_match.specs.Glushkov.{position_count}
 use Rattle.cs_match.specs.LastPart.{last_part}
 use Rattle.cs_match.specs.Lines.{terminated_lines}
 use Rattle.cs_match.specs.Skipped.{AreSkipped}
@@ -20,7 +19,7 @@ NeverAccepted t n (b ∷ part) = (accepts_before t n b ≡ false) × NeverAccept
 -- of the unfinished line.
 pub record AreScanned (t : Tree) (text : List ℕ) (count : ℕ) : Type 0 where
   pub none : (has_match : List ℕ → Bool) → Decides has_match t → NoneMatch has_match (terminated_lines (take count text))
-  pub part : NeverAccepted t (start (position_count t)) (last_part (take count text))
+  pub part : NeverAccepted t (start t) (last_part (take count text))
 
 -- the bytes before the offset are scanned, and the tree accepts before the byte at the offset
 pub record AcceptsFirst (t : Tree) (text : List ℕ) (offset : ℕ) : Type 0 where

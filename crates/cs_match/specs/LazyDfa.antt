@@ -10,7 +10,7 @@ use Rattle.cs_match.specs.Scan.{match_state, unknown_state}
 
 -- the state with this number
 abbrev pub state_of : Tree → List State → ℕ → State
-state_of t cached number = slice_index_or cached (number / 256) (start (position_count t))
+state_of t cached number = slice_index_or cached (number / 256) (start t)
 
 -- the number is that of a cached state, which is this one
 pub record IsStateNumber (t : Tree) (cached : List State) (used number : ℕ) (state : State) : Type 0 where
@@ -28,7 +28,7 @@ pub data Leads (t : Tree) (cached : List State) (used : ℕ) (state : State) (b 
 -- a transition of a cached state is unknown or correct
 pub data IsTransition (t : Tree) (cached : List State) (used slot b transition : ℕ) : Type 0 where
   unknown : transition ≡ unknown_state → IsTransition t cached used slot b transition
-  known : slot < used → Leads t cached used (slice_index_or cached slot (start (position_count t))) b transition →
+  known : slot < used → Leads t cached used (slice_index_or cached slot (start t)) b transition →
       IsTransition t cached used slot b transition
 
 -- the first state is the start state, and each state has a truth value for each position
@@ -36,8 +36,8 @@ pub record AreStates (t : Tree) (cached : List State) (used : ℕ) : Type 0 wher
   pub some : 1 ≤ used
   pub bound : used ≤ 254
   pub all : length cached ≡ 254
-  pub first : slice_index_or cached 0 (start (position_count t)) ≡ start (position_count t)
-  pub positions : (slot : ℕ) → length (slice_index_or cached slot (start (position_count t))).positions ≡ position_count t
+  pub first : slice_index_or cached 0 (start t) ≡ start t
+  pub positions : (slot : ℕ) → length (slice_index_or cached slot (start t)).positions ≡ position_count t
 
 -- each transition is unknown or correct, and the two special states are absorbing
 pub record AreTransitions (t : Tree) (cached : List State) (used : ℕ) (transitions : List ℕ) : Type 0 where

@@ -6,6 +6,7 @@ ghost use Rattle.cs_match.specs.PositionSet.{shift_and, intersect};
 ghost use Rattle.cs_match.specs.BitParallel.{mask_of, IsBitParallel};
 
 use crate::glushkov;
+use crate::input::Input;
 use crate::look_around::LookAround;
 use crate::position_set::PositionSet;
 use crate::sequences::Sequences;
@@ -71,18 +72,18 @@ pub(crate) fn step_over(
     positions: &mut PositionSet,
     loops: &mut [bool],
     here: LookAround,
-    byte: u8,
+    input: Input,
 ) -> bool
     requires bits { IfSome bits (λ bits. IsBitParallel (tree_of root.now) bits.now) }
     requires one_each { length positions.old ≡ position_count (tree_of root.now) }
     requires loops { length loops.old ≡ repeats (tree_of root.now) }
     ensures accepting { result ≡ accepts (tree_of root.now) true positions.old here }
-    ensures positions { positions.new ≡ step (tree_of root.now) true positions.old here byte }
+    ensures positions { positions.new ≡ step (tree_of root.now) true positions.old here input }
     ensures loops { length loops.new ≡ length loops.old }
 {
     match bits {
-        Some(bits) => bits.step_over(positions, byte),
-        None => glushkov::step_over(root, positions, loops, here, byte),
+        Some(bits) => bits.step_over(positions, input.byte),
+        None => glushkov::step_over(root, positions, loops, here, input),
     }
 }
 

@@ -1,23 +1,21 @@
 // Lazy DFA (RE2): subset construction on demand over Glushkov positions (`specs/Glushkov.antt`), with a bounded cache
 // of states that is cleared when it is full.
-ghost use Rattle.std.specs.Prelude.{◌≡◌, ◌≢◌, ◌↔◌, ◌+◌, ◌<◌, ◌≤◌, ◌*◌, ◌/◌, ℕ, IfOk, IfSome, IsTrue, MatchOption, EachIndex, length, vec_len, replicate, slice_index, slice_index_or, slice_set, true, false};
-ghost use Rattle.cs_syntax.specs.Node.{tree_of};
+ghost use Rattle.std.specs.Prelude.{◌≡◌, ◌≢◌, ◌↔◌, ◌+◌, ◌<◌, ◌≤◌, ◌*◌, ◌/◌, ℕ, IfOk, IsTrue, MatchOption, EachIndex, length, vec_len, replicate, slice_index, slice_index_or, slice_set, true, false};
 ghost use Rattle.cs_syntax.specs.Matching.{HasMatch};
 ghost use Rattle.cs_match.specs.Automaton.{GrowsOver};
 ghost use Rattle.cs_match.specs.FirstMatch.{AcceptsFirst, AreScanned};
 ghost use Rattle.cs_match.specs.Lines.{newline};
 ghost use Rattle.cs_match.specs.Glushkov.{position_count, repeats, IsExpanded};
-ghost use Rattle.cs_match.specs.BitParallel.{IsBitParallel};
 ghost use Rattle.cs_match.specs.States.{start, successor, accepts_before};
 ghost use Rattle.cs_match.specs.LazyDfa.{blank_transition};
 ghost use Rattle.cs_match.specs.declared.state.State.{State};
 ghost use Rattle.cs_match.specs.ConsistentDfa.{IsConsistent, HasState, LeadsIn, tree_in, state_in, accepts_from, successor_in};
 
-use crate::bit_parallel::BitParallel;
+use crate::byte_classes::class_of;
 use crate::interleaved_scan::MATCH;
 use crate::program::Program;
 use crate::state::State;
-use cs_syntax::Node;
+use cs_syntax::Unfinished;
 use std::alloc::{AllocError, Global};
 
 /// The number of the unknown state: the transition is not computed yet. No cached state has this number or that of
@@ -29,9 +27,7 @@ const MOST: usize = 254;
 /// The cached states and their transitions.
 #[derive(Drop)]
 pub(crate) struct LazyDfa<'a> {
-    pub(crate) root: &'a Node,
-    /// The bit-parallel simulation, if the tree has one.
-    pub(crate) bits: Option<&'a BitParallel>,
+    pub(crate) program: &'a Program,
     /// The transition table: 256 state numbers for each state.
     pub(crate) transitions: Vec<u16>,
     /// The cached states. The first is the start state.
@@ -47,12 +43,12 @@ pub(crate) struct LazyDfa<'a> {
 }
 
 /// A full cache of copies of the start state.
-fn start_states(alloc: Global, position_count: usize) -> Result<Vec<State>, AllocError>
-    ensures { IfOk result (λ cached. cached.items ≡ replicate 254 (start position_count)) }
+fn start_states(alloc: Global, program: &Program) -> Result<Vec<State>, AllocError>
+    ensures { IfOk result (λ cached. cached.items ≡ replicate 254 (start program.now)) }
 {
     let mut cached = Vec::with_capacity(alloc, MOST)?;
     for i in 0..MOST {
-        let slot = State::new(alloc, position_count)?;
+        let slot = State::new(alloc, program)?;
         cached.push(slot)?;
     }
     Ok(cached)
@@ -100,6 +96,21 @@ fn find(
     None
 }
 
+/// Stores a transition of a state for the bytes from `low` to before `high`.
+fn put_range(transitions: &mut [u16], from: u16, low: usize, high: usize, next: u16)
+    requires room { from + high ≤ length transitions.old }
+    ensures length { length transitions.new ≡ length transitions.old }
+    ensures inside { (b : ℕ) → low ≤ b → b < high → slice_index transitions.new (from + b) ≡ next }
+    ensures before { (k : ℕ) → k < from + low
+        → slice_index transitions.new k ≡ slice_index transitions.old k }
+    ensures after { (k : ℕ) → from + high ≤ k
+        → slice_index transitions.new k ≡ slice_index transitions.old k }
+{
+    for byte in low..high {
+        transitions[from as usize + byte] = next;
+    }
+}
+
 /// Copies a state into the cache.
 fn put_state(cached: &mut [State], slot: usize, state: &State)
     requires within { slot < length cached.old }
@@ -112,23 +123,21 @@ fn put_state(cached: &mut [State], slot: usize, state: &State)
 
 /// Computes the successor of a state over a byte, and returns whether the state accepts before the byte.
 fn step_from(
-    root: &Node,
-    bits: Option<&BitParallel>,
+    program: &Program,
     from: &State,
     next: &mut State,
     loops: &mut [bool],
     byte: u8,
 ) -> bool
-    requires bits { IfSome bits (λ bits. IsBitParallel (tree_of root.now) bits.now) }
-    requires positions { length from.now.positions ≡ position_count (tree_of root.now) }
-    requires room { length next.old.positions ≡ position_count (tree_of root.now) }
-    requires loops { length loops.old ≡ repeats (tree_of root.now) }
-    ensures accepting { result ≡ accepts_before (tree_of root.now) from.now byte }
-    ensures moved { next.new ≡ successor (tree_of root.now) from.now byte }
+    requires positions { length from.now.positions ≡ position_count program.now }
+    requires room { length next.old.positions ≡ position_count program.now }
+    requires loops { length loops.old ≡ repeats program.now }
+    ensures accepting { result ≡ accepts_before program.now from.now byte }
+    ensures moved { next.new ≡ successor program.now from.now byte }
     ensures loops { length loops.new ≡ length loops.old }
 {
     next.copy_from(from);
-    next.step_over(root, bits, loops, byte)
+    next.step_over(program, loops, byte)
 }
 
 impl<'a> LazyDfa<'a> {
@@ -137,16 +146,14 @@ impl<'a> LazyDfa<'a> {
         ensures { IfOk result (λ dfa. (tree_in dfa ≡ program.now)
             × IsConsistent dfa × (dfa.used ≡ 1)) }
     {
-        let position_count = program.position_count();
-        let cached = start_states(alloc, position_count)?;
-        let scratch = State::new(alloc, position_count)?;
+        let cached = start_states(alloc, program)?;
+        let scratch = State::new(alloc, program)?;
         let mut hashes = [0; 256];
         hashes[0] = scratch.hash();
         let loops = vec![in alloc; false; program.repeats()]?;
         let transitions = blank(alloc)?;
         Ok(LazyDfa {
-            root: program.root(),
-            bits: program.bits(),
+            program,
             transitions,
             cached,
             hashes,
@@ -184,8 +191,7 @@ impl<'a> LazyDfa<'a> {
         ensures same { tree_in self.new ≡ tree_in self.old }
         ensures states { self.new.used ≡ self.old.used }
     {
-        self.scratch
-            .search(self.root, self.bits, &mut self.loops, line)
+        self.scratch.search(self.program, &mut self.loops, line)
     }
 
     /// Whether the line has a match. If the scan reaches a newline within the line, the whole line is simulated.
@@ -242,8 +248,7 @@ impl<'a> LazyDfa<'a> {
         ensures states { GrowsOver 1 self.old.used self.new.used }
     {
         if step_from(
-            self.root,
-            self.bits,
+            self.program,
             &self.cached[(from >> 8) as usize],
             &mut self.scratch,
             &mut self.loops,
@@ -288,7 +293,16 @@ impl<'a> LazyDfa<'a> {
         next
     }
 
-    /// Stores a transition.
+    /// The unfinished character of a cached state.
+    fn unfinished_of(&self, from: u16) -> Unfinished
+        requires right { IsConsistent self.now }
+        requires number { HasState self.now from (state_in self.now from) }
+        ensures { result ≡ (state_in self.now from).unfinished }
+    {
+        self.cached[(from >> 8) as usize].unfinished
+    }
+
+    /// Stores a transition for all bytes of the class.
     fn put(&mut self, from: u16, byte: u8, next: u16)
         requires right { IsConsistent self.old }
         requires number { HasState self.old from (state_in self.old from) }
@@ -298,7 +312,9 @@ impl<'a> LazyDfa<'a> {
         ensures same { tree_in self.new ≡ tree_in self.old }
         ensures states { self.new.used ≡ self.old.used }
     {
-        self.transitions[(from | u16::from(byte)) as usize] = next;
+        let unfinished = self.unfinished_of(from);
+        let class = class_of(self.program, unfinished, byte);
+        put_range(&mut self.transitions, from, class.0, class.1, next);
     }
 
     /// Caches the state under construction, and returns its number.

@@ -1,14 +1,14 @@
-// Expansion of counted repeats, and lowering of character sets to byte sets (RE2's simplification).
+// Expansion of counted repeats (RE2's simplification).
 ghost use Rattle.std.specs.Prelude.{◌≡◌, IfOk, OnOk, None};
 ghost use Rattle.cs_syntax.specs.Matching.{rep};
 ghost use Rattle.cs_syntax.specs.Node.{tree_of};
 ghost use Rattle.cs_syntax.specs.NodeList.{trees_of};
 ghost use Rattle.cs_match.specs.Expansion.{expansion, expansions, with_copies, optional, repeat_expansion};
 
-use cs_syntax::{Node, lower};
+use cs_syntax::Node;
 use std::alloc::{AllocError, Global};
 
-/// The expansion of the tree: counted repeats become copies, and character sets become trees of byte sets.
+/// The expansion of the tree: counted repeats become copies.
 #[cycle(expand)]
 pub(crate) fn expand(alloc: Global, node: &Node) -> Result<Node, AllocError>
     ensures { IfOk result (λ n. tree_of n ≡ expansion (tree_of node.now)) }
@@ -16,7 +16,10 @@ pub(crate) fn expand(alloc: Global, node: &Node) -> Result<Node, AllocError>
     match node {
         Node::Empty => Ok(Node::Empty),
         Node::Set(set) => Ok(Node::Set(*set)),
-        Node::Chars(set) => lower(alloc, set),
+        Node::Chars(set) => {
+            let set = set.copy(alloc)?;
+            Ok(Node::Chars(set))
+        }
         Node::Cat(parts) => {
             let parts = expand_all(alloc, parts)?;
             Ok(Node::Cat(parts))

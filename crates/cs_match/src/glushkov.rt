@@ -6,11 +6,12 @@ ghost use Rattle.std.proofs.Math.Seq.{sets};
 ghost use Rattle.cs_syntax.specs.Node.{tree_of};
 ghost use Rattle.cs_syntax.specs.NodeList.{trees_of};
 ghost use Rattle.cs_syntax.specs.Matching.{cat, alt};
-ghost use Rattle.cs_match.specs.Glushkov.{position_count, position_count_of, repeats, repeats_of, nullable, nullable_all, nullable_some, is_final, is_final_all, is_final_some, accepts, loop_ends, loop_ends_of, step, step_all, step_each};
+ghost use Rattle.cs_match.specs.Glushkov.{position_count, position_count_of, repeats, repeats_of, nullable, nullable_all, nullable_some, is_final, is_final_all, is_final_some, accepts, loop_ends, loop_ends_of, step, step_chars, step_all, step_each};
 
+use crate::input::{Input, is_begun, is_taken};
 use crate::look_around::LookAround;
 use crate::position_set::PositionSet;
-use cs_syntax::Node;
+use cs_syntax::{CharSet, CharStep, Node};
 
 /// The number of positions of the tree.
 #[cycle(count)]
@@ -20,6 +21,7 @@ pub(crate) fn count(node: &Node) -> usize
 {
     match node {
         Node::Set(_) => 1,
+        Node::Chars(_) => 2,
         Node::Cat(parts) => count_all(parts),
         Node::Alt(parts) => count_all(parts),
         Node::Rep(x, _, _) => count(x),
@@ -149,17 +151,17 @@ pub(crate) fn step_over(
     positions: &mut PositionSet,
     loops: &mut [bool],
     here: LookAround,
-    byte: u8,
+    input: Input,
 ) -> bool
     requires one_each { length positions.old ≡ position_count (tree_of root.now) }
     requires loops { length loops.old ≡ repeats (tree_of root.now) }
     ensures accepting { result ≡ accepts (tree_of root.now) true positions.old here }
-    ensures positions { positions.new ≡ step (tree_of root.now) true positions.old here byte }
+    ensures positions { positions.new ≡ step (tree_of root.now) true positions.old here input }
     ensures loops { length loops.new ≡ length loops.old }
 {
     note_loops(root, positions, loops, here);
     let mut cursor = START;
-    advance(root, true, positions, loops, here, byte, &mut cursor)
+    advance(root, true, positions, loops, here, input, &mut cursor)
 }
 
 /// Stores for each repeat whether its body is final here.
@@ -198,8 +200,13 @@ fn find_ends(
 {
     match node {
         Node::Empty => Ends::within(true),
-        // An expanded tree has none.
-        Node::Chars(_) => Ends::within(false),
+        Node::Chars(_) => {
+            let accepting = next_chars(positions, cursor);
+            Ends {
+                accepting,
+                nullable: false,
+            }
+        }
         Node::Set(_) => {
             let accepting = next_position(positions, cursor);
             Ends {
@@ -234,6 +241,18 @@ fn next_position(positions: &PositionSet, cursor: &mut Cursor) -> bool
     let position = cursor.position;
     cursor.position += 1;
     positions.get(position)
+}
+
+/// Whether the next set of characters is taken. It has two positions.
+fn next_chars(positions: &PositionSet, cursor: &mut Cursor) -> bool
+    requires { cursor.old.position + 1 < length positions.now }
+    ensures is { result ≡ slice_index_or positions.now cursor.old.position false }
+    ensures position { cursor.new.position ≡ cursor.old.position + 2 }
+    ensures repeat { cursor.new.repeat ≡ cursor.old.repeat }
+{
+    let taken = next_position(positions, cursor);
+    next_position(positions, cursor);
+    taken
 }
 
 /// Moves the cursor over a repeat, and returns its index. Repeats past the end of `loops` share one index.
@@ -326,7 +345,7 @@ fn advance(
     positions: &mut PositionSet,
     loops: &[bool],
     here: LookAround,
-    byte: u8,
+    input: Input,
     cursor: &mut Cursor,
 ) -> bool
     requires room { cursor.old.position + position_count (tree_of node.now) ≤ length positions.old }
@@ -335,7 +354,7 @@ fn advance(
     ensures accepting { result ≡ accepts (tree_of node.now) enter
         (drop cursor.old.position positions.old) here }
     ensures positions { positions.new ≡ take cursor.old.position positions.old
-        ++ (step (tree_of node.now) enter (drop cursor.old.position positions.old) here byte
+        ++ (step (tree_of node.now) enter (drop cursor.old.position positions.old) here input
         ++ drop (cursor.old.position + position_count (tree_of node.now)) positions.old) }
     ensures position { cursor.new.position
         ≡ cursor.old.position + position_count (tree_of node.now) }
@@ -343,17 +362,17 @@ fn advance(
 {
     match node {
         Node::Empty => enter,
-        Node::Set(set) => put_position(positions, enter && set.contains(byte), cursor),
-        Node::Cat(parts) => advance_all(parts, enter, positions, loops, here, byte, cursor),
-        Node::Alt(parts) => advance_each(parts, enter, positions, loops, here, byte, cursor),
+        Node::Set(set) => put_position(positions, enter && set.contains(input.byte), cursor),
+        Node::Cat(parts) => advance_all(parts, enter, positions, loops, here, input, cursor),
+        Node::Alt(parts) => advance_each(parts, enter, positions, loops, here, input, cursor),
         Node::Rep(x, least, _) => {
             let again = loops[cursor.repeat];
             cursor.repeat += 1;
-            let accepting = advance(x, enter || again, positions, loops, here, byte, cursor);
+            let accepting = advance(x, enter || again, positions, loops, here, input, cursor);
             accepting || (*least == 0 && enter)
         }
+        Node::Chars(set) => step_chars(set, enter, positions, input.char, cursor),
         // The operator `&` makes no branch. Each branch would have all clauses to prove.
-        Node::Chars(_) => false,
         Node::LineStart => enter & here.first,
         Node::LineEnd => enter & here.last,
         Node::WordEdge => enter & here.edge,
@@ -377,6 +396,32 @@ fn put_position(positions: &mut PositionSet, on: bool, cursor: &mut Cursor) -> b
     was
 }
 
+/// Steps a set of characters, which has the next two positions, and returns whether it was taken.
+fn step_chars(
+    set: &CharSet,
+    enter: bool,
+    positions: &mut PositionSet,
+    step: CharStep,
+    cursor: &mut Cursor,
+) -> bool
+    requires { cursor.old.position + 1 < length positions.old }
+    ensures was { result ≡ slice_index_or positions.old cursor.old.position false }
+    ensures now { positions.new
+        ≡ take cursor.old.position positions.old
+        ++ (step_chars set.now enter (drop cursor.old.position positions.old) step
+        ++ drop (cursor.old.position + 2) positions.old) }
+    ensures position { cursor.new.position ≡ cursor.old.position + 2 }
+    ensures repeat { cursor.new.repeat ≡ cursor.old.repeat }
+{
+    prove!(cursor.position < positions.len());
+    let was_begun = positions.get(cursor.position + 1);
+    let taken = is_taken(set, enter, was_begun, step);
+    let begun = is_begun(enter, was_begun, step);
+    let was_taken = put_position(positions, taken, cursor);
+    put_position(positions, begun, cursor);
+    was_taken
+}
+
 #[cycle(advance)]
 fn advance_all(
     parts: &[Node],
@@ -384,7 +429,7 @@ fn advance_all(
     positions: &mut PositionSet,
     loops: &[bool],
     here: LookAround,
-    byte: u8,
+    input: Input,
     cursor: &mut Cursor,
 ) -> bool
     requires room { cursor.old.position + position_count_of (trees_of parts.now)
@@ -394,7 +439,7 @@ fn advance_all(
     ensures accepting { result
         ≡ accepts (cat (trees_of parts.now)) enter (drop cursor.old.position positions.old) here }
     ensures positions { positions.new ≡ take cursor.old.position positions.old
-        ++ (step_all (trees_of parts.now) enter (drop cursor.old.position positions.old) here byte
+        ++ (step_all (trees_of parts.now) enter (drop cursor.old.position positions.old) here input
         ++ drop (cursor.old.position + position_count_of (trees_of parts.now)) positions.old) }
     ensures position { cursor.new.position
         ≡ cursor.old.position + position_count_of (trees_of parts.now) }
@@ -402,7 +447,7 @@ fn advance_all(
 {
     let mut accepting = enter;
     for part in parts {
-        accepting = advance(part, accepting, positions, loops, here, byte, cursor);
+        accepting = advance(part, accepting, positions, loops, here, input, cursor);
     }
     accepting
 }
@@ -414,7 +459,7 @@ fn advance_each(
     positions: &mut PositionSet,
     loops: &[bool],
     here: LookAround,
-    byte: u8,
+    input: Input,
     cursor: &mut Cursor,
 ) -> bool
     requires room { cursor.old.position + position_count_of (trees_of parts.now)
@@ -424,7 +469,7 @@ fn advance_each(
     ensures accepting { result
         ≡ accepts (alt (trees_of parts.now)) enter (drop cursor.old.position positions.old) here }
     ensures positions { positions.new ≡ take cursor.old.position positions.old
-        ++ (step_each (trees_of parts.now) enter (drop cursor.old.position positions.old) here byte
+        ++ (step_each (trees_of parts.now) enter (drop cursor.old.position positions.old) here input
         ++ drop (cursor.old.position + position_count_of (trees_of parts.now)) positions.old) }
     ensures position { cursor.new.position
         ≡ cursor.old.position + position_count_of (trees_of parts.now) }
@@ -432,7 +477,7 @@ fn advance_each(
 {
     let mut out = false;
     for part in parts {
-        let accepting = advance(part, enter, positions, loops, here, byte, cursor);
+        let accepting = advance(part, enter, positions, loops, here, input, cursor);
         out |= accepting;
     }
     out

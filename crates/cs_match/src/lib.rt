@@ -2,32 +2,29 @@
 //! line or over many lines at once. What a tree matches is defined in `specs/Matching.antt` of `cs_syntax`. Read
 //! `specs/Deciding.antt` first, then `specs/Lines.antt`, `specs/Skipping.antt`, `specs/Automaton.antt` (what
 //! contracts see of a matcher) and `specs/Size.antt`. The internals are defined in `specs/Glushkov.antt`,
-//! `specs/States.antt`, `specs/LazyDfa.antt`, `specs/FirstMatch.antt`, `specs/BitParallel.antt`, `specs/Scan.antt`,
-//! `specs/Counting.antt`, `specs/Expansion.antt`, `specs/RequiredLiteral.antt` and `specs/RequiredTrigrams.antt`.
+//! `specs/LookBehind.antt`, `specs/States.antt`, `specs/ByteClasses.antt`, `specs/LazyDfa.antt`,
+//! `specs/FirstMatch.antt`, `specs/BitParallel.antt`, `specs/Scan.antt`, `specs/Counting.antt` and
+//! `specs/Expansion.antt`.
 #![tactic(auto)]
 
 mod backoff;
 mod bit_parallel;
-mod class_runs;
+mod byte_classes;
 mod counting;
 mod dfa;
-mod exact_runs;
 mod expand;
 mod glushkov;
+mod input;
 mod interleaved_scan;
 pub mod laws;
-mod literal;
 mod look_around;
 mod matcher;
 mod pacing;
 mod position_set;
 mod program;
-mod rarity;
 mod sequences;
 mod skipping;
 mod state;
-mod trigram_set;
-mod trigrams;
 
 pub use matcher::{Line, Matcher};
 pub use program::Program;

@@ -14,10 +14,8 @@ use crate::dfa::LazyDfa;
 use crate::interleaved_scan::{cut, line_end, skip_interleaved};
 use crate::pacing::{Method, Pacing};
 use crate::program::Program;
-use crate::rarity::is_worth;
-use crate::skipping::{skip_to_candidate, skip_to_literal, whole_lines_len};
+use crate::skipping::{next_candidate, whole_lines_len};
 use cs_prefilter::Prefilter;
-use memchr::memmem::Finder;
 use std::alloc::{AllocError, Global};
 use std::marker::Model;
 
@@ -32,10 +30,7 @@ pub struct Line {
 #[derive(Drop)]
 pub struct Matcher<'a> {
     pub(crate) dfa: LazyDfa<'a>,
-    finder: Finder<'a>,
-    /// Whether the required literal is rare enough to be searched for.
-    pub(crate) uses_literal: bool,
-    /// The prefilter for the class trigrams of the program, if it has one.
+    /// The prefilter of the program, if it has one.
     pub(crate) prefilter: Option<&'a Prefilter>,
     pacing: Pacing,
 }
@@ -62,13 +57,13 @@ impl<'a> Model for Matcher<'a> {
     ghost coded = { automaton_code };
 
     ghost use Rattle.std.specs.Prelude.{IfSome};
-    ghost use Rattle.cs_match.specs.ConsistentDfa.{RequiresLiteral, tree_in};
-    ghost use Rattle.cs_match.specs.RequiredTrigrams.{AreRequired};
+    ghost use Rattle.cs_match.specs.ConsistentDfa.{IsConsistent, tree_in};
+    ghost use Rattle.cs_prefilter.specs.WordAt.{IsPrefilterOf};
 
     ghost view = { λ matcher. record { tree = tree_in matcher.dfa; states = matcher.dfa.used } };
 
-    ghost invariant = { λ matcher. RequiresLiteral matcher.dfa matcher.finder
-        × IfSome matcher.prefilter (λ prefilter. AreRequired (tree_in matcher.dfa) prefilter.now) };
+    ghost invariant = { λ matcher. IsConsistent matcher.dfa
+        × IfSome matcher.prefilter (λ prefilter. IsPrefilterOf (tree_in matcher.dfa) prefilter.now) };
 }
 
 impl<'a> Matcher<'a> {
@@ -78,15 +73,11 @@ impl<'a> Matcher<'a> {
         ensures states { IfOk result (λ matcher. matcher.states ≡ 1) }
     {
         let dfa = LazyDfa::new(alloc, program)?;
-        let literal = program.literal();
         let prefilter = program.prefilter();
-        let uses_literal = is_worth(literal, prefilter.is_some());
         Ok(Matcher {
             dfa,
-            finder: Finder::new(literal),
-            uses_literal,
             prefilter,
-            pacing: Pacing::new(uses_literal || prefilter.is_some()),
+            pacing: Pacing::new(prefilter.is_some()),
         })
     }
 
@@ -245,26 +236,25 @@ impl<'a> Matcher<'a> {
         ensures states { GrowsOver (result.to - from) self.old.states self.new.states }
     {
         let method = self.method();
-        let start = self.skip_by(method, block, from);
-        let searched = self.search_by(method, block, start);
-        self.note_part(method, from, start, searched);
+        let searched = self.search_by(method, block, from);
+        self.note_part(method, from, searched);
         searched
     }
 
-    /// Searches one line, one chunk or the whole rest of the block, where the method has stopped.
+    /// Searches one line, some chunks or the whole rest of the block, after what the method skips.
     fn search_by(&mut self, method: Method, block: &[u8], from: usize) -> Searched
-        requires within { from ≤ length block.now }
+        requires within { from < length block.now }
         requires whole { AreWholeLines (drop from block.now) }
-        ensures moves { from < length block.now → from < result.to }
+        ensures moves { from < result.to }
         ensures found { IsSearched self.old.tree block.now from result.to result.line }
         ensures high { result.to ≤ length block.now }
         ensures same { self.new.tree ≡ self.old.tree }
         ensures states { GrowsOver (result.to - from) self.old.states self.new.states }
     {
         match method {
-            Method::Prefilter => self.search_line(block, from),
+            Method::Prefilter => self.search_candidate(block, from),
             Method::Line => self.search_line(block, from),
-            Method::Interleaved => self.search_to(block, from, cut(block, from)),
+            Method::Interleaved => self.search_chunks(block, from),
             Method::Single => self.search_to(block, from, block.len()),
         }
     }
@@ -286,22 +276,16 @@ impl<'a> Matcher<'a> {
         }
     }
 
-    /// Tests the line at the offset, if the block has not ended.
+    /// Tests the line at the offset.
     fn search_line(&mut self, block: &[u8], from: usize) -> Searched
-        requires within { from ≤ length block.now }
+        requires within { from < length block.now }
         requires whole { AreWholeLines (drop from block.now) }
-        ensures moves { from < length block.now → from < result.to }
+        ensures moves { from < result.to }
         ensures found { IsSearched self.old.tree block.now from result.to result.line }
         ensures high { result.to ≤ length block.now }
         ensures same { self.new.tree ≡ self.old.tree }
         ensures states { GrowsOver (result.to - from) self.old.states self.new.states }
     {
-        if from == block.len() {
-            return Searched {
-                to: from,
-                line: None,
-            };
-        }
         let end = line_end(block, from);
         let found = self.is_match(&block[from..end]);
         Searched {
@@ -314,34 +298,50 @@ impl<'a> Matcher<'a> {
         }
     }
 
-    /// Skips lines without a match by the method.
-    fn skip_by(&self, method: Method, block: &[u8], from: usize) -> usize
-        requires within { from ≤ length block.now }
+    /// Skips to the first line with a word of the prefilter, and tests it unless the words are the pattern.
+    fn search_candidate(&mut self, block: &[u8], from: usize) -> Searched
+        requires within { from < length block.now }
         requires whole { AreWholeLines (drop from block.now) }
-        ensures { AreSkipped (λ has_match. Decides has_match self.now.tree) block.now from result }
+        ensures moves { from < result.to }
+        ensures found { IsSearched self.old.tree block.now from result.to result.line }
+        ensures high { result.to ≤ length block.now }
+        ensures same { self.new.tree ≡ self.old.tree }
+        ensures states { GrowsOver (result.to - from) self.old.states self.new.states }
     {
-        match method {
-            Method::Prefilter => self.skip_by_prefilter(block, from),
-            Method::Interleaved => self.skip_interleaved(block, from),
-            Method::Line => from,
-            Method::Single => from,
+        let Some(prefilter) = self.prefilter else {
+            return self.search_line(block, from);
+        };
+        let Some(line) = next_candidate(prefilter, block, from) else {
+            return Searched {
+                to: block.len(),
+                line: None,
+            };
+        };
+        if prefilter.is_exact() {
+            return Searched {
+                to: line.end + 1,
+                line: Some(line),
+            };
+        }
+        let found = self.is_match(&block[line.start..line.end]);
+        Searched {
+            to: line.end + 1,
+            line: if found { Some(line) } else { None },
         }
     }
 
-    /// Skips to the first line with the required literal or with a class trigram, if the program has a prefilter that
-    /// pays.
-    fn skip_by_prefilter(&self, block: &[u8], from: usize) -> usize
-        requires within { from ≤ length block.now }
+    /// Skips chunks by the interleaved scan, and searches the next one by one scan.
+    fn search_chunks(&mut self, block: &[u8], from: usize) -> Searched
+        requires within { from < length block.now }
         requires whole { AreWholeLines (drop from block.now) }
-        ensures { AreSkipped (λ has_match. Decides has_match self.now.tree) block.now from result }
+        ensures moves { from < result.to }
+        ensures found { IsSearched self.old.tree block.now from result.to result.line }
+        ensures high { result.to ≤ length block.now }
+        ensures same { self.new.tree ≡ self.old.tree }
+        ensures states { GrowsOver (result.to - from) self.old.states self.new.states }
     {
-        if self.uses_literal {
-            return skip_to_literal(&self.finder, block, from);
-        }
-        match self.prefilter {
-            Some(prefilter) => skip_to_candidate(prefilter, block, from),
-            None => from,
-        }
+        let start = self.skip_interleaved(block, from);
+        self.search_to(block, start, cut(block, start))
     }
 
     /// Skips chunks by the interleaved scan.
@@ -382,17 +382,16 @@ impl<'a> Matcher<'a> {
         self.pacing.method()
     }
 
-    /// Notes what a method has skipped, and what the search from there has shown.
-    fn note_part(&mut self, method: Method, from: usize, start: usize, searched: Searched)
+    /// Notes what a search by the method has shown.
+    fn note_part(&mut self, method: Method, from: usize, searched: Searched)
         ensures { self.new ≡ self.old }
     {
         let (end, found) = match searched.line {
             Some(line) => (line.start, true),
             None => (searched.to, false),
         };
-        let skipped = start.saturating_sub(from);
-        let without_match = end.saturating_sub(from);
-        self.pacing.note_part(method, skipped, without_match, found);
+        self.pacing
+            .note_part(method, end.saturating_sub(from), found);
     }
 
     /// Notes how many bytes were skipped before a matching line.

@@ -69,19 +69,12 @@ impl Pacing {
         }
     }
 
-    /// Notes how many bytes a method skipped, how many bytes without a match it and the search from there found, and
-    /// whether the search ended at a match.
-    pub(crate) fn note_part(
-        &mut self,
-        method: Method,
-        skipped: usize,
-        without_match: usize,
-        found: bool,
-    ) {
+    /// Notes how many bytes without a match a search by the method found, and whether it ended at a match.
+    pub(crate) fn note_part(&mut self, method: Method, without_match: usize, found: bool) {
         match method {
-            Method::Prefilter => self.note_candidate(skipped, found),
+            Method::Prefilter => self.note_candidate(without_match, found),
             Method::Interleaved => {
-                if skipped >= BATCH {
+                if without_match >= BATCH {
                     self.interleaved_backoff.reset();
                 }
                 if found {
@@ -97,7 +90,7 @@ impl Pacing {
         }
     }
 
-    /// Notes how many bytes the prefilter skipped, and whether its candidate has a match.
+    /// Notes how far the candidate of the prefilter was, and whether it has a match.
     fn note_candidate(&mut self, skipped: usize, found: bool) {
         if skipped >= NEAR {
             self.misses = 0;

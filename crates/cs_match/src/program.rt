@@ -2,19 +2,20 @@
 ghost use Rattle.std.specs.Prelude.{◌≡◌, IfOk, IfSome};
 ghost use Rattle.cs_syntax.specs.Node.{tree_of};
 ghost use Rattle.cs_match.specs.SameLines.{MatchSameLines};
-ghost use Rattle.cs_match.specs.Glushkov.{position_count, repeats, IsExpanded};
-ghost use Rattle.cs_match.specs.RequiredLiteral.{IsRequired};
-ghost use Rattle.cs_match.specs.RequiredTrigrams.{AreRequired};
+ghost use Rattle.cs_match.specs.Glushkov.{position_count, repeats, char_step_of, IsExpanded};
+ghost use Rattle.cs_prefilter.specs.WordAt.{IsPrefilterOf};
 ghost use Rattle.cs_match.specs.BitParallel.{IsBitParallel};
+ghost use Rattle.cs_match.specs.LookBehind.{look_behind};
+ghost use Rattle.cs_match.specs.ByteClasses.{AreClasses};
 ghost use Rattle.cs_match.specs.Size.{FitsWeight};
 
 use crate::bit_parallel::{BitParallel, bit_parallel_of};
+use crate::byte_classes::byte_classes;
 use crate::expand::expand;
 use crate::glushkov::{count, count_repeats};
-use crate::literal::literal;
-use crate::trigrams::prefilter;
+use crate::look_around::{LookBehind, look_behind};
 use cs_prefilter::Prefilter;
-use cs_syntax::{Node, Pattern};
+use cs_syntax::{CharStep, Cuts, Node, Pattern, Unfinished};
 use std::alloc::{AllocError, Global};
 use std::marker::Model;
 
@@ -27,9 +28,13 @@ pub struct Program {
     count: usize,
     /// The number of repeats.
     repeats: usize,
-    /// The required literal.
-    literal: Vec<u8>,
-    /// The prefilter for class trigrams, if some are known.
+    /// The look-behind bits that the tree reads.
+    look_behind: LookBehind,
+    /// Whether a byte class begins at each byte.
+    byte_classes: [bool; 256],
+    /// The cuts of the sets of characters.
+    cuts: Cuts,
+    /// The prefilter, if the tree has rare words.
     prefilter: Option<Prefilter>,
     /// The bit-parallel simulation, if the tree is an alternation of sequences.
     bits: Option<BitParallel>,
@@ -46,21 +51,23 @@ impl Model for Program {
 
     ghost use Rattle.cs_syntax.specs.Node.{tree_of};
     ghost use Rattle.cs_match.specs.Glushkov.{IsProgram};
-    ghost use Rattle.cs_match.specs.RequiredLiteral.{IsRequired};
-    ghost use Rattle.cs_match.specs.RequiredTrigrams.{AreRequired};
+    ghost use Rattle.cs_match.specs.ByteClasses.{AreClasses};
+    ghost use Rattle.cs_syntax.specs.Cuts.{AreCutsOf};
+    ghost use Rattle.cs_prefilter.specs.WordAt.{IsPrefilterOf};
     ghost use Rattle.cs_match.specs.BitParallel.{IsBitParallel};
 
     ghost view = { λ program. tree_of program.root };
 
-    ghost invariant = { λ program. IsProgram (tree_of program.root) program.count program.repeats
-        × IsRequired (tree_of program.root) program.literal.items
-        × IfSome program.prefilter (AreRequired (tree_of program.root))
-        × IfSome program.bits (IsBitParallel (tree_of program.root)) };
+    ghost invariant = { λ program. IsProgram (tree_of program.root) program.count program.repeats program.look_behind
+        × IfSome program.prefilter (IsPrefilterOf (tree_of program.root))
+        × IfSome program.bits (IsBitParallel (tree_of program.root))
+        × AreClasses (tree_of program.root) program.byte_classes
+        × AreCutsOf (tree_of program.root) program.cuts };
 }
 
 impl Program {
-    /// Compiles a pattern: expands its counted repeats and lowers its character sets to byte sets. The program has a
-    /// match in the same lines, and at most 55 positions for each unit of the pattern's weight.
+    /// Compiles a pattern: expands its counted repeats. The program has a match in the same lines, and at most two
+    /// positions for each unit of the pattern's weight.
     pub fn compile(alloc: Global, pattern: &Pattern) -> Result<Program, AllocError>
         ensures alike { IfOk result (λ program. MatchSameLines program pattern.now) }
         ensures small { IfOk result (λ program. FitsWeight program pattern.now) }
@@ -68,14 +75,18 @@ impl Program {
         let root = expand(alloc, pattern.tree())?;
         let count = count(&root);
         let repeats = count_repeats(&root);
-        let literal = literal(alloc, &root)?;
-        let prefilter = prefilter(alloc, &root)?;
+        let look_behind = look_behind(&root);
+        let byte_classes = byte_classes(&root, look_behind);
+        let cuts = Cuts::of_tree(alloc, &root)?;
+        let prefilter = Prefilter::of(alloc, &root)?;
         let bits = bit_parallel_of(alloc, &root, count)?;
         Ok(Program {
             root,
             count,
             repeats,
-            literal,
+            look_behind,
+            byte_classes,
+            cuts,
             prefilter,
             bits,
         })
@@ -83,8 +94,7 @@ impl Program {
 
     /// The expanded tree.
     pub(crate) fn root(&self) -> &Node
-        ensures tree { tree_of result.now ≡ self.now }
-        ensures expanded { IsExpanded self.now }
+        ensures { tree_of result.now ≡ self.now }
     {
         &self.root
     }
@@ -96,23 +106,42 @@ impl Program {
         self.count
     }
 
-    /// The number of repeats of the tree.
+    /// The number of repeats of the tree. Each repeat is a loop.
     pub(crate) fn repeats(&self) -> usize
-        ensures { result ≡ repeats self.now }
+        ensures count { result ≡ repeats self.now }
+        ensures expanded { IsExpanded self.now }
     {
         self.repeats
     }
 
-    /// A literal that every matching line contains. It is empty if none is known.
-    pub(crate) fn literal(&self) -> &[u8]
-        ensures { IsRequired self.now result.now }
+    /// The look-behind bits that the tree reads.
+    pub(crate) fn look_behind(&self) -> LookBehind
+        ensures { result ≡ look_behind self.now }
     {
-        &self.literal
+        self.look_behind
     }
 
-    /// A prefilter for class trigrams, if rare ones are known. Every matching line contains one of them.
+    /// Whether a byte class begins at each byte.
+    pub(crate) fn byte_classes(&self) -> &[bool; 256]
+        ensures { AreClasses self.now result.now }
+    {
+        &self.byte_classes
+    }
+
+    /// What the byte does to the unfinished character, if the tree has sets of characters.
+    pub(crate) fn char_step(&self, at: Unfinished, byte: u8) -> CharStep
+        ensures { result ≡ char_step_of self.now at byte }
+    {
+        if self.look_behind.char {
+            self.cuts.step(at, byte)
+        } else {
+            CharStep::Nothing
+        }
+    }
+
+    /// The prefilter, if the tree has rare words.
     pub(crate) fn prefilter(&self) -> Option<&Prefilter>
-        ensures { IfSome result (λ prefilter. AreRequired self.now prefilter.now) }
+        ensures { IfSome result (λ prefilter. IsPrefilterOf self.now prefilter.now) }
     {
         self.prefilter.as_ref()
     }

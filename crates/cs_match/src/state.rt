@@ -1,18 +1,19 @@
 // States of the DFA.
-ghost use Rattle.std.specs.Prelude.{◌≡◌, ◌↔◌, IfOk, IfSome, IsTrue, length, true};
+ghost use Rattle.std.specs.Prelude.{◌≡◌, ◌↔◌, IfOk, IsTrue, length, true, false};
+ghost use Rattle.std.specs.Bool.{xor};
 ghost use Rattle.cs_syntax.specs.Matching.{HasMatch};
-ghost use Rattle.cs_syntax.specs.Node.{tree_of};
 ghost use Rattle.cs_match.specs.Glushkov.{position_count, repeats, accepts, IsExpanded};
-ghost use Rattle.cs_match.specs.BitParallel.{IsBitParallel};
 ghost use Rattle.cs_match.specs.States.{start, ahead, look_at_end, next_state, successor, accepts_before};
 
-use crate::bit_parallel::{BitParallel, is_accepting, step_over};
-use crate::look_around::{LookAround, is_word_byte};
+use crate::bit_parallel::{is_accepting, step_over};
+use crate::input::Input;
+use crate::look_around::LookAround;
 use crate::position_set::PositionSet;
-use cs_syntax::Node;
+use crate::program::Program;
+use cs_syntax::Unfinished;
 use std::alloc::{AllocError, Global};
 
-/// A DFA state is a set of positions plus two look-behind bits.
+/// A DFA state is a set of positions, two look-behind bits and the unfinished character.
 #[derive(Drop)]
 pub(crate) struct State {
     /// The positions that can match the last byte before the offset.
@@ -21,28 +22,33 @@ pub(crate) struct State {
     pub(crate) first: bool,
     /// The byte before the offset is a word character.
     pub(crate) word: bool,
+    /// The character that is unfinished before the offset.
+    pub(crate) unfinished: Unfinished,
 }
 
 impl State {
-    /// The start state of a tree with this many positions.
-    pub(crate) fn new(alloc: Global, position_count: usize) -> Result<State, AllocError>
-        ensures { IfOk result (λ state. state ≡ start position_count) }
+    /// The start state of the program.
+    pub(crate) fn new(alloc: Global, program: &Program) -> Result<State, AllocError>
+        ensures { IfOk result (λ state. state ≡ start program.now) }
     {
-        let positions = PositionSet::none(alloc, position_count)?;
+        let positions = PositionSet::none(alloc, program.position_count())?;
         Ok(State {
             positions,
-            first: true,
+            first: program.look_behind().first,
             word: false,
+            unfinished: Unfinished::none(),
         })
     }
 
     /// Makes this the start state.
-    pub(crate) fn begin(&mut self)
-        ensures { self.new ≡ start (length self.old.positions) }
+    fn begin(&mut self, program: &Program)
+        requires { length self.old.positions ≡ position_count program.now }
+        ensures { self.new ≡ start program.now }
     {
         self.positions.clear();
-        self.first = true;
+        self.first = program.look_behind().first;
         self.word = false;
+        self.unfinished = Unfinished::none();
     }
 
     /// Copies a state of the same tree.
@@ -53,6 +59,7 @@ impl State {
         self.positions.copy_from(&from.positions);
         self.first = from.first;
         self.word = from.word;
+        self.unfinished = from.unfinished;
     }
 
     /// Whether both states are equal.
@@ -61,113 +68,108 @@ impl State {
     {
         self.first == other.first
             && self.word == other.word
+            && self.unfinished == other.unfinished
             && self.positions.is_same(&other.positions)
     }
 
     /// A hash of the state.
     pub(crate) fn hash(&self) -> u32 {
         let hash = self.positions.hash();
-        hash.wrapping_mul(4)
-            .wrapping_add(u32::from(self.first) * 2 + u32::from(self.word))
+        let bits = u32::from(self.first) * 2 + u32::from(self.word);
+        let char = self
+            .unfinished
+            .low
+            .wrapping_add(u32::from(self.unfinished.needed));
+        hash.wrapping_mul(4).wrapping_add(bits).wrapping_add(char)
     }
 
     /// Whether the line has a match, simulated byte by byte.
-    pub(crate) fn search(
-        &mut self,
-        root: &Node,
-        bits: Option<&BitParallel>,
-        loops: &mut [bool],
-        line: &[u8],
-    ) -> bool
-        requires bits { IfSome bits (λ bits. IsBitParallel (tree_of root.now) bits.now) }
-        requires one_each { length self.old.positions ≡ position_count (tree_of root.now) }
-        requires loops { length loops.old ≡ repeats (tree_of root.now) }
-        requires expanded { IsExpanded (tree_of root.now) }
-        ensures found { IsTrue result ↔ HasMatch (tree_of root.now) line.now }
-        ensures one_each { length self.new.positions ≡ position_count (tree_of root.now) }
+    pub(crate) fn search(&mut self, program: &Program, loops: &mut [bool], line: &[u8]) -> bool
+        requires one_each { length self.old.positions ≡ position_count program.now }
+        requires loops { length loops.old ≡ repeats program.now }
+        requires expanded { IsExpanded program.now }
+        ensures found { IsTrue result ↔ HasMatch program.now line.now }
+        ensures one_each { length self.new.positions ≡ position_count program.now }
         ensures loops { length loops.new ≡ length loops.old }
     {
-        self.begin();
+        self.begin(program);
         for b in line {
-            if self.step_in_line(root, bits, loops, *b) {
+            if self.step_in_line(program, loops, *b) {
                 return true;
             }
         }
-        self.end(root, bits)
+        self.end(program)
     }
 
     /// Moves over a byte, and returns whether the state accepts before it. A newline is the end of the line.
-    pub(crate) fn step_over(
-        &mut self,
-        root: &Node,
-        bits: Option<&BitParallel>,
-        loops: &mut [bool],
-        byte: u8,
-    ) -> bool
-        requires bits { IfSome bits (λ bits. IsBitParallel (tree_of root.now) bits.now) }
-        requires one_each { length self.old.positions ≡ position_count (tree_of root.now) }
-        requires loops { length loops.old ≡ repeats (tree_of root.now) }
-        ensures accepting { result ≡ accepts_before (tree_of root.now) self.old byte }
-        ensures moved { self.new ≡ successor (tree_of root.now) self.old byte }
+    pub(crate) fn step_over(&mut self, program: &Program, loops: &mut [bool], byte: u8) -> bool
+        requires one_each { length self.old.positions ≡ position_count program.now }
+        requires loops { length loops.old ≡ repeats program.now }
+        ensures accepting { result ≡ accepts_before program.now self.old byte }
+        ensures moved { self.new ≡ successor program.now self.old byte }
         ensures loops { length loops.new ≡ length loops.old }
     {
         if byte == b'\n' {
-            self.end(root, bits)
+            self.end(program)
         } else {
-            self.step_in_line(root, bits, loops, byte)
+            self.step_in_line(program, loops, byte)
         }
     }
 
     /// Moves over a byte of the line, and returns whether the state accepts before it.
-    fn step_in_line(
-        &mut self,
-        root: &Node,
-        bits: Option<&BitParallel>,
-        loops: &mut [bool],
-        byte: u8,
-    ) -> bool
-        requires bits { IfSome bits (λ bits. IsBitParallel (tree_of root.now) bits.now) }
-        requires one_each { length self.old.positions ≡ position_count (tree_of root.now) }
-        requires loops { length loops.old ≡ repeats (tree_of root.now) }
+    fn step_in_line(&mut self, program: &Program, loops: &mut [bool], byte: u8) -> bool
+        requires one_each { length self.old.positions ≡ position_count program.now }
+        requires loops { length loops.old ≡ repeats program.now }
         ensures accepting { result
-            ≡ accepts (tree_of root.now) true self.old.positions (ahead self.old byte) }
-        ensures moved { self.new ≡ next_state (tree_of root.now) self.old byte }
+            ≡ accepts program.now true self.old.positions (ahead program.now self.old byte) }
+        ensures moved { self.new ≡ next_state program.now self.old byte }
         ensures loops { length loops.new ≡ length loops.old }
     {
-        let here = self.ahead(byte);
-        let accepting = step_over(root, bits, &mut self.positions, loops, here, byte);
+        let bits = program.look_behind();
+        let is_word = bits.is_word(byte);
+        let here = LookAround {
+            first: self.first,
+            last: false,
+            edge: self.is_edge(is_word),
+        };
+        let char = program.char_step(self.unfinished, byte);
+        let input = Input { byte, char };
+        let root = program.root();
+        let accepting = step_over(
+            root,
+            program.bits(),
+            &mut self.positions,
+            loops,
+            here,
+            input,
+        );
         self.first = false;
-        self.word = is_word_byte(byte);
+        self.word = is_word;
+        self.unfinished = char.unfinished();
         accepting
     }
 
     /// Moves over the end of the line to the start state, and returns whether the state accepts before it.
-    fn end(&mut self, root: &Node, bits: Option<&BitParallel>) -> bool
-        requires bits { IfSome bits (λ bits. IsBitParallel (tree_of root.now) bits.now) }
-        requires one_each { length self.old.positions ≡ position_count (tree_of root.now) }
+    fn end(&mut self, program: &Program) -> bool
+        requires one_each { length self.old.positions ≡ position_count program.now }
         ensures accepting { result
-            ≡ accepts (tree_of root.now) true self.old.positions (look_at_end self.old) }
-        ensures moved { self.new ≡ start (position_count (tree_of root.now)) }
+            ≡ accepts program.now true self.old.positions (look_at_end self.old) }
+        ensures moved { self.new ≡ start program.now }
     {
         let here = LookAround {
             first: self.first,
             last: true,
             edge: self.word,
         };
-        let accepting = is_accepting(root, bits, &self.positions, here);
-        self.begin();
+        let accepting = is_accepting(program.root(), program.bits(), &self.positions, here);
+        self.begin(program);
         accepting
     }
 
-    /// The look-around before the byte.
-    fn ahead(&self, byte: u8) -> LookAround
-        ensures { result ≡ ahead self.now byte }
+    /// Whether a byte after this state, which is a word byte or not, begins at a word boundary.
+    fn is_edge(&self, is_word: bool) -> bool
+        ensures { result ≡ xor self.now.word is_word }
     {
-        let after = is_word_byte(byte);
-        LookAround {
-            first: self.first,
-            last: false,
-            edge: if self.word { !after } else { after },
-        }
+        if self.word { !is_word } else { is_word }
     }
 }

@@ -1,12 +1,13 @@
 -- Buckets of a byte and of three bytes.
-use Rattle.std.proofs.Common.{◌≡◌, ℕ, ◌+◌, ◌*◌, ◌/◌, ◌%◌, ◌^◌, ◌<◌, List, length, get_or, set, ap, sym, subst, ◌∙◌, bit_and, bit_or, inl, inr, arith, w8}
+use Rattle.std.proofs.Common.{◌≡◌, ℕ, ◌+◌, ◌*◌, ◌/◌, ◌%◌, ◌^◌, ◌<◌, true, List, length, get_or, set, ap, sym, subst, ◌∙◌, bit_and, bit_or, inl, inr, arith, add-zero, w8}
 use Rattle.std.specs.Int.{bit_at}
 use Rattle.std.proofs.lemmas.Bool.{cases_eq}
 use Rattle.std.proofs.lemmas.Nat.Bits.{bit_at-zero, bit_at_and, bit_at_or, bit_at-lt, bit_at_set_same}
 use Rattle.std.proofs.lemmas.List.{get_or-set_same, get_or-set_other}
 use Rattle.cs_prefilter.specs.declared.masks.TrigramMasks.{TrigramMasks}
-use Rattle.cs_prefilter.specs.declared.class_trigram.ClassTrigram.{ClassTrigram}
-use Rattle.cs_prefilter.specs.TrigramAt.{TrigramAt}
+use Rattle.cs_prefilter.specs.declared.word.Word.{Word}
+use Rattle.cs_prefilter.specs.WordAt.{WordAt}
+use Rattle.cs_syntax.specs.Matching.{member}
 use Rattle.cs_prefilter.specs.Buckets.{buckets, IsInBucket, KeepsByteBuckets, buckets_of, buckets_at, KeepsBuckets, HasBucket}
 
 -- a bit that is set in both numbers is set in their bitwise and
@@ -74,14 +75,26 @@ KeepsBuckets-each old new one two three a b c g h =
     let later = in_right _ _ g h in
     in_both _ _ g (one a g (in_left _ _ g h)) (in_both _ _ g (two b g (in_left _ _ g later)) (three c g (in_right _ _ g later)))
 
--- a trigram keeps its bucket
-pub HasBucket-kept : (old new : TrigramMasks) → KeepsBuckets old new → (trigram : ClassTrigram) → HasBucket old trigram → HasBucket new trigram
-HasBucket-kept old new keeps trigram of =
-    (of.0, λ a b c in_a in_b in_c has_a has_b has_c. keeps a b c of.0 (of.1 a b c in_a in_b in_c has_a has_b has_c))
+-- a word keeps its bucket
+pub HasBucket-kept : (old new : TrigramMasks) → KeepsBuckets old new → (word : Word) → HasBucket old word → HasBucket new word
+HasBucket-kept old new keeps word of = record {
+  trigram = of.trigram;
+  begins = of.begins;
+  bucket = of.bucket;
+  has = λ a b c in_a in_b in_c has_a has_b has_c. keeps a b c of.bucket (of.has a b c in_a in_b in_c has_a has_b has_c);
+}
 
--- no trigram of a bucket occurs at an offset that is not a candidate
+-- no word of a bucket occurs at an offset that is not a candidate
 pub none_without_candidate : (trigram_masks : TrigramMasks) (text : List ℕ) (k : ℕ) → ((i : ℕ) → get_or text i 0 < 256)
-    → buckets_at trigram_masks text k ≡ 0 → (trigram : ClassTrigram) → HasBucket trigram_masks trigram → TrigramAt text k trigram → ⊥
-none_without_candidate trigram_masks text k bytes none trigram of occurs =
-    let set = of.1 _ _ _ (bytes k) (bytes (k + 1)) (bytes (k + 2)) occurs.first occurs.second occurs.third in
-    absurd (omega (arith, set, ap (λ n. bit_at n of.0) none, bit_at-zero of.0))
+    → buckets_at trigram_masks text k ≡ 0 → (word : Word) → HasBucket trigram_masks word → WordAt text k word → ⊥
+none_without_candidate trigram_masks text k bytes none word of occurs =
+    let t = of.trigram in
+    let b = of.begins in
+    let first : member t.first (get_or text k 0) ≡ true =
+    ap (λ s. member s (get_or text k 0)) b.first ∙ ap (λ i. member (get_or word.sets.items 0 t.first) (get_or text i 0)) (sym (add-zero k)) ∙ occurs.each 0 t.first (omega (arith, b.long)) in
+    let second : member t.second (get_or text (k + 1) 0) ≡ true =
+    ap (λ s. member s (get_or text (k + 1) 0)) b.second ∙ occurs.each 1 t.second (omega (arith, b.long)) in
+    let third : member t.third (get_or text (k + 2) 0) ≡ true =
+    ap (λ s. member s (get_or text (k + 2) 0)) b.third ∙ occurs.each 2 t.third (omega (arith, b.long)) in
+    let set = of.has _ _ _ (bytes k) (bytes (k + 1)) (bytes (k + 2)) first second third in
+    absurd (omega (arith, set, ap (λ n. bit_at n of.bucket) none, bit_at-zero of.bucket))

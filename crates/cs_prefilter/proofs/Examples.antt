@@ -1,10 +1,10 @@
--- Worked examples: the buckets of a byte and of three bytes, and the offsets at which a trigram occurs.
+-- Worked examples: the buckets of a byte and of three bytes, and a test of a letter.
 use Rattle.std.proofs.Common.{◌≡◌, ℕ, ◌-◌, true, false, List, [], ◌∷◌, ◌++◌, replicate, refl, arith}
-use Rattle.cs_prefilter.specs.declared.class_trigram.ClassTrigram.{ClassTrigram}
+use Rattle.cs_prefilter.specs.declared.byte_test.ByteTest.{ByteTest}
 use Rattle.cs_prefilter.specs.declared.masks.NibbleMasks.{NibbleMasks}
 use Rattle.cs_prefilter.specs.declared.masks.TrigramMasks.{TrigramMasks}
 use Rattle.cs_prefilter.specs.Buckets.{buckets, buckets_of}
-use Rattle.cs_prefilter.specs.TrigramAt.{TrigramAt}
+use Rattle.cs_prefilter.specs.ByteTest.{difference}
 
 -- a table of sixteen entries, all 0 except one
 entry : ℕ → ℕ → List ℕ
@@ -33,10 +33,10 @@ abc_is_in_one_bucket : buckets_of trigram_masks 97 98 99 ≡ 4
 unfolding buckets_of buckets trigram_masks masks entry
 abc_is_in_one_bucket = refl
 
--- the trigram of the bytes 2, 0 and 1
-trigram : ClassTrigram
-trigram = record { first = false ∷ false ∷ true ∷ []; second = true ∷ []; third = false ∷ true ∷ [] }
+-- a test of both cases of a letter: `a` and `A` pass, and `q` differs in the bit 16
+letter : ByteTest
+letter = record { mask = 32; byte = 97 }
 
-occurs_after_a_byte : TrigramAt (7 ∷ 2 ∷ 0 ∷ 1 ∷ []) 1 trigram
-unfolding trigram
-occurs_after_a_byte = record { within = omega arith; first = refl; second = refl; third = refl }
+both_cases_pass : (difference letter 65 ≡ 0) × (difference letter 97 ≡ 0) × (difference letter 113 ≡ 16)
+unfolding letter
+both_cases_pass = (refl, refl, refl)

@@ -4,6 +4,7 @@ use Rattle.std.specs.Int.{bit_at}
 use Rattle.std.specs.Simd.Lanes.{zip2, mask_l, top}
 use Rattle.std.proofs.lemmas.Simd.{length-zip2, get_or-zip2, get_or-replicate, length-replicate, swz_l, SwzOk, SwzOk-from_below, Each1-from_get_or, length-swz_l, get_or-swz_l_below, bitmask_splat, bit_mask_l}
 use Rattle.std.proofs.Math.ListN.{get_or-map}
+use Rattle.std.proofs.lemmas.List.{get_or-map as get_or-map_below}
 use Rattle.std.proofs.lemmas.Bool.{eqb-true, eqb-false}
 use Rattle.cs_prefilter.specs.Lanes.{HasLanes}
 
@@ -65,3 +66,16 @@ mask_of_nonzero v k long =
     ∙ bit_mask_l (map is_nonzero v) k ∙ ap (λ b. cond b 1 0) (get_or-map is_nonzero v k 0) in
     let t = mask_bit (get_or v k 0) _ refl in
     (λ h. t.0 (sym e ∙ h), λ h. e ∙ t.1 h)
+
+-- the test that gives each bit of the mask of zeros
+zero_bit : (x : ℕ) → x ≡ 0 → cond {A = ℕ} (eqb x 0) 1 0 ≡ 1
+zero_bit x e = rw e refl
+
+-- the mask of the lanes that are 0
+pub mask_of_zero : (v : List ℕ) (k : ℕ) → length v ≡ 32 → k < 32 → get_or v k 0 ≡ 0
+    → bit_at (mask_l (map (top 7) (zip2 (λ a b. cond (eqb a b) 255 0) v (replicate 32 0))) % 2 ^ 64) k ≡ 1
+mask_of_zero v k long below zero =
+    ap (λ m. bit_at m k) (bitmask_splat w8 (λ a b. eqb a b) v 32 0 long (omega arith))
+    ∙ bit_mask_l (map (λ x. eqb x 0) v) k
+    ∙ ap (λ b. cond b 1 0) (get_or-map_below (λ x. eqb x 0) v k 0 false (omega arith))
+    ∙ zero_bit (get_or v k 0) zero

@@ -1,7 +1,8 @@
 -- Buckets of class trigrams (Teddy): the buckets that the nibble masks give for three neighbouring bytes.
-use Rattle.std.specs.Prelude.{◌≡◌, ℕ, ◌+◌, ◌/◌, ◌%◌, ◌<◌, ◌≤◌, true, List, slice_index, bit_and}
+use Rattle.std.specs.Prelude.{◌≡◌, ℕ, ◌+◌, ◌/◌, ◌%◌, ◌<◌, ◌≤◌, true, List, length, slice_index, slice_index_or, bit_and}
 use Rattle.std.specs.Int.{bit_at}
 use Rattle.cs_syntax.specs.Matching.{member}
+use Rattle.cs_prefilter.specs.declared.word.Word.{Word}
 use Rattle.cs_prefilter.specs.declared.class_trigram.ClassTrigram.{ClassTrigram}
 use Rattle.cs_prefilter.specs.declared.masks.NibbleMasks.{NibbleMasks}
 use Rattle.cs_prefilter.specs.declared.masks.TrigramMasks.{TrigramMasks}
@@ -44,6 +45,16 @@ TrigramIsInBucket trigram_masks trigram bucket =
     → member trigram.first a ≡ true → member trigram.second b ≡ true → member trigram.third c ≡ true
     → bit_at (buckets_of trigram_masks a b c) bucket ≡ 1
 
--- the trigram is in some bucket
-abbrev pub HasBucket : TrigramMasks → ClassTrigram → Type 0
-HasBucket trigram_masks trigram = (bucket : ℕ) × TrigramIsInBucket trigram_masks trigram bucket
+-- the word begins with the sets of the trigram
+pub record BeginsWith (word : Word) (trigram : ClassTrigram) : Type 0 where
+  pub long : 3 ≤ length word.sets.items
+  pub first : trigram.first ≡ slice_index_or word.sets.items 0 trigram.first
+  pub second : trigram.second ≡ slice_index_or word.sets.items 1 trigram.second
+  pub third : trigram.third ≡ slice_index_or word.sets.items 2 trigram.third
+
+-- the trigram that the word begins with is in some bucket
+pub record HasBucket (trigram_masks : TrigramMasks) (word : Word) : Type 0 where
+  pub trigram : ClassTrigram
+  pub begins : BeginsWith word trigram
+  pub bucket : ℕ
+  pub has : TrigramIsInBucket trigram_masks trigram bucket

@@ -1,6 +1,12 @@
 -- Definitions that public contracts cite.
 pub use Rattle.cs_syntax.specs.Matching
-pub mod TrigramAt
+pub mod WordAt
 -- Definitions that only private contracts cite.
+pub mod Words
+pub mod Runs
+pub mod ByteTest
+pub mod Pairs
 pub mod Lanes
 pub mod Buckets
+pub mod Search
+pub mod Sufficient

@@ -1,25 +1,30 @@
 // Class trigrams.
-ghost use Rattle.std.specs.Prelude.{◌<◌, ◌+◌, ◌↔◌, length, IsTrue};
-ghost use Rattle.cs_prefilter.specs.TrigramAt.{TrigramAt};
+ghost use Rattle.std.specs.Prelude.{IfSome};
+ghost use Rattle.cs_prefilter.specs.Buckets.{BeginsWith};
 
+use crate::word::Word;
 use cs_syntax::ByteSet;
 
-/// A class trigram: a byte set for each of three neighbouring bytes.
+/// A class trigram: the first three byte sets of a word.
 #[derive(Clone, Copy, Drop)]
-pub struct ClassTrigram {
-    pub first: ByteSet,
-    pub second: ByteSet,
-    pub third: ByteSet,
+pub(crate) struct ClassTrigram {
+    pub(crate) first: ByteSet,
+    pub(crate) second: ByteSet,
+    pub(crate) third: ByteSet,
 }
 
 impl ClassTrigram {
-    /// Whether the trigram occurs at the offset.
-    pub(crate) fn occurs(&self, text: &[u8], offset: usize) -> bool
-        requires { offset + 2 < length text.now }
-        ensures { IsTrue result ↔ TrigramAt text.now offset self.now }
+    /// The trigram that the word begins with, if it is long enough.
+    pub(crate) fn of(word: &Word) -> Option<ClassTrigram>
+        ensures { IfSome result (BeginsWith word.now) }
     {
-        self.first.contains(text[offset])
-            && self.second.contains(text[offset + 1])
-            && self.third.contains(text[offset + 2])
+        if word.sets.len() < 3 {
+            return None;
+        }
+        Some(ClassTrigram {
+            first: word.sets[0],
+            second: word.sets[1],
+            third: word.sets[2],
+        })
     }
 }

@@ -1,5 +1,5 @@
 // Vectors of 32 bytes, lane by lane.
-ghost use Rattle.std.specs.Prelude.{◌≡◌, ◌≢◌, ◌↔◌, ℕ, ◌+◌, ◌/◌, ◌%◌, ◌<◌, ◌≤◌, length, slice_index, bit_and};
+ghost use Rattle.std.specs.Prelude.{◌≡◌, ◌≢◌, ◌↔◌, ℕ, ◌+◌, ◌/◌, ◌%◌, ◌<◌, ◌≤◌, length, min, slice_index, bit_and, bit_or, bit_xor};
 ghost use Rattle.std.specs.Int.{bit_at};
 ghost use Rattle.cs_prefilter.specs.Lanes.{HasLanes};
 
@@ -20,6 +20,30 @@ pub(crate) fn both(a: u8x32, b: u8x32) -> u8x32
     ensures { HasLanes result (λ k. bit_and (slice_index a k) (slice_index b k)) }
 {
     a & b
+}
+
+/// The bitwise or.
+#[inline(always)]
+pub(crate) fn either(a: u8x32, b: u8x32) -> u8x32
+    ensures { HasLanes result (λ k. bit_or (slice_index a k) (slice_index b k)) }
+{
+    a | b
+}
+
+/// The lesser of each two lanes.
+#[inline(always)]
+pub(crate) fn least(a: u8x32, b: u8x32) -> u8x32
+    ensures { HasLanes result (λ k. min (slice_index a k) (slice_index b k)) }
+{
+    a.simd_min(b)
+}
+
+/// What the bytes, with the bits of the mask set, differ from the byte by.
+#[inline(always)]
+pub(crate) fn different(bytes: u8x32, mask: u8, byte: u8) -> u8x32
+    ensures { HasLanes result (λ k. bit_xor (bit_or (slice_index bytes k) mask) byte) }
+{
+    (bytes | u8x32::splat(mask)) ^ u8x32::splat(byte)
 }
 
 /// The entries of the table at the low nibbles of the bytes.
@@ -69,4 +93,12 @@ pub(crate) fn nonzero(v: u8x32) -> u64
     ensures { (k : ℕ) → (bit_at result k ≡ 1) ↔ (slice_index v k ≢ 0) }
 {
     v.simd_ne(u8x32::splat(0)).to_bitmask()
+}
+
+/// A bit for each lane, set if the lane is 0.
+#[inline(always)]
+pub(crate) fn zeros(v: u8x32) -> u64
+    ensures { (k : ℕ) → k < 32 → slice_index v k ≡ 0 → bit_at result k ≡ 1 }
+{
+    v.simd_eq(u8x32::splat(0)).to_bitmask()
 }

@@ -1,12 +1,24 @@
-//! A prefilter for class trigrams, after Hyperscan's Teddy, with shufti nibble masks: it skips the offsets of a text at
-//! which none of them occurs. A class trigram is three byte sets. Read `specs/TrigramAt.antt` first;
-//! `specs/Buckets.antt` defines the nibble masks.
+//! A prefilter: it finds the words that every line that a tree matches has to contain, and skips the offsets of a text
+//! at which none of them occurs. A word is a byte set for each of some neighbouring bytes. One or two words are searched
+//! for by pairs of their bytes, as in memchr's memmem, and others by their first three sets, after Hyperscan's Teddy, with
+//! shufti nibble masks. Read `specs/WordAt.antt` first; `specs/Runs.antt` defines what a walk over a tree knows,
+//! `specs/Pairs.antt` the pairs and `specs/Buckets.antt` the nibble masks.
 #![tactic(auto)]
 
+mod byte_test;
 mod class_trigram;
 mod lanes;
 mod masks;
+mod pair;
+mod pairs;
 mod prefilter;
+mod rarity;
+mod required;
+mod runs;
+mod search;
+mod sufficient;
+mod word;
+mod words;
 
-pub use class_trigram::ClassTrigram;
 pub use prefilter::Prefilter;
+pub use word::Word;

@@ -1,5 +1,5 @@
 // Nibble masks (shufti) with a bit for each bucket of class trigrams (Teddy).
-ghost use Rattle.std.specs.Prelude.{◌≡◌, ◌≢◌, ◌↔◌, ℕ, ◌+◌, ◌<◌, ◌≤◌, length, slice_index, true, IsTrue, All};
+ghost use Rattle.std.specs.Prelude.{◌≡◌, ◌≢◌, ◌↔◌, ℕ, ◌+◌, ◌<◌, ◌≤◌, length, slice_index, true, IsTrue, IfSome, All};
 ghost use Rattle.std.specs.Int.{bit_at};
 ghost use Rattle.cs_syntax.specs.Matching.{member};
 ghost use Rattle.cs_prefilter.specs.Lanes.{HasLanes};
@@ -7,6 +7,7 @@ ghost use Rattle.cs_prefilter.specs.Buckets.{buckets, buckets_of, buckets_at, Is
 
 use crate::class_trigram::ClassTrigram;
 use crate::lanes::{both, by_high_nibble, by_low_nibble, load, next, nonzero};
+use crate::word::Word;
 use cs_syntax::ByteSet;
 use std::simd::prelude::*;
 
@@ -81,19 +82,23 @@ pub(crate) struct TrigramMasks {
 }
 
 impl TrigramMasks {
-    /// Distributes the trigrams over the buckets. Neighbours in the list share a bucket.
-    pub(crate) fn new(trigrams: &[ClassTrigram]) -> TrigramMasks
-        ensures { All (HasBucket result) trigrams.now }
+    /// Distributes the words over the buckets by the trigrams that they begin with, if each word has one. Neighbours in
+    /// the list share a bucket.
+    pub(crate) fn of(words: &[Word]) -> Option<TrigramMasks>
+        ensures { IfSome result (λ masks. All (HasBucket masks) words.now) }
     {
         let mut trigram_masks = TrigramMasks {
             first: NibbleMasks::new(),
             second: NibbleMasks::new(),
             third: NibbleMasks::new(),
         };
-        for (i, trigram) in trigrams.iter().enumerate() {
-            trigram_masks.add(trigram, i.wrapping_mul(BUCKETS) / trigrams.len() % BUCKETS);
+        for (i, word) in words.iter().enumerate() {
+            let Some(trigram) = ClassTrigram::of(word) else {
+                return None;
+            };
+            trigram_masks.add(&trigram, i.wrapping_mul(BUCKETS) / words.len() % BUCKETS);
         }
-        trigram_masks
+        Some(trigram_masks)
     }
 
     /// Adds the trigram to the bucket.

@@ -1,54 +1,102 @@
-// The prefilter: candidates by nibble masks, then verification.
-ghost use Rattle.std.specs.Prelude.{◌≡◌, ◌≤◌, ◌<◌, ◌+◌, ◌↔◌, length, Any, IsTrue};
-ghost use Rattle.cs_prefilter.specs.TrigramAt.{NoTrigramFrom, TrigramAt};
+// The prefilter: a search for candidates, then verification.
+ghost use Rattle.std.specs.Prelude.{◌≡◌, ◌≤◌, ◌<◌, ◌↔◌, true, ℕ, List, length, Any, IfOk, IfSome, IsTrue};
+ghost use Rattle.cs_syntax.specs.Node.{tree_of};
+ghost use Rattle.cs_prefilter.specs.WordAt.{AreSufficient, HasWord, IsPrefilterOf, NoWordFrom, WordAt};
+ghost use Rattle.cs_prefilter.specs.Words.{HasWordOf};
 
-use crate::class_trigram::ClassTrigram;
-use crate::masks::TrigramMasks;
+use crate::required::best;
+use crate::search::{Kind, Search};
+use crate::sufficient::are_sufficient;
+use crate::word::Word;
+use crate::words::{Words, share_of};
+use cs_syntax::Node;
+use std::alloc::{AllocError, Global};
 use std::marker::Model;
 
-/// Class trigrams, and nibble masks that rule out most offsets.
+/// Below this share of offsets, in units of 10^-12, words are searched for by pairs whatever the trigrams are.
+const RARE: u64 = 1_000_000_000;
+
+/// Below this share trigrams are worth their search, unless there are rare pairs.
+const WORTH: u64 = 5_000_000_000;
+
+/// Below this share pairs are worth their search, unless there are trigrams.
+const MOST: u64 = 10_000_000_000;
+
+/// Words, and a search that rules out most offsets. Contracts see the words, and whether each line that contains one of
+/// them has a match.
 #[derive(Drop)]
 pub struct Prefilter {
-    trigrams: Vec<ClassTrigram>,
-    trigram_masks: TrigramMasks,
+    words: Vec<Word>,
+    search: Search,
+    is_exact: bool,
 }
 
 impl Model for Prefilter {
-    ghost use Rattle.std.specs.Prelude.{List, All};
-    ghost use Rattle.cs_prefilter.specs.declared.class_trigram.ClassTrigram.{ClassTrigram};
-    ghost use Rattle.cs_prefilter.specs.Buckets.{HasBucket};
+    ghost use Rattle.std.specs.Prelude.{List, Bool, All};
+    ghost use Rattle.cs_prefilter.specs.declared.word.Word.{Word};
+    ghost use Rattle.cs_prefilter.specs.Search.{Finds};
 
-    ghost Value = { List ClassTrigram };
+    ghost Value = { List Word × Bool };
 
-    ghost view = { λ s. s.trigrams.items };
+    ghost view = { λ s. (s.words.items, s.is_exact) };
 
-    ghost invariant = { λ s. All (HasBucket s.trigram_masks) s.trigrams.items };
+    ghost invariant = { λ s. All (Finds s.search) s.words.items };
 }
 
 impl Prefilter {
-    /// A prefilter for these trigrams. It is most selective for up to 8 of them, one for each bucket, and useful for up
-    /// to about 64.
-    pub fn new(trigrams: Vec<ClassTrigram>) -> Prefilter
-        ensures { result ≡ trigrams.items }
+    /// A prefilter of the tree, if it has rare words.
+    pub fn of(alloc: Global, root: &Node) -> Result<Option<Prefilter>, AllocError>
+        ensures { IfOk result (λ prefilter. IfSome prefilter (IsPrefilterOf (tree_of root.now))) }
     {
-        let trigram_masks = TrigramMasks::new(&trigrams);
-        Prefilter {
-            trigrams,
-            trigram_masks,
+        let pairs = best(alloc, Kind::Pairs, root)?;
+        if share_of(&pairs) < RARE {
+            return Ok(Prefilter::by(root, Kind::Pairs, pairs));
         }
+        let trigrams = best(alloc, Kind::Trigrams, root)?;
+        if share_of(&trigrams) < WORTH {
+            return Ok(Prefilter::by(root, Kind::Trigrams, trigrams));
+        }
+        Ok(Prefilter::by(root, Kind::Pairs, pairs))
     }
 
-    /// The first offset at or after `from` at which a trigram occurs, or the end of the text.
+    /// A prefilter for these words, if there are any and they are rare enough.
+    fn by(root: &Node, kind: Kind, words: Option<Words>) -> Option<Prefilter>
+        ensures required { (line : List ℕ) → HasWordOf line words →
+            IfSome result (λ prefilter. HasWord prefilter.0 line) }
+        ensures sufficient { IfSome result (λ prefilter.
+            prefilter.1 ≡ true → AreSufficient (tree_of root.now) prefilter.0) }
+    {
+        let words = words?;
+        if words.share >= MOST {
+            return None;
+        }
+        let search = Search::of(kind, &words.words)?;
+        let is_exact = are_sufficient(root, &words.words);
+        Some(Prefilter {
+            words: words.words,
+            search,
+            is_exact,
+        })
+    }
+
+    /// Whether each line that contains one of the words has a match.
+    pub fn is_exact(&self) -> bool
+        ensures { result ≡ self.now.1 }
+    {
+        self.is_exact
+    }
+
+    /// The first offset at or after `from` at which a word occurs, or the end of the text.
     pub fn skip(&self, text: &[u8], from: usize) -> usize
         requires { from ≤ length text.now }
         ensures low { from ≤ result }
         ensures high { result ≤ length text.now }
-        ensures none { NoTrigramFrom self.now text.now from result }
-        ensures stops { result < length text.now → Any (TrigramAt text.now result) self.now }
+        ensures none { NoWordFrom self.now.0 text.now from result }
+        ensures stops { result < length text.now → Any (WordAt text.now result) self.now.0 }
     {
         let mut offset = self.next(text, from);
-        'scan: while text.len() - offset > 2 {
-            if self.occurs(text, offset) {
+        'scan: while offset < text.len() {
+            if occurs(&self.words, text, offset) {
                 return offset;
             }
             offset = self.next(text, offset + 1);
@@ -56,24 +104,27 @@ impl Prefilter {
         text.len()
     }
 
-    /// An offset at or after `from` such that no trigram occurs from `from` up to it. Near the end of the text it is
-    /// `from` itself.
+    /// An offset at or after `from` such that no word occurs from `from` up to it. Near the end of the text it is `from`
+    /// itself.
     fn next(&self, text: &[u8], from: usize) -> usize
         requires { from ≤ length text.now }
         ensures low { from ≤ result }
         ensures high { result ≤ length text.now }
-        ensures none { NoTrigramFrom self.now text.now from result }
+        ensures none { NoWordFrom self.now.0 text.now from result }
     {
-        self.trigram_masks.skip(text, from)
+        self.search.skip(text, from)
     }
+}
 
-    /// Whether a trigram occurs at the offset.
-    fn occurs(&self, text: &[u8], offset: usize) -> bool
-        requires { offset + 2 < length text.now }
-        ensures { IsTrue result ↔ Any (TrigramAt text.now offset) self.now }
-    {
-        self.trigrams
-            .iter()
-            .any(|trigram| trigram.occurs(text, offset))
+/// Whether one of the words occurs at the offset.
+fn occurs(words: &[Word], text: &[u8], offset: usize) -> bool
+    requires { offset ≤ length text.now }
+    ensures { IsTrue result ↔ Any (WordAt text.now offset) words.now }
+{
+    for word in words {
+        if word.occurs(text, offset) {
+            return true;
+        }
     }
+    false
 }

@@ -27,6 +27,7 @@ use Rattle.cs_args.specs.declared.fault.ToolFault.TheVariants.{FilePattern, NoIn
 use Rattle.cs_args.specs.Faults.{pattern_fault, pattern_fault_at, index_fault}
 use Rattle.cs_trigram.specs.Query.{matches_set}
 use Rattle.cs_trigram.specs.declared.queries.Query.{Query}
+use Rattle.cs_trigram.specs.declared.queries.Query.TheVariants.{All}
 use Rattle.cs_index.specs.Encoding.{Entry, PostingList}
 use Rattle.cs_index.specs.Failing.{Fails}
 use Rattle.cs_index.specs.OpenedParts.{Parts, lists_in, files_read}
@@ -168,46 +169,46 @@ accepted_plan job plan is = ((is.program.0, is.program.1, is.program.2), accepte
 
 module _ (job : SearchJob) (index : Option (List ℕ)) where
   pattern_first_at : (error : PatternError) (fault : PatternFault) → error.fault ≡ fault → IsParseError (string_bytes job.pattern) job.fold error → RefusesPlan job index (pattern_fault_at fault error)
-  pattern_first_at error pattern.Memory is refused = (tt, refl)
-  pattern_first_at error fault is refused = ((refused, λ memory. cc), refl)
+  pattern_first_at error pattern.Memory is refused = (All, tt, refl)
+  pattern_first_at error fault is refused = (All, (refused, λ memory. cc), refl)
 
   pub pattern_first : (error : PatternError) → IsParseError (string_bytes job.pattern) job.fold error → RefusesPlan job index (pattern_fault error)
   pattern_first error refused = pattern_first_at error error.fault refl refused
 
   pub file_second : (fault : ToolFault) → IsAccepted (string_bytes job.pattern) job.fold → FileRefused (file_text job) fault → RefusesPlan job index fault
-  file_second (FilePattern error) accepted refused = ((accepted, refused), refl)
-  file_second Memory accepted refused = (tt, refl)
+  file_second (FilePattern error) accepted refused = (All, (accepted, refused), refl)
+  file_second Memory accepted refused = (All, tt, refl)
   file_second fault accepted refused = absurd refused
 
   pub open_third : (fault : ToolFault) → AreAccepted job → OpenRefused index fault → RefusesPlan job index fault
   open_third fault accepted refused = by_index index fault accepted refused
     where
       by_index : (index : Option (List ℕ)) (fault : ToolFault) → AreAccepted job → OpenRefused index fault → RefusesPlan job index fault
-      by_index None NoIndex accepted refused = ((accepted, refl), refl)
+      by_index None NoIndex accepted refused = (All, (accepted, refl), refl)
       by_index None fault accepted refused = absurd refused
-      by_index (Some bytes) (BadIndex fault) accepted refused = ((accepted, inl refused), refl)
-      by_index (Some bytes) Memory accepted refused = (tt, refl)
+      by_index (Some bytes) (BadIndex fault) accepted refused = (All, (accepted, inl refused), refl)
+      by_index (Some bytes) Memory accepted refused = (All, tt, refl)
       by_index (Some bytes) fault accepted refused = absurd refused
 
   pub bad_index : (bytes : List ℕ) (fault : IndexFault) → AreAccepted job → Fails bytes fault → RefusesPlan job (Some bytes) (index_fault fault)
-  bad_index bytes IndexMemory accepted is = (tt, refl)
-  bad_index bytes fault accepted is = ((accepted, inl is), refl)
+  bad_index bytes IndexMemory accepted is = (All, tt, refl)
+  bad_index bytes fault accepted is = (All, (accepted, inl is), refl)
 
-  bad_list : (bytes : Option (List ℕ)) → AreAccepted job → (index_query : IndexQuery job bytes) → is_answerable index_query.parts index_query.query ≡ false → RefusesPlan job bytes (BadIndex BadList)
-  bad_list bytes accepted index_query damaged = ((accepted, inr (refl, (index_query, damaged))), refl)
+  bad_list : (bytes : Option (List ℕ)) (query : Query) → AreAccepted job → (index_query : IndexQuery job bytes query) → is_answerable index_query.parts query ≡ false → RefusesPlan job bytes (BadIndex BadList)
+  bad_list bytes query accepted index_query damaged = (query, (accepted, inr (refl, (index_query, damaged))), refl)
 
-  pub lists_fourth : (fault : IndexFault) → AreAccepted job → (index_query : IndexQuery job index) → IsListFault (is_answerable index_query.parts index_query.query) fault → RefusesPlan job index (index_fault fault)
-  lists_fourth fault accepted index_query (inl bad) = subst (λ (f : IndexFault). RefusesPlan job index (index_fault f)) (sym bad.0) (bad_list index accepted index_query bad.1)
-  lists_fourth fault accepted index_query (inr memory) = subst (λ (f : IndexFault). RefusesPlan job index (index_fault f)) (sym memory) (tt, refl)
+  pub lists_fourth : (query : Query) (fault : IndexFault) → AreAccepted job → (index_query : IndexQuery job index query) → IsListFault (is_answerable index_query.parts query) fault → RefusesPlan job index (index_fault fault)
+  lists_fourth query fault accepted index_query (inl bad) = subst (λ (f : IndexFault). RefusesPlan job index (index_fault f)) (sym bad.0) (bad_list index query accepted index_query bad.1)
+  lists_fourth query fault accepted index_query (inr memory) = subst (λ (f : IndexFault). RefusesPlan job index (index_fault f)) (sym memory) (query, tt, refl)
 
-  pub search_last : (fault : ToolFault) → AreAccepted job → OpensWhole job index true → IsSearchFault {A = Status} (Err fault) → RefusedInOrder {A = Status} job index (Err fault)
-  search_last Write accepted ready is = (accepted, ready)
-  search_last Memory accepted ready is = tt
-  search_last fault accepted ready is = absurd is
+  pub search_last : (query : Query) (fault : ToolFault) → AreAccepted job → OpensWhole job index query true → IsSearchFault {A = Status} (Err fault) → RefusedInOrder {A = Status} job index query (Err fault)
+  search_last query Write accepted ready is = (accepted, ready)
+  search_last query Memory accepted ready is = tt
+  search_last query fault accepted ready is = absurd is
 
 -- the answer of a search by an index that was not opened
 pub unopened_late : (A : Type 0) (job : SearchJob) (fault : IndexFault) → AreAccepted job → IsUnopened {A = A} job fault (Ok (Err (index_fault fault)))
-unopened_late A job IndexMemory accepted = inl (λ index. tt)
+unopened_late A job IndexMemory accepted = inl (λ index. (All, tt))
 unopened_late A job BadMagic accepted = inr (accepted, refl, λ e. cc e)
 unopened_late A job BadTrailer accepted = inr (accepted, refl, λ e. cc e)
 unopened_late A job BadOffsets accepted = inr (accepted, refl, λ e. cc e)

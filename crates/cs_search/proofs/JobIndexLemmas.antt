@@ -25,7 +25,7 @@ use Rattle.cs_trigram.specs.declared.queries.Query.{Query}
 use Rattle.cs_index.specs.Encoding.{Files, ListEntry}
 use Rattle.cs_index.specs.Opening.{opening}
 use Rattle.cs_index.specs.Decoding.{DecodesAs}
-use Rattle.cs_index.specs.OpenedParts.{Parts, ids_read, are_whole, files_in}
+use Rattle.cs_index.specs.OpenedParts.{Parts, ids_read, are_whole}
 use Rattle.cs_index.specs.Answerable.{is_answerable, mentions}
 use Rattle.cs_index.specs.declared.fault.IndexFault.{IndexFault}
 use Rattle.cs_index.proofs.decoding.FirstFailure.{decodable_does_not_fail}
@@ -107,23 +107,23 @@ module _ (history : History) (bytes : List ℕ) (left : HasIndex history bytes) 
   pub opens_whole : (parts : Parts) × (opening bytes ≡ Ok parts) × (are_whole parts ≡ true)
   opens_whole = let opens = history_opens history bytes left.is_history left.is_index left.short in (opens.parts, opens.opened, opens.whole)
 
-  never_bad : (job : SearchJob) (fault : IndexFault) → IsBad job (Some bytes) fault → ⊥
-  never_bad job fault (inl closed) =
+  never_bad : (job : SearchJob) (query : Query) (fault : IndexFault) → IsBad job (Some bytes) query fault → ⊥
+  never_bad job query fault (inl closed) =
       let decoded = decodes_left history bytes left.is_history left.is_index left.short in
       decodable_does_not_fail bytes decoded.0 fault decoded.1 closed
-  never_bad job fault (inr damaged) =
+  never_bad job query fault (inr damaged) =
       let index_query = damaged.1 in
       let same : opens_whole.0 ≡ index_query.0.parts = ok_once opens_whole.0 index_query.0.parts (sym opens_whole.1 ∙ opens_as_decoded bytes index_query.0.parts index_query.0.opens) in
-      true≢false (sym (whole_answers index_query.0.parts index_query.0.query (ap are_whole (sym same) ∙ opens_whole.2)) ∙ index_query.1)
+      true≢false (sym (whole_answers index_query.0.parts query (ap are_whole (sym same) ∙ opens_whole.2)) ∙ index_query.1)
 
-  pub never_refused : (job : SearchJob) (answer : Result Status ToolFault) → AreAccepted job → RefusedInOrder job (Some bytes) answer → IsSearchFault answer
-  never_refused job (Ok status) accepted refused = tt
-  never_refused job (Err (Pattern error)) accepted refused = accepted_apart (string_bytes job.pattern) job.fold error accepted.0 refused.0 refused.1
-  never_refused job (Err (FilePattern error)) accepted refused = file_apart (file_text job) error accepted.1 refused.1
-  never_refused job (Err NoIndex) accepted refused = let no : Some bytes ≡ None = refused.1 in cc
-  never_refused job (Err (BadIndex fault)) accepted refused = never_bad job fault refused.1
-  never_refused job (Err Write) accepted refused = tt
-  never_refused job (Err Memory) accepted refused = tt
+  pub never_refused : (job : SearchJob) (query : Query) (answer : Result Status ToolFault) → AreAccepted job → RefusedInOrder job (Some bytes) query answer → IsSearchFault answer
+  never_refused job query (Ok status) accepted refused = tt
+  never_refused job query (Err (Pattern error)) accepted refused = accepted_apart (string_bytes job.pattern) job.fold error accepted.0 refused.0 refused.1
+  never_refused job query (Err (FilePattern error)) accepted refused = file_apart (file_text job) error accepted.1 refused.1
+  never_refused job query (Err NoIndex) accepted refused = let no : Some bytes ≡ None = refused.1 in cc
+  never_refused job query (Err (BadIndex fault)) accepted refused = never_bad job query fault refused.1
+  never_refused job query (Err Write) accepted refused = tt
+  never_refused job query (Err Memory) accepted refused = tt
 
 -- ---- a tree that was just indexed reads as it was indexed
 

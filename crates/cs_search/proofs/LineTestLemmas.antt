@@ -11,8 +11,8 @@ use Rattle.cs_match.specs.Lines.{newline}
 use Rattle.cs_match.specs.Skipping.{NoneMatch}
 use Rattle.cs_args.specs.declared.jobs.Style.{Style}
 use Rattle.cs_search.specs.declared.tally.Tally.{Tally}
-use Rattle.cs_search.specs.Report.{MatchingLine, matches_from, any_match}
-use Rattle.cs_search.specs.TestedLines.{match_output, Tests, IsListed}
+use Rattle.cs_search.specs.Report.{MatchingLine, matches_from, match_line, any_match}
+use Rattle.cs_search.specs.TestedLines.{SameNumber, match_output, Tests, IsListed}
 use Rattle.cs_search.proofs.MatchListLemmas.{matches_from-append, matches_from-none, matches_from-one, any_match-append}
 
 module _ (style : Style) (name : List ℕ) (has_match : List ℕ → Bool) (line : List ℕ) (before after : Tally) (sink later : Option SinkModel) where
@@ -78,17 +78,53 @@ module _ (style : Style) (name : List ℕ) (has_match : List ℕ → Bool) where
         written = subst (Grows sink sink) (sym (no_match_output counts unlisted (matches_from (before.lines + 1) has_match lines))) (Grows-same sink);
       }
 
+  -- the numbers of lines do not matter if they are not printed
+  same_output : (n m : ℕ) (line : List ℕ) → SameNumber style n m → match_output style name (n, line) ≡ match_output style name (m, line)
+  unfolding match_output match_line
+  same_output n m line same = by style.number refl
+    where
+      by : (shown : Bool) → style.number ≡ shown → match_output style name (n, line) ≡ match_output style name (m, line)
+      by true e = ap (λ k. match_output style name (k, line)) (same e)
+      by false e = rw e refl
+
+  pub renumbered : (n m : ℕ) (lines : List (List ℕ)) → SameNumber style n m → flat_map (match_output style name) (matches_from n has_match lines) ≡ flat_map (match_output style name) (matches_from m has_match lines)
+  unfolding matches_from
+  renumbered n m [] same = refl
+  renumbered n m (line ∷ lines) same =
+      let later = renumbered (n + 1) (m + 1) lines (λ shown. ap (λ k. k + 1) (same shown)) in
+      elim (has_match line) as (λ t. flat_map (match_output style name) (cond t ((n, line) ∷ matches_from (n + 1) has_match lines) (matches_from (n + 1) has_match lines)) ≡ flat_map (match_output style name) (cond t ((m, line) ∷ matches_from (m + 1) has_match lines) (matches_from (m + 1) has_match lines))) [
+        | true ↦ (λ i. same_output n m line same i ++ later i)
+        | false ↦ later
+      ]
+
+  pub any_renumbered : (n m : ℕ) (lines : List (List ℕ)) → any_match (matches_from n has_match lines) ≡ any_match (matches_from m has_match lines)
+  unfolding matches_from
+  any_renumbered n m [] = refl
+  any_renumbered n m (line ∷ lines) =
+      elim (has_match line) as (λ t. any_match (cond t ((n, line) ∷ matches_from (n + 1) has_match lines) (matches_from (n + 1) has_match lines)) ≡ any_match (cond t ((m, line) ∷ matches_from (m + 1) has_match lines) (matches_from (m + 1) has_match lines))) [
+        | true ↦ refl
+        | false ↦ any_renumbered (n + 1) (m + 1) lines
+      ]
+
+  pub counted_renumbered : (n m : ℕ) (lines : List (List ℕ)) → length (matches_from n has_match lines) ≡ length (matches_from m has_match lines)
+  counted_renumbered n m lines = counted_matches n lines ∙ sym (counted_matches m lines)
+
+  -- the number after some lines
+  pub next_number : (before mid : Tally) (count : ℕ) → SameNumber style mid.lines (before.lines + count) → SameNumber style (mid.lines + 1) (before.lines + 1 + count)
+  next_number before mid count same shown = omega (arith, same shown)
+
   -- two lists of lines, one after the other
-  pub Tests-more : (a b : List (List ℕ)) (before mid after : Tally) (sink now later : Option SinkModel) → mid.lines ≡ before.lines + length a → Tests style name has_match a before mid sink now → Tests style name has_match b mid after now later → Tests style name has_match (a ++ b) before after sink later
+  pub Tests-more : (a b : List (List ℕ)) (before mid after : Tally) (sink now later : Option SinkModel) → SameNumber style mid.lines (before.lines + length a) → Tests style name has_match a before mid sink now → Tests style name has_match b mid after now later → Tests style name has_match (a ++ b) before after sink later
   Tests-more a b before mid after sink now later lines first next =
-      let at : mid.lines + 1 ≡ before.lines + 1 + length a = omega arith in
-      let matches : matches_from (before.lines + 1) has_match (a ++ b) ≡ matches_from (before.lines + 1) has_match a ++ matches_from (mid.lines + 1) has_match b = matches_from-append has_match (before.lines + 1) a b ∙ ap (λ n. matches_from (before.lines + 1) has_match a ++ matches_from n has_match b) (sym at) in
+      let at = before.lines + 1 + length a in
+      let matches : matches_from (before.lines + 1) has_match (a ++ b) ≡ matches_from (before.lines + 1) has_match a ++ matches_from at has_match b = matches_from-append has_match (before.lines + 1) a b in
       record {
-        matches = next.matches ∙ ap (λ n. n + length (matches_from (mid.lines + 1) has_match b)) first.matches ∙ (omega (arith, length-append (matches_from (before.lines + 1) has_match a) (matches_from (mid.lines + 1) has_match b), ap (λ (hs : List MatchingLine). length hs) matches));
+        matches = omega (arith, next.matches, first.matches, counted_renumbered (mid.lines + 1) at b, length-append (matches_from (before.lines + 1) has_match a) (matches_from at has_match b), ap (λ (hs : List MatchingLine). length hs) matches);
         written = subst (Grows sink later) (
             sym (ap (flat_map (match_output style name)) matches
-            ∙ flat_map-append (match_output style name) (matches_from (before.lines + 1) has_match a) (matches_from (mid.lines + 1) has_match b))
-            ) (Grows-chain sink now later _ _ first.written next.written);
+            ∙ flat_map-append (match_output style name) (matches_from (before.lines + 1) has_match a) (matches_from at has_match b))
+            ) (Grows-chain sink now later _ _ first.written
+            (subst (Grows now later) (renumbered (mid.lines + 1) at b (next_number before mid (length a) lines)) next.written));
       }
 
   match_output_listed : style.list ≡ true → (matching : MatchingLine) → flat_map (match_output style name) (matching ∷ []) ≡ name ++ newline ∷ []
@@ -104,14 +140,14 @@ module _ (style : Style) (name : List ℕ) (has_match : List ℕ → Bool) where
   few_matches n line = rw matches_from-one (elim (has_match line) as (λ t. length {A = MatchingLine} (cond t ((n, line) ∷ []) []) ≤ 1) [ true ↦ omega arith | false ↦ omega arith ])
 
   -- with `-l` the first matching line ends the search
-  pub IsListed-first : (a : List (List ℕ)) (line : List ℕ) (before mid after : Tally) (sink now later : Option SinkModel) → style.list ≡ true → mid.matches ≡ 0 → mid.lines ≡ before.lines + length a → Tests style name has_match a before mid sink now → Tests style name has_match (line ∷ []) mid after now later → 0 < after.matches → IsListed style name has_match (a ++ line ∷ []) (before.lines + 1) after sink later
+  pub IsListed-first : (a : List (List ℕ)) (line : List ℕ) (before mid after : Tally) (sink now later : Option SinkModel) → style.list ≡ true → mid.matches ≡ 0 → SameNumber style mid.lines (before.lines + length a) → Tests style name has_match a before mid sink now → Tests style name has_match (line ∷ []) mid after now later → 0 < after.matches → IsListed style name has_match (a ++ line ∷ []) (before.lines + 1) after sink later
   IsListed-first a line before mid after sink now later list none lines first next some =
       let none_before : matches_from (before.lines + 1) has_match a ≡ [] = nil_from_length _ (omega (arith, first.matches)) in
       let whole = Tests-more a (line ∷ []) before mid after sink now later lines first next in
-      let at : mid.lines + 1 ≡ before.lines + 1 + length a = omega arith in
-      let matches : matches_from (before.lines + 1) has_match (a ++ line ∷ []) ≡ matches_from (mid.lines + 1) has_match (line ∷ []) = matches_from-append has_match (before.lines + 1) a (line ∷ []) ∙ ap (λ hs. hs ++ matches_from (before.lines + 1 + length a) has_match (line ∷ [])) none_before ∙ ap (λ n. matches_from n has_match (line ∷ [])) (sym at) in
-      let bound = few_matches (mid.lines + 1) line in
-      let one = one_match (matches_from (before.lines + 1) has_match (a ++ line ∷ [])) sink later list (omega (arith, next.matches, ap (λ (hs : List MatchingLine). length hs) matches)) (omega (arith, bound, ap (λ (hs : List MatchingLine). length hs) matches)) whole.written in
+      let at = before.lines + 1 + length a in
+      let matches : matches_from (before.lines + 1) has_match (a ++ line ∷ []) ≡ matches_from at has_match (line ∷ []) = matches_from-append has_match (before.lines + 1) a (line ∷ []) ∙ ap (λ hs. hs ++ matches_from at has_match (line ∷ [])) none_before in
+      let bound = few_matches at line in
+      let one = one_match (matches_from (before.lines + 1) has_match (a ++ line ∷ [])) sink later list (omega (arith, next.matches, counted_renumbered (mid.lines + 1) at (line ∷ []), ap (λ (hs : List MatchingLine). length hs) matches)) (omega (arith, bound, ap (λ (hs : List MatchingLine). length hs) matches)) whole.written in
       record { listed = list; found = one.0; matches = some; written = one.1 }
 
   -- more lines change nothing
@@ -125,14 +161,14 @@ module _ (style : Style) (name : List ℕ) (has_match : List ℕ → Bool) where
       }
 
   -- no earlier line matches
-  pub IsListed-after : (a b : List (List ℕ)) (before mid after : Tally) (sink now later : Option SinkModel) → mid.matches ≡ 0 → mid.lines ≡ before.lines + length a → Tests style name has_match a before mid sink now → IsListed style name has_match b (mid.lines + 1) after now later → IsListed style name has_match (a ++ b) (before.lines + 1) after sink later
-  IsListed-after a b before mid after sink now later none lines first s =
+  pub IsListed-after : (a b : List (List ℕ)) (before mid after : Tally) (sink now later : Option SinkModel) → mid.matches ≡ 0 → Tests style name has_match a before mid sink now → IsListed style name has_match b (mid.lines + 1) after now later → IsListed style name has_match (a ++ b) (before.lines + 1) after sink later
+  IsListed-after a b before mid after sink now later none first s =
       let none_before : matches_from (before.lines + 1) has_match a ≡ [] = nil_from_length _ (omega (arith, first.matches)) in
-      let at : mid.lines + 1 ≡ before.lines + 1 + length a = omega arith in
-      let matches : matches_from (before.lines + 1) has_match (a ++ b) ≡ matches_from (mid.lines + 1) has_match b = matches_from-append has_match (before.lines + 1) a b ∙ ap (λ hs. hs ++ matches_from (before.lines + 1 + length a) has_match b) none_before ∙ ap (λ n. matches_from n has_match b) (sym at) in
+      let at = before.lines + 1 + length a in
+      let matches : matches_from (before.lines + 1) has_match (a ++ b) ≡ matches_from at has_match b = matches_from-append has_match (before.lines + 1) a b ∙ ap (λ hs. hs ++ matches_from at has_match b) none_before in
       record {
         listed = s.listed;
-        found = ap any_match matches ∙ s.found;
+        found = ap any_match matches ∙ any_renumbered at (mid.lines + 1) b ∙ s.found;
         matches = s.matches;
         written = Grows-chain sink now later [] (name ++ newline ∷ []) (subst (λ (hs : List MatchingLine). Grows sink now (flat_map (match_output style name) hs)) none_before first.written) s.written;
       }

@@ -1,5 +1,5 @@
 -- csearch prints what cgrep prints if files read as they were indexed, in particular over an index that jobs left.
-use Rattle.std.proofs.Common.{◌≡◌, ℕ, ◌<◌, ◌^◌, List, length, refl, sym, ap, subst, ◌∙◌, Bool, true, false, Option, Some, None, Result, Ok}
+use Rattle.std.proofs.Common.{◌≡◌, ℕ, ◌<◌, ◌^◌, List, length, refl, sym, ap, subst, ◌∙◌, Bool, true, false, Option, Some, None, Result}
 use Rattle.cs_tree.specs.Sinks.{SinkModel}
 use Rattle.cs_index.specs.Roundtrip.{parts_written, IsIndexWith}
 use Rattle.std.specs.Prelude.{filter, option_map, string_bytes}
@@ -55,23 +55,23 @@ pub opens_once : (index : Option (List ℕ)) (a b : Parts) → OpensWith index a
 opens_once None a b x y = absurd x
 opens_once (Some bytes) a b x y = decoding_is_unique bytes a b x y
 
-module _ (job : SearchJob) (index : Option (List ℕ)) (has_match keeps : List ℕ → Bool) (index_query : IndexQuery job index) (tests : DecidesSearch job has_match keeps) (tree : Snapshot) where
+module _ (job : SearchJob) (index : Option (List ℕ)) (has_match keeps : List ℕ → Bool) (query : Query) (index_query : IndexQuery job index query) (tests : DecidesSearch job has_match keeps) (tree : Snapshot) where
   -- the search by the index and the search by cgrep print the same
-  alike : ReadAsIndexed tree (files_read index_query.parts) → all_printed (file_printed max_searched Csearch job.style has_match tree) (filter keeps (names_matching index_query.query (files_read index_query.parts))) ≡ searched_by_cgrep max_searched job.style has_match tree (filter keeps index_query.parts.names)
+  alike : ReadAsIndexed tree (files_read index_query.parts) → all_printed (file_printed max_searched Csearch job.style has_match tree) (filter keeps (names_matching query (files_read index_query.parts))) ≡ searched_by_cgrep max_searched job.style has_match tree (filter keeps index_query.parts.names)
   unfolding names_matching searched_by_cgrep
   alike agrees =
-      search_alike job.style has_match keeps tree index_query.query tests.pattern (loses job.brute tests.pattern index_query.query (index_query.is_right tests.pattern tests.reads)) tests.decides Csearch Cgrep (files_read index_query.parts) agrees
+      search_alike job.style has_match keeps tree query tests.pattern (loses job.brute tests.pattern query (index_query.is_right tests.pattern tests.reads)) tests.decides Csearch Cgrep (files_read index_query.parts) agrees
       ∙ ap (λ (names : List (List ℕ)). all_printed (file_printed max_searched Cgrep job.style has_match tree) (filter keeps names)) (names_of_files 0 index_query.parts.names (lists_in index_query.parts))
 
 -- a plan, and an index that answers its query
 module _ (job : SearchJob) (index : Option (List ℕ)) (plan : Plan) (is : IsPlan job plan) (parts : Parts) (answering : AnswersQuery plan.query index parts) where
-  abbrev index_query : IndexQuery job index
-  index_query = record { parts = answering.whole; opens = answering.opens; query = plan.query; is_right = is.query }
+  abbrev index_query : IndexQuery job index plan.query
+  index_query = record { parts = answering.whole; opens = answering.opens; is_right = is.query }
 
   -- a required list is damaged
   pub lists_refused : (fault : IndexFault) → IsListFault (is_answerable parts plan.query) fault → RefusesPlan job index (index_fault fault)
   lists_refused fault refused =
-      lists_fourth job index fault (accepted_plan job plan is) index_query
+      lists_fourth job index plan.query fault (accepted_plan job plan is) index_query
       (subst (λ (whole : Bool). IsListFault whole fault) answering.answers.answerable refused)
 
   module _ (whole : is_answerable parts plan.query ≡ true) where
@@ -79,7 +79,7 @@ module _ (job : SearchJob) (index : Option (List ℕ)) (plan : Plan) (is : IsPla
     all_whole = sym answering.answers.answerable ∙ whole
 
     -- both patterns are accepted, the index opens, and the required lists are whole
-    pub ready : AreAccepted job × OpensWhole job index true
+    pub ready : AreAccepted job × OpensWhole job index plan.query true
     ready = (accepted_plan job plan is, (index_query, all_whole))
 
     module _ (ids : List ℕ) (found : ids ≡ candidates_of parts plan.query) where
@@ -91,7 +91,7 @@ module _ (job : SearchJob) (index : Option (List ℕ)) (plan : Plan) (is : IsPla
         abbrev Chosen : (List ℕ → Bool) → (List ℕ → Bool) → List (List ℕ) → Option Printed
         Chosen has_match keeps names = option_map (λ (s : Snapshot). all_printed (file_printed max_searched Csearch job.style has_match s) (filter keeps (names_at names ids))) tree
 
-        pub searched : ((has_match keeps : List ℕ → Bool) → Decides has_match plan.program → DecidesNames keeps plan.file → Prints (Chosen has_match keeps parts.names)) → PrintsCandidates job index tree Prints
+        pub searched : ((has_match keeps : List ℕ → Bool) → Decides has_match plan.program → DecidesNames keeps plan.file → Prints (Chosen has_match keeps parts.names)) → PrintsCandidates job index plan.query tree Prints
         searched prints = (
           index_query,
           all_whole,
@@ -110,19 +110,19 @@ module _ (job : SearchJob) (index : Option (List ℕ)) (plan : Plan) (is : IsPla
           (PrintsAllFaults-chosen r Csearch answering.whole plan.query ids failed failed' err err' chosen_ids
           (subst (λ (names : List (List ℕ)). PrintsAllFaults Csearch (names_at names ids) failed failed' err err' r) answering.answers.names faults))
 
-module _ (job : SearchJob) (index : Option (List ℕ)) (tree : Option Snapshot) (Prints : Option Printed → Type 0) (by_index : PrintsCandidates job index tree Prints) where
+module _ (job : SearchJob) (index : Option (List ℕ)) (query : Query) (tree : Option Snapshot) (Prints : Option Printed → Type 0) (by_index : PrintsCandidates job index query tree Prints) where
   -- what is printed over a tree with a snapshot
-  model_printed : (snapshot : Snapshot) (has_match keeps : List ℕ → Bool) → tree ≡ Some snapshot → DecidesSearch job has_match keeps → Prints (Some (all_printed (file_printed max_searched Csearch job.style has_match snapshot) (filter keeps (names_matching by_index.0.query (files_read by_index.0.parts)))))
+  model_printed : (snapshot : Snapshot) (has_match keeps : List ℕ → Bool) → tree ≡ Some snapshot → DecidesSearch job has_match keeps → Prints (Some (all_printed (file_printed max_searched Csearch job.style has_match snapshot) (filter keeps (names_matching query (files_read by_index.0.parts)))))
   unfolding csearch_printed
   model_printed snapshot has_match keeps is tests =
-      subst (λ (t : Option Snapshot). Prints (csearch_printed max_searched job.style has_match keeps by_index.0.parts by_index.0.query t)) is (by_index.2 has_match keeps tests)
+      subst (λ (t : Option Snapshot). Prints (csearch_printed max_searched job.style has_match keeps by_index.0.parts query t)) is (by_index.2 has_match keeps tests)
 
   pub like_cgrep : PrintsLikeCgrep job index tree (λ printed. Prints (Some printed))
   like_cgrep parts snapshot has_match keeps opens is agrees tests =
       let index_query = by_index.0 in
       let same : parts ≡ index_query.parts = opens_once index parts index_query.parts opens index_query.opens in
       let there : ReadAsIndexed snapshot (files_read index_query.parts) = subst (λ (p : Parts). ReadAsIndexed snapshot (files_read p)) same agrees in
-      subst Prints (ap (λ (p : Printed). Some p) (alike job index has_match keeps index_query tests snapshot there ∙ ap (λ (p : Parts). searched_by_cgrep max_searched job.style has_match snapshot (filter keeps p.names)) (sym same))) (model_printed snapshot has_match keeps is tests)
+      subst Prints (ap (λ (p : Printed). Some p) (alike job index has_match keeps query index_query tests snapshot there ∙ ap (λ (p : Parts). searched_by_cgrep max_searched job.style has_match snapshot (filter keeps p.names)) (sym same))) (model_printed snapshot has_match keeps is tests)
 
 -- ---- an index that jobs built
 
@@ -158,26 +158,26 @@ module _ (history : History) (bytes : List ℕ) (is : IsHistory history) (by : I
       let files = has_so.has_files (ascending_sets (files_of history) (history_content history is).sets_are) in
       subst (λ (p : Parts). ReadAsIndexed tree (files_read p)) same (subst (ReadAsIndexed tree) (sym files) still)
 
-module _ (job : SearchJob) (index : Option (List ℕ)) (tree : Option Snapshot) (has_match keeps : List ℕ → Bool) (index_query : IndexQuery job index) (tests : DecidesSearch job has_match keeps) (snapshot : Snapshot) (modelled : tree ≡ Some snapshot) (earlier : History) (premises : SearchPremises tree index earlier) where
-  promised : all_printed (file_printed max_searched Csearch job.style has_match snapshot) (filter keeps (names_matching index_query.query (files_read index_query.parts))) ≡ searched_by_cgrep max_searched job.style has_match (modelled_snapshot tree) (filter keeps (indexed_names earlier))
+module _ (job : SearchJob) (index : Option (List ℕ)) (tree : Option Snapshot) (has_match keeps : List ℕ → Bool) (query : Query) (index_query : IndexQuery job index query) (tests : DecidesSearch job has_match keeps) (snapshot : Snapshot) (modelled : tree ≡ Some snapshot) (earlier : History) (premises : SearchPremises tree index earlier) where
+  promised : all_printed (file_printed max_searched Csearch job.style has_match snapshot) (filter keeps (names_matching query (files_read index_query.parts))) ≡ searched_by_cgrep max_searched job.style has_match (modelled_snapshot tree) (filter keeps (indexed_names earlier))
   promised = by_bytes index refl index_query.opens premises.jobs_left.is_index premises.jobs_left.short
     where
       snapshot_is : snapshot ≡ modelled_snapshot tree
       snapshot_is = sym (ap modelled_snapshot modelled)
 
       by_bytes : (i : Option (List ℕ)) → index ≡ i → OpensWith i index_query.parts → index_of earlier ≡ index → IsShort index →
-          all_printed (file_printed max_searched Csearch job.style has_match snapshot) (filter keeps (names_matching index_query.query (files_read index_query.parts))) ≡ searched_by_cgrep max_searched job.style has_match (modelled_snapshot tree) (filter keeps (indexed_names earlier))
+          all_printed (file_printed max_searched Csearch job.style has_match snapshot) (filter keeps (names_matching query (files_read index_query.parts))) ≡ searched_by_cgrep max_searched job.style has_match (modelled_snapshot tree) (filter keeps (indexed_names earlier))
       by_bytes None e opens left short = absurd opens
       by_bytes (Some bytes) e opens left short =
           let left' : index_of earlier ≡ Some bytes = left ∙ e in
           let short' = subst IsShort e short in
           let agrees = agrees_still earlier bytes premises.jobs_left.is_history premises.by_jobs left' short' index_query.parts snapshot opens (subst (λ (s : Snapshot). ReadAsIndexed s (map'.entries (files_of earlier))) (sym snapshot_is) premises.still_reads) in
-          alike job index has_match keeps index_query tests snapshot agrees
+          alike job index has_match keeps query index_query tests snapshot agrees
           ∙ ap (λ (s : Snapshot). searched_by_cgrep max_searched job.style has_match s (filter keeps index_query.parts.names)) snapshot_is
           ∙ ap (λ (names : List (List ℕ)). searched_by_cgrep max_searched job.style has_match (modelled_snapshot tree) (filter keeps names)) (named earlier bytes premises.jobs_left.is_history premises.by_jobs left' short' index_query.parts opens)
 
-pub as_promised : (job : SearchJob) (index : Option (List ℕ)) (tree : Option Snapshot) (Prints : Option Printed → Type 0) → PrintsCandidates job index tree Prints → SearchesLikeGrep job index tree (λ printed. Prints (Some printed))
-as_promised job index None Prints by_index earlier has_match keeps premises tests = absurd premises.jobs_left.trees_modelled.0
-as_promised job index (Some snapshot) Prints by_index earlier has_match keeps premises tests =
-    subst (λ (p : Printed). Prints (Some p)) (promised job index (Some snapshot) has_match keeps by_index.0 tests snapshot refl earlier premises)
-    (model_printed job index (Some snapshot) Prints by_index snapshot has_match keeps refl tests)
+pub as_promised : (job : SearchJob) (index : Option (List ℕ)) (query : Query) (tree : Option Snapshot) (Prints : Option Printed → Type 0) → PrintsCandidates job index query tree Prints → SearchesLikeGrep job index tree (λ printed. Prints (Some printed))
+as_promised job index query None Prints by_index earlier has_match keeps premises tests = absurd premises.jobs_left.trees_modelled.0
+as_promised job index query (Some snapshot) Prints by_index earlier has_match keeps premises tests =
+    subst (λ (p : Printed). Prints (Some p)) (promised job index (Some snapshot) has_match keeps query by_index.0 tests snapshot refl earlier premises)
+    (model_printed job index query (Some snapshot) Prints by_index snapshot has_match keeps refl tests)

@@ -13,7 +13,7 @@ use Rattle.cs_match.specs.Lines.{newline, lines, terminated_lines}
 use Rattle.cs_match.specs.LastPart.{last_part, last_line}
 use Rattle.cs_search.specs.Report.{MatchingLine, matches_from, any_match, match_line, name_line, count_line, matches_output, tested_lines, report}
 use Rattle.cs_search.specs.GrepReports.{IsReported}
-use Rattle.cs_search.specs.TestedLines.{match_output, total, Tests, IsListed}
+use Rattle.cs_search.specs.TestedLines.{SameNumber, match_output, total, Tests, IsListed}
 use Rattle.cs_match.proofs.LinesLemmas.{lines-split}
 use Rattle.cs_search.proofs.MatchListLemmas.{matches_from-append, any_match-append}
 use Rattle.cs_search.proofs.LineTestLemmas.{Tests-more, few_matches}
@@ -144,11 +144,11 @@ module _ (style : Style) (name : List ℕ) (has_match : List ℕ → Bool) (text
   kept_fault false = refl
 
   -- at the end of the input
-  pub reported_end : (mid : Tally) (now : Option SinkModel) (rest : List ℕ) (later : Option SinkModel) → rest ≡ last_part text → mid.lines ≡ length (terminated_lines text) → (style.list ≡ true → mid.matches ≡ 0) → Tests style name has_match (terminated_lines text) before mid sink now → Tests style name has_match (last_line rest) mid after now out → Grows out later (total style name after.matches) → IsReported (report style name has_match text None) sink later (record { matched = nat_lt 0 after.matches; fault = None })
+  pub reported_end : (mid : Tally) (now : Option SinkModel) (rest : List ℕ) (later : Option SinkModel) → rest ≡ last_part text → SameNumber style mid.lines (length (terminated_lines text)) → (style.list ≡ true → mid.matches ≡ 0) → Tests style name has_match (terminated_lines text) before mid sink now → Tests style name has_match (last_line rest) mid after now out → Grows out later (total style name after.matches) → IsReported (report style name has_match text None) sink later (record { matched = nat_lt 0 after.matches; fault = None })
   unfolding report
   reported_end mid now rest later is counted unlisted prefix last written =
       let all : terminated_lines text ++ last_line rest ≡ lines text = ap (λ r. terminated_lines text ++ last_line r) is ∙ sym (lines-split text) in
-      let tests = subst (λ ls. Tests style name has_match ls before after sink out) all (Tests-more style name has_match (terminated_lines text) (last_line rest) before mid after sink now out (omega arith) prefix last) in
+      let tests = subst (λ ls. Tests style name has_match ls before after sink out) all (Tests-more style name has_match (terminated_lines text) (last_line rest) before mid after sink now out (λ shown. omega (arith, counted shown, no_lines)) prefix last) in
       let matches = matches_from 1 has_match (lines text) in
       let count = matches_counted (lines text) tests in
       let bound = λ (e : style.list ≡ true). (let none = unlisted e in let h : length matches ≤ 1 = omega (arith, none, last.matches, few_last style name has_match (mid.lines + 1) rest, count) in h) in (

@@ -18,12 +18,12 @@ use Rattle.cs_search.specs.Report.{MatchingLine, matches_from, any_match, match_
 use Rattle.cs_tree.specs.TakesPrefix.{TakesPrefix}
 use Rattle.cs_search.specs.GrepReports.{ReportsPrefix}
 use Rattle.cs_search.specs.InputReport.{input_report, fault_within}
-use Rattle.cs_search.specs.TestedLines.{match_output, total, Tests, TestsPrefix}
+use Rattle.cs_search.specs.TestedLines.{SameNumber, match_output, total, Tests, TestsPrefix}
 use Rattle.cs_search.specs.Progress.{HasReadInput, HasTested, Stops, TestsInput, TestsInputPrefix}
 use Rattle.cs_tree.proofs.PrefixLemmas.{prefix_left, prefix_right, prefix_all}
 use Rattle.cs_search.proofs.MatchListLemmas.{matches_from-append, matches_from-one}
 use Rattle.cs_search.proofs.MatchOutputLemmas.{match_output_listed, match_output_counted, match_output_plain, matches_output_listed, matches_output_counted, matches_output_plain, printed_before_end, printed_end, few_last}
-use Rattle.cs_search.proofs.LineTestLemmas.{Tests-more}
+use Rattle.cs_search.proofs.LineTestLemmas.{Tests-more, next_number, renumbered, any_renumbered}
 use Rattle.cs_search.proofs.ProgressLemmas.{prefix_more}
 
 -- ---- matching lines
@@ -75,13 +75,21 @@ module _ (style : Style) (name : List ℕ) (has_match : List ℕ → Bool) where
       subst (λ (matches : List MatchingLine). TakesPrefix (matches_output style name false matches) sink later) (sym (matches_from-append has_match first a b))
       (prefix_printed style name false _ _ sink later prefix)
 
+  -- the output, by other numbers if they are not printed
+  output_renumbered : (n m : ℕ) (lines : List (List ℕ)) → SameNumber style n m → matches_output style name false (matches_from n has_match lines) ≡ matches_output style name false (matches_from m has_match lines)
+  output_renumbered n m lines same =
+      ⊎_elim (λ e. matches_output_listed style name e false (matches_from n has_match lines) ∙ ap (λ b. cond b (name ++ newline ∷ []) []) (any_renumbered style name has_match n m lines) ∙ sym (matches_output_listed style name e false (matches_from m has_match lines)))
+      (λ e. let plain = λ (hs : List MatchingLine). printed_before_end style name hs (λ listed. absurd (false≢true (sym e ∙ listed))) in
+      sym (plain (matches_from n has_match lines)) ∙ renumbered style name has_match n m lines same ∙ plain (matches_from m has_match lines))
+      (cases_Bool style.list)
+
   -- after lines that were tested
-  pub TestsPrefix-after : (a b : List (List ℕ)) (before mid : Tally) (sink now later : Option SinkModel) → (style.list ≡ true → mid.matches ≡ 0) → mid.lines ≡ before.lines + length a → Tests style name has_match a before mid sink now → TestsPrefix style name has_match b (mid.lines + 1) now later → TestsPrefix style name has_match (a ++ b) (before.lines + 1) sink later
+  pub TestsPrefix-after : (a b : List (List ℕ)) (before mid : Tally) (sink now later : Option SinkModel) → (style.list ≡ true → mid.matches ≡ 0) → SameNumber style mid.lines (before.lines + length a) → Tests style name has_match a before mid sink now → TestsPrefix style name has_match b (mid.lines + 1) now later → TestsPrefix style name has_match (a ++ b) (before.lines + 1) sink later
   TestsPrefix-after a b before mid sink now later none counted tests prefix =
-      let at : mid.lines + 1 ≡ before.lines + 1 + length a = omega arith in
+      let at = before.lines + 1 + length a in
       subst (λ (matches : List MatchingLine). TakesPrefix (matches_output style name false matches) sink later) (sym (matches_from-append has_match (before.lines + 1) a b))
       (matches_prefix style name _ _ sink now later (λ listed. nil_from_length _ (let h = none listed in omega (arith, tests.matches, h))) tests.written
-      (subst (λ n. TestsPrefix style name has_match b n now later) at prefix))
+      (subst (λ bytes. TakesPrefix bytes now later) (output_renumbered (mid.lines + 1) at b (next_number style name has_match before mid (length a) counted)) prefix))
 
   -- all lines were tested
   pub TestsPrefix-all : (a : List (List ℕ)) (before after : Tally) (sink later : Option SinkModel) → (style.list ≡ true → after.matches ≡ 0) → Tests style name has_match a before after sink later → TestsPrefix style name has_match a (before.lines + 1) sink later
@@ -105,7 +113,7 @@ module _ (style : Style) (name : List ℕ) (has_match : List ℕ → Bool) (befo
       (TestsPrefix-more style name has_match _ _ _ sink now (TestsPrefix-all style name has_match _ before mid sink now none t))
 
   -- the last chunk is tested in part
-  pub TestsInputPrefix-piece : (model left later : Option SourceModel) (n : ℕ) (rest piece : List ℕ) (lines : ℕ) (out : Option SinkModel) → n + length piece ≤ limit → HasReadInput model left n rest lines → Consumes left later piece → (style.list ≡ true → mid.matches ≡ 0) → mid.lines ≡ before.lines + lines → HasTested model n (λ ls. Tests style name has_match ls before mid sink now) → TestsPrefix style name has_match (terminated_lines (rest ++ piece)) (mid.lines + 1) now out → TestsInputPrefix style name has_match (before.lines + 1) sink out limit model
+  pub TestsInputPrefix-piece : (model left later : Option SourceModel) (n : ℕ) (rest piece : List ℕ) (lines : ℕ) (out : Option SinkModel) → n + length piece ≤ limit → HasReadInput style model left n rest lines → Consumes left later piece → (style.list ≡ true → mid.matches ≡ 0) → mid.lines ≡ before.lines + lines → HasTested model n (λ ls. Tests style name has_match ls before mid sink now) → TestsPrefix style name has_match (terminated_lines (rest ++ piece)) (mid.lines + 1) now out → TestsInputPrefix style name has_match (before.lines + 1) sink out limit model
   TestsInputPrefix-piece None left later n rest piece lines out within r l none counted t prefix = tt
   TestsInputPrefix-piece (Some model) None later n rest piece lines out within r l none counted t prefix = absurd r.1
   TestsInputPrefix-piece (Some model) (Some left) None n rest piece lines out within r l none counted t prefix = absurd l
@@ -115,7 +123,7 @@ module _ (style : Style) (name : List ℕ) (has_match : List ℕ → Bool) (befo
       subst (λ ls. TestsPrefix style name has_match ls (before.lines + 1) sink out) (sym (lines_searched model (n + length piece) within))
       (TestsPrefix-more style name has_match _ _ _ sink out
       (subst (λ ls. TestsPrefix style name has_match ls (before.lines + 1) sink out) (sym ended)
-      (TestsPrefix-after style name has_match _ _ before mid sink now out none (counted ∙ ap (λ k. before.lines + k) r.3) t prefix)))
+      (TestsPrefix-after style name has_match _ _ before mid sink now out none (λ shown. counted ∙ ap (λ k. before.lines + k) (r.3 shown)) t prefix)))
 
 -- ---- the report
 
@@ -144,13 +152,13 @@ module _ (style : Style) (name : List ℕ) (has_match : List ℕ → Bool) (befo
       (subst (λ n. TestsPrefix style name has_match (terminated_lines (take limit model.bytes)) (n + 1) sink out) no_lines prefix)
 
   -- at the end of the input, in the unfinished line
-  pub ReportsPrefix-rest : (model : Option SourceModel) (mid : Tally) (now : Option SinkModel) (rest : List ℕ) (out : Option SinkModel) → Stops limit End model rest mid.lines → (style.list ≡ true → mid.matches ≡ 0) → TestsInput style name has_match before mid sink now limit End model → TestsPrefix style name has_match (last_line rest) (mid.lines + 1) now out → ReportsPrefix model (input_report limit style name has_match) sink out
+  pub ReportsPrefix-rest : (model : Option SourceModel) (mid : Tally) (now : Option SinkModel) (rest : List ℕ) (out : Option SinkModel) → Stops style limit End model rest mid.lines → (style.list ≡ true → mid.matches ≡ 0) → TestsInput style name has_match before mid sink now limit End model → TestsPrefix style name has_match (last_line rest) (mid.lines + 1) now out → ReportsPrefix model (input_report limit style name has_match) sink out
   unfolding input_report report
   ReportsPrefix-rest None mid now rest out stops none tests prefix = tt
   ReportsPrefix-rest (Some model) mid now rest out stops none tests prefix =
       let text = take limit model.bytes in
       let all : terminated_lines text ++ last_line rest ≡ lines text = ap (λ r. terminated_lines text ++ last_line r) stops.1 ∙ sym (lines-split text) in
-      let tested_all = TestsPrefix-after style name has_match (terminated_lines text) (last_line rest) before mid sink now out none (omega (arith, stops.2, no_lines)) tests prefix in
+      let tested_all = TestsPrefix-after style name has_match (terminated_lines text) (last_line rest) before mid sink now out none (λ shown. omega (arith, stops.2 shown, no_lines)) tests prefix in
       let matches = matches_from 1 has_match (lines text) in
       subst (λ (fault : Option ReadFault). TakesPrefix (report style name has_match text fault).output sink out) (sym stops.0)
       (subst (λ (hs : List MatchingLine). TakesPrefix (matches_output style name true hs) sink out) (append-nil matches)
@@ -158,13 +166,13 @@ module _ (style : Style) (name : List ℕ) (has_match : List ℕ → Bool) (befo
       (subst (λ ls. TakesPrefix (matches_output style name false ls) sink out) (ap (λ ls. matches_from (before.lines + 1) has_match ls) all ∙ from_one (lines text)) tested_all)))
 
   -- in the count
-  pub ReportsPrefix-total : (model : Option SourceModel) (mid after : Tally) (now later : Option SinkModel) (rest : List ℕ) (out : Option SinkModel) → Stops limit End model rest mid.lines → (style.list ≡ true → mid.matches ≡ 0) → TestsInput style name has_match before mid sink now limit End model → Tests style name has_match (last_line rest) mid after now later → TakesPrefix (total style name after.matches) later out → ReportsPrefix model (input_report limit style name has_match) sink out
+  pub ReportsPrefix-total : (model : Option SourceModel) (mid after : Tally) (now later : Option SinkModel) (rest : List ℕ) (out : Option SinkModel) → Stops style limit End model rest mid.lines → (style.list ≡ true → mid.matches ≡ 0) → TestsInput style name has_match before mid sink now limit End model → Tests style name has_match (last_line rest) mid after now later → TakesPrefix (total style name after.matches) later out → ReportsPrefix model (input_report limit style name has_match) sink out
   unfolding input_report report
   ReportsPrefix-total None mid after now later rest out stops none tests last prefix = tt
   ReportsPrefix-total (Some model) mid after now later rest out stops none tests last prefix =
       let text = take limit model.bytes in
       let all : terminated_lines text ++ last_line rest ≡ lines text = ap (λ r. terminated_lines text ++ last_line r) stops.1 ∙ sym (lines-split text) in
-      let whole = subst (λ ls. Tests style name has_match ls before after sink later) all (Tests-more style name has_match (terminated_lines text) (last_line rest) before mid after sink now later (omega (arith, stops.2, no_lines)) tests last) in
+      let whole = subst (λ ls. Tests style name has_match ls before after sink later) all (Tests-more style name has_match (terminated_lines text) (last_line rest) before mid after sink now later (λ shown. omega (arith, stops.2 shown, no_lines)) tests last) in
       let matches = matches_from 1 has_match (lines text) in
       let count : after.matches ≡ length matches = omega (arith, whole.matches, no_matches, ap (λ (hs : List MatchingLine). length hs) (from_one (lines text))) in
       let bound = λ (e : style.list ≡ true). (let h = none e in let k : length matches ≤ 1 = omega (arith, h, last.matches, few_last style name has_match (mid.lines + 1) rest, count) in k) in

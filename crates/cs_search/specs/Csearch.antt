@@ -8,6 +8,7 @@ use Rattle.cs_trigram.specs.Query.{LosesNoLine}
 use Rattle.cs_trigram.specs.declared.queries.Query.{Query}
 use Rattle.cs_trigram.specs.declared.queries.Query.TheVariants.{All}
 use Rattle.cs_trigram.specs.ExactRuns.{IsSelective}
+use Rattle.cs_trigram.specs.MayMatch.{MentionsTrigramsOf}
 use Rattle.cs_index.specs.Decoding.{DecodesAs}
 use Rattle.cs_index.specs.Failing.{Fails}
 use Rattle.cs_index.specs.OpenedParts.{Parts, files_read}
@@ -30,17 +31,16 @@ use Rattle.cs_search.specs.Printed.{Printed, file_printed, all_printed}
 abbrev pub OpensWith : Option (List ℕ) → Parts → Type 0
 OpensWith index parts = IsSomeAnd index (λ bytes. DecodesAs bytes parts)
 
--- With `-brute` every file matches the query. Otherwise the query loses no line that the pattern matches, and is
--- selective.
+-- With `-brute` every file matches the query. Otherwise the query loses no line that the pattern matches, is selective,
+-- and mentions only trigrams of texts that the pattern may match.
 abbrev pub IsQueryOf : Bool → Tree → Query → Type 0
 IsQueryOf true pattern query = query ≡ All
-IsQueryOf false pattern query = LosesNoLine query pattern × IsSelective query pattern
+IsQueryOf false pattern query = LosesNoLine query pattern × IsSelective query pattern × MentionsTrigramsOf query pattern
 
--- The input of a search: what the bytes of the index decode as, and a right query for the job's pattern.
-pub record IndexQuery (job : SearchJob) (index : Option (List ℕ)) : Type 0 where
+-- The input of a search by this query: what the bytes of the index decode as. The query is right for the job's pattern.
+pub record IndexQuery (job : SearchJob) (index : Option (List ℕ)) (query : Query) : Type 0 where
   pub parts : Parts
   pub opens : OpensWith index parts
-  pub query : Query
   pub is_right : (pattern : Tree) → ParsesAs (string_bytes job.pattern) job.fold pattern →
       IsQueryOf job.brute pattern query
 
@@ -70,12 +70,12 @@ csearch_printed limit style has_match keeps parts query tree =
 
 -- The posting lists that the query requires are whole, and what is printed are the matching lines of the files that
 -- match the query. `Prints` says that something was printed and returned.
-abbrev pub PrintsCandidates : SearchJob → Option (List ℕ) → Option Snapshot → (Option Printed → Type 0) → Type 0
-PrintsCandidates job index tree Prints =
-    (index_query : IndexQuery job index)
-    × (is_answerable index_query.parts index_query.query ≡ true)
+abbrev pub PrintsCandidates : SearchJob → Option (List ℕ) → Query → Option Snapshot → (Option Printed → Type 0) → Type 0
+PrintsCandidates job index query tree Prints =
+    (index_query : IndexQuery job index query)
+    × (is_answerable index_query.parts query ≡ true)
     × ((has_match keeps : List ℕ → Bool) → DecidesSearch job has_match keeps →
-    Prints (csearch_printed max_searched job.style has_match keeps index_query.parts index_query.query tree))
+    Prints (csearch_printed max_searched job.style has_match keeps index_query.parts query tree))
 
 -- ---- errors
 
@@ -83,22 +83,22 @@ PrintsCandidates job index tree Prints =
 abbrev pub AreAccepted : SearchJob → Type 0
 AreAccepted job = IsAccepted (string_bytes job.pattern) job.fold × IfSome (file_text job) (λ text. IsAccepted text false)
 
--- The index opens, and `whole` says whether each required list is whole.
-abbrev pub OpensWhole : SearchJob → Option (List ℕ) → Bool → Type 0
-OpensWhole job index whole = (index_query : IndexQuery job index) × (is_answerable index_query.parts index_query.query ≡ whole)
+-- The index opens, and `whole` says whether each list that the query requires is whole.
+abbrev pub OpensWhole : SearchJob → Option (List ℕ) → Query → Bool → Type 0
+OpensWhole job index query whole = (index_query : IndexQuery job index query) × (is_answerable index_query.parts query ≡ whole)
 
 -- The bytes have this error, or a required list is damaged.
-abbrev pub IsBad : SearchJob → Option (List ℕ) → IndexFault → Type 0
-IsBad job index fault =
-    IsSomeAnd index (λ bytes. Fails bytes fault) ⊎ ((fault ≡ BadList) × OpensWhole job index false)
+abbrev pub IsBad : SearchJob → Option (List ℕ) → Query → IndexFault → Type 0
+IsBad job index query fault =
+    IsSomeAnd index (λ bytes. Fails bytes fault) ⊎ ((fault ≡ BadList) × OpensWhole job index query false)
 
 -- Errors come in this order: the pattern, the pattern of `-f`, no index, a bad index; all others come later.
-abbrev pub RefusedInOrder : {A : Type 0} → SearchJob → Option (List ℕ) → Result A ToolFault → Type 0
-RefusedInOrder job index (Ok answer) = AreAccepted job × OpensWhole job index true
-RefusedInOrder job index (Err (Pattern error)) = IsPatternRefused (string_bytes job.pattern) job.fold error
-RefusedInOrder job index (Err (FilePattern error)) =
+abbrev pub RefusedInOrder : {A : Type 0} → SearchJob → Option (List ℕ) → Query → Result A ToolFault → Type 0
+RefusedInOrder job index query (Ok answer) = AreAccepted job × OpensWhole job index query true
+RefusedInOrder job index query (Err (Pattern error)) = IsPatternRefused (string_bytes job.pattern) job.fold error
+RefusedInOrder job index query (Err (FilePattern error)) =
     IsAccepted (string_bytes job.pattern) job.fold × IsSomeAnd (file_text job) (λ text. IsPatternRefused text false error)
-RefusedInOrder job index (Err NoIndex) = AreAccepted job × (index ≡ None)
-RefusedInOrder job index (Err (BadIndex fault)) = AreAccepted job × IsBad job index fault
-RefusedInOrder job index (Err Write) = AreAccepted job × OpensWhole job index true
-RefusedInOrder job index (Err Memory) = Unit {0}
+RefusedInOrder job index query (Err NoIndex) = AreAccepted job × (index ≡ None)
+RefusedInOrder job index query (Err (BadIndex fault)) = AreAccepted job × IsBad job index query fault
+RefusedInOrder job index query (Err Write) = AreAccepted job × OpensWhole job index query true
+RefusedInOrder job index query (Err Memory) = Unit {0}

@@ -24,7 +24,8 @@ pub record IsPlan (job : SearchJob) (plan : Plan) : Type 0 where
 -- The error is right for this job and index, and is not a failed write.
 abbrev pub RefusesPlan : SearchJob → Option (List ℕ) → ToolFault → Type 0
 RefusesPlan job index fault =
-    RefusedInOrder {A = Status} job index (Err fault) × (has_write_failed {A = Status} (Err fault) ≡ false)
+    (query : Query) × RefusedInOrder {A = Status} job index query (Err fault)
+    × (has_write_failed {A = Status} (Err fault) ≡ false)
 
 -- The opened index answers the query as the index in the bytes does.
 pub record AnswersQuery (query : Query) (index : Option (List ℕ)) (answering : Parts) : Type 0 where

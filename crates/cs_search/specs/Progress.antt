@@ -14,15 +14,15 @@ use Rattle.cs_match.specs.Lines.{terminated_lines}
 use Rattle.cs_match.specs.LastPart.{last_part}
 use Rattle.cs_search.specs.InputReport.{fault_within}
 use Rattle.cs_search.specs.GrepFaults.{is_failed_read}
-use Rattle.cs_search.specs.TestedLines.{Tests, TestsPrefix, IsListed}
+use Rattle.cs_search.specs.TestedLines.{SameNumber, Tests, TestsPrefix, IsListed}
 
 -- The first `n` bytes of the model were read; `rest` is the unfinished line at their end, and `lines` counts the
--- lines before it.
-abbrev pub HasReadInput : Option SourceModel → Option SourceModel → ℕ → List ℕ → ℕ → Type 0
-HasReadInput None later n rest lines = Unit {0}
-HasReadInput (Some model) later n rest lines =
+-- lines before it, if numbers are printed.
+abbrev pub HasReadInput : Style → Option SourceModel → Option SourceModel → ℕ → List ℕ → ℕ → Type 0
+HasReadInput style None later n rest lines = Unit {0}
+HasReadInput style (Some model) later n rest lines =
     (n ≤ length model.bytes) × Consumes (Some model) later (take n model.bytes)
-    × (rest ≡ last_part (take n model.bytes)) × (lines ≡ length (terminated_lines (take n model.bytes)))
+    × (rest ≡ last_part (take n model.bytes)) × SameNumber style lines (length (terminated_lines (take n model.bytes)))
 
 -- The lines that end within the first `n` bytes were tested.
 abbrev pub HasTested : Option SourceModel → ℕ → (List (List ℕ) → Type 0) → Type 0
@@ -43,16 +43,16 @@ StopsHere (Faulted Read) (Some model) = IsAt fails (Some model)
 StopsHere (Faulted TooLong) (Some model) = 0 < length model.bytes
 
 -- A search with this limit stopped for this reason: `rest` is the unfinished line, and the lines before it were
--- tested.
-abbrev pub StopsAt : ℕ → Stop → SourceModel → List ℕ → ℕ → Type 0
-StopsAt limit Listed model rest lines = Unit {0}
-StopsAt limit stop model rest lines =
+-- tested, and counted if numbers are printed.
+abbrev pub StopsAt : Style → ℕ → Stop → SourceModel → List ℕ → ℕ → Type 0
+StopsAt style limit Listed model rest lines = Unit {0}
+StopsAt style limit stop model rest lines =
     (fault_within limit model ≡ stop_fault stop) × (rest ≡ last_part (take limit model.bytes))
-    × (lines ≡ length (terminated_lines (take limit model.bytes)))
+    × SameNumber style lines (length (terminated_lines (take limit model.bytes)))
 
-abbrev pub Stops : ℕ → Stop → Option SourceModel → List ℕ → ℕ → Type 0
-Stops limit stop None rest lines = Unit {0}
-Stops limit stop (Some model) rest lines = StopsAt limit stop model rest lines
+abbrev pub Stops : Style → ℕ → Stop → Option SourceModel → List ℕ → ℕ → Type 0
+Stops style limit stop None rest lines = Unit {0}
+Stops style limit stop (Some model) rest lines = StopsAt style limit stop model rest lines
 
 module _ (style : Style) (name : List ℕ) (has_match : List ℕ → Bool) (before after : Tally)
     (sink later : Option SinkModel) where

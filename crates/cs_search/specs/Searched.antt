@@ -4,6 +4,7 @@ use Rattle.std.specs.Prelude.{ℕ, ◌⊎◌, List, Option, Some, Result, IfOk, 
 use Rattle.cs_tree.specs.TakesPrefix.{EndsAfter}
 use Rattle.cs_tree.specs.Sinks.{SinkModel}
 use Rattle.cs_tree.specs.Snapshot.{Snapshot}
+use Rattle.cs_trigram.specs.declared.queries.Query.{Query}
 use Rattle.cs_index.specs.OpenedParts.{Parts}
 use Rattle.cs_args.specs.declared.jobs.Tool.TheVariants.{Csearch}
 use Rattle.cs_args.specs.declared.jobs.SearchJob.{SearchJob}
@@ -23,15 +24,18 @@ abbrev pub search_outputs : {O E : Type 0} → (O → Option SinkModel) → (E �
 search_outputs out_model err_model out err = record { out = out_model out; err = err_model err }
 
 -- What csearch promises, given the job, the bytes of the index, the tree's snapshot, its failures and the outputs
--- before and after, and the answer.
+-- before and after, and the answer. What is printed and what is refused is that of one query.
 pub record IsSearch (job : SearchJob) (index : Option (List ℕ)) (tree : Option Snapshot) (failed failed' : ℕ)
     (old new : SearchOutputs) (answer : Result Status ToolFault) : Type 0 where
-  pub prints : IfOk answer (λ status. PrintsCandidates job index tree
+  -- the query that is run, if the search comes so far
+  pub query : Query
+  pub prints : IfOk answer (λ status. PrintsCandidates job index query tree
       (λ printed. PrintsStatus printed old.out new.out old.err new.err status))
   pub promised : IfOk answer (λ status. SearchesLikeGrep job index tree
       (λ printed. PrintsStatus (Some printed) old.out new.out old.err new.err status))
   pub prefix : OnErr answer (PrintsNothing old.out new.out old.err new.err
-      ⊎ (AreAccepted job × PrintsCandidates job index tree (λ printed. PrintsSome printed old.out new.out old.err new.err)))
-  pub refused : RefusedInOrder job index answer
+      ⊎ (AreAccepted job
+      × PrintsCandidates job index query tree (λ printed. PrintsSome printed old.out new.out old.err new.err)))
+  pub refused : RefusedInOrder job index query answer
   pub faults : (parts : Parts) → OpensWith index parts →
       PrintsFaults Csearch parts.names failed failed' (λ lines. EndsAfter lines old.err new.err answer)

@@ -2,6 +2,7 @@
 use Rattle.std.specs.Prelude.{ℕ, ◌≡◌, ◌≢◌, ◌⊎◌, Bool, false, List, Option, Some, Result, Ok, Err, IfSome, IfOk}
 use Rattle.std.specs.Result.{IsOkAnd}
 use Rattle.cs_tree.specs.declared.fault.IoFault.{IoFault}
+use Rattle.cs_trigram.specs.declared.queries.Query.{Query}
 use Rattle.cs_index.specs.declared.fault.IndexFault.{IndexFault}
 use Rattle.cs_index.specs.declared.fault.IndexFault.TheVariants as index
 use Rattle.cs_index.specs.Stored.{StoredParts, DecodesOrFails}
@@ -24,7 +25,7 @@ IfRead model result Claim = IfOk result (λ answer. IfSome model (λ bytes. Clai
 -- patterns are accepted, and the search returns that error, which is not out of memory.
 abbrev pub IsUnopened : {A : Type 0} → SearchJob → IndexFault → Result (Result A ToolFault) IoFault → Type 0
 IsUnopened job fault result = IsOkAnd result (λ answer.
-    ((index : Option (List ℕ)) → RefusedInOrder job index answer)
+    ((index : Option (List ℕ)) → (query : Query) × RefusedInOrder job index query answer)
     ⊎ (AreAccepted job × (answer ≡ Err (BadIndex fault)) × (fault ≢ index.Memory)))
 
 -- a write to one of the outputs failed

@@ -1,5 +1,5 @@
 -- Inside a search: which lines were tested, and what was printed for them.
-use Rattle.std.specs.Prelude.{ℕ, ◌+◌, ◌<◌, ◌≡◌, nat_lt, true, false, if◌then◌else◌, Bool, List, [], ◌∷◌, ◌++◌, length, Option}
+use Rattle.std.specs.Prelude.{ℕ, ◌+◌, ◌<◌, ◌≤◌, ◌≡◌, nat_lt, true, false, if◌then◌else◌, Bool, List, [], ◌∷◌, ◌++◌, length, Option}
 use Rattle.std.specs.List.{flat_map}
 use Rattle.cs_tree.specs.Sinks.{Grows, SinkModel}
 use Rattle.cs_args.specs.declared.jobs.Style.{Style}
@@ -13,8 +13,16 @@ unfoldable pub match_output : Style → List ℕ → MatchingLine → List ℕ
 match_output style name matching =
     if style.list then name ++ newline ∷ [] else (if style.count then [] else match_line style name matching)
 
--- These lines were tested after those that `before` counts: they and the matching ones are counted, and the output of
--- the matching ones was written.
+-- the numbers are the same, if numbers are printed
+abbrev pub SameNumber : Style → ℕ → ℕ → Type 0
+SameNumber style n m = style.number ≡ true → n ≡ m
+
+-- Some more lines were counted: all of them if numbers are printed.
+pub record CountsLines (style : Style) (before after count : ℕ) : Type 0 where
+  pub exact : SameNumber style after (before + count)
+  pub bound : after ≤ before + count
+
+-- These lines were tested after those that `before` counts: the matching ones are counted, and their output was written.
 pub record Tests (style : Style) (name : List ℕ) (has_match : List ℕ → Bool) (lines : List (List ℕ))
     (before after : Tally) (sink later : Option SinkModel) : Type 0 where
   pub matches : after.matches ≡ before.matches + length (matches_from (before.lines + 1) has_match lines)

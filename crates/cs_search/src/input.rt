@@ -34,7 +34,7 @@ pub(crate) fn search_input<R: Source, O: Sink>(
     requires empty { pending_bytes buffer.old ≡ [] }
     ensures bound { IfOk result (λ stop. UnlessListed stop
         (tally.new.lines + length (pending_bytes buffer.new) ≤ limit)) }
-    ensures stops { IfOk result (λ stop. Stops limit stop
+    ensures stops { IfOk result (λ stop. Stops printer.now.style limit stop
         (R.model input.old) (pending_bytes buffer.new) tally.new.lines) }
     ensures tests { IfOk result (λ stop. (has_match : List ℕ → Bool) →
         Decides has_match matcher.old.tree →

@@ -74,8 +74,8 @@ pub fn indexes_of_jobs_are_accepted()
     ensures whole { (history : History) (bytes : List ℕ) → HasIndex history bytes →
         (parts : Parts) × (opening bytes ≡ Ok parts) × (are_whole parts ≡ true) }
     ensures accepted { (job : SearchJob) (history : History) (bytes : List ℕ)
-        (answer : Result Status ToolFault) → HasIndex history bytes → AreAccepted job →
-        RefusedInOrder job (Some bytes) answer → IsSearchFault answer }
+        (query : Query) (answer : Result Status ToolFault) → HasIndex history bytes → AreAccepted job →
+        RefusedInOrder job (Some bytes) query answer → IsSearchFault answer }
 {}
 
 /// After a first job each indexed file reads as it was indexed while the tree stays unchanged: the premises of the

@@ -7,7 +7,7 @@ ghost use Rattle.cs_match.specs.Lines.{newline, terminated_lines};
 ghost use Rattle.cs_match.specs.NoNewline.{HasNoNewline};
 ghost use Rattle.cs_match.specs.Skipping.{AreWholeLines};
 ghost use Rattle.cs_match.specs.LastPart.{last_part};
-ghost use Rattle.cs_search.specs.TestedLines.{Tests, TestsPrefix, IsListed};
+ghost use Rattle.cs_search.specs.TestedLines.{SameNumber, CountsLines, Tests, TestsPrefix, IsListed};
 
 use crate::grep_fault::GrepFault;
 use crate::printer::Printer;
@@ -83,26 +83,43 @@ fn ended_len(block: &[u8], scanned: usize) -> usize
     }
 }
 
-/// Counts lines without a match.
-fn count_skipped(tally: &mut Tally, lines: &[u8])
-    requires { tally.old.lines + length lines.now < 2 ^ 64 }
-    ensures lines { tally.new.lines ≡ tally.old.lines + length (terminated_lines lines.now) }
-    ensures matches { tally.new.matches ≡ tally.old.matches }
+/// The number of lines of a block, if numbers are printed; else the given number of some of them.
+fn line_count(printer: &Printer<'_>, block: &[u8], some: u64) -> u64
+    requires { some ≤ length (terminated_lines block.now) }
+    ensures exact { SameNumber printer.now.style result (length (terminated_lines block.now)) }
+    ensures least { some ≤ result }
+    ensures most { result ≤ length (terminated_lines block.now) }
 {
-    tally.lines += newlines(lines);
+    if printer.style.number {
+        newlines(block)
+    } else {
+        some
+    }
 }
 
-/// Counts the lines of a block of whole lines, and the matching ones.
-fn count_lines(tally: &mut Tally, block: &[u8], matcher: &mut Matcher<'_>)
+/// Counts lines without a match, if numbers are printed.
+fn count_skipped(printer: &Printer<'_>, tally: &mut Tally, lines: &[u8])
+    requires { tally.old.lines + length lines.now < 2 ^ 64 }
+    ensures lines { CountsLines printer.now.style tally.old.lines tally.new.lines
+        (length (terminated_lines lines.now)) }
+    ensures matches { tally.new.matches ≡ tally.old.matches }
+{
+    tally.lines += line_count(printer, lines, 0);
+}
+
+/// Counts the matching lines of a block of whole lines, and all of them if numbers are printed.
+fn count_lines(printer: &Printer<'_>, tally: &mut Tally, block: &[u8], matcher: &mut Matcher<'_>)
     requires whole { AreWholeLines block.now }
     requires room { tally.old.lines + length block.now < 2 ^ 64 }
-    ensures lines { tally.new.lines ≡ tally.old.lines + length (terminated_lines block.now) }
+    ensures lines { CountsLines printer.now.style tally.old.lines tally.new.lines
+        (length (terminated_lines block.now)) }
     ensures matches { (has_match : List ℕ → Bool) → Decides has_match matcher.old.tree →
         tally.new.matches ≡ tally.old.matches + count_by has_match (terminated_lines block.now) }
     ensures same { matcher.new.tree ≡ matcher.old.tree }
 {
-    tally.lines += newlines(block);
-    tally.matches += matcher.count(block);
+    let matches = matcher.count(block);
+    tally.lines += line_count(printer, block, matches);
+    tally.matches += matches;
 }
 
 /// Tests the lines of a block of whole lines. Under `-l` the first matching line ends the search, and the result is
@@ -118,7 +135,8 @@ fn search_lines<O: Sink>(
     requires room { tally.old.lines + length block.now < 2 ^ 64 }
     requires unlisted { printer.now.style.list ≡ true → tally.old.matches ≡ 0 }
     ensures lines { IfOk result (λ listed. listed ≡ false →
-        tally.new.lines ≡ tally.old.lines + length (terminated_lines block.now)) }
+        CountsLines printer.now.style tally.old.lines tally.new.lines
+        (length (terminated_lines block.now))) }
     ensures tests { IfOk result (λ listed. (has_match : List ℕ → Bool) →
         Decides has_match matcher.old.tree →
         MatchBool listed
@@ -137,19 +155,19 @@ fn search_lines<O: Sink>(
 {
     // `-c` prints nothing for a line, so the matching lines need not be located.
     if printer.counts() {
-        count_lines(tally, block, matcher);
+        count_lines(printer, tally, block, matcher);
         return Ok(false);
     }
     let mut offset = 0;
     'lines: while let Some(line) = matcher.next_match(block, offset) {
-        count_skipped(tally, &block[offset..line.start]);
+        count_skipped(printer, tally, &block[offset..line.start]);
         report_match(printer, tally, &block[line.start..line.end], out)?;
         if printer.style.list {
             return Ok(true);
         }
         offset = line.end + 1;
     }
-    count_skipped(tally, &block[offset..]);
+    count_skipped(printer, tally, &block[offset..]);
     Ok(false)
 }
 
@@ -170,7 +188,8 @@ pub(crate) fn search_block<O: Sink>(
     ensures rest { IfOk result (λ answer. IfSome answer
         (λ start. (start ≤ length block.now) × (drop start block.now ≡ last_part block.now))) }
     ensures lines { IfOk result (λ answer. IfSome answer
-        (λ start. tally.new.lines ≡ tally.old.lines + length (terminated_lines block.now))) }
+        (λ start. CountsLines printer.now.style tally.old.lines tally.new.lines
+        (length (terminated_lines block.now)))) }
     ensures tests { IfOk result (λ answer. (has_match : List ℕ → Bool) →
         Decides has_match matcher.old.tree →
         MatchOption answer

@@ -2,7 +2,7 @@
 ghost use Rattle.std.specs.Prelude.{◌≤◌, ◌≡◌, length};
 ghost use Rattle.cs_match.specs.Lines.{terminated_lines};
 
-/// The number of tested lines, and of the matching ones.
+/// The number of tested lines, and of the matching ones. If no number is printed, lines without a match are not counted.
 #[derive(Drop)]
 pub(crate) struct Tally {
     pub(crate) lines: u64,

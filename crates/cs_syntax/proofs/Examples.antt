@@ -1,6 +1,6 @@
 -- Worked examples, computed.
-use Rattle.std.proofs.Common.{◌≡◌, ℕ, zero, suc, ◌+◌, ◌^◌, ap, arith, true, false, refl, [], ◌∷◌, ◌++◌, replicate}
-use Rattle.std.specs.Prelude.{codes, not, Some, None}
+use Rattle.std.proofs.Common.{◌≡◌, List, ℕ, zero, suc, ◌+◌, ◌^◌, ap, arith, true, false, refl, [], ◌∷◌, ◌++◌, replicate}
+use Rattle.std.specs.Prelude.{codes, not, nat_eq, Some, None}
 use Rattle.std.specs.Str.{chars}
 use Rattle.std.proofs.lemmas.Bool.Decides.{nat_tests}
 use Rattle.std.specs.Char.{encode_utf8}
@@ -9,6 +9,10 @@ use mathlib.Core.Bool.{xor}
 use Rattle.cs_syntax.specs.Matching.{Trees, empty, one_of, one_char, cat, alt, rep, line_start, line_end, word_edge, not_word_edge, none, more, member}
 use Rattle.cs_syntax.specs.Characters.{has_char, ranges_through, MatchesChar}
 use Rattle.cs_syntax.specs.CharRanges.{AreCanonical}
+use Rattle.cs_syntax.specs.Cuts.{range_cuts, char_ranges, floor}
+use Rattle.cs_syntax.specs.CharSteps.{finished, char_step, taken_at}
+use Rattle.cs_syntax.specs.declared.char_step.Unfinished.{Unfinished}
+use Rattle.cs_syntax.specs.declared.char_step.CharStep.TheVariants.{Single, Begins, Inside, Completes, Nothing}
 use Rattle.cs_syntax.specs.Lowering.{byte_range, utf8_tree}
 use Rattle.cs_syntax.specs.ByteSet.{set_of, char_set, all_bytes}
 use Rattle.cs_syntax.specs.Bits.{has_bit}
@@ -371,3 +375,51 @@ lowered_before_surrogates :
     utf8_tree ((2048, 55295) ∷ [])
     ≡ cat (more (alt (more (cat (more (byte_range 224 224) (more (byte_range 160 191) none))) (more (cat (more (byte_range 225 236) (more (byte_range 128 191) none))) (more (cat (more (byte_range 237 237) (more (byte_range 128 159) none))) none)))) (more (byte_range 128 191) none))
 lowered_before_surrogates = refl
+
+-- the cuts of `é` and `😀`
+some_cuts : List ℕ
+some_cuts = 0 ∷ 0x80 ∷ 233 ∷ 234 ∷ 0x800 ∷ 0xd800 ∷ 0xe000 ∷ 0x10000 ∷ 0x1f600 ∷ 0x1f601 ∷ 0x110000 ∷ []
+
+cuts_at :
+    (range_cuts ((233, 233) ∷ (0x1f600, 0x1f600) ∷ []) ≡ 233 ∷ 234 ∷ 0x1f600 ∷ 0x1f601 ∷ [])
+    × (floor some_cuts 232 ≡ 0x80) × (floor some_cuts 233 ≡ 233) × (floor some_cuts 0x20ac ≡ 0x800)
+    × (char_ranges (cat (more (one_char ((233, 233) ∷ [])) (more (rep (one_char ((0x1f600, 0x1f600) ∷ [])) 0 None) none))) ≡ (233, 233) ∷ (0x1f600, 0x1f600) ∷ [])
+unfolding some_cuts
+cuts_at = (refl, refl, refl, refl, refl)
+
+-- the characters that need this many bytes and begin at `low`
+left : ℕ → ℕ → Unfinished
+left needed low = record { needed = needed; low = low }
+
+-- the bytes of `é`; a lead byte with no `é` in its block; the bytes of `€`, which is in none of the sets; those of `😀`
+char_steps :
+    (char_step some_cuts finished 0xc3 ≡ Begins (left 1 192)) × (char_step some_cuts (left 1 192) 0xa9 ≡ Completes 233)
+    × (char_step some_cuts finished 0xc4 ≡ Begins (left 1 234)) × (char_step some_cuts (left 1 234) 0x80 ≡ Completes 234)
+    × (char_step some_cuts finished 0xe2 ≡ Begins (left 2 0x800)) × (char_step some_cuts (left 2 0x800) 0x82 ≡ Inside (left 1 0x800))
+    × (char_step some_cuts (left 1 0x800) 0xac ≡ Completes 0x800)
+    × (char_step some_cuts finished 0xf0 ≡ Begins (left 3 0)) × (char_step some_cuts (left 3 0) 0x9f ≡ Inside (left 2 0x1f000))
+    × (char_step some_cuts (left 2 0x1f000) 0x98 ≡ Inside (left 1 0x1f600)) × (char_step some_cuts (left 1 0x1f600) 0x80 ≡ Completes 0x1f600)
+    × (char_step some_cuts (left 1 0x1f600) 0x81 ≡ Completes 0x1f601)
+unfolding some_cuts left
+char_steps = (refl, refl, refl, refl, refl, refl, refl, refl, refl, refl, refl, refl)
+
+-- no lead byte: `c0`, `f5`, a continuation byte. `e0 80`, `ed a0`, `f0 80` and `f4 90` begin no character. A letter or a
+-- lead byte inside a character.
+no_char_steps :
+    (char_step some_cuts finished 0xc0 ≡ Nothing) × (char_step some_cuts finished 0xf5 ≡ Nothing) × (char_step some_cuts finished 0x80 ≡ Nothing)
+    × (char_step some_cuts (left 2 0) 0x80 ≡ Nothing) × (char_step some_cuts (left 2 0xd000) 0xa0 ≡ Nothing)
+    × (char_step some_cuts (left 3 0) 0x80 ≡ Nothing) × (char_step some_cuts (left 3 0x100000) 0x90 ≡ Nothing)
+    × (char_step some_cuts (left 1 192) 97 ≡ Single 97) × (char_step some_cuts (left 1 192) 0xc3 ≡ Begins (left 1 192))
+unfolding some_cuts left
+no_char_steps = (refl, refl, refl, refl, refl, refl, refl, refl, refl)
+
+-- In `c3 c3 a9` the `é` begins at 1. In `c3 61 a9` there is none.
+taken_chars :
+    (taken_at some_cuts (0xc3 ∷ 0xc3 ∷ 0xa9 ∷ []) ((233, 233) ∷ []) (nat_eq 1) 3 ≡ true)
+    × (taken_at some_cuts (0xc3 ∷ 0xc3 ∷ 0xa9 ∷ []) ((233, 233) ∷ []) (nat_eq 0) 3 ≡ false)
+    × (taken_at some_cuts (0xc3 ∷ 97 ∷ 0xa9 ∷ []) ((233, 233) ∷ []) (λ i. true) 3 ≡ false)
+    × (taken_at some_cuts (0xc0 ∷ 0x80 ∷ []) ((0, 0x10ffff) ∷ []) (λ i. true) 2 ≡ false)
+    × (taken_at some_cuts (0xed ∷ 0xa0 ∷ 0x80 ∷ []) ((0, 0x10ffff) ∷ []) (λ i. true) 3 ≡ false)
+    × (taken_at some_cuts (0xf4 ∷ 0x90 ∷ 0x80 ∷ 0x80 ∷ []) ((0, 0x10ffff) ∷ []) (λ i. true) 4 ≡ false)
+unfolding some_cuts
+taken_chars = (refl, refl, refl, refl, refl, refl)

@@ -163,7 +163,7 @@ parts_among n low high from to = by (nat_le ((low + 63) / 64 * 64) ((high + 1) /
 -- ---- encodings
 
 -- the encoding of a number: a first byte, which is `lead` plus the upper bits, and k continuation bytes
-abbrev encoding : ℕ → ℕ → ℕ → List ℕ
+abbrev pub encoding : ℕ → ℕ → ℕ → List ℕ
 encoding lead zero n = (lead + n) ∷ []
 encoding lead (suc k) n = encoding lead k (n / 64) ++ (128 + n % 64) ∷ []
 
@@ -277,18 +277,18 @@ within_matches s from to lead k range n i j fit a b c d h =
 
 -- ---- the encodings are those of UTF-8
 
-one_byte : (c : ℕ) → c < 128 → encode_utf8 c ≡ c ∷ []
+pub one_byte : (c : ℕ) → c < 128 → encode_utf8 c ≡ c ∷ []
 unfolding encode_utf8
 one_byte c h = let e : nat_lt c 128 ≡ true = grind (arith, nat_tests) in cond-true (nat_lt c 128) _ _ e
 
-two_bytes : (c : ℕ) → 128 ≤ c → c ≤ 2047 → encode_utf8 c ≡ encoding 192 1 c
+pub two_bytes : (c : ℕ) → 128 ≤ c → c ≤ 2047 → encode_utf8 c ≡ encoding 192 1 c
 unfolding encode_utf8
 two_bytes c h g =
     let a : nat_lt c 128 ≡ false = grind (arith, nat_tests) in
     let b : nat_lt c 2048 ≡ true = grind (arith, nat_tests) in
     cond-false (nat_lt c 128) _ _ a ∙ cond-true (nat_lt c 2048) _ _ b
 
-three_bytes : (c : ℕ) → 2048 ≤ c → c ≤ 65535 → encode_utf8 c ≡ encoding 224 2 c
+pub three_bytes : (c : ℕ) → 2048 ≤ c → c ≤ 65535 → encode_utf8 c ≡ encoding 224 2 c
 unfolding encode_utf8
 three_bytes c h g =
     let a : nat_lt c 128 ≡ false = grind (arith, nat_tests) in
@@ -298,7 +298,7 @@ three_bytes c h g =
     cond-false (nat_lt c 128) _ _ a ∙ cond-false (nat_lt c 2048) _ _ b ∙ cond-true (nat_lt c 65536) _ _ d
     ∙ ap (λ (n : ℕ). (224 + n) ∷ (128 + (c / 64) % 64) ∷ (128 + c % 64) ∷ []) first
 
-four_bytes : (c : ℕ) → 65536 ≤ c → encode_utf8 c ≡ encoding 240 3 c
+pub four_bytes : (c : ℕ) → 65536 ≤ c → encode_utf8 c ≡ encoding 240 3 c
 unfolding encode_utf8
 four_bytes c h =
     let a : nat_lt c 128 ≡ false = grind (arith, nat_tests) in

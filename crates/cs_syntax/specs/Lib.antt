@@ -11,6 +11,8 @@ pub mod Members
 pub mod CharTrees
 pub mod ClassSets
 pub mod Lowering
+pub mod Cuts
+pub mod CharSteps
 pub mod Node
 pub mod Weight
 pub mod Numbers

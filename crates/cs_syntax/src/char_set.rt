@@ -76,6 +76,14 @@ impl CharSet {
         self.ranges.as_slice()
     }
 
+    /// A copy of the set.
+    pub fn copy(&self, alloc: Global) -> Result<CharSet, AllocError>
+        ensures { IfOk result (λ set. set ≡ self.now) }
+    {
+        let ranges = Vec::from_slice(alloc, &self.ranges)?;
+        Ok(CharSet { ranges })
+    }
+
     /// The characters that are not members.
     pub fn complement(&self, alloc: Global) -> Result<CharSet, AllocError>
         ensures members { IfOk result
@@ -116,7 +124,7 @@ impl CharSet {
 }
 
 /// Whether the number is a Unicode scalar value.
-fn is_scalar(n: u32) -> bool
+pub(crate) fn is_scalar(n: u32) -> bool
     ensures { result ≡ is_scalar n }
 {
     n < 0xD800 || (0xE000 <= n && n <= LAST)

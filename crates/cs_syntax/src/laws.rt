@@ -1,11 +1,13 @@
 // Laws: properties of the definitions, with no code.
-ghost use Rattle.std.specs.Prelude.{◌↔◌, ◌≡◌, ◌≢◌, ◌<◌, ◌≤◌, ◌^◌, ◌&&◌, [], ◌∷◌, ◌++◌, ℕ, Bool, List, Some, IsUtf8};
+ghost use Rattle.std.specs.Prelude.{◌↔◌, ◌≡◌, ◌≢◌, ◌<◌, ◌≤◌, ◌^◌, ◌&&◌, [], ◌∷◌, ◌++◌, ℕ, Bool, true, List, Some, IsUtf8, length};
 ghost use Rattle.std.specs.Str.{chars};
 ghost use Rattle.cs_syntax.specs.Characters.{is_scalar, has_char, canonical_ranges, MatchesChar};
 ghost use Rattle.cs_syntax.specs.CharRanges.{AreCanonical};
 ghost use Rattle.cs_syntax.specs.Determinism.{HasOneParse};
 ghost use Rattle.cs_syntax.specs.Levels.{HasLevels};
 ghost use Rattle.cs_syntax.specs.Lowering.{utf8_tree};
+ghost use Rattle.cs_syntax.specs.Cuts.{Divide, AreCuts, AreCutsOf, char_ranges, floor};
+ghost use Rattle.cs_syntax.specs.CharSteps.{taken_at, MatchesEntered};
 ghost use Rattle.cs_syntax.specs.Matching.{Tree, MatchesSpan, one_of, rep};
 ghost use Rattle.cs_syntax.specs.BarredPatterns.{IsSelfContained, MatchesEither};
 ghost use Rattle.cs_syntax.specs.ByteSet.{char_set};
@@ -83,4 +85,20 @@ pub fn canonical_ranges_are_unique()
 pub fn lowering_preserves_matches()
     ensures { (line : List ℕ) (ranges : List (ℕ × ℕ)) (i j : ℕ)
         → MatchesSpan line (utf8_tree ranges) i j ↔ MatchesChar line ranges i j }
+{}
+
+/// All numbers of an interval are in the same sets of characters.
+pub fn numbers_of_an_interval_are_alike()
+    ensures divided { (tree : Tree) (cuts : List ℕ) → AreCutsOf tree cuts
+        → AreCuts cuts × Divide cuts (char_ranges tree) }
+    ensures members { (cuts : List ℕ) (ranges : List (ℕ × ℕ)) (n : ℕ) → Divide cuts ranges
+        → has_char ranges (floor cuts n) ≡ has_char ranges n }
+{}
+
+/// A set of characters that is stepped byte by byte is taken exactly where a member ends that
+/// begins where the set was entered.
+pub fn characters_are_found_byte_by_byte()
+    ensures { (cuts line : List ℕ) (ranges : List (ℕ × ℕ)) (enter : ℕ → Bool) (j : ℕ)
+        → Divide cuts ranges → j ≤ length line
+        → taken_at cuts line ranges enter j ≡ true ↔ MatchesEntered line ranges enter j }
 {}

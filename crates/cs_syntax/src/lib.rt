@@ -1,6 +1,6 @@
 //! The syntax of patterns, after RE2: the parser, the syntax tree, the spans of a line that a tree
-//! matches, and the lowering of character sets to UTF-8 byte sets. Read `specs/Matching.antt`
-//! first, then `specs/Parsing.antt`.
+//! matches, and character sets in UTF-8: their lowering to byte sets, and their steps over bytes.
+//! Read `specs/Matching.antt` first, then `specs/Parsing.antt`.
 #![tactic(auto)]
 
 mod atoms;
@@ -9,11 +9,13 @@ mod builder;
 mod byte_kind;
 mod byte_set;
 mod char_set;
+mod char_step;
 mod class_chars;
 mod class_item;
 mod class_sets;
 mod class_tokens;
 mod classes;
+mod cuts;
 mod digits;
 mod escapes;
 mod fault;
@@ -32,6 +34,8 @@ mod weight;
 
 pub use byte_set::ByteSet;
 pub use char_set::CharSet;
+pub use char_step::{CharStep, Unfinished};
+pub use cuts::Cuts;
 pub use fault::{PatternError, PatternFault};
 pub use lowering::lower;
 pub use node::Node;

@@ -1,4 +1,4 @@
-//! The tests of the libraries up to `cs_merge`, in one module for each: what no clause says, and
+//! The tests of the libraries up to `cs_merge`, and of `cs_storage`, in one module for each: what no clause says, and
 //! examples whose results are known independently. They call only public functions, so that a
 //! library has no test of its own and is proved once. `cs_tool_tests` has the tests of the crates
 //! above, and `tests/` runs the program. A test asserts the answer of one function, since each
@@ -15,6 +15,8 @@ mod index;
 mod matching;
 #[cfg(test)]
 mod merging;
+#[cfg(test)]
+mod storing;
 #[cfg(test)]
 mod syntax;
 #[cfg(test)]

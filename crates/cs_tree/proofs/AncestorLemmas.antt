@@ -1,10 +1,9 @@
--- Binary search for the ancestors of a path in an ascending list.
-use denote.Ref.{Bor}
+-- Which paths cover a path: its ancestors, itself and the root. Binary search in an ascending list.
 use Rattle.cs_tree.specs.Covering.{Covers, itself, below, root}
 use Rattle.cs_tree.specs.PathSet.{Paths}
 use Rattle.cs_tree.specs.NameOrder.{bytes_cmp}
 use Rattle.cs_tree.specs.NamesAscending.{are_ascending}
-use Rattle.std.proofs.Common.{◌≡◌, ℕ, ◌+◌, ◌<◌, Bool, true, false, not, ◌&&◌, ◌||◌, List, [], ◌∷◌, ◌++◌, length, map, drop, get_or, Option, Some, None, refl, sym, ap, subst, ◌∙◌, ◌⊎◌, inl, inr, arith, append_assoc, length-append}
+use Rattle.std.proofs.Common.{◌≡◌, ℕ, ◌+◌, ◌<◌, Bool, true, false, not, ◌&&◌, ◌||◌, List, [], ◌∷◌, ◌++◌, length, map, get_or, refl, sym, ap, subst, ◌∙◌, inl, inr, arith, append_assoc, length-append}
 use Rattle.std.specs.Prelude.{Result, Ok, Err, is_ok, bytes_eq}
 use Rattle.std.specs.Path.{slash}
 use Rattle.std.specs.List.{list_any}
@@ -13,9 +12,7 @@ use Rattle.std.specs.Ordering.{is_lt, is_eq, nat_cmp, ordering_reverse}
 use Rattle.std.specs.Cmp.{both_ways as same_tests}
 use Rattle.std.specs.Cmp.Lexicographic.{bytes_decides, slice_cmp, nat_list_cmp_total, texts_ties}
 use Rattle.std.specs.declared.cmp.Ordering.TheVariants.{Less}
-use Rattle.std.specs.Option.{MatchOption}
-use Rattle.std.specs.Str.Pattern.{RFindsChar, SplitsAroundMatch}
-use Rattle.std.proofs.lemmas.Bool.{true≢false, and_parts, and_from, or_cases, or_left, or_right, false_from_ne_true, not-true, not_from_false, both_ways, cases_lt}
+use Rattle.std.proofs.lemmas.Bool.{and_parts, and_from, or_cases, or_left, or_right, false_from_ne_true, not-true, not_from_false, both_ways, cases_lt}
 use Rattle.std.proofs.lemmas.List.{length-map}
 use Rattle.std.proofs.Math.ListN.{get_or-map}
 use Rattle.std.proofs.lemmas.List.Folds.{list_any_none, list_any_at}
@@ -24,9 +21,7 @@ use Rattle.std.proofs.lemmas.Map.Keys.{Less-from_sorted}
 use Rattle.cs_tree.specs.Cover.{begins, covers, is_alone, is_among, is_covered}
 use Rattle.cs_tree.specs.Cover.{is_ancestor}
 use Rattle.cs_tree.specs.PathSet as set
-use Rattle.std.proofs.lemmas.Str.Pattern.{NoCharPasses-char}
 use Rattle.cs_tree.proofs.CoverLemmas.{begins_rest, begins_at, covers_says}
-use Rattle.cs_tree.proofs.SplitLemmas.{NoSlash, no_slash, no_slash_parts, LastSlash, rsplit_says}
 use Rattle.cs_tree.proofs.PathSetLemmas.{alike}
 use Rattle.cs_tree.proofs.NameLemmas.{list_any-map}
 use Rattle.cs_tree.proofs.ReduceLemmas.{any-from_list, strictly_from}
@@ -55,7 +50,7 @@ module _ {X : Type 0} (bytes : X → List ℕ) where
         | inr after ↦ texts_ties (bytes (get_or xs k d)) path ∙ ap is_eq (parts.1 k d after within)
       ]))
 
--- ---- the text before the last slash
+-- ---- ancestors
 
 list_any_or : {X : Type 0} (f g : X → Bool) (xs : List X) → list_any (λ x. f x || g x) xs ≡ (list_any f xs || list_any g xs)
 list_any_or f g [] = refl
@@ -78,14 +73,6 @@ list_any_and f given (x ∷ xs) = ap (λ b. (f x && given) || b) (list_any_and f
     regroup false true c = refl
     regroup false false c = refl
 
-list_any_false : {X : Type 0} (f : X → Bool) → ((x : X) → f x ≡ false) → (xs : List X) → list_any f xs ≡ false
-list_any_false f none [] = refl
-list_any_false f none (x ∷ xs) = ap (λ b. b || list_any f xs) (none x) ∙ list_any_false f none xs
-
-some_slash_in : (prefix rest : List ℕ) → NoSlash (prefix ++ slash ∷ rest) → ⊥
-some_slash_in [] rest h = true≢false h
-some_slash_in (b ∷ prefix) rest h = some_slash_in prefix rest (no_slash_parts b (prefix ++ slash ∷ rest) h).1
-
 -- a path with an ancestor is the ancestor, a slash and more
 below_parts : (path other : List ℕ) → is_ancestor other path ≡ true → (rest : List ℕ) × (path ≡ other ++ slash ∷ rest)
 below_parts path other h =
@@ -100,51 +87,6 @@ below_longer path other h =
     let found = below_parts path other h in
     let long : length path ≡ length (other ++ slash ∷ found.0) = ap length found.1 in
     omega (arith, long, length-append other (slash ∷ found.0))
-
-either_prefix : (other prefix rest name : List ℕ) → other ++ slash ∷ rest ≡ prefix ++ slash ∷ name → NoSlash name → (other ≡ prefix) ⊎ ((more : List ℕ) × (prefix ≡ other ++ slash ∷ more))
-either_prefix [] [] rest name e h = inl refl
-either_prefix [] (c ∷ prefix) rest name e h = inr (prefix, let first : slash ≡ c = ap (λ xs. get_or xs 0 0) e in ap (λ x. x ∷ prefix) (sym first))
-either_prefix (b ∷ other) [] rest name e h = absurd (some_slash_in other rest (subst NoSlash (sym (ap (drop 1) e)) h))
-either_prefix (b ∷ other) (c ∷ prefix) rest name e h =
-    let first : b ≡ c = ap (λ xs. get_or xs 0 0) e in
-    elim (either_prefix other prefix rest name (ap (drop 1) e) h) [
-      | inl is ↦ inl (let is' : other ≡ prefix = is in cc)
-      | inr later ↦ inr (later.0, let after : prefix ≡ other ++ slash ∷ later.0 = later.1 in cc)
-    ]
-
-below_last : (path prefix name : List ℕ) → LastSlash path prefix name → (other : List ℕ) → is_ancestor other path ≡ (bytes_eq other prefix || is_ancestor other prefix)
-below_last path prefix name h other = same_tests _ _
-    (λ lower.
-    let found = below_parts path other lower in
-    elim (either_prefix other prefix found.0 name (sym found.1 ∙ h.whole) h.last) [
-      | inl is ↦ or_left (bytes_eq other prefix) _ ((bytes_decides other prefix).1 is)
-      | inr later ↦ or_right (bytes_eq other prefix) _ (below_from prefix other later.0 later.1)
-    ])
-    (λ either. elim (or_cases (bytes_eq other prefix) (is_ancestor other prefix) either) [
-      | inl is ↦ below_from path other name (h.whole ∙ ap (λ f. f ++ slash ∷ name) (sym ((bytes_decides other prefix).0 is)))
-      | inr later ↦
-          let found = below_parts prefix other later in
-          below_from path other (found.0 ++ slash ∷ name) (h.whole ∙ ap (λ f. f ++ slash ∷ name) found.1 ∙ append_assoc other (slash ∷ found.0) (slash ∷ name))
-    ])
-
--- the text before the last slash is an ancestor, and its ancestors are the others
-pub any_below_last : (path prefix name : List ℕ) (paths : List (List ℕ)) → LastSlash path prefix name → list_any (λ above. is_ancestor above path) paths ≡ (list_any (λ other. bytes_eq other prefix) paths || list_any (λ above. is_ancestor above prefix) paths)
-any_below_last path prefix name paths h = (λ i. list_any (λ other. below_last path prefix name h other i) paths) ∙ list_any_or (λ other. bytes_eq other prefix) (λ above. is_ancestor above prefix) paths
-
-any_below_none : (path : List ℕ) (paths : List (List ℕ)) → NoSlash path → list_any (λ above. is_ancestor above path) paths ≡ false
-any_below_none path paths h = list_any_false (λ above. is_ancestor above path) (λ other. false_from_ne_true _ (λ lower.
-    let found = below_parts path other lower in some_slash_in other found.0 (subst NoSlash found.1 h))) paths
-
--- the result of the split at the last slash
-abbrev pub AncestorSays : List ℕ → List (List ℕ) → Option (Bor (List ℕ) × Bor (List ℕ)) → Type 0
-AncestorSays path paths cut = MatchOption cut (list_any (λ above. is_ancestor above path) paths ≡ false)
-    (λ parts. (list_any (λ above. is_ancestor above path) paths ≡ (list_any (λ other. bytes_eq other parts.0.now) paths || list_any (λ above. is_ancestor above parts.0.now) paths)) × (length parts.0.now < length path))
-
-pub ancestor_says : (path : List ℕ) (paths : List (List ℕ)) (cut : Option (Bor (List ℕ) × Bor (List ℕ))) → MatchOption cut (RFindsChar slash path None) (λ x. SplitsAroundMatch (RFindsChar slash) path x.0.now x.1.now) → AncestorSays path paths cut
-ancestor_says path paths None h = any_below_none path paths (no_slash path (λ i l. NoCharPasses-char slash path i h (omega arith) l))
-ancestor_says path paths (Some x) h =
-    let split = rsplit_says path (Some x) h in
-    (any_below_last path x.0.now x.1.now paths split, below_longer path x.0.now (below_from path x.0.now x.1.now split.whole))
 
 -- ---- a path that another one covers
 

@@ -15,6 +15,7 @@ use Rattle.cs_tree.specs.Snapshot.{file}
 use Rattle.cs_tree.specs.declared.mem_tree.PutFault.TheVariants.{BadPath}
 use Rattle.std.specs.FinMap as map
 use Rattle.cs_tree.specs.Cover.{covers}
+use Rattle.cs_tree.specs.Descents.{tails, begins_below, after_byte}
 use Rattle.cs_tree.specs.Reachability.{elements_under}
 use Rattle.cs_tree.specs.Store.{part_of}
 
@@ -89,3 +90,17 @@ the_next_file_counts_from_none = refl
 
 a_failed_read_counts_nothing : after_read (Err Failed) (after_read (Ok 3) no_reads) ≡ record { of_open = 3; most = 3 }
 a_failed_read_counts_nothing = refl
+
+-- ---- a descent in sorted paths
+
+texts_that_begin_with_a_byte : after_byte 98 (codes "a" ∷ [] ∷ codes "b" ∷ codes "bc" ∷ codes "cb" ∷ []) ≡ [] ∷ codes "c" ∷ []
+texts_that_begin_with_a_byte = refl
+
+what_follows_an_offset : tails codes 2 ("/ab" ∷ "/a" ∷ []) ≡ codes "b" ∷ [] ∷ []
+what_follows_an_offset = refl
+
+an_empty_text_is_below_all : begins_below 0 [] ≡ true
+an_empty_text_is_below_all = refl
+
+the_bound_itself_is_not_below : begins_below 98 (codes "b") ≡ false
+the_bound_itself_is_not_below = refl

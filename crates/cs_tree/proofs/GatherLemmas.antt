@@ -13,7 +13,7 @@ use Rattle.cs_tree.specs.Clean.{longest_path}
 use Rattle.cs_tree.specs.Snapshot.{Snapshot, item_at}
 use Rattle.cs_tree.specs.Reachability.{is_excluded, reaches, descends, elements_under}
 use Rattle.cs_tree.specs.Walks.{FaultEntry, path_fault, is_short_file, is_among, fault_paths, names_walked, faults_walked, failures_walked, is_failed_call, AreWithinPathLimit}
-use Rattle.cs_tree.specs.WalkSteps.{descends_to, has_fault, Gains, AreFaultsOf, Gathers, GathersIn, KeepsCount, is_file_seen, fault_seen, names_seen, IsStatusOf, IsStatusIn, IsEntered, CountsStatus, children, is_walked, named_if, fault_if}
+use Rattle.cs_tree.specs.WalkSteps.{descends_to, has_fault, Gains, AreFaultsIn, Gathers, GathersIn, KeepsCount, is_file_seen, fault_seen, names_seen, IsStatusOf, IsStatusIn, IsEntered, CountsStatus, children, is_walked, named_if, fault_if}
 use Rattle.cs_tree.specs.declared.walking.Walked.{Walked}
 use Rattle.cs_tree.specs.declared.walking.WalkFault.{WalkFault}
 use Rattle.cs_tree.specs.declared.walking.WalkFault.TheVariants as fault
@@ -96,7 +96,7 @@ pub all-append : {X : Type 0} (P : X → Type 0) (xs ys : List X) → AllByRecur
 all-append P [] ys h k = k
 all-append P (x ∷ xs) ys h k = (h.0, all-append P xs ys h.1 k)
 
-right_left : (tree : Snapshot) (o : Option WalkFault) (path : List ℕ) → o ≡ path_fault path (item_at tree path) → AreFaultsOf tree (fault_if o path)
+right_left : (tree : Snapshot) (o : Option WalkFault) (path : List ℕ) → o ≡ path_fault path (item_at tree path) → AreFaultsIn tree (fault_if o path)
 right_left tree None path e = tt
 right_left tree (Some fault) path e = (sym e, tt)
 
@@ -104,7 +104,7 @@ pub gathers_one : (tree : Snapshot) (path : List ℕ) (seen : PathStatus) (old n
 gathers_one tree path seen old new shows names faults = record {
   names = gains_one (names_walked old) (names_walked new) (is_file_seen seen) path (is_short_file tree) shows.file names;
   paths = gains_one (fault_paths (faults_walked old)) (fault_paths (faults_walked new)) (is_some (fault_seen seen)) path (has_fault tree) (ap is_some shows.fault) (ap fault_paths faults ∙ paths_of_faults (faults_walked old) (fault_seen seen) path);
-  right = λ h. subst (AreFaultsOf tree) (sym faults) (all-append _ (faults_walked old) (fault_if (fault_seen seen) path) h (right_left tree (fault_seen seen) path shows.fault));
+  right = λ h. subst (AreFaultsIn tree) (sym faults) (all-append _ (faults_walked old) (fault_if (fault_seen seen) path) h (right_left tree (fault_seen seen) path shows.fault));
 }
 
 -- ---- a named path

@@ -11,7 +11,7 @@ use Rattle.cs_tree.specs.Cover.{is_covered}
 use Rattle.cs_tree.specs.Snapshot.{Snapshot, item_at}
 use Rattle.cs_tree.specs.Reachability.{is_reachable}
 use Rattle.cs_tree.specs.Walks.{FaultEntry, path_fault, is_short_file, is_among, fault_among, fault_paths, names_walked, faults_walked, Finds, FindsIn, CountsFault, CountsFaults, are_alone, failures_walked, is_failed_call, AreWithinPathLimit}
-use Rattle.cs_tree.specs.WalkSteps.{KeepsTo, has_fault, AreFaultsOf, Gathers, GathersIn, AreFaultsDistinct, KeepsCount, AddsFewFaults, fault_count, KeepsPathLimit}
+use Rattle.cs_tree.specs.WalkSteps.{KeepsTo, has_fault, AreFaultsIn, Gathers, GathersIn, AreFaultsDistinct, KeepsCount, AddsFewFaults, fault_count, KeepsPathLimit}
 use Rattle.cs_tree.specs.declared.walking.Walked.{Walked}
 use Rattle.cs_tree.specs.declared.walking.WalkFault.{WalkFault}
 use Rattle.cs_tree.specs.declared.walking.WalkFault.TheVariants as fault
@@ -20,7 +20,7 @@ use Rattle.cs_tree.proofs.FaultCountLemmas.{alone_once, failures_moved}
 
 -- ---- sorted
 
-fault_right : (tree : Snapshot) (faults : List FaultEntry) (q : List ℕ) → AreFaultsOf tree faults → fault_among faults q ≡ cond (is_among (fault_paths faults) q) (path_fault q (item_at tree q)) None
+fault_right : (tree : Snapshot) (faults : List FaultEntry) (q : List ℕ) → AreFaultsIn tree faults → fault_among faults q ≡ cond (is_among (fault_paths faults) q) (path_fault q (item_at tree q)) None
 fault_right tree [] q h = refl
 fault_right tree (left ∷ faults) q h =
     elim (cases_Bool (bytes_eq left.0 q)) [
@@ -54,8 +54,8 @@ finds tree ps old gathered names faults no_names no_faults h order = record {
       ∙ left_at (is_reachable tree (set.from_list ps) q) (path_fault q (item_at tree q));
 }
   where
-    right : AreFaultsOf tree faults
-    right = all_kept _ (faults_walked gathered) faults order.kept (h.right (subst (AreFaultsOf tree) (sym no_faults) tt))
+    right : AreFaultsIn tree faults
+    right = all_kept _ (faults_walked gathered) faults order.kept (h.right (subst (AreFaultsIn tree) (sym no_faults) tt))
 
     left_at : (b : Bool) (o : Option WalkFault) → cond (b && is_some o) o None ≡ cond b o None
     left_at true (Some f) = refl

@@ -31,15 +31,16 @@ has_fault tree path = is_some (path_fault path (item_at tree path))
 abbrev pub Gains : List (List ℕ) → List (List ℕ) → (List ℕ → Bool) → Type 0
 Gains old new test = (name : List ℕ) → is_among new name ≡ (is_among old name || test name)
 
-abbrev pub AreFaultsOf : Snapshot → List FaultEntry → Type 0
-AreFaultsOf tree faults =
+-- each fault is that of its path in the tree
+abbrev pub AreFaultsIn : Snapshot → List FaultEntry → Type 0
+AreFaultsIn tree faults =
     AllByRecursion (λ (left : FaultEntry). path_fault left.0 (item_at tree left.0) ≡ Some left.1) faults
 
 pub record Gathers (tree : Snapshot) (reach : List ℕ → Bool) (old new : Walked) : Type 0 where
   pub names : Gains (names_walked old) (names_walked new) (λ name. reach name && is_short_file tree name)
   pub paths : Gains (fault_paths (faults_walked old)) (fault_paths (faults_walked new))
       (λ path. reach path && has_fault tree path)
-  pub right : AreFaultsOf tree (faults_walked old) → AreFaultsOf tree (faults_walked new)
+  pub right : AreFaultsIn tree (faults_walked old) → AreFaultsIn tree (faults_walked new)
 
 abbrev pub GathersIn : Option Snapshot → (Snapshot → List ℕ → Bool) → Walked → Walked → Type 0
 GathersIn None reach old new = Unit {0}

@@ -30,7 +30,7 @@ impl<F: OpenFile + FileExt + Drop> DiskStore<F> {
     {
         match file.metadata() {
             Ok(metadata) => DiskStore::of_metadata(file, &metadata),
-            Err(error) => Err(fault_of(error.kind())),
+            Err(error) => Err(fault_of(&error)),
         }
     }
 

@@ -50,6 +50,15 @@ struct FileId {
 /// The path of standard output (Linux).
 const OUTPUT: &str = "/proc/self/fd/1";
 
+/// A file that is always empty.
+const EMPTY: &str = "/dev/null";
+
+/// The error of the system if the process can open no more files (EMFILE).
+const PROCESS_DESCRIPTORS: i32 = 24;
+
+/// The error of the system if no process can open more files (ENFILE).
+const SYSTEM_DESCRIPTORS: i32 = 23;
+
 impl<R: Files + AllocGlobal + Clone + Drop> DiskTree<R> {
     /// The disk. `open` accepts anything except folders, and blocks on a pipe until it is written
     /// to. Allocates nothing.
@@ -103,7 +112,7 @@ impl<R: Files + AllocGlobal + Clone + Drop> Tree for DiskTree<R> {
     fn kind(&mut self, path: &str) -> Result<Kind, TreeFault> {
         let answer = match fs::symlink_metadata(&self.rt, path) {
             Ok(metadata) => Ok(kind_of(&metadata)),
-            Err(error) => Err(fault_of(error.kind())),
+            Err(error) => Err(fault_of(&error)),
         };
         counted_answer(&mut self.failed, answer)
     }
@@ -111,7 +120,7 @@ impl<R: Files + AllocGlobal + Clone + Drop> Tree for DiskTree<R> {
     fn entries(&mut self, alloc: Global, path: &str) -> Result<Listing, TreeFault> {
         let answer = match list_folder(alloc, &self.rt, path) {
             Ok(listing) => Ok(listing),
-            Err(error) => Err(fault_of(error.kind())),
+            Err(error) => Err(fault_of(&error)),
         };
         counted_answer(&mut self.failed, answer)
     }
@@ -166,9 +175,13 @@ fn id_of(metadata: &Metadata) -> FileId {
     }
 }
 
-/// Maps errors of the system to errors of a tree.
-pub(crate) fn fault_of(kind: ErrorKind) -> TreeFault {
-    match kind {
+/// Maps errors of the system to errors of a tree. A missing descriptor is no fault of the tree: like memory, the process or
+/// the system lacks it.
+pub(crate) fn fault_of(error: &io::Error) -> TreeFault {
+    if let Some(PROCESS_DESCRIPTORS | SYSTEM_DESCRIPTORS) = error.raw_os_error() {
+        return TreeFault::Memory;
+    }
+    match error.kind() {
         ErrorKind::NotFound | ErrorKind::NotADirectory => TreeFault::Missing,
         ErrorKind::PermissionDenied => TreeFault::Denied,
         ErrorKind::OutOfMemory => TreeFault::Memory,
@@ -238,38 +251,43 @@ fn list_entry<R: Files + AllocGlobal + Clone + Drop>(
 
 /// Opens a path, unless it is the output or a folder. With `Opens::Files` it opens only regular
 /// files, and looks the path up before it opens it, so that a pipe does not block. If the file
-/// becomes a folder in between, the open succeeds and the reads fail.
+/// becomes a folder in between, the open succeeds and the reads fail. A file of length 0 reads as
+/// empty: in /proc such a file may have content, and its read may wait for ever.
 fn open_file<R: Files + Drop>(
     rt: &R,
     opens: Opens,
     output: Option<FileId>,
     path: &str,
 ) -> Result<R::File, TreeFault> {
+    let mut is_empty = false;
     if opens == Opens::Files {
-        is_opened(fs::metadata(rt, path), opens, output)?;
+        is_empty = opened_len(fs::metadata(rt, path), opens, output)? == 0;
     }
     let file = match fs::open(rt, path) {
         Ok(file) => file,
-        Err(error) => return Err(fault_of(error.kind())),
+        Err(error) => return Err(fault_of(&error)),
     };
     if opens == Opens::Anything {
-        is_opened(file.metadata(), opens, output)?;
+        opened_len(file.metadata(), opens, output)?;
+    }
+    if is_empty && let Ok(empty) = fs::open(rt, EMPTY) {
+        return Ok(empty);
     }
     Ok(file)
 }
 
-/// Returns an error for a file that must not be opened.
-fn is_opened(
+/// The length of a file that may be opened, and an error for any other.
+fn opened_len(
     metadata: io::Result<Metadata>,
     opens: Opens,
     output: Option<FileId>,
-) -> Result<(), TreeFault> {
+) -> Result<u64, TreeFault> {
     match metadata {
         Ok(metadata) if output == Some(id_of(&metadata)) => Err(TreeFault::Output),
-        Ok(metadata) if metadata.is_file() => Ok(()),
-        Ok(metadata) if opens == Opens::Anything && !metadata.is_dir() => Ok(()),
+        Ok(metadata) if metadata.is_file() => Ok(metadata.len()),
+        Ok(metadata) if opens == Opens::Anything && !metadata.is_dir() => Ok(metadata.len()),
         Ok(_) => Err(TreeFault::Failed),
-        Err(error) => Err(fault_of(error.kind())),
+        Err(error) => Err(fault_of(&error)),
     }
 }
 

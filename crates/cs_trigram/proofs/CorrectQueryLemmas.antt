@@ -1,25 +1,28 @@
 -- Correct queries of trees.
 use Rattle.std.proofs.Common.{◌≡◌, ℕ, zero, suc, ◌-◌, ◌<◌, ◌≤◌, inl, inr, Bool, true, false, List, [], ◌∷◌, ◌++◌, Vec, Global, sym, ◌∙◌, ap, subst, arith, refl}
-use Rattle.cs_trigram.specs.QueryNumbers.{are_trigrams}
+use Rattle.cs_tree.specs.Cover.{is_among}
 use Rattle.std.specs.Prelude.{Option, Some, None, slice_range}
-use Rattle.std.specs.List.{list_all}
 use Rattle.std.proofs.lemmas.Bool.{false≢true, or_cases, or_left, or_right}
 use Rattle.cs_syntax.specs.Matching.{Tree, Trees, alt, rep, none, more, Chain, MatchesSpan}
-use Rattle.cs_trigram.specs.Query.{matches_set, HasTrigrams, LosesNoLine}
+use Rattle.cs_trigram.specs.Query.{matches_set, mentions, HasTrigrams, LosesNoLine}
+use Rattle.cs_trigram.specs.MayMatch.{MayMatch, MayMatchBranch, HasMembers, HaveMembers}
 use Rattle.cs_trigram.specs.ExactRuns.{HasWhole, HasRunsWithin, HasExactRuns}
 use Rattle.cs_trigram.specs.ExactQuery.{RequiresExactString}
-use Rattle.cs_trigram.specs.Analysis.{some_matches, has_any, AreExactStrings, IsCorrect, AreCorrect, IsMatchQuery}
+use Rattle.cs_trigram.specs.Analysis.{some_matches, some_mentions, has_any, MentionsOnly, AreExactStrings, IsCorrect, AreCorrect, IsMatchQuery}
 use Rattle.cs_trigram.specs.declared.queries.Query.{Query}
 use Rattle.cs_trigram.specs.declared.queries.Query.TheVariants.{All, Or}
 use Rattle.cs_trigram.proofs.LeadingRunLemmas.{concatenates_one, exact_of_one}
-use Rattle.cs_trigram.proofs.SequenceQueryLemmas.{any_run_found, found_any_run}
+use Rattle.cs_trigram.proofs.SequenceQueryLemmas.{any_run_found, found_any_run, few_tree}
+use Rattle.cs_trigram.specs.ExactStrings.{ConcatenatesExactStrings}
 use Rattle.cs_trigram.proofs.ExactStringLemmas.{match_is_exact, exact_match_has_runs}
 use Rattle.cs_trigram.proofs.SubstringTrigramLemmas.{has_part}
-use Rattle.cs_trigram.proofs.QueryLemmas.{matches_set-All, matches_set-Or, some_matches_push, numbers-All, numbers-Or, numbers_more, numbers_push}
+use Rattle.cs_trigram.proofs.QueryLemmas.{matches_set-All, matches_set-Or, some_matches_push, mentions-Or, mentions_push}
+use Rattle.cs_trigram.proofs.MentionLemmas.{all_mentions_none, no_trigrams, occurs_itself, trigrams_of_both, trigrams_within}
+use Rattle.cs_trigram.proofs.MayMatchLemmas.{branches_have_members, exact_may_match, iteration_within}
 
 -- a tree that requires nothing
 pub correct_all : (t : Tree) → ((set : ℕ → Bool) → HasExactRuns set t) → IsCorrect All t
-correct_all t has_runs = record { matching = λ s set i j h has. matches_set-All set; selective = λ set h. has_runs set; numbers = numbers-All }
+correct_all t has_runs = record { matching = λ s set i j h has. matches_set-All set; selective = λ set h. has_runs set; mentioned = all_mentions_none (HasMembers t) (MayMatch t) }
 
 -- `All` is a match query of a tree without runs within it, such as a leaf
 pub leaf_match_query : (t : Tree) → ((set : ℕ → Bool) → HasRunsWithin set t) → IsMatchQuery All t
@@ -39,7 +42,8 @@ correct_repeated q x zero m some r many = absurd (omega arith)
 correct_repeated q x (suc n) m some r many = record {
   matching = λ s set i j h has. first s set h.0 i j h.1 h.3 has;
   selective = λ set h. (λ few. absurd (many few), r.selective set h);
-  numbers = r.numbers;
+  mentioned =
+      trigrams_within (mentions q) (HasMembers x) (HasMembers x) (MayMatch x) (MayMatch (rep x (suc n) m)) r.mentioned (λ h. h) (λ h w is. iteration_within x (suc n) m w is);
 }
   where
     first : (s : List ℕ) (set : ℕ → Bool) (k i j : ℕ) → suc n ≤ k → Chain (MatchesSpan s x) k i j → HasTrigrams set s → matches_set q set ≡ true
@@ -47,15 +51,17 @@ correct_repeated q x (suc n) m some r many = record {
     first s set (suc k) i j le c has = r.matching s set i c.0 c.1 has
 
 -- a tree with few exact strings
-pub correct_strings : (q : Query) (ws : List (List ℕ)) (t : Tree) → AreExactStrings ws t → ((set : ℕ → Bool) → matches_set q set ≡ has_any set ws) → are_trigrams q ≡ true → IsCorrect q t
-correct_strings q ws t strings required numbers = record {
+pub correct_strings : (q : Query) (ws : List (List ℕ)) (t : Tree) → AreExactStrings ws t → ((set : ℕ → Bool) → matches_set q set ≡ has_any set ws) → MentionsOnly q (λ w. is_among ws w ≡ true) → IsCorrect q t
+correct_strings q ws t strings required only = record {
   matching = λ s set i j h has.
       let r = match_is_exact s t i j strings.0 h in
       required set ∙ found_any_run set ws (slice_range s i j) ((strings.1.each (slice_range s i j)).0 r.1) (has_part set (j - i) i s has);
   selective = λ set h.
       let w = any_run_found set ws (sym (required set) ∙ h) in
       exact_match_has_runs set t w.0 ((strings.1.each w.0).1 w.1) w.2;
-  numbers = numbers;
+  mentioned =
+      trigrams_within (mentions q) (Unit {0}) (HasMembers t) (λ w. is_among ws w ≡ true) (MayMatch t) only (λ h. tt)
+      (λ h w m. (w, exact_may_match t w ((strings.1.each w).1 m), occurs_itself w w refl));
 }
 
 -- the query of a tree with few exact strings requires one of them
@@ -66,7 +72,7 @@ string_required q ws t strings required set = (
 )
 
 pub correct_none : (queries : List Query) → queries ≡ [] → AreCorrect queries none
-correct_none queries e = record { matching = λ s set i j h has. absurd h; selective = λ set h. empty set (ap (λ (qs : List Query). some_matches qs set) (sym e) ∙ h); numbers = ap (list_all are_trigrams) e }
+correct_none queries e = record { matching = λ s set i j h has. absurd h; selective = λ set h. empty set (ap (λ (qs : List Query). some_matches qs set) (sym e) ∙ h); mentioned = no_trigrams (some_mentions queries) (Unit {0}) (MayMatchBranch none) (λ g. ap (λ (qs : List Query). some_mentions qs g) e) }
   where
     empty : (set : ℕ → Bool) → false ≡ true → ⊥
     empty set h = (cc)
@@ -84,15 +90,30 @@ right_more queries q t ts match_query others = record {
         | inl a ↦ inr (others.selective set a)
         | inr b ↦ inl (match_query.selective set b)
       ];
-  numbers = numbers_more queries q others.numbers match_query.numbers;
+  mentioned =
+      let A = HaveMembers (more t ts) in
+      let P = MayMatchBranch (more t ts) in
+      trigrams_of_both (some_mentions queries) (mentions q) (some_mentions (queries ++ q ∷ [])) A P (λ g. mentions_push g queries q)
+      (trigrams_within (some_mentions queries) (HaveMembers ts) A (MayMatchBranch ts) P others.mentioned (λ h. h.1) (λ h w m. (w, inr m, occurs_itself w w refl)))
+      (trigrams_within (mentions q) (HasMembers t) A (MayMatch t) P match_query.mentioned (λ h. h.0) (λ h w m. (w, inl m, occurs_itself w w refl)));
 }
 
+-- an alternation with an exact string has a branch
+pub some_branch : (ws : List (List ℕ)) (ts : Trees) → AreExactStrings ws (alt ts) → HaveMembers ts → HasMembers (alt ts)
+some_branch ws none strings h = none_exact (few_tree ws (alt none) strings).1.0
+  where
+    none_exact : (w : List ℕ) × ConcatenatesExactStrings (more (alt none) none) w → HasMembers (alt none)
+    none_exact w = absurd (exact_of_one (alt none) w.0 w.1)
+some_branch ws (more t ts) strings h = h
+
 -- a disjunction with a single query
-pub correct_one : (queries : List Query) (q : Query) (ts : Trees) → queries ≡ q ∷ [] → IsCorrect q (alt ts) → AreCorrect queries ts
-correct_one queries q ts e r = record {
+pub correct_one : (queries : List Query) (q : Query) (ts : Trees) → queries ≡ q ∷ [] → (HaveMembers ts → HasMembers (alt ts)) → IsCorrect q (alt ts) → AreCorrect queries ts
+correct_one queries q ts e members r = record {
   matching = λ s set i j h has. same set ∙ r.matching s set i j h has;
   selective = λ set h. (r.selective set (sym (same set) ∙ h)).1;
-  numbers = ap (list_all are_trigrams) e ∙ numbers_push [] q ∙ r.numbers;
+  mentioned = λ g h.
+      let only = r.mentioned g (sym (ap (λ (qs : List Query). some_mentions qs g) e ∙ mentions_push g [] q) ∙ h) in
+      (only.0, λ m. only.1 (members m));
 }
   where
     same : (set : ℕ → Bool) → some_matches queries set ≡ matches_set q set
@@ -102,7 +123,7 @@ pub correct_alternation : (members : Vec Query Global) (ts : Trees) → AreCorre
 correct_alternation members ts r many = record {
   matching = λ s set i j h has. matches_set-Or set members ∙ r.matching s set i j h has;
   selective = λ set h. (λ few. absurd (many few), r.selective set (sym (matches_set-Or set members) ∙ h));
-  numbers = numbers-Or members ∙ r.numbers;
+  mentioned = λ g h. let only = r.mentioned g (sym (mentions-Or g members) ∙ h) in (only.0, λ m. only.1 (branches_have_members ts m));
 }
 
 pub correct_loses_nothing : (q : Query) (t : Tree) → IsCorrect q t → LosesNoLine q t

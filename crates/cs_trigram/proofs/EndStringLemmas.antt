@@ -1,11 +1,11 @@
 -- End strings of concatenations and of trees.
 use Rattle.std.proofs.Common.{◌≡◌, ℕ, zero, suc, ◌+◌, ◌-◌, ◌<◌, ◌≤◌, ◌⊎◌, inl, inr, not, true, false, List, [], ◌∷◌, ◌++◌, take, drop, length, get_or, refl, sym, ◌∙◌, ap, subst, arith, append_assoc, drop-cons, drop_of_length-le}
-use Rattle.std.specs.Prelude.{Option, slice_range}
+use Rattle.std.specs.Prelude.{None, slice_range}
 use Rattle.std.specs.List.{list_all}
 use Rattle.std.proofs.lemmas.Bool.{and_parts, not-true}
 use Rattle.std.proofs.lemmas.List.{append-nil, take-append-drop}
 use Rattle.cs_syntax.specs.Matching.{Tree, Trees, empty, one_of, one_char, cat, alt, rep, line_start, line_end, word_edge, not_word_edge, none, more, Chain, MatchesSpan, MatchesSequence, MatchesBranch}
-use Rattle.cs_trigram.specs.EndStrings.{concatenation, near_part, HasEndString, HasSomeEndString, AreEndStrings, AreEndStringsOfAll}
+use Rattle.cs_trigram.specs.EndStrings.{concatenation, near_part, HasEndString, HasSomeEndString}
 use Rattle.cs_trigram.specs.ShortString.{bytes_of}
 use Rattle.cs_trigram.specs.declared.end_strings.Side.{Side}
 use Rattle.cs_trigram.specs.declared.end_strings.Side.TheVariants.{Prefix, Suffix}
@@ -129,20 +129,24 @@ module _ (s : List ℕ) where
     rises_some (more t ts) i j h = elim h [ inl a ↦ rises t i j a | inr b ↦ rises_some ts i j b ]
 
 -- a sequence from its first part, and from its last part
-pub end_strings_none : (side : Side) (end_strings : List EndString) → HasSomeEndString side end_strings [] → AreEndStringsOfAll side end_strings none
-end_strings_none side end_strings h = λ s i j e. subst (HasSomeEndString side end_strings) (sym (part_empty s i) ∙ ap (slice_range s i) e) h
+pub end_strings_none : (side : Side) (end_strings : List EndString) → HasSomeEndString side end_strings [] → (s : List ℕ) (i j : ℕ) → i ≡ j → HasSomeEndString side end_strings (slice_range s i j)
+end_strings_none side end_strings h s i j e = subst (HasSomeEndString side end_strings) (sym (part_empty s i) ∙ ap (slice_range s i) e) h
+
+-- the matches of at least n iterations of the tree
+abbrev pub MatchesRepeat : ℕ → Tree → List ℕ → ℕ → ℕ → Type 0
+MatchesRepeat n t s i j = MatchesSpan s (rep t n None) i j
+
+-- each match has one of the end strings
+abbrev pub HaveEndStrings : Side → List EndString → (List ℕ → ℕ → ℕ → Type 0) → Type 0
+HaveEndStrings side end_strings Matches = (s : List ℕ) (i j : ℕ) → Matches s i j → HasSomeEndString side end_strings (slice_range s i j)
 
 -- one more tree before a sequence
 pub end_strings_before : (side : Side) (prefixes suffixes end_strings : List EndString) (t : Tree) (ts : Trees) →
     ((u v : List ℕ) → HasSomeEndString side prefixes u → HasSomeEndString side suffixes v → HasSomeEndString side end_strings (u ++ v)) →
-    AreEndStrings side prefixes t → AreEndStringsOfAll side suffixes ts → AreEndStringsOfAll side end_strings (more t ts)
+    HaveEndStrings side prefixes (λ s. MatchesSpan s t) → HaveEndStrings side suffixes (λ s. MatchesSequence s ts) → HaveEndStrings side end_strings (λ s. MatchesSequence s (more t ts))
 end_strings_before side prefixes suffixes end_strings t ts both a b = λ s i j h.
     subst (HasSomeEndString side end_strings) (sym (part_split s i h.0 j (rises s t i h.0 h.1) (rises_all s ts h.0 j h.2)))
     (both (slice_range s i h.0) (slice_range s h.0 j) (a s i h.0 h.1) (b s h.0 j h.2))
-
--- each text of at least this many iterations has one of the end strings
-abbrev pub AreEndStringsOfIterations : Side → List EndString → Tree → ℕ → Type 0
-AreEndStringsOfIterations side end_strings t n = (s : List ℕ) (k i j : ℕ) → n ≤ k → Chain (MatchesSpan s t) k i j → HasSomeEndString side end_strings (slice_range s i j)
 
 chain_last : (R : ℕ → ℕ → Type 0) (k i j : ℕ) → Chain R (suc k) i j → (l : ℕ) × Chain R k i l × R l j
 chain_last R zero i j c = (i, refl, subst (R i) c.2 c.1)
@@ -150,34 +154,28 @@ chain_last R (suc k) i j c = let r = chain_last R k c.0 j c.2 in (r.0, (c.0, c.1
 
 pub iteration_more : (side : Side) (once fars end_strings : List EndString) (t : Tree) (n : ℕ) →
     ((u v : List ℕ) → HasSomeEndString side once u → HasSomeEndString side fars v → HasSomeEndString side end_strings (concatenation side u v)) →
-    AreEndStrings side once t → AreEndStringsOfIterations side fars t n → AreEndStringsOfIterations side end_strings t (n + 1)
-iteration_more side once fars end_strings t n both a b = λ s k i j le c. by side both a b s k i j le c
+    HaveEndStrings side once (λ s. MatchesSpan s t) → HaveEndStrings side fars (MatchesRepeat n t) → HaveEndStrings side end_strings (MatchesRepeat (n + 1) t)
+iteration_more side once fars end_strings t n both a b s i j h = by side both a b h.0 h.1 h.3
   where
     by : (side : Side) → ((u v : List ℕ) → HasSomeEndString side once u → HasSomeEndString side fars v → HasSomeEndString side end_strings (concatenation side u v)) →
-        AreEndStrings side once t → AreEndStringsOfIterations side fars t n → (s : List ℕ) (k i j : ℕ) → n + 1 ≤ k → Chain (MatchesSpan s t) k i j → HasSomeEndString side end_strings (slice_range s i j)
-    by side both a b s zero i j le c = absurd (omega arith)
-    by Prefix both a b s (suc k) i j le c =
+        HaveEndStrings side once (λ s. MatchesSpan s t) → HaveEndStrings side fars (MatchesRepeat n t) → (k : ℕ) → n + 1 ≤ k → Chain (MatchesSpan s t) k i j → HasSomeEndString side end_strings (slice_range s i j)
+    by side both a b zero le c = absurd (omega arith)
+    by Prefix both a b (suc k) le c =
         subst (HasSomeEndString Prefix end_strings) (sym (part_split s i c.0 j (rises s t i c.0 c.1) (chain_rises (MatchesSpan s t) (rises s t) k c.0 j c.2)))
-        (both (slice_range s i c.0) (slice_range s c.0 j) (a s i c.0 c.1) (b s k c.0 j (omega arith) c.2))
-    by Suffix both a b s (suc k) i j le c =
+        (both (slice_range s i c.0) (slice_range s c.0 j) (a s i c.0 c.1) (b s c.0 j (k, omega arith, tt, c.2)))
+    by Suffix both a b (suc k) le c =
         let r = chain_last (MatchesSpan s t) k i j c in
         subst (HasSomeEndString Suffix end_strings) (sym (part_split s i r.0 j (chain_rises (MatchesSpan s t) (rises s t) k i r.0 r.1) (rises s t r.0 j r.2)))
-        (both (slice_range s r.0 j) (slice_range s i r.0) (a s r.0 j r.2) (b s k i r.0 (omega arith) r.1))
+        (both (slice_range s r.0 j) (slice_range s i r.0) (a s r.0 j r.2) (b s i r.0 (k, omega arith, tt, r.1)))
 
--- any number of iterations: none, or one and any text
-pub iterations_any : (side : Side) (once any loose end_strings : List EndString) (t : Tree) → ((text : List ℕ) → HasSomeEndString side any text) →
-    ((u v : List ℕ) → HasSomeEndString side once u → HasSomeEndString side any v → HasSomeEndString side loose (concatenation side u v)) →
-    HasSomeEndString side end_strings [] → ((text : List ℕ) → HasSomeEndString side loose text → HasSomeEndString side end_strings text) →
-    AreEndStrings side once t → AreEndStringsOfIterations side end_strings t 0
-iterations_any side once any loose end_strings t all both none_fits keep a = λ s k i j le c. by s k i j c
+-- any number of iterations: none, or at least one
+pub iterations_any : (side : Side) (some end_strings : List EndString) (t : Tree) → HasSomeEndString side end_strings [] → ((text : List ℕ) → HasSomeEndString side some text → HasSomeEndString side end_strings text) →
+    HaveEndStrings side some (MatchesRepeat 1 t) → HaveEndStrings side end_strings (MatchesRepeat 0 t)
+iterations_any side some end_strings t none_fits keep a s i j h = by h.0 h.3
   where
-    by : (s : List ℕ) (k i j : ℕ) → Chain (MatchesSpan s t) k i j → HasSomeEndString side end_strings (slice_range s i j)
-    by s zero i j c = subst (HasSomeEndString side end_strings) (sym (part_empty s i) ∙ ap (slice_range s i) c) none_fits
-    by s (suc k) i j c =
-        keep (slice_range s i j) (iteration_more side once any loose t 0 both a (λ r l x y le d. all (slice_range r x y)) s (suc k) i j (omega arith) c)
-
-pub end_strings_repeated : (side : Side) (end_strings : List EndString) (t : Tree) (n least : ℕ) (m : Option ℕ) → n ≤ least → AreEndStringsOfIterations side end_strings t n → AreEndStrings side end_strings (rep t least m)
-end_strings_repeated side end_strings t n least m le r = λ s i j h. r s h.0 i j (omega (arith, h.1, le)) h.3
+    by : (k : ℕ) → Chain (MatchesSpan s t) k i j → HasSomeEndString side end_strings (slice_range s i j)
+    by zero c = subst (HasSomeEndString side end_strings) (sym (part_empty s i) ∙ ap (slice_range s i) c) none_fits
+    by (suc k) c = keep (slice_range s i j) (a s i j (suc k, omega arith, tt, c))
 
 -- a text that has an end string of a list has one of an equal list
 pub fits_via : (side : Side) (xs ys : List EndString) (text : List ℕ) → ys ≡ xs → HasSomeEndString side xs text → HasSomeEndString side ys text

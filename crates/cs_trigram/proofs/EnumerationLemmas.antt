@@ -35,6 +35,11 @@ strings_from strings i string lt is =
     let next : suc i ≡ i + 1 = omega arith in
     drop-cons strings i string lt ∙ ap (λ w. w ∷ drop (suc i) strings) (sym is) ∙ ap (λ n. string ∷ drop n strings) next
 
+pub string_at : (strings : List (List ℕ)) (i : ℕ) (string : List ℕ) → i < length strings → string ≡ get_or strings i string → is_among strings string ≡ true
+string_at [] i string lt is = absurd (omega arith)
+string_at (x ∷ strings) zero string lt is = first_member string x strings is
+string_at (x ∷ strings) (suc i) string lt is = later_member string x strings (string_at strings i string (omega arith) is)
+
 pub enumeration_same : (ws : List (List ℕ)) (P R : List ℕ → Type 0) → IsEnumeration ws P → ((v : List ℕ) → P v → R v) → ((v : List ℕ) → R v → P v) → IsEnumeration ws R
 enumeration_same ws P R s to from =
     record { right = λ v m. to v (s.right v m); different = s.different; whole = λ le v r. s.whole le v (from v r) }

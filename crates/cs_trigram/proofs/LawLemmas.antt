@@ -15,7 +15,7 @@ has-behind a n [] h = h
 has-behind a n (b ∷ []) h = h
 has-behind a n (b ∷ c ∷ rest) h = or_right (eqb (trigram a b c) n) (has (trigram_sequence (b ∷ c ∷ rest)) n) h
 
-has-before : (before bytes : List ℕ) (n : ℕ) → has (trigram_sequence bytes) n ≡ true → has (trigram_sequence (before ++ bytes)) n ≡ true
+pub has-before : (before bytes : List ℕ) (n : ℕ) → has (trigram_sequence bytes) n ≡ true → has (trigram_sequence (before ++ bytes)) n ≡ true
 has-before [] bytes n h = h
 has-before (a ∷ before) bytes n h = has-behind a n (before ++ bytes) (has-before before bytes n h)
 

@@ -14,6 +14,10 @@ mod LeadingRunLemmas
 mod SixgramCacheLemmas
 mod SeenTrigramLemmas
 mod MemberLemmas
+mod MentionLemmas
+mod MayMatchLemmas
+mod SequenceMentionLemmas
+mod EndStringOriginLemmas
 mod NodeListLemmas
 mod SubstringTrigramLemmas
 mod PositionLemmas
@@ -26,6 +30,7 @@ mod EnumerationLemmas
 mod ScanLemmas
 mod SortedSetLemmas
 mod TwoPassLemmas
+mod TruncationLemmas
 mod SplitTrigramLemmas
 mod ExactStringLemmas
 mod TrigramBitmapLemmas

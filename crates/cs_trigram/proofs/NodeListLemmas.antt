@@ -1,7 +1,7 @@
 -- Lists of nodes as trees.
 use Rattle.std.proofs.Common.{◌≡◌, ℕ, zero, suc, ◌+◌, ◌-◌, ◌<◌, ◌≤◌, ◌&&◌, false, List, [], ◌∷◌, ◌++◌, drop, take, length, get_or, refl, sym, ◌∙◌, ap, subst, arith, length-drop}
 use Rattle.cs_syntax.specs.TreeList.{append}
-use Rattle.std.specs.Prelude.{Option, Some, None, MatchOption, Result, Ok, Err, IfOk, OnOk}
+use Rattle.std.specs.Prelude.{Option, Some, None, MatchOption, Result, Ok, Err, IfOk, IfSome, OnOk}
 use Rattle.cs_syntax.specs.Matching.{Tree, Trees, none, more}
 use Rattle.cs_syntax.specs.Node.{tree_of}
 use Rattle.cs_syntax.specs.NodeList.{trees_of}
@@ -32,6 +32,9 @@ none_of (Some x) N S m other = absurd (other x refl)
 
 pub some_of : {A : Type 0} (o : Option A) (x : A) (N : Type 0) (S : A → Type 0) → MatchOption o N S → o ≡ Some x → S x
 some_of {A} o x N S m e = subst (λ (p : Option A). MatchOption p N S) e m
+
+pub if_some : {A : Type 0} (o : Option A) (x : A) (S : A → Type 0) → IfSome o S → o ≡ Some x → S x
+if_some {A} o x S m e = subst (λ (p : Option A). IfSome p S) e m
 
 trees_append : (xs ys : List Node) → trees_of (xs ++ ys) ≡ append (trees_of xs) (trees_of ys)
 trees_append [] ys = refl

@@ -1,19 +1,20 @@
--- Worked examples: what a query loses, and how selective it is.
+-- Worked examples: what a query loses, how selective it is, and what it may mention.
 use Rattle.std.proofs.Common.{◌≡◌, ℕ, zero, suc, inl, inr, Bool, true, false, List, [], ◌∷◌, ◌++◌, refl, sym, ap, subst, ◌∙◌, arith, codes, Some, None, replicate}
 use Rattle.std.specs.Prelude.{◌↔◌, ◌&&◌, encode_utf8, nat_le}
 use Rattle.std.specs.List.{list_all}
 use Rattle.std.proofs.lemmas.Bool.{true≢false, and_parts, or_cases, leb-true}
-use Rattle.cs_syntax.specs.Matching.{Tree, Trees, empty, one_of, one_char, cat, alt, rep, word_edge, none, more, member, HasMatch, MatchesSequence}
+use Rattle.cs_syntax.specs.Matching.{Tree, Trees, empty, one_of, one_char, cat, alt, rep, line_end, word_edge, none, more, member, HasMatch, MatchesSequence}
 use Rattle.cs_syntax.specs.Characters.{is_scalar, has_char}
 use Rattle.cs_tree.specs.Cover.{is_among}
 use Rattle.cs_trigram.proofs.MemberLemmas.{first_member, later_member, member_cases, only_member}
-use Rattle.cs_trigram.specs.Trigram.{tri}
+use Rattle.cs_trigram.specs.Trigram.{has, tri}
+use Rattle.cs_trigram.specs.MayMatch.{MayMatch, MayMatchSequence, HasMembers, MentionsTrigramsOf}
 use Rattle.cs_trigram.specs.Query.{HasTrigrams, LosesNoLine}
 use Rattle.cs_trigram.specs.ExactStrings.{is_finite, HasExactString, ConcatenatesExactStrings, HaveFewExactStrings}
 use Rattle.cs_trigram.specs.ExactQuery.{HasFewExactStrings, RequiresExactString}
 use Rattle.cs_trigram.specs.ExactRuns.{HasExactRuns, IsSelective}
 use Rattle.cs_trigram.specs.declared.queries.Query.TheVariants.{All, Tri}
-use Rattle.cs_trigram.proofs.QueryLemmas.{matches_set-All, matches_set-Tri}
+use Rattle.cs_trigram.proofs.QueryLemmas.{matches_set-All, matches_set-Tri, mentions-Tri}
 use Rattle.cs_trigram.proofs.LeadingRunLemmas.{concatenates_one, exact_of_one}
 use Rattle.cs_trigram.proofs.ExactRunLemmas.{match_has_exact_runs}
 
@@ -148,6 +149,69 @@ ab_is_found = (
 requiring_an_optional_letter_loses_a_line : LosesNoLine (Tri 6382179) optional → ⊥
 requiring_an_optional_letter_loses_a_line loses =
     true≢false (sym (loses (codes "ab") (λ n. false) ab_is_found refl) ∙ matches_set-Tri (λ n. false) 6382179)
+
+-- ---- `abc$d`: no line matches it, but its query may mention `abc` and `bcd`, as it may match `abcd`
+
+abbrev past_the_end : Trees
+past_the_end = more line_end (letters (codes "d"))
+
+abbrev past_a_line : Tree
+past_a_line = cat (more (one_of (only 97)) (more (one_of (only 98)) (more (one_of (only 99)) past_the_end)))
+
+no_line_goes_on : (line : List ℕ) (i j : ℕ) → MatchesSequence line past_the_end i j → ⊥
+no_line_goes_on line i j m = omega (arith, m.1.1, m.2.1.0)
+
+no_line_matches : (line : List ℕ) → HasMatch past_a_line line → ⊥
+no_line_matches line m = let abc : MatchesSequence line (more (one_of (only 97)) (more (one_of (only 98)) (more (one_of (only 99)) past_the_end))) m.0 m.1 = m.4 in no_line_goes_on line abc.2.2.0 m.1 abc.2.2.2
+
+abcd_may_match : MayMatch past_a_line (codes "abcd")
+abcd_may_match = (
+  codes "a",
+  codes "bcd",
+  (97, refl, refl),
+  (
+    codes "b",
+    codes "cd",
+    (98, refl, refl),
+    (
+      codes "c",
+      codes "d",
+      (99, refl, refl),
+      ([], codes "d", refl, (codes "d", [], (100, refl, refl), refl, refl), refl),
+      refl,
+    ),
+    refl,
+  ),
+  refl,
+)
+
+-- two iterations of `a?` may match
+aa_may_match : MayMatch (rep (one_of (only 97)) 0 (Some 1)) (codes "aa")
+aa_may_match = (2, omega arith, (codes "a", codes "a", (97, refl, refl), (codes "a", [], (97, refl, refl), refl, refl), refl))
+
+-- ---- `abc`: its query may not mention `zzz`
+
+letters_may_match_no_other : (text string : List ℕ) → MayMatchSequence (letters text) string → string ≡ text
+letters_may_match_no_other [] string j = j
+letters_may_match_no_other (b ∷ text) string j =
+    let letter = j.2 in
+    let first : j.0 ≡ b ∷ [] = letter.2 ∙ ap (λ n. n ∷ []) (has_no_other b letter.0 letter.1) in
+    let rest = letters_may_match_no_other text j.1 j.3 in
+    j.4 ∙ (λ i. first i ++ rest i)
+
+abc_has_no_other_trigram : MentionsTrigramsOf (Tri 8026746) (cat (letters (codes "abc"))) → ⊥
+abc_has_no_other_trigram only =
+    let zzz = only ((97, refl), ((98, refl), ((99, refl), tt))) 8026746 (mentions-Tri 8026746 8026746) in
+    let is = letters_may_match_no_other (codes "abc") zzz.0 zzz.1 in
+    true≢false (sym (subst (λ (text : List ℕ). has (tri text) 8026746 ≡ true) is zzz.2))
+
+-- a set without a member, and an alternation without a branch
+
+an_empty_set_has_no_member : HasMembers (one_of []) → ⊥
+an_empty_set_has_no_member h = true≢false (sym h.1)
+
+no_branch_has_no_member : HasMembers (alt none) → ⊥
+no_branch_has_no_member h = h
 
 -- ---- which trees are finite
 

@@ -1,15 +1,13 @@
--- The equations of `matches_set`, one for each variant.
+-- The equations of `matches_set` and of `mentions`, one for each variant.
 use Rattle.std.proofs.Common.{◌≡◌, ℕ, ◌+◌, ◌≤◌, ◌&&◌, ◌||◌, Bool, true, false, List, [], ◌∷◌, ◌++◌, drop, length, Vec, Global, refl, sym, ◌∙◌, ap, arith, length-drop}
-use Rattle.cs_trigram.specs.QueryNumbers.{numbers_step, are_trigrams}
-use Rattle.std.specs.Prelude.{nat_lt}
+use Rattle.std.specs.Prelude.{nat_eq}
 use Rattle.std.specs.List.{list_all}
 use Rattle.std.proofs.Math.Bool.{and-true, or-false, or-true, or_assoc}
-use Rattle.std.proofs.lemmas.Bool.{and_from}
 use Rattle.std.proofs.lemmas.List.Folds.{list_all-map, list_all-append, list_any-append}
 use Rattle.cs_tree.proofs.NameLemmas.{list_any-map}
 use Rattle.cs_trigram.specs.Trigram.{trigram_sequence, set_of_numbers}
-use Rattle.cs_trigram.specs.Query.{matches_set, matches_set_step}
-use Rattle.cs_trigram.specs.Analysis.{has_trigrams, all_match, some_matches, has_any}
+use Rattle.cs_trigram.specs.Query.{matches_set, matches_set_step, mentions, mentions_step}
+use Rattle.cs_trigram.specs.Analysis.{has_trigrams, all_match, some_matches, some_mentions, has_any}
 use Rattle.cs_trigram.specs.declared.queries.Query.{Query, Query-F, fold-roll-Query}
 use Rattle.cs_trigram.specs.declared.queries.Query.TheVariants.{All, Nothing, Tri, And, Or, rolls-All, rolls-Nothing, rolls-Tri, rolls-And, rolls-Or}
 
@@ -33,32 +31,31 @@ module _ (set : ℕ → Bool) where
       ap (λ q. matches_set q set) (sym (rolls-Or members)) ∙ fold-roll-Query Bool (matches_set_step set) (Query-F.Or members)
       ∙ list_any-map (λ q. matches_set q set) (λ b. b) members.items
 
-pub numbers-All : are_trigrams All ≡ true
-numbers-All = ap are_trigrams (sym rolls-All) ∙ fold-roll-Query Bool numbers_step Query-F.All
+module _ (g : ℕ) where
+  pub mentions-All : mentions All g ≡ false
+  mentions-All = ap (λ q. mentions q g) (sym rolls-All) ∙ fold-roll-Query Bool (mentions_step g) Query-F.All
 
-pub numbers-Tri : (n : ℕ) → are_trigrams (Tri n) ≡ nat_lt n 16777216
-numbers-Tri n = ap are_trigrams (sym (rolls-Tri n)) ∙ fold-roll-Query Bool numbers_step (Query-F.Tri n)
+  pub mentions-Tri : (n : ℕ) → mentions (Tri n) g ≡ nat_eq g n
+  mentions-Tri n = ap (λ q. mentions q g) (sym (rolls-Tri n)) ∙ fold-roll-Query Bool (mentions_step g) (Query-F.Tri n)
 
-pub numbers-And : (members : Vec Query Global) → are_trigrams (And members) ≡ list_all are_trigrams members.items
-numbers-And members =
-    ap are_trigrams (sym (rolls-And members)) ∙ fold-roll-Query Bool numbers_step (Query-F.And members)
-    ∙ list_all-map (λ b. b) are_trigrams members.items
+  pub mentions-And : (members : Vec Query Global) → mentions (And members) g ≡ some_mentions members.items g
+  mentions-And members =
+      ap (λ q. mentions q g) (sym (rolls-And members)) ∙ fold-roll-Query Bool (mentions_step g) (Query-F.And members)
+      ∙ list_any-map (λ q. mentions q g) (λ b. b) members.items
 
-pub numbers-Or : (members : Vec Query Global) → are_trigrams (Or members) ≡ list_all are_trigrams members.items
-numbers-Or members =
-    ap are_trigrams (sym (rolls-Or members)) ∙ fold-roll-Query Bool numbers_step (Query-F.Or members)
-    ∙ list_all-map (λ b. b) are_trigrams members.items
+  pub mentions-Or : (members : Vec Query Global) → mentions (Or members) g ≡ some_mentions members.items g
+  mentions-Or members =
+      ap (λ q. mentions q g) (sym (rolls-Or members)) ∙ fold-roll-Query Bool (mentions_step g) (Query-F.Or members)
+      ∙ list_any-map (λ q. mentions q g) (λ b. b) members.items
+
+  pub mentions_push : (queries : List Query) (q : Query) → some_mentions (queries ++ q ∷ []) g ≡ (some_mentions queries g || mentions q g)
+  mentions_push queries q =
+      list_any-append (λ x. mentions x g) queries (q ∷ []) ∙ ap (λ b. some_mentions queries g || b) (or-false (mentions q g))
 
 -- one more member
 pub all_match_push : (set : ℕ → Bool) (queries : List Query) (q : Query) → all_match (queries ++ q ∷ []) set ≡ (all_match queries set && matches_set q set)
 all_match_push set queries q =
     list_all-append (λ x. matches_set x set) queries (q ∷ []) ∙ ap (λ b. all_match queries set && b) (and-true (matches_set q set))
-
-pub numbers_push : (queries : List Query) (q : Query) → list_all are_trigrams (queries ++ q ∷ []) ≡ (list_all are_trigrams queries && are_trigrams q)
-numbers_push queries q = list_all-append are_trigrams queries (q ∷ []) ∙ ap (λ b. list_all are_trigrams queries && b) (and-true (are_trigrams q))
-
-pub numbers_more : (queries : List Query) (q : Query) → list_all are_trigrams queries ≡ true → are_trigrams q ≡ true → list_all are_trigrams (queries ++ q ∷ []) ≡ true
-numbers_more queries q a b = numbers_push queries q ∙ and_from (list_all are_trigrams queries) (are_trigrams q) a b
 
 pub some_matches_push : (set : ℕ → Bool) (queries : List Query) (q : Query) → some_matches (queries ++ q ∷ []) set ≡ (some_matches queries set || matches_set q set)
 some_matches_push set queries q =

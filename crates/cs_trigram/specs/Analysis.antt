@@ -1,13 +1,14 @@
 -- The query analysis: enumerations of exact strings up to twenty-one, and correct queries.
-use Rattle.std.specs.Prelude.{ℕ, ◌≡◌, ◌≤◌, ◌<◌, ◌↔◌, ◌&&◌, ◌++◌, ◌∷◌, [], Bool, true, not, List, length, map, nat_le, nat_lt, if◌then◌else◌, Option, IsTrue}
-use Rattle.cs_trigram.specs.QueryNumbers.{are_trigrams}
+use Rattle.std.specs.Prelude.{ℕ, ◌≡◌, ◌≤◌, ◌<◌, ◌↔◌, ◌&&◌, ◌||◌, ◌++◌, ◌∷◌, [], Bool, true, not, List, length, map, nat_le, nat_lt, if◌then◌else◌, Option, IsTrue}
+use Rattle.cs_trigram.specs.TrigramSets.{trigram_count}
+use Rattle.cs_trigram.specs.MayMatch.{MayMatch, MayMatchBranch, HasMembers, HaveMembers, IsTrigramOf}
 use Rattle.cs_syntax.specs.TreeList.{append}
 use Rattle.std.specs.List.{list_any, list_all}
 use Rattle.cs_tree.specs.Cover.{is_among}
 use Rattle.cs_tree.specs.Folders.{are_distinct}
 use Rattle.cs_syntax.specs.Matching.{Tree, Trees, none, more, cat, alt, rep, member, MatchesSpan, MatchesSequence, MatchesBranch}
 use Rattle.cs_trigram.specs.Trigram.{tri}
-use Rattle.cs_trigram.specs.Query.{matches_set, HasTrigrams}
+use Rattle.cs_trigram.specs.Query.{matches_set, mentions, HasTrigrams}
 use Rattle.cs_trigram.specs.ExactRuns.{HasRunsWithin, SomeHasExactRuns, IsSelective}
 use Rattle.cs_trigram.specs.ExactStrings.{HasExactString, ConcatenatesExactStrings, SomeHasExactString, HaveFewExactStrings, is_finite, are_finite}
 use Rattle.cs_trigram.specs.ExactQuery.{HasFewExactStrings}
@@ -74,24 +75,36 @@ some_matches queries set = list_any (λ q. matches_set q set) queries
 abbrev pub RequiresToo : List Query → List Query → ((ℕ → Bool) → Bool) → Type 0
 RequiresToo old queries test = (set : ℕ → Bool) → all_match queries set ≡ (all_match old set && test set)
 
--- all numbers in the new queries are trigrams exactly if all those in the old ones are and the condition holds
-abbrev pub AreTrigramsToo : List Query → List Query → Bool → Type 0
-AreTrigramsToo old queries small = list_all are_trigrams queries ≡ (list_all are_trigrams old && small)
+-- whether the trigram occurs in one of the queries
+abbrev pub some_mentions : List Query → ℕ → Bool
+some_mentions queries g = list_any (λ q. mentions q g) queries
 
--- the query loses no line, is at least as selective as the exact runs of the tree, and its numbers are
--- trigrams
+-- the new queries mention what the old ones mention and the numbers that pass the test, and nothing else
+abbrev pub MentionToo : List Query → List Query → (ℕ → Bool) → Type 0
+MentionToo old queries test = (g : ℕ) → some_mentions queries g ≡ (some_mentions old g || test g)
+
+-- each number that passes the test is a trigram and, if A holds, one of a text with the property
+abbrev pub AreTrigramsOf : (ℕ → Bool) → Type 0 → (List ℕ → Type 0) → Type 0
+AreTrigramsOf test A P = (g : ℕ) → test g ≡ true → (g < trigram_count) × (A → IsTrigramOf P g)
+
+-- the query mentions only trigrams of texts with the property
+abbrev pub MentionsOnly : Query → (List ℕ → Type 0) → Type 0
+MentionsOnly query P = AreTrigramsOf (mentions query) (Unit {0}) P
+
+-- the query loses no line, is at least as selective as the exact runs of the tree, and mentions only trigrams of
+-- texts that the tree may match
 pub record IsCorrect (query : Query) (t : Tree) : Type 0 where
   pub matching : (s : List ℕ) (set : ℕ → Bool) (i j : ℕ) → MatchesSpan s t i j → HasTrigrams set s →
       matches_set query set ≡ true
   pub selective : IsSelective query t
-  pub numbers : are_trigrams query ≡ true
+  pub mentioned : AreTrigramsOf (mentions query) (HasMembers t) (MayMatch t)
 
 -- the same for the disjunction of the queries and the alternation of the trees
 pub record AreCorrect (queries : List Query) (ts : Trees) : Type 0 where
   pub matching : (s : List ℕ) (set : ℕ → Bool) (i j : ℕ) → MatchesBranch s ts i j → HasTrigrams set s →
       some_matches queries set ≡ true
   pub selective : (set : ℕ → Bool) → some_matches queries set ≡ true → SomeHasExactRuns set ts
-  pub numbers : list_all are_trigrams queries ≡ true
+  pub mentioned : AreTrigramsOf (some_mentions queries) (HaveMembers ts) (MayMatchBranch ts)
 
 -- the query is correct for the tree, unless the exact strings of the tree are few
 abbrev pub IsMatchQuery : Query → Tree → Type 0

@@ -1,9 +1,11 @@
 -- Prefixes and suffixes of matches. An end string is a prefix or a suffix, depending on the side.
 -- Cox, "Regular Expression Matching with a Trigram Index".
-use Rattle.std.specs.Prelude.{ℕ, ◌≡◌, ◌-◌, ◌⊎◌, ◌++◌, ◌∷◌, [], Bool, true, List, length, take, drop, nat_eq, slice_range, Option}
+use Rattle.std.specs.Prelude.{ℕ, ◌≡◌, ◌-◌, ◌<◌, ◌⊎◌, ◌++◌, ◌∷◌, [], Bool, true, false, List, Contains, length, take, drop, nat_eq, slice_range, Option}
 use Rattle.std.specs.List.{list_all}
 use Rattle.cs_syntax.specs.Matching.{Tree, Trees, rep, MatchesSpan, MatchesSequence, MatchesBranch}
+use Rattle.cs_trigram.specs.MayMatch.{MayMatch, MayMatchSequence, MayMatchBranch, HasMembers, HaveMembers}
 use Rattle.cs_trigram.specs.ShortString.{bytes_of}
+use Rattle.cs_trigram.specs.declared.short_string.ShortString.TheVariants.{Empty}
 use Rattle.cs_trigram.specs.declared.end_strings.Side.{Side}
 use Rattle.cs_trigram.specs.declared.end_strings.Side.TheVariants.{Prefix, Suffix}
 use Rattle.cs_trigram.specs.declared.end_strings.EndString.{EndString}
@@ -55,17 +57,66 @@ AreEndStringsOfTwo side nears fars end_strings =
     (u v : List ℕ) → HasSomeEndString side nears u → HasSomeEndString side fars v →
     HasSomeEndString side end_strings (concatenation side u v)
 
--- each match of the tree has one of the end strings
+-- each of these end strings subsumes one of the others
+abbrev pub EachSubsumes : Side → List EndString → List EndString → Type 0
+EachSubsumes side end_strings others =
+    (x : EndString) → Contains end_strings x → (y : EndString) × Contains others y × Subsumes side x y
+
+-- the end strings are the others, truncated
+pub record AreCoarser (side : Side) (end_strings others : List EndString) : Type 0 where
+  pub all : SubsumeAll side end_strings others
+  pub each : EachSubsumes side end_strings others
+
+-- each new end string is an old one or has the property
+abbrev pub AddsOnly : List EndString → List EndString → (EndString → Type 0) → Type 0
+AddsOnly old end_strings P = (x : EndString) → Contains end_strings x → Contains old x ⊎ P x
+
+-- The end string is that of a near text with the first one, whatever the far text is, or if the far text has one of
+-- the others.
+abbrev pub IsConcatenation : Side → EndString → List EndString → EndString → Type 0
+IsConcatenation side near fars end_string =
+    ((u v : List ℕ) → HasEndString side near u → HasEndString side end_string (concatenation side u v))
+    ⊎ ((far : EndString) × Contains fars far × IsEndStringOfTwo side near far end_string)
+
+-- the end strings are those of a near text with one of the first and a far text with one of the others
+pub record AreConcatenations (side : Side) (nears fars end_strings : List EndString) : Type 0 where
+  pub all : AreEndStringsOfTwo side nears fars end_strings
+  pub each : (x : EndString) → Contains end_strings x →
+      (near : EndString) × Contains nears near × IsConcatenation side near fars x
+
+-- the end string of every text, and that of the empty text
+abbrev pub any_end : EndString
+any_end = record { string = Empty; whole = false }
+
+abbrev pub empty_end : EndString
+empty_end = record { string = Empty; whole = true }
+
+-- A text with the property begins or ends with the near text, and is equal to it if it has less than three bytes.
+abbrev pub Reaches : Side → (List ℕ → Type 0) → List ℕ → Type 0
+Reaches side P near = (rest : List ℕ) × P (concatenation side near rest) × (length near < 3 → rest ≡ [])
+
+-- the end string is one of a near text of a text with the property
+abbrev pub IsEndStringOf : Side → (List ℕ → Type 0) → EndString → Type 0
+IsEndStringOf side P end_string = (near : List ℕ) × Reaches side P near × HasEndString side end_string near
+
+-- Each match has one of the end strings. If A holds, each end string is one of a text with the property.
+pub record AreEndStringsOf (side : Side) (end_strings : List EndString) (Matches : List ℕ → ℕ → ℕ → Type 0)
+    (A : Type 0) (P : List ℕ → Type 0) : Type 0 where
+  pub matching : (s : List ℕ) (i j : ℕ) → Matches s i j → HasSomeEndString side end_strings (slice_range s i j)
+  pub each : A → (x : EndString) → Contains end_strings x → IsEndStringOf side P x
+
+-- the end strings are those of the tree, of the sequence and of the alternation
 abbrev pub AreEndStrings : Side → List EndString → Tree → Type 0
-AreEndStrings side end_strings t = (s : List ℕ) (i j : ℕ) → MatchesSpan s t i j → HasSomeEndString side end_strings (slice_range s i j)
+AreEndStrings side end_strings t =
+    AreEndStringsOf side end_strings (λ s. MatchesSpan s t) (HasMembers t) (MayMatch t)
 
 abbrev pub AreEndStringsOfAll : Side → List EndString → Trees → Type 0
 AreEndStringsOfAll side end_strings ts =
-    (s : List ℕ) (i j : ℕ) → MatchesSequence s ts i j → HasSomeEndString side end_strings (slice_range s i j)
+    AreEndStringsOf side end_strings (λ s. MatchesSequence s ts) (HaveMembers ts) (MayMatchSequence ts)
 
 abbrev pub AreEndStringsOfSome : Side → List EndString → Trees → Type 0
 AreEndStringsOfSome side end_strings ts =
-    (s : List ℕ) (i j : ℕ) → MatchesBranch s ts i j → HasSomeEndString side end_strings (slice_range s i j)
+    AreEndStringsOf side end_strings (λ s. MatchesBranch s ts) (HaveMembers ts) (MayMatchBranch ts)
 
 -- the same for at least `least` iterations of the tree
 abbrev pub AreEndStringsOfRepeat : Side → List EndString → Tree → ℕ → Type 0

@@ -1,6 +1,6 @@
--- When a query matches a set of trigrams, and when it loses no line.
+-- When a query matches a set of trigrams, which trigrams it mentions, and when it loses no line.
 -- docs/PATTERNS.md, "Queries"; Cox, "Regular Expression Matching with a Trigram Index".
-use Rattle.std.specs.Prelude.{ℕ, Bool, true, false, List, IsTrue}
+use Rattle.std.specs.Prelude.{ℕ, Bool, true, false, List, IsTrue, nat_eq}
 use Rattle.cs_syntax.specs.Matching.{Tree, HasMatch}
 use Rattle.cs_trigram.specs.Trigram.{tri}
 use Rattle.std.specs.List.{list_all, list_any}
@@ -19,6 +19,18 @@ matches_set_step set (Query-F.Or members) = list_any (λ matched. matched) membe
 -- whether the query matches the set, given as a test of trigrams
 abbrev pub matches_set : Query → (ℕ → Bool) → Bool
 matches_set query set = fold-Query Bool (matches_set_step set) query
+
+-- one level of the query: whether the trigram occurs in it
+abbrev pub mentions_step : ℕ → Query-F Bool → Bool
+mentions_step g Query-F.All = false
+mentions_step g Query-F.Nothing = false
+mentions_step g (Query-F.Tri number) = nat_eq g number
+mentions_step g (Query-F.And members) = list_any (λ is_mentioned. is_mentioned) members.items
+mentions_step g (Query-F.Or members) = list_any (λ is_mentioned. is_mentioned) members.items
+
+-- whether the trigram occurs in the query
+abbrev pub mentions : Query → ℕ → Bool
+mentions query g = fold-Query Bool (mentions_step g) query
 
 -- the set has all trigrams of the text
 abbrev pub HasTrigrams : (ℕ → Bool) → List ℕ → Type 0

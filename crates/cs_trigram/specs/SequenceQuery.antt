@@ -1,12 +1,12 @@
 -- The query of a sequence.
-use Rattle.std.specs.Prelude.{ℕ, ◌≡◌, ◌+◌, ◌&&◌, ◌||◌, ◌++◌, Bool, true, List, length, nat_lt}
-use Rattle.cs_trigram.specs.QueryNumbers.{are_trigrams}
+use Rattle.std.specs.Prelude.{Contains, ℕ, ◌≡◌, ◌+◌, ◌&&◌, ◌||◌, ◌++◌, Bool, true, List, length, nat_lt}
 use Rattle.std.specs.List.{list_all}
 use Rattle.cs_syntax.specs.Matching.{Tree, Trees, more}
 use Rattle.cs_trigram.specs.Query.{matches_set, HasTrigrams}
+use Rattle.cs_trigram.specs.MayMatch.{MayMatchSequence, HaveMembers}
 use Rattle.cs_trigram.specs.EndStrings.{are_all_empty, HasSomeEndString}
 use Rattle.cs_trigram.specs.ShortString.{bytes_of}
-use Rattle.cs_trigram.specs.Analysis.{IsQueryBeyondRun, all_match, some_matches}
+use Rattle.cs_trigram.specs.Analysis.{IsQueryBeyondRun, AreTrigramsOf, all_match, some_matches, some_mentions}
 use Rattle.cs_trigram.specs.declared.queries.Query.{Query}
 use Rattle.cs_trigram.specs.declared.end_strings.EndString.{EndString}
 use Rattle.cs_trigram.specs.declared.end_strings.Side.TheVariants.{Prefix, Suffix}
@@ -15,7 +15,7 @@ use Rattle.cs_trigram.specs.declared.sequence_query.SequenceQuery.{SequenceQuery
 abbrev pub IsSequenceQueryOf : SequenceQuery → Trees → Type 0
 IsSequenceQueryOf sequence_query ts =
     IsQueryBeyondRun sequence_query.leading.items (λ set. all_match sequence_query.conjuncts.items set) ts
-    × (list_all are_trigrams sequence_query.conjuncts.items ≡ true)
+    × AreTrigramsOf (some_mentions sequence_query.conjuncts.items) (HaveMembers ts) (MayMatchSequence ts)
 
 -- the strings of the run have at least two bytes after the first part, which has this suffix
 abbrev pub goes_two_past : List (List ℕ) → EndString → Bool
@@ -41,6 +41,17 @@ abbrev pub SomeMatchesAcross : List Query → List EndString → List EndString 
 SomeMatchesAcross queries suffixes prefixes =
     (set : ℕ → Bool) (u v : List ℕ) → HasSomeEndString Suffix suffixes u → HasSomeEndString Prefix prefixes v →
     HasTrigrams set (u ++ v) → some_matches queries set ≡ true
+
+-- the text is one of the suffixes followed by one of the prefixes
+abbrev pub IsAcross : List EndString → List EndString → List ℕ → Type 0
+IsAcross suffixes prefixes text =
+    (suffix prefix : EndString) × Contains suffixes suffix × Contains prefixes prefix
+    × (text ≡ bytes_of suffix.string ++ bytes_of prefix.string)
+
+-- the queries mention only trigrams of such texts
+abbrev pub MentionOnlyAcross : List Query → List EndString → List EndString → Type 0
+MentionOnlyAcross queries suffixes prefixes =
+    AreTrigramsOf (some_mentions queries) (Unit {0}) (IsAcross suffixes prefixes)
 
 -- the new query is that of the sequence with one more part at the start
 abbrev pub ExtendsSequenceQuery : SequenceQuery → SequenceQuery → Tree → Trees → Type 0

@@ -1,13 +1,14 @@
 // The query of a pattern, computed bottom-up in one pass over its tree (`analyze` in Go's
 // codesearch; Cox, "Regular Expression Matching with a Trigram Index").
-ghost use Rattle.std.specs.Prelude.{IfOk, IsTrue};
-ghost use Rattle.cs_trigram.specs.QueryNumbers.{are_trigrams};
+ghost use Rattle.std.specs.Prelude.{◌≡◌, ◌<◌, ℕ, true, IfOk};
+ghost use Rattle.cs_trigram.specs.TrigramSets.{trigram_count};
 ghost use Rattle.cs_syntax.specs.Matching.{cat, alt};
 ghost use Rattle.cs_syntax.specs.Node.{tree_of};
 ghost use Rattle.cs_syntax.specs.NodeList.{trees_of};
-ghost use Rattle.cs_trigram.specs.Query.{LosesNoLine};
+ghost use Rattle.cs_trigram.specs.Query.{LosesNoLine, mentions};
 ghost use Rattle.cs_trigram.specs.ExactQuery.{HasFewExactStrings, RequiresExactString};
 ghost use Rattle.cs_trigram.specs.ExactRuns.{IsSelective};
+ghost use Rattle.cs_trigram.specs.MayMatch.{MentionsTrigramsOf};
 ghost use Rattle.cs_trigram.specs.RegexpInfo.{IsInfoOf};
 
 use crate::alternation::AlternationInfo;
@@ -27,6 +28,9 @@ use std::alloc::{AllocError, Global};
 /// `def`. If the whole pattern has one to twenty exact strings, the query requires the trigrams of
 /// one of them, and nothing else.
 ///
+/// The query mentions only trigrams of texts that the pattern may match, if each set in it has a
+/// member and each alternation a branch.
+///
 /// # Errors
 ///
 /// `AllocError` if an allocation fails.
@@ -34,7 +38,8 @@ pub fn query(alloc: Global, pattern: &Pattern) -> Result<Query, AllocError>
     ensures sound { IfOk result (λ query. LosesNoLine query pattern.now) }
     ensures selective { IfOk result (λ query. IsSelective query pattern.now) }
     ensures exact { IfOk result (λ query. HasFewExactStrings pattern.now → RequiresExactString query pattern.now) }
-    ensures numbers { IfOk result (λ query. IsTrue (are_trigrams query)) }
+    ensures mentioned { IfOk result (λ query. MentionsTrigramsOf query pattern.now) }
+    ensures numbers { IfOk result (λ query. (g : ℕ) → mentions query g ≡ true → g < trigram_count) }
 {
     let RegexpInfo {
         exact,

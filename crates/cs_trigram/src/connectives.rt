@@ -1,13 +1,12 @@
 // Conjunctions and disjunctions of queries, and queries for strings (`and`, `or` and `andTrigrams`
 // in Go's codesearch).
 ghost use Rattle.std.specs.Prelude.{◌≡◌, ◌<◌, ℕ, Bool, true, Contains, IsTrue, IfOk, OnOk};
-ghost use Rattle.cs_trigram.specs.QueryNumbers.{are_trigrams};
-ghost use Rattle.std.specs.List.{list_all};
 ghost use Rattle.cs_trigram.specs.Trigram.{trigram};
 ghost use Rattle.cs_trigram.specs.TrigramSets.{trigram_count};
-ghost use Rattle.cs_trigram.specs.Query.{matches_set};
+ghost use Rattle.cs_tree.specs.Cover.{is_among};
+ghost use Rattle.cs_trigram.specs.Query.{matches_set, mentions};
 ghost use Rattle.cs_trigram.specs.declared.queries.Query.TheVariants.{Tri};
-ghost use Rattle.cs_trigram.specs.Analysis.{all_match, some_matches, RequiresToo, AreTrigramsToo, RequiresText, RequiresSomeString};
+ghost use Rattle.cs_trigram.specs.Analysis.{all_match, some_matches, some_mentions, RequiresToo, MentionToo, MentionsOnly, RequiresText, RequiresSomeString};
 
 use crate::exact_string::ExactString;
 use crate::queries::Query;
@@ -46,8 +45,7 @@ fn has_trigram(members: &[Query], number: u32) -> bool
 /// Adds a trigram to a conjunction, unless one of its last members is this trigram.
 fn add_trigram(members: &mut Vec<Query>, number: u32) -> Result<(), AllocError>
     ensures required { OnOk result (RequiresToo members.old.items members.new.items (matches_set (Tri number))) }
-    ensures numbers { OnOk result (
-        AreTrigramsToo members.old.items members.new.items (are_trigrams (Tri number))) }
+    ensures mentioned { OnOk result (MentionToo members.old.items members.new.items (mentions (Tri number))) }
 {
     if has_trigram(members, number) {
         return Ok(());
@@ -59,8 +57,7 @@ fn add_trigram(members: &mut Vec<Query>, number: u32) -> Result<(), AllocError>
 /// Adds a query to a conjunction, without a duplicate of a recent trigram.
 pub(crate) fn add_query(members: &mut Vec<Query>, query: Query) -> Result<(), AllocError>
     ensures required { OnOk result (RequiresToo members.old.items members.new.items (matches_set query)) }
-    ensures numbers { OnOk result (
-        AreTrigramsToo members.old.items members.new.items (are_trigrams query)) }
+    ensures mentioned { OnOk result (MentionToo members.old.items members.new.items (mentions query)) }
 {
     match query {
         Query::Tri(number) => add_trigram(members, number),
@@ -74,8 +71,8 @@ pub(crate) fn add_query(members: &mut Vec<Query>, query: Query) -> Result<(), Al
 /// Adds each query to a conjunction.
 fn add_each(conjuncts: &mut Vec<Query>, queries: Vec<Query>) -> Result<(), AllocError>
     ensures required { OnOk result (RequiresToo conjuncts.old.items conjuncts.new.items (all_match queries.items)) }
-    ensures numbers { OnOk result (
-        AreTrigramsToo conjuncts.old.items conjuncts.new.items (list_all are_trigrams queries.items)) }
+    ensures mentioned { OnOk result (
+        MentionToo conjuncts.old.items conjuncts.new.items (some_mentions queries.items)) }
 {
     for query in queries {
         add_query(conjuncts, query)?;
@@ -86,8 +83,8 @@ fn add_each(conjuncts: &mut Vec<Query>, queries: Vec<Query>) -> Result<(), Alloc
 /// Adds each query to a conjunction. The shorter list is moved into the longer one.
 fn add_members(conjuncts: &mut Vec<Query>, queries: Vec<Query>) -> Result<(), AllocError>
     ensures required { OnOk result (RequiresToo conjuncts.old.items conjuncts.new.items (all_match queries.items)) }
-    ensures numbers { OnOk result (
-        AreTrigramsToo conjuncts.old.items conjuncts.new.items (list_all are_trigrams queries.items)) }
+    ensures mentioned { OnOk result (
+        MentionToo conjuncts.old.items conjuncts.new.items (some_mentions queries.items)) }
 {
     if queries.len() <= conjuncts.len() {
         return add_each(conjuncts, queries);
@@ -99,8 +96,7 @@ fn add_members(conjuncts: &mut Vec<Query>, queries: Vec<Query>) -> Result<(), Al
 /// Adds a query to a conjunction. A conjunction is flattened, and `All` adds nothing.
 pub(crate) fn add_conjunct(conjuncts: &mut Vec<Query>, query: Query) -> Result<(), AllocError>
     ensures required { OnOk result (RequiresToo conjuncts.old.items conjuncts.new.items (matches_set query)) }
-    ensures numbers { OnOk result (
-        AreTrigramsToo conjuncts.old.items conjuncts.new.items (are_trigrams query)) }
+    ensures mentioned { OnOk result (MentionToo conjuncts.old.items conjuncts.new.items (mentions query)) }
 {
     match query {
         Query::All => Ok(()),
@@ -126,8 +122,7 @@ fn is_at(members: &[Query], index: usize, number: u32) -> bool
 /// of the trigram after it.
 fn add_next(members: &mut Vec<Query>, number: u32, next: usize) -> Result<usize, AllocError>
     ensures required { OnOk result (RequiresToo members.old.items members.new.items (matches_set (Tri number))) }
-    ensures numbers { OnOk result (
-        AreTrigramsToo members.old.items members.new.items (are_trigrams (Tri number))) }
+    ensures mentioned { OnOk result (MentionToo members.old.items members.new.items (mentions (Tri number))) }
 {
     if is_at(members, next, number) {
         return Ok(next.saturating_add(1));
@@ -142,7 +137,7 @@ fn add_next(members: &mut Vec<Query>, number: u32, next: usize) -> Result<usize,
 /// The conjunction of the trigrams of a text.
 pub(crate) fn all_trigrams(alloc: Global, text: &[u8]) -> Result<Query, AllocError>
     ensures required { IfOk result (λ query. RequiresText query text.now) }
-    ensures numbers { IfOk result (λ query. are_trigrams query ≡ true) }
+    ensures mentioned { IfOk result (λ query. MentionsOnly query (λ part. part ≡ text.now)) }
 {
     if let [a, b, c] = text {
         return Ok(Query::Tri(trigram(*a, *b, *c)));
@@ -161,7 +156,7 @@ pub(crate) fn all_trigrams(alloc: Global, text: &[u8]) -> Result<Query, AllocErr
 /// The disjunction of the queries. A single one is not wrapped.
 pub(crate) fn any_of(mut members: Vec<Query>) -> Query
     ensures required { (set : ℕ → Bool) → matches_set result set ≡ some_matches members.items set }
-    ensures numbers { are_trigrams result ≡ list_all are_trigrams members.items }
+    ensures mentioned { (g : ℕ) → mentions result g ≡ some_mentions members.items g }
 {
     if members.len() == 1
         && let Some(only) = members.pop()
@@ -175,7 +170,8 @@ pub(crate) fn any_of(mut members: Vec<Query>) -> Query
 /// has no trigram.
 pub(crate) fn any_string(alloc: Global, strings: &[ExactString]) -> Result<Query, AllocError>
     ensures required { IfOk result (λ query. RequiresSomeString query strings.now) }
-    ensures numbers { IfOk result (λ query. are_trigrams query ≡ true) }
+    ensures mentioned { IfOk result (λ query.
+        MentionsOnly query (λ string. IsTrue (is_among strings.now string))) }
 {
     let mut members = Vec::with_capacity(alloc, strings.len())?;
     for string in strings {

@@ -1,11 +1,9 @@
 // Trigrams across two neighbouring parts, from the cross product of the suffixes of the first and
 // the prefixes of the second (`concat` in Go's codesearch).
-ghost use Rattle.std.specs.Prelude.{◌≡◌, ◌++◌, ℕ, Bool, List, true, IfOk, OnOk};
-ghost use Rattle.std.specs.List.{list_all};
-ghost use Rattle.cs_trigram.specs.QueryNumbers.{are_trigrams};
+ghost use Rattle.std.specs.Prelude.{◌≡◌, ◌++◌, Contains, ℕ, Bool, List, true, IfOk, OnOk};
 ghost use Rattle.cs_trigram.specs.Query.{HasTrigrams};
-ghost use Rattle.cs_trigram.specs.SequenceQuery.{MatchesAcross, SomeMatchesAcross};
-ghost use Rattle.cs_trigram.specs.Analysis.{some_matches, RequiresText};
+ghost use Rattle.cs_trigram.specs.SequenceQuery.{MatchesAcross, SomeMatchesAcross, IsAcross, MentionOnlyAcross};
+ghost use Rattle.cs_trigram.specs.Analysis.{some_matches, MentionsOnly, RequiresText};
 ghost use Rattle.cs_trigram.specs.ShortString.{bytes_of};
 ghost use Rattle.cs_trigram.specs.EndStrings.{HasEndString, HasSomeEndString};
 ghost use Rattle.cs_trigram.specs.declared.end_strings.Side.TheVariants.{Prefix, Suffix};
@@ -26,7 +24,8 @@ const MAX_CONCATENATIONS: usize = 256;
 fn pair_query(alloc: Global, suffix: ShortString, prefix: ShortString) -> Result<Query, AllocError>
     ensures required { IfOk result (λ query.
         RequiresText query (bytes_of suffix ++ bytes_of prefix)) }
-    ensures numbers { IfOk result (λ query. are_trigrams query ≡ true) }
+    ensures mentioned { IfOk result (λ query.
+        MentionsOnly query (λ text. text ≡ bytes_of suffix ++ bytes_of prefix)) }
 {
     if let Some(ShortString::Three(a, b, c)) = suffix.before(prefix) {
         return Ok(Query::Tri(trigram(a, b, c)));
@@ -46,8 +45,9 @@ fn add_pair_queries(
     ensures adds { OnOk result ((set : ℕ → Bool) (u v : List ℕ) → HasEndString Suffix suffix.now u →
         HasSomeEndString Prefix prefixes.now v → HasTrigrams set (u ++ v) →
         some_matches members.new.items set ≡ true) }
-    ensures numbers { OnOk result (list_all are_trigrams members.old.items ≡ true →
-        list_all are_trigrams members.new.items ≡ true) }
+    ensures mentioned { OnOk result ((suffixes : List EndString) → Contains suffixes suffix.now →
+        MentionOnlyAcross members.old.items suffixes prefixes.now →
+        MentionOnlyAcross members.new.items suffixes prefixes.now) }
 {
     for prefix in prefixes {
         members.push(pair_query(alloc, suffix.string, prefix.string)?)?;
@@ -63,7 +63,8 @@ fn pair_queries(
 ) -> Result<Vec<Query>, AllocError>
     ensures required { IfOk result (λ members.
         SomeMatchesAcross members.items suffixes.now prefixes.now) }
-    ensures numbers { IfOk result (λ members. list_all are_trigrams members.items ≡ true) }
+    ensures mentioned { IfOk result (λ members.
+        MentionOnlyAcross members.items suffixes.now prefixes.now) }
 {
     let mut members = Vec::with_capacity(alloc, count_concatenations(suffixes, prefixes))?;
     for suffix in suffixes {
@@ -98,7 +99,7 @@ fn product_query(
     prefixes: &[EndString],
 ) -> Result<Query, AllocError>
     ensures required { IfOk result (λ query. MatchesAcross query suffixes.now prefixes.now) }
-    ensures numbers { IfOk result (λ query. are_trigrams query ≡ true) }
+    ensures mentioned { IfOk result (λ query. MentionsOnly query (IsAcross suffixes.now prefixes.now)) }
 {
     if have_short_concatenation(suffixes, prefixes)
         || count_concatenations(suffixes, prefixes) > MAX_CONCATENATIONS
@@ -116,7 +117,7 @@ fn split_product_query(
     prefixes: &[EndString],
 ) -> Result<Query, AllocError>
     ensures required { IfOk result (λ query. MatchesAcross query suffixes.now prefixes.now) }
-    ensures numbers { IfOk result (λ query. are_trigrams query ≡ true) }
+    ensures mentioned { IfOk result (λ query. MentionsOnly query (IsAcross suffixes.now prefixes.now)) }
 {
     let last = truncated_end_strings(alloc, Side::Suffix, suffixes, 1)?;
     let first = truncated_end_strings(alloc, Side::Prefix, prefixes, 1)?;
@@ -133,7 +134,7 @@ pub(crate) fn cross_product_query(
     prefixes: &[EndString],
 ) -> Result<Query, AllocError>
     ensures required { IfOk result (λ query. MatchesAcross query suffixes.now prefixes.now) }
-    ensures numbers { IfOk result (λ query. are_trigrams query ≡ true) }
+    ensures mentioned { IfOk result (λ query. MentionsOnly query (IsAcross suffixes.now prefixes.now)) }
 {
     let suffixes = truncated_end_strings(alloc, Side::Suffix, suffixes, 2)?;
     let prefixes = truncated_end_strings(alloc, Side::Prefix, prefixes, 2)?;

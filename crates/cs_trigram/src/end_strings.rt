@@ -2,10 +2,10 @@
 // truncation (`cross`, `union` and `simplifySet` in Go's codesearch). An end string is a prefix or
 // a suffix, depending on the side. Of two adjacent strings, the *near* one is at that side of both:
 // the first one for prefixes, the last one for suffixes.
-ghost use Rattle.std.specs.Prelude.{not, ◌≡◌, ◌<◌, ◌≤◌, ◌⊎◌, [], ◌∷◌, ℕ, true, List, length, IfOk, IfSome, OnOk, IsTrue};
+ghost use Rattle.std.specs.Prelude.{not, ◌≡◌, ◌<◌, ◌≤◌, ◌⊎◌, ◌++◌, [], ◌∷◌, ℕ, true, List, Contains, length, IfOk, IfSome, OnOk, IsTrue};
 ghost use Rattle.std.specs.List.{list_all};
 ghost use Rattle.cs_tree.specs.Cover.{is_among};
-ghost use Rattle.cs_trigram.specs.EndStrings.{concatenation, near_part, are_all_empty, HasEndString, HasSomeEndString, Subsumes, SomeSubsumes, SubsumeAll, IsEndStringOfTwo, AreEndStringsOfTwo};
+ghost use Rattle.cs_trigram.specs.EndStrings.{concatenation, near_part, are_all_empty, HasEndString, HasSomeEndString, Subsumes, SomeSubsumes, SubsumeAll, EachSubsumes, AreCoarser, AddsOnly, IsConcatenation, AreConcatenations, IsEndStringOfTwo, any_end, empty_end};
 ghost use Rattle.cs_trigram.specs.Truncations.{AreTruncationsOf};
 ghost use Rattle.cs_trigram.specs.ShortString.{bytes_of};
 
@@ -108,8 +108,9 @@ fn has_subsuming(end_strings: &[EndString], end_string: EndString) -> bool
 
 /// Adds an end string, unless one subsumes it.
 fn add_end_string(end_strings: &mut Vec<EndString>, end_string: EndString) -> Result<(), AllocError>
-    ensures { OnOk result ((side : Side) →
+    ensures all { OnOk result ((side : Side) →
         SubsumeAll side end_strings.new.items (end_string ∷ end_strings.old.items)) }
+    ensures each { OnOk result (AddsOnly end_strings.old.items end_strings.new.items (λ x. end_string ≡ x)) }
 {
     if !has_subsuming(end_strings, end_string) {
         end_strings.push(end_string)?;
@@ -140,7 +141,7 @@ pub(crate) fn truncated_end_strings(
     end_strings: &[EndString],
     longest: usize,
 ) -> Result<Vec<EndString>, AllocError>
-    ensures { IfOk result (λ short. SubsumeAll side short.items end_strings.now) }
+    ensures { IfOk result (λ short. AreCoarser side short.items end_strings.now) }
 {
     // Without truncation there are no duplicates.
     if !has_longer(end_strings, longest) {
@@ -159,7 +160,7 @@ fn simplify_set(
     side: Side,
     end_strings: Vec<EndString>,
 ) -> Result<Vec<EndString>, AllocError>
-    ensures { IfOk result (λ short. SubsumeAll side short.items end_strings.items) }
+    ensures { IfOk result (λ short. AreCoarser side short.items end_strings.items) }
 {
     let mut longest = MAX_LEN;
     let mut short = end_strings;
@@ -214,7 +215,7 @@ impl Truncations {
     /// The end strings truncated to `longest` bytes.
     fn to(&self, longest: usize) -> &[EndString]
         ensures { (side : Side) (end_strings : List EndString) → AreTruncationsOf side self.now end_strings →
-            SubsumeAll side result.now end_strings }
+            AreCoarser side result.now end_strings }
     {
         match longest {
             0 => &self.to_none,
@@ -237,6 +238,8 @@ fn add_concatenations(
     ensures concatenates { OnOk result (length end_strings.new.items ≤ 20 → (u v : List ℕ) →
         HasEndString side near u → HasSomeEndString side fars.now v →
         HasSomeEndString side end_strings.new.items (concatenation side u v)) }
+    ensures each { OnOk result (
+        AddsOnly end_strings.old.items end_strings.new.items (IsConcatenation side near fars.now)) }
 {
     for far in fars {
         if end_strings.len() > MAX_SET {
@@ -261,6 +264,8 @@ fn add_truncated_concatenations(
         (u v : List ℕ) → AreTruncationsOf side fars.now all → HasEndString side near u →
         HasSomeEndString side all v →
         HasSomeEndString side end_strings.new.items (concatenation side u v)) }
+    ensures each { OnOk result ((all : List EndString) → AreTruncationsOf side fars.now all →
+        AddsOnly end_strings.old.items end_strings.new.items (IsConcatenation side near all)) }
 {
     let len = near.string.len();
     if !near.whole || len > longest {
@@ -295,7 +300,7 @@ fn few_concatenations(
     longest: usize,
 ) -> Result<Option<Vec<EndString>>, AllocError>
     ensures { IfOk result (λ found. IfSome found (λ end_strings. (all : List EndString) →
-        AreTruncationsOf side fars.now all → AreEndStringsOfTwo side nears.now all end_strings.items)) }
+        AreTruncationsOf side fars.now all → AreConcatenations side nears.now all end_strings.items)) }
 {
     if are_many(nears, fars, longest) {
         return Ok(None);
@@ -324,7 +329,7 @@ pub(crate) fn concatenate_end_strings(
     nears: &[EndString],
     fars: &[EndString],
 ) -> Result<Vec<EndString>, AllocError>
-    ensures { IfOk result (λ end_strings. AreEndStringsOfTwo side nears.now fars.now end_strings.items) }
+    ensures { IfOk result (λ end_strings. AreConcatenations side nears.now fars.now end_strings.items) }
 {
     if are_inexact(nears) {
         return copies(alloc, nears);
@@ -347,9 +352,10 @@ pub(crate) fn union_of_end_strings(
     end_strings: Vec<EndString>,
     more: &[EndString],
 ) -> Result<Vec<EndString>, AllocError>
-    ensures { IfOk result (λ both. (text : List ℕ) →
+    ensures all { IfOk result (λ both. (text : List ℕ) →
         HasSomeEndString side end_strings.items text ⊎ HasSomeEndString side more.now text →
         HasSomeEndString side both.items text) }
+    ensures each { IfOk result (λ both. EachSubsumes side both.items (end_strings.items ++ more.now)) }
 {
     let mut both = end_strings;
     for end_string in more {
@@ -360,8 +366,7 @@ pub(crate) fn union_of_end_strings(
 
 /// The end string that every text has: no bytes, not whole.
 pub(crate) fn any_end_string(alloc: Global) -> Result<Vec<EndString>, AllocError>
-    ensures { IfOk result (λ any.
-        (side : Side) (text : List ℕ) → HasSomeEndString side any.items text) }
+    ensures { IfOk result (λ any. any.items ≡ any_end ∷ []) }
 {
     let mut end_strings = Vec::new(alloc);
     end_strings.push(EndString {
@@ -373,7 +378,7 @@ pub(crate) fn any_end_string(alloc: Global) -> Result<Vec<EndString>, AllocError
 
 /// The end string of the empty text: no bytes, whole.
 pub(crate) fn empty_end_string(alloc: Global) -> Result<Vec<EndString>, AllocError>
-    ensures { IfOk result (λ end_strings. (side : Side) → HasSomeEndString side end_strings.items []) }
+    ensures { IfOk result (λ end_strings. end_strings.items ≡ empty_end ∷ []) }
 {
     let mut end_strings = Vec::new(alloc);
     end_strings.push(EndString {
@@ -417,8 +422,10 @@ pub(crate) fn end_strings_of(
     side: Side,
     strings: &[ExactString],
 ) -> Result<Vec<EndString>, AllocError>
-    ensures { IfOk result (λ end_strings. (text : List ℕ) → IsTrue (is_among strings.now text) →
+    ensures all { IfOk result (λ end_strings. (text : List ℕ) → IsTrue (is_among strings.now text) →
         HasSomeEndString side end_strings.items text) }
+    ensures each { IfOk result (λ end_strings. (x : EndString) → Contains end_strings.items x →
+        (text : List ℕ) × IsTrue (is_among strings.now text) × HasEndString side x text) }
 {
     let mut end_strings = Vec::with_capacity(alloc, strings.len())?;
     for string in strings {

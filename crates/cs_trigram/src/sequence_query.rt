@@ -1,13 +1,12 @@
 // The query of a sequence, part by part from the last to the first: a string of each exact run, and
 // what the other parts require.
-ghost use Rattle.std.specs.Prelude.{◌≡◌, true, List, IfOk, OnOk};
-ghost use Rattle.cs_trigram.specs.QueryNumbers.{are_trigrams};
+ghost use Rattle.std.specs.Prelude.{◌≡◌, List, IfOk, OnOk};
 ghost use Rattle.std.specs.List.{list_all};
 ghost use Rattle.cs_syntax.specs.Matching.{Tree, Trees, none, more, cat};
 ghost use Rattle.cs_trigram.specs.ExactQuery.{HasFewExactStrings};
 ghost use Rattle.cs_trigram.specs.EndStrings.{AreEndStrings, AreEndStringsOfAll};
 ghost use Rattle.cs_trigram.specs.ExactSet.{IsExactSetOf, AreExactSetsReversed};
-ghost use Rattle.cs_trigram.specs.Analysis.{IsCorrect, IsMatchQuery, AreExactStrings};
+ghost use Rattle.cs_trigram.specs.Analysis.{IsCorrect, IsMatchQuery, MentionsOnly, AreExactStrings};
 ghost use Rattle.cs_trigram.specs.declared.end_strings.Side.TheVariants.{Prefix, Suffix};
 
 use crate::connectives::{add_conjunct, any_string};
@@ -34,7 +33,7 @@ pub(crate) struct SequenceQuery {
 }
 
 impl SequenceQuery {
-    ghost use Rattle.cs_trigram.specs.SequenceQuery.{IsSequenceQueryOf, ExtendsSequenceQuery, MatchesAcross, goes_two_past, has_cross_trigrams};
+    ghost use Rattle.cs_trigram.specs.SequenceQuery.{IsSequenceQueryOf, ExtendsSequenceQuery, MatchesAcross, IsAcross, goes_two_past, has_cross_trigrams};
 
     /// The query of no parts.
     pub(crate) fn new(alloc: Global) -> Result<SequenceQuery, AllocError>
@@ -129,7 +128,7 @@ impl SequenceQuery {
         prefixes: &[EndString],
     ) -> Result<Query, AllocError>
         ensures required { IfOk result (λ q. MatchesAcross q suffixes.now prefixes.now) }
-        ensures numbers { IfOk result (λ query. are_trigrams query ≡ true) }
+        ensures mentioned { IfOk result (λ q. MentionsOnly q (IsAcross suffixes.now prefixes.now)) }
     {
         if self.covers_cross(suffixes, prefixes) {
             return Ok(Query::All);

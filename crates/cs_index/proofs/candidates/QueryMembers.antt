@@ -1,13 +1,13 @@
 -- Queries by their members.
-use Rattle.std.proofs.Common.{◌≡◌, ℕ, ◌+◌, ◌<◌, Bool, true, false, not, cond, ◌&&◌, ◌||◌, eqb, List, [], ◌∷◌, length, map, Vec, Global, Option, Some, None, refl, sym, ap, subst, ◌∙◌, inl, inr, find, take, drop}
+use Rattle.std.proofs.Common.{◌≡◌, ℕ, ◌+◌, ◌<◌, Bool, true, false, not, cond, ◌&&◌, ◌||◌, eqb, List, [], ◌∷◌, length, map, Vec, Global, Option, Some, None, refl, sym, ap, ◌∙◌, inl, inr, find, take, drop}
 use Rattle.cs_index.specs.Postings.{entry_of, nothing_read, read_for}
 use Rattle.cs_index.specs.AscendingIds.{AscendWithin}
 use Rattle.cs_index.specs.PostingLists.{Ids, damage, read_ids, set_at}
 use Rattle.cs_trigram.specs.Trigram.{has, Ascends}
-use Rattle.std.proofs.lemmas.Bool.{true≢false, cases_Bool, cond_both, eqb-true, or_left, or_parts}
+use Rattle.std.proofs.lemmas.Bool.{cases_Bool, cond_both, eqb-true, or_left, or_parts}
 use Rattle.std.proofs.lemmas.List.Folds.{list_all-map}
 use Rattle.std.specs.Prelude.{filter, option_map, unwrap_or, bytes_eq}
-use Rattle.std.specs.List.{AllByRecursion, list_all, list_any, range_with_len}
+use Rattle.std.specs.List.{list_all, list_any}
 use Rattle.cs_trigram.specs.Query.{matches_set, matches_set_step}
 use Rattle.cs_trigram.specs.declared.queries.Query.{Query, Query-F, fold-roll-Query}
 use Rattle.cs_trigram.specs.declared.queries.Query.TheVariants.{All, Nothing, Tri, And, Or, rolls-All, rolls-Nothing, rolls-Tri, rolls-And, rolls-Or}
@@ -17,9 +17,8 @@ use Rattle.cs_index.specs.OpenedParts.{Parts, ids_read, lists_in, whole_ids}
 use Rattle.cs_index.specs.Candidates.{candidates_of, name_matches, ids_where}
 use Rattle.cs_index.specs.Answerable.{mentions, mentions_step, is_answerable}
 use Rattle.cs_index.proofs.decoding.DecodableBytesOpen.{rise_read}
-use Rattle.cs_index.proofs.candidates.Intersection.{ascends_range, below_range, filter_all, filter_filter, has_below, has_range, read_rise, rise_ascends, rise_below}
-use Rattle.cs_trigram.proofs.QueryLemmas.{matches_set-All, matches_set-Nothing, matches_set-Tri}
-use Rattle.cs_trigram.proofs.SetLemmas.{ascends_tail, ascends_head, below_none, ascends_same, ascends_filter, filter_within, has-filter}
+use Rattle.cs_index.proofs.candidates.Intersection.{read_rise}
+use Rattle.cs_trigram.proofs.SetLemmas.{ascends_tail, ascends_head, below_none}
 use Rattle.cs_tree.proofs.NameLemmas.{list_any-map}
 
 -- ---- unfolding of queries
@@ -93,7 +92,7 @@ members_whole whole es (m ∷ ms) =
     ∙ ap (λ b. list_all (λ (e : ListEntry). not (mentions m e.trigram) || whole e) es && b) (members_whole whole es ms)
 
 module _ (parts : Parts) where
-  answerable_as : (query : Query) (mentioned : ℕ → Bool) → ((g : ℕ) → mentions query g ≡ mentioned g) → is_answerable parts query ≡ list_all (λ (e : ListEntry). not (mentioned e.trigram) || (ids_read parts e).whole) parts.entries
+  pub answerable_as : (query : Query) (mentioned : ℕ → Bool) → ((g : ℕ) → mentions query g ≡ mentioned g) → is_answerable parts query ≡ list_all (λ (e : ListEntry). not (mentioned e.trigram) || (ids_read parts e).whole) parts.entries
   unfolding is_answerable
   answerable_as query mentioned h = ap (λ (p : ListEntry → Bool). list_all p parts.entries) (λ i e. not (h e.trigram i) || (ids_read parts e).whole)
 
@@ -112,28 +111,6 @@ module _ (parts : Parts) where
 
   pub answerable-Or : (members : Vec Query Global) → is_answerable parts (Or members) ≡ list_all (is_answerable parts) members.items
   answerable-Or members = answerable_as (Or members) (λ g. list_any (λ m. mentions m g) members.items) (λ g. is_mentioned-Or g members) ∙ all_answerable members.items
-
-  -- ---- candidates by member
-
-  candidates_as : (query : Query) (test : ℕ → Bool) → ((id : ℕ) → name_matches parts query id ≡ test id) → candidates_of parts query ≡ ids_where parts test
-  unfolding candidates_of
-  candidates_as query test h = ap (ids_where parts) (λ i id. h id i)
-
-  pub candidates-All : candidates_of parts All ≡ range_with_len 0 (length parts.names)
-  candidates-All = candidates_as All (λ _. true) (λ id. matches_set-All _) ∙ filter_all (range_with_len 0 (length parts.names))
-
-  pub candidates-Nothing : candidates_of parts Nothing ≡ []
-  candidates-Nothing = candidates_as Nothing (λ _. false) (λ id. matches_set-Nothing _) ∙ filter_none (range_with_len 0 (length parts.names))
-    where
-      filter_none : (xs : List ℕ) → filter (λ _. false) xs ≡ []
-      filter_none [] = refl
-      filter_none (x ∷ xs) = filter_none xs
-
-  pub candidates-And : (members : Vec Query Global) → candidates_of parts (And members) ≡ ids_where parts (λ id. list_all (λ m. name_matches parts m id) members.items)
-  candidates-And members = candidates_as (And members) (λ id. list_all (λ m. name_matches parts m id) members.items) (λ id. matches_set-And _ members)
-
-  pub candidates-Or : (members : Vec Query Global) → candidates_of parts (Or members) ≡ ids_where parts (λ id. list_any (λ m. name_matches parts m id) members.items)
-  candidates-Or members = candidates_as (Or members) (λ id. list_any (λ m. name_matches parts m id) members.items) (λ id. matches_set-Or _ members)
 
 -- ---- the list of a trigram
 
@@ -215,51 +192,9 @@ module _ (parts : Parts) where
       of None = tt
       of (Some e) = entry_rises e
 
-  pub list_ascends : (g : ℕ) → Ascends (read_for parts g).ids
-  list_ascends g = rise_ascends (length parts.names) 0 (read_for parts g).ids (list_rises g)
-
-  pub list_below : (g : ℕ) → AllByRecursion (λ id. id < length parts.names) (read_for parts g).ids
-  list_below g = rise_below (length parts.names) 0 (read_for parts g).ids (list_rises g)
-
   pub candidates_are : (query : Query) → candidates_of parts query ≡ ids_where parts (name_matches parts query)
   unfolding candidates_of
   candidates_are query = refl
-
-  pub candidates_ascend : (query : Query) → Ascends (candidates_of parts query)
-  candidates_ascend query = subst Ascends (sym (candidates_are query)) (ascends_filter (name_matches parts query) (range_with_len 0 (length parts.names)) (ascends_range (length parts.names)))
-
-  pub candidates_below : (query : Query) → AllByRecursion (λ id. id < length parts.names) (candidates_of parts query)
-  candidates_below query = subst (AllByRecursion (λ id. id < length parts.names)) (sym (candidates_are query)) (below_range (name_matches parts query) (length parts.names))
-
-  has_candidate : (query : Query) (id : ℕ) → has (range_with_len 0 (length parts.names)) id ≡ true → has (candidates_of parts query) id ≡ name_matches parts query id
-  has_candidate query id h = ap (λ (ids : List ℕ). has ids id) (candidates_are query) ∙ has-filter (name_matches parts query) (range_with_len 0 (length parts.names)) id ∙ ap (λ b. b && name_matches parts query id) h
-
-  -- ---- conjunctions and disjunctions
-
-  pub every_member : (ms : List Query) → filter (λ id. list_all (λ m. has (candidates_of parts m) id) ms) (range_with_len 0 (length parts.names)) ≡ ids_where parts (λ id. list_all (λ m. name_matches parts m id) ms)
-  every_member ms = filter_within (λ id. list_all (λ m. has (candidates_of parts m) id) ms) (λ id. list_all (λ m. name_matches parts m id) ms) (range_with_len 0 (length parts.names)) (λ id h. ap (λ (p : Query → Bool). list_all p ms) (λ i m. has_candidate m id h i))
-
-  pub some_member : (test : ℕ → Bool) (ms : List Query) → ((id : ℕ) → test id ≡ list_any (λ m. has (candidates_of parts m) id) ms) → filter test (range_with_len 0 (length parts.names)) ≡ ids_where parts (λ id. list_any (λ m. name_matches parts m id) ms)
-  some_member test ms is = filter_within test (λ id. list_any (λ m. name_matches parts m id) ms) (range_with_len 0 (length parts.names)) (λ id h. is id ∙ ap (λ (p : Query → Bool). list_any p ms) (λ i m. has_candidate m id h i))
-
-  -- the trigram is a member, so that it satisfies what every member satisfies
-  pub rarest_first : (g : ℕ) (ms : List Query) → ((test : Query → Bool) → list_all test ms ≡ true → test (Tri g) ≡ true) → filter (λ id. list_all (λ m. has (candidates_of parts m) id) ms) (candidates_of parts (Tri g)) ≡ ids_where parts (λ id. list_all (λ m. name_matches parts m id) ms)
-  rarest_first g ms member =
-      let all : ℕ → Bool = λ id. list_all (λ m. has (candidates_of parts m) id) ms in
-      let names : List ℕ = range_with_len 0 (length parts.names) in
-      ap (filter all) (candidates_are (Tri g)) ∙ filter_filter all (name_matches parts (Tri g)) names
-      ∙ filter_within (λ id. name_matches parts (Tri g) id && all id) (λ id. list_all (λ m. name_matches parts m id) ms) names (λ id h.
-      ap (λ (p : Query → Bool). name_matches parts (Tri g) id && list_all p ms) (λ i m. has_candidate m id h i)
-      ∙ absorbed (name_matches parts (Tri g) id) (list_all (λ m. name_matches parts m id) ms) (member (λ m. name_matches parts m id)))
-    where
-      absorbed : (a b : Bool) → (b ≡ true → a ≡ true) → (a && b) ≡ b
-      absorbed a true h = ap (λ t. t && true) (h refl)
-      absorbed true false h = refl
-      absorbed false false h = refl
-
--- what holds of the ids that are read, and of the empty list, holds of the ids of a list
-whole_or_none : (P : List ℕ → Type 0) (r : Ids) → P r.ids → P [] → P (whole_ids r)
-whole_or_none P r ids none = cond_both r.whole r.ids [] P (λ _. ids) (λ _. none)
 
 module _ (parts : Parts) (up : rises parts.entries ≡ true) where
   pub answerable-Tri : (g : ℕ) → is_answerable parts (Tri g) ≡ (read_for parts g).whole
@@ -269,25 +204,3 @@ module _ (parts : Parts) (up : rises parts.entries ≡ true) where
   pub set_is : (g k : ℕ) → has (set_at k (lists_in parts)) g ≡ has (whole_ids (read_for parts g)) k
   unfolding read_for found_ids
   set_is g k = set_found (ids_read parts) g k parts.entries (rise_read parts.entries up)
-
-  candidates-one : (g : ℕ) → candidates_of parts (Tri g) ≡ whole_ids (read_for parts g)
-  candidates-one g =
-      let r : Ids = read_for parts g in
-      let ids : List ℕ = whole_ids r in
-      let names : List ℕ = range_with_len 0 (length parts.names) in
-      candidates_as parts (Tri g) (has ids) (λ k. matches_set-Tri _ g ∙ set_is g k)
-      ∙ ascends_same (filter (has ids) names) ids (ascends_filter (has ids) names (ascends_range (length parts.names))) (whole_or_none Ascends r (list_ascends parts g) tt) (λ k.
-      has-filter (has ids) names k ∙ both k (has ids k) refl)
-    where
-      both : (k : ℕ) (b : Bool) → has (whole_ids (read_for parts g)) k ≡ b → (has (range_with_len 0 (length parts.names)) k && b) ≡ b
-      both k true e = ap (λ t. t && true) (has_range (length parts.names) k (has_below (length parts.names) (whole_ids (read_for parts g)) k (whole_or_none (AllByRecursion (λ id. id < length parts.names)) (read_for parts g) (list_below parts g) tt) e))
-      both k false e = elim (has (range_with_len 0 (length parts.names)) k) as (λ t. (t && false) ≡ false) [ true ↦ refl | false ↦ refl ]
-
-  pub candidates-Tri : (g : ℕ) → (read_for parts g).whole ≡ true → candidates_of parts (Tri g) ≡ (read_for parts g).ids
-  candidates-Tri g whole = candidates-one g ∙ ap (λ b. cond b (read_for parts g).ids []) whole
-
-  pub rarest_damaged : (g : ℕ) (ms : List Query) → ((test : Query → Bool) → list_all test ms ≡ true → test (Tri g) ≡ true) → (read_for parts g).whole ≡ false → list_all (is_answerable parts) ms ≡ false
-  rarest_damaged g ms member bad = elim (cases_Bool (list_all (is_answerable parts) ms)) [
-    | inl good ↦ absurd (true≢false (sym (member (is_answerable parts) good) ∙ answerable-Tri g ∙ bad))
-    | inr h ↦ h
-  ]

@@ -65,14 +65,6 @@ mark_step marks id k rest h = elim (cases_Bool (eqb id k)) [
       ∙ sym (ap (λ b. get_or marks k false || (b || rest)) apart)
 ]
 
-pub range_push : (count id : ℕ) (ids new : List ℕ) → id < count → range_with_len 0 count ≡ ids ++ range_with_len id (count - id) → new ≡ ids ++ id ∷ [] → range_with_len 0 count ≡ new ++ range_with_len (id + 1) (count - (id + 1))
-range_push count id ids new h so_far is =
-    so_far ∙ ap (λ t. ids ++ t) (range_step id (count - id) (omega (arith, h)) ∙ ap (λ n. id ∷ range_with_len (id + 1) n) (let z : count - id - 1 ≡ count - (id + 1) = omega arith in z))
-    ∙ sym (append_assoc ids (id ∷ []) (range_with_len (id + 1) (count - (id + 1)))) ∙ ap (λ t. t ++ range_with_len (id + 1) (count - (id + 1))) (sym is)
-
-pub ids_push : (all ids left rest new : List ℕ) (id : ℕ) → all ≡ ids ++ left → left ≡ id ∷ rest → new ≡ ids ++ id ∷ [] → all ≡ new ++ rest
-ids_push all ids left rest new id so_far first is = so_far ∙ ap (λ t. ids ++ t) first ∙ sym (append_assoc ids (id ∷ []) rest) ∙ ap (λ t. t ++ rest) (sym is)
-
 -- the error of a damaged list
 pub bad_list : {X : Type 0} (r : Result X IndexFault) (fault : IndexFault) (whole : Bool) → IsErrAnd r (λ f. f ≡ fault) → (fault ≡ BadList) × (whole ≡ false) → IfErr r (IsListFault whole)
 bad_list (Ok x) fault whole h bad = tt

@@ -107,6 +107,25 @@ const ROWS_OF_BYTES: &[(&str, &[u8], bool)] = &[
     ("a.b", b"a\xffb a\xc3\xa9b", true),
     ("a.b", b"a\xffb a\xc3b", false),
     ("^\\C*€$", b"\xff\xe2\x82\xac", true),
+    // A character is taken by its last byte, and a byte that begins another one ends the one before.
+    ("^.{2}$", b"\xc3\xa9\xe6\x97", false),
+    ("^.{2}$", b"\xc3\xa9\xe6\x97\xa5", true),
+    ("^.$", b"\xe6\xe6\x97\xa5", false),
+    (".$", b"\xe6\xe6\x97\xa5", true),
+    ("^[^é]{2}$", b"\xc3\xaa\xc3\xab", true),
+    ("^[^é]{2}$", b"\xc3\xaa\xc3\xc3\xab", false),
+    ("^[^a]b$", b"\xe6\x97b", false),
+    ("^[^a]b$", b"\xe6\x97\xa5b", true),
+    // The ranges have neighbours in the same block, and a block may be whole.
+    ("[а-я]", b"\xd0\xb0", true),
+    ("[а-я]", b"\xd1\x8f", true),
+    ("[а-я]", b"\xd0\xaf", false),
+    ("[а-я]", b"\xd1\x90", false),
+    ("^[一-龥]+$", b"\xe4\xb8\x80\xe9\xbe\xa5", true),
+    ("^[一-龥]+$", b"\xe4\xb7\xbf", false),
+    ("\\b.\\b", b" \xc3\xa9 ", false),
+    ("x.{0,3}$", b"x\xf0\x9f\x98\x80\xc3\xa9", true),
+    ("x.{0,3}$", b"x\xf0\x9f\x98\xc3\xa9", false),
 ];
 
 #[test]

@@ -51,6 +51,9 @@ const FIRST: &[Row] = &[
     ("a.*b", "a\nb\nab\n", Some((4, 6))),
     ("\\bx\\b", "xy\n x\n", Some((3, 5))),
     ("alpha|beta", "alph\nbet\n beta\n", Some((9, 14))),
+    // A word may not go over a newline.
+    ("a\\sq", "a\nq\na q\n", Some((4, 7))),
+    ("(?i)the", "t\nhe\n  tHe\n", Some((5, 10))),
 ];
 
 #[test]
@@ -61,33 +64,73 @@ fn first_matching_lines(rt: HostRuntime) {
     }
 }
 
+/// A pattern, and a line that it matches.
+const WORDS: &[(&str, &str)] = &[
+    ("TODO|FIXME", "FIXME"),
+    ("TODO|FIXME", "TODO"),
+    ("(?i)copyright", "copyRIGHT"),
+    ("return", "return"),
+    ("q", "q"),
+    ("alpha|beta|gamma", "beta"),
+    ("[0-9]{3}-[0-9]{4}", "123-4567"),
+];
+
+/// The first offset at which that line is not found, after another line.
+fn missed_offset(alloc: Global, pattern: &str, word: &str) -> Option<Option<usize>> {
+    let program = program_of(alloc, pattern)?;
+    let mut matcher = Matcher::new(alloc, &program).ok()?;
+    for offset in 0..130usize {
+        let before = ".".repeat(alloc, offset).ok()?;
+        let text = format!(in alloc; "{before}\n{word}\n{before}\n").ok()?;
+        let line = matcher.next_match(whole(text.as_bytes()), 0);
+        let start = offset.saturating_add(1);
+        let want = (start, start.saturating_add(word.len()));
+        if line.map(|line| (line.start, line.end)) != Some(want) {
+            return Some(Some(offset));
+        }
+    }
+    Some(None)
+}
+
+// The offsets go over the borders of vectors.
+#[test]
+fn words_at_all_offsets(rt: HostRuntime) {
+    for (pattern, word) in WORDS {
+        let missed = missed_offset(rt.alloc(), pattern, word);
+        assert!(rt; missed == Some(None), "{pattern:?}: {missed:?}");
+    }
+}
+
 const SKIPPED: &[(&str, &str, &str)] = &[
-    // The required literal.
+    // Words that are searched for by pairs of bytes.
     ("^#include$", "#includ", "#includes"),
     ("static.*struct", "struct", "static"),
-    ("struct.*block", "struct", "block"),
+    ("struct.*block", "struct", "blocks"),
     ("\\binline\\b", "in line", "inlined"),
     ("(alpha|beta)gamma", "alpha", "gamma"),
     ("^(a|b)*q.*d$", "abd", "q"),
-    ("ab+cq", "ab", "bcq"),
+    ("ab+cq", "ab", "bcqa"),
     ("e(qz)+e$", "qze", "eqz"),
     ("(eq)+z$", "eq z", "eqz."),
-    ("x(.q)+z", "x.q", "qz"),
-    ("ab*zq", "ab", "zq"),
-    ("ab?zq", "ab", "zq"),
+    ("x(.q)+z", "x.q", "qzx"),
+    ("ab*zq", "ab", "zqa"),
+    ("ab?zq", "ab", "zqa"),
     ("(ax){3}$", "axax", "axaxax."),
     ("a{2,}zq", "zq", "azq"),
     ("q$z^\\b\\Bj", "qz", "qzj"),
-    // Class trigrams.
-    ("[0-9]{3}-[0-9]{4}", "1-3456", "123-45"),
-    ("alpha|beta|gamma", "alp eta amm", "alph"),
-    ("alpha|beta|gamma", "amma", "gamme"),
-    ("(?i)zeal", "eAl", "zEAr"),
-    ("(static.*struct)|\\n\\n\\n", "stat struct", "tic"),
-    ("(?i)zebra|crossing", "missing", "acRo"),
+    ("(?i)zeal$", "eAl", "zEAls"),
+    ("(?i)a_1$", "A\u{7f}1", "A_1s"),
+    ("(static.*struct)|\\n\\n\\n", "stat struct", "static"),
+    ("(?i)(zebra|crossing)$", "missing", "aCrOssings"),
+    ("[^a-z]q[^u]", "no p", "aq."),
+    // Words that are searched for by their first three sets.
+    ("[0-9]{3}-[0-9]{4}$", "1-3456", "123-4567."),
+    ("(alpha|beta|gamma)$", "alph eta amma", "alphas"),
+    ("(alpha|beta|gamma)$", "amma", "gammas"),
 ];
 
-// No clause says by what lines are skipped. A line that a prefilter skips is not read by the DFA, and adds no state.
+// No clause says by what lines are skipped. A line that a prefilter skips is not read by the DFA, and adds no state. A
+// line that is read begins a match somewhere, since otherwise the DFA stays in the start state.
 #[test]
 fn what_lines_are_skipped(rt: HostRuntime) {
     for (pattern, skipped, read) in SKIPPED {
@@ -100,6 +143,8 @@ fn what_lines_are_skipped(rt: HostRuntime) {
             "{pattern:?} over {read:?}"
         );
     }
+    // A word of an exact prefilter is a match.
+    assert!(rt; is_read(rt.alloc(), "alpha|beta|gamma", "alph gamm") == Some(false));
     // The lazy DFA.
     assert!(rt; is_read(rt.alloc(), "(static.*struct)|\\n", "static") == Some(true));
 }

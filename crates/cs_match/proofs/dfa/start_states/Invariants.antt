@@ -4,4 +4,4 @@ use Rattle.cs_match.specs.States.{start}
 use Rattle.cs_match.proofs.dfa.start_states.Given as goal
 
 abbrev pub invariant-loop-i : goal.invariant-loop-i
-invariant-loop-i l = l.cached.items ≡ replicate l.i (start l.position_count)
+invariant-loop-i l = l.cached.items ≡ replicate l.i (start l.program)

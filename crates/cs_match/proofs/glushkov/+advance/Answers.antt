@@ -23,16 +23,16 @@ advance_all-loop-part-preserved t c =
     record {
       position = omega arith;
       repeat = omega arith;
-      long = moved_long t ts c.args.positions.now c.loop-part.positions c.advance-accepting.new.positions c.args.here c.args.byte c.loop-part.cursor.position _ c.loop-part.accepting
+      long = moved_long t ts c.args.positions.now c.loop-part.positions c.advance-accepting.new.positions c.args.here c.args.input c.loop-part.cursor.position _ c.loop-part.accepting
           next room i.ahead c.advance-accepting.ensures.positions ∙ i.long;
       noted = noted;
       next = first_noted ts (drop c.advance-accepting.new.cursor.repeat c.args.loops.now) (drop c.advance-accepting.new.cursor.position c.args.positions.now) c.args.here noted;
       accepting = rw (c.advance-accepting.ensures.accepting, i.ahead)
           (accepted_all t ts c.args.positions.now c.args.here c.loop-part.cursor.position _ next c.loop-part.accepting _ (rw more at i.accepting));
-      ahead = moved_ahead t ts c.args.positions.now c.loop-part.positions c.advance-accepting.new.positions c.args.here c.args.byte c.loop-part.cursor.position _ c.loop-part.accepting
+      ahead = moved_ahead t ts c.args.positions.now c.loop-part.positions c.advance-accepting.new.positions c.args.here c.args.input c.loop-part.cursor.position _ c.loop-part.accepting
           next room i.ahead c.advance-accepting.ensures.positions;
       positions = rw (c.advance-accepting.ensures.accepting, i.ahead)
-          (moved_all t ts c.args.positions.now c.loop-part.positions c.advance-accepting.new.positions c.args.here c.args.byte c.loop-part.cursor.position _ c.loop-part.accepting
+          (moved_all t ts c.args.positions.now c.loop-part.positions c.advance-accepting.new.positions c.args.here c.args.input c.loop-part.cursor.position _ c.loop-part.accepting
           next room i.ahead c.advance-accepting.ensures.positions _ (rw more at i.positions));
     }
 
@@ -51,15 +51,15 @@ advance_each-loop-part-preserved t c =
     record {
       position = omega arith;
       repeat = omega arith;
-      long = moved_long t ts c.args.positions.now c.loop-part.positions c.advance-accepting.new.positions c.args.here c.args.byte c.loop-part.cursor.position _ c.args.enter
+      long = moved_long t ts c.args.positions.now c.loop-part.positions c.advance-accepting.new.positions c.args.here c.args.input c.loop-part.cursor.position _ c.args.enter
           next room i.ahead c.advance-accepting.ensures.positions ∙ i.long;
       noted = noted;
       next = first_noted ts (drop c.advance-accepting.new.cursor.repeat c.args.loops.now) (drop c.advance-accepting.new.cursor.position c.args.positions.now) c.args.here noted;
       accepting = rw (c.advance-accepting.ensures.accepting, i.ahead)
           (accepted_each t ts c.args.positions.now c.args.here c.loop-part.cursor.position _ next c.args.enter c.loop-part.out _ (rw more at i.accepting));
-      ahead = moved_ahead t ts c.args.positions.now c.loop-part.positions c.advance-accepting.new.positions c.args.here c.args.byte c.loop-part.cursor.position _ c.args.enter
+      ahead = moved_ahead t ts c.args.positions.now c.loop-part.positions c.advance-accepting.new.positions c.args.here c.args.input c.loop-part.cursor.position _ c.args.enter
           next room i.ahead c.advance-accepting.ensures.positions;
-      positions = moved_each t ts c.args.positions.now c.loop-part.positions c.advance-accepting.new.positions c.args.here c.args.byte c.loop-part.cursor.position _ c.args.enter
+      positions = moved_each t ts c.args.positions.now c.loop-part.positions c.advance-accepting.new.positions c.args.here c.args.input c.loop-part.cursor.position _ c.args.enter
           next room i.ahead c.advance-accepting.ensures.positions _ (rw more at i.positions);
     }
 

@@ -18,8 +18,8 @@ invariant-advance_all-loop-part l =
       next : take (first_repeats rest) (drop l.cursor.repeat l.loops) ≡ first_loop_ends rest before l.here;
       accepting : accepts (cat rest) l.accepting before l.here ≡ accepts (cat parts) l.enter (drop l.fn.cursor.position l.fn.positions) l.here;
       ahead : drop l.cursor.position l.positions ≡ before;
-      positions : take l.cursor.position l.positions ++ (step_all rest l.accepting before l.here l.byte ++ drop (l.cursor.position + position_count_of rest) l.fn.positions)
-          ≡ take l.fn.cursor.position l.fn.positions ++ (step_all parts l.enter (drop l.fn.cursor.position l.fn.positions) l.here l.byte ++ drop (l.fn.cursor.position + position_count_of parts) l.fn.positions);
+      positions : take l.cursor.position l.positions ++ (step_all rest l.accepting before l.here l.input ++ drop (l.cursor.position + position_count_of rest) l.fn.positions)
+          ≡ take l.fn.cursor.position l.fn.positions ++ (step_all parts l.enter (drop l.fn.cursor.position l.fn.positions) l.here l.input ++ drop (l.fn.cursor.position + position_count_of parts) l.fn.positions);
     }
 
 abbrev pub invariant-advance_each-loop-part : goal.invariant-advance_each-loop-part
@@ -35,6 +35,6 @@ invariant-advance_each-loop-part l =
       next : take (first_repeats rest) (drop l.cursor.repeat l.loops) ≡ first_loop_ends rest before l.here;
       accepting : (l.out || accepts (alt rest) l.enter before l.here) ≡ accepts (alt parts) l.enter (drop l.fn.cursor.position l.fn.positions) l.here;
       ahead : drop l.cursor.position l.positions ≡ before;
-      positions : take l.cursor.position l.positions ++ (step_each rest l.enter before l.here l.byte ++ drop (l.cursor.position + position_count_of rest) l.fn.positions)
-          ≡ take l.fn.cursor.position l.fn.positions ++ (step_each parts l.enter (drop l.fn.cursor.position l.fn.positions) l.here l.byte ++ drop (l.fn.cursor.position + position_count_of parts) l.fn.positions);
+      positions : take l.cursor.position l.positions ++ (step_each rest l.enter before l.here l.input ++ drop (l.cursor.position + position_count_of rest) l.fn.positions)
+          ≡ take l.fn.cursor.position l.fn.positions ++ (step_each parts l.enter (drop l.fn.cursor.position l.fn.positions) l.here l.input ++ drop (l.fn.cursor.position + position_count_of parts) l.fn.positions);
     }

@@ -19,7 +19,7 @@ returns-in_err-plan-clause-writes g c =
     let p = err_from_is_err_and c.from_residual.result c.from_residual.ensures.1 in
     let out = g.O.Sink.failed c.args.out.now in
     let err = g.E.Sink.failed c.args.err.now in
-    rw (p.1, p.2) (subst (λ fails. CountsOne fails out out err err) (sym c.in_err-plan.ensures.refused.1) (refl, refl))
+    rw (p.1, p.2) (subst (λ fails. CountsOne fails out out err err) (sym c.in_err-plan.ensures.refused.2) (refl, refl))
 
 pub returns-in_err-plan-clause-silent : goal.returns-in_err-plan-clause-silent
 returns-in_err-plan-clause-silent g c = all_silent _ c.from_residual.result ((Grows-same _, Grows-same _), refl, refl)

@@ -54,7 +54,7 @@ returns-in_err-matched-clause-searches g c = λ bytes answering.
     let found = c.deref.ensures.value ∙ c.in_ok-ids.ensures.ids in
     let Claim = λ (printed : Option Printed). PrintsSome printed out out-now err err-now in
     rw (p.1, p.2)
-    (refused_late job bytes tree before after (record { out = out; err = err }) (record { out = out-now; err = err-now }) (ready job bytes plan c.requires parts answering whole) c.in_err-matched.field-0.0 c.in_err-matched.ensures.only
+    (refused_late job bytes tree before after (record { out = out; err = err }) (record { out = out-now; err = err-now }) plan.query (ready job bytes plan c.requires parts answering whole) c.in_err-matched.field-0.0 c.in_err-matched.ensures.only
     (searched job bytes plan c.requires parts answering whole ids found tree Claim
     (λ has_match keeps decides names. PrintsSome-prefix _ out out-now err err-now (c.in_err-matched.ensures.prefix has_match keeps decides names)))
     (λ opened opens. PrintsFaults-cut Csearch {A = Status} (Err c.in_err-matched.field-0.0) _ opened.names before after err err-now refl (faults_chosen job bytes plan c.requires parts answering whole ids found undone opened before after err err-now opens c.in_err-matched.ensures.faults)))
@@ -90,7 +90,7 @@ returns-in_err-status-clause-searches g c = λ bytes answering.
     let found = c.deref.ensures.value ∙ c.in_ok-ids.ensures.ids in
     let Claim = λ (printed : Option Printed). PrintsSome printed out out-later err err-later in
     rw (p.1, p.2)
-    (refused_late job bytes tree before after (record { out = out; err = err }) (record { out = out-later; err = err-later }) (ready job bytes plan c.requires parts answering whole) c.in_err-status.field-0.0 c.in_err-status.ensures.only
+    (refused_late job bytes tree before after (record { out = out; err = err }) (record { out = out-later; err = err-later }) plan.query (ready job bytes plan c.requires parts answering whole) c.in_err-status.field-0.0 c.in_err-status.ensures.only
     (searched job bytes plan c.requires parts answering whole ids found tree Claim
     (λ has_match keeps decides names. PrintsSome-all _ _ (g.O.Sink.model c.search.new.out) _ _ err-now _ c.in_ok-matched.matched (c.in_ok-matched.ensures.prints has_match keeps decides names) c.in_err-status.ensures.out c.in_err-status.ensures.err))
     (λ opened opens. PrintsFaults-flushed Csearch {A = Status} (Err c.in_err-status.field-0.0) opened.names before after err err-now err-later
@@ -132,7 +132,7 @@ returns-clause-searches g c = λ bytes answering.
     let ids = c.deref.result.now in
     let found = c.deref.ensures.value ∙ c.in_ok-ids.ensures.ids in
     let Claim = λ (printed : Option Printed). PrintsStatus printed out out-later err err-later c.in_ok-status.status in
-    searched_to_the_end job bytes tree before after (record { out = out; err = err }) (record { out = out-later; err = err-later }) (ready job bytes plan c.requires parts answering whole) c.in_ok-status.status
+    searched_to_the_end job bytes tree before after (record { out = out; err = err }) (record { out = out-later; err = err-later }) plan.query (ready job bytes plan c.requires parts answering whole) c.in_ok-status.status
     (searched job bytes plan c.requires parts answering whole ids found tree Claim
     (λ has_match keeps decides names. PrintsStatus-flushed _ _ (g.O.Sink.model c.search.new.out) _ _ err-now _ c.in_ok-matched.matched c.in_ok-status.status (c.in_ok-matched.ensures.prints has_match keeps decides names) c.in_ok-status.ensures.out c.in_ok-status.ensures.err c.in_ok-status.ensures.status))
     (λ opened opens. PrintsFaults-flushed Csearch {E = ToolFault} (Ok c.in_ok-status.status) opened.names before after err err-now err-later

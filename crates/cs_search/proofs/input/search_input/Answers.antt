@@ -1,4 +1,4 @@
-use Rattle.std.proofs.Common.{◌≡◌, ◌+◌, ◌-◌, ◌++◌, [], Bool, List, ℕ, length, drop, refl, sym, ap, subst, ◌∙◌, inl, inr, arith, rules}
+use Rattle.std.proofs.Common.{◌≡◌, true, ◌+◌, ◌-◌, ◌++◌, [], Bool, List, ℕ, length, drop, refl, sym, ap, subst, ◌∙◌, inl, inr, arith, rules}
 use Rattle.std.proofs.lemmas.List.{nil_from_length}
 use Rattle.cs_match.specs.Deciding.{Decides}
 use Rattle.cs_tree.specs.StreamModels.{ends, fails}
@@ -27,7 +27,7 @@ pieces-init g c =
     record {
       bound = omega (arith, r.lines, ap (λ (l : List ℕ). length l) r.empty);
       part = subst HasNoNewline (sym r.empty) tt;
-      read = HasReadInput-none (g.R.Source.model c.args.input.now) _ _ _ none r.empty r.lines;
+      read = HasReadInput-none c.args.printer.now.style (g.R.Source.model c.args.input.now) _ _ _ none r.empty r.lines;
       tested = λ has_match decides. HasTested-none (g.R.Source.model c.args.input.now) (c.args.limit - c.args.limit) (λ lines. Tests c.args.printer.now.style c.args.printer.now.name.now has_match lines c.args.tally.now c.args.tally.now (g.O.Sink.model c.args.out.now) (g.O.Sink.model c.args.out.now)) none (Tests-none c.args.printer.now.style c.args.printer.now.name.now has_match c.args.tally.now (g.O.Sink.model c.args.out.now));
       unlisted = λ listed. r.matches;
       same = refl;
@@ -76,7 +76,7 @@ pub returns-in_err-start-clause-loses : goal.returns-in_err-start-clause-loses
 returns-in_err-start-clause-loses g c =
     let i = c.pieces.invariant in
     let e = c.in-Ok.ensures in
-    ConsumesAtMost-more _ (g.R.Source.model c.pieces.input) _ (c.args.limit - c.pieces.left) c.in-Ok.n _ (Consumes-read _ _ _ _ _ i.read) (Consumes_few _ _ _ c.in-Ok.n e.model.0 (omega (arith, GrowsBy-size _ _ _ e.gains))) (omega (arith, e.within, i.bound))
+    ConsumesAtMost-more _ (g.R.Source.model c.pieces.input) _ (c.args.limit - c.pieces.left) c.in-Ok.n _ (Consumes-read c.args.printer.now.style _ _ _ _ _ i.read) (Consumes_few _ _ _ c.in-Ok.n e.model.0 (omega (arith, GrowsBy-size _ _ _ e.gains))) (omega (arith, e.within, i.bound))
 
 pub returns-in_default-clause-tests : goal.returns-in_default-clause-tests
 returns-in_default-clause-tests g c = λ has_match decides.
@@ -88,14 +88,14 @@ returns-in_default-clause-tests g c = λ has_match decides.
     let block : c.pending.result.now ≡ old ++ piece = c.pending.ensures ∙ GrowsBy-split _ _ _ e.gains in
     let size : length piece ≡ c.in-Ok.n = GrowsBy-size _ _ _ e.gains in
     let is_listed = rw c.in_default.is at (s.tests has_match (subst (Decides has_match) (sym i.same) decides)) in
-    TestsInput-listed _ _ has_match _ _ _ _ _ (g.R.Source.model c.args.input.now) (g.R.Source.model c.pieces.input) (g.R.Source.model c.fill.new.input) (c.args.limit - c.pieces.left) old piece c.pieces.tally.lines c.pieces.tally (g.O.Sink.model c.pieces.out) (omega (arith, e.within, i.bound, size)) i.read e.model.0 (i.unlisted is_listed.listed) (omega (arith, c.requires.lines)) (i.tested has_match decides)
+    TestsInput-listed _ _ has_match _ _ _ _ _ (g.R.Source.model c.args.input.now) (g.R.Source.model c.pieces.input) (g.R.Source.model c.fill.new.input) (c.args.limit - c.pieces.left) old piece c.pieces.tally.lines c.pieces.tally (g.O.Sink.model c.pieces.out) (omega (arith, e.within, i.bound, size)) i.read e.model.0 (i.unlisted is_listed.listed) (i.tested has_match decides)
     (subst (λ b. IsListed c.args.printer.now.style c.args.printer.now.name.now has_match (terminated_lines b) (c.pieces.tally.lines + 1) c.search_block.new.tally (g.O.Sink.model c.pieces.out) (g.O.Sink.model c.search_block.new.out)) block is_listed)
 
 pub returns-in_default-clause-loses : goal.returns-in_default-clause-loses
 returns-in_default-clause-loses g c =
     let i = c.pieces.invariant in
     let e = c.in-Ok.ensures in
-    ConsumesAtMost-more _ (g.R.Source.model c.pieces.input) _ (c.args.limit - c.pieces.left) c.in-Ok.n _ (Consumes-read _ _ _ _ _ i.read) (Consumes_few _ _ _ c.in-Ok.n e.model.0 (omega (arith, GrowsBy-size _ _ _ e.gains))) (omega (arith, e.within, i.bound))
+    ConsumesAtMost-more _ (g.R.Source.model c.pieces.input) _ (c.args.limit - c.pieces.left) c.in-Ok.n _ (Consumes-read c.args.printer.now.style _ _ _ _ _ i.read) (Consumes_few _ _ _ c.in-Ok.n e.model.0 (omega (arith, GrowsBy-size _ _ _ e.gains))) (omega (arith, e.within, i.bound))
 
 pub pieces-preserved : goal.pieces-preserved
 pieces-preserved g c =
@@ -111,18 +111,18 @@ pieces-preserved g c =
     let model = g.R.Source.model c.args.input.now in
     let later = g.R.Source.model c.fill.new.input in
     let left = g.R.Source.model c.pieces.input in
-    let counted : c.search_block.new.tally.lines ≡ c.pieces.tally.lines + length (terminated_lines (old ++ piece)) = s.lines ∙ ap (λ b. c.pieces.tally.lines + length (terminated_lines b)) block in
+    let counted = λ (shown : c.args.printer.now.style.number ≡ true). s.lines.exact shown ∙ ap (λ b. c.pieces.tally.lines + length (terminated_lines b)) block in
     let Mid = λ (has_match : List ℕ → Bool) (lines : List (List ℕ)). Tests c.args.printer.now.style c.args.printer.now.name.now has_match lines c.args.tally.now c.pieces.tally (g.O.Sink.model c.args.out.now) (g.O.Sink.model c.pieces.out) in
     let After = λ (has_match : List ℕ → Bool) (lines : List (List ℕ)). Tests c.args.printer.now.style c.args.printer.now.name.now has_match lines c.args.tally.now c.search_block.new.tally (g.O.Sink.model c.args.out.now) (g.O.Sink.model c.search_block.new.out) in
     record {
-      bound = omega (arith, e.within, i.bound, s.lines, ap (λ (l : List ℕ). length l) rest, ap (λ (l : List ℕ). length l) c.pending.ensures, e.gains.size, lines_within c.pending.result.now);
+      bound = omega (arith, e.within, i.bound, s.lines.bound, ap (λ (l : List ℕ). length l) rest, ap (λ (l : List ℕ). length l) c.pending.ensures, e.gains.size, lines_within c.pending.result.now);
       part = subst HasNoNewline (sym rest) (HasNoNewline-last_part c.pending.result.now);
-      read = subst (λ k. HasReadInput model later k (pending_bytes c.skip.new.self) c.search_block.new.tally.lines) n
-          (HasReadInput-more (c.args.limit - c.pieces.left) old piece c.pieces.tally.lines model left later _ _ i.read e.model.0 (rest ∙ ap last_part block) counted);
+      read = subst (λ k. HasReadInput c.args.printer.now.style model later k (pending_bytes c.skip.new.self) c.search_block.new.tally.lines) n
+          (HasReadInput-more c.args.printer.now.style (c.args.limit - c.pieces.left) old piece c.pieces.tally.lines model left later _ _ i.read e.model.0 (rest ∙ ap last_part block) counted);
       tested = λ has_match decides.
           let found = subst (λ b. Tests c.args.printer.now.style c.args.printer.now.name.now has_match (terminated_lines b) c.pieces.tally c.search_block.new.tally (g.O.Sink.model c.pieces.out) (g.O.Sink.model c.search_block.new.out)) block (s.tests has_match (subst (Decides has_match) (sym i.same) decides)) in
           subst (λ k. HasTested model k (After has_match)) n
-          (HasTested-more (c.args.limit - c.pieces.left) old piece c.pieces.tally.lines model left later (Mid has_match) (After has_match) i.read e.model.0 (λ ls is tests. Tests-more _ _ has_match ls (terminated_lines (old ++ piece)) _ _ _ _ _ _ (omega (arith, is, c.requires.lines)) tests found) (i.tested has_match decides));
+          (HasTested-more c.args.printer.now.style (c.args.limit - c.pieces.left) old piece c.pieces.tally.lines model left later (Mid has_match) (After has_match) i.read e.model.0 (λ ls is tests. Tests-more _ _ has_match ls (terminated_lines (old ++ piece)) _ _ _ _ _ _ (λ shown. omega (arith, is shown, c.requires.lines)) tests found) (i.tested has_match decides));
       unlisted = s.unlisted;
       same = s.same ∙ i.same;
       read_failed = e.failed ∙ i.read_failed;
@@ -133,7 +133,7 @@ pieces-preserved g c =
 pub returns-clause-stops : goal.returns-clause-stops
 returns-clause-stops g c =
     let i = c.pieces.invariant in
-    Stops-past c.in_ok-stop.stop _ (g.R.Source.model c.pieces.input) (c.args.limit - c.pieces.left) _ _ _ (omega (arith, c.pieces-test.false)) i.read c.in_ok-stop.ensures.stop
+    Stops-past c.args.printer.now.style c.in_ok-stop.stop _ (g.R.Source.model c.pieces.input) (c.args.limit - c.pieces.left) _ _ _ (omega (arith, c.pieces-test.false)) i.read c.in_ok-stop.ensures.stop
 
 pub returns-clause-tests : goal.returns-clause-tests
 returns-clause-tests g c = λ has_match decides.
@@ -143,12 +143,12 @@ returns-clause-tests g c = λ has_match decides.
 pub returns-clause-loses : goal.returns-clause-loses
 returns-clause-loses g c =
     let i = c.pieces.invariant in
-    ConsumesAtMost-more _ (g.R.Source.model c.pieces.input) _ (c.args.limit - c.pieces.left) 1 _ (Consumes-read _ _ _ _ _ i.read) c.probe_end.ensures.loses (omega arith)
+    ConsumesAtMost-more _ (g.R.Source.model c.pieces.input) _ (c.args.limit - c.pieces.left) 1 _ (Consumes-read c.args.printer.now.style _ _ _ _ _ i.read) c.probe_end.ensures.loses (omega arith)
 
 pub returns-in_err-stop-clause-loses : goal.returns-in_err-stop-clause-loses
 returns-in_err-stop-clause-loses g c =
     let i = c.pieces.invariant in
-    ConsumesAtMost-more _ (g.R.Source.model c.pieces.input) _ (c.args.limit - c.pieces.left) 1 _ (Consumes-read _ _ _ _ _ i.read) c.probe_end.ensures.loses (omega arith)
+    ConsumesAtMost-more _ (g.R.Source.model c.pieces.input) _ (c.args.limit - c.pieces.left) 1 _ (Consumes-read c.args.printer.now.style _ _ _ _ _ i.read) c.probe_end.ensures.loses (omega arith)
 
 pub returns-in-Err-Failed-clause-stops : goal.returns-in-Err-Failed-clause-stops
 returns-in-Err-Failed-clause-stops g c = grind (arith, common_steps)

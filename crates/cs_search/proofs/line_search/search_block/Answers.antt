@@ -1,6 +1,6 @@
 use Rattle.std.proofs.Common.{◌≡◌, ◌+◌, Bool, true, false, List, ℕ, length, MatchBool, sym, ap, subst, ◌∙◌}
 use Rattle.std.proofs.lemmas.Bool.{false≢true}
-use Rattle.cs_search.specs.TestedLines.{Tests, TestsPrefix, IsListed}
+use Rattle.cs_search.specs.TestedLines.{CountsLines, Tests, TestsPrefix, IsListed}
 use Rattle.cs_match.proofs.WholeLineLemmas.{ended_all, rest_is_last}
 use Rattle.cs_index.proofs.common.ResultClauses.{any_err}
 use Rattle.cs_search.proofs.line_search.search_block.Goals as goal
@@ -34,7 +34,8 @@ returns-clause-rest g c =
 pub returns-clause-lines : goal.returns-clause-lines
 returns-clause-lines g c =
     let e = c.ended_len-stop.ensures in
-    c.in_ok-search_lines.ensures.lines c.if-branch.false ∙ ap (λ (ls : List (List ℕ)). c.args.tally.now.lines + length ls) (sym (ended_all c.args.block.now c.ended_len-stop.result e.whole e.rest))
+    subst (λ (ls : List (List ℕ)). CountsLines c.args.printer.now.style c.args.tally.now.lines c.search_lines.new.tally.lines (length ls)) (sym (ended_all c.args.block.now c.ended_len-stop.result e.whole e.rest))
+    (c.in_ok-search_lines.ensures.lines c.if-branch.false)
 
 pub returns-clause-tests : goal.returns-clause-tests
 returns-clause-tests g c = λ has_match decides.

@@ -8,7 +8,7 @@ use Rattle.cs_match.specs.Lines.{terminated_lines}
 use Rattle.cs_match.specs.Skipping.{AreWholeLines, IsLineAfter, NoneMatch}
 use Rattle.cs_match.proofs.WholeLineLemmas.{whole_drop, whole_line, terminated_line, ended_prefix}
 use Rattle.cs_search.specs.declared.tally.Tally.{Tally}
-use Rattle.cs_search.specs.TestedLines.{Tests, TestsPrefix, IsListed}
+use Rattle.cs_search.specs.TestedLines.{SameNumber, CountsLines, Tests, TestsPrefix, IsListed}
 use Rattle.cs_search.proofs.BlockLemmas.{lines_on, whole_on, counted_within}
 use Rattle.cs_search.proofs.LineTestLemmas.{Tests-none, Tests-more, Tests-skipped, Tests-counted, IsListed-first, IsListed-more}
 use Rattle.cs_index.proofs.common.ResultClauses.{any_err}
@@ -17,11 +17,16 @@ use Rattle.cs_search.proofs.line_search.search_lines.Goals as goal
 
 -- the lines up to one offset, and on to the next
 module _ (block : List ℕ) (from to : ℕ) (rising : from ≤ to) (whole : AreWholeLines (take from block)) where
-  counted_on : (before mid after : ℕ) → mid ≡ before + length (terminated_lines (take from block)) → after ≡ mid + length (terminated_lines (take (to - from) (drop from block))) → after ≡ before + length (terminated_lines (take to block))
-  counted_on before mid after h k =
-      omega (arith, h, k, ap (λ (ls : List (List ℕ)). length ls) (lines_on block from to rising whole), length-append (terminated_lines (take from block)) (terminated_lines (take (to - from) (drop from block))))
+  counted_on : (style : Style) (before mid after : ℕ) → CountsLines style before mid (length (terminated_lines (take from block))) → CountsLines style mid after (length (terminated_lines (take (to - from) (drop from block)))) → CountsLines style before after (length (terminated_lines (take to block)))
+  counted_on style before mid after h k =
+      let sum : length (terminated_lines (take to block)) ≡ length (terminated_lines (take from block)) + length (terminated_lines (take (to - from) (drop from block))) =
+      ap (λ (ls : List (List ℕ)). length ls) (lines_on block from to rising whole) ∙ length-append (terminated_lines (take from block)) (terminated_lines (take (to - from) (drop from block))) in
+      record {
+        exact = λ shown. omega (arith, h.exact shown, k.exact shown, sum);
+        bound = omega (arith, h.bound, k.bound, sum);
+      }
 
-  tests_on : (style : Style) (name : List ℕ) (has_match : List ℕ → Bool) (before mid after : Tally) (sink now later : Option SinkModel) → mid.lines ≡ before.lines + length (terminated_lines (take from block)) → Tests style name has_match (terminated_lines (take from block)) before mid sink now → Tests style name has_match (terminated_lines (take (to - from) (drop from block))) mid after now later → Tests style name has_match (terminated_lines (take to block)) before after sink later
+  tests_on : (style : Style) (name : List ℕ) (has_match : List ℕ → Bool) (before mid after : Tally) (sink now later : Option SinkModel) → SameNumber style mid.lines (before.lines + length (terminated_lines (take from block))) → Tests style name has_match (terminated_lines (take from block)) before mid sink now → Tests style name has_match (terminated_lines (take (to - from) (drop from block))) mid after now later → Tests style name has_match (terminated_lines (take to block)) before after sink later
   tests_on style name has_match before mid after sink now later counted first next =
       subst (λ (ls : List (List ℕ)). Tests style name has_match ls before after sink later) (sym (lines_on block from to rising whole))
       (Tests-more style name has_match (terminated_lines (take from block)) (terminated_lines (take (to - from) (drop from block))) before mid after sink now later counted first next)
@@ -48,7 +53,7 @@ module _ (block : List ℕ) (offset start end : ℕ) (line : IsLineAfter block o
 
   -- lines that were tested, and the skipped ones up to this line
   module _ (style : Style) (name : List ℕ) (has_match : List ℕ → Bool) (before mid after : Tally) (sink now : Option SinkModel) where
-    tests_to_line : mid.lines ≡ before.lines + length (terminated_lines (take offset block)) → Tests style name has_match (terminated_lines (take offset block)) before mid sink now → NoneMatch has_match (terminated_lines (take (start - offset) (drop offset block))) → after.matches ≡ mid.matches → Tests style name has_match (terminated_lines (take start block)) before after sink now
+    tests_to_line : SameNumber style mid.lines (before.lines + length (terminated_lines (take offset block))) → Tests style name has_match (terminated_lines (take offset block)) before mid sink now → NoneMatch has_match (terminated_lines (take (start - offset) (drop offset block))) → after.matches ≡ mid.matches → Tests style name has_match (terminated_lines (take start block)) before after sink now
     tests_to_line counted tests none same =
         tests_on block offset start line.low whole style name has_match before mid after sink now now counted tests
         (Tests-skipped style name has_match (terminated_lines (take (start - offset) (drop offset block))) mid after now none same)
@@ -63,7 +68,7 @@ unfolding terminated_lines AreWholeLines
 lines-init g c = record {
   within = omega arith;
   whole = tt;
-  counted = omega arith;
+  counted = record { exact = λ shown. omega arith; bound = omega arith };
   tests = λ has_match decides. Tests-none c.args.printer.now.style c.args.printer.now.name.now has_match c.args.tally.now (g.O.Sink.model c.args.out.now);
   unlisted = c.requires.unlisted;
   same = refl;
@@ -77,14 +82,14 @@ pub count_skipped-requires : goal.count_skipped-requires
 count_skipped-requires g c =
     let i = c.lines.invariant in
     let l = c.in-Some.ensures.line in
-    omega (arith, counted_within c.args.block.now c.lines.offset, c.requires.room, i.counted, l.low, l.order, l.high, length-take (c.in-Some.line.start - c.lines.offset) (drop c.lines.offset c.args.block.now))
+    omega (arith, counted_within c.args.block.now c.lines.offset, c.requires.room, i.counted.bound, l.low, l.order, l.high, length-take (c.in-Some.line.start - c.lines.offset) (drop c.lines.offset c.args.block.now))
 
 pub report_match-requires : goal.report_match-requires
 report_match-requires g c =
     let i = c.lines.invariant in
     let l = c.in-Some.ensures.line in
-    let counted = counted_on c.args.block.now c.lines.offset c.in-Some.line.start l.low i.whole c.args.tally.now.lines c.lines.tally.lines c.count_skipped.new.tally.lines i.counted c.count_skipped.ensures.lines in
-    omega (arith, counted_within c.args.block.now c.in-Some.line.start, c.requires.room, counted, l.order, l.high)
+    let counted = counted_on c.args.block.now c.lines.offset c.in-Some.line.start l.low i.whole c.args.printer.now.style c.args.tally.now.lines c.lines.tally.lines c.count_skipped.new.tally.lines i.counted c.count_skipped.ensures.lines in
+    omega (arith, counted_within c.args.block.now c.in-Some.line.start, c.requires.room, counted.bound, l.order, l.high)
 
 pub returns-in_err-report_match-clause-prefix : goal.returns-in_err-report_match-clause-prefix
 returns-in_err-report_match-clause-prefix g c =
@@ -100,9 +105,9 @@ returns-in_err-report_match-clause-prefix g c =
     let line = take (end - start) (drop start block) in
     let mid = c.count_skipped.new.tally in
     let there = subst (Decides has_match) (sym i.same) decides in
-    let counted = counted_on block offset start e.line.low i.whole c.args.tally.now.lines c.lines.tally.lines mid.lines i.counted c.count_skipped.ensures.lines in
-    let tests = tests_to_line block offset start end e.line i.whole style name has_match c.args.tally.now c.lines.tally mid (g.O.Sink.model c.args.out.now) (g.O.Sink.model c.lines.out) i.counted (i.tests has_match decides) (e.none has_match there) c.count_skipped.ensures.matches in
-    let prefix = TestsPrefix-after style name has_match (terminated_lines (take start block)) (line ∷ []) c.args.tally.now mid (g.O.Sink.model c.args.out.now) (g.O.Sink.model c.lines.out) (g.O.Sink.model c.report_match.new.out) (λ listed. c.count_skipped.ensures.matches ∙ i.unlisted listed) counted tests (c.in_err-report_match.ensures.prefix has_match ((there line).1 e.found)) in
+    let counted = counted_on block offset start e.line.low i.whole c.args.printer.now.style c.args.tally.now.lines c.lines.tally.lines mid.lines i.counted c.count_skipped.ensures.lines in
+    let tests = tests_to_line block offset start end e.line i.whole style name has_match c.args.tally.now c.lines.tally mid (g.O.Sink.model c.args.out.now) (g.O.Sink.model c.lines.out) i.counted.exact (i.tests has_match decides) (e.none has_match there) c.count_skipped.ensures.matches in
+    let prefix = TestsPrefix-after style name has_match (terminated_lines (take start block)) (line ∷ []) c.args.tally.now mid (g.O.Sink.model c.args.out.now) (g.O.Sink.model c.lines.out) (g.O.Sink.model c.report_match.new.out) (λ listed. c.count_skipped.ensures.matches ∙ i.unlisted listed) counted.exact tests (c.in_err-report_match.ensures.prefix has_match ((there line).1 e.found)) in
     subst (λ (ls : List (List ℕ)). TestsPrefix style name has_match ls (c.args.tally.now.lines + 1) (g.O.Sink.model c.args.out.now) (g.O.Sink.model c.report_match.new.out)) (around block offset start end e.line i.whole)
     (TestsPrefix-more _ _ has_match _ (terminated_lines (drop (end + 1) block)) _ _ _ prefix))
 
@@ -119,9 +124,9 @@ returns-then-printer-clause-tests g c = λ has_match decides.
     let line = take (end - start) (drop start block) in
     let mid = c.count_skipped.new.tally in
     let there = subst (Decides has_match) (sym i.same) decides in
-    let counted = counted_on block offset start e.line.low i.whole c.args.tally.now.lines c.lines.tally.lines mid.lines i.counted c.count_skipped.ensures.lines in
-    let tests = tests_to_line block offset start end e.line i.whole style name has_match c.args.tally.now c.lines.tally mid (g.O.Sink.model c.args.out.now) (g.O.Sink.model c.lines.out) i.counted (i.tests has_match decides) (e.none has_match there) c.count_skipped.ensures.matches in
-    let first = IsListed-first style name has_match (terminated_lines (take start block)) line c.args.tally.now mid c.report_match.new.tally (g.O.Sink.model c.args.out.now) (g.O.Sink.model c.lines.out) (g.O.Sink.model c.report_match.new.out) c.if-printer.true (c.count_skipped.ensures.matches ∙ i.unlisted c.if-printer.true) counted tests (c.in_ok-report_match.ensures.tests has_match ((there line).1 e.found)) (omega (arith, c.in_ok-report_match.ensures.matches)) in
+    let counted = counted_on block offset start e.line.low i.whole c.args.printer.now.style c.args.tally.now.lines c.lines.tally.lines mid.lines i.counted c.count_skipped.ensures.lines in
+    let tests = tests_to_line block offset start end e.line i.whole style name has_match c.args.tally.now c.lines.tally mid (g.O.Sink.model c.args.out.now) (g.O.Sink.model c.lines.out) i.counted.exact (i.tests has_match decides) (e.none has_match there) c.count_skipped.ensures.matches in
+    let first = IsListed-first style name has_match (terminated_lines (take start block)) line c.args.tally.now mid c.report_match.new.tally (g.O.Sink.model c.args.out.now) (g.O.Sink.model c.lines.out) (g.O.Sink.model c.report_match.new.out) c.if-printer.true (c.count_skipped.ensures.matches ∙ i.unlisted c.if-printer.true) counted.exact tests (c.in_ok-report_match.ensures.tests has_match ((there line).1 e.found)) (omega (arith, c.in_ok-report_match.ensures.matches)) in
     subst (λ (ls : List (List ℕ)). IsListed style name has_match ls (c.args.tally.now.lines + 1) c.report_match.new.tally (g.O.Sink.model c.args.out.now) (g.O.Sink.model c.report_match.new.out)) (around block offset start end e.line i.whole)
     (IsListed-more _ _ has_match _ (terminated_lines (drop (end + 1) block)) _ _ _ _ first)
 
@@ -142,16 +147,17 @@ lines-preserved g c =
     let before = up_to_line block offset start end e.line i.whole in
     let rising = after_start block offset start end e.line i.whole in
     let single = one block offset start end e.line i.whole in
-    let counted = counted_on block offset start e.line.low i.whole c.args.tally.now.lines c.lines.tally.lines mid.lines i.counted c.count_skipped.ensures.lines in
+    let counted = counted_on block offset start e.line.low i.whole c.args.printer.now.style c.args.tally.now.lines c.lines.tally.lines mid.lines i.counted c.count_skipped.ensures.lines in
     record {
       within = omega (arith, e.line.high);
       whole = up_to_next block offset start end e.line i.whole;
-      counted = counted_on block start (end + 1) rising before c.args.tally.now.lines mid.lines next.lines counted (reported.lines ∙ ap (λ (ls : List (List ℕ)). mid.lines + length ls) (sym single));
+      counted = counted_on block start (end + 1) rising before style c.args.tally.now.lines mid.lines next.lines counted
+          (let e = reported.lines ∙ ap (λ (ls : List (List ℕ)). mid.lines + length ls) (sym single) in record { exact = λ shown. e; bound = omega (arith, e) });
       tests = λ has_match decides.
           let there = subst (Decides has_match) (sym i.same) decides in
-          let tests = tests_to_line block offset start end e.line i.whole style name has_match c.args.tally.now c.lines.tally mid (g.O.Sink.model c.args.out.now) (g.O.Sink.model c.lines.out) i.counted (i.tests has_match decides) (e.none has_match there) c.count_skipped.ensures.matches in
+          let tests = tests_to_line block offset start end e.line i.whole style name has_match c.args.tally.now c.lines.tally mid (g.O.Sink.model c.args.out.now) (g.O.Sink.model c.lines.out) i.counted.exact (i.tests has_match decides) (e.none has_match there) c.count_skipped.ensures.matches in
           let last = subst (λ (ls : List (List ℕ)). Tests style name has_match ls mid next (g.O.Sink.model c.lines.out) (g.O.Sink.model c.report_match.new.out)) (sym single) (reported.tests has_match ((there line).1 e.found)) in
-          tests_on block start (end + 1) rising before style name has_match c.args.tally.now mid next (g.O.Sink.model c.args.out.now) (g.O.Sink.model c.lines.out) (g.O.Sink.model c.report_match.new.out) counted tests last;
+          tests_on block start (end + 1) rising before style name has_match c.args.tally.now mid next (g.O.Sink.model c.args.out.now) (g.O.Sink.model c.lines.out) (g.O.Sink.model c.report_match.new.out) counted.exact tests last;
       unlisted = λ listed. absurd (false≢true (sym c.if-printer.false ∙ listed));
       same = e.same ∙ i.same;
       failed = reported.failed ∙ i.failed;
@@ -160,14 +166,15 @@ lines-preserved g c =
 pub count_skipped-requires-2 : goal.count_skipped-requires-2
 count_skipped-requires-2 g c =
     let i = c.lines.invariant in
-    omega (arith, counted_within c.args.block.now c.lines.offset, c.requires.room, i.counted, i.within, length-take (length c.args.block.now - c.lines.offset) (drop c.lines.offset c.args.block.now))
+    omega (arith, counted_within c.args.block.now c.lines.offset, c.requires.room, i.counted.bound, i.within, length-take (length c.args.block.now - c.lines.offset) (drop c.lines.offset c.args.block.now))
 
 pub returns-clause-lines : goal.returns-clause-lines
 returns-clause-lines g c = λ _.
     let i = c.lines.invariant in
     let block = c.args.block.now in
-    counted_on block c.lines.offset (length block) i.within i.whole c.args.tally.now.lines c.lines.tally.lines c.count_skipped-2.new.tally.lines i.counted c.count_skipped-2.ensures.lines
-    ∙ ap (λ text. c.args.tally.now.lines + length (terminated_lines text)) (take_all (length block) block (omega arith))
+    let style = c.args.printer.now.style in
+    subst (λ text. CountsLines style c.args.tally.now.lines c.count_skipped-2.new.tally.lines (length (terminated_lines text))) (take_all (length block) block (omega arith))
+    (counted_on block c.lines.offset (length block) i.within i.whole style c.args.tally.now.lines c.lines.tally.lines c.count_skipped-2.new.tally.lines i.counted c.count_skipped-2.ensures.lines)
 
 pub returns-clause-tests : goal.returns-clause-tests
 returns-clause-tests g c = λ has_match decides.
@@ -179,5 +186,5 @@ returns-clause-tests g c = λ has_match decides.
     let now = g.O.Sink.model c.lines.out in
     let none = subst (λ text. NoneMatch has_match (terminated_lines text)) (sym (take_rest block c.lines.offset)) (c.in_default.ensures.none has_match (subst (Decides has_match) (sym i.same) decides)) in
     subst (λ text. Tests style name has_match (terminated_lines text) c.args.tally.now c.count_skipped-2.new.tally sink now) (take_all (length block) block (omega arith))
-    (tests_on block c.lines.offset (length block) i.within i.whole style name has_match c.args.tally.now c.lines.tally c.count_skipped-2.new.tally sink now now i.counted (i.tests has_match decides)
+    (tests_on block c.lines.offset (length block) i.within i.whole style name has_match c.args.tally.now c.lines.tally c.count_skipped-2.new.tally sink now now i.counted.exact (i.tests has_match decides)
     (Tests-skipped style name has_match _ c.lines.tally c.count_skipped-2.new.tally now none c.count_skipped-2.ensures.matches))

@@ -26,7 +26,7 @@ returns-in_ok-print_total-in-End-clause-report g c = λ has_match decides.
     let model = g.R.Source.model c.args.input.now in
     let mid = c.search_input.new.tally in
     Reports-end printer.style printer.name.now has_match c.new-tally.result c.search_rest.new.tally c.new-tally.ensures.lines c.new-tally.ensures.matches (g.O.Sink.model c.args.out.now) (g.O.Sink.model c.search_rest.new.out) c.args.limit model mid (g.O.Sink.model c.search_input.new.out) c.pending.result.now (g.O.Sink.model c.print_total.new.out)
-    (subst (λ r. Stops c.args.limit End model r mid.lines) (sym c.pending.ensures) s.stops)
+    (subst (λ r. Stops c.args.printer.now.style c.args.limit End model r mid.lines) (sym c.pending.ensures) s.stops)
     s.unlisted
     (s.tests has_match decides)
     (c.in_ok-search_rest-in-End.ensures.tests has_match (subst (Decides has_match) (sym s.same) decides))
@@ -45,7 +45,7 @@ returns-in_err-search_rest-in-End-clause-prefix g c =
     let printer = c.args.printer.now in
     let mid = c.search_input.new.tally in
     ReportsPrefix-rest printer.style printer.name.now has_match c.new-tally.result c.new-tally.ensures.lines c.new-tally.ensures.matches (g.O.Sink.model c.args.out.now) c.args.limit (g.R.Source.model c.args.input.now) mid (g.O.Sink.model c.search_input.new.out) c.pending.result.now (g.O.Sink.model c.search_rest.new.out)
-    (subst (λ r. Stops c.args.limit End (g.R.Source.model c.args.input.now) r mid.lines) (sym c.pending.ensures) s.stops)
+    (subst (λ r. Stops c.args.printer.now.style c.args.limit End (g.R.Source.model c.args.input.now) r mid.lines) (sym c.pending.ensures) s.stops)
     s.unlisted (s.tests has_match decides)
     (c.in_err-search_rest-in-End.ensures.prefix has_match (subst (Decides has_match) (sym s.same) decides)))
 
@@ -56,7 +56,7 @@ returns-in_err-print_total-in-End-clause-prefix g c =
     let printer = c.args.printer.now in
     let mid = c.search_input.new.tally in
     ReportsPrefix-total printer.style printer.name.now has_match c.new-tally.result c.new-tally.ensures.lines c.new-tally.ensures.matches (g.O.Sink.model c.args.out.now) c.args.limit (g.R.Source.model c.args.input.now) mid c.search_rest.new.tally (g.O.Sink.model c.search_input.new.out) (g.O.Sink.model c.search_rest.new.out) c.pending.result.now (g.O.Sink.model c.print_total.new.out)
-    (subst (λ r. Stops c.args.limit End (g.R.Source.model c.args.input.now) r mid.lines) (sym c.pending.ensures) s.stops)
+    (subst (λ r. Stops c.args.printer.now.style c.args.limit End (g.R.Source.model c.args.input.now) r mid.lines) (sym c.pending.ensures) s.stops)
     s.unlisted (s.tests has_match decides)
     (c.in_ok-search_rest-in-End.ensures.tests has_match (subst (Decides has_match) (sym s.same) decides))
     c.in_err-print_total-in-End.ensures.written)

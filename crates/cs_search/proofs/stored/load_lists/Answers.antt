@@ -1,4 +1,4 @@
-use Rattle.std.proofs.Common.{Some, None, inr, refl, subst}
+use Rattle.std.proofs.Common.{Some, None, refl, subst}
 use Rattle.cs_index.specs.Stored.{whole_of}
 use Rattle.cs_index.proofs.stored.SectionReads.{if_some_any, if_some_map, if_some_both}
 use Rattle.cs_search.specs.StoredSearch.{IsOpened}
@@ -17,10 +17,10 @@ returns-in-Err-clause-refused g c =
     if_some_map _ _ (g.S.Store.model c.args.store.now) (λ bytes any. c.in-Err.ensures.refused (Some bytes)) (if_some_any (g.S.Store.model c.args.store.now))
 
 pub returns-in-Err-clause-unwritten : goal.returns-in-Err-clause-unwritten
-returns-in-Err-clause-unwritten g c = (c.in-Err.ensures.refused None).1
+returns-in-Err-clause-unwritten g c = (c.in-Err.ensures.refused None).2
 
 pub returns-in-Err-clause-unopened : goal.returns-in-Err-clause-unopened
-returns-in-Err-clause-unopened g c = unopened_first Status _ c.args.job.now c.args.opened c.in-Err.fault (λ index. (c.in-Err.ensures.refused index).0)
+returns-in-Err-clause-unopened g c = unopened_first Status _ c.args.job.now c.args.opened c.in-Err.fault (λ index. let r = c.in-Err.ensures.refused index in (r.0, r.1))
 
 -- ---- a bad index
 

@@ -1,10 +1,8 @@
 use Rattle.std.proofs.Common.{Vec, Global, ap, ◌∙◌, arith}
-use Rattle.cs_trigram.specs.QueryNumbers.{are_trigrams}
 use Rattle.std.proofs.lemmas.Grind.{common_steps}
-use Rattle.std.specs.List.{list_all}
 use Rattle.cs_trigram.specs.declared.queries.Query.{Query}
-use Rattle.cs_trigram.specs.Analysis.{some_matches}
-use Rattle.cs_trigram.proofs.QueryLemmas.{matches_set-Or, numbers-Or}
+use Rattle.cs_trigram.specs.Analysis.{some_matches, some_mentions}
+use Rattle.cs_trigram.proofs.QueryLemmas.{matches_set-Or, mentions-Or}
 use Rattle.cs_trigram.proofs.connectives.any_of.Goals as goal
 use Rattle.cs_trigram.proofs.connectives.any_of.Goals.{else-len-eq1-via-else-len-eq1, else-len-eq1-via-then-len-eq1+in-None-1}
 
@@ -15,9 +13,9 @@ returns-2-clause-required c = λ set.
       | else-len-eq1-via-then-len-eq1+in-None-1 w ↦ absurd (grind (arith, common_steps))
     ]
 
-pub returns-2-clause-numbers : goal.returns-2-clause-numbers
-returns-2-clause-numbers c =
+pub returns-2-clause-mentioned : goal.returns-2-clause-mentioned
+returns-2-clause-mentioned c = λ g.
     elim c.else-len-eq1.branch [
-      | else-len-eq1-via-else-len-eq1 w ↦ numbers-Or c.else-len-eq1.members ∙ ap (λ (v : Vec Query Global). list_all are_trigrams v.items) w.members-is
+      | else-len-eq1-via-else-len-eq1 w ↦ mentions-Or g c.else-len-eq1.members ∙ ap (λ (v : Vec Query Global). some_mentions v.items g) w.members-is
       | else-len-eq1-via-then-len-eq1+in-None-1 w ↦ absurd (grind (arith, common_steps))
     ]

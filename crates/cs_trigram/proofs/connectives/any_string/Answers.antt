@@ -1,7 +1,11 @@
-use Rattle.std.proofs.Common.{◌+◌, ◌||◌, ℕ, List, ◌≤◌, drop, length, sym, ◌∙◌, ap, arith, drop_of_length-le}
-use Rattle.cs_trigram.specs.Analysis.{some_matches, has_any}
-use Rattle.cs_trigram.proofs.QueryLemmas.{matches_set-All, end_of_text, short_there}
-use Rattle.cs_trigram.proofs.EnumerationLemmas.{strings_from}
+use Rattle.std.proofs.Common.{◌≡◌, true, ◌+◌, ◌||◌, ℕ, List, ◌≤◌, drop, length, sym, ◌∙◌, ap, arith, drop_of_length-le}
+use Rattle.cs_tree.specs.Cover.{is_among}
+use Rattle.cs_trigram.specs.Analysis.{has_trigrams, some_matches, some_mentions, has_any}
+use Rattle.cs_trigram.specs.Query.{mentions}
+use Rattle.cs_trigram.specs.declared.queries.Query.{Query}
+use Rattle.cs_trigram.proofs.MentionLemmas.{all_mentions_none, trigrams_of_both, trigrams_within, occurs_itself}
+use Rattle.cs_trigram.proofs.QueryLemmas.{matches_set-All, mentions_push, end_of_text, short_there, text_step}
+use Rattle.cs_trigram.proofs.EnumerationLemmas.{strings_from, string_at}
 use Rattle.cs_trigram.proofs.connectives.any_string.Goals as goal
 
 pub returns-then-bytes-lt3-clause-required : goal.returns-then-bytes-lt3-clause-required
@@ -23,5 +27,28 @@ returns-clause-required c = λ set.
     ∙ ap (λ (ws : List (List ℕ)). some || has_any set ws) (sym (drop_of_length-le strings {i = c.loop-string.string-index} (omega arith)))
     ∙ c.loop-string.invariant.0 set
 
-pub returns-clause-numbers : goal.returns-clause-numbers
-returns-clause-numbers c = c.any_of.ensures.numbers ∙ c.loop-string.invariant.1
+pub returns-then-bytes-lt3-clause-mentioned : goal.returns-then-bytes-lt3-clause-mentioned
+returns-then-bytes-lt3-clause-mentioned c = all_mentions_none (Unit {0}) (λ string. is_among c.args.strings.now string ≡ true)
+
+pub returns-clause-mentioned : goal.returns-clause-mentioned
+returns-clause-mentioned c = λ g h. c.loop-string.invariant.1 g (sym (c.any_of.ensures.mentioned g) ∙ h)
+
+pub loop-string-preserved : goal.loop-string-preserved
+loop-string-preserved c =
+    let members = c.loop-string.members.items in
+    let query = c.in_ok-all_trigrams.field-0 in
+    let strings = c.args.strings.now in
+    let w = c.string-item.result in
+    let rest = drop (c.loop-string.string-index + 1) strings in
+    let among : is_among strings w ≡ true = string_at strings c.loop-string.string-index w c.loop-string-test.true c.string-item.is in
+    let is : (g : ℕ) → some_mentions c.push.new.self.items g ≡ (some_mentions members g || mentions query g) =
+    λ g. ap (λ (qs : List Query). some_mentions qs g) c.in_ok-push.ensures.items ∙ mentions_push g members query in (
+      λ set.
+          ap (λ (qs : List Query). some_matches qs set || has_any set rest) c.in_ok-push.ensures.items
+          ∙ text_step set members query w rest (c.in_ok-all_trigrams.ensures.required set ∙ ap (has_trigrams set) c.bytes-in-loop-string.ensures)
+          ∙ ap (λ (ws : List (List ℕ)). some_matches members set || has_any set ws) (sym (strings_from strings c.loop-string.string-index w c.loop-string-test.true c.string-item.is))
+          ∙ c.loop-string.invariant.0 set,
+      trigrams_of_both (some_mentions members) (mentions query) (some_mentions c.push.new.self.items) (Unit {0}) (λ string. is_among strings string ≡ true) is c.loop-string.invariant.1
+          (trigrams_within (mentions query) (Unit {0}) (Unit {0}) (λ part. part ≡ c.bytes-in-loop-string.result.now) (λ string. is_among strings string ≡ true) c.in_ok-all_trigrams.ensures.mentioned (λ b. b)
+          (λ b part e. (w, among, occurs_itself part w (e ∙ c.bytes-in-loop-string.ensures)))),
+    )

@@ -1,22 +1,30 @@
-use Rattle.std.proofs.Common.{false, inl, inr}
-use Rattle.cs_trigram.specs.EndStrings.{concatenation}
-use Rattle.cs_trigram.specs.declared.end_strings.EndString.{EndString}
-use Rattle.cs_trigram.specs.declared.short_string.ShortString.TheVariants.{Empty}
+use Rattle.std.proofs.Common.{inl, inr}
+use Rattle.cs_trigram.specs.EndStrings.{concatenation, any_end}
 use Rattle.cs_trigram.proofs.EndStringLemmas.{fits_from}
+use Rattle.cs_trigram.proofs.TruncationLemmas.{far_concatenation}
 use Rattle.cs_trigram.proofs.end_strings.add_concatenations.Goals as goal
+
+pub loop-far-init : goal.loop-far-init
+loop-far-init c = (λ text h. h, λ u v a b. inr b, λ x m. inl m)
 
 pub loop-far-preserved : goal.loop-far-preserved
 loop-far-preserved c =
     let side = c.args.side in
-    let none : EndString = record { string = Empty; whole = false } in (
-      λ text h. c.in_ok-add_end_string.ensures side text (inr (c.loop-far.invariant.0 text h)),
+    let fars = c.args.fars.now in
+    let i = c.loop-far.far-index in (
+      λ text h. c.in_ok-add_end_string.ensures.all side text (inr (c.loop-far.invariant.0 text h)),
       λ u v a b.
           elim (c.loop-far.invariant.1 u v a b) [
-            | inl x ↦ inl (c.in_ok-add_end_string.ensures side (concatenation side u v) (inr x))
+            | inl x ↦ inl (c.in_ok-add_end_string.ensures.all side (concatenation side u v) (inr x))
             | inr y ↦
-                elim (fits_from side c.args.fars.now c.loop-far.far-index none v c.loop-far-test.true y) [
-                  | inl e ↦ inl (c.in_ok-add_end_string.ensures side (concatenation side u v) (inl (c.end_string_of_two.ensures u v a e)))
+                elim (fits_from side fars i any_end v c.loop-far-test.true y) [
+                  | inl e ↦ inl (c.in_ok-add_end_string.ensures.all side (concatenation side u v) (inl (c.end_string_of_two.ensures u v a e)))
                   | inr z ↦ inr z
                 ]
+          ],
+      λ x m.
+          elim (c.in_ok-add_end_string.ensures.each x m) [
+            | inl before ↦ c.loop-far.invariant.2 x before
+            | inr same ↦ inr (far_concatenation side c.args.near fars i any_end c.end_string_of_two.result x c.loop-far-test.true same c.end_string_of_two.ensures)
           ],
     )

@@ -4,9 +4,9 @@ use Rattle.cs_trigram.proofs.regexp_info.query_of_exact.Goals as goal
 
 pub returns-in-Some-clause-right : goal.returns-in-Some-clause-right
 returns-in-Some-clause-right c =
-    if_both c.any_string.result _ _ _ c.any_string.ensures.required c.any_string.ensures.numbers
-    (λ q required numbers. λ t counts match_query.
-    correct_strings q c.in-Some.few.now t (some_of c.few.result c.in-Some.few _ _ c.few.ensures c.in-Some.is t counts) required numbers)
+    if_both c.any_string.result _ _ _ c.any_string.ensures.required c.any_string.ensures.mentioned
+    (λ q required only. λ t counts match_query.
+    correct_strings q c.in-Some.few.now t (some_of c.few.result c.in-Some.few _ _ c.few.ensures c.in-Some.is t counts) required only)
 
 pub returns-in-Some-clause-exact : goal.returns-in-Some-clause-exact
 returns-in-Some-clause-exact c =

@@ -9,7 +9,6 @@ put-requires-clause-right c =
     let s = c.args.self.now in
     record {
       expanded = c.requires.right.expanded;
-      bits = c.requires.right.bits;
       cached = c.requires.right.cached;
       transitions = c.requires.right.transitions;
       room = ap (λ (n : State). length n.positions) c.step_from.ensures.moved ∙ length-successor (tree_in s) c.index.result.now c.args.byte;
@@ -21,7 +20,6 @@ next_number-requires-clause-right c =
     let s = c.args.self.now in
     record {
       expanded = c.requires.right.expanded;
-      bits = c.requires.right.bits;
       cached = c.requires.right.cached;
       transitions = c.requires.right.transitions;
       room = ap (λ (n : State). length n.positions) c.step_from.ensures.moved ∙ length-successor (tree_in s) c.index.result.now c.args.byte;

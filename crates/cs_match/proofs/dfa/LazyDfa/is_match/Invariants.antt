@@ -1,6 +1,6 @@
-use Rattle.std.proofs.Common.{◌≡◌, ℕ, ◌<◌, take, true, false}
+use Rattle.std.proofs.Common.{◌≡◌, ℕ, ◌<◌, take, false}
 use Rattle.cs_match.specs.Automaton.{GrowsOver}
-use Rattle.cs_match.specs.Glushkov.{accepts_at}
+use Rattle.cs_match.specs.Glushkov.{accepts_in}
 use Rattle.cs_match.specs.States.{state}
 use Rattle.cs_match.specs.ConsistentDfa.{IsConsistent, HasState, tree_in}
 use Rattle.cs_match.proofs.dfa.LazyDfa.is_match.Given as goal
@@ -11,5 +11,5 @@ invariant-loop-b l = record {
   same : tree_in l.self ≡ tree_in l.fn.self;
   states : GrowsOver l.b-index l.fn.self.used l.self.used;
   number : HasState l.self l.number (state (tree_in l.fn.self) (take l.b-index l.line));
-  none : (k : ℕ) → k < l.b-index → accepts_at l.line (tree_in l.fn.self) (λ _. true) k ≡ false;
+  none : (k : ℕ) → k < l.b-index → accepts_in l.line (tree_in l.fn.self) k ≡ false;
 }

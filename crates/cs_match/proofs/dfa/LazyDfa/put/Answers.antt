@@ -1,22 +1,36 @@
-use Rattle.std.proofs.Common.{◌≡◌, ◌+◌, ◌*◌, ◌/◌, arith, sym, ◌∙◌, ap, set, ℕ, subst}
-use Rattle.std.specs.Prelude.{bit_or}
-use Rattle.cs_match.proofs.TransitionLemmas.{transition_index, put_transition}
+use Rattle.std.proofs.Common.{◌≡◌, ◌∙◌, ◌+◌, ◌/◌, ◌<◌, ◌≤◌, ℕ, suc, slice_index, length, ap, sym, subst}
+use Rattle.std.proofs.lemmas.List.{with_items_is}
+use Rattle.cs_syntax.specs.declared.char_step.Unfinished.{Unfinished}
+use Rattle.cs_match.specs.ByteClasses.{StepTogether}
 use Rattle.cs_match.specs.LazyDfa.{AreTransitions}
-use Rattle.cs_match.specs.ConsistentDfa.{tree_in}
+use Rattle.cs_match.specs.ConsistentDfa.{tree_in, state_in}
+use Rattle.cs_match.proofs.ByteClassLemmas.{class_alike}
+use Rattle.cs_match.proofs.TransitionLemmas.{leads_alike, put_transition}
 use Rattle.cs_match.proofs.dfa.LazyDfa.put.Goals as goal
 
 pub returns-clause-right : goal.returns-clause-right
 returns-clause-right c =
     let s = c.args.self.now in
-    let index : bit_or c.args.from c.from.result ≡ 256 * (c.args.from / 256) + c.args.byte =
-    ap (bit_or c.args.from) c.from.ensures ∙ transition_index c.args.from c.args.byte c.requires.number.whole (omega arith) in
-    let P : ℕ → Type 0 = λ k. AreTransitions (tree_in s) s.cached.items s.used (set s.transitions.items k c.args.next) in
+    let t = tree_in s in
+    let class = c.class_of-class.ensures in
+    let low = c.class_of-class.result.0 in
+    let high = c.class_of-class.result.1 in
+    let put = c.put_range.ensures in
+    let stored = c.put_range.new.transitions in
+    let state = state_in s c.args.from in
+    let alike = class_alike t state low high c.args.byte class.from class.to (subst (λ (at : Unfinished). (b : ℕ) → low ≤ b → suc b < high → StepTogether t at b (suc b)) c.unfinished_of-unfinished.ensures class.together) in
+    let index = sym c.requires.number.whole in
+    let same = λ (k : ℕ). ap (λ xs. slice_index xs k) c.deref_mut.ensures.value in
     record {
       expanded = c.requires.right.expanded;
-      bits = c.requires.right.bits;
       cached = c.requires.right.cached;
-      transitions = subst P (sym index)
-          (put_transition (tree_in s) s.cached.items s.used s.transitions.items c.requires.right.transitions (c.args.from / 256) c.args.byte c.args.next c.requires.number.in_use c.requires.right.cached.bound (omega arith) c.requires.leads);
+      transitions = subst (AreTransitions t s.cached.items s.used) (sym (with_items_is s.transitions stored (put.length ∙ c.deref_mut.ensures.len)))
+          (put_transition t s.cached.items s.used s.transitions.items stored c.requires.right.transitions (c.args.from / 256) low high c.args.next
+          c.requires.number.in_use c.requires.right.cached.bound class.bytes
+          (λ b from to. leads_alike t s.cached.items s.used state c.args.byte b c.args.next (alike b from to) c.requires.leads)
+          (subst (λ (n : ℕ). (b : ℕ) → low ≤ b → b < high → slice_index stored (n + b) ≡ c.args.next) index put.inside)
+          (subst (λ (n : ℕ). (k : ℕ) → k < n + low → slice_index stored k ≡ slice_index s.transitions.items k) index (λ k lt. put.before k lt ∙ same k))
+          (subst (λ (n : ℕ). (k : ℕ) → n + high ≤ k → slice_index stored k ≡ slice_index s.transitions.items k) index (λ k le. put.after k le ∙ same k)) (put.length ∙ ap length c.deref_mut.ensures.value));
       room = c.requires.right.room;
       loops = c.requires.right.loops;
     }

@@ -12,7 +12,7 @@ returns-in-Some-clause-counted c =
     let to = c.count_batch-batch.result.to in
     let h = subst (λ (matching_lines : Option ℕ). IfSome matching_lines (λ n. CountsMatchingLines (λ has_match. DecidesLines has_match c.deref.result.now) c.args.block.now c.args.from to n)) c.in-Some.is c.count_batch-batch.ensures.counted in
     let dfa = c.self.inside.dfa in
-    let right = c.self.invariant.0.right in
+    let right = c.self.invariant.0 in
     record {
       lines = h.lines;
       bound = h.bound;

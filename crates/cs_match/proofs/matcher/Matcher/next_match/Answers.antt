@@ -1,9 +1,9 @@
-use Rattle.std.proofs.Common.{◌≡◌, ◌-◌, ℕ, Bool, List, length, take, drop, arith, refl, subst, ◌∙◌, Option, Some}
+use Rattle.std.proofs.Common.{◌≡◌, ◌-◌, ℕ, List, length, take, drop, arith, refl, subst, ◌∙◌, Option, Some}
 use Rattle.std.proofs.lemmas.List.{take_rest}
 use Rattle.cs_syntax.specs.Matching.{Tree}
 use Rattle.cs_match.specs.declared.matcher.Line.{Line}
 use Rattle.cs_match.specs.Deciding.{Decides}
-use Rattle.cs_match.specs.FirstMatch.{IsFirstMatch, IsSearched}
+use Rattle.cs_match.specs.FirstMatch.{IsSearched}
 use Rattle.cs_match.specs.Lines.{terminated_lines}
 use Rattle.cs_match.specs.Skipped.{AreSkipped}
 use Rattle.cs_match.specs.Skipping.{NoneMatch}

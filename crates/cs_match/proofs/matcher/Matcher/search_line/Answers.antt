@@ -1,16 +1,13 @@
-use Rattle.std.proofs.Common.{◌-◌, ℕ, Bool, List, arith, take, drop, ◌∙◌}
+use Rattle.std.proofs.Common.{◌-◌, arith, take, drop, ◌∙◌}
 use Rattle.std.proofs.lemmas.Bool.Decides.{same_from_decides}
 use Rattle.cs_match.specs.Deciding.{Decides}
 use Rattle.cs_match.proofs.ScanLemmas.{skipped_none, skipped_line}
 use Rattle.cs_match.proofs.matcher.Matcher.search_line.Goals as goal
 
-pub returns-then-from-block-clause-found : goal.returns-then-from-block-clause-found
-returns-then-from-block-clause-found c = skipped_none (λ has_match. Decides has_match c.args.self.now.tree) c.args.block.now c.args.from c.requires.within
-
 pub returns-then-found-clause-found : goal.returns-then-found-clause-found
 returns-then-found-clause-found c =
     let e = c.line_end-end.ensures in
-    let none = skipped_none (λ has_match. Decides has_match c.args.self.now.tree) c.args.block.now c.args.from c.requires.within in
+    let none = skipped_none (λ has_match. Decides has_match c.args.self.now.tree) c.args.block.now c.args.from (omega (arith, c.requires.within)) in
     record {
       line = record {
         low = omega arith;

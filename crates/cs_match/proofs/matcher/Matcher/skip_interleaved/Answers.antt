@@ -10,7 +10,7 @@ pub returns : goal.returns
 returns c =
     let h = c.skip_interleaved.ensures.skipped in
     let dfa = c.self.inside.dfa in
-    let right = c.self.invariant.0.right in
+    let right = c.self.invariant.0 in
     record {
       lines = h.lines;
       none = λ has_match decides.

@@ -1,12 +1,12 @@
 use Rattle.std.proofs.Common.{◌≤◌, ◌-◌, length}
-use Rattle.cs_prefilter.specs.TrigramAt.{NoTrigramFrom}
+use Rattle.cs_prefilter.specs.WordAt.{NoWordFrom}
 use Rattle.cs_prefilter.proofs.prefilter.Prefilter.skip.Given as goal
 
 abbrev pub invariant-scan : goal.invariant-scan
 invariant-scan l = record {
   low : l.from ≤ l.offset;
   high : l.offset ≤ length l.text;
-  none : NoTrigramFrom l.self l.text l.from l.offset;
+  none : NoWordFrom l.self.0 l.text l.from l.offset;
 }
 
 abbrev pub decreases-scan : goal.decreases-scan

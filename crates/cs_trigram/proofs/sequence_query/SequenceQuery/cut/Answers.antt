@@ -1,15 +1,17 @@
-use Rattle.std.proofs.Common.{◌≡◌, ◌&&◌, ℕ, Bool, List, [], ◌∷◌, sym, ap, ◌∙◌, subst}
-use Rattle.cs_trigram.specs.QueryNumbers.{are_trigrams}
+use Rattle.std.proofs.Common.{◌≡◌, ◌&&◌, ℕ, Bool, true, List, [], ◌∷◌, sym, ap, ◌∙◌, subst}
+use Rattle.cs_tree.specs.Cover.{is_among}
 use Rattle.cs_syntax.specs.Matching.{more}
-use Rattle.std.specs.List.{list_all}
-use Rattle.std.proofs.lemmas.Bool.{and_from}
-use Rattle.cs_trigram.specs.Query.{matches_set}
-use Rattle.cs_trigram.specs.Analysis.{IsQueryBeyondRun, all_match, has_any}
+use Rattle.cs_trigram.specs.Query.{matches_set, mentions}
+use Rattle.cs_trigram.specs.MayMatch.{MayMatchSequence, HaveMembers}
+use Rattle.cs_trigram.specs.Analysis.{IsQueryBeyondRun, MentionsOnly, all_match, some_mentions, has_any}
+use Rattle.cs_trigram.proofs.MentionLemmas.{trigrams_of_both}
+use Rattle.cs_trigram.proofs.SequenceMentionLemmas.{trigrams_of_run, trigrams_of_rest, trigrams_of_first}
 use Rattle.cs_trigram.proofs.SequenceQueryLemmas.{query_past_cut}
 use Rattle.cs_trigram.proofs.sequence_query.SequenceQuery.cut.Goals as goal
 
 pub returns-clause-required : goal.returns-clause-required
 returns-clause-required c = λ t ts no_few match_query sequence_query.
+    let query = c.in_ok-any_string.field-0 in
     let leading = c.args.self.now.leading.items in
     let conjuncts : (ℕ → Bool) → Bool = λ set. all_match c.args.self.now.conjuncts.items set in
     let later : (ℕ → Bool) → Bool = λ set. all_match c.add_conjunct-2.new.conjuncts.items set in
@@ -20,5 +22,11 @@ returns-clause-required c = λ t ts no_few match_query sequence_query.
     let misses : c.replace-finished_run.new.dest.items ≡ [] ∷ [] = ap (λ v. v.items) c.replace-finished_run.ensures.after ∙ c.in_ok-empty_string.ensures in (
       subst (λ (ws : List (List ℕ)). IsQueryBeyondRun ws later (more t ts)) (sym misses)
           (query_past_cut leading conjuncts later t ts sequence_query.0 (λ set. matches_set c.args.match_query set) no_few match_query.matching match_query.selective is),
-      c.in_ok-add_conjunct-2.ensures.numbers ∙ and_from _ (are_trigrams c.args.match_query) (c.in_ok-add_conjunct.ensures.numbers ∙ and_from (list_all are_trigrams c.args.self.now.conjuncts.items) _ sequence_query.1 c.in_ok-any_string.ensures.numbers) match_query.numbers,
+      trigrams_of_both (some_mentions c.add_conjunct.new.conjuncts.items) (mentions c.args.match_query) (some_mentions c.add_conjunct-2.new.conjuncts.items) (HaveMembers (more t ts)) (MayMatchSequence (more t ts))
+          c.in_ok-add_conjunct-2.ensures.mentioned
+          (trigrams_of_both (some_mentions c.args.self.now.conjuncts.items) (mentions query) (some_mentions c.add_conjunct.new.conjuncts.items) (HaveMembers (more t ts)) (MayMatchSequence (more t ts))
+          c.in_ok-add_conjunct.ensures.mentioned (trigrams_of_rest (some_mentions c.args.self.now.conjuncts.items) t ts sequence_query.1)
+          (trigrams_of_rest (mentions query) t ts (trigrams_of_run query ts leading sequence_query.0.run
+          (subst (λ (ws : List (List ℕ)). MentionsOnly query (λ w. is_among ws w ≡ true)) finished_run c.in_ok-any_string.ensures.mentioned))))
+          (trigrams_of_first (mentions c.args.match_query) t ts match_query.mentioned),
     )

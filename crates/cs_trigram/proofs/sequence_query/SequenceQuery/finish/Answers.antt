@@ -1,11 +1,12 @@
-use Rattle.std.proofs.Common.{◌≡◌, ◌&&◌, ℕ, Bool, ap, ◌∙◌}
-use Rattle.cs_trigram.specs.QueryNumbers.{are_trigrams}
-use Rattle.std.specs.List.{list_all}
-use Rattle.std.proofs.lemmas.Bool.{and_from}
-use Rattle.cs_trigram.specs.Query.{matches_set}
-use Rattle.cs_trigram.specs.Analysis.{all_match, has_any}
+use Rattle.std.proofs.Common.{◌≡◌, ◌&&◌, ℕ, Bool, true, List, sym, ap, ◌∙◌, subst}
+use Rattle.cs_tree.specs.Cover.{is_among}
+use Rattle.cs_trigram.specs.Query.{matches_set, mentions}
+use Rattle.cs_trigram.specs.MayMatch.{MayMatchSequence, HaveMembers}
+use Rattle.cs_trigram.specs.Analysis.{MentionsOnly, all_match, some_mentions, has_any}
 use Rattle.cs_trigram.specs.declared.queries.Query.TheVariants.{And}
-use Rattle.cs_trigram.proofs.QueryLemmas.{matches_set-And, numbers-And}
+use Rattle.cs_trigram.proofs.QueryLemmas.{matches_set-And, mentions-And}
+use Rattle.cs_trigram.proofs.MentionLemmas.{trigrams_of_both}
+use Rattle.cs_trigram.proofs.SequenceMentionLemmas.{trigrams_of_run}
 use Rattle.cs_trigram.proofs.SequenceQueryLemmas.{query_of_whole}
 use Rattle.cs_trigram.proofs.sequence_query.SequenceQuery.finish.Goals as goal
 
@@ -20,5 +21,10 @@ returns c = λ ts sequence_query many.
     record {
       matching = right.0;
       selective = λ set h. (λ few. absurd (many few), right.1 set h);
-      numbers = numbers-And c.add_conjunct.new.conjuncts ∙ c.in_ok-add_conjunct.ensures.numbers ∙ and_from (list_all are_trigrams c.args.self.conjuncts.items) _ sequence_query.1 c.in_ok-last.ensures.numbers;
+      mentioned = λ g h.
+          trigrams_of_both (some_mentions c.args.self.conjuncts.items) (mentions c.in_ok-last.last) (some_mentions c.add_conjunct.new.conjuncts.items) (HaveMembers ts) (MayMatchSequence ts)
+          c.in_ok-add_conjunct.ensures.mentioned sequence_query.1
+          (trigrams_of_run c.in_ok-last.last ts leading sequence_query.0.run
+          (subst (λ (ws : List (List ℕ)). MentionsOnly c.in_ok-last.last (λ w. is_among ws w ≡ true)) c.deref.ensures.value c.in_ok-last.ensures.mentioned))
+          g (sym (mentions-And g c.add_conjunct.new.conjuncts) ∙ h);
     }

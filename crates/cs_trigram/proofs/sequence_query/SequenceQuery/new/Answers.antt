@@ -1,11 +1,11 @@
 use Rattle.std.proofs.Common.{ℕ, List, sym, ap, subst}
-use Rattle.cs_trigram.specs.QueryNumbers.{are_trigrams}
 use Rattle.cs_syntax.specs.Matching.{none}
-use Rattle.std.specs.List.{list_all}
 use Rattle.cs_trigram.specs.ExactSet.{AreExactSetsReversed}
-use Rattle.cs_trigram.specs.Analysis.{IsQueryBeyondRun, all_match}
+use Rattle.cs_trigram.specs.Analysis.{IsQueryBeyondRun, all_match, some_mentions}
+use Rattle.cs_trigram.specs.MayMatch.{MayMatchSequence, HaveMembers}
 use Rattle.cs_trigram.specs.declared.exact_set.ExactSet.{ExactSet}
 use Rattle.cs_trigram.specs.declared.queries.Query.{Query}
+use Rattle.cs_trigram.proofs.MentionLemmas.{no_trigrams}
 use Rattle.cs_trigram.proofs.SequenceQueryLemmas.{query_of_none}
 use Rattle.cs_trigram.proofs.sequence_query.SequenceQuery.new.Goals as goal
 
@@ -13,7 +13,7 @@ pub returns-clause-required : goal.returns-clause-required
 returns-clause-required c = (
   subst (λ (ws : List (List ℕ)). IsQueryBeyondRun ws (λ set. all_match c.new.result.items set) none) (sym c.in_ok-leading.ensures)
       (query_of_none (λ set. all_match c.new.result.items set) (λ set. ap (λ (qs : List Query). all_match qs set) c.new.ensures.items)),
-  ap (list_all are_trigrams) c.new.ensures.items,
+  no_trigrams (some_mentions c.new.result.items) (HaveMembers none) (MayMatchSequence none) (λ g. ap (λ (qs : List Query). some_mentions qs g) c.new.ensures.items),
 )
 
 pub returns-clause-parts : goal.returns-clause-parts

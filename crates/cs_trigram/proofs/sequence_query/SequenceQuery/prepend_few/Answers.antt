@@ -1,16 +1,18 @@
 use Rattle.std.proofs.Common.{◌≡◌, ◌&&◌, ◌≤◌, ◌++◌, ℕ, Bool, List, [], length, map, sym, ap, ◌∙◌, subst, arith, true}
-use Rattle.cs_trigram.specs.QueryNumbers.{are_trigrams}
+use Rattle.cs_tree.specs.Cover.{is_among}
 use Rattle.cs_syntax.specs.Matching.{more}
-use Rattle.std.specs.List.{list_all}
-use Rattle.std.proofs.lemmas.Bool.{and_from}
+use Rattle.cs_trigram.specs.Query.{mentions}
+use Rattle.cs_trigram.specs.MayMatch.{MayMatchSequence, HaveMembers}
 use Rattle.std.proofs.lemmas.List.{length-map}
 use Rattle.cs_trigram.specs.ExactSet.{AreExactSetsReversed}
 use Rattle.cs_tree.specs.Folders.{are_distinct}
-use Rattle.cs_trigram.specs.Analysis.{IsQueryBeyondRun, IsLongestLeadingRun, all_match, has_any, with_strings, concatenations}
+use Rattle.cs_trigram.specs.Analysis.{IsQueryBeyondRun, IsLongestLeadingRun, MentionsOnly, all_match, some_mentions, has_any, with_strings, concatenations}
 use Rattle.cs_trigram.specs.declared.exact_set.ExactSet.{ExactSet}
 use Rattle.cs_trigram.proofs.NodeListLemmas.{some_of}
 use Rattle.cs_trigram.proofs.ExactSetLemmas.{only_string}
 use Rattle.cs_trigram.proofs.ConcatenationLemmas.{concatenations_of_one}
+use Rattle.cs_trigram.proofs.MentionLemmas.{trigrams_of_both}
+use Rattle.cs_trigram.proofs.SequenceMentionLemmas.{trigrams_of_run, trigrams_of_rest}
 use Rattle.cs_trigram.proofs.SequenceQueryLemmas.{query_past_few, query_past_run, few_tree}
 use Rattle.cs_trigram.proofs.sequence_query.SequenceQuery.prepend_few.Goals as goal
 
@@ -29,7 +31,7 @@ returns-then-strings-eq1-clause-required c = λ t ts strings parts sequence_quer
     behind ∙ sym (concatenations_of_one u leading run.different run.few) ∙ ap (λ (ws : List (List ℕ)). with_strings [] (concatenations ws leading)) (sym one) in
     let few : length (with_strings [] (concatenations us leading)) ≤ 20 =
     subst (λ (ws : List (List ℕ)). length ws ≤ 20) same (omega (arith, ap length behind, length-map leading (λ (v : List ℕ). u ++ v), run.few)) in
-    (subst (λ (ws : List (List ℕ)). IsQueryBeyondRun ws conjuncts (more t ts)) (sym same) (query_past_few leading conjuncts conjuncts t ts sequence_query.0 us strings few), sequence_query.1)
+    (subst (λ (ws : List (List ℕ)). IsQueryBeyondRun ws conjuncts (more t ts)) (sym same) (query_past_few leading conjuncts conjuncts t ts sequence_query.0 us strings few), trigrams_of_rest (some_mentions c.args.self.now.conjuncts.items) t ts sequence_query.1)
 
 pub returns-in-Some-clause-required : goal.returns-in-Some-clause-required
 returns-in-Some-clause-required c = λ t ts strings parts sequence_query.
@@ -42,10 +44,11 @@ returns-in-Some-clause-required c = λ t ts strings parts sequence_query.
     let same : c.in-Some.longer.items ≡ with_strings [] (concatenations us leading) =
     longer.0 ∙ ap (λ (vs : List (List ℕ)). with_strings [] (concatenations us vs)) finished_run in
     let few : length (with_strings [] (concatenations us leading)) ≤ 20 = subst (λ (ws : List (List ℕ)). length ws ≤ 20) same longer.1 in
-    (subst (λ (ws : List (List ℕ)). IsQueryBeyondRun ws conjuncts (more t ts)) (sym same) (query_past_few leading conjuncts conjuncts t ts sequence_query.0 us strings few), sequence_query.1)
+    (subst (λ (ws : List (List ℕ)). IsQueryBeyondRun ws conjuncts (more t ts)) (sym same) (query_past_few leading conjuncts conjuncts t ts sequence_query.0 us strings few), trigrams_of_rest (some_mentions c.args.self.now.conjuncts.items) t ts sequence_query.1)
 
 pub returns-clause-required : goal.returns-clause-required
 returns-clause-required c = λ t ts strings parts sequence_query.
+    let query = c.in_ok-any_string.field-0 in
     let leading = c.args.self.now.leading.items in
     let conjuncts : (ℕ → Bool) → Bool = λ set. all_match c.args.self.now.conjuncts.items set in
     let later : (ℕ → Bool) → Bool = λ set. all_match c.add_conjunct.new.conjuncts.items set in
@@ -55,5 +58,8 @@ returns-clause-required c = λ t ts strings parts sequence_query.
     let behind : AreExactSetsReversed c.deref-2.result.now ts = subst (λ (cs : List ExactSet). AreExactSetsReversed cs ts) (sym c.deref-2.ensures.value) parts in
     let longest : IsLongestLeadingRun (more t ts) c.in_ok-self-2.field-0.items = c.in_ok-self-2.ensures t ts strings behind in (
       query_past_run leading conjuncts later t ts sequence_query.0 c.in_ok-self-2.field-0.items longest (few_tree c.args.strings.now t strings) added,
-      c.in_ok-add_conjunct.ensures.numbers ∙ and_from (list_all are_trigrams c.args.self.now.conjuncts.items) _ sequence_query.1 c.in_ok-any_string.ensures.numbers,
+      trigrams_of_both (some_mentions c.args.self.now.conjuncts.items) (mentions query) (some_mentions c.add_conjunct.new.conjuncts.items) (HaveMembers (more t ts)) (MayMatchSequence (more t ts))
+          c.in_ok-add_conjunct.ensures.mentioned (trigrams_of_rest (some_mentions c.args.self.now.conjuncts.items) t ts sequence_query.1)
+          (trigrams_of_rest (mentions query) t ts (trigrams_of_run query ts leading sequence_query.0.run
+          (subst (λ (ws : List (List ℕ)). MentionsOnly query (λ w. is_among ws w ≡ true)) finished_run c.in_ok-any_string.ensures.mentioned))),
     )

@@ -1,0 +1,124 @@
+// How a call of the program ends: its exit status, the update of the index file, and the line of an error.
+ghost use Rattle.std.specs.Prelude.{◌≡◌, ◌≢◌, IfOk, IsNone, option_copied, unwrap_or, string_bytes};
+ghost use Rattle.cs_tree.specs.TakesPrefix.{EndsAfter};
+ghost use Rattle.codesearch.specs.Program.{exit_status, update_of, fault_line, Reports, PrintsErrorLine};
+
+use cs_storage::IndexUpdate;
+use cs_tools::{Refusal, Status, Tool, message};
+use cs_tree::{IoFault, Sink, write_all};
+use std::alloc::{AllocError, Global};
+
+/// An error that ends the program. Its line is printed on standard error.
+#[derive(Clone, Copy, Drop)]
+pub(crate) enum ProgramFault<'a> {
+    /// The first argument names no tool.
+    FirstArg,
+    /// The argument with this number, counted from 1 after the name of the tool, is not UTF-8.
+    NonText(Tool, usize),
+    /// `cindex` finds no current folder that is UTF-8 and begins with `/`.
+    NoFolder,
+    /// The index file with this name cannot be opened or read.
+    Unreadable(&'a str),
+    /// The index file with this name cannot be written or removed.
+    Unwritable(&'a str),
+    /// An error of the arguments or of the tool, and the argument or path that it points at.
+    Refusal(Tool, Refusal, &'a str),
+    /// An allocation failed.
+    Memory,
+}
+
+/// How a call of the program ends.
+#[derive(Drop)]
+pub(crate) enum Outcome<'a> {
+    /// A job of `cindex` is done, and the index file gets this update.
+    Done(IndexUpdate),
+    /// A search is done.
+    Searched(Status),
+    /// An error, whose line is still to be printed.
+    Refused(ProgramFault<'a>),
+}
+
+impl Outcome<'_> {
+    /// The exit status: 0 if some line matched or a job is done, 1 if no line matched, 2 after an error.
+    pub(crate) fn status(&self) -> u8
+        ensures { result ≡ exit_status self.now }
+    {
+        match self {
+            Outcome::Done(_) | Outcome::Searched(Status::Matched) => 0,
+            Outcome::Searched(Status::NoMatch) => 1,
+            Outcome::Refused(_) => 2,
+        }
+    }
+
+    /// The update of the index file; none if it stays as it is.
+    pub(crate) fn update(&self) -> Option<&IndexUpdate>
+        ensures update { unwrap_or (option_copied result) IndexUpdate.Keep ≡ update_of self.now }
+        ensures kept { exit_status self.now ≢ 0 → IsNone result }
+    {
+        match self {
+            Outcome::Done(update) => Some(update),
+            Outcome::Searched(_) | Outcome::Refused(_) => None,
+        }
+    }
+
+    /// Prints the line of an error; other outcomes have none.
+    pub(crate) fn report<E: Sink>(&self, alloc: Global, err: &mut E) -> Result<(), IoFault>
+        ensures { Reports self.now (E.model err.old) (E.model err.new) result }
+    {
+        match self {
+            Outcome::Refused(fault) => print_fault(alloc, fault, err),
+            Outcome::Done(_) | Outcome::Searched(_) => Ok(()),
+        }
+    }
+}
+
+/// Prints the line of an error, or that there is no memory for the line.
+fn print_fault<E: Sink>(alloc: Global, fault: &ProgramFault<'_>, err: &mut E) -> Result<(), IoFault>
+    ensures { PrintsErrorLine fault.now (E.model err.old) (E.model err.new) result }
+{
+    match line(alloc, fault) {
+        Ok(line) => print_line(line.as_str(), err),
+        Err(AllocError) => print_line("codesearch: out of memory\n", err),
+    }
+}
+
+/// The line of an error.
+fn line(alloc: Global, fault: &ProgramFault<'_>) -> Result<String, AllocError>
+    ensures { IfOk result (λ line. string_bytes line ≡ fault_line fault.now) }
+{
+    match fault {
+        ProgramFault::FirstArg => {
+            String::from_str(
+                alloc,
+                "codesearch: first word must be cindex, csearch or cgrep\n",
+            )
+        }
+        ProgramFault::NonText(tool, number) => non_text_line(alloc, *tool, *number),
+        ProgramFault::NoFolder => String::from_str(alloc, "codesearch: no current folder\n"),
+        ProgramFault::Unreadable(file) => { format!(in alloc; "codesearch: cannot read {file}\n") }
+        ProgramFault::Unwritable(file) => { format!(in alloc; "codesearch: cannot write {file}\n") }
+        ProgramFault::Refusal(tool, refusal, arg) => message(alloc, *tool, refusal, arg),
+        ProgramFault::Memory => String::from_str(alloc, "codesearch: out of memory\n"),
+    }
+}
+
+/// The line for an argument that is not UTF-8.
+fn non_text_line(alloc: Global, tool: Tool, number: usize) -> Result<String, AllocError>
+    ensures { IfOk result
+        (λ line. string_bytes line ≡ fault_line (ProgramFault.NonText tool number)) }
+{
+    let name = match tool {
+        Tool::Cindex => "cindex",
+        Tool::Csearch => "csearch",
+        Tool::Cgrep => "cgrep",
+    };
+    format!(in alloc; "{name}: word {number} is not text\n")
+}
+
+/// Prints a line at once.
+fn print_line<E: Sink>(line: &str, err: &mut E) -> Result<(), IoFault>
+    ensures { EndsAfter line.now (E.model err.old) (E.model err.new) result }
+{
+    write_all(err, line.as_bytes())?;
+    err.flush()
+}

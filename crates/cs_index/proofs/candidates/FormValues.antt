@@ -1,0 +1,347 @@
+-- Which nodes of a form match.
+use Rattle.std.proofs.Common.{◌≡◌, ℕ, zero, suc, ◌+◌, ◌-◌, ◌<◌, ◌≤◌, Bool, true, false, not, ◌&&◌, ◌||◌, eqb, List, [], ◌∷◌, ◌++◌, length, map, get_or, refl, sym, ap, subst, ◌∙◌, ◌⊎◌, inl, inr, arith, length-append}
+use Rattle.std.proofs.lemmas.Bool.{true≢false, cases_Bool, eqb-true, eq-eqb, ne_eqb, or_left, or_right}
+use Rattle.std.proofs.Math.ListN.{get_or-append}
+use Rattle.std.proofs.lemmas.List.{get_or-append-add}
+use Rattle.std.proofs.lemmas.List.Folds.{list_all-append, list_any-append}
+use Rattle.std.specs.List.{AllByRecursion, list_all, list_any}
+use Rattle.cs_trigram.specs.Trigram.{has, Ascends}
+use Rattle.cs_trigram.specs.Query.{matches_set}
+use Rattle.cs_trigram.specs.declared.queries.Query.{Query}
+use Rattle.cs_index.specs.declared.reading.form.Node.{Node}
+use Rattle.cs_index.specs.Form.{members_match, node_matches, joined, queries_match, matched_from, matched, number_matches, numbers, Exist, IsWithin, IsForm, Grows, Gathers}
+
+-- ---- nodes one after the other
+
+pub matched-append : (known : List Bool) (ns : List Node) (n : Node) → matched_from known (ns ++ n ∷ []) ≡ matched_from known ns ++ node_matches (matched_from known ns) n ∷ []
+matched-append known [] n = refl
+matched-append known (m ∷ ns) n = matched-append (known ++ node_matches known m ∷ []) ns n
+
+pub length-matched : (known : List Bool) (ns : List Node) → length (matched_from known ns) ≡ length known + length ns
+length-matched known [] = omega arith
+length-matched known (n ∷ ns) = let tail = length-matched (known ++ node_matches known n ∷ []) ns in let one = length-append known (node_matches known n ∷ []) in omega (arith, tail, one)
+
+-- ---- members
+
+module _ (p q : ℕ → Bool) where
+  all_alike : (ms : List ℕ) → AllByRecursion (λ m. p m ≡ q m) ms → list_all p ms ≡ list_all q ms
+  all_alike [] h = refl
+  all_alike (m ∷ ms) h = λ i. h.0 i && all_alike ms h.1 i
+
+  any_alike : (ms : List ℕ) → AllByRecursion (λ m. p m ≡ q m) ms → list_any p ms ≡ list_any q ms
+  any_alike [] h = refl
+  any_alike (m ∷ ms) h = λ i. h.0 i || any_alike ms h.1 i
+
+all_weaker : (P Q : ℕ → Type 0) (ms : List ℕ) → ((m : ℕ) → P m → Q m) → AllByRecursion P ms → AllByRecursion Q ms
+all_weaker P Q [] f h = tt
+all_weaker P Q (m ∷ ms) f h = (f m h.0, all_weaker P Q ms f h.1)
+
+-- members that match alike
+pub members_alike : (is_and : Bool) (one other : List Bool) (ms : List ℕ) → AllByRecursion (λ m. get_or one m false ≡ get_or other m false) ms → members_match is_and one ms ≡ members_match is_and other ms
+members_alike true one other ms h = all_alike (λ m. get_or one m false) (λ m. get_or other m false) ms h
+members_alike false one other ms h = any_alike (λ m. get_or one m false) (λ m. get_or other m false) ms h
+
+pub exist_more : (lists : ℕ) (earlier later : List Node) (ms : List ℕ) → length earlier ≤ length later → Exist lists earlier ms → Exist lists later ms
+exist_more lists earlier later ms more h = all_weaker (λ m. m < numbers lists earlier) (λ m. m < numbers lists later) ms (λ m below. omega (arith, below, more)) h
+
+-- members match as before in a form that grew
+pub members_grown : (lists : ℕ) (earlier later : List Node) (g : Grows lists earlier later) (bits : List Bool) → length bits ≡ lists → (is_and : Bool) (ms : List ℕ) → Exist lists earlier ms → members_match is_and (matched bits later) ms ≡ members_match is_and (matched bits earlier) ms
+members_grown lists earlier later g bits len is_and ms h = members_alike is_and (matched bits later) (matched bits earlier) ms (all_weaker (λ m. m < numbers lists earlier) (λ m. get_or (matched bits later) m false ≡ get_or (matched bits earlier) m false) ms (λ m below. g.same bits len m below) h)
+
+all_append : (P : ℕ → Type 0) (xs : List ℕ) (x : ℕ) → AllByRecursion P xs → P x → AllByRecursion P (xs ++ x ∷ [])
+all_append P [] x h p = (p, tt)
+all_append P (y ∷ xs) x h p = (h.0, all_append P xs x h.1 p)
+
+-- one more member
+pub members_push : (is_and : Bool) (known : List Bool) (ms : List ℕ) (m : ℕ) → members_match is_and known (ms ++ m ∷ []) ≡ joined is_and (members_match is_and known ms) (get_or known m false)
+members_push true known ms m = list_all-append (λ k. get_or known k false) ms (m ∷ []) ∙ ap (λ b. list_all (λ k. get_or known k false) ms && b) (and_true (get_or known m false))
+  where
+    and_true : (b : Bool) → (b && true) ≡ b
+    and_true true = refl
+    and_true false = refl
+members_push false known ms m = list_any-append (λ k. get_or known k false) ms (m ∷ []) ∙ ap (λ b. list_any (λ k. get_or known k false) ms || b) (or_false (get_or known m false))
+  where
+    or_false : (b : Bool) → (b || false) ≡ b
+    or_false true = refl
+    or_false false = refl
+
+-- ---- a form grows
+
+pub grows_not : (lists : ℕ) (ns : List Node) → IsForm lists ns → Grows lists ns ns
+grows_not lists ns form = record { form = form; more = omega arith; same = λ bits len n below. refl }
+
+pub grows_on : (lists : ℕ) (a b c : List Node) → Grows lists a b → Grows lists b c → Grows lists a c
+grows_on lists a b c g h = record {
+  form = h.form;
+  more = omega (arith, g.more, h.more);
+  same = λ bits len n below. h.same bits len n (omega (arith, below, g.more)) ∙ g.same bits len n below;
+}
+
+module _ (lists : ℕ) (ns : List Node) (form : IsForm lists ns) (n : Node) (there : Exist lists ns n.members.items) where
+  abbrev later : List Node
+  later = ns ++ n ∷ []
+
+  long : (bits : List Bool) → length bits ≡ lists → length (matched bits ns) ≡ numbers lists ns
+  long bits len = let e = length-matched (false ∷ true ∷ bits) ns in omega (arith, e, len)
+
+  before : (bits : List Bool) → length bits ≡ lists → (k : ℕ) → k < numbers lists ns → number_matches bits later k ≡ number_matches bits ns k
+  before bits len k below =
+      ap (λ known. get_or known k false) (matched-append (false ∷ true ∷ bits) ns n)
+      ∙ get_or-append (matched bits ns) (node_matches (matched bits ns) n ∷ []) false k (omega (arith, below, long bits len))
+
+  alike : (bits : List Bool) → length bits ≡ lists → (m : Node) → Exist lists ns m.members.items → node_matches (matched bits later) m ≡ node_matches (matched bits ns) m
+  alike bits len m h = members_alike m.is_and (matched bits later) (matched bits ns) m.members.items (all_weaker (λ k. k < numbers lists ns) (λ k. get_or (matched bits later) k false ≡ get_or (matched bits ns) k false) m.members.items (λ k below. before bits len k below) h)
+
+  pub pushed_matches : (bits : List Bool) → length bits ≡ lists → number_matches bits later (2 + lists + length ns) ≡ node_matches (matched bits later) n
+  pushed_matches bits len =
+      let at : 2 + lists + length ns ≡ length (matched bits ns) + 0 = omega (arith, long bits len) in
+      ap (λ known. get_or known (2 + lists + length ns) false) (matched-append (false ∷ true ∷ bits) ns n)
+      ∙ ap (λ k. get_or (matched bits ns ++ node_matches (matched bits ns) n ∷ []) k false) at
+      ∙ get_or-append-add (matched bits ns) (node_matches (matched bits ns) n ∷ []) 0 false
+      ∙ sym (alike bits len n there)
+
+  more_exist : (ms : List Node) → AllByRecursion (λ (m : Node). Exist lists ns m.members.items) ms → AllByRecursion (λ (m : Node). Exist lists later m.members.items) (ms ++ n ∷ [])
+  more_exist [] h = (exist_more lists ns later n.members.items (let l = length-append ns (n ∷ []) in omega (arith, l)) there, tt)
+  more_exist (m ∷ ms) h = (exist_more lists ns later m.members.items (let l = length-append ns (n ∷ []) in omega (arith, l)) h.0, more_exist ms h.1)
+
+  at_index : (ms : List Node) (k : ℕ) (d : Node) → AllByRecursion (λ (m : Node). Exist lists ns m.members.items) ms → k < length ms → Exist lists ns (get_or ms k d).members.items
+  at_index [] k d h below = absurd (omega (arith, below))
+  at_index (m ∷ ms) zero d h below = h.0
+  at_index (m ∷ ms) (suc k) d h below = at_index ms k d h.1 (omega (arith, below))
+
+  pub grows_push : Grows lists ns later
+  grows_push =
+      let l = length-append ns (n ∷ []) in
+      record {
+        form = record {
+          exist = more_exist ns form.exist;
+          matches = λ bits len k below d. each bits len k d below (split k below);
+        };
+        more = omega (arith, l);
+        same = before;
+      }
+    where
+      split : (k : ℕ) → k < length later → (k < length ns) ⊎ (k ≡ length ns)
+      split k below = let l = length-append ns (n ∷ []) in elim (order k (length ns)) [ inl less ↦ inl less | inr more ↦ inr (omega (arith, below, l, more)) ]
+        where
+          order : (a b : ℕ) → (a < b) ⊎ (b ≤ a)
+          order zero zero = inr (omega arith)
+          order zero (suc b) = inl (omega arith)
+          order (suc a) zero = inr (omega arith)
+          order (suc a) (suc b) = elim (order a b) [ inl h ↦ inl (omega (arith, h)) | inr h ↦ inr (omega (arith, h)) ]
+
+      each : (bits : List Bool) → length bits ≡ lists → (k : ℕ) (d : Node) → k < length later → (k < length ns) ⊎ (k ≡ length ns) → number_matches bits later (2 + lists + k) ≡ node_matches (matched bits later) (get_or later k d)
+      each bits len k d below (inl less) =
+          before bits len (2 + lists + k) (omega (arith, less)) ∙ form.matches bits len k less d
+          ∙ sym (alike bits len (get_or ns k d) (at_index ns k d form.exist less))
+          ∙ ap (node_matches (matched bits later)) (sym (get_or-append ns (n ∷ []) d k less))
+      each bits len k d below (inr is) =
+          ap (λ j. number_matches bits later (2 + lists + j)) is ∙ pushed_matches bits len
+          ∙ ap (node_matches (matched bits later)) (sym (ap (λ j. get_or later j d) (let z : k ≡ length ns + 0 = omega (arith, is) in z) ∙ get_or-append-add ns (n ∷ []) 0 d))
+
+-- ---- members gathered one by one
+
+pub length_map : (set : ℕ → Bool) (xs : List ℕ) → length (map set xs) ≡ length xs
+length_map set [] = refl
+length_map set (x ∷ xs) = ap suc (length_map set xs)
+
+joined-unit : (is_and b : Bool) → joined is_and b is_and ≡ b
+joined-unit true true = refl
+joined-unit true false = refl
+joined-unit false true = refl
+joined-unit false false = refl
+
+joined-assoc : (is_and a b c : Bool) → joined is_and (joined is_and a b) c ≡ joined is_and a (joined is_and b c)
+joined-assoc true true b c = refl
+joined-assoc true false b c = refl
+joined-assoc false true b c = refl
+joined-assoc false false b c = refl
+
+queries-none : (is_and : Bool) (set : ℕ → Bool) → queries_match is_and set [] ≡ is_and
+queries-none true set = refl
+queries-none false set = refl
+
+queries-push : (is_and : Bool) (set : ℕ → Bool) (qs : List Query) (q : Query) → queries_match is_and set (qs ++ q ∷ []) ≡ joined is_and (queries_match is_and set qs) (matches_set q set)
+queries-push true set qs q = list_all-append (λ k. matches_set k set) qs (q ∷ []) ∙ ap (λ b. list_all (λ k. matches_set k set) qs && b) (joined-unit true (matches_set q set))
+queries-push false set qs q = list_any-append (λ k. matches_set k set) qs (q ∷ []) ∙ ap (λ b. list_any (λ k. matches_set k set) qs || b) (joined-unit false (matches_set q set))
+
+module _ (trigrams : List ℕ) where
+  -- nothing is gathered yet
+  pub gathers_none : (ns : List Node) (n : Node) → IsForm (length trigrams) ns → Exist (length trigrams) ns n.members.items → Gathers trigrams ns ns n n (λ set. queries_match n.is_and set [])
+  gathers_none ns n form there = record {
+    grows = grows_not (length trigrams) ns form;
+    kind = refl;
+    exist = there;
+    matches = λ set within. sym (ap (joined n.is_and (node_matches (matched (map set trigrams) ns) n)) (queries-none n.is_and set) ∙ joined-unit n.is_and (node_matches (matched (map set trigrams) ns) n));
+  }
+
+  -- a query more
+  pub gathers_step : (a b c : List Node) (n m m' : Node) (taken : List Query) (q : Query) → Exist (length trigrams) a n.members.items → Gathers trigrams a b n m (λ set. queries_match n.is_and set taken) → Gathers trigrams b c m m' (matches_set q) → Gathers trigrams a c n m' (λ set. queries_match n.is_and set (taken ++ q ∷ []))
+  gathers_step a b c n m m' taken q there g h = record {
+    grows = grows_on (length trigrams) a b c g.grows h.grows;
+    kind = h.kind ∙ g.kind;
+    exist = h.exist;
+    matches = λ set within.
+        let len = length_map set trigrams in
+        let bits : List Bool = map set trigrams in
+        let keeps_m : node_matches (matched bits c) m ≡ node_matches (matched bits b) m = members_grown (length trigrams) b c h.grows bits len m.is_and m.members.items g.exist in
+        let keeps_n : node_matches (matched bits c) n ≡ node_matches (matched bits b) n = members_grown (length trigrams) b c h.grows bits len n.is_and n.members.items (exist_more (length trigrams) a b n.members.items g.grows.more there) in
+        h.matches set within
+        ∙ (λ i. joined (g.kind i) ((keeps_m ∙ g.matches set within ∙ ap (λ v. joined n.is_and v (queries_match n.is_and set taken)) (sym keeps_n)) i) (matches_set q set))
+        ∙ joined-assoc n.is_and (node_matches (matched bits c) n) (queries_match n.is_and set taken) (matches_set q set)
+        ∙ ap (joined n.is_and (node_matches (matched bits c) n)) (sym (queries-push n.is_and set taken q));
+  }
+
+  -- a number more
+  pub gathers_number : (a b : List Node) (n m : Node) (q : Query) (number : ℕ) → Grows (length trigrams) a b → Exist (length trigrams) a n.members.items → number < numbers (length trigrams) b → ((set : ℕ → Bool) → IsWithin trigrams set → number_matches (map set trigrams) b number ≡ matches_set q set) → m.is_and ≡ n.is_and → m.members.items ≡ n.members.items ++ number ∷ [] → Gathers trigrams a b n m (matches_set q)
+  gathers_number a b n m q number g there exists is kind members = record {
+    grows = g;
+    kind = kind;
+    exist = subst (Exist (length trigrams) b) (sym members) (all_append (λ k. k < numbers (length trigrams) b) n.members.items number (exist_more (length trigrams) a b n.members.items g.more there) exists);
+    matches = λ set within.
+        let known : List Bool = matched (map set trigrams) b in
+        (λ i. members_match (kind i) known (members i)) ∙ members_push n.is_and known n.members.items number
+        ∙ ap (joined n.is_and (node_matches known n)) (is set within);
+  }
+
+  -- the gathered members match as the queries do
+  pub gathers_all : (a b : List Node) (n m : Node) (wanted : (ℕ → Bool) → Bool) → Gathers trigrams a b n m wanted → n.members.items ≡ [] → (set : ℕ → Bool) → IsWithin trigrams set → node_matches (matched (map set trigrams) b) m ≡ joined n.is_and n.is_and (wanted set)
+  gathers_all a b n m wanted g none set within = g.matches set within ∙ ap (λ v. joined n.is_and v (wanted set)) (ap (members_match n.is_and (matched (map set trigrams) b)) none ∙ empty n.is_and)
+    where
+      empty : (is_and : Bool) → members_match is_and (matched (map set trigrams) b) [] ≡ is_and
+      empty true = refl
+      empty false = refl
+
+pub joined-first : (is_and b : Bool) → joined is_and is_and b ≡ b
+joined-first true b = refl
+joined-first false b = refl
+
+-- ---- members once each
+
+pub bool_eq : (a b : Bool) → (a ≡ true → b ≡ true) → (b ≡ true → a ≡ true) → a ≡ b
+bool_eq true true f g = refl
+bool_eq true false f g = sym (f refl)
+bool_eq false true f g = g refl
+bool_eq false false f g = refl
+
+module _ (p : ℕ → Bool) where
+  pub all_at : (xs : List ℕ) (g : ℕ) → list_all p xs ≡ true → has xs g ≡ true → p g ≡ true
+  all_at [] g h there = absurd (true≢false (sym there))
+  all_at (x ∷ xs) g h there = elim (cases_Bool (p x)) [
+    | inl holds ↦ elim (cases_Bool (eqb x g)) [
+      | inl here ↦ subst (λ k. p k ≡ true) (eqb-true x g here) holds
+      | inr apart ↦ all_at xs g (sym (ap (λ b. b && list_all p xs) holds) ∙ h) (sym (ap (λ b. b || has xs g) apart) ∙ there)
+    ]
+    | inr fails ↦ absurd (true≢false (sym h ∙ ap (λ b. b && list_all p xs) fails))
+  ]
+
+  pub all_from : (xs : List ℕ) → ((g : ℕ) → has xs g ≡ true → p g ≡ true) → list_all p xs ≡ true
+  all_from [] f = refl
+  all_from (x ∷ xs) f = (λ i. f x (or_left (eqb x x) (has xs x) (eq-eqb x x refl)) i && all_from xs (λ g h. f g (or_right (eqb x g) (has xs g) h)) i)
+
+  any_from : (xs : List ℕ) (g : ℕ) → has xs g ≡ true → p g ≡ true → list_any p xs ≡ true
+  any_from [] g there holds = absurd (true≢false (sym there))
+  any_from (x ∷ xs) g there holds = elim (cases_Bool (eqb x g)) [
+    | inl here ↦ or_left (p x) (list_any p xs) (subst (λ k. p k ≡ true) (sym (eqb-true x g here)) holds)
+    | inr apart ↦ or_right (p x) (list_any p xs) (any_from xs g (sym (ap (λ b. b || has xs g) apart) ∙ there) holds)
+  ]
+
+  any_in : (xs ys : List ℕ) → ((g : ℕ) → has xs g ≡ true → has ys g ≡ true) → list_any p xs ≡ true → list_any p ys ≡ true
+  any_in [] ys f h = absurd (true≢false (sym h))
+  any_in (x ∷ xs) ys f h = elim (cases_Bool (p x)) [
+    | inl holds ↦ any_from ys x (f x (or_left (eqb x x) (has xs x) (eq-eqb x x refl))) holds
+    | inr fails ↦ any_in xs ys (λ g there. f g (or_right (eqb x g) (has xs g) there)) (sym (ap (λ b. b || list_any p xs) fails) ∙ h)
+  ]
+
+-- the same members match alike
+pub members_same : (is_and : Bool) (known : List Bool) (xs ys : List ℕ) → ((g : ℕ) → has xs g ≡ has ys g) → members_match is_and known xs ≡ members_match is_and known ys
+members_same true known xs ys same =
+    let p : ℕ → Bool = λ m. get_or known m false in
+    bool_eq (list_all p xs) (list_all p ys) (λ h. all_from p ys (λ g there. all_at p xs g h (same g ∙ there))) (λ h. all_from p xs (λ g there. all_at p ys g h (sym (same g) ∙ there)))
+members_same false known xs ys same =
+    let p : ℕ → Bool = λ m. get_or known m false in
+    bool_eq (list_any p xs) (list_any p ys) (any_in p xs ys (λ g there. sym (same g) ∙ there)) (any_in p ys xs (λ g there. same g ∙ there))
+
+-- a member that decides
+pub members_zero : (is_and : Bool) (known : List Bool) (ms : List ℕ) (m : ℕ) → has ms m ≡ true → get_or known m false ≡ not is_and → members_match is_and known ms ≡ not is_and
+members_zero true known ms m there is = elim (cases_Bool (list_all (λ k. get_or known k false) ms)) [
+  | inl all ↦ absurd (true≢false (sym (all_at (λ k. get_or known k false) ms m all there) ∙ is))
+  | inr not_all ↦ not_all
+]
+members_zero false known ms m there one = any_from (λ k. get_or known k false) ms m there one
+
+-- the same members exist
+pub exist_same : (n : ℕ) (xs ys : List ℕ) → ((g : ℕ) → has xs g ≡ has ys g) → AllByRecursion (λ m. m < n) xs → AllByRecursion (λ m. m < n) ys
+exist_same n xs ys same all = of ys (λ g there. member xs g all (same g ∙ there))
+  where
+    member : (zs : List ℕ) (g : ℕ) → AllByRecursion (λ m. m < n) zs → has zs g ≡ true → g < n
+    member [] g h there = absurd (true≢false (sym there))
+    member (z ∷ zs) g h there = elim (cases_Bool (eqb z g)) [
+      | inl here ↦ subst (λ k. k < n) (eqb-true z g here) h.0
+      | inr apart ↦ member zs g h.1 (sym (ap (λ b. b || has zs g) apart) ∙ there)
+    ]
+
+    of : (zs : List ℕ) → ((g : ℕ) → has zs g ≡ true → g < n) → AllByRecursion (λ m. m < n) zs
+    of [] f = tt
+    of (z ∷ zs) f = (f z (or_left (eqb z z) (has zs z) (eq-eqb z z refl)), of zs (λ g there. f g (or_right (eqb z g) (has zs g) there)))
+
+-- ---- numbers that are no nodes
+
+prefix_kept : (known : List Bool) (ns : List Node) (k : ℕ) → k < length known → get_or (matched_from known ns) k false ≡ get_or known k false
+prefix_kept known [] k h = refl
+prefix_kept known (n ∷ ns) k h =
+    let l = length-append known (node_matches known n ∷ []) in
+    prefix_kept (known ++ node_matches known n ∷ []) ns k (omega (arith, l, h)) ∙ get_or-append known (node_matches known n ∷ []) false k h
+
+pub nothing_matches : (bits : List Bool) (ns : List Node) → number_matches bits ns 0 ≡ false
+nothing_matches bits ns = prefix_kept (false ∷ true ∷ bits) ns 0 (omega arith)
+
+pub everything_matches : (bits : List Bool) (ns : List Node) → number_matches bits ns 1 ≡ true
+everything_matches bits ns = prefix_kept (false ∷ true ∷ bits) ns 1 (omega arith)
+
+at_map : (set : ℕ → Bool) (xs : List ℕ) (k : ℕ) → k < length xs → get_or (map set xs) k false ≡ set (get_or xs k 0)
+at_map set [] k h = absurd (omega (arith, h))
+at_map set (x ∷ xs) zero h = refl
+at_map set (x ∷ xs) (suc k) h = at_map set xs k (omega (arith, h))
+
+pub list_matches : (set : ℕ → Bool) (trigrams : List ℕ) (ns : List Node) (k : ℕ) → k < length trigrams → number_matches (map set trigrams) ns (2 + k) ≡ set (get_or trigrams k 0)
+list_matches set trigrams ns k h =
+    let l = length_map set trigrams in
+    let two : 2 + k ≡ suc (suc k) = omega arith in
+    prefix_kept (false ∷ true ∷ map set trigrams) ns (2 + k) (omega (arith, l, h)) ∙ ap (λ n. get_or (false ∷ true ∷ map set trigrams) n false) two ∙ at_map set trigrams k h
+
+pub members_none : (is_and : Bool) (known : List Bool) (ms : List ℕ) → length ms < 1 → members_match is_and known ms ≡ is_and
+members_none true known [] h = refl
+members_none false known [] h = refl
+members_none is_and known (m ∷ ms) h = absurd (omega (arith, h))
+
+-- ---- ascending trigrams
+
+pub ascends_order : (xs : List ℕ) → Ascends xs → (i j : ℕ) → i ≤ j → j < length xs → get_or xs i 0 ≤ get_or xs j 0
+ascends_order [] up i j h below = absurd (omega (arith, below))
+ascends_order (x ∷ xs) up zero zero h below = omega arith
+ascends_order (x ∷ []) up zero (suc j) h below = absurd (omega (arith, below))
+ascends_order (x ∷ y ∷ ys) up zero (suc j) h below = let r : y ≤ get_or (y ∷ ys) j 0 = ascends_order (y ∷ ys) up.1 0 j (omega arith) (omega (arith, below)) in let s = up.0 in omega (arith, r, s)
+ascends_order (x ∷ xs) up (suc i) zero h below = absurd (omega (arith, h))
+ascends_order (x ∷ []) up (suc i) (suc j) h below = absurd (omega (arith, below))
+ascends_order (x ∷ y ∷ ys) up (suc i) (suc j) h below = ascends_order (y ∷ ys) up.1 i j (omega (arith, h)) (omega (arith, below))
+
+pub not_between : (xs : List ℕ) (g i : ℕ) → ((k : ℕ) → k < i → k < length xs → get_or xs k 0 < g) → ((k : ℕ) → i ≤ k → k < length xs → g < get_or xs k 0) → has xs g ≡ false
+not_between [] g i low high = refl
+not_between (x ∷ xs) g zero low high =
+    let above : g < x = high 0 (omega arith) (omega arith) in
+    (λ j. ne_eqb x g (λ e. absurd (omega (arith, e, above))) j || not_between xs g 0 (λ k h b. absurd (omega (arith, h))) (λ k h b. high (suc k) (omega arith) (omega (arith, b))) j)
+not_between (x ∷ xs) g (suc i) low high =
+    let under : x < g = low 0 (omega arith) (omega arith) in
+    (λ j. ne_eqb x g (λ e. absurd (omega (arith, e, under))) j || not_between xs g i (λ k h b. low (suc k) (omega (arith, h)) (omega (arith, b))) (λ k h b. high (suc k) (omega (arith, h)) (omega (arith, b))) j)
+
+pub gathers_wanted : (trigrams : List ℕ) (a b : List Node) (n m : Node) (wanted wanted' : (ℕ → Bool) → Bool) → ((set : ℕ → Bool) → wanted set ≡ wanted' set) → Gathers trigrams a b n m wanted → Gathers trigrams a b n m wanted'
+gathers_wanted trigrams a b n m wanted wanted' same g = record {
+  grows = g.grows;
+  kind = g.kind;
+  exist = g.exist;
+  matches = λ set within. g.matches set within ∙ ap (joined n.is_and (node_matches (matched (map set trigrams) b) n)) (same set);
+}
+
+pub form_none : (lists : ℕ) → IsForm lists []
+form_none lists = record { exist = tt; matches = λ bits len k below node. absurd (omega (arith, below)) }

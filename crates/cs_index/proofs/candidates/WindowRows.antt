@@ -1,0 +1,296 @@
+-- The rows of a window of ids.
+use Rattle.std.proofs.Common.{◌≡◌, ℕ, zero, suc, ◌+◌, ◌-◌, ◌<◌, ◌≤◌, Bool, true, false, cond, ◌&&◌, ◌||◌, eqb, List, [], ◌∷◌, ◌++◌, length, take, drop, get_or, set, Vec, Global, Result, Ok, Err, refl, sym, ap, subst, ◌∙◌, ◌⊎◌, inl, inr, arith, length-set, replicate}
+use Rattle.std.proofs.lemmas.Bool.{true≢false, cases_Bool, eqb-true, eq-eqb, ne_eqb}
+use Rattle.std.proofs.Math.Bool.{or-false}
+use Rattle.std.proofs.lemmas.List.{append-nil, get_or-drop}
+use Rattle.std.specs.Prelude.{IfErr}
+use Rattle.std.specs.Result.{IsErrAnd}
+use Rattle.cs_index.specs.declared.fault.IndexFault.{IndexFault}
+use Rattle.std.specs.Prelude.{filter}
+use Rattle.std.specs.List.{AllByRecursion, AllZip, list_all, list_any, range_with_len}
+use Rattle.cs_trigram.specs.Trigram.{has}
+use Rattle.cs_index.specs.AscendingIds.{AscendWithin, max_ids}
+use Rattle.cs_index.specs.PostingLists.{Ids}
+use Rattle.cs_index.specs.Rows.{are_whole, column, have_id, BeginsFrom, HaveWidth, IsReadTo}
+use Rattle.cs_index.proofs.postings.IteratorSteps.{mark_step}
+
+-- ---- ids that ascend
+
+pub ascend_weaker : (m a b : ℕ) (ids : List ℕ) → a ≤ b → AscendWithin m b ids → AscendWithin m a ids
+ascend_weaker m a b [] h up = tt
+ascend_weaker m a b (id ∷ ids) h up = (omega (arith, h, up.0), up.1, up.2)
+
+ascend_from : (m a end : ℕ) (ids : List ℕ) → AscendWithin m a ids → BeginsFrom end ids → AscendWithin m end ids
+ascend_from m a end [] up h = tt
+ascend_from m a end (id ∷ ids) up h = (h, up.1, up.2)
+
+none_below : (m end : ℕ) (ids : List ℕ) (id : ℕ) → AscendWithin m end ids → id < end → has ids id ≡ false
+none_below m end [] id up h = refl
+none_below m end (i ∷ ids) id up h = λ j. ne_eqb i id (λ e. absurd (omega (arith, e, h, up.0))) j || none_below m (i + 1) ids id up.2 (omega (arith, h, up.0)) j
+
+shifted : (start id k : ℕ) → start ≤ id → eqb (id - start) k ≡ eqb id (start + k)
+shifted start id k h = elim (cases_Bool (eqb (id - start) k)) [
+  | inl here ↦ let e = eqb-true (id - start) k here in here ∙ sym (eq-eqb id (start + k) (omega (arith, e, h)))
+  | inr apart ↦ elim (cases_Bool (eqb id (start + k))) [
+    | inl there ↦ let e = eqb-true id (start + k) there in absurd (true≢false (sym (eq-eqb (id - start) k (omega (arith, e, h))) ∙ apart))
+    | inr gone ↦ apart ∙ sym gone
+  ]
+]
+
+-- The row of a list that is read in part.
+pub record RowSoFar (start end : ℕ) (list : Ids) (row : List Bool) (rest : Ids) : Type 0 where
+  pub width : (length row ≡ 0) ⊎ (length row ≡ end - start)
+  pub flags : (k : ℕ) → start + k < end → (get_or row k false || has rest.ids (start + k)) ≡ has list.ids (start + k)
+  pub same : (id : ℕ) → end ≤ id → has rest.ids id ≡ has list.ids id
+  pub from : AscendWithin max_ids start rest.ids
+  pub whole : rest.whole ≡ list.whole
+
+pub row_begins : (start end : ℕ) (list : Ids) (row : List Bool) → row ≡ [] → AscendWithin max_ids start list.ids → RowSoFar start end list row list
+row_begins start end list row none up = record {
+  width = inl (ap length none);
+  flags = λ k h. ap (λ (r : List Bool). get_or r k false || has list.ids (start + k)) none;
+  same = λ id h. refl;
+  from = up;
+  whole = refl;
+}
+
+-- one id more; the row may have got its flags just now
+pub row_more : (start end : ℕ) (list : Ids) (row wide : List Bool) (rest rest' : Ids) (id : ℕ) → RowSoFar start end list row rest → rest.ids ≡ id ∷ rest'.ids → rest'.whole ≡ rest.whole → id < end → length wide ≡ end - start → ((k : ℕ) → get_or wide k false ≡ get_or row k false) → RowSoFar start end list (set wide (id - start) true) rest'
+row_more start end list row wide rest rest' id r first whole below long alike =
+    let up : AscendWithin max_ids start (id ∷ rest'.ids) = subst (AscendWithin max_ids start) first r.from in
+    record {
+      width = inr (length-set wide (id - start) true ∙ long);
+      flags = λ k h.
+          mark_step wide (id - start) k (has rest'.ids (start + k)) (omega (arith, long, below, up.0))
+          ∙ (λ i. alike k i || (shifted start id k up.0 i || has rest'.ids (start + k)))
+          ∙ ap (λ (ids : List ℕ). get_or row k false || has ids (start + k)) (sym first) ∙ r.flags k h;
+      same = λ k h.
+          sym (ap (λ b. b || has rest'.ids k) (ne_eqb id k (λ e. absurd (omega (arith, e, h, below)))))
+          ∙ ap (λ (ids : List ℕ). has ids k) (sym first) ∙ r.same k h;
+      from = ascend_weaker max_ids start (id + 1) rest'.ids (omega (arith, up.0)) up.2;
+      whole = whole ∙ r.whole;
+    }
+
+pub row_ends : (start end : ℕ) (list : Ids) (row : List Bool) (rest : Ids) → RowSoFar start end list row rest → BeginsFrom end rest.ids → (k : ℕ) → start + k < end → get_or row k false ≡ has list.ids (start + k)
+row_ends start end list row rest r h k below =
+    sym (or-false (get_or row k false))
+    ∙ ap (λ b. get_or row k false || b) (sym (none_below max_ids end rest.ids (start + k) (ascend_from max_ids start end rest.ids r.from h) below))
+    ∙ r.flags k below
+
+pub read_to : (start end : ℕ) (list : Ids) (row : List Bool) (rest after : Ids) → RowSoFar start end list row rest → BeginsFrom end rest.ids → after.ids ≡ rest.ids → after.whole ≡ rest.whole → IsReadTo end list after
+read_to start end list row rest after r h ids whole = record {
+  same = λ id above. ap (λ (is : List ℕ). has is id) ids ∙ r.same id above;
+  from = subst (AscendWithin max_ids end) (sym ids) (ascend_from max_ids start end rest.ids r.from h);
+  whole = whole ∙ r.whole;
+}
+
+-- ---- lists that are read on
+
+pub read_on : (a b : ℕ) (list rest after : Ids) → a ≤ b → IsReadTo a list rest → IsReadTo b rest after → IsReadTo b list after
+read_on a b list rest after h r s = record {
+  same = λ id above. s.same id above ∙ r.same id (omega (arith, h, above));
+  from = s.from;
+  whole = s.whole ∙ r.whole;
+}
+
+pub read_all_on : (a b : ℕ) (lists rests afters : List Ids) → a ≤ b → AllZip (IsReadTo a) lists rests → AllZip (IsReadTo b) rests afters → AllZip (IsReadTo b) lists afters
+read_all_on a b [] [] [] h r s = tt
+read_all_on a b (l ∷ ls) (m ∷ ms) (n ∷ ns) h r s = (read_on a b l m n h r.0 s.0, read_all_on a b ls ms ns h r.1 s.1)
+read_all_on a b [] [] (n ∷ ns) h r s = absurd s
+read_all_on a b [] (m ∷ ms) ns h r s = absurd r
+read_all_on a b (l ∷ ls) [] ns h r s = absurd r
+read_all_on a b (l ∷ ls) (m ∷ ms) [] h r s = absurd s
+
+pub not_read : (lists : List Ids) → AllByRecursion (λ (list : Ids). AscendWithin max_ids 0 list.ids) lists → AllZip (IsReadTo 0) lists lists
+not_read [] up = tt
+not_read (l ∷ ls) up = (record { same = λ id h. refl; from = up.0; whole = refl }, not_read ls up.1)
+
+pub all_from : (end : ℕ) (lists rests : List Ids) → AllZip (IsReadTo end) lists rests → AllByRecursion (λ (list : Ids). AscendWithin max_ids end list.ids) rests
+all_from end [] [] r = tt
+all_from end (l ∷ ls) (m ∷ ms) r = (r.0.from, all_from end ls ms r.1)
+all_from end [] (m ∷ ms) r = absurd r
+all_from end (l ∷ ls) [] r = absurd r
+
+pub have_alike : (end id : ℕ) (lists rests : List Ids) → end ≤ id → AllZip (IsReadTo end) lists rests → have_id rests id ≡ have_id lists id
+have_alike end id [] [] h r = refl
+have_alike end id (l ∷ ls) (m ∷ ms) h r = λ i. r.0.same id h i ∷ have_alike end id ls ms h r.1 i
+have_alike end id [] (m ∷ ms) h r = absurd r
+have_alike end id (l ∷ ls) [] h r = absurd r
+
+pub whole_alike : (end : ℕ) (lists rests : List Ids) → AllZip (IsReadTo end) lists rests → are_whole rests ≡ are_whole lists
+whole_alike end [] [] r = refl
+whole_alike end (l ∷ ls) (m ∷ ms) r = λ i. r.0.whole i && whole_alike end ls ms r.1 i
+whole_alike end [] (m ∷ ms) r = absurd r
+whole_alike end (l ∷ ls) [] r = absurd r
+
+-- ---- ids of a window
+
+pub range_split : (a n m : ℕ) → range_with_len a (n + m) ≡ range_with_len a n ++ range_with_len (a + n) m
+range_split a zero m = (λ i. range_with_len (let z : a ≡ a + 0 = omega arith in z i) (let z : 0 + m ≡ m = omega arith in z i))
+range_split a (suc n) m = ap (range_with_len a) (let z : suc n + m ≡ suc (n + m) = omega arith in z) ∙ ap (λ (t : List ℕ). a ∷ t) (range_split (a + 1) n m ∙ ap (λ k. range_with_len (a + 1) n ++ range_with_len k m) (let z : a + 1 + n ≡ a + suc n = omega arith in z))
+
+filter-append : (p : ℕ → Bool) (xs ys : List ℕ) → filter p (xs ++ ys) ≡ filter p xs ++ filter p ys
+filter-append p [] ys = refl
+filter-append p (x ∷ xs) ys = elim (p x) as (λ b. cond b (x ∷ filter p (xs ++ ys)) (filter p (xs ++ ys)) ≡ cond b (x ∷ filter p xs) (filter p xs) ++ filter p ys) [
+  | true ↦ ap (λ (t : List ℕ). x ∷ t) (filter-append p xs ys)
+  | false ↦ filter-append p xs ys
+]
+
+filter_alike : (p q : ℕ → Bool) (a n : ℕ) → ((k : ℕ) → k < n → p (a + k) ≡ q (a + k)) → filter p (range_with_len a n) ≡ filter q (range_with_len a n)
+filter_alike p q a zero f = refl
+filter_alike p q a (suc n) f =
+    let here : p a ≡ q a = let e : a ≡ a + 0 = omega arith in ap p e ∙ f 0 (omega arith) ∙ ap q (sym e) in
+    let later = filter_alike p q (a + 1) n (λ k h. let e : a + 1 + k ≡ a + suc k = omega arith in ap p e ∙ f (suc k) (omega (arith, h)) ∙ ap q (sym e)) in
+    λ i. cond (here i) (a ∷ later i) (later i)
+
+-- the ids so far, and those of the window
+pub window_more : (test flag : ℕ → Bool) (start end : ℕ) (ids new : List ℕ) → start ≤ end → ids ≡ filter test (range_with_len 0 start) → new ≡ ids ++ filter flag (range_with_len start (end - start)) → ((k : ℕ) → start + k < end → flag (start + k) ≡ test (start + k)) → new ≡ filter test (range_with_len 0 end)
+window_more test flag start end ids new h so_far is alike =
+    is ∙ (λ i. so_far i ++ filter_alike flag test start (end - start) (λ k below. alike k (omega (arith, below, h))) i)
+    ∙ sym (filter-append test (range_with_len 0 start) (range_with_len start (end - start)))
+    ∙ ap (filter test) (ap (λ k. range_with_len 0 start ++ range_with_len k (end - start)) (let z : start ≡ 0 + start = omega arith in z) ∙ sym (range_split 0 start (end - start)) ∙ ap (range_with_len 0) (let z : start + (end - start) ≡ end = omega (arith, h) in z))
+
+no_flags : (start a n : ℕ) → filter (λ id. get_or [] (id - start) false) (range_with_len a n) ≡ []
+no_flags start a zero = refl
+no_flags start a (suc n) = no_flags start (a + 1) n
+
+-- all flags of a row were looked at; a row without flags has no id
+pub all_pushed : (row : List Bool) (start end id : ℕ) (old new : List ℕ) → (length row ≡ 0) ⊎ (length row ≡ end - start) → id ≡ start + length row → old ++ filter (λ k. get_or row (k - start) false) (range_with_len start (length row)) ≡ new ++ filter (λ k. get_or row (k - start) false) (range_with_len id (start + length row - id)) → new ≡ old ++ filter (λ k. get_or row (k - start) false) (range_with_len start (end - start))
+all_pushed row start end id old new (inr long) at is =
+    let none : start + length row - id ≡ 0 = omega (arith, at) in
+    sym (append-nil new) ∙ sym (is ∙ ap (λ n. new ++ filter (λ k. get_or row (k - start) false) (range_with_len id n)) none)
+    ∙ ap (λ n. old ++ filter (λ k. get_or row (k - start) false) (range_with_len start n)) long
+all_pushed [] start end id old new (inl none) at is =
+    let zero' : start + 0 - id ≡ 0 = omega (arith, at) in
+    sym (append-nil new) ∙ sym (is ∙ ap (λ n. new ++ filter (λ k. get_or [] (k - start) false) (range_with_len id n)) zero')
+    ∙ ap (λ t. old ++ t) (sym (no_flags start start (end - start)))
+all_pushed (b ∷ row) start end id old new (inl none) at is = absurd (omega (arith, none))
+
+-- ---- all lists are whole if each of them is
+
+pub whole-append : (lists : List Ids) (list : Ids) → are_whole (lists ++ list ∷ []) ≡ (are_whole lists && list.whole)
+whole-append [] list = and_true list.whole
+  where
+    and_true : (b : Bool) → (b && true) ≡ b
+    and_true true = refl
+    and_true false = refl
+whole-append (l ∷ ls) list = ap (λ b. l.whole && b) (whole-append ls list) ∙ and_assoc l.whole (are_whole ls) list.whole
+  where
+    and_assoc : (a b c : Bool) → (a && (b && c)) ≡ ((a && b) && c)
+    and_assoc true b c = refl
+    and_assoc false b c = refl
+
+-- ---- rows of nodes
+
+length0 : (row : List Bool) → length row ≡ 0 → row ≡ []
+length0 [] h = refl
+length0 (b ∷ row) h = absurd (omega (arith, h))
+
+pub no_flag : (row : List Bool) → length row ≡ 0 → (k : ℕ) → get_or row k false ≡ false
+no_flag row h k = ap (λ (r : List Bool). get_or r k false) (length0 row h)
+
+take_none : (j : ℕ) (row : List Bool) → row ≡ [] → take j row ≡ []
+take_none zero row e = refl
+take_none (suc j) [] e = refl
+take_none (suc j) (b ∷ row) e = absurd (let l = ap length e in omega (arith, l))
+
+-- a row that gets its flags
+pub widened : (n m : ℕ) (row wide : List Bool) → length row ≡ 0 → wide ≡ take n row ++ replicate m false → m ≡ n → (length wide ≡ n) × ((k : ℕ) → get_or wide k false ≡ get_or row k false)
+widened n m row wide none is same =
+    let empty : row ≡ [] = length0 row none in
+    let w : wide ≡ replicate m false = is ∙ ap (λ (r : List Bool). r ++ replicate m false) (take_none n row empty) in
+    (ap length w ∙ length-replicate m ∙ same, λ k. ap (λ (r : List Bool). get_or r k false) w ∙ falses m k ∙ ap (λ (r : List Bool). get_or r k false) (sym empty))
+  where
+    length-replicate : (j : ℕ) → length (replicate j false) ≡ j
+    length-replicate zero = refl
+    length-replicate (suc j) = ap suc (length-replicate j)
+
+    falses : (j k : ℕ) → get_or (replicate j false) k false ≡ false
+    falses zero k = refl
+    falses (suc j) zero = refl
+    falses (suc j) (suc k) = falses j k
+
+pub column-push : (k : ℕ) (rows : List (Vec Bool Global)) (row : Vec Bool Global) → column k (rows ++ row ∷ []) ≡ column k rows ++ get_or row.items k false ∷ []
+column-push k [] row = refl
+column-push k (r ∷ rows) row = ap (λ t. get_or r.items k false ∷ t) (column-push k rows row)
+
+pub width-push : (width : ℕ) (rows : List (Vec Bool Global)) (row : Vec Bool Global) → HaveWidth width rows → (length row.items ≡ 0) ⊎ (length row.items ≡ width) → HaveWidth width (rows ++ row ∷ [])
+width-push width [] row h w = (w, tt)
+width-push width (r ∷ rows) row h w = (h.0, width-push width rows row h.1 w)
+
+-- the row with a number
+pub width_at : (width : ℕ) (rows : List (Vec Bool Global)) (n : ℕ) (d : Vec Bool Global) → n < length rows → HaveWidth width rows → (length (get_or rows n d).items ≡ 0) ⊎ (length (get_or rows n d).items ≡ width)
+width_at width [] n d below h = absurd (omega (arith, below))
+width_at width (r ∷ rows) zero d below h = h.0
+width_at width (r ∷ rows) (suc n) d below h = width_at width rows n d (omega (arith, below)) h.1
+
+pub column_at : (k : ℕ) (rows : List (Vec Bool Global)) (n : ℕ) (d : Vec Bool Global) → n < length rows → get_or (column k rows) n false ≡ get_or (get_or rows n d).items k false
+column_at k [] n d below = absurd (omega (arith, below))
+column_at k (r ∷ rows) zero d below = refl
+column_at k (r ∷ rows) (suc n) d below = column_at k rows n d (omega (arith, below))
+
+pub column_out : (k : ℕ) (rows : List (Vec Bool Global)) (n : ℕ) → length rows ≤ n → get_or (column k rows) n false ≡ false
+column_out k [] n h = refl
+column_out k (r ∷ rows) zero h = absurd (omega (arith, h))
+column_out k (r ∷ rows) (suc n) h = column_out k rows n (omega (arith, h))
+
+-- one list more
+pub have-push : (lists : List Ids) (list : Ids) (id : ℕ) → have_id (lists ++ list ∷ []) id ≡ have_id lists id ++ has list.ids id ∷ []
+have-push [] list id = refl
+have-push (l ∷ ls) list id = ap (λ t. has l.ids id ∷ t) (have-push ls list id)
+
+-- ---- one member more
+
+module _ (known : List Bool) where
+  abbrev flag : ℕ → Bool
+  flag m = get_or known m false
+
+  pub and_step : (f f' all : Bool) (left rest : List ℕ) (m : ℕ) → left ≡ m ∷ rest → f' ≡ (f && flag m) → (f && list_all flag left) ≡ all → (f' && list_all flag rest) ≡ all
+  and_step f f' all left rest m first is so_far = ap (λ b. b && list_all flag rest) is ∙ assoc f (flag m) (list_all flag rest) ∙ ap (λ (ms : List ℕ). f && list_all flag ms) (sym first) ∙ so_far
+    where
+      assoc : (a b c : Bool) → ((a && b) && c) ≡ (a && (b && c))
+      assoc true b c = refl
+      assoc false b c = refl
+
+  pub or_step : (f f' all : Bool) (left rest : List ℕ) (m : ℕ) → left ≡ m ∷ rest → f' ≡ (f || flag m) → (f || list_any flag left) ≡ all → (f' || list_any flag rest) ≡ all
+  or_step f f' all left rest m first is so_far = ap (λ b. b || list_any flag rest) is ∙ assoc f (flag m) (list_any flag rest) ∙ ap (λ (ms : List ℕ). f || list_any flag ms) (sym first) ∙ so_far
+    where
+      assoc : (a b c : Bool) → ((a || b) || c) ≡ (a || (b || c))
+      assoc true b c = refl
+      assoc false b c = refl
+
+  -- a member that does not match
+  pub and_dead : (f all : Bool) (left rest : List ℕ) (m : ℕ) → left ≡ m ∷ rest → flag m ≡ false → (f && list_all flag left) ≡ all → all ≡ false
+  and_dead f all left rest m first gone so_far = sym so_far ∙ ap (λ (ms : List ℕ). f && list_all flag ms) first ∙ ap (λ b. f && (b && list_all flag rest)) gone ∙ none f
+    where
+      none : (a : Bool) → (a && false) ≡ false
+      none true = refl
+      none false = refl
+
+-- ---- errors
+
+pub err_of : {X : Type 0} (r : Result X IndexFault) (fault : IndexFault) (P : IndexFault → Type 0) → IsErrAnd r (λ f. f ≡ fault) → P fault → IfErr r P
+err_of (Ok x) fault P h p = tt
+err_of (Err f) fault P h p = subst P (sym h) p
+
+pub whole_at : (lists : List Ids) (k : ℕ) (d : Ids) → k < length lists → (get_or lists k d).whole ≡ false → are_whole lists ≡ false
+whole_at [] k d below bad = absurd (omega (arith, below))
+whole_at (l ∷ ls) zero d below bad = ap (λ b. b && are_whole ls) bad
+whole_at (l ∷ ls) (suc k) d below bad = ap (λ b. l.whole && b) (whole_at ls k d (omega (arith, below)) bad) ∙ none l.whole
+  where
+    none : (a : Bool) → (a && false) ≡ false
+    none true = refl
+    none false = refl
+
+pub left_at : (xs ys : List Ids) (k : ℕ) (d : Ids) → drop k xs ≡ drop k ys → get_or xs k d ≡ get_or ys k d
+left_at xs ys k d same =
+    let at : k + 0 ≡ k = omega arith in
+    sym (get_or-drop k xs 0 d ∙ ap (λ n. get_or xs n d) at) ∙ ap (λ (zs : List Ids). get_or zs 0 d) same ∙ get_or-drop k ys 0 d ∙ ap (λ n. get_or ys n d) at
+
+-- what is written back to a Vec
+pub taken_back : (n : ℕ) (xs ys : List Ids) → n ≡ length xs → take n (xs ++ ys) ≡ xs
+taken_back n xs ys is = ap (λ k. take k (xs ++ ys)) is ∙ of xs
+  where
+    of : (zs : List Ids) → take (length zs) (zs ++ ys) ≡ zs
+    of [] = refl
+    of (z ∷ zs) = ap (λ (t : List Ids). z ∷ t) (of zs)

@@ -1,0 +1,249 @@
+// Queries as forms: hash consing makes equal parts of a query one node. Conjunctions in conjunctions and disjunctions
+// in disjunctions are flattened, and members that decide nothing are dropped.
+ghost use Rattle.std.specs.Prelude.{◌≡◌, ◌<◌, ◌^◌, ◌+◌, ℕ, Bool, List, length, map, slice_index_or, IfOk, OnOk, IfSome};
+ghost use Rattle.cs_trigram.specs.Trigram.{Ascends};
+ghost use Rattle.cs_trigram.specs.Query.{matches_set};
+ghost use Rattle.cs_trigram.specs.declared.queries.Query.TheVariants.{Tri};
+ghost use Rattle.cs_index.specs.declared.reading.form.Node.{Node as Node'};
+ghost use Rattle.cs_index.specs.Form.{IsForm, IsNumberOf, IsWithin, Exist, Grows, Gathers, queries_match, matched, node_matches, number_matches, numbers};
+
+use cs_trigram::Query;
+use std::alloc::{AllocError, Global};
+
+const NOTHING: usize = 0;
+
+const ALL: usize = 1;
+
+const FIRST_LIST: usize = 2;
+
+const SLOTS_PER_LIST: usize = 16;
+
+/// A conjunction or a disjunction, by the numbers of its members.
+#[derive(Drop)]
+pub(crate) struct Node {
+    pub(crate) is_and: bool,
+    pub(crate) members: Vec<usize>,
+}
+
+/// The nodes of a query, and the number of the whole query.
+#[derive(Drop)]
+pub(crate) struct Form {
+    pub(crate) nodes: Vec<Node>,
+    pub(crate) root: usize,
+}
+
+/// A form in the making. A slot has the index of the last node with its hash.
+#[derive(Drop)]
+struct Folding {
+    nodes: Vec<Node>,
+    slots: Vec<usize>,
+}
+
+/// The form of a query, over the lists of ascending trigrams.
+pub(crate) fn form_of(alloc: Global, trigrams: &[u32], query: &Query) -> Result<Form, AllocError>
+    requires { Ascends trigrams.now }
+    ensures { IfOk result (λ form. IsNumberOf trigrams.now form.nodes.items query.now form.root) }
+{
+    let mut folding = Folding {
+        nodes: Vec::new(alloc),
+        slots: vec![in alloc; 0usize; trigrams.len().saturating_mul(SLOTS_PER_LIST)]?,
+    };
+    let root = number_of(alloc, &mut folding, trigrams, query)?;
+    Ok(Form {
+        nodes: folding.nodes,
+        root,
+    })
+}
+
+/// The number of a query.
+#[cycle(fold)]
+fn number_of(
+    alloc: Global,
+    folding: &mut Folding,
+    trigrams: &[u32],
+    query: &Query,
+) -> Result<usize, AllocError>
+    requires ascend { Ascends trigrams.now }
+    requires form { IsForm (length trigrams.now) folding.old.nodes.items }
+    ensures grows { OnOk result (Grows (length trigrams.now) folding.old.nodes.items folding.new.nodes.items) }
+    ensures exists { IfOk result (λ n. n < numbers (length trigrams.now) folding.new.nodes.items) }
+    ensures number { IfOk result (IsNumberOf trigrams.now folding.new.nodes.items query.now) }
+{
+    match query {
+        Query::Nothing => Ok(NOTHING),
+        Query::All => Ok(ALL),
+        Query::Tri(trigram) => Ok(list_number(trigrams, *trigram)),
+        Query::And(members) => joined_number(alloc, folding, trigrams, true, members),
+        Query::Or(members) => joined_number(alloc, folding, trigrams, false, members),
+    }
+}
+
+/// The number of the conjunction or disjunction of queries.
+#[cycle(fold)]
+fn joined_number(
+    alloc: Global,
+    folding: &mut Folding,
+    trigrams: &[u32],
+    is_and: bool,
+    queries: &[Query],
+) -> Result<usize, AllocError>
+    requires ascend { Ascends trigrams.now }
+    requires form { IsForm (length trigrams.now) folding.old.nodes.items }
+    ensures grows { OnOk result (Grows (length trigrams.now) folding.old.nodes.items folding.new.nodes.items) }
+    ensures exists { IfOk result (λ n. n < numbers (length trigrams.now) folding.new.nodes.items) }
+    ensures number { IfOk result (λ n. (set : ℕ → Bool) → IsWithin trigrams.now set →
+        number_matches (map set trigrams.now) folding.new.nodes.items n
+        ≡ queries_match is_and set queries.now) }
+{
+    let mut node = Node {
+        is_and,
+        members: Vec::new(alloc),
+    };
+    gather_each(alloc, folding, trigrams, &mut node, queries)?;
+    intern(folding, trigrams.len(), node)
+}
+
+/// Adds the queries to the members of a node.
+#[cycle(fold)]
+fn gather_each(
+    alloc: Global,
+    folding: &mut Folding,
+    trigrams: &[u32],
+    node: &mut Node,
+    queries: &[Query],
+) -> Result<(), AllocError>
+    requires ascend { Ascends trigrams.now }
+    requires form { IsForm (length trigrams.now) folding.old.nodes.items }
+    requires exist { Exist (length trigrams.now) folding.old.nodes.items node.old.members.items }
+    ensures { OnOk result (Gathers trigrams.now folding.old.nodes.items folding.new.nodes.items
+        node.old node.new (λ set. queries_match node.old.is_and set queries.now)) }
+{
+    for query in queries {
+        gather(alloc, folding, trigrams, node, query)?;
+    }
+    Ok(())
+}
+
+/// Adds a query to the members of a node; if it is of the kind of the node, its members.
+#[cycle(fold)]
+fn gather(
+    alloc: Global,
+    folding: &mut Folding,
+    trigrams: &[u32],
+    node: &mut Node,
+    query: &Query,
+) -> Result<(), AllocError>
+    requires ascend { Ascends trigrams.now }
+    requires form { IsForm (length trigrams.now) folding.old.nodes.items }
+    requires exist { Exist (length trigrams.now) folding.old.nodes.items node.old.members.items }
+    ensures { OnOk result (Gathers trigrams.now folding.old.nodes.items folding.new.nodes.items
+        node.old node.new (matches_set query.now)) }
+{
+    match query {
+        Query::And(members) if node.is_and => {
+            gather_each(alloc, folding, trigrams, node, members)
+        }
+        Query::Or(members) if !node.is_and => {
+            gather_each(alloc, folding, trigrams, node, members)
+        }
+        _ => {
+            let number = number_of(alloc, folding, trigrams, query)?;
+            node.members.push(number)?;
+            Ok(())
+        }
+    }
+}
+
+/// The number of the list of a trigram; without a list, no file has it.
+fn list_number(trigrams: &[u32], trigram: u32) -> usize
+    requires { Ascends trigrams.now }
+    ensures exists { (nodes : List Node') → result < numbers (length trigrams.now) nodes }
+    ensures number { (nodes : List Node') → IsNumberOf trigrams.now nodes (Tri trigram) result }
+{
+    match trigrams.binary_search(&trigram) {
+        Ok(at) => FIRST_LIST + at,
+        Err(_) => NOTHING,
+    }
+}
+
+/// The number of a node over some lists, which has each member once. No node has a single member, or one that decides it.
+fn intern(folding: &mut Folding, lists: usize, mut node: Node) -> Result<usize, AllocError>
+    requires short { lists < 2 ^ 62 }
+    requires form { IsForm lists folding.old.nodes.items }
+    requires exist { Exist lists folding.old.nodes.items node.members.items }
+    ensures grows { OnOk result (Grows lists folding.old.nodes.items folding.new.nodes.items) }
+    ensures exists { IfOk result (λ n. n < numbers lists folding.new.nodes.items) }
+    ensures number { IfOk result (λ n. (bits : List Bool) → length bits ≡ lists →
+        number_matches bits folding.new.nodes.items n
+        ≡ node_matches (matched bits folding.new.nodes.items) node) }
+{
+    node.members.sort_unstable();
+    node.members.dedup();
+    if let Some(number) = decided(&node) {
+        return Ok(number);
+    }
+    let slot = hash(&node) % folding.slots.len().max(1);
+    if let Some(at) = known(folding, slot, &node) {
+        return Ok(FIRST_LIST + lists + at);
+    }
+    let at = folding.nodes.len();
+    remember(&mut folding.slots, slot, at);
+    folding.nodes.push(node)?;
+    Ok(FIRST_LIST + lists + at)
+}
+
+/// The number that is equal to a node without members, with a single one, or with one that decides it.
+fn decided(node: &Node) -> Option<usize>
+    ensures exists { IfSome result (λ n. (lists : ℕ) (nodes : List Node') → Exist lists nodes node.now.members.items →
+        n < numbers lists nodes) }
+    ensures number { IfSome result (λ n. (bits : List Bool) (nodes : List Node') →
+        number_matches bits nodes n ≡ node_matches (matched bits nodes) node.now) }
+{
+    let zero = constant(!node.is_and);
+    if node.members.contains(&zero) {
+        return Some(zero);
+    }
+    match node.members.as_slice() {
+        [] => Some(constant(node.is_and)),
+        [one] => Some(*one),
+        _ => None,
+    }
+}
+
+/// The number that matches everything or nothing.
+fn constant(all: bool) -> usize
+    ensures exists { result < 2 }
+    ensures number { (bits : List Bool) (nodes : List Node') → number_matches bits nodes result ≡ all }
+{
+    if all { ALL } else { NOTHING }
+}
+
+/// Writes the index of a node into a slot.
+fn remember(slots: &mut [usize], slot: usize, at: usize) {
+    if let Some(last) = slots.get_mut(slot) {
+        *last = at;
+    }
+}
+
+/// The index of the node in its slot, if it is equal to this one.
+fn known(folding: &Folding, slot: usize, node: &Node) -> Option<usize>
+    ensures { IfSome result (λ at. (at < length folding.now.nodes.items) × ((d : Node') →
+        (lists : List Bool) → node_matches lists (slice_index_or folding.now.nodes.items at d) ≡ node_matches lists node.now)) }
+{
+    let at = *folding.slots.get(slot)?;
+    let other = folding.nodes.get(at)?;
+    if other.is_and == node.is_and && other.members == node.members {
+        Some(at)
+    } else {
+        None
+    }
+}
+
+/// A hash of a node (FNV-1a over words).
+fn hash(node: &Node) -> usize {
+    let mut hash = 0xcbf2_9ce4_8422_2325u64 ^ node.is_and as u64;
+    for member in &node.members {
+        hash = (hash ^ *member as u64).wrapping_mul(0x0000_0100_0000_01b3);
+    }
+    (hash >> 20) as usize
+}

@@ -1,0 +1,203 @@
+// The ids of a window that match each node of a form, as a flag for each id.
+ghost use Rattle.std.specs.Prelude.{◌≡◌, ◌<◌, ◌≤◌, ◌+◌, ◌-◌, ◌⊎◌, ◌&&◌, ◌||◌, ℕ, Bool, false, true, List, [], ◌∷◌, length, map, slice_index_or, IfOk, IfErr, OnOk};
+ghost use Rattle.std.specs.List.{AllByRecursion, AllZip};
+ghost use Rattle.cs_trigram.specs.Trigram.{has};
+ghost use Rattle.cs_index.specs.AscendingIds.{AscendWithin, max_ids};
+ghost use Rattle.cs_index.specs.PostingLists.{Ids};
+ghost use Rattle.cs_index.specs.Postings.{IsListFault};
+ghost use Rattle.cs_index.specs.Form.{matched, members_match, node_matches};
+ghost use Rattle.cs_index.specs.Rows.{are_whole, column, have_id, HaveWidth, IsReadTo};
+
+use crate::fault::IndexFault;
+use crate::reading::form::Node;
+use crate::reading::postings::Postings;
+use std::alloc::{AllocError, Global};
+
+/// The rows of a window of ids: that of each list, which is read up to the window's end, and that of each node.
+pub(crate) fn rows_of(
+    alloc: Global,
+    nodes: &[Node],
+    lists: &mut [Postings],
+    start: u32,
+    end: u32,
+) -> Result<Vec<Vec<bool>>, IndexFault>
+    requires order { start ≤ end }
+    requires from { AllByRecursion (λ (list : Ids). AscendWithin max_ids start list.ids) lists.old }
+    ensures rows { IfOk result (λ rows. (k : ℕ) → start + k < end →
+        column k rows.items ≡ matched (have_id lists.old (start + k)) nodes.now) }
+    ensures width { IfOk result (λ rows. HaveWidth (end - start) rows.items) }
+    ensures lists { IfOk result (λ _. AllZip (IsReadTo end) lists.old lists.new) }
+    ensures fault { IfErr result (IsListFault (are_whole lists.old)) }
+{
+    let mut rows = list_rows(alloc, lists, start, end)?;
+    let width = (end - start) as usize;
+    for node in nodes {
+        let row = row_of(alloc, node, &rows, width)?;
+        rows.push(row)?;
+    }
+    Ok(rows)
+}
+
+/// The rows of nothing, of everything and of each list.
+fn list_rows(
+    alloc: Global,
+    lists: &mut [Postings],
+    start: u32,
+    end: u32,
+) -> Result<Vec<Vec<bool>>, IndexFault>
+    requires order { start ≤ end }
+    requires from { AllByRecursion (λ (list : Ids). AscendWithin max_ids start list.ids) lists.old }
+    ensures rows { IfOk result (λ rows. (k : ℕ) → start + k < end →
+        column k rows.items ≡ false ∷ true ∷ have_id lists.old (start + k)) }
+    ensures width { IfOk result (λ rows. HaveWidth (end - start) rows.items) }
+    ensures lists { IfOk result (λ _. AllZip (IsReadTo end) lists.old lists.new) }
+    ensures fault { IfErr result (IsListFault (are_whole lists.old)) }
+{
+    let mut rows = Vec::new(alloc);
+    rows.push(Vec::new(alloc))?;
+    rows.push(vec![in alloc; true; (end - start) as usize]?)?;
+    for at in 0..lists.len() {
+        let row = list_row(alloc, &mut lists[at], start, end)?;
+        rows.push(row)?;
+    }
+    Ok(rows)
+}
+
+/// The row of a list, which is read up to the window's end.
+fn list_row(
+    alloc: Global,
+    list: &mut Postings,
+    start: u32,
+    end: u32,
+) -> Result<Vec<bool>, IndexFault>
+    requires order { start ≤ end }
+    requires from { AscendWithin max_ids start list.old.ids }
+    ensures row { IfOk result (λ row. (k : ℕ) → start + k < end →
+        slice_index_or row.items k false ≡ has list.old.ids (start + k)) }
+    ensures width { IfOk result (λ row. (length row.items ≡ 0) ⊎ (length row.items ≡ end - start)) }
+    ensures list { IfOk result (λ _. IsReadTo end list.old list.new) }
+    ensures fault { IfErr result (IsListFault list.old.whole) }
+{
+    let mut row = Vec::new(alloc);
+    'ids: while let Some(id) = list.next_below(end)? {
+        if row.is_empty() {
+            row.resize((end - start) as usize, false)?;
+        }
+        row[(id - start) as usize] = true;
+    }
+    Ok(row)
+}
+
+/// The row of a node, by the rows before it.
+fn row_of(
+    alloc: Global,
+    node: &Node,
+    rows: &[Vec<bool>],
+    width: usize,
+) -> Result<Vec<bool>, AllocError>
+    requires { HaveWidth width rows.now }
+    ensures row { IfOk result (λ row. (k : ℕ) → k < width →
+        slice_index_or row.items k false ≡ node_matches (column k rows.now) node.now) }
+    ensures width { IfOk result (λ row. (length row.items ≡ 0) ⊎ (length row.items ≡ width)) }
+{
+    if node.is_and {
+        and_row(alloc, &node.members, rows, width)
+    } else {
+        or_row(alloc, &node.members, rows, width)
+    }
+}
+
+/// The ids that each member has.
+fn and_row(
+    alloc: Global,
+    members: &[usize],
+    rows: &[Vec<bool>],
+    width: usize,
+) -> Result<Vec<bool>, AllocError>
+    requires { HaveWidth width rows.now }
+    ensures row { IfOk result (λ row. (k : ℕ) → k < width →
+        slice_index_or row.items k false ≡ members_match true (column k rows.now) members.now) }
+    ensures width { IfOk result (λ row. (length row.items ≡ 0) ⊎ (length row.items ≡ width)) }
+{
+    let mut row = vec![in alloc; true; width]?;
+    for member in members {
+        let other = row_at(rows, *member);
+        if other.is_empty() {
+            return Ok(Vec::new(alloc));
+        }
+        meet(&mut row, other);
+    }
+    Ok(row)
+}
+
+/// The ids that some member has.
+fn or_row(
+    alloc: Global,
+    members: &[usize],
+    rows: &[Vec<bool>],
+    width: usize,
+) -> Result<Vec<bool>, AllocError>
+    requires { HaveWidth width rows.now }
+    ensures row { IfOk result (λ row. (k : ℕ) → k < width →
+        slice_index_or row.items k false ≡ members_match false (column k rows.now) members.now) }
+    ensures width { IfOk result (λ row. (length row.items ≡ 0) ⊎ (length row.items ≡ width)) }
+{
+    let mut row: Vec<bool> = Vec::new(alloc);
+    for member in members {
+        let other = row_at(rows, *member);
+        if !other.is_empty() {
+            add_row(&mut row, other)?;
+        }
+    }
+    Ok(row)
+}
+
+/// Adds the ids of another row to a row, which has no flags yet or as many as the other one.
+fn add_row(row: &mut Vec<bool>, other: &[bool]) -> Result<(), AllocError>
+    requires { (length row.old.items ≡ 0) ⊎ (length row.old.items ≡ length other.now) }
+    ensures width { OnOk result (length row.new.items ≡ length other.now) }
+    ensures flags { OnOk result ((k : ℕ) → slice_index_or row.new.items k false
+        ≡ (slice_index_or row.old.items k false || slice_index_or other.now k false)) }
+{
+    if row.is_empty() {
+        row.extend_from_slice(other)?;
+    } else {
+        unite(row, other);
+    }
+    Ok(())
+}
+
+/// The row with a number; without one, no id matches.
+pub(crate) fn row_at(rows: &[Vec<bool>], number: usize) -> &[bool]
+    ensures row { (k : ℕ) → slice_index_or result.now k false ≡ slice_index_or (column k rows.now) number false }
+    ensures width { (width : ℕ) → HaveWidth width rows.now → (length result.now ≡ 0) ⊎ (length result.now ≡ width) }
+{
+    match rows.get(number) {
+        Some(row) => row,
+        None => &[],
+    }
+}
+
+/// Keeps the flags that the other row has too.
+#[inline(never)]
+fn meet(row: &mut [bool], other: &[bool])
+    requires { length row.old ≡ length other.now }
+    ensures { (k : ℕ) → slice_index_or row.new k false
+        ≡ (slice_index_or row.old k false && slice_index_or other.now k false) }
+{
+    for at in 0..row.len() {
+        row[at] &= other[at];
+    }
+}
+
+/// Sets the flags that the other row has.
+#[inline(never)]
+fn unite(row: &mut [bool], other: &[bool])
+    requires { length row.old ≡ length other.now }
+    ensures { (k : ℕ) → slice_index_or row.new k false
+        ≡ (slice_index_or row.old k false || slice_index_or other.now k false) }
+{
+    for at in 0..row.len() {
+        row[at] |= other[at];
+    }
+}

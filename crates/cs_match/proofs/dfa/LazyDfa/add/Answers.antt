@@ -1,0 +1,25 @@
+use Rattle.std.proofs.Common.{◌≡◌, ◌+◌, ◌∙◌, List, length, set, ap, sym, subst}
+use Rattle.std.proofs.Math.ListN.{length-set}
+use Rattle.std.proofs.lemmas.List.{with_items_is}
+use Rattle.cs_match.specs.declared.state.State.{State}
+use Rattle.cs_match.specs.LazyDfa.{AreStates, AreTransitions}
+use Rattle.cs_match.specs.ConsistentDfa.{tree_in}
+use Rattle.cs_match.proofs.TransitionLemmas.{added_states, added_transitions}
+use Rattle.cs_match.proofs.dfa.LazyDfa.add.Goals as goal
+
+pub returns-clause-right : goal.returns-clause-right
+returns-clause-right c =
+    let s = c.args.self.now in
+    let t = tree_in s in
+    let given = c.requires.right in
+    let put : c.put_state.new.cached ≡ set s.cached.items s.used s.scratch = c.put_state.ensures ∙ ap (λ xs. set xs s.used s.scratch) c.deref_mut.ensures.value in
+    let size = ap length c.put_state.ensures ∙ length-set c.deref_mut.result.now s.used s.scratch ∙ c.deref_mut.ensures.len in
+    let is = sym (with_items_is s.cached c.put_state.new.cached size ∙ put) in
+    record {
+      expanded = given.expanded;
+      cached = subst (λ (cached : List State). AreStates t cached (s.used + 1)) is (added_states t s.cached.items s.used s.scratch c.requires.room given.cached given.room);
+      transitions = subst (λ (cached : List State). AreTransitions t cached (s.used + 1) s.transitions.items) is
+          (added_transitions t s.cached.items s.used s.scratch c.requires.room given.cached s.transitions.items given.transitions);
+      room = given.room;
+      loops = given.loops;
+    }

@@ -1,0 +1,69 @@
+use Rattle.std.proofs.Common.{◌≡◌, ◌+◌, ◌-◌, Bool, List, ℕ, length, take, drop, sym, subst, ◌∙◌, arith}
+use Rattle.std.specs.Prelude.{IfSome}
+use Rattle.std.proofs.lemmas.Bool.Decides.{same_from_decides}
+use Rattle.cs_syntax.specs.Matching.{HasMatch}
+use Rattle.cs_prefilter.specs.WordAt.{IsPrefilterOf}
+use Rattle.cs_match.specs.Automaton.{Automaton}
+use Rattle.cs_match.specs.Deciding.{Decides}
+use Rattle.cs_match.specs.Skipped.{AreSkipped}
+use Rattle.cs_match.specs.ConsistentDfa.{tree_in}
+use Rattle.cs_match.proofs.CandidateLemmas.{word_is_match, no_candidate, before_candidate}
+use Rattle.cs_match.proofs.ScanLemmas.{skipped_line, skipped_append}
+use Rattle.cs_match.proofs.matcher.Matcher.search_candidate.Goals as goal
+
+pub returns-in_default-next_candidate-clause-found : goal.returns-in_default-next_candidate-clause-found
+returns-in_default-next_candidate-clause-found c =
+    let tree = tree_in c.self.inside.dfa in
+    let block = c.args.block.now in
+    let is : IsPrefilterOf tree c.in-Some.prefilter.now = subst (λ s. IfSome s (λ prefilter. IsPrefilterOf tree prefilter.now)) c.in-Some.is c.self.invariant.1 in
+    subst (λ (a : Automaton). AreSkipped (λ has_match. Decides has_match a.tree) block c.args.from (length block)) c.self.view_is
+    (no_candidate tree c.in-Some.prefilter.now.0 block c.args.from (omega (arith, c.requires.within)) c.requires.whole is.required c.in_default-next_candidate.ensures)
+
+pub returns-then-is_exact-clause-found : goal.returns-then-is_exact-clause-found
+returns-then-is_exact-clause-found c =
+    let tree = tree_in c.self.inside.dfa in
+    let block = c.args.block.now in
+    let words = c.in-Some.prefilter.now.0 in
+    let start = c.in-Some-next_candidate.line.start in
+    let end = c.in-Some-next_candidate.line.end in
+    let e = c.in-Some-next_candidate.ensures in
+    let is : IsPrefilterOf tree c.in-Some.prefilter.now = subst (λ s. IfSome s (λ prefilter. IsPrefilterOf tree prefilter.now)) c.in-Some.is c.self.invariant.1 in
+    let all = is.sufficient (sym c.is_exact.ensures ∙ c.if-is_exact.true) in
+    record {
+      line = e.line;
+      skipped = subst (λ (a : Automaton). AreSkipped (λ has_match. Decides has_match a.tree) block c.args.from start) c.self.view_is
+          (before_candidate tree words block c.args.from start end is.required e);
+      found = subst (λ (a : Automaton). HasMatch a.tree (take (end - start) (drop start block))) c.self.view_is
+          (word_is_match tree words (take (end - start) (drop start block)) all (e.has (λ k d low. (all k d low).in_line)));
+    }
+
+pub returns-then-found-clause-found : goal.returns-then-found-clause-found
+returns-then-found-clause-found c =
+    let tree = tree_in c.self.inside.dfa in
+    let block = c.args.block.now in
+    let start = c.in-Some-next_candidate.line.start in
+    let e = c.in-Some-next_candidate.ensures in
+    let is : IsPrefilterOf tree c.in-Some.prefilter.now = subst (λ s. IfSome s (λ prefilter. IsPrefilterOf tree prefilter.now)) c.in-Some.is c.self.invariant.1 in
+    record {
+      line = e.line;
+      skipped = subst (λ (a : Automaton). AreSkipped (λ has_match. Decides has_match a.tree) block c.args.from start) c.self.view_is
+          (before_candidate tree c.in-Some.prefilter.now.0 block c.args.from start c.in-Some-next_candidate.line.end is.required e);
+      found = c.is_match-found.ensures.found.0 c.if-found.true;
+    }
+
+pub returns-else-found-clause-found : goal.returns-else-found-clause-found
+returns-else-found-clause-found c =
+    let tree = tree_in c.self.inside.dfa in
+    let block = c.args.block.now in
+    let start = c.in-Some-next_candidate.line.start in
+    let end = c.in-Some-next_candidate.line.end in
+    let e = c.in-Some-next_candidate.ensures in
+    let kind = λ (has_match : List ℕ → Bool). Decides has_match c.args.self.now.tree in
+    let is : IsPrefilterOf tree c.in-Some.prefilter.now = subst (λ s. IfSome s (λ prefilter. IsPrefilterOf tree prefilter.now)) c.in-Some.is c.self.invariant.1 in
+    let before = subst (λ (a : Automaton). AreSkipped (λ has_match. Decides has_match a.tree) block c.args.from start) c.self.view_is
+    (before_candidate tree c.in-Some.prefilter.now.0 block c.args.from start end is.required e) in
+    skipped_append kind block c.args.from start (end + 1) before
+    (skipped_line kind block start end e.line.order e.line.high e.line.part e.line.newline
+    (λ has_match decides.
+    same_from_decides (has_match (take (end - start) (drop start block))) c.is_match-found.result (decides (take (end - start) (drop start block))) c.is_match-found.ensures.found
+    ∙ c.if-found.false))

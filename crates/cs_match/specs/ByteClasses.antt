@@ -1,0 +1,59 @@
+-- Byte classes (RE2's byte map): ranges of bytes that a tree does not tell apart.
+use Rattle.std.specs.Prelude.{ℕ, suc, ◌≡◌, ◌<◌, ◌⊎◌, Bool, false, List, length, nat_eq, slice_index_or}
+use Rattle.cs_syntax.specs.Matching.{Tree, Trees, empty, one_of, one_char, cat, alt, rep, line_start, line_end, word_edge, not_word_edge, none, more, member}
+use Rattle.cs_syntax.specs.Characters.{has_char}
+use Rattle.cs_syntax.specs.declared.char_step.Unfinished.{Unfinished}
+use Rattle.cs_match.specs.declared.state.State.{State}
+use Rattle.cs_match.specs.Glushkov.{char_step_of}
+use Rattle.cs_match.specs.Lines.{newline}
+use Rattle.cs_match.specs.States.{is_word_for, successor, accepts_before}
+
+-- the bytes have the same successor from the state, the state accepts before both or before neither, and both or
+-- neither are the newline
+pub record AreAlike (t : Tree) (state : State) (b c : ℕ) : Type 0 where
+  pub newline : nat_eq b newline ≡ nat_eq c newline
+  pub successor : successor t state b ≡ successor t state c
+  pub accepts : accepts_before t state b ≡ accepts_before t state c
+
+-- each set of the tree has both bytes or neither
+abbrev mutual
+  pub HaveBoth : Tree → ℕ → ℕ → Type 0
+  HaveBoth empty b c = Unit {0}
+  HaveBoth (one_of set) b c = member set b ≡ member set c
+  HaveBoth (one_char ranges) b c = has_char ranges b ≡ has_char ranges c
+  HaveBoth (cat ts) b c = AllHaveBoth ts b c
+  HaveBoth (alt ts) b c = AllHaveBoth ts b c
+  HaveBoth (rep x n m) b c = HaveBoth x b c
+  HaveBoth line_start b c = Unit {0}
+  HaveBoth line_end b c = Unit {0}
+  HaveBoth word_edge b c = Unit {0}
+  HaveBoth not_word_edge b c = Unit {0}
+
+  pub AllHaveBoth : Trees → ℕ → ℕ → Type 0
+  AllHaveBoth none b c = Unit {0}
+  AllHaveBoth (more t ts) b c = HaveBoth t b c × AllHaveBoth ts b c
+
+-- neither the sets of the tree, nor its assertions, nor the ends of lines tell the bytes apart
+pub record AreTogether (t : Tree) (b c : ℕ) : Type 0 where
+  pub newline : nat_eq b newline ≡ nat_eq c newline
+  pub word : is_word_for t b ≡ is_word_for t c
+  pub sets : HaveBoth t b c
+
+-- a class begins at the byte
+abbrev pub begins_at : List Bool → ℕ → Bool
+begins_at begins b = slice_index_or begins b false
+
+-- neighbouring bytes are together, except where a class begins
+abbrev pub AreClasses : Tree → List Bool → Type 0
+AreClasses t begins = (b : ℕ) → suc b < 256 → begins_at begins (suc b) ≡ false → AreTogether t b (suc b)
+
+-- the bytes are together, and do the same to the unfinished character, except that both may be characters themselves
+pub record StepTogether (t : Tree) (at : Unfinished) (b c : ℕ) : Type 0 where
+  pub together : AreTogether t b c
+  pub step : (c < 128) ⊎ (char_step_of t at b ≡ char_step_of t at c)
+
+-- marks are added, and then neighbouring bytes satisfy the relation, except where a class begins
+pub record AddsMarks (Alike : ℕ → ℕ → Type 0) (old new : List Bool) : Type 0 where
+  pub bytes : length new ≡ length old
+  pub kept : (b : ℕ) → begins_at new b ≡ false → begins_at old b ≡ false
+  pub alike : (b : ℕ) → suc b < 256 → begins_at new (suc b) ≡ false → Alike b (suc b)

@@ -1,0 +1,22 @@
+-- Lines that contain a word of a prefilter.
+use Rattle.std.specs.Prelude.{ℕ, List, length, drop, slice_range, Option, Some, None, All}
+use Rattle.cs_prefilter.specs.declared.word.Word.{Word}
+use Rattle.cs_prefilter.specs.WordAt.{HasWord, IsInLine}
+use Rattle.cs_match.specs.declared.matcher.Line.{Line}
+use Rattle.cs_match.specs.Lines.{terminated_lines}
+use Rattle.cs_match.specs.Skipping.{IsLineAfter}
+
+-- none of the lines contains one of the words
+abbrev pub LackWords : List Word → List (List ℕ) → Type 0
+LackWords words lines = All (λ line. ¬ HasWord words line) lines
+
+-- the first line of the block at or after `from` that contains a word, if no word contains a newline
+pub record IsCandidateLine (words : List Word) (block : List ℕ) (from start end : ℕ) : Type 0 where
+  pub line : IsLineAfter block from start end
+  pub lack : LackWords words (terminated_lines (slice_range block from start))
+  pub has : All IsInLine words → HasWord words (slice_range block start end)
+
+-- the search for such a line gives it, or none if no line of the rest contains a word
+abbrev pub IsCandidate : List Word → List ℕ → ℕ → Option Line → Type 0
+IsCandidate words block from None = LackWords words (terminated_lines (drop from block))
+IsCandidate words block from (Some line) = IsCandidateLine words block from line.start line.end

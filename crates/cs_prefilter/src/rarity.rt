@@ -1,0 +1,169 @@
+// Frequencies in source text, by which words are ranked. Only speed depends on them.
+use crate::byte_test::ByteTest;
+use crate::search::Kind;
+use cs_syntax::ByteSet;
+
+/// The largest number of sets of a word.
+pub(crate) const MOST_SETS: usize = 32;
+
+/// The frequency of a byte in source text, per 10,000 bytes.
+fn frequency(byte: u8) -> u64 {
+    match byte {
+        b' ' => 1500,
+        b'e' | b't' => 550,
+        b'a' | b'i' | b'n' | b'o' | b'r' | b's' => 420,
+        b'\t' | b'\n' | b'_' | b'c' | b'd' | b'l' => 300,
+        b'f' | b'm' | b'p' | b'u' => 200,
+        b'0' | b'b' | b'g' | b'h' => 150,
+        b'"' | b'(' | b')' | b'*' | b',' | b'-' | b'.' | b'/' | b';' | b'=' => 90,
+        b'k' | b'v' | b'w' | b'x' | b'y' => 80,
+        b'1'..=b'9' | b'A'..=b'Z' => 60,
+        b'j' | b'q' | b'z' => 20,
+        b'!'..=b'~' => 30,
+        _ => 2,
+    }
+}
+
+/// Common trigrams, which are far more frequent in source text than the frequencies of their bytes suggest.
+const COMMON: [[u8; 3]; 44] = [
+    *b"def", *b"efi", *b"fin", *b"ine", *b"int", *b"ion", *b"tio", *b"ing", *b"con", *b"ons",
+    *b"nst", *b"str", *b"tru", *b"ruc", *b"uct", *b"ret", *b"etu", *b"tur", *b"urn", *b"the",
+    *b"for", *b"ter", *b"typ", *b"ype", *b"ent", *b"ame", *b"nam", *b"sta", *b"ate", *b"ati",
+    *b"tat", *b"and", *b"res", *b"tor", *b"set", *b"siz", *b"ize", *b"dat", *b"val", *b"all",
+    *b"loc", *b"ock", *b"inc", *b"clu",
+];
+
+/// The share of offsets at which a common trigram is expected, in units of 10^-12.
+const COMMON_SHARE: u64 = 500_000_000;
+
+/// The frequency of the bytes of a set in source text, per 10,000 bytes.
+pub(crate) fn frequency_of(set: &ByteSet) -> u64 {
+    if let Some(byte) = set.single() {
+        return frequency(byte);
+    }
+    let mut sum = 0u64;
+    let mut left = set.len();
+    for byte in 0..=255u8 {
+        if left == 0 {
+            break;
+        }
+        if set.contains(byte) {
+            sum = sum.saturating_add(frequency(byte));
+            left = left.saturating_sub(1);
+        }
+    }
+    sum.min(10000)
+}
+
+/// The share of offsets of the common trigrams that are in the sets, in units of 10^-12.
+fn common_share(sets: [&ByteSet; 3]) -> u64 {
+    let mut sum = 0u64;
+    for [first, second, third] in COMMON {
+        if sets[0].contains(first) && sets[1].contains(second) && sets[2].contains(third) {
+            sum = sum.saturating_add(COMMON_SHARE);
+        }
+    }
+    sum
+}
+
+/// A part of a run, and the share of offsets at which it is expected, in units of 10^-12.
+#[derive(Clone, Copy, Drop)]
+pub(crate) struct Part {
+    pub(crate) from: usize,
+    pub(crate) to: usize,
+    pub(crate) share: u64,
+}
+
+/// The rarest three neighbouring sets of a run, given the frequencies of its sets.
+fn rarest_trigram(run: &[ByteSet], frequencies: &[u64]) -> Option<Part> {
+    let mut best = None;
+    let mut share = u64::MAX;
+    for (from, sets) in run.windows(3).enumerate() {
+        let mut next = 1u64;
+        for frequency in frequencies.iter().skip(from).take(3) {
+            next = next.saturating_mul(*frequency);
+        }
+        let next = next.saturating_add(common_share([&sets[0], &sets[1], &sets[2]]));
+        if next < share {
+            share = next;
+            best = Some(Part {
+                from,
+                to: from.saturating_add(MOST_SETS),
+                share,
+            });
+        }
+    }
+    best
+}
+
+/// Above this share of offsets, per 10^8, a pair is not worth its search.
+const MOST_PAIRS: u64 = 1_000_000;
+
+/// What counts as the frequency of the second set of a pair that has none: a single byte has to be rarer than a pair.
+const NO_SECOND: u64 = 30_000;
+
+/// The indices of the rarest two sets that can be tested by a comparison, given the frequencies of the sets, if they are
+/// rare enough. They are the same if there is one such set.
+pub(crate) fn rarest_pair(run: &[ByteSet], frequencies: &[u64]) -> Option<(usize, usize)> {
+    let first = rarest_tested(run, frequencies, None)?;
+    let second = rarest_tested(run, frequencies, Some(first)).unwrap_or(first);
+    let rest = if second == first {
+        NO_SECOND
+    } else {
+        *frequencies.get(second)?
+    };
+    let share = frequencies.get(first)?.saturating_mul(rest);
+    if share <= MOST_PAIRS {
+        Some((first, second))
+    } else {
+        None
+    }
+}
+
+/// The rarest set that can be tested by a comparison, other than the one at `except`.
+fn rarest_tested(run: &[ByteSet], frequencies: &[u64], except: Option<usize>) -> Option<usize> {
+    let mut best = None;
+    let mut least = u64::MAX;
+    for (i, set) in run.iter().enumerate() {
+        let frequency = *frequencies.get(i)?;
+        if frequency < least && except != Some(i) && ByteTest::of(set).is_some() {
+            least = frequency;
+            best = Some(i);
+        }
+    }
+    best
+}
+
+/// The part of the run that is the best for this kind of search, given the frequencies of the sets.
+pub(crate) fn rarest_part(kind: Kind, run: &[ByteSet], frequencies: &[u64]) -> Option<Part> {
+    let trigram = rarest_trigram(run, frequencies);
+    match kind {
+        Kind::Trigrams => trigram,
+        Kind::Pairs => {
+            let share = match trigram {
+                Some(trigram) => trigram.share,
+                None => share_of_few(frequencies),
+            };
+            let (first, _) = rarest_pair(run, frequencies)?;
+            let from = if run.len() > MOST_SETS {
+                first.saturating_sub(MOST_SETS / 2)
+            } else {
+                0
+            };
+            Some(Part {
+                from,
+                to: from.saturating_add(MOST_SETS),
+                share,
+            })
+        }
+    }
+}
+
+/// The share of a run of one or two sets, in units of 10^-12.
+fn share_of_few(frequencies: &[u64]) -> u64 {
+    let mut share = 1_000_000_000_000u64;
+    for frequency in frequencies {
+        share = share / 10_000 * (*frequency).min(10_000);
+    }
+    share
+}

@@ -1,0 +1,98 @@
+// Whether the words are the pattern: whether each line that contains one of them has a match.
+ghost use Rattle.std.specs.Prelude.{◌≡◌, ◌≤◌, ℕ, true, IsTrue, IfSome, vec_len};
+ghost use Rattle.cs_syntax.specs.Matching.{MatchesSpan, MatchesSequence, MatchesBranch, member};
+ghost use Rattle.cs_syntax.specs.Node.{tree_of};
+ghost use Rattle.cs_syntax.specs.NodeList.{trees_of};
+ghost use Rattle.cs_prefilter.specs.WordAt.{AreSufficient, IsSufficient};
+ghost use Rattle.cs_prefilter.specs.Sufficient.{MatchesPart};
+
+use crate::word::Word;
+use cs_syntax::{ByteSet, Node};
+
+/// Whether the tree matches each of the words, and none of them contains a newline.
+pub(crate) fn are_sufficient(root: &Node, words: &[Word]) -> bool
+    ensures { IsTrue result → AreSufficient (tree_of root.now) words.now }
+{
+    for word in words {
+        if !is_sufficient(root, word) {
+            return false;
+        }
+    }
+    true
+}
+
+fn is_sufficient(root: &Node, word: &Word) -> bool
+    ensures { IsTrue result → IsSufficient (tree_of root.now) word.now }
+{
+    match matched_to(root, word, 0) {
+        Some(_) => word.is_in_line(),
+        None => false,
+    }
+}
+
+/// The index of the set of the word up to which the tree matches from the index `from` on. Of several branches the first
+/// that matches counts.
+#[cycle(matched_to)]
+fn matched_to(node: &Node, word: &Word, from: usize) -> Option<usize>
+    requires { from ≤ vec_len word.now.sets }
+    ensures { IfSome result (MatchesPart (λ line i j. MatchesSpan line (tree_of node.now) i j)
+        word.now from) }
+{
+    match node {
+        Node::Empty => Some(from),
+        Node::Set(set) => {
+            if from < word.sets.len() && is_within(&word.sets[from], set) {
+                return Some(from + 1);
+            }
+            None
+        }
+        Node::Cat(parts) => matched_to_all(parts, word, from),
+        Node::Alt(branches) => matched_to_some(branches, word, from),
+        _ => None,
+    }
+}
+
+#[cycle(matched_to)]
+fn matched_to_all(parts: &[Node], word: &Word, from: usize) -> Option<usize>
+    requires { from ≤ vec_len word.now.sets }
+    ensures { IfSome result (MatchesPart (λ line i j. MatchesSequence line (trees_of parts.now) i j)
+        word.now from) }
+{
+    let mut at = from;
+    for part in parts {
+        let Some(next) = matched_to(part, word, at) else {
+            return None;
+        };
+        at = next;
+    }
+    Some(at)
+}
+
+#[cycle(matched_to)]
+fn matched_to_some(branches: &[Node], word: &Word, from: usize) -> Option<usize>
+    requires { from ≤ vec_len word.now.sets }
+    ensures { IfSome result (MatchesPart (λ line i j. MatchesBranch line (trees_of branches.now) i j)
+        word.now from) }
+{
+    for branch in branches {
+        if let Some(to) = matched_to(branch, word, from) {
+            return Some(to);
+        }
+    }
+    None
+}
+
+/// Whether all members of a set are members of the other.
+fn is_within(set: &ByteSet, other: &ByteSet) -> bool
+    ensures { IsTrue result → (b : ℕ) → member set.now b ≡ true → member other.now b ≡ true }
+{
+    if set.len() > other.len() {
+        return false;
+    }
+    for byte in 0..=255u8 {
+        if set.contains(byte) && !other.contains(byte) {
+            return false;
+        }
+    }
+    true
+}

@@ -1,0 +1,7 @@
+-- Definitions that public contracts cite.
+pub mod Storing
+pub mod MemFolders
+pub mod Rights
+pub mod Schedules
+-- Definitions that only private contracts cite.
+pub mod Steps

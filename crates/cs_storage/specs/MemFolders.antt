@@ -1,0 +1,33 @@
+-- The model of a folder in memory.
+use Rattle.std.specs.Prelude.{ℕ, List, map, drop, Option, option_map, Vec}
+use Rattle.std.specs.declared.alloc.Global.{Global}
+use Rattle.cs_storage.specs.Storing.{Folder, OwnFile, Left, absent, whole, torn}
+use Rattle.cs_storage.specs.declared.mem_types.MemFolder.{MemFolder}
+use Rattle.cs_storage.specs.declared.mem_types.MemFile.{MemFile}
+use Rattle.cs_storage.specs.declared.mem_types.MemLeft.{MemLeft}
+use Rattle.cs_storage.specs.declared.mem_types.MemLeft.TheVariants.{Absent, Whole, Torn}
+
+abbrev pub left_view : MemLeft → Left
+left_view Absent = absent
+left_view (Whole bytes) = whole bytes.items
+left_view Torn = torn
+
+abbrev pub own_view : MemFile → OwnFile
+own_view file = record { bytes = file.bytes.items; synced = file.synced }
+
+abbrev pub bytes_view : Option (Vec ℕ Global) → Option (List ℕ)
+bytes_view = option_map (λ bytes. bytes.items)
+
+-- what a crash from the n-th outcome on may leave
+abbrev pub lefts_from : ℕ → List MemLeft → List Left
+lefts_from n lefts = drop n (map left_view lefts)
+
+abbrev pub folder_view : MemFolder → Folder
+folder_view m = record {
+  file = bytes_view m.file;
+  seen = bytes_view m.seen;
+  own = option_map own_view m.own;
+  now = lefts_from m.now_at m.lefts.items;
+  since = lefts_from m.since_at m.lefts.items;
+  stuck = m.stuck;
+}

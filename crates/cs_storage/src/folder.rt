@@ -1,0 +1,51 @@
+// The index file and its surroundings.
+ghost use Rattle.std.specs.Prelude.{◌≡◌, Option, None};
+ghost use Rattle.cs_storage.specs.Storing.{Folder, Moves, Keeps, Looks, Claims, Compares, Fills, Syncs, Renames, Removes, Releases, IsHeld};
+
+use crate::fault::StorageFault;
+use cs_tree::Store;
+
+/// The index file and its surroundings: FILE, and FILE~ beside it, as one run sees and changes them.
+pub trait IndexFolder {
+    /// The opened index file.
+    type Index: Store + Drop;
+
+    /// The model. None if the type is unmodelled.
+    ghost model: { Self → Option Folder } = { λ _. None };
+
+    /// Opens FILE; None if there is no file.
+    fn look(&mut self) -> Result<Option<Self::Index>, StorageFault>
+        ensures { Moves (Looks Self.Index.model result) (model self.old) (model self.new) };
+
+    /// Makes FILE~ and locks it. Returns an error if another run holds it, or if it cannot be made.
+    fn claim(&mut self) -> Result<(), StorageFault>
+        ensures { Moves (Claims result) (model self.old) (model self.new) };
+
+    /// Whether FILE is still what `look` opened, or is still missing.
+    fn is_unchanged(&mut self) -> bool
+        ensures { Moves (Compares result) (model self.old) (model self.new) };
+
+    /// Writes the bytes to FILE~.
+    fn fill(&mut self, bytes: &[u8]) -> Result<(), StorageFault>
+        requires { IsHeld (model self.old) }
+        ensures { Moves (Fills bytes.now result) (model self.old) (model self.new) };
+
+    /// Syncs FILE~.
+    fn sync(&mut self) -> Result<(), StorageFault>
+        requires { IsHeld (model self.old) }
+        ensures { Moves (Syncs result) (model self.old) (model self.new) };
+
+    /// Renames FILE~ to FILE.
+    fn rename(&mut self) -> Result<(), StorageFault>
+        requires { IsHeld (model self.old) }
+        ensures { Moves (Renames result) (model self.old) (model self.new) };
+
+    /// Removes FILE; succeeds if there is none.
+    fn remove(&mut self) -> Result<(), StorageFault>
+        requires { IsHeld (model self.old) }
+        ensures { Moves (Removes result) (model self.old) (model self.new) };
+
+    /// Takes FILE~ away.
+    fn release(&mut self)
+        ensures { Moves Releases (model self.old) (model self.new) };
+}

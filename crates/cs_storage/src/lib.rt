@@ -1,0 +1,20 @@
+//! The storing of the index file. Read `specs/Storing.antt` first: what a crash at any moment may leave, and what
+//! other runs may do meanwhile.
+#![tactic(auto)]
+
+mod fault;
+mod folder;
+pub mod laws;
+mod mem_folder;
+mod mem_index;
+mod mem_types;
+mod rights;
+mod update;
+mod updating;
+
+pub use fault::StorageFault;
+pub use folder::IndexFolder;
+pub use mem_types::{MemFolder, MemIndex, MemLeft};
+pub use rights::kept_mode;
+pub use update::IndexUpdate;
+pub use updating::{begin_update, finish_update};

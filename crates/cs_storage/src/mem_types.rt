@@ -1,0 +1,60 @@
+// The types of a folder in memory. They have a module of their own because `specs/MemFolders.antt` cites them.
+ghost use Rattle.std.specs.Prelude.{◌≤◌, vec_len};
+
+use std::alloc::Global;
+
+/// An index file in memory, with FILE~ beside it. It can crash after any call, and another run can act before any call
+/// for which FILE~ is not held.
+#[derive(Drop)]
+pub struct MemFolder {
+    pub(crate) alloc: Global,
+    pub(crate) file: Option<Vec<u8>>,
+    pub(crate) seen: Option<Vec<u8>>,
+    pub(crate) own: Option<MemFile>,
+    /// What a crash may have left at FILE, in order of time.
+    pub(crate) lefts: Vec<MemLeft>,
+    /// Where in `lefts` the outcomes of a crash at this moment begin.
+    pub(crate) now_at: usize,
+    /// Where in `lefts` the outcomes since the claim begin.
+    pub(crate) since_at: usize,
+    pub(crate) stuck: u64,
+    /// Whether another run holds FILE~.
+    pub(crate) taken: bool,
+    /// What another run does next.
+    pub(crate) next: Option<MemVisit>,
+    /// The number of calls before the crash, from which on every call fails.
+    pub(crate) calls: usize,
+    ghost now_within: { now_at ≤ vec_len lefts },
+    ghost since_within: { since_at ≤ vec_len lefts },
+}
+
+/// FILE~, if it is held.
+#[derive(Drop)]
+pub(crate) struct MemFile {
+    pub(crate) bytes: Vec<u8>,
+    pub(crate) synced: bool,
+}
+
+/// What another run leaves at FILE, synced.
+#[derive(Drop)]
+pub(crate) struct MemVisit {
+    pub(crate) file: Option<Vec<u8>>,
+    pub(crate) left: MemLeft,
+}
+
+/// What a crash may leave at FILE.
+#[derive(Debug, PartialEq, Drop)]
+pub enum MemLeft {
+    /// No file.
+    Absent,
+    /// A file with these bytes.
+    Whole(Vec<u8>),
+    /// A file with any bytes.
+    Torn,
+}
+
+/// The opened file of a folder in memory.
+#[derive(Drop)]
+pub struct MemIndex {
+    pub(crate) bytes: Vec<u8>,
+}

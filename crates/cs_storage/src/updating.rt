@@ -1,0 +1,80 @@
+// The update of the index file, safe against crashes and other runs.
+ghost use Rattle.std.specs.Prelude.{Some, None};
+ghost use Rattle.cs_storage.specs.Storing.{Moves, IsHeld, Begins, Updates};
+ghost use Rattle.cs_storage.specs.Steps.{Replaces, RenamesFilled};
+
+use crate::fault::StorageFault;
+use crate::folder::IndexFolder;
+use crate::update::IndexUpdate;
+
+/// Makes and locks FILE~, and tests that FILE is still what was opened. So a second run, and a folder that cannot be
+/// written, are found before the job. Returns an error if FILE has changed.
+pub fn begin_update<F: IndexFolder>(folder: &mut F) -> Result<(), StorageFault>
+    ensures { Moves (Begins result) (F.model folder.old) (F.model folder.new) }
+{
+    folder.claim()?;
+    if folder.is_unchanged() {
+        return Ok(());
+    }
+    folder.release();
+    Err(StorageFault::Failed)
+}
+
+/// Updates FILE, and takes FILE~ away. FILE is tested again, since a program that knows nothing of FILE~ may have
+/// changed it.
+pub fn finish_update<F: IndexFolder>(
+    folder: &mut F,
+    update: &IndexUpdate,
+) -> Result<(), StorageFault>
+    requires { IsHeld (F.model folder.old) }
+    ensures { Moves (Updates update.now result) (F.model folder.old) (F.model folder.new) }
+{
+    match update {
+        IndexUpdate::Keep => {
+            folder.release();
+            Ok(())
+        }
+        IndexUpdate::Write(bytes) => replace(folder, bytes),
+        IndexUpdate::Remove => remove(folder),
+    }
+}
+
+/// Writes the bytes to FILE.
+fn replace<F: IndexFolder>(folder: &mut F, bytes: &[u8]) -> Result<(), StorageFault>
+    requires { IsHeld (F.model folder.old) }
+    ensures { Moves (Replaces (Some bytes.now) result) (F.model folder.old) (F.model folder.new) }
+{
+    let replaced = rename_filled(folder, bytes);
+    // A renamed FILE~ is held no more.
+    if replaced.is_err() {
+        folder.release();
+    }
+    replaced
+}
+
+/// Fills FILE~ and renames it to FILE. On error FILE~ stays.
+fn rename_filled<F: IndexFolder>(folder: &mut F, bytes: &[u8]) -> Result<(), StorageFault>
+    requires { IsHeld (F.model folder.old) }
+    ensures { Moves (RenamesFilled bytes.now result) (F.model folder.old) (F.model folder.new) }
+{
+    if !folder.is_unchanged() {
+        return Err(StorageFault::Failed);
+    }
+    folder.fill(bytes)?;
+    folder.sync()?;
+    folder.rename()
+}
+
+/// Removes FILE.
+fn remove<F: IndexFolder>(folder: &mut F) -> Result<(), StorageFault>
+    requires { IsHeld (F.model folder.old) }
+    ensures { Moves (Replaces None result) (F.model folder.old) (F.model folder.new) }
+{
+    let removed = if folder.is_unchanged() {
+        folder.remove()
+    } else {
+        Err(StorageFault::Failed)
+    };
+    folder.release();
+    removed
+}

@@ -1,0 +1,121 @@
+-- Which end strings the members of truncated lists and of cross products come from.
+use Rattle.std.proofs.Common.{◌≡◌, ℕ, ◌<◌, ◌⊎◌, true, false, not, List, [], ◌∷◌, ◌++◌, length, get_or, refl, sym, subst, inl, inr, arith}
+use Rattle.std.specs.Prelude.{Contains}
+use Rattle.std.specs.List.{list_all}
+use Rattle.std.proofs.lemmas.Bool.{and_parts, not-true, false≢true}
+use Rattle.std.proofs.lemmas.List.Elements.{Contains-get_or, Contains-push, Contains-push_cases, Contains-append_left, Contains-append_right, Contains-append_cases}
+use Rattle.cs_trigram.specs.EndStrings.{concatenation, HasEndString, HasSomeEndString, Subsumes, EachSubsumes, AreCoarser, AddsOnly, IsEndStringOfTwo, IsConcatenation, AreConcatenations, any_end}
+use Rattle.cs_trigram.specs.declared.end_strings.Side.{Side}
+use Rattle.cs_trigram.specs.declared.end_strings.EndString.{EndString}
+use Rattle.cs_trigram.proofs.EndStringLemmas.{fits_open, fits_any}
+
+pub none_contained : (x : EndString) → Contains [] x → ⊥
+none_contained x m = let lt : m.0 < 0 = m.1 in omega arith
+
+pub only_contained : (e x : EndString) → Contains (e ∷ []) x → e ≡ x
+only_contained e x m = elim (Contains-push_cases [] e x m) [ inl n ↦ absurd (none_contained x n) | inr same ↦ same ]
+
+head_cases : (e : EndString) (es : List EndString) (x : EndString) → Contains (e ∷ es) x → (e ≡ x) ⊎ Contains es x
+head_cases e es x m = elim (Contains-append_cases (e ∷ []) es x m) [ inl one ↦ inl (only_contained e x one) | inr later ↦ inr later ]
+
+pub any_has : (side : Side) (x : EndString) (text : List ℕ) → any_end ≡ x → HasEndString side x text
+any_has side x text same =
+    elim (fits_any side any_end text refl refl) [
+      | inl a ↦ subst (λ (y : EndString). HasEndString side y text) same a
+      | inr b ↦ absurd b
+    ]
+
+pub coarser_same : (side : Side) (short end_strings : List EndString) → short ≡ end_strings → AreCoarser side short end_strings
+coarser_same side short end_strings e = record {
+  all = λ text h. subst (λ (es : List EndString). HasSomeEndString side es text) (sym e) h;
+  each = λ x m. (x, subst (λ (es : List EndString). Contains es x) e m, λ text h. h);
+}
+
+pub coarser_both : (side : Side) (a b c : List EndString) → AreCoarser side a b → AreCoarser side b c → AreCoarser side a c
+coarser_both side a b c ab bc = record {
+  all = λ text h. ab.all text (bc.all text h);
+  each = λ x m.
+      let y = ab.each x m in
+      let z = bc.each y.0 y.1 in
+      (z.0, z.1, λ text h. y.2 text (z.2 text h));
+}
+
+-- one more end string
+pub adds_pushed : (old end_strings : List EndString) (e : EndString) → end_strings ≡ old ++ e ∷ [] → AddsOnly old end_strings (λ x. e ≡ x)
+adds_pushed old end_strings e is x m = Contains-push_cases old e x (subst (λ (es : List EndString). Contains es x) is m)
+
+-- end strings of the same origin
+pub subsumes_same : (side : Side) (e x y : EndString) → e ≡ x → Subsumes side e y → Subsumes side x y
+subsumes_same side e x y same s = subst (λ (z : EndString). Subsumes side z y) same s
+
+pub adds_subsuming : (side : Side) (old short ends : List EndString) (e : EndString) (i : ℕ) (d : EndString) → i < length ends → AddsOnly old short (λ x. e ≡ x) →
+    Subsumes side e (get_or ends i d) → EachSubsumes side old ends → EachSubsumes side short ends
+adds_subsuming side old short ends e i d lt adds s each x m =
+    elim (adds x m) [
+      | inl before ↦ each x before
+      | inr same ↦ (get_or ends i d, Contains-get_or ends i d lt, subsumes_same side e x (get_or ends i d) same s)
+    ]
+
+-- concatenations of a near end string
+module _ (side : Side) (near : EndString) where
+  pub open_concatenation : (fars : List EndString) (e x : EndString) → e ≡ x → ((u v : List ℕ) → HasEndString side near u → HasEndString side e (concatenation side u v)) →
+      IsConcatenation side near fars x
+  open_concatenation fars e x same opens = subst (λ (z : EndString). IsConcatenation side near fars z) same (inl opens)
+
+  pub far_concatenation : (fars : List EndString) (i : ℕ) (d e x : EndString) → i < length fars → e ≡ x → IsEndStringOfTwo side near (get_or fars i d) e → IsConcatenation side near fars x
+  far_concatenation fars i d e x lt same two =
+      subst (λ (z : EndString). IsConcatenation side near fars z) same (inr (get_or fars i d, Contains-get_or fars i d lt, two))
+
+  pub coarser_concatenation : (short fars : List EndString) (x : EndString) → AreCoarser side short fars → IsConcatenation side near short x → IsConcatenation side near fars x
+  coarser_concatenation short fars x coarser (inl opens) = inl opens
+  coarser_concatenation short fars x coarser (inr two) =
+      let far = coarser.each two.0 two.1 in
+      inr (far.0, far.1, λ u v a b. two.2 u v a (far.2 v b))
+
+-- no end string of the list is whole
+not_whole : (end_strings : List EndString) (x : EndString) → list_all (λ (e : EndString). not e.whole) end_strings ≡ true → Contains end_strings x → x.whole ≡ false
+not_whole [] x loose m = absurd (none_contained x m)
+not_whole (e ∷ es) x loose m =
+    let p = and_parts (not e.whole) (list_all (λ (y : EndString). not y.whole) es) loose in
+    elim (head_cases e es x m) [
+      | inl same ↦ subst (λ (y : EndString). y.whole ≡ false) same (not-true e.whole p.0)
+      | inr later ↦ not_whole es x p.1 later
+    ]
+
+pub open_concatenations : (side : Side) (nears fars end_strings : List EndString) → end_strings ≡ nears → list_all (λ (e : EndString). not e.whole) nears ≡ true →
+    (x : EndString) → Contains end_strings x → (near : EndString) × Contains nears near × IsConcatenation side near fars x
+open_concatenations side nears fars end_strings same loose x m =
+    let there = subst (λ (es : List EndString). Contains es x) same m in
+    (x, there, inl (λ u v a. fits_open side x x refl (not_whole nears x loose there) u v a))
+
+-- a list in which some end string is whole has a member
+some_end_string : (end_strings : List EndString) → list_all (λ (e : EndString). not e.whole) end_strings ≡ false → (x : EndString) × Contains end_strings x
+some_end_string [] odd = absurd (false≢true (sym odd))
+some_end_string (e ∷ es) odd = (e, Contains-append_left (e ∷ []) es e (Contains-push [] e))
+
+pub any_concatenations : (side : Side) (nears fars end_strings : List EndString) → end_strings ≡ any_end ∷ [] → list_all (λ (e : EndString). not e.whole) nears ≡ false → AreConcatenations side nears fars end_strings
+any_concatenations side nears fars end_strings is odd = record {
+  all = λ u v a b. subst (λ (es : List EndString). HasSomeEndString side es (concatenation side u v)) (sym is) (fits_any side any_end (concatenation side u v) refl refl);
+  each = λ x m.
+      let near = some_end_string nears odd in
+      (near.0, near.1, inl (λ u v a. any_has side x (concatenation side u v) (only_contained any_end x (subst (λ (es : List EndString). Contains es x) is m))));
+}
+
+-- the end strings of two lists
+pub subsume_appended : (side : Side) (one other both : List EndString) → ((x : EndString) → Contains both x → Contains (one ++ other) x) → (short : List EndString) → AreCoarser side short both → EachSubsumes side short (one ++ other)
+subsume_appended side one other both from short coarser x m =
+    let y = coarser.each x m in
+    (y.0, from y.0 y.1, y.2)
+
+pub adds_appended : (one other old end_strings : List EndString) (i : ℕ) (d : EndString) → i < length other → AddsOnly old end_strings (λ x. get_or other i d ≡ x) →
+    ((x : EndString) → Contains old x → Contains (one ++ other) x) → (x : EndString) → Contains end_strings x → Contains (one ++ other) x
+adds_appended one other old end_strings i d lt adds before x m =
+    elim (adds x m) [
+      | inl a ↦ before x a
+      | inr same ↦ Contains-append_right one other x (subst (λ (y : EndString). Contains other y) same (Contains-get_or other i d lt))
+    ]
+
+-- equal lists
+pub concatenations_via : (side : Side) (xs ys nears fars end_strings : List EndString) → xs ≡ nears → ys ≡ fars → AreConcatenations side xs ys end_strings → AreConcatenations side nears fars end_strings
+concatenations_via side xs ys nears fars end_strings a b c =
+    subst (λ (zs : List EndString). AreConcatenations side nears zs end_strings) b (subst (λ (zs : List EndString). AreConcatenations side zs ys end_strings) a c)

@@ -4,13 +4,16 @@ PREFIX ?= /usr/local
 program = crates/codesearch/out/codesearch
 # The program before it is linked: the archive links it statically.
 object = $(program).o
+# The library for C and Rust: the archive, the shared object and codesearch.pc stand in one folder.
+library = out/lib/libcodesearch.a
 sources = crates.txt $(shell find crates -type d \( -name out -o -name must-fail \) -prune -o -type f -print)
 
-.PHONY: help check quick test wrong mutants trusted program bench install uninstall dist deb
+.PHONY: help check quick test wrong mutants trusted program lib bench install uninstall dist deb
 
 help:
 	@echo 'make program    proves the crates and builds crates/codesearch/out/codesearch: 15 to 40 minutes the first time'
-	@echo 'make install    installs the tools, cs, manual, completions and editor files under PREFIX (now $(PREFIX))'
+	@echo 'make lib        proves and builds the library for C and Rust: out/lib'
+	@echo 'make install    installs the tools, cs, the library, manual, completions and editor files under PREFIX (now $(PREFIX))'
 	@echo 'make uninstall  removes them'
 	@echo 'make dist deb   makes an archive for each Linux on x86-64, and a Debian package, in the folder dist'
 	@echo 'make quick      names and types of all crates, and the end-to-end tests on the built program: minutes'
@@ -22,11 +25,11 @@ help:
 
 check:
 	rt ci
-	@$(MAKE) --silent --no-print-directory program
+	@$(MAKE) --silent --no-print-directory program lib
 	@$(MAKE) --silent --no-print-directory run-tests
 
 quick: $(program)
-	@for crate in $$(sed -n 's/:.*//p' crates.txt); do \
+	@for crate in $$(sed -n 's/[ :].*//p' crates.txt); do \
 	    (cd crates/$$crate && rt check --only= > /tmp/quick.$$$$ 2>&1) || { cat /tmp/quick.$$$$; rm -f /tmp/quick.$$$$; exit 1; }; \
 	    rm -f /tmp/quick.$$$$; \
 	done
@@ -34,7 +37,7 @@ quick: $(program)
 	tests/shell/end_to_end.sh $(program)
 	tests/shell/manual.sh $(program)
 
-test: $(program)
+test: $(program) $(library)
 	cd crates/cs_tests && rt test
 	cd crates/cs_tool_tests && rt test
 	@$(MAKE) --silent --no-print-directory run-tests
@@ -48,6 +51,7 @@ run-tests:
 	tests/shell/use.sh $(program)
 	tests/shell/cs.sh $(program)
 	tests/shell/editors.sh $(program)
+	tests/shell/c_library.sh $(program)
 	tests/shell/packages.sh $(program)
 	tests/runs/histories.py $(program)
 	tests/runs/chance.py $(program)
@@ -75,20 +79,26 @@ $(object): $(program)
 	@scripts/program.sh
 	@touch -c $(program) $(object)
 
+lib: $(library)
+
+$(library): $(sources) include/codesearch.h
+	@scripts/library.sh
+	@touch -c $(library)
+
 bench: $(program)
 	@scripts/bench.sh $(program) "$(TREE)"
 
 # One script installs and uninstalls.
-install: $(program)
-	@PROGRAM=$(program) DESTDIR=$(DESTDIR) scripts/install.sh "$(PREFIX)"
+install: $(program) $(library)
+	@PROGRAM=$(program) LIBRARY=$(dir $(library)) LIBDIR=$(LIBDIR) DESTDIR=$(DESTDIR) scripts/install.sh "$(PREFIX)"
 
 uninstall:
-	@DESTDIR=$(DESTDIR) scripts/install.sh -u "$(PREFIX)"
+	@LIBDIR=$(LIBDIR) DESTDIR=$(DESTDIR) scripts/install.sh -u "$(PREFIX)"
 
 # An archive and a Debian package in the folder DIST.
 DIST ?= dist
-dist: $(object)
+dist: $(object) $(library)
 	@V3=1 scripts/dist.sh "$(DIST)"
 
-deb: $(program)
+deb: $(program) $(library)
 	@scripts/deb.sh "$(DIST)"

@@ -9,7 +9,8 @@ umask 022
 maintainer='The codesearch authors <codesearch@example.org>'
 
 strip -o "$fresh/codesearch" crates/codesearch/out/codesearch
-PROGRAM=$fresh/codesearch DESTDIR=$root scripts/install.sh /usr
+libdir=lib/x86_64-linux-gnu
+PROGRAM=$fresh/codesearch LIBRARY=out/lib LIBDIR=$libdir DESTDIR=$root scripts/install.sh /usr
 sed -i 's|^exec "/usr/bin/codesearch"|exec /usr/bin/codesearch|' "$root/usr/bin/cindex" "$root/usr/bin/csearch" "$root/usr/bin/cgrep"
 # Debian's shells look for what packages bring in folders of their own.
 mkdir -p "$root/usr/share/zsh/vendor-completions"
@@ -45,10 +46,19 @@ mkdir -p "$root/usr/share/lintian/overrides"
 cat > "$root/usr/share/lintian/overrides/$package" <<END
 # This package is built from its own repository, and closes no bug of Debian's list.
 $package: initial-upload-closes-no-bugs *
+# The library comes with the tools whose index it reads.
+$package: package-name-doesnt-match-sonames *
+$package: no-symbols-control-file *
+$package: non-dev-pkg-with-shlib-symlink *
 END
 
 mkdir "$root/DEBIAN"
 printf '/etc/emacs/site-start.d/50%s.el\n' $package > "$root/DEBIAN/conffiles"
+if [ -f "$root/usr/$libdir/libcodesearch.a" ]; then
+    printf 'libcodesearch %s %s (>= %s)\n' "${version%%.*}" $package "$version" > "$root/DEBIAN/shlibs"
+    printf 'activate-noawait ldconfig\n' > "$root/DEBIAN/triggers"
+    install -D -m 644 examples/server.c "$doc/examples/server.c"
+fi
 (cd "$root" && find usr -type f | sort | xargs md5sum) > "$root/DEBIAN/md5sums"
 cat > "$root/DEBIAN/control" <<END
 Package: $package

@@ -1,7 +1,7 @@
 #!/bin/sh
 # Makes the archive of the built program: a static program for each Linux on x86-64, a faster one for newer processors
-# if the toolchain makes it, the tools, manual, completions, editor files, and install.sh. Two builds give the same
-# bytes.
+# if the toolchain makes it, the tools, the library for C and Rust if it is built, manual, completions, editor files, and
+# install.sh. Two builds give the same bytes.
 # usage: scripts/dist.sh FOLDER    the archive is FOLDER/codesearch-VERSION-linux-x86_64.tar.xz
 # V3=1 also builds the program for newer processors (x86-64-v3), which install.sh chooses if it runs.
 
@@ -28,11 +28,20 @@ if [ -n "$V3" ]; then
     statically $out_folder/codesearch.o "$top/bin/codesearch-v3"
 fi
 cp bin/cs "$top/bin/cs"
+library=out/lib
+if [ -f "$library/libcodesearch.a" ]; then
+    mkdir "$top/lib" "$top/include"
+    cp "$library/libcodesearch.a" "$library/libcodesearch.so.$version" "$top/lib"
+    cp include/codesearch.h "$top/include"
+    mkdir -p "$top/bindings/rust/src" "$top/bindings/rust/tests"
+    (cd bindings/rust && cp Cargo.toml build.rs "$top/bindings/rust" && cp src/*.rs "$top/bindings/rust/src" && cp tests/*.rs "$top/bindings/rust/tests")
+    cp -r examples "$top/examples"
+fi
 mkdir "$top/man" "$top/completion" "$top/editors"
 cp man/*.[157] "$top/man"
 cp completion/* "$top/completion"
 cp editors/* "$top/editors"
-cp LICENSE NOTICE CHANGELOG.md README.md scripts/install.sh "$top"
+cp LICENSE NOTICE VERSION CHANGELOG.md README.md scripts/install.sh "$top"
 find "$top" -type d -exec chmod 755 {} +
 find "$top" -type f -exec chmod 644 {} +
 chmod 755 "$top"/bin/* "$top/install.sh"

@@ -1,7 +1,8 @@
 #!/bin/sh
-# Installs codesearch, or removes it: the program, the tools, cs, manual, completions, editor files.
+# Installs codesearch, or removes it: the program, the tools, cs, the library, manual, completions, editor files.
 # usage: install.sh [-u] PREFIX    PREFIX begins with /, as /usr/local
-# DESTDIR, if set, is prepended to each path. PROGRAM names a program other than the one beside this script.
+# DESTDIR, if set, is prepended to each path. PROGRAM and LIBRARY name a program and a folder of libraries other than those
+# beside this script. LIBDIR is the folder of libraries under PREFIX, if it is not lib.
 
 remove=''
 [ "$1" != -u ] || { remove=1 && shift; }
@@ -21,12 +22,15 @@ zsh=$to/share/zsh/site-functions
 fish=$to/share/fish/vendor_completions.d
 vim=$to/share/vim/vimfiles/plugin
 emacs=$to/share/emacs/site-lisp
+libdir=$prefix/${LIBDIR:-lib}
+libs=$DESTDIR$libdir
 tools='cindex csearch cgrep'
 
 if [ -n "$remove" ]; then
     for name in codesearch cs $tools; do rm -f "$to/bin/$name" "$bash/$name" "$fish/$name.fish"; done
     for page in "$here"/man/*.[157]; do rm -f "$to/share/man/man${page##*.}/${page##*/}"; done
     rm -f "$zsh/_codesearch" "$vim/codesearch.vim" "$emacs/codesearch.el"
+    rm -f "$libs"/libcodesearch.a "$libs"/libcodesearch.so* "$libs/pkgconfig/codesearch.pc" "$to/include/codesearch.h"
     exit
 fi
 
@@ -55,3 +59,26 @@ for page in "$here"/man/*.[157]; do
     install -d "$to/share/man/man${page##*.}"
     install -m 644 "$page" "$to/share/man/man${page##*.}/${page##*/}"
 done
+
+# The library for C and Rust.
+library=${LIBRARY:-$here/lib}
+[ -f "$library/libcodesearch.a" ] || exit 0
+version=$(cat "$here/VERSION")
+install -d "$libs/pkgconfig" "$to/include"
+install -m 644 "$here/include/codesearch.h" "$to/include/codesearch.h"
+install -m 644 "$library/libcodesearch.a" "$libs/libcodesearch.a"
+install -m 644 "$library/libcodesearch.so.$version" "$libs/libcodesearch.so.$version"
+ln -sf "libcodesearch.so.$version" "$libs/libcodesearch.so.${version%%.*}"
+ln -sf "libcodesearch.so.${version%%.*}" "$libs/libcodesearch.so"
+cat > "$libs/pkgconfig/codesearch.pc" <<END
+prefix=$prefix
+includedir=\${prefix}/include
+libdir=$libdir
+
+Name: codesearch
+Description: search source trees by regular expressions through an index
+Version: $version
+Cflags: -I\${includedir}
+Libs: -L\${libdir} -lcodesearch
+END
+chmod 644 "$libs/pkgconfig/codesearch.pc"

@@ -17,7 +17,7 @@ from pathlib import Path
 
 top = Path(__file__).resolve().parent.parent
 NAME = re.compile(r"^# (\w+)\n", re.M)
-FUNCTION = re.compile(r"^ *(?:#\[cycle\((\w+)\)\]\n *)?(?:pub(?:\(\w+\))? )?(?:const )?fn (\w+)", re.M)
+FUNCTION = re.compile(r'^ *(?:#\[cycle\((\w+)\)\]\n *)?(?:pub(?:\(\w+\))? )?(?:const )?(?:extern "C" )?fn (\w+)', re.M)
 TYPE = re.compile(r"^impl(?:<[^>]*>)? (?:.* for )?(\w+).*\{$", re.M)
 # The line of a function whose own proof fails, not only that of a callee.
 REFUSED = re.compile(r"^fn (\S+): (?:not proved|no proof: expected answers)", re.M)

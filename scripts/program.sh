@@ -1,20 +1,22 @@
 #!/bin/sh
 # Proves the crates of the program, the lowest first, and builds the program. `make program` runs it.
+# usage: scripts/program.sh [CRATE]    CRATE is codesearch, the program, or codesearch_c, the library
 # Standard error says which crate is being proved, how many there are, and how long it has taken so far.
 
 cd "$(dirname -- "$0")/.." || exit 2
+target=${1:-codesearch}
 start=$(date +%s)
 
-# The crates of the program, each after those that it uses.
-order=$(awk -F: '
-    { uses[$1] = $2 }
+# The crates of the target, each after those that it uses.
+order=$(awk -F: -v target="$target" '
+    { sub(/ .*/, "", $1); uses[$1] = $2 }
     function visit(crate,    names, count, i) {
         if (!(crate in uses) || seen[crate]++) return
         count = split(uses[crate], names, " ")
         for (i = 1; i <= count; i++) visit(names[i])
         print crate
     }
-    END { visit("codesearch") }' crates.txt)
+    END { visit(target) }' crates.txt)
 total=$(echo "$order" | wc -l)
 number=0
 

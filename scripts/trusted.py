@@ -19,6 +19,7 @@ CONTRACTS = [
     ("csearch_stored", "cs_search/src/stored.rt", [], 1350),
     ("list_stored", "cs_cindex/src/listing.rt", [], None),
     ("run", "codesearch/src/running.rt", [], None),
+    ("execute", "codesearch/src/execution.rt", [], None),
 ]
 
 # the files of the traits
@@ -27,6 +28,7 @@ TRAITS = {
     "Source": "cs_tree/src/source.rt",
     "Sink": "cs_tree/src/sink.rt",
     "Store": "cs_tree/src/store.rt",
+    "IndexFolder": "cs_storage/src/folder.rt",
 }
 
 

@@ -166,9 +166,12 @@ cp results/old index
 printf 'other\n' > results/other
 cp results/other results/kept
 refused="codesearch: cannot write $home/index\n"
+foreign="codesearch: cannot write $home/index: remove $home/index~\n"
 for command in 'ln -s index index~' 'ln index index~' 'ln -s results/other index~' 'ln results/other index~' 'ln -s results/none index~' 'mkdir index~' 'mkfifo index~'; do
     eval "$command"
-    try 2 '' "$refused" "timeout 20 \"\$program\" cindex trees/b # after $command"
+    line=$refused
+    [ -f index~ ] && [ ! -h index~ ] && line=$foreign
+    try 2 '' "$line" "timeout 20 \"\$program\" cindex trees/b # after $command"
     holds "cmp -s index results/old && cmp -s results/other results/kept && [ ! -e results/none ]"
     rm -r index~
 done
@@ -215,9 +218,14 @@ if [ "$(id -u)" -eq 0 ] && chown 12345:12345 index 2>/dev/null; then
     printf 'left\n' > index~
     chown 12345:12345 index~
     chmod 666 index~
-    try 2 '' "$refused" "cindex trees/b"
-    try 2 '' "$refused" "cindex -reset"
-    holds "cmp -s index results/old && [ \"\$(cat index~)\" = left ] && rm index~"
+    try 2 '' "$foreign" "cindex trees/b"
+    try 2 '' "$foreign" "cindex -reset"
+    holds "cmp -s index results/old && [ \"\$(cat index~)\" = left ]"
+    # While another process has locked it, nobody is asked to remove it.
+    if command -v flock > /dev/null; then
+        try 2 '' "$refused" "flock index~ \"\$program\" cindex trees/b"
+    fi
+    rm index~
     # An attacker who creates files and links there again and again, in a folder like /tmp, never owns the index.
     if command -v setpriv > /dev/null; then
         chmod 711 "$home"
@@ -235,7 +243,7 @@ if [ "$(id -u)" -eq 0 ] && chown 12345:12345 index 2>/dev/null; then
             time=$((time + 1))
             CSEARCHINDEX=$home/results/sticky/index "$program" cindex trees/b 2> results/said
             holds "[ \$(stat -c %u results/sticky/index) = 0 ] && [ ! -h results/sticky/index ] && [ ! -e results/sticky/none ]"
-            holds "CSEARCHINDEX=\$home/results/sticky/index cindex -list > results/listed && ! grep -vx \"codesearch: cannot write \$home/results/sticky/index\" results/said"
+            holds "CSEARCHINDEX=\$home/results/sticky/index cindex -list > results/listed && ! grep -vx \"codesearch: cannot write \$home/results/sticky/index\(: remove .*\)*\" results/said"
         done
         : > results/stop
         wait $!

@@ -5,7 +5,7 @@
 
 . "$(dirname -- "$0")/library.sh"
 
-needs cc strip xz dpkg-deb
+needs cc strip xz dpkg-deb pkg-config
 SOURCE_DATE_EPOCH=1790000000
 export SOURCE_DATE_EPOCH
 version=$(cat "$root/VERSION")
@@ -51,6 +51,12 @@ if [ -n "$has_archive" ]; then
     holds "'$fresh/unpacked/$archive/install.sh' '$fresh/usr'"
     holds "printf 'a\nmarker\n' | '$fresh/usr/bin/cgrep' -n marker | grep -q ':2:marker'"
     for page in "$fresh"/usr/share/man/man?/*; do holds "[ -s '$page' ]"; done
+    if [ -f "$fresh/usr/lib/libcodesearch.a" ]; then
+        holds "flags=\$(PKG_CONFIG_PATH='$fresh/usr/lib/pkgconfig' pkg-config --cflags --libs codesearch) && cc '$root/examples/server.c' \$flags -o '$fresh/server'"
+        holds "LD_LIBRARY_PATH='$fresh/usr/lib' '$fresh/server' /dev/null; [ \$? = 2 ]"
+    else
+        skipped 'the library in the archive: it is not built (make lib builds it)'
+    fi
     holds "'$fresh/unpacked/$archive/install.sh' -u '$fresh/usr' && [ -z \"\$(find '$fresh/usr' -type f)\" ]"
 fi
 

@@ -58,6 +58,18 @@ if [ "$(id -u)" -eq 0 ] && as_user true 2> /dev/null; then
     try 0 '' '' "cindex storage/tree # after a killed run of root"
     holds "[ \$(stat -c %u:%g \$index) = 1000:2000 ] && [ ! -e \$index~ ]"
     chown 0:0 storage
+    # A file at FILE~ of neither this user nor the owner of FILE stays, and the line says so.
+    again
+    chown 1000:1000 storage
+    printf 'left\n' > "$index~"
+    chown 12345:12345 "$index~"
+    foreign="codesearch: cannot write $index: remove $index~\n"
+    for rights in 600 666; do
+        chmod $rights "$index~"
+        try 2 '' "$foreign" "as_user \"\$program\" cindex storage/tree storage/none # over another user's FILE~ of mode $rights"
+        holds "cmp -s \$index \$first && [ \"\$(cat \$index~)\" = left ]"
+    done
+    chown 0:0 storage
     # Another user's index, in a folder that this user may not write.
     again
     chmod 644 "$index"
@@ -72,7 +84,7 @@ fi
 try 2 '' "codesearch: cannot write $home/none/index\n" "CSEARCHINDEX=\$home/none/index cindex storage/none"
 try 2 '' 'cindex: unknown option -x\n' "CSEARCHINDEX=\$home/none/index cindex -x"
 again
-for path in '' / storage/none; do
+for path in '' storage/tree storage/none; do
     cindex "$path" < /dev/null > /dev/null 2>&1
     holds "[ ! -e \$index~ ]"
 done
@@ -123,13 +135,16 @@ else
 fi
 
 # ---- descriptors ------------------------------------------------------------------------------------------------------
-# A lack of descriptors refuses the run, and empties no tree.
+# A lack of descriptors refuses the run, and empties no tree. The tools have no line of their own for it.
+again
+try 2 '' 'codesearch: too many open files\n' "(ulimit -n 4; cindex storage/tree)"
+holds "cmp -s \$index \$first && [ ! -e \$index~ ]"
 for number in 4 5 6 7 8 9 10; do
     again
     (ulimit -n $number; "$program" cindex) 2> results/said
     case $? in
         0) holds "cmp -s \$index \$first && [ ! -s results/said ] # with $number descriptors" ;;
-        *) holds "cmp -s \$index \$first && ! grep -vx \"codesearch: cannot [rw].* \$index\\|cindex: out of memory\" results/said # with $number descriptors" ;;
+        *) holds "cmp -s \$index \$first && ! grep -vx \"codesearch: too many open files\\|cindex: out of memory\" results/said # with $number descriptors" ;;
     esac
 done
 
@@ -139,6 +154,13 @@ if strace -qq -o /dev/null true 2> /dev/null; then
     again
     chmod 644 "$index"
     try 0 '' '' "(umask 022; strace -qq -o /dev/null -e inject=fchmod:error=EPERM \"\$program\" cindex storage/tree)"
+    # The index file is not opened for lack of a descriptor, of the process or of the system.
+    again
+    for error in EMFILE ENFILE; do
+        for command in 'cindex -list' 'cindex -x' 'csearch x'; do
+            try 2 '' 'codesearch: too many open files\n' "strace -qq -o /dev/null -P \$index -e inject=open,openat:error=$error \"\$program\" $command"
+        done
+    done
     # A file that is gone needs no removal.
     again
     try 0 '' '' "strace -qq -o /dev/null -e inject=unlink:error=ENOENT:when=1 \"\$program\" cindex -reset"
@@ -166,6 +188,15 @@ if command -v bindfs > /dev/null && bindfs --chmod-deny storage/under storage/ot
     bindfs --force-user=12345 storage/under storage/other
     printf 'left\n' > storage/other/index~
     twice 'a file system that maps owners'
+    # There a first job that was killed leaves a FILE~ that nothing shows to be ours: the line says to remove it.
+    rm storage/other/index
+    printf 'left\n' > storage/other/index~
+    other=$home/storage/other/index
+    for command in 'cindex storage/tree' 'cindex -reset'; do
+        try 2 '' "codesearch: cannot write $other: remove $other~\n" "CSEARCHINDEX=\$other $command # after a first job that was killed"
+    done
+    holds "[ \"\$(cat \$other~)\" = left ] && [ ! -e \$other ] && rm \$other~"
+    twice 'a file system that maps owners, without the file'
     umount storage/other
 else
     skipped 'file systems that refuse chmod or map owners: there is no bindfs, or this user may not mount'

@@ -1,11 +1,10 @@
 -- What the arguments mean, which error comes first, and the index that is known.
-use Rattle.std.proofs.Common.{◌≡◌, ◌≢◌, ◌↔◌, ℕ, Bool, true, false, cond, List, length, map, [], ◌∷◌, Option, Some, None, Result, Ok, Err, refl, sym, ap, subst, ◌∙◌, ◌⊎◌, inl, inr}
-use Rattle.std.specs.Prelude.{IfOk, OnOk, IfSome, IsSomeAnd, if◌then◌else◌, is_none, unwrap_or, option_map, option_and_then, string_bytes}
+use Rattle.std.proofs.Common.{◌≡◌, ◌≢◌, ◌↔◌, ℕ, Bool, true, false, List, length, map, [], ◌∷◌, Option, Some, None, Result, Ok, Err, refl, sym, ap, subst, ◌∙◌, ◌⊎◌, inl, inr}
+use Rattle.std.specs.Prelude.{IfOk, IfSome, IsSomeAnd, if◌then◌else◌, is_none, unwrap_or, option_map, option_and_then, string_bytes}
 use Rattle.std.specs.Option.{option_or}
 use Rattle.cs_tree.specs.Sinks.{SinkModel, Flushes}
 use Rattle.cs_tree.specs.TakesPrefix.{EndsAfter}
 use Rattle.cs_tree.specs.Cover.{is_absolute}
-use Rattle.cs_tree.specs.declared.fault.IoFault.{IoFault}
 use Rattle.cs_tree.proofs.PrefixLemmas.{prefix_written}
 use Rattle.cs_args.specs.Args.{OptionItem, option_items, first_fault, fault_or, search_job, grep_job, parse_args}
 use Rattle.cs_args.specs.JobView.{JobView, job_view}
@@ -19,7 +18,8 @@ use Rattle.cs_args.specs.declared.jobs.Job.{Job}
 use Rattle.cs_args.specs.declared.jobs.Job.TheVariants.{Index, Search, Grep}
 use Rattle.cs_args.specs.declared.jobs.Tool.{Tool}
 use Rattle.cs_args.specs.declared.jobs.Tool.TheVariants.{Cindex, Csearch, Cgrep}
-use Rattle.codesearch.specs.Program.{tool_of, tool_args, meaning, lacks_folder, word_line, when, unreadable_line, unwritable_line, IndexFile, early_line, arg_at, Surroundings, IsUntouched, Refuses, DoesJob, RunsAfter, Runs, IsUnreadable, index_file, IsCall}
+use Rattle.codesearch.specs.Program.{tool_of, tool_args, meaning, lacks_folder, word_line, reading_line, writing_line, IndexFile, early_line, arg_at, Surroundings, IsUntouched, Refuses, DoesJob, RunsAfter, Runs, IsCall, may_update}
+use Rattle.cs_storage.specs.declared.fault.StorageFault.{StorageFault}
 use Rattle.codesearch.specs.Running.{HasFolder}
 use Rattle.codesearch.specs.declared.call.Call.{Call}
 use Rattle.codesearch.specs.declared.given.Given.{Given}
@@ -64,42 +64,61 @@ pub meant : (parsed : Result JobView WordFault) (job : Job) → GivesJob parsed 
 meant (Ok view) job gives = ap Ok (sym gives)
 meant (Err fault) job gives = absurd (let e = gives in cc)
 
-pub early_line_at : (given : Given) (tool : Tool) (file : IndexFile) → tool_of given ≡ Some tool → given.has_non_text ≡ false → lacks_folder given tool ≡ false → early_line given file ≡ option_or (when file.unreadable (unreadable_line file.name)) (option_or (word_line tool (tool_args given) (meaning given tool)) (when file.unclaimed (unwritable_line file.name)))
+pub early_line_at : (given : Given) (tool : Tool) (file : IndexFile) → tool_of given ≡ Some tool → given.has_non_text ≡ false → lacks_folder given tool ≡ false → early_line given file ≡ option_or (option_map (reading_line file.name) file.unreadable) (option_or (word_line tool (tool_args given) (meaning given tool)) (option_map (writing_line file.name file.temp) file.unclaimed))
 early_line_at given tool file is text folder = rw (is, text, folder) refl
 
-unreadable_is : {A E : Type 0} (name : List ℕ) (unreadable : Bool) (claim : Result A E) → (index_file name unreadable claim).unreadable ≡ unreadable
-unreadable_is name unreadable (Ok claim) = refl
-unreadable_is name unreadable (Err fault) = refl
+call_means : (call : Call) (job : Job) → IsCall call → call.job ≡ Ok job → meaning call.given.now call.tool ≡ Ok (job_view job)
+call_means call job is job-is = meant (meaning call.given.now call.tool) job (subst (GivesJob (meaning call.given.now call.tool)) job-is is.job)
 
 -- without an error the job is done
-pub runs_job : {A E : Type 0} (call : Call) (job : Job) (name : List ℕ) (claim : Result A E) (claimed : A) (IsIndex : Option (List ℕ) → Type 0) (old new : Surroundings) (outcome : Outcome) → IsCall call → call.job ≡ Ok job → claim ≡ Ok claimed → ((index : Option (List ℕ)) → IsIndex index → DoesJob job index old new outcome) → Runs call.given.now (index_file name false claim) IsIndex old new outcome
-runs_job {A = A} {E = E} call job name claim claimed IsIndex old new outcome is job-is claim-is does =
+pub runs_job : (call : Call) (job : Job) (file : IndexFile) (IsIndex : Option (List ℕ) → Type 0) (old new : Surroundings) (outcome : Outcome) → IsCall call → call.job ≡ Ok job → file.unreadable ≡ None → file.unclaimed ≡ None → ((index : Option (List ℕ)) → IsIndex index → DoesJob job index old new outcome) → Runs call.given.now file IsIndex old new outcome
+runs_job call job file IsIndex old new outcome is job-is readable claimed does =
     let given = call.given.now in
-    let is-meant : meaning given call.tool ≡ Ok (job_view job) = meant (meaning given call.tool) job (subst (GivesJob (meaning given call.tool)) job-is is.job) in
-    let none : early_line given (index_file {A = A} {E = E} name false (Ok claimed)) ≡ None = early_line_at given call.tool (index_file {A = A} {E = E} name false (Ok claimed)) is.tool is.text is.folder ∙ ap (λ parsed. option_or (word_line call.tool (tool_args given) parsed) None) is-meant in
-    let ran : Runs given (index_file {A = A} {E = E} name false (Ok claimed)) IsIndex old new outcome = inl (subst (λ line. RunsAfter line given IsIndex old new outcome) (sym none) (call.tool, job, is.tool, is-meant, does)) in
-    subst (λ claim. Runs given (index_file name false claim) IsIndex old new outcome) (sym claim-is) ran
+    let is-meant = call_means call job is job-is in
+    let none : early_line given file ≡ None = early_line_at given call.tool file is.tool is.text is.folder ∙ rw (readable, is-meant, claimed) refl in
+    inl (subst (λ line. RunsAfter line given IsIndex old new outcome) (sym none) (call.tool, job, is.tool, is-meant, does))
+
+-- an index file that cannot be read ends the program with its line
+pub refuses_reading : (call : Call) (file : IndexFile) (fault : StorageFault) (IsIndex : Option (List ℕ) → Type 0) (old new : Surroundings) (outcome : Outcome) → IsCall call → file.unreadable ≡ Some fault → Refuses outcome (reading_line file.name fault) → IsUntouched old new → Runs call.given.now file IsIndex old new outcome
+refuses_reading call file fault IsIndex old new outcome is unreadable ends untouched =
+    let given = call.given.now in
+    let some : early_line given file ≡ Some (reading_line file.name fault) = early_line_at given call.tool file is.tool is.text is.folder ∙ rw (unreadable) refl in
+    inl (subst (λ line. RunsAfter line given IsIndex old new outcome) (sym some) (ends, untouched))
+
+-- an index file that cannot be claimed ends the program with its line
+pub refuses_claim : (call : Call) (job : Job) (file : IndexFile) (fault : StorageFault) (IsIndex : Option (List ℕ) → Type 0) (old new : Surroundings) (outcome : Outcome) → IsCall call → call.job ≡ Ok job → file.unreadable ≡ None → file.unclaimed ≡ Some fault → Refuses outcome (writing_line file.name file.temp fault) → IsUntouched old new → Runs call.given.now file IsIndex old new outcome
+refuses_claim call job file fault IsIndex old new outcome is job-is readable unclaimed ends untouched =
+    let given = call.given.now in
+    let is-meant = call_means call job is job-is in
+    let some : early_line given file ≡ Some (writing_line file.name file.temp fault) = early_line_at given call.tool file is.tool is.text is.folder ∙ rw (readable, is-meant, unclaimed) refl in
+    inl (subst (λ line. RunsAfter line given IsIndex old new outcome) (sym some) (ends, untouched))
 
 words_line : (fault : WordFault) (parsed : Result JobView WordFault) → GivesJob parsed (Err fault) → (fault ≡ Memory) ⊎ (parsed ≡ Err fault)
 words_line fault (Ok view) gives = inl gives
 words_line fault (Err found) gives = let same : found ≡ fault = (let e = gives in cc) in inr (ap Err same)
 
 -- an error of the arguments ends the program with its line
-pub refuses_words : {A E : Type 0} (call : Call) (fault : WordFault) (arg : List ℕ) (name : List ℕ) (claim : Result A E) (IsIndex : Option (List ℕ) → Type 0) (old new : Surroundings) (outcome : Outcome) → IsCall call → call.job ≡ Err fault → arg ≡ arg_at fault (map string_bytes call.args.now) → Refuses outcome (line_of call.tool (A_word fault) arg) → IsUntouched old new → Runs call.given.now (index_file name false claim) IsIndex old new outcome
-refuses_words call fault arg name claim IsIndex old new outcome is job-is arg-is refuses untouched =
+pub refuses_words : (call : Call) (fault : WordFault) (arg : List ℕ) (file : IndexFile) (IsIndex : Option (List ℕ) → Type 0) (old new : Surroundings) (outcome : Outcome) → IsCall call → call.job ≡ Err fault → file.unreadable ≡ None → arg ≡ arg_at fault (map string_bytes call.args.now) → Refuses outcome (line_of call.tool (A_word fault) arg) → IsUntouched old new → Runs call.given.now file IsIndex old new outcome
+refuses_words call fault arg file IsIndex old new outcome is job-is readable arg-is refuses untouched =
     let given = call.given.now in
-    let file = index_file name false claim in
     let parsed = meaning given call.tool in
     let line = line_of call.tool (A_word fault) (arg_at fault (tool_args given)) in
     let ends : Refuses outcome line = subst (λ text. Refuses outcome (line_of call.tool (A_word fault) text)) (arg-is ∙ ap (arg_at fault) is.args) refuses in
     elim (words_line fault parsed (subst (GivesJob parsed) job-is is.job)) [
       | inl memory ↦ inr (inr (call.tool, subst (λ f. Refuses outcome (line_of call.tool (A_word f) (arg_at f (tool_args given)))) memory ends), untouched)
       | inr failed ↦
-          let readable = unreadable_is name false claim in
-          let at = early_line_at given call.tool file is.tool is.text is.folder in
-          let some : early_line given file ≡ Some line = at ∙ ap (λ b. option_or (when b (unreadable_line file.name)) (option_or (word_line call.tool (tool_args given) parsed) (when file.unclaimed (unwritable_line file.name)))) readable ∙ ap (λ parsed. option_or (word_line call.tool (tool_args given) parsed) (when file.unclaimed (unwritable_line file.name))) failed in
+          let some : early_line given file ≡ Some line = early_line_at given call.tool file is.tool is.text is.folder ∙ rw (readable, failed) refl in
           inl (subst (λ some. RunsAfter some given IsIndex old new outcome) (sym some) (ends, untouched))
     ]
+
+-- what holds of each index of a set holds of those of a part of it
+runs_after : (line : Option (List ℕ)) (given : Given) (P Q : Option (List ℕ) → Type 0) (old new : Surroundings) (outcome : Outcome) → ((index : Option (List ℕ)) → Q index → P index) → RunsAfter line given P old new outcome → RunsAfter line given Q old new outcome
+runs_after (Some line) given P Q old new outcome on ran = ran
+runs_after None given P Q old new outcome on ran = (ran.0, ran.1, ran.2, ran.3, λ index is. ran.4 index (on index is))
+
+pub runs_over : (given : Given) (file : IndexFile) (P Q : Option (List ℕ) → Type 0) (old new : Surroundings) (outcome : Outcome) → ((index : Option (List ℕ)) → Q index → P index) → Runs given file P old new outcome → Runs given file Q old new outcome
+runs_over given file P Q old new outcome on (inl ran) = inl (runs_after (early_line given file) given P Q old new outcome on ran)
+runs_over given file P Q old new outcome on (inr memory) = inr memory
 
 -- ---- the current folder of a job of cindex
 
@@ -140,12 +159,17 @@ has_folder call (Index job) is job-is =
 has_folder call (Search job) is job-is = tt
 has_folder call (Grep job) is job-is = tt
 
--- ---- the index file
+-- `cgrep` updates no index file
+keeps_at : (tool : Tool) (cwd : List ℕ) (args : List (List ℕ)) (job : Result Job WordFault) → GivesJob (parse_args tool cwd args) job → tool ≡ Cgrep → may_update job ≡ false
+keeps_at tool cwd args (Ok (Index job)) gives grep = absurd (let e = sym (index_folder tool cwd args job (meant (parse_args tool cwd args) (Index job) gives)).0 ∙ grep in cc)
+keeps_at tool cwd args (Ok (Search job)) gives grep = refl
+keeps_at tool cwd args (Ok (Grep job)) gives grep = refl
+keeps_at tool cwd args (Err fault) gives grep = refl
 
-module _ {S : Type 0} where
-  pub some_unread : (failed : S → ℕ) (index later : Result (Option S) IoFault) (unread : Bool) → OnOk index (IsUnreadable failed index later unread) → (unreadable : Bool) × IsUnreadable failed index later unreadable
-  some_unread failed (Ok index) later unread counted = (unread, counted)
-  some_unread failed (Err fault) later unread counted = (true, refl)
+pub grep_keeps : (call : Call) → IsCall call → call.tool ≡ Cgrep → may_update call.job ≡ false
+grep_keeps call is grep = keeps_at call.tool _ _ call.job is.job grep
+
+-- ---- the index file
 
 -- what holds of each index that a store may have holds of the known one
 pub of_known : (model : Option (List ℕ)) (index : Option (List ℕ)) (Claim : Option (List ℕ) → Type 0) → IsSomeAnd model (λ bytes. index ≡ Some bytes) → IfSome model (λ bytes. Claim (Some bytes)) → Claim index

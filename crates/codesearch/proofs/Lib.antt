@@ -1,3 +1,4 @@
 mod CallLemmas
 mod Examples
+mod ExecutionLemmas
 mod IndexingLemmas

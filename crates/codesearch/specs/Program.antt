@@ -52,16 +52,19 @@ use Rattle.codesearch.specs.declared.given.Given.{Given}
 use Rattle.codesearch.specs.declared.outcome.Outcome.{Outcome}
 use Rattle.codesearch.specs.declared.outcome.Outcome.TheVariants.{Done, Searched, Refused}
 use Rattle.codesearch.specs.declared.outcome.ProgramFault.{ProgramFault}
-use Rattle.codesearch.specs.declared.outcome.ProgramFault.TheVariants.{FirstArg, NonText, NoFolder, Unreadable, Unwritable, Refusal, Memory}
+use Rattle.codesearch.specs.declared.outcome.ProgramFault.TheVariants.{FirstArg, NonText, NoFolder, Unreadable, Unwritable, Leftover, Descriptors, Refusal, Memory}
+use Rattle.codesearch.specs.declared.running.FoundFile.{FoundFile}
 use Rattle.codesearch.specs.declared.running.World.{World}
-use Rattle.cs_storage.specs.Storing.{file_after}
+use Rattle.cs_storage.specs.FileAfter.{file_after}
+use Rattle.cs_storage.specs.declared.fault.StorageFault.{StorageFault}
+use Rattle.cs_storage.specs.declared.fault.StorageFault.TheVariants as storage
 use Rattle.cs_storage.specs.declared.update.IndexUpdate.{IndexUpdate}
 use Rattle.cs_storage.specs.declared.update.IndexUpdate.TheVariants.{Keep}
 
 -- ---- what the arguments mean
 
-abbrev pub args_of : Given → List (List ℕ)
-args_of given = map string_bytes given.args.items
+abbrev pub given_args : Given → List (List ℕ)
+given_args given = map string_bytes given.args.items
 
 -- the tool with this name
 abbrev pub tool_named : List ℕ → Option Tool
@@ -69,11 +72,11 @@ tool_named name = find (λ tool. bytes_eq (tool_name tool) name) (Cindex ∷ Cse
 
 -- the tool that the first argument names
 abbrev pub tool_of : Given → Option Tool
-tool_of given = option_and_then tool_named (slice_get (args_of given) 0)
+tool_of given = option_and_then tool_named (slice_get (given_args given) 0)
 
 -- the arguments of the tool
 abbrev pub tool_args : Given → List (List ℕ)
-tool_args given = drop 1 (args_of given)
+tool_args given = drop 1 (given_args given)
 
 -- the current folder, if it begins with `/`
 abbrev pub absolute_folder : Given → Option (List ℕ)
@@ -101,8 +104,29 @@ unreadable_line file = codes "codesearch: cannot read " ++ file ++ codes "\n"
 abbrev pub unwritable_line : List ℕ → List ℕ
 unwritable_line file = codes "codesearch: cannot write " ++ file ++ codes "\n"
 
+-- a file at FILE~ is to be removed by hand
+abbrev pub leftover_line : List ℕ → List ℕ → List ℕ
+leftover_line file temp = codes "codesearch: cannot write " ++ file ++ (codes ": remove " ++ temp ++ codes "\n")
+
+abbrev pub descriptors_line : List ℕ
+descriptors_line = codes "codesearch: too many open files\n"
+
 abbrev pub memory_line : List ℕ
 memory_line = codes "codesearch: out of memory\n"
+
+-- the line for an index file that cannot be opened or read
+abbrev pub reading_line : List ℕ → StorageFault → List ℕ
+reading_line file storage.Failed = unreadable_line file
+reading_line file storage.Leftover = unreadable_line file
+reading_line file storage.Descriptors = descriptors_line
+reading_line file storage.Memory = memory_line
+
+-- the line for an index file that cannot be claimed, written or removed
+abbrev pub writing_line : List ℕ → List ℕ → StorageFault → List ℕ
+writing_line file temp storage.Failed = unwritable_line file
+writing_line file temp storage.Leftover = leftover_line file temp
+writing_line file temp storage.Descriptors = descriptors_line
+writing_line file temp storage.Memory = memory_line
 
 -- the argument that an error points at
 abbrev pub arg_at : WordFault → List (List ℕ) → List ℕ
@@ -118,11 +142,12 @@ abbrev pub path_at : CindexFault → IndexJob → List ℕ
 path_at (BadPath position) job = unwrap_or (slice_get (map string_bytes job.paths.items) position) []
 path_at fault job = []
 
--- the index file: its name, and whether it could not be opened or read, or not be claimed for an update
+-- the index file: its name and that of FILE~, why it cannot be opened or read, and why it cannot be claimed for an update
 pub record IndexFile : Type 0 where
   pub name : List ℕ
-  pub unreadable : Bool
-  pub unclaimed : Bool
+  pub temp : List ℕ
+  pub unreadable : Option StorageFault
+  pub unclaimed : Option StorageFault
 
 -- this line, if the error is there
 abbrev pub when : Bool → List ℕ → Option (List ℕ)
@@ -147,9 +172,9 @@ early_line_for None given file = Some first_arg_line
 early_line_for (Some tool) given file =
     option_or (when given.has_non_text (non_text_line tool (length given.args.items)))
     (option_or (when (lacks_folder given tool) no_folder_line)
-    (option_or (when file.unreadable (unreadable_line file.name))
+    (option_or (option_map (reading_line file.name) file.unreadable)
     (option_or (word_line tool (tool_args given) (meaning given tool))
-    (when file.unclaimed (unwritable_line file.name)))))
+    (option_map (writing_line file.name file.temp) file.unclaimed))))
 
 abbrev pub early_line : Given → IndexFile → Option (List ℕ)
 early_line given file = early_line_for (tool_of given) given file
@@ -176,6 +201,8 @@ fault_line (NonText tool number) = non_text_line tool number
 fault_line NoFolder = no_folder_line
 fault_line (Unreadable file) = unreadable_line file.now
 fault_line (Unwritable file) = unwritable_line file.now
+fault_line (Leftover file temp) = leftover_line file.now temp.now
+fault_line Descriptors = descriptors_line
 fault_line (Refusal tool refusal arg) = line_of tool refusal arg.now
 fault_line Memory = memory_line
 
@@ -186,13 +213,13 @@ Refuses (Searched status) line = ⊥
 Refuses (Refused fault) line = fault_line fault ≡ line
 
 -- it ends because an allocation failed before the tool
-abbrev pub IsOutOfMemory : Outcome → Type 0
-IsOutOfMemory outcome = Refuses outcome memory_line ⊎ ((tool : Tool) × Refuses outcome (line_of tool (A_word WordMemory) []))
+abbrev pub EndsOutOfMemory : Outcome → Type 0
+EndsOutOfMemory outcome = Refuses outcome memory_line ⊎ ((tool : Tool) × Refuses outcome (line_of tool (A_word WordMemory) []))
 
 -- a search ends with this answer
-abbrev pub IsSearched : Tool → Result Status ToolFault → Outcome → Type 0
-IsSearched tool (Ok status) outcome = outcome ≡ Searched status
-IsSearched tool (Err fault) outcome = Refuses outcome (line_of tool (A_tool fault) [])
+abbrev pub EndsSearch : Tool → Result Status ToolFault → Outcome → Type 0
+EndsSearch tool (Ok status) outcome = outcome ≡ Searched status
+EndsSearch tool (Err fault) outcome = Refuses outcome (line_of tool (A_tool fault) [])
 
 -- a job of cindex is done; `-list` leaves the index file alone
 abbrev pub IsDone : IndexJob → Outcome → Type 0
@@ -284,14 +311,14 @@ DoesIndexing job index old new outcome =
 -- A job of csearch is done over this index.
 abbrev pub DoesSearch : SearchJob → Option (List ℕ) → Surroundings → Surroundings → Outcome → Type 0
 DoesSearch job index old new outcome =
-    (answer : Result Status ToolFault) × IsSearched Csearch answer outcome × KeepsInput old new
+    (answer : Result Status ToolFault) × EndsSearch Csearch answer outcome × KeepsInput old new
     × CountsWrite answer old.outputs new.outputs
     × IsSearch job index old.tree old.tree_failed new.tree_failed (search_outputs_of old) (search_outputs_of new) answer
 
 -- A job of cgrep is done.
 abbrev pub DoesGrep : GrepJob → Surroundings → Surroundings → Outcome → Type 0
 DoesGrep job old new outcome =
-    (answer : Result Status ToolFault) × IsSearched Cgrep answer outcome × CountsWrite answer old.outputs new.outputs
+    (answer : Result Status ToolFault) × EndsSearch Cgrep answer outcome × CountsWrite answer old.outputs new.outputs
     × IsGrep job old new answer
 
 -- The tool does its job over this index as it promises, and the outcome follows from its answer.
@@ -316,28 +343,30 @@ RunsAfter None given IsIndex old new outcome = DoesMeaning given IsIndex old new
 -- What the program does; instead of that it may end before the tool because an allocation failed.
 abbrev pub Runs : Given → IndexFile → (Option (List ℕ) → Type 0) → Surroundings → Surroundings → Outcome → Type 0
 Runs given file IsIndex old new outcome =
-    RunsAfter (early_line given file) given IsIndex old new outcome ⊎ (IsOutOfMemory outcome × IsUntouched old new)
+    RunsAfter (early_line given file) given IsIndex old new outcome ⊎ (EndsOutOfMemory outcome × IsUntouched old new)
 
 -- ---- the index file as it was found
 
 module _ {S : Type 0} where
   -- the index in the store, if its bytes are known
-  abbrev pub IsIndex : (S → Option (List ℕ)) → Result (Option S) IoFault → Option (List ℕ) → Type 0
-  IsIndex model (Ok None) index = index ≡ None
-  IsIndex model (Ok (Some store)) index = IsSomeAnd (model store) (λ bytes. index ≡ Some bytes)
-  IsIndex model (Err fault) index = ⊥
+  abbrev pub IsIndex : (S → Option (List ℕ)) → Option S → Option (List ℕ) → Type 0
+  IsIndex model None index = index ≡ None
+  IsIndex model (Some store) index = IsSomeAnd (model store) (λ bytes. index ≡ Some bytes)
 
-  -- whether the file could not be opened, or a read of it failed, which its store counts
-  abbrev pub IsUnreadable : (S → ℕ) → Result (Option S) IoFault → Result (Option S) IoFault → Bool → Type 0
-  IsUnreadable failed (Err fault) later unreadable = unreadable ≡ true
-  IsUnreadable failed (Ok None) later unreadable = unreadable ≡ false
-  IsUnreadable failed (Ok (Some store)) (Ok (Some read)) unreadable = failed read ≡ count_if unreadable (failed store)
-  IsUnreadable failed (Ok (Some store)) later unreadable = ⊥
+  -- whether a read of the file failed, which its store counts
+  abbrev pub IsUnreadable : (S → ℕ) → Option S → Option S → Bool → Type 0
+  IsUnreadable failed None later unreadable = unreadable ≡ false
+  IsUnreadable failed (Some store) None unreadable = ⊥
+  IsUnreadable failed (Some store) (Some read) unreadable = failed read ≡ count_if unreadable (failed store)
 
--- the file with this name
-abbrev pub index_file : {A E : Type 0} → List ℕ → Bool → Result A E → IndexFile
-index_file name unreadable (Ok claim) = record { name = name; unreadable = unreadable; unclaimed = false }
-index_file name unreadable (Err fault) = record { name = name; unreadable = unreadable; unclaimed = true }
+-- the opened file: a read of it failed, or none did
+abbrev pub opened_file : {S : Type 0} → FoundFile S → Bool → IndexFile
+opened_file file unreadable = record {
+  name = file.name.now;
+  temp = file.temp.now;
+  unreadable = if unreadable then Some storage.Failed else None;
+  unclaimed = None;
+}
 
 -- ---- what is asked before the job is done
 

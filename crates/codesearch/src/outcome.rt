@@ -1,9 +1,9 @@
 // How a call of the program ends: its exit status, the update of the index file, and the line of an error.
-ghost use Rattle.std.specs.Prelude.{◌≡◌, ◌≢◌, IfOk, IsNone, option_copied, unwrap_or, string_bytes};
+ghost use Rattle.std.specs.Prelude.{◌≡◌, IfOk, string_bytes};
 ghost use Rattle.cs_tree.specs.TakesPrefix.{EndsAfter};
-ghost use Rattle.codesearch.specs.Program.{exit_status, update_of, fault_line, Reports, PrintsErrorLine};
+ghost use Rattle.codesearch.specs.Program.{exit_status, fault_line, reading_line, writing_line, Reports, PrintsErrorLine};
 
-use cs_storage::IndexUpdate;
+use cs_storage::{IndexUpdate, StorageFault};
 use cs_tools::{Refusal, Status, Tool, message};
 use cs_tree::{IoFault, Sink, write_all};
 use std::alloc::{AllocError, Global};
@@ -21,10 +21,39 @@ pub(crate) enum ProgramFault<'a> {
     Unreadable(&'a str),
     /// The index file with this name cannot be written or removed.
     Unwritable(&'a str),
+    /// The index file with the first name cannot be written, because of a file with the second name, at FILE~.
+    Leftover(&'a str, &'a str),
+    /// No more files can be opened.
+    Descriptors,
     /// An error of the arguments or of the tool, and the argument or path that it points at.
     Refusal(Tool, Refusal, &'a str),
     /// An allocation failed.
     Memory,
+}
+
+impl<'a> ProgramFault<'a> {
+    /// The index file with this name cannot be opened or read.
+    pub(crate) fn of_reading(file: &'a str, fault: StorageFault) -> ProgramFault<'a>
+        ensures { fault_line result ≡ reading_line file.now fault }
+    {
+        match fault {
+            StorageFault::Failed | StorageFault::Leftover => ProgramFault::Unreadable(file),
+            StorageFault::Descriptors => ProgramFault::Descriptors,
+            StorageFault::Memory => ProgramFault::Memory,
+        }
+    }
+
+    /// The index file with this name cannot be claimed, written or removed; `temp` is the name of FILE~.
+    pub(crate) fn of_writing(file: &'a str, temp: &'a str, fault: StorageFault) -> ProgramFault<'a>
+        ensures { fault_line result ≡ writing_line file.now temp.now fault }
+    {
+        match fault {
+            StorageFault::Failed => ProgramFault::Unwritable(file),
+            StorageFault::Leftover => ProgramFault::Leftover(file, temp),
+            StorageFault::Descriptors => ProgramFault::Descriptors,
+            StorageFault::Memory => ProgramFault::Memory,
+        }
+    }
 }
 
 /// How a call of the program ends.
@@ -47,17 +76,6 @@ impl Outcome<'_> {
             Outcome::Done(_) | Outcome::Searched(Status::Matched) => 0,
             Outcome::Searched(Status::NoMatch) => 1,
             Outcome::Refused(_) => 2,
-        }
-    }
-
-    /// The update of the index file; none if it stays as it is.
-    pub(crate) fn update(&self) -> Option<&IndexUpdate>
-        ensures update { unwrap_or (option_copied result) IndexUpdate.Keep ≡ update_of self.now }
-        ensures kept { exit_status self.now ≢ 0 → IsNone result }
-    {
-        match self {
-            Outcome::Done(update) => Some(update),
-            Outcome::Searched(_) | Outcome::Refused(_) => None,
         }
     }
 
@@ -97,6 +115,8 @@ fn line(alloc: Global, fault: &ProgramFault<'_>) -> Result<String, AllocError>
         ProgramFault::NoFolder => String::from_str(alloc, "codesearch: no current folder\n"),
         ProgramFault::Unreadable(file) => { format!(in alloc; "codesearch: cannot read {file}\n") }
         ProgramFault::Unwritable(file) => { format!(in alloc; "codesearch: cannot write {file}\n") }
+        ProgramFault::Leftover(file, temp) => leftover_line(alloc, file, temp),
+        ProgramFault::Descriptors => String::from_str(alloc, "codesearch: too many open files\n"),
         ProgramFault::Refusal(tool, refusal, arg) => message(alloc, *tool, refusal, arg),
         ProgramFault::Memory => String::from_str(alloc, "codesearch: out of memory\n"),
     }
@@ -113,6 +133,15 @@ fn non_text_line(alloc: Global, tool: Tool, number: usize) -> Result<String, All
         Tool::Cgrep => "cgrep",
     };
     format!(in alloc; "{name}: word {number} is not text\n")
+}
+
+/// The line for a file at FILE~ that is to be removed by hand.
+fn leftover_line(alloc: Global, file: &str, temp: &str) -> Result<String, AllocError>
+    ensures { IfOk result
+        (λ line. string_bytes line ≡ fault_line (ProgramFault.Leftover file.entry temp.entry)) }
+{
+    let advice = format!(in alloc; ": remove {temp}\n")?;
+    format!(in alloc; "codesearch: cannot write {file}{advice}")
 }
 
 /// Prints a line at once.

@@ -6,8 +6,8 @@ ghost use Rattle.cs_history.specs.Jobs.{HasAbsoluteFolder};
 ghost use Rattle.cs_cindex.specs.Bytes.{index_bytes};
 ghost use Rattle.cs_cindex.specs.Refusals.{base};
 ghost use Rattle.cs_cindex.specs.Steps.{IsWholeStep};
-ghost use Rattle.cs_storage.specs.Storing.{file_after};
-ghost use Rattle.codesearch.specs.Program.{Between, tree_of, state_of, KeepsInput, IsUntouched, IsCall, IsUnreadable, IsIndex, index_file, Runs, DoesGrep, DoesJob, DoesSearch, DoesIndexing, IsSearched, IsReplied, may_update, update_of, exit_status, arg_at, path_at};
+ghost use Rattle.cs_storage.specs.FileAfter.{file_after};
+ghost use Rattle.codesearch.specs.Program.{Between, tree_of, state_of, KeepsInput, IsUntouched, IsCall, IsUnreadable, IsIndex, opened_file, Runs, DoesGrep, DoesJob, DoesSearch, DoesIndexing, EndsSearch, IsReplied, may_update, update_of, exit_status, arg_at, path_at};
 ghost use Rattle.codesearch.specs.Running.{has_failed, HasFolder};
 
 use crate::call::Call;
@@ -26,10 +26,10 @@ use std::slice;
 pub(crate) struct FoundFile<'a, S> {
     /// Its name, for an error line.
     pub(crate) name: &'a str,
+    /// The name of FILE~, for an error line.
+    pub(crate) temp: &'a str,
     /// The opened file, if there is one. `cgrep` opens none.
-    pub(crate) index: Result<Option<S>, IoFault>,
-    /// The claim of a job that may update the file.
-    pub(crate) claim: Result<(), IoFault>,
+    pub(crate) index: Option<S>,
 }
 
 /// What surrounds the program.
@@ -55,7 +55,7 @@ pub(crate) fn run<'a, S: Store, T: Tree, R: Source, O: Sink, E: Sink>(
         × IsUnreadable S.failed world.old.file.index world.new.file.index unreadable
         × Between T.snapshot T.failed R.model R.failed O.model O.failed E.model E.failed
         world.old world.new (λ old new.
-        Runs call.now.given.now (index_file world.old.file.name.now unreadable world.old.file.claim)
+        Runs call.now.given.now (opened_file world.old.file unreadable)
         (IsIndex S.model world.old.file.index) old new result) }
     ensures unclaimed { may_update call.now.job ≡ false → update_of result ≡ IndexUpdate.Keep }
     ensures kept { exit_status result ≢ 0 → update_of result ≡ IndexUpdate.Keep }
@@ -78,27 +78,18 @@ fn run_call<'a, S: Store, T: Tree, R: Source, O: Sink, E: Sink>(
     ensures runs { IfOk result (λ outcome.
         Between T.snapshot T.failed R.model R.failed O.model O.failed E.model E.failed
         world.old world.new (λ old new.
-        Runs call.now.given.now (index_file world.old.file.name.now false world.old.file.claim)
+        Runs call.now.given.now (opened_file world.old.file false)
         (IsIndex S.model world.old.file.index) old new outcome)) }
     ensures unclaimed { IfOk result
         (λ outcome. may_update call.now.job ≡ false → update_of outcome ≡ IndexUpdate.Keep) }
-    ensures opened { IfErr world.old.file.index (λ fault. result ≡ Err fault) }
-    ensures counted { OnOk world.old.file.index
-        (IsUnreadable S.failed world.old.file.index world.new.file.index (has_failed result)) }
+    ensures counted { IsUnreadable S.failed world.old.file.index world.new.file.index (has_failed result) }
     ensures unread { OnErr result (
         Between T.snapshot T.failed R.model R.failed O.model O.failed E.model E.failed
         world.old world.new IsUntouched) }
 {
-    if let Err(fault) = &world.file.index {
-        return Err(*fault);
-    }
-    match (&call.job, &world.file.claim) {
-        (Ok(job), Ok(())) => run_job(job, world),
-        (Ok(_), Err(IoFault::Failed)) => {
-            Ok(Outcome::Refused(ProgramFault::Unwritable(world.file.name)))
-        }
-        (Ok(_), Err(IoFault::Memory)) => Ok(Outcome::Refused(ProgramFault::Memory)),
-        (Err(fault), _) => {
+    match &call.job {
+        Ok(job) => run_job(job, world),
+        Err(fault) => {
             // The index file is read first, whatever the other arguments are.
             read_index(call.tool, world)?;
             let refusal = Refusal::Word(*fault);
@@ -113,14 +104,13 @@ fn read_index<S: Store, T: Tree, R: Source, O: Sink, E: Sink>(
     tool: Tool,
     world: &mut World<'_, S, T, R, O, E>,
 ) -> Result<(), IoFault>
-    ensures counted { OnOk world.old.file.index
-        (IsUnreadable S.failed world.old.file.index world.new.file.index (has_failed result)) }
+    ensures counted { IsUnreadable S.failed world.old.file.index world.new.file.index (has_failed result) }
     ensures untouched { Between T.snapshot T.failed R.model R.failed O.model O.failed E.model E.failed
         world.old world.new IsUntouched }
 {
     match &mut world.file.index {
-        Ok(Some(store)) => read_store(world.alloc, tool, store),
-        _ => Ok(()),
+        Some(store) => read_store(world.alloc, tool, store),
+        None => Ok(()),
     }
 }
 
@@ -151,8 +141,7 @@ fn run_job<'a, S: Store, T: Tree, R: Source, O: Sink, E: Sink>(
         DoesJob job.now index old new outcome)) }
     ensures unclaimed { IfOk result
         (λ outcome. may_update (Ok job.now) ≡ false → update_of outcome ≡ IndexUpdate.Keep) }
-    ensures counted { OnOk world.old.file.index
-        (IsUnreadable S.failed world.old.file.index world.new.file.index (has_failed result)) }
+    ensures counted { IsUnreadable S.failed world.old.file.index world.new.file.index (has_failed result) }
     ensures unread { OnErr result (
         Between T.snapshot T.failed R.model R.failed O.model O.failed E.model E.failed
         world.old world.new IsUntouched) }
@@ -198,32 +187,30 @@ fn search_index<'a, S: Store, T: Tree, R: Source, O: Sink, E: Sink>(
         (index : Option (List ℕ)) → IsIndex S.model world.old.file.index index →
         DoesSearch job.now index old new outcome)) }
     ensures kept { IfOk result (λ outcome. update_of outcome ≡ IndexUpdate.Keep) }
-    ensures counted { OnOk world.old.file.index
-        (IsUnreadable S.failed world.old.file.index world.new.file.index (has_failed result)) }
+    ensures counted { IsUnreadable S.failed world.old.file.index world.new.file.index (has_failed result) }
     ensures unread { OnErr result (
         Between T.snapshot T.failed R.model R.failed O.model O.failed E.model E.failed
         world.old world.new IsUntouched) }
 {
     match &mut world.file.index {
-        Ok(Some(store)) => {
+        Some(store) => {
             let alloc = world.alloc;
             let opened = StoredIndex::open(alloc, store)?;
             let (tree, out, err) = (&mut world.tree, &mut world.out, &mut world.err);
             let answer = csearch_stored(alloc, job, opened, store, tree, out, err)?;
             Ok(searched(Tool::Csearch, answer))
         }
-        Ok(None) => {
+        None => {
             let (tree, out, err) = (&mut world.tree, &mut world.out, &mut world.err);
             let answer = csearch(world.alloc, job, None, tree, out, err);
             Ok(searched(Tool::Csearch, answer))
         }
-        Err(fault) => Err(*fault),
     }
 }
 
 /// How a search with this answer ends.
 fn searched<'a>(tool: Tool, answer: Result<Status, ToolFault>) -> Outcome<'a>
-    ensures { IsSearched tool answer result }
+    ensures { EndsSearch tool answer result }
 {
     match answer {
         Ok(status) => Outcome::Searched(status),
@@ -245,23 +232,21 @@ fn list_paths<'a, S: Store, T: Tree, R: Source, O: Sink, E: Sink>(
         (index : Option (List ℕ)) → IsIndex S.model world.old.file.index index →
         DoesIndexing job.now index old new outcome)) }
     ensures kept { IfOk result (λ outcome. update_of outcome ≡ IndexUpdate.Keep) }
-    ensures counted { OnOk world.old.file.index
-        (IsUnreadable S.failed world.old.file.index world.new.file.index (has_failed result)) }
+    ensures counted { IsUnreadable S.failed world.old.file.index world.new.file.index (has_failed result) }
     ensures unread { OnErr result (
         Between T.snapshot T.failed R.model R.failed O.model O.failed E.model E.failed
         world.old world.new IsUntouched) }
 {
     match &mut world.file.index {
-        Ok(Some(store)) => {
+        Some(store) => {
             let opened = StoredIndex::open(world.alloc, store)?;
             let reply = list_stored(opened, &mut world.out, &mut world.err);
             Ok(replied(job, reply, IndexUpdate::Keep))
         }
-        Ok(None) => {
+        None => {
             let (_, reply) = do_job(job, None, world);
             Ok(replied(job, reply, IndexUpdate::Keep))
         }
-        Err(fault) => Err(*fault),
     }
 }
 
@@ -278,8 +263,7 @@ fn update_index<'a, S: Store, T: Tree, R: Source, O: Sink, E: Sink>(
         world.old world.new (λ old new.
         (index : Option (List ℕ)) → IsIndex S.model world.old.file.index index →
         DoesIndexing job.now index old new outcome)) }
-    ensures counted { OnOk world.old.file.index
-        (IsUnreadable S.failed world.old.file.index world.new.file.index (has_failed result)) }
+    ensures counted { IsUnreadable S.failed world.old.file.index world.new.file.index (has_failed result) }
     ensures unread { OnErr result (
         Between T.snapshot T.failed R.model R.failed O.model O.failed E.model E.failed
         world.old world.new IsUntouched) }
@@ -296,13 +280,12 @@ fn base_index<S: Store, T: Tree, R: Source, O: Sink, E: Sink>(
 ) -> Result<Option<Vec<u8>>, IoFault>
     ensures base { IfOk result (λ old. (index : Option (List ℕ)) →
         IsIndex S.model world.old.file.index index → index_bytes old ≡ base job.now index) }
-    ensures counted { OnOk world.old.file.index
-        (IsUnreadable S.failed world.old.file.index world.new.file.index (has_failed result)) }
+    ensures counted { IsUnreadable S.failed world.old.file.index world.new.file.index (has_failed result) }
     ensures same { Between T.snapshot T.failed R.model R.failed O.model O.failed E.model E.failed
         world.old world.new (λ old new. new ≡ old) }
 {
     match &mut world.file.index {
-        Ok(Some(store)) if !job.reset => {
+        Some(store) if !job.reset => {
             let len = store.len();
             let bytes = read_part(world.alloc, store, 0, len)?;
             Ok(Some(bytes))

@@ -3,6 +3,7 @@ ghost use Rattle.std.specs.Prelude.{◌≡◌, length};
 
 use cs_storage::{IndexFolder, StorageFault, kept_mode};
 use cs_tree::{DiskStore, IoFault, Store, covers, is_absolute};
+use std::alloc::AllocError;
 use std::env::{self, VarError};
 use std::fs::{self, File, Metadata, Permissions, TryLockError};
 use std::io::{self, ErrorKind, Write};
@@ -27,9 +28,63 @@ const MODE_BITS: u32 = 0o777;
 /// The super-user, who may change the owner of a file.
 const ROOT: u32 = 0;
 
+/// The names of the index file.
+#[derive(Drop)]
+pub(crate) struct IndexPaths {
+    /// What the environment names, for an error line.
+    pub(crate) name: String,
+    /// The path of FILE~.
+    pub(crate) temp: String,
+    /// The path of FILE, which is no link; an error if there is none.
+    file: Result<String, StorageFault>,
+}
+
+impl IndexPaths {
+    /// No index file.
+    pub(crate) fn none(rt: &HostRuntime) -> Result<IndexPaths, AllocError> {
+        IndexPaths::unusable(rt, "", StorageFault::Failed)
+    }
+
+    /// The index file that the environment names, or if that is a link, the file that it leads to.
+    pub(crate) fn of_environment(rt: &HostRuntime) -> Result<IndexPaths, AllocError> {
+        let name = match index_file_name(rt) {
+            Ok(name) => name,
+            Err(fault) => return IndexPaths::unusable(rt, "CSEARCHINDEX", fault),
+        };
+        match follow_links(rt, name.as_str()) {
+            Ok(file) => Ok(IndexPaths {
+                name,
+                temp: format!(in rt.alloc(); "{file}~")?,
+                file: Ok(file),
+            }),
+            Err(fault) => IndexPaths::unusable(rt, name.as_str(), fault),
+        }
+    }
+
+    fn unusable(
+        rt: &HostRuntime,
+        name: &str,
+        fault: StorageFault,
+    ) -> Result<IndexPaths, AllocError> {
+        Ok(IndexPaths {
+            name: String::from_str(rt.alloc(), name)?,
+            temp: String::new(rt.alloc()),
+            file: Err(fault),
+        })
+    }
+
+    /// The path of FILE.
+    fn file(&self) -> Result<&str, StorageFault> {
+        match &self.file {
+            Ok(file) => Ok(file.as_str()),
+            Err(fault) => Err(*fault),
+        }
+    }
+}
+
 /// The name of the index file: the value of `CSEARCHINDEX`, or if that is unset or empty `.csearchindex` in the
 /// folder that `HOME` names.
-pub(crate) fn index_file_name(rt: &HostRuntime) -> Result<String, StorageFault> {
+fn index_file_name(rt: &HostRuntime) -> Result<String, StorageFault> {
     let mut file = variable(rt, "CSEARCHINDEX")?;
     if file.is_empty() {
         file = variable(rt, "HOME")?;
@@ -52,10 +107,7 @@ fn variable(rt: &HostRuntime, name: &str) -> Result<String, StorageFault> {
 #[derive(Drop)]
 pub(crate) struct DiskFolder {
     rt: HostRuntime,
-    /// The path of FILE, which is no link.
-    file: String,
-    /// The path of FILE~.
-    temp_path: String,
+    paths: IndexPaths,
     /// The metadata of FILE when it was opened.
     seen: Option<Metadata>,
     /// FILE~, if this process made it and locked it.
@@ -63,18 +115,13 @@ pub(crate) struct DiskFolder {
 }
 
 impl DiskFolder {
-    /// The index file with this name, or if that is a link, the file that it leads to.
-    pub(crate) fn new(rt: HostRuntime, name: &str) -> Result<DiskFolder, StorageFault> {
-        let file = follow_links(&rt, name)?;
-        let mut temp_path = String::from_str(rt.alloc(), file.as_str())?;
-        temp_path.push('~')?;
-        Ok(DiskFolder {
+    pub(crate) fn new(rt: HostRuntime, paths: IndexPaths) -> DiskFolder {
+        DiskFolder {
             rt,
-            file,
-            temp_path,
+            paths,
             seen: None,
             temp: None,
-        })
+        }
     }
 
     /// FILE~, which has to be held.
@@ -84,6 +131,15 @@ impl DiskFolder {
             None => Err(StorageFault::Failed),
         }
     }
+
+    /// Renames FILE~, which has to be held, to FILE.
+    fn rename_temp(&self) -> Result<(), StorageFault> {
+        let (file, path) = (self.paths.file()?, self.paths.temp.as_str());
+        check_same_file(&self.rt, path, self.temp()?)?;
+        fs::rename(&self.rt, path, file)?;
+        sync_folder(&self.rt, file);
+        Ok(())
+    }
 }
 
 impl IndexFolder for DiskFolder {
@@ -91,13 +147,14 @@ impl IndexFolder for DiskFolder {
 
     /// Only a regular file is opened: opening a pipe would block, and opening a device may have side effects.
     fn look(&mut self) -> Result<Option<DiskIndex>, StorageFault> {
-        match fs::metadata(&self.rt, self.file.as_str()) {
+        let file = self.paths.file()?;
+        match fs::metadata(&self.rt, file) {
             Ok(there) if is_readable(&there) => {}
             Ok(_) => return Err(StorageFault::Failed),
             Err(error) if error.kind() == ErrorKind::NotFound => return Ok(None),
             Err(error) => return Err(StorageFault::from(error)),
         }
-        let opened = fs::open(&self.rt, self.file.as_str())?;
+        let opened = fs::open(&self.rt, file)?;
         let seen = opened.metadata()?;
         if !is_readable(&seen) {
             return Err(StorageFault::Failed);
@@ -109,7 +166,7 @@ impl IndexFolder for DiskFolder {
 
     /// A file system without locks is accepted, since no other process can create FILE~ while it exists.
     fn claim(&mut self) -> Result<(), StorageFault> {
-        let path = self.temp_path.as_str();
+        let path = self.paths.temp.as_str();
         remove_stale(&self.rt, path, self.seen.as_ref())?;
         let mode = self
             .seen
@@ -129,7 +186,10 @@ impl IndexFolder for DiskFolder {
     }
 
     fn is_unchanged(&mut self) -> bool {
-        match (fs::metadata(&self.rt, self.file.as_str()), &self.seen) {
+        let Ok(file) = self.paths.file() else {
+            return false;
+        };
+        match (fs::metadata(&self.rt, file), &self.seen) {
             (Ok(there), Some(seen)) => {
                 is_same(&there, seen)
                     && there.len() == seen.len()
@@ -154,19 +214,17 @@ impl IndexFolder for DiskFolder {
     }
 
     fn rename(&mut self) -> Result<(), StorageFault> {
-        let temp = self.temp()?;
-        check_same_file(&self.rt, self.temp_path.as_str(), temp)?;
-        fs::rename(&self.rt, self.temp_path.as_str(), self.file.as_str())?;
+        self.rename_temp()?;
         self.temp = None;
-        sync_folder(&self.rt, self.file.as_str());
         Ok(())
     }
 
     fn remove(&mut self) -> Result<(), StorageFault> {
-        match fs::remove_file(&self.rt, self.file.as_str()) {
+        let file = self.paths.file()?;
+        match fs::remove_file(&self.rt, file) {
             Err(error) if error.kind() != ErrorKind::NotFound => Err(StorageFault::from(error)),
             _ => {
-                sync_folder(&self.rt, self.file.as_str());
+                sync_folder(&self.rt, file);
                 Ok(())
             }
         }
@@ -174,8 +232,9 @@ impl IndexFolder for DiskFolder {
 
     fn release(&mut self) {
         if let Some(temp) = self.temp.take() {
-            if check_same_file(&self.rt, self.temp_path.as_str(), &temp).is_ok() {
-                let _ = fs::remove_file(&self.rt, self.temp_path.as_str());
+            let path = self.paths.temp.as_str();
+            if check_same_file(&self.rt, path, &temp).is_ok() {
+                let _ = fs::remove_file(&self.rt, path);
             }
         }
     }
@@ -236,28 +295,48 @@ fn is_readable(there: &Metadata) -> bool {
     there.is_file() && there.len() < TOO_LONG
 }
 
-/// Removes a FILE~ that a killed process left, if it is not locked. Nothing else is opened or removed. It is opened for
-/// reading and writing, since the opening of a pipe, which may be there by now, then does not block.
-fn remove_stale(rt: &HostRuntime, path: &str, seen: Option<&Metadata>) -> io::Result<()> {
+/// Removes a FILE~ that a killed process left, if it is not locked. Nothing else is removed: a regular file that is not
+/// ours is `Leftover`, whose line asks for its removal.
+fn remove_stale(rt: &HostRuntime, path: &str, seen: Option<&Metadata>) -> Result<(), StorageFault> {
     match fs::symlink_metadata(rt, path) {
-        Ok(there) if is_stale(rt, &there, seen) => {
-            let stale = File::options().read(true).write(true).open(rt, path)?;
-            if stale.try_lock().is_err() || !is_same(&there, &stale.metadata()?) {
-                return Err(busy());
+        Ok(there) if there.is_file() => {
+            let stale = open_unlocked(rt, path, &there)?;
+            if !is_stale(rt, &there, seen) {
+                return Err(StorageFault::Leftover);
             }
             check_same_file(rt, path, &stale)?;
-            fs::remove_file(rt, path)
+            Ok(fs::remove_file(rt, path)?)
         }
-        Ok(_) => Err(busy()),
+        Ok(_) => Err(StorageFault::Failed),
         Err(error) if error.kind() == ErrorKind::NotFound => Ok(()),
-        Err(error) => Err(error),
+        Err(error) => Err(StorageFault::from(error)),
     }
 }
 
-/// Whether a process of this user may have left the file: a regular file with one link that belongs to the user of this
+/// Opens and locks a file that is at FILE~. It is `Leftover` if that fails, unless another process has locked it. The file
+/// is opened for reading and writing, since the opening of a pipe, which may be there by now, then does not block.
+fn open_unlocked(rt: &HostRuntime, path: &str, there: &Metadata) -> Result<File, StorageFault> {
+    let opened = match File::options().read(true).write(true).open(rt, path) {
+        Ok(opened) => opened,
+        Err(error) if error.kind() == ErrorKind::PermissionDenied => {
+            return Err(StorageFault::Leftover);
+        }
+        Err(error) => return Err(StorageFault::from(error)),
+    };
+    if !is_same(there, &opened.metadata()?) {
+        return Err(StorageFault::Failed);
+    }
+    match opened.try_lock() {
+        Ok(()) => Ok(opened),
+        Err(TryLockError::WouldBlock) => Err(StorageFault::Failed),
+        Err(TryLockError::Error(_)) => Err(StorageFault::Leftover),
+    }
+}
+
+/// Whether a process of this user may have left the file: one with one link that belongs to the user of this
 /// process, by `/proc/self`, or to the owner of FILE: to whom root gives the file, or a file system that maps owners.
 fn is_stale(rt: &HostRuntime, there: &Metadata, seen: Option<&Metadata>) -> bool {
-    let is_left = there.is_file() && there.nlink() <= 1;
+    let is_left = there.nlink() <= 1;
     let is_ours = match fs::metadata(rt, "/proc/self") {
         Ok(process) => there.uid() == process.uid(),
         Err(_) => false,

@@ -5,8 +5,8 @@ use Rattle.cs_index.specs.Encoding.{Entry, deltas_from, ids_from, encoding_of, p
 use Rattle.cs_index.specs.OpenedParts.{whole_ids}
 use Rattle.cs_index.specs.Built.{are_paths, is_above, is_storable}
 use Rattle.cs_tree.specs.Cover.{is_alone}
-use Rattle.cs_index.specs.Segments.{ids_of_segments, post_in, lists_from}
-use Rattle.cs_index.specs.PackedPostings.{post_of, with_post}
+use Rattle.cs_index.specs.Gathering.{lists_from}
+use Rattle.cs_index.specs.Buckets.{base_after, ids_in_buckets, postings_from, with_file, without_file}
 use Rattle.cs_index.specs.Written.{Written, entries_written, last_ids, with_last_id, with_list}
 
 -- an empty folder at `/a`
@@ -109,21 +109,22 @@ one_id = refl
 covered_apart : is_alone (codes "/a" ∷ codes "/a-b" ∷ codes "/a/b" ∷ []) (codes "/a/b") ≡ false
 covered_apart = refl
 
--- the packed postings of the file at position 3 of its batch
-post_of_two : post_of 3 (7 ∷ 9 ∷ []) ≡ 1795 ∷ 2307 ∷ []
-post_of_two = refl
+-- two postings of the first group, an advance by two groups, and a posting at position 3 of the third
+keys_of_three : postings_from 0 (112 ∷ 147 ∷ 31 ∷ 115 ∷ []) ≡ (7, 0) ∷ (9, 3) ∷ (7, 33) ∷ []
+keys_of_three = refl
 
--- the batch begins with the id 5, so that the files at positions 0 and 3 have the ids 5 and 8
-post_given : with_post 5 [] (1792 ∷ 1795 ∷ 2307 ∷ []) ≡ (7, 5 ∷ 8 ∷ []) ∷ (9, 8 ∷ []) ∷ []
-post_given = refl
+base_of_three : base_after 0 (112 ∷ 147 ∷ 31 ∷ 115 ∷ []) ≡ 30
+base_of_three = refl
 
--- the trigram 7 with positions 0 and 3, and the trigram 9 with position 3
-post_compressed : post_in (1794 ∷ 2305 ∷ []) (0 ∷ 3 ∷ 3 ∷ []) ≡ 1792 ∷ 1795 ∷ 2307 ∷ []
-post_compressed = refl
-
--- a batch begins with the id 5, and the next one with 9
-ids_of_two : ids_of_segments (record { base = 5; post = 1792 ∷ 1795 ∷ 2307 ∷ [] } ∷ record { base = 9; post = 1793 ∷ [] } ∷ []) 7 ≡ 5 ∷ 8 ∷ 10 ∷ []
+-- the trigram 4103 is 7 in the second bucket
+ids_of_two : ids_in_buckets ([] ∷ ((7, 0) ∷ (9, 3) ∷ (7, 33) ∷ []) ∷ []) 4103 ≡ 0 ∷ 33 ∷ []
 ids_of_two = refl
+
+with_third : with_file 5 ([] ∷ ((7, 0) ∷ []) ∷ []) (9 ∷ 4105 ∷ []) ≡ ((9, 5) ∷ []) ∷ ((7, 0) ∷ (9, 5) ∷ []) ∷ []
+with_third = refl
+
+without_third : without_file (((9, 5) ∷ []) ∷ ((7, 0) ∷ (9, 5) ∷ []) ∷ []) (9 ∷ 4105 ∷ []) ≡ [] ∷ ((7, 0) ∷ []) ∷ []
+without_third = refl
 
 lists_in_row : lists_from 6 ([] ∷ (5 ∷ 8 ∷ []) ∷ [] ∷ (8 ∷ []) ∷ []) ≡ (7, 5 ∷ 8 ∷ []) ∷ (9, 8 ∷ []) ∷ []
 lists_in_row = refl

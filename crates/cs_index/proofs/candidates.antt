@@ -3,5 +3,4 @@ pub mod Intersection
 pub mod MentionedLists
 pub mod QueryMembers
 pub mod QueryTrigrams
-pub mod RequiredLists
 pub mod WindowRows

@@ -1,5 +1,4 @@
-pub mod CopiedList
-pub mod CopiedLists
-pub mod PartialIndexAnswers
+pub mod ListPieces
+pub mod ListSections
 pub mod SectionOffsets
 pub mod SectionReads

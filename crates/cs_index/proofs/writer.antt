@@ -1,11 +1,8 @@
+pub mod BucketPostings
 pub mod BuilderAdd
 pub mod EntriesOfLists
-pub mod FirstHeader
 pub mod IdAdded
-pub mod PackedPostings
-pub mod PostingChunks
+pub mod ListsBelow
 pub mod SectionsSteps
-pub mod SegmentCompression
-pub mod SegmentMerge
 pub mod StringsPush
 pub mod WrittenSteps

@@ -13,6 +13,11 @@ abbrev pub AscendWithin : ℕ → ℕ → List ℕ → Type 0
 AscendWithin name_count next [] = Unit {0}
 AscendWithin name_count next (id ∷ ids) = (next ≤ id) × (id < name_count) × AscendWithin name_count (id + 1) ids
 
+-- the first id is not less than this one
+abbrev pub BeginsFrom : ℕ → List ℕ → Type 0
+BeginsFrom end [] = Unit {0}
+BeginsFrom end (id ∷ ids) = end ≤ id
+
 -- one more than the last id, or `next` if there is none
 abbrev pub next_after : ℕ → List ℕ → ℕ
 next_after next [] = next

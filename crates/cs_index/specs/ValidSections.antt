@@ -36,3 +36,9 @@ pub record AreBoundedSections (paths names name_index list_index : List ℕ) (ro
 -- all sections of an opened index
 abbrev pub AreOpenedSections : SectionBytes → Type 0
 AreOpenedSections s = AreBoundedSections s.paths s.names s.name_index s.list_index (length s.postings)
+
+-- names, and a name index of them that is shorter than 2^32 bytes
+pub record IsNameTable (names name_index : List ℕ) : Type 0 where
+  pub each_name : is_names_section names ≡ true
+  pub offsets : is_name_index name_index (texts_of names) ≡ true
+  pub bound : length name_index < 2 ^ 32

@@ -1,14 +1,12 @@
 // The writer (Go: index/write.go): collects paths, and names with their trigrams, and encodes them
 // as an index.
 
-mod batch;
+mod bucket;
+mod buckets;
 mod builder;
 mod numbers;
 mod output;
-mod packed_postings;
 mod sections;
-mod segment;
-mod segments;
 mod storable_texts;
 mod stream;
 mod strings;

@@ -27,7 +27,7 @@ mutual
   step_both (one_char ranges) b c h e enter ms a =
       elim e [
         | inl same ↦ rw same refl
-        | inr singles ↦ rw (singles.0, singles.1) (ap (λ member. (enter && member) ∷ false ∷ []) h)
+        | inr singles ↦ rw (singles.0, singles.1) (ap (λ member. false ∷ (enter && member) ∷ []) h)
       ]
   step_both (cat ts) b c h e enter ms a = step_all_both ts b c h e enter ms a
   step_both (alt ts) b c h e enter ms a = step_each_both ts b c h e enter ms a

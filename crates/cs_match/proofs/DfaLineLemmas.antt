@@ -1,5 +1,5 @@
--- The transitions of a consistent DFA rule out lines without a match, and decide lines.
-use Rattle.std.proofs.Common.{◌≡◌, ℕ, zero, suc, ◌+◌, ◌-◌, ◌*◌, ◌/◌, ◌%◌, ◌<◌, ◌≤◌, ◌⊎◌, Bool, true, false, List, [], ◌∷◌, ◌++◌, take, length, get_or, refl, sym, ap, subst, ◌∙◌, arith, inl, inr}
+-- The transitions of a consistent DFA rule out lines without a match.
+use Rattle.std.proofs.Common.{◌≡◌, ℕ, zero, suc, ◌+◌, ◌-◌, ◌/◌, ◌<◌, ◌≤◌, Bool, true, false, List, [], ◌∷◌, ◌++◌, take, length, get_or, refl, sym, ap, subst, ◌∙◌, arith, inl, inr}
 use Rattle.std.specs.Prelude.{bit_or, slice_index, ◌≢◌}
 use Rattle.std.proofs.lemmas.Bool.{both_ways, cases_lt, eqb-false, false_from_ne_true}
 use Rattle.std.proofs.lemmas.List.Elements.{All-nil, All-cons, All-head, All-tail, All-append}
@@ -13,9 +13,8 @@ use Rattle.cs_match.specs.Glushkov.{accepts_in, IsExpanded}
 use Rattle.cs_match.specs.States.{start, next_state, state_through, successor, accepts_before}
 use Rattle.cs_match.specs.LazyDfa.{IsStateNumber, found, next, IsTransition, unknown, known, AreStates, AreTransitions}
 use Rattle.cs_match.specs.Scan.{state_after, match_state, unknown_state, first_special, IsAbsorbing, RulesOutLines}
-use Rattle.cs_match.specs.Counting.{DecidesLines}
 use Rattle.cs_match.proofs.ScanLemmas.{IsByte}
-use Rattle.cs_match.proofs.TransitionLemmas.{transition_index, state_stays}
+use Rattle.cs_match.proofs.TransitionLemmas.{transition_index}
 use Rattle.cs_match.proofs.StateLemmas.{accepts_in_line, accepts_at_end}
 use Rattle.cs_match.proofs.GlushkovLemmas.{match_where_accepted}
 
@@ -92,11 +91,6 @@ module _ (t : Tree) (cached : List State) (used : ℕ) (transitions : List ℕ) 
       ap (λ slot. state_after transitions slot text) (ap (λ k. get_or transitions k 0) (transition_index unknown_state b refl byte) ∙ given.unknown b byte)
       ∙ from_unknown text (All-tail IsByte b text bytes)
 
-  stays : (at : ℕ) → unknown_state ≤ at → at < 65536 → get_or transitions at 0 ≡ unknown_state
-  stays at low high =
-      let e : unknown_state + (at - unknown_state) ≡ at = omega arith in
-      sym (ap (λ k. get_or transitions k 0) e) ∙ given.unknown (at - unknown_state) (omega arith)
-
   pub absorbs : IsAbsorbing transitions
   absorbs at low high =
       elim (cases_lt at unknown_state) [
@@ -106,29 +100,6 @@ module _ (t : Tree) (cached : List State) (used : ℕ) (transitions : List ℕ) 
         | inr more ↦
             let e : unknown_state + (at - unknown_state) ≡ at = omega arith in
             let is = sym (ap (λ k. get_or transitions k 0) e) ∙ given.unknown (at - unknown_state) (omega arith) in omega (arith, is)
-      ]
-
-  -- each transition leads to a cached state or to a special one
-  kind_of : (slot b transition : ℕ) → IsTransition t cached used slot b transition → (transition < first_special) ⊎ (transition ≡ match_state) ⊎ (transition ≡ unknown_state)
-  kind_of slot b transition (unknown is) = inr (inr is)
-  kind_of slot b transition (known low (found is h)) = inr (inl is)
-  kind_of slot b transition (known low (next h there line)) = inl (state_stays t cached used transition (successor t (get_or cached slot (start t)) b) bound there)
-
-  kinds : (at : ℕ) → at < 65536 → (get_or transitions at 0 < first_special) ⊎ (get_or transitions at 0 ≡ match_state) ⊎ (get_or transitions at 0 ≡ unknown_state)
-  kinds at low =
-      elim (cases_lt at match_state) [
-        | inl less ↦
-            let e : 256 * (at / 256) + at % 256 ≡ at = omega arith in
-            let byte : at % 256 < 256 = omega arith in
-            subst (λ k. (get_or transitions k 0 < first_special) ⊎ (get_or transitions k 0 ≡ match_state) ⊎ (get_or transitions k 0 ≡ unknown_state)) e
-            (kind_of (at / 256) (at % 256) (get_or transitions (256 * (at / 256) + at % 256) 0) (given.right (at / 256) (at % 256) (omega arith) byte))
-        | inr more ↦
-            elim (cases_lt at unknown_state) [
-              | inl less ↦
-                  let e : match_state + (at - match_state) ≡ at = omega arith in
-                  inr (inl (sym (ap (λ k. get_or transitions k 0) e) ∙ given.found (at - match_state) (omega arith)))
-              | inr most ↦ inr (inr (stays at most low))
-            ]
       ]
 
   -- a transition, if the scan of the rest of the text stays ordinary
@@ -160,39 +131,6 @@ module _ (t : Tree) (cached : List State) (used : ℕ) (transitions : List ℕ) 
       (subst (λ (m : State). IsStateNumber t cached used (get_or transitions (bit_or number b) 0) m) moves step.1) ordinary in
       (rest.0, (step.0, rest.1))
 
-  -- a transition, if the scan of the rest of the text reaches the match state
-  found_here : (n : State) (b transition : ℕ) (text : List ℕ) → AreBytes text → (slot : ℕ) → get_or cached slot (start t) ≡ n → IsTransition t cached used slot b transition → state_after transitions transition text ≡ match_state →
-      (accepts_before t n b ≡ true) ⊎ IsStateNumber t cached used transition (successor t n b)
-  found_here n b transition text bytes slot same (unknown is) end = absurd (omega (arith, end, ap (λ c. state_after transitions c text) is ∙ from_unknown text bytes))
-  found_here n b transition text bytes slot same (known low (found is h)) end = inl (sym (ap (λ m. accepts_before t m b) same) ∙ h)
-  found_here n b transition text bytes slot same (known low (next h there line)) end = inr (subst (λ (m : State). IsStateNumber t cached used transition (successor t m b)) same there)
-
-  found_step : (n : State) (number b : ℕ) (text : List ℕ) → b < 256 → AreBytes text → IsStateNumber t cached used number n → state_after transitions (get_or transitions (bit_or number b) 0) text ≡ match_state →
-      (accepts_before t n b ≡ true) ⊎ IsStateNumber t cached used (get_or transitions (bit_or number b) 0) (successor t n b)
-  found_step n number b text byte bytes slot end =
-      let index = transition_index number b slot.whole byte in
-      let right : IsTransition t cached used (number / 256) b (get_or transitions (bit_or number b) 0) = subst (λ k. IsTransition t cached used (number / 256) b (get_or transitions k 0)) (sym index) (given.right (number / 256) b (omega (arith, slot.in_use)) byte) in
-      found_here n b (get_or transitions (bit_or number b) 0) text bytes (number / 256) slot.same right end
-
-  -- a scan of a line and its newline that reaches the match state
-  accepted_somewhere : (n : State) (number : ℕ) (line : List ℕ) → AreBytes (line ++ newline ∷ []) → HasNoNewline line → IsStateNumber t cached used number n → state_after transitions number (line ++ newline ∷ []) ≡ match_state →
-      (i : ℕ) × (i ≤ length line) × AcceptsAt t n line i
-  unfolding state_after
-  accepted_somewhere n number [] bytes part slot end =
-      elim (found_step n number newline [] (omega arith) (All-nil IsByte) slot end) [
-        | inl h ↦ (0, omega arith, h)
-        | inr there ↦ absurd (omega (arith, state_stays t cached used (get_or transitions (bit_or number newline) 0) (successor t n newline) bound there, end))
-      ]
-  accepted_somewhere n number (b ∷ line) bytes part slot end =
-      elim (found_step n number b (line ++ newline ∷ []) (All-head IsByte b (line ++ newline ∷ []) bytes) (All-tail IsByte b (line ++ newline ∷ []) bytes) slot end) [
-        | inl h ↦ (0, omega arith, h)
-        | inr there ↦
-            let moves : successor t n b ≡ next_state t n b = rw part.0 refl in
-            let rest = accepted_somewhere (next_state t n b) (get_or transitions (bit_or number b) 0) line (All-tail IsByte b (line ++ newline ∷ []) bytes) part.1
-            (subst (λ (m : State). IsStateNumber t cached used (get_or transitions (bit_or number b) 0) m) moves there) end in
-            (suc rest.0, omega (arith, rest.1), rest.2)
-      ]
-
   -- the transitions rule out lines
   pub dfa_rules_out : AreStates t cached used → IsExpanded t → (has_match : List ℕ → Bool) → Decides has_match t → RulesOutLines has_match transitions
   dfa_rules_out right expanded has_match decides =
@@ -203,18 +141,4 @@ module _ (t : Tree) (cached : List State) (used : ℕ) (transitions : List ℕ) 
         back = λ line bytes part ordinary. (ordinary_line (start t) 0 line (terminated line bytes) part first ordinary).0;
         none = λ line bytes part ordinary.
             false_from_ne_true (has_match line) (λ e. never_found t line expanded part (ordinary_line (start t) 0 line (terminated line bytes) part first ordinary).1 ((decides line).0 e));
-      }
-
-  -- the transitions decide lines
-  pub dfa_decides : AreStates t cached used → IsExpanded t → (has_match : List ℕ → Bool) → Decides has_match t → DecidesLines has_match transitions
-  dfa_decides right expanded has_match decides =
-      let first : IsStateNumber t cached used 0 (start t) = record { whole = refl; in_use = omega (arith, right.some); same = right.first } in
-      record {
-        shows = dfa_rules_out right expanded has_match decides;
-        kinds = kinds;
-        stays = stays;
-        found = λ line bytes part end.
-            let terminated = All-append IsByte line (newline ∷ []) bytes (All-cons IsByte newline [] (omega arith) (All-nil IsByte)) in
-            let w = accepted_somewhere (start t) 0 line terminated part first end in
-            (decides line).1 (accepts_match t line expanded part w.0 w.1 w.2);
       }

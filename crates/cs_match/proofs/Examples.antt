@@ -1,14 +1,18 @@
 -- Worked examples of the definitions, by computation.
-use Rattle.std.proofs.Common.{◌≡◌, ◌+◌, true, false, [], ◌∷◌, refl, ◌∙◌, ap, arith, codes}
-use Rattle.std.specs.Prelude.{None, slice_index}
+use Rattle.std.proofs.Common.{◌≡◌, true, false, [], ◌∷◌, refl, ap, arith, codes}
+use Rattle.std.specs.Prelude.{None}
 use mathlib.Core.Bool.{xor}
 use Rattle.std.proofs.lemmas.Bool.{both_ways}
-use Rattle.cs_syntax.specs.Matching.{Tree, one_of, cat, rep, none, more, word_edge, line_end, member}
+use Rattle.cs_syntax.specs.Matching.{Tree, one_of, one_char, cat, rep, none, more, word_edge, line_end, member}
 use Rattle.cs_match.specs.declared.look_around.LookAround.{LookAround}
 use Rattle.cs_match.specs.Lines.{lines, terminated_lines}
 use Rattle.cs_match.specs.PositionSet.{positions_of, shift_and, intersect}
 use Rattle.cs_match.specs.Glushkov.{repeats, loop_ends}
 use Rattle.cs_match.specs.BitParallel.{lasts_by}
+use Rattle.cs_match.specs.Entered.{entered, position_list, moved}
+use Rattle.cs_match.specs.Parts.{run}
+use Rattle.cs_match.specs.declared.position.Position.TheVariants.{Bytes, Begun, Taken}
+use Rattle.cs_syntax.specs.declared.char_step.CharStep.TheVariants.{Begins}
 use Rattle.cs_match.specs.Skipping.{AreWholeLines}
 use Rattle.cs_match.specs.States.{state, accepts_before}
 use Rattle.cs_syntax.specs.CharSteps.{finished}
@@ -125,3 +129,15 @@ full_dfa_is_emptied = record { added = omega arith; kept = λ room. omega (arith
 
 no_state_is_forgotten_where_there_is_room : ¬ GrowsOver 1 5 2
 no_state_is_forgotten_where_there_is_room h = omega (arith, h.kept (omega arith))
+
+-- of a run the first position is entered with it, and each other one after the position before it
+entries_of_a_run : entered (run 3) true (true ∷ false ∷ true ∷ []) (record { first = false; last = false; edge = false }) ≡ true ∷ true ∷ false ∷ []
+entries_of_a_run = refl
+
+-- a set of bytes and a set of characters
+three_positions : position_list (cat (more (one_of []) (more (one_char []) none))) ≡ Bytes [] ∷ Begun ∷ Taken [] ∷ []
+three_positions = refl
+
+-- a lead byte begins a set of characters that was entered, and ends what was taken
+lead_byte_begins : moved false (Begun ∷ Taken [] ∷ []) (record { byte = 195; char = Begins finished }) (true ∷ false ∷ []) (false ∷ true ∷ []) ≡ true ∷ false ∷ []
+lead_byte_begins = refl

@@ -242,7 +242,7 @@ module _ (s : List ℕ) (a : ℕ → LookAround) (b : ℕ → Input) where
 
   -- the two positions of a set of characters
   char_positions : (ranges : List (ℕ × ℕ)) (cuts : List ℕ) → ((i : ℕ) → (b i).char ≡ char_step_at cuts s i) → (enter : ℕ → Bool) (i : ℕ) →
-      positions a b (one_char ranges) enter i ≡ taken_at cuts s ranges enter i ∷ begun_at cuts s enter i ∷ []
+      positions a b (one_char ranges) enter i ≡ begun_at cuts s enter i ∷ taken_at cuts s ranges enter i ∷ []
   char_positions ranges cuts steps enter zero = refl
   char_positions ranges cuts steps enter (suc i) = rw (char_positions ranges cuts steps enter i, steps i) refl
 
@@ -254,7 +254,7 @@ module _ (s : List ℕ) (a : ℕ → LookAround) (b : ℕ → Input) where
         let p = and_parts (enter i) (member set (b i).byte) h in
         (i, omega arith, p.0, (omega arith, ap (member set) (sym (st i)) ∙ p.1, refl))
     sound (one_char ranges) st enter i le h =
-        let taken = ap (λ ms. slice_index_or ms 0 false) (sym (char_positions ranges st.0 st.2 enter i)) ∙ h in
+        let taken = ap (λ ms. slice_index_or ms 1 false) (sym (char_positions ranges st.0 st.2 enter i)) ∙ h in
         let found = (taken_matches st.0 s ranges st.1 enter i le).0 taken in
         (found.0, (char_span s ranges found.0 i found.2).0, found.1, found.2)
     sound (cat ts) st enter i le h = sound_all ts st enter i le h
@@ -347,7 +347,7 @@ module _ (s : List ℕ) (a : ℕ → LookAround) (b : ℕ → Input) where
         subst P (sym h.2) (or_left (enter k && member set (b k).byte) _ (and_from (enter k) _ e (ap (member set) (st k) ∙ h.1)))
     complete (one_char ranges) st enter k i e h =
         let taken = (taken_matches st.0 s ranges st.1 enter i (char_span s ranges k i h).1).1 (k, e, h) in
-        or_left (slice_index_or (positions a b (one_char ranges) enter i) 0 false) _ (ap (λ ms. slice_index_or ms 0 false) (char_positions ranges st.0 st.2 enter i) ∙ taken)
+        or_left (slice_index_or (positions a b (one_char ranges) enter i) 1 false) _ (ap (λ ms. slice_index_or ms 1 false) (char_positions ranges st.0 st.2 enter i) ∙ taken)
     complete (cat ts) st enter k i e h = complete_all ts st enter k i e h
     complete (alt ts) st enter k i e h = complete_some ts st enter k i e h
     complete (rep x n m) st enter k i e h =

@@ -119,10 +119,6 @@ last_part-append (x ∷ a) b =
     ∙ last_part-step x b (nat_eq x newline) refl (terminated_lines a) (last_part a) (terminated_lines (a ++ b)) (last_part (a ++ b)) (terminated_lines-append a b) (last_part-append a b)
     ∙ ap (λ rest. last_part (rest ++ b)) (sym (last_part-cons x a))
 
--- a text of whole lines: its lines come before those of what follows
-pub terminated_lines-cut : (a b : List ℕ) → last_part a ≡ [] → terminated_lines (a ++ b) ≡ terminated_lines a ++ terminated_lines b
-terminated_lines-cut a b e = terminated_lines-append a b ∙ ap (λ rest. terminated_lines a ++ terminated_lines (rest ++ b)) e
-
 -- a part without a newline has no terminated line
 pub terminated_lines-part : (part : List ℕ) → HasNoNewline part → terminated_lines part ≡ []
 unfolding terminated_lines

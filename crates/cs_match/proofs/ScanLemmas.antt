@@ -1,6 +1,6 @@
 -- Scans of a transition table, and the lines that ordinary scans skip.
-use Rattle.std.proofs.Common.{◌≡◌, ℕ, zero, suc, ◌+◌, ◌-◌, ◌<◌, ◌≤◌, Bool, true, false, nat_eq, List, [], ◌∷◌, ◌++◌, take, drop, length, get_or, map, bit_or, Fits, w8, w16, refl, ap, sym, subst, ◌∙◌, arith, append_assoc, length-take, inl, inr}
-use Rattle.std.proofs.lemmas.List.{take_more, take-take, take_rest, append-nil}
+use Rattle.std.proofs.Common.{◌≡◌, ℕ, zero, suc, ◌+◌, ◌-◌, ◌<◌, ◌≤◌, Bool, true, false, nat_eq, List, [], ◌∷◌, ◌++◌, take, drop, length, get_or, map, bit_or, Fits, w8, w16, refl, ap, sym, subst, ◌∙◌, arith, append_assoc, inl, inr}
+use Rattle.std.proofs.lemmas.List.{take_more, take_rest, append-nil}
 use Rattle.std.proofs.lemmas.List.Elements.{All-nil, All-cons, All-head, All-tail, All-append, All-take, All-drop, All-from_get_or}
 use Rattle.std.proofs.lemmas.Nat.{le_or_l, or_of_16}
 use Rattle.std.proofs.lemmas.Bool.{eqb-true, cases_lt}
@@ -72,18 +72,6 @@ module _ (transitions : List ℕ) (fits : (at : ℕ) → at < 65536 → get_or t
   small_number state (b ∷ text) low bytes =
       let byte : b < 256 = All-head IsByte b text bytes in
       small_number (get_or transitions (bit_or state b) 0) text (fits (bit_or state b) (or_of_16 state b (omega arith) (omega arith))) (All-tail IsByte b text bytes)
-
-  -- a scan that is ordinary over a text is ordinary over each prefix
-  pub ordinary_in_prefix : (text : List ℕ) (m : ℕ) → AreBytes text → IsOrdinary transitions text → IsOrdinary transitions (take m text)
-  ordinary_in_prefix text m bytes ordinary =
-      let state = state_after transitions 0 (take m text) in
-      elim (cases_lt state first_special) [
-        | inl low ↦ low
-        | inr special ↦
-            let small : state < 65536 = small_number 0 (take m text) (omega arith) (All-take IsByte m text bytes) in
-            let high = stays_special state (drop m text) special small (All-drop IsByte m text bytes) in
-            absurd (omega (arith, high, after_parts transitions 0 m text, ordinary))
-      ]
 
 module _ (has_match : List ℕ → Bool) (transitions : List ℕ) (fits : (at : ℕ) → Fits w16 (get_or transitions at 0)) (rules_out : RulesOutLines has_match transitions) where
   -- a scan that is ordinary after the end of a line was ordinary there
@@ -179,24 +167,6 @@ module _ (IsKind : (List ℕ → Bool) → Type 0) (block : List ℕ) where
         (All-cons (λ line. has_match line ≡ false) (take (end - at) (drop at block)) [] (miss has_match is) (All-nil (λ line. has_match line ≡ false)));
   }
 
-  -- lines skipped in a part of the block
-  pub skipped_within : (from end to : ℕ) → from ≤ end → end ≤ length block → AreSkipped IsKind (take (end - from) (drop from block)) 0 to → AreSkipped IsKind block from (from + to)
-  skipped_within from end to low high p =
-      let part = take (end - from) (drop from block) in
-      let size : to ≤ end - from = omega (arith, p.lines.high, length-take (end - from) (drop from block)) in
-      let is : take (to - 0) part ≡ take (from + to - from) (drop from block) =
-      ap (λ n. take n part) (zero_less to) ∙ take-take to (end - from) (drop from block) size ∙ ap (λ n. take n (drop from block)) (back from to) in
-      record {
-        lines = record { low = omega arith; high = omega (arith, size, low, high); whole = subst AreWholeLines is p.lines.whole };
-        none = λ has_match kind. subst (λ text. NoneMatch has_match (terminated_lines text)) is (p.none has_match kind);
-      }
-    where
-      zero_less : (n : ℕ) → n - 0 ≡ n
-      zero_less n = omega arith
-
-      back : (m n : ℕ) → n ≡ m + n - m
-      back m n = omega arith
-
 -- the parts of a block between offsets
 module _ (block : List ℕ) where
   abbrev parts : ℕ → List ℕ → List (List ℕ)
@@ -226,18 +196,3 @@ module _ (transitions block : List ℕ) (fits : (at : ℕ) → Fits w16 (get_or 
       skipped_append (λ has_match. RulesOutLines has_match transitions) block from to (get_or (to ∷ ends) n 0)
       (ordinary_part from to cuts.0.0 cuts.0.1 cuts.0.2 (ordinary 0 (omega arith)))
       (skipped_parts to ends n cuts.0.1 cuts.1 (omega arith) (λ k low. ordinary (suc k) (omega arith)))
-
-  bytes_in_block : (n from : ℕ) → AreBytes (take n (drop from block))
-  bytes_in_block n from = All-take IsByte n (drop from block) (All-drop IsByte from block (All-from_get_or IsByte block 0 (λ i _. omega (arith, bytes i))))
-
-  -- whole lines in a prefix with an ordinary scan
-  pub skipped_prefix : (from n m : ℕ) → from + n ≤ length block → m ≤ n → AreWholeLines (take m (drop from block)) → IsOrdinary transitions (take n (drop from block)) → SkipsOrdinary from (from + m)
-  skipped_prefix from n m within most whole ordinary =
-      let rest = drop from block in
-      let same : m ≡ from + m - from = omega arith in
-      record {
-        lines = record { low = omega arith; high = omega (arith, within, most); whole = subst (λ k. AreWholeLines (take k rest)) same whole };
-        none = λ has_match rules_out.
-            let prefix : IsOrdinary transitions (take m rest) = subst (IsOrdinary transitions) (take-take m n rest most) (ordinary_in_prefix transitions (λ at _. omega (arith, fits at)) rules_out.absorbs (take n rest) m (bytes_in_block n from) ordinary) in
-            subst (λ k. NoneMatch has_match (terminated_lines (take k rest))) same (none_in_ordinary has_match transitions fits rules_out (take m rest) (bytes_in_block m from) prefix);
-      }

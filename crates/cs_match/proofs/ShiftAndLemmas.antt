@@ -9,6 +9,7 @@ use Rattle.std.proofs.lemmas.Nat.Bits.{bit_at-lt, bit_at-suc, bit_at-zero, bit_a
 use Rattle.std.specs.Int.{bit_at, trailing_zeros}
 use Rattle.cs_syntax.specs.Bits.{has_bit}
 use Rattle.cs_match.specs.PositionSet.{positions_of, IsPositionSet, shift_and, intersect}
+use Rattle.cs_match.proofs.BitwiseLemmas.{carry, previous, bit-and, bit-or, shl-lowest, shl-others, has_bit-at}
 use Rattle.cs_match.proofs.PositionSetLemmas.{length-positions_of, get_or-positions_of}
 
 -- the sets, position by position
@@ -42,63 +43,9 @@ intersect_nowhere (is_in ∷ positions) [] h = refl
 intersect_nowhere (is_in ∷ positions) (other ∷ others) h =
     ap (λ x. x || intersect positions others) (h zero) ∙ intersect_nowhere positions others (λ k. h (suc k))
 
--- the carry into a word
-abbrev pub carry : List ℕ → ℕ → ℕ
-carry words zero = 0
-carry words (suc at) = get_or words at 0 / 9223372036854775808
-
 -- a shifted word
 abbrev pub next_word : ℕ → ℕ → ℕ → ℕ → ℕ
 next_word word carried first mask = bit_and (bit_or (bit_or (word * 2 % 18446744073709551616) carried) first) mask
-
--- the position before
-abbrev pub previous : List ℕ → ℕ → Bool
-previous words zero = false
-previous words (suc at) = has_bit words at
-
--- a bit as a test
-both : (a b : ℕ) → a < 2 → b < 2 → eqb (min a b) 1 ≡ eqb a 1 && eqb b 1
-both zero zero p q = refl
-both zero (suc zero) p q = refl
-both zero (suc (suc b)) p q = absurd (omega (arith, q))
-both (suc zero) zero p q = refl
-both (suc zero) (suc zero) p q = refl
-both (suc zero) (suc (suc b)) p q = absurd (omega (arith, q))
-both (suc (suc a)) b p q = absurd (omega (arith, p))
-
-either : (a b : ℕ) → a < 2 → b < 2 → eqb (max a b) 1 ≡ eqb a 1 || eqb b 1
-either zero zero p q = refl
-either zero (suc zero) p q = refl
-either zero (suc (suc b)) p q = absurd (omega (arith, q))
-either (suc zero) zero p q = refl
-either (suc zero) (suc zero) p q = refl
-either (suc zero) (suc (suc b)) p q = absurd (omega (arith, q))
-either (suc (suc a)) b p q = absurd (omega (arith, p))
-
-bit-and : (a b i : ℕ) → eqb (bit_at (bit_and a b) i) 1 ≡ eqb (bit_at a i) 1 && eqb (bit_at b i) 1
-bit-and a b i = ap (λ x. eqb x 1) (bit_at_and a b i) ∙ both (bit_at a i) (bit_at b i) (bit_at-lt a i) (bit_at-lt b i)
-
-bit-or : (a b i : ℕ) → eqb (bit_at (bit_or a b) i) 1 ≡ eqb (bit_at a i) 1 || eqb (bit_at b i) 1
-bit-or a b i = ap (λ x. eqb x 1) (bit_at_or a b i) ∙ either (bit_at a i) (bit_at b i) (bit_at-lt a i) (bit_at-lt b i)
-
--- the lowest bit of a word shifted left is clear, and the others move up by one
-shl-lowest : (word : ℕ) → eqb (bit_at (word * 2 % 18446744073709551616) 0) 1 ≡ false
-shl-lowest word = ap (λ x. eqb x 1) (bit_at_lowest (word * 2 % 18446744073709551616) ∙ even)
-  where
-    even : word * 2 % 18446744073709551616 % 2 ≡ 0
-    even = omega arith
-
-shl-others : (word i : ℕ) → i < 63 → bit_at (word * 2 % 18446744073709551616) (suc i) ≡ bit_at word i
-shl-others word i h =
-    bit_at-suc (word * 2 % 18446744073709551616) i
-    ∙ ap (λ x. bit_at x i) half
-    ∙ sym (ap (λ x. bit_at x i) whole ∙ bit_at_cat_low (word / 9223372036854775808) 63 (word % 9223372036854775808) i h)
-  where
-    half : word * 2 % 18446744073709551616 / 2 ≡ word % 9223372036854775808
-    half = omega arith
-
-    whole : word ≡ word / 9223372036854775808 * 9223372036854775808 + word % 9223372036854775808
-    whole = omega arith
 
 -- the bits of a word with the carry of the word before it
 module _ (word carried first mask : ℕ) (low : carried < 2) where
@@ -118,13 +65,6 @@ module _ (word carried first mask : ℕ) (low : carried < 2) where
       (bit-or _ first (suc i) ∙ ap (λ x. x || eqb (bit_at first (suc i)) 1)
       (bit-or _ carried (suc i) ∙ ap (λ x. eqb (bit_at (word * 2 % 18446744073709551616) (suc i)) 1 || eqb x 1) (bit_at_above carried 1 (suc i) low (omega arith))
       ∙ or-false (eqb (bit_at (word * 2 % 18446744073709551616) (suc i)) 1) ∙ ap (λ x. eqb x 1) (shl-others word i h)))
-
--- a bit of the set, by its word
-has_bit-at : (words : List ℕ) (q r : ℕ) → r < 64 → has_bit words (q * 64 + r) ≡ eqb (bit_at (get_or words q 0) r) 1
-has_bit-at words q r h =
-    let quotient : (q * 64 + r) / 64 ≡ q = omega arith in
-    let rest : (q * 64 + r) % 64 ≡ r = omega arith in
-    ap (λ (n : ℕ). eqb (bit_at (get_or words n 0) ((q * 64 + r) % 64)) 1) quotient ∙ ap (λ (n : ℕ). eqb (bit_at (get_or words q 0) n) 1) rest
 
 -- the shifted words
 module _ (new old firsts masks : List ℕ) (count : ℕ) (old-are : IsPositionSet old count) (firsts-are : IsPositionSet firsts count) (masks-are : IsPositionSet masks count) (size : length new ≡ length old) (each : (k : ℕ) → k < length old → get_or new k 0 ≡ next_word (get_or old k 0) (carry old k) (get_or firsts k 0) (get_or masks k 0)) where

@@ -6,9 +6,6 @@ use Rattle.cs_match.specs.Automaton.{Automaton, GrowsOver}
 pub grows_none : (bytes old new : ℕ) → new ≡ old → GrowsOver bytes old new
 grows_none bytes old new same = record { added = omega (arith, same); kept = λ room. omega (arith, same) }
 
-pub grows_same : (bytes : ℕ) (old new : Automaton) → new ≡ old → GrowsOver bytes old.states new.states
-grows_same bytes old new same = grows_none bytes old.states new.states (ap (λ (a : Automaton). a.states) same)
-
 pub same_tree : (old new : Automaton) → new ≡ old → new.tree ≡ old.tree
 same_tree old new same = ap (λ (a : Automaton). a.tree) same
 

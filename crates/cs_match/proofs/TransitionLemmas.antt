@@ -1,6 +1,6 @@
 -- The states and transitions stay correct if transitions are stored, a state is added, or the cache is
 -- cleared.
-use Rattle.std.proofs.Common.{true, ◌≡◌, ℕ, ◌+◌, ◌*◌, ◌/◌, ◌<◌, ◌≤◌, inl, inr, false, List, length, set, sym, ◌∙◌, ap, subst, arith, get_or, get_or-set_same, get_or-set_other, refl}
+use Rattle.std.proofs.Common.{true, ◌≡◌, ℕ, ◌+◌, ◌*◌, ◌/◌, ◌<◌, ◌≤◌, inl, inr, false, List, length, set, sym, ◌∙◌, ap, subst, arith, get_or, get_or-set_same, get_or-set_other}
 use Rattle.std.specs.Prelude.{◌≢◌, replicate, if◌then◌else◌, bit_or}
 use Rattle.std.proofs.Math.ListN.{length-set}
 use Rattle.std.proofs.lemmas.Bool.{cases_eq, cases_lt, eq-eqb, eqb-true, ne_eqb}
@@ -67,10 +67,6 @@ leads_next t u cached used number n m k b e f other h is slot =
     next (ap (λ x. accepts_before x m b) e ∙ ap (λ x. accepts_before t x b) f ∙ h)
     (subst (λ (x : State). IsStateNumber u cached used number x) (is ∙ ap (λ x. successor t x b) (sym f) ∙ ap (λ x. successor x m b) (sym e)) slot)
     (λ line. absurd (other line))
-
--- the successor over a newline is the start state
-pub leads_back : (t : Tree) (cached : List State) (used : ℕ) (n : State) → AreStates t cached used → accepts_before t n 10 ≡ false → Leads t cached used n 10 0
-leads_back t cached used n given h = next h (record { whole = refl; in_use = omega (arith, given.some); same = given.first }) (λ line. refl)
 
 same_everywhere : (n k : ℕ) (x : State) → get_or (replicate n x) k x ≡ x
 same_everywhere n k x =

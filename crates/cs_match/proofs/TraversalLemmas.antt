@@ -1,16 +1,19 @@
--- The two traversals of a tree: what a subtree needs of the position set and of the loop flags, and what one
--- more part adds.
-use Rattle.std.proofs.Common.{◌≡◌, ℕ, zero, suc, ◌+◌, ◌-◌, ◌≤◌, inl, inr, ◌<◌, ◌++◌, ◌||◌, ◌&&◌, List, [], ◌∷◌, Bool, false, take, drop, set, length, min, refl, sym, ◌∙◌, ap, arith, append_assoc, length-append, length-drop}
+-- The two traversals of the parts: what a part needs of the position set and of the loop flags, and what one more
+-- part adds.
+use Rattle.std.proofs.Common.{◌≡◌, ℕ, zero, suc, ◌+◌, ◌-◌, ◌≤◌, inl, inr, ◌<◌, ◌++◌, ◌||◌, ◌&&◌, List, [], ◌∷◌, Bool, false, take, drop, set, length, get_or, min, refl, sym, ◌∙◌, ap, arith, append_assoc, length-append, length-drop}
 use Rattle.std.proofs.lemmas.Bool.{cases_lt}
-use Rattle.std.proofs.Math.Bool.{or_assoc}
+use Rattle.std.proofs.Math.Bool.{and-false, or-false, or_assoc}
 use Rattle.std.proofs.Math.ListN.{drop_of_length-le}
 use Rattle.std.proofs.Math.Seq.{sets, sets-eq, length-sets, set_out, set_comm, take-take, get_or-take}
-use Rattle.std.proofs.lemmas.List.{append-nil, drop-drop, drop-take, length-take, take_at, drop_at}
+use Rattle.std.proofs.lemmas.List.{append-nil, take-append-drop, drop-drop, drop-take, length-take, get_or-drop, take_at, drop_at}
 use Rattle.cs_syntax.specs.Matching.{Tree, Trees, empty, one_of, one_char, cat, alt, rep, line_start, line_end, word_edge, not_word_edge, none, more}
-use Rattle.cs_match.specs.declared.input.Input.{Input}
 use Rattle.cs_match.specs.declared.look_around.LookAround.{LookAround}
-use Rattle.cs_match.specs.Glushkov.{position_count, position_count_of, repeats, repeats_of, nullable, nullable_all, nullable_some, is_final, is_final_all, is_final_some, accepts, loop_ends, loop_ends_of, step, step_all, step_each}
-use Rattle.cs_match.proofs.GlushkovLemmas.{length-step, cat_bools, alt_bools}
+use Rattle.cs_match.specs.Glushkov.{position_count, position_count_of, repeats, repeats_of, nullable, nullable_all, nullable_some, is_final, is_final_all, is_final_some, accepts, loop_ends, loop_ends_of}
+use Rattle.cs_match.specs.Entered.{entered, entered_all, entered_each, AreShifted}
+use Rattle.cs_match.specs.Parts.{run}
+use Rattle.cs_match.proofs.GlushkovLemmas.{cat_bools, alt_bools}
+use Rattle.cs_match.proofs.EnteredLemmas.{length-entered}
+use Rattle.cs_match.proofs.ShapeLemmas.{entered_run, is_final_run}
 
 -- the elements with an index from p up to n
 prefix_drop : (p n : ℕ) (ms : List Bool) → p ≤ n → drop p (take n ms) ≡ take (n - p) (drop p ms)
@@ -24,7 +27,7 @@ mutual
   is_final-take : (t : Tree) (n : ℕ) (ms : List Bool) (a : LookAround) → position_count t ≤ n → is_final t (take n ms) a ≡ is_final t ms a
   is_final-take empty n ms a le = refl
   is_final-take (one_of set) n ms a le = get_or-take n ms 0 false (omega arith)
-  is_final-take (one_char ranges) n ms a le = get_or-take n ms 0 false (omega arith)
+  is_final-take (one_char ranges) n ms a le = get_or-take n ms 1 false (omega arith)
   is_final-take (cat ts) n ms a le = is_final_all-take ts n ms a le
   is_final-take (alt ts) n ms a le = is_final_some-take ts n ms a le
   is_final-take (rep x k m) n ms a le = is_final-take x n ms a le
@@ -44,27 +47,27 @@ mutual
       rw (take-take (position_count t) n ms (omega arith), prefix_drop (position_count t) n ms (omega arith), is_final_some-take ts (n - position_count t) (drop (position_count t) ms) a (omega arith)) refl
 
 mutual
-  step-take : (t : Tree) (enter : Bool) (n : ℕ) (ms : List Bool) (a : LookAround) (b : Input) → position_count t ≤ n → step t enter (take n ms) a b ≡ step t enter ms a b
-  step-take empty enter n ms a b le = refl
-  step-take (one_of set) enter n ms a b le = refl
-  step-take (one_char ranges) enter n ms a b le = rw (get_or-take n ms 1 false (omega arith)) refl
-  step-take (cat ts) enter n ms a b le = step_all-take ts enter n ms a b le
-  step-take (alt ts) enter n ms a b le = step_each-take ts enter n ms a b le
-  step-take (rep x k m) enter n ms a b le = rw (is_final-take x n ms a le) (step-take x (enter || is_final x ms a) n ms a b le)
-  step-take line_start enter n ms a b le = refl
-  step-take line_end enter n ms a b le = refl
-  step-take word_edge enter n ms a b le = refl
-  step-take not_word_edge enter n ms a b le = refl
+  entered-take : (t : Tree) (enter : Bool) (n : ℕ) (ms : List Bool) (a : LookAround) → position_count t ≤ n → entered t enter (take n ms) a ≡ entered t enter ms a
+  entered-take empty enter n ms a le = refl
+  entered-take (one_of set) enter n ms a le = refl
+  entered-take (one_char ranges) enter n ms a le = rw (get_or-take n ms 0 false (omega arith)) refl
+  entered-take (cat ts) enter n ms a le = entered_all-take ts enter n ms a le
+  entered-take (alt ts) enter n ms a le = entered_each-take ts enter n ms a le
+  entered-take (rep x k m) enter n ms a le = rw (is_final-take x n ms a le) (entered-take x (enter || is_final x ms a) n ms a le)
+  entered-take line_start enter n ms a le = refl
+  entered-take line_end enter n ms a le = refl
+  entered-take word_edge enter n ms a le = refl
+  entered-take not_word_edge enter n ms a le = refl
 
-  step_all-take : (ts : Trees) (enter : Bool) (n : ℕ) (ms : List Bool) (a : LookAround) (b : Input) → position_count_of ts ≤ n → step_all ts enter (take n ms) a b ≡ step_all ts enter ms a b
-  step_all-take none enter n ms a b le = refl
-  step_all-take (more t ts) enter n ms a b le =
-      rw (take-take (position_count t) n ms (omega arith), prefix_drop (position_count t) n ms (omega arith), step_all-take ts (accepts t enter (take (position_count t) ms) a) (n - position_count t) (drop (position_count t) ms) a b (omega arith)) refl
+  entered_all-take : (ts : Trees) (enter : Bool) (n : ℕ) (ms : List Bool) (a : LookAround) → position_count_of ts ≤ n → entered_all ts enter (take n ms) a ≡ entered_all ts enter ms a
+  entered_all-take none enter n ms a le = refl
+  entered_all-take (more t ts) enter n ms a le =
+      rw (take-take (position_count t) n ms (omega arith), prefix_drop (position_count t) n ms (omega arith), entered_all-take ts (accepts t enter (take (position_count t) ms) a) (n - position_count t) (drop (position_count t) ms) a (omega arith)) refl
 
-  step_each-take : (ts : Trees) (enter : Bool) (n : ℕ) (ms : List Bool) (a : LookAround) (b : Input) → position_count_of ts ≤ n → step_each ts enter (take n ms) a b ≡ step_each ts enter ms a b
-  step_each-take none enter n ms a b le = refl
-  step_each-take (more t ts) enter n ms a b le =
-      rw (take-take (position_count t) n ms (omega arith), prefix_drop (position_count t) n ms (omega arith), step_each-take ts enter (n - position_count t) (drop (position_count t) ms) a b (omega arith)) refl
+  entered_each-take : (ts : Trees) (enter : Bool) (n : ℕ) (ms : List Bool) (a : LookAround) → position_count_of ts ≤ n → entered_each ts enter (take n ms) a ≡ entered_each ts enter ms a
+  entered_each-take none enter n ms a le = refl
+  entered_each-take (more t ts) enter n ms a le =
+      rw (take-take (position_count t) n ms (omega arith), prefix_drop (position_count t) n ms (omega arith), entered_each-take ts enter (n - position_count t) (drop (position_count t) ms) a (omega arith)) refl
 
 is_final-prefix : (t : Tree) (ms : List Bool) (a : LookAround) → is_final t (take (position_count t) ms) a ≡ is_final t ms a
 is_final-prefix t ms a = is_final-take t (position_count t) ms a (omega arith)
@@ -72,8 +75,8 @@ is_final-prefix t ms a = is_final-take t (position_count t) ms a (omega arith)
 accepts-prefix : (t : Tree) (enter : Bool) (ms : List Bool) (a : LookAround) → accepts t enter (take (position_count t) ms) a ≡ accepts t enter ms a
 accepts-prefix t enter ms a = ap (λ l. l || (enter && nullable t a)) (is_final-prefix t ms a)
 
-step-prefix : (t : Tree) (enter : Bool) (ms : List Bool) (a : LookAround) (b : Input) → step t enter (take (position_count t) ms) a b ≡ step t enter ms a b
-step-prefix t enter ms a b = step-take t enter (position_count t) ms a b (omega arith)
+entered-prefix : (t : Tree) (enter : Bool) (ms : List Bool) (a : LookAround) → entered t enter (take (position_count t) ms) a ≡ entered t enter ms a
+entered-prefix t enter ms a = entered-take t enter (position_count t) ms a (omega arith)
 
 -- a concatenation or an alternation is its first part and the others
 accepts_cat : (t : Tree) (ts : Trees) (enter : Bool) (ms : List Bool) (a : LookAround) →
@@ -86,13 +89,13 @@ accepts_alt : (t : Tree) (ts : Trees) (enter : Bool) (ms : List Bool) (a : LookA
 accepts_alt t ts enter ms a =
     rw (is_final-prefix t ms a) (alt_bools (is_final t ms a) (is_final_some ts (drop (position_count t) ms) a) enter (nullable t a) (nullable_some ts a))
 
-step_cat : (t : Tree) (ts : Trees) (enter : Bool) (ms : List Bool) (a : LookAround) (b : Input) →
-    step_all (more t ts) enter ms a b ≡ step t enter ms a b ++ step_all ts (accepts t enter ms a) (drop (position_count t) ms) a b
-step_cat t ts enter ms a b = rw (step-prefix t enter ms a b, accepts-prefix t enter ms a) refl
+entered_cat : (t : Tree) (ts : Trees) (enter : Bool) (ms : List Bool) (a : LookAround) →
+    entered_all (more t ts) enter ms a ≡ entered t enter ms a ++ entered_all ts (accepts t enter ms a) (drop (position_count t) ms) a
+entered_cat t ts enter ms a = rw (entered-prefix t enter ms a, accepts-prefix t enter ms a) refl
 
-step_alt : (t : Tree) (ts : Trees) (enter : Bool) (ms : List Bool) (a : LookAround) (b : Input) →
-    step_each (more t ts) enter ms a b ≡ step t enter ms a b ++ step_each ts enter (drop (position_count t) ms) a b
-step_alt t ts enter ms a b = rw (step-prefix t enter ms a b) refl
+entered_alt : (t : Tree) (ts : Trees) (enter : Bool) (ms : List Bool) (a : LookAround) →
+    entered_each (more t ts) enter ms a ≡ entered t enter ms a ++ entered_each ts enter (drop (position_count t) ms) a
+entered_alt t ts enter ms a = rw (entered-prefix t enter ms a) refl
 
 mutual
   pub length-loop_ends : (t : Tree) (ms : List Bool) (a : LookAround) → length (loop_ends t ms a) ≡ repeats t
@@ -174,7 +177,7 @@ module _ (t : Tree) (ts : Trees) (ms : List Bool) (a : LookAround) (p next : ℕ
   noted_more l new whole i j h e n =
       rw next_drop (more_noted l new i j (repeats t) (loop_ends t (drop p ms) a) (loop_ends_of ts (drop (position_count t) (drop p ms)) a) (length-loop_ends t (drop p ms) a) e n ∙ h)
 
--- ---- the second traversal: positions that are moved in place
+-- ---- the second traversal: entries that are written part by part
 
 split_prefix : (n m : ℕ) (xs ys zs : List Bool) → length ys ≡ n → take (n + m) xs ≡ ys ++ zs → (take n xs ≡ ys) × (take m (drop n xs) ≡ zs)
 split_prefix n m xs ys zs long is = (
@@ -227,60 +230,86 @@ module _ (t : Tree) (ts : Trees) (ms : List Bool) (a : LookAround) (p next : ℕ
       rw (next_drop t ts ms a p next is)
       (or_assoc so_far (accepts t enter (drop p ms) a) _ ∙ ap (λ b. so_far || b) (sym (accepts_alt t ts enter (drop p ms) a)) ∙ h)
 
--- `ms` is the set before the traversal, `old` the set before a part, `new` the set after it
-module _ (t : Tree) (ts : Trees) (ms old new : List Bool) (a : LookAround) (b : Input) (p next : ℕ) (enter : Bool) (is : next ≡ p + position_count t)
-    (room : p + position_count t ≤ length old) (ahead : drop p old ≡ drop p ms)
-    (moved : new ≡ take p old ++ (step t enter (drop p old) a b ++ drop (p + position_count t) old)) where
-  pub moved_long : length new ≡ length old
-  moved_long = mid_long p (position_count t) old new (step t enter (drop p old) a b) (length-step t enter (drop p old) a b) room moved
+-- `ms` is the position set, `first` has the entries before the traversal, `old` those before a part, `new` those after it
+module _ (t : Tree) (ts : Trees) (ms first old new : List Bool) (a : LookAround) (p next : ℕ) (enter : Bool) (is : next ≡ p + position_count t)
+    (room : p + position_count t ≤ length ms) (shifted : AreShifted p ms old) (ahead : drop p old ≡ drop p first)
+    (moved : new ≡ take p old ++ (entered t enter (drop p ms) a ++ drop (p + position_count t) old)) where
+  within : p + position_count t ≤ length old
+  within = omega (arith, shifted.long, room)
 
-  pub moved_ahead : drop next new ≡ drop next ms
-  moved_ahead =
-      rw is (mid_rest p (position_count t) old new (step t enter (drop p old) a b) (length-step t enter (drop p old) a b) room moved
-      ∙ sym (drop-drop (position_count t) p old) ∙ ap (drop (position_count t)) ahead ∙ drop-drop (position_count t) p ms)
+  same_rest : drop next new ≡ drop next old
+  same_rest = rw is (mid_rest p (position_count t) old new (entered t enter (drop p ms) a) (length-entered t enter (drop p ms) a) within moved)
 
-  moved_prefix : take next new ≡ take p old ++ step t enter (drop p ms) a b
-  moved_prefix =
-      rw is (mid_prefix p (position_count t) old new (step t enter (drop p old) a b) (length-step t enter (drop p old) a b) room moved
-      ∙ ap (λ k. take p old ++ step t enter k a b) ahead)
+  pub entered_ahead : drop next new ≡ drop next first
+  entered_ahead =
+      same_rest ∙ rw is (sym (drop-drop (position_count t) p old) ∙ ap (drop (position_count t)) ahead ∙ drop-drop (position_count t) p first)
 
-  moved_positions : (both others behind whole : List Bool) → both ≡ step t enter (drop p ms) a b ++ others → take p old ++ (both ++ behind) ≡ whole →
+  pub entered_shifted : AreShifted next ms new
+  entered_shifted = record {
+    long = mid_long p (position_count t) old new (entered t enter (drop p ms) a) (length-entered t enter (drop p ms) a) within moved ∙ shifted.long;
+    same =
+        let one : next + 1 ≡ suc next = omega arith in
+        ap (λ k. drop k new) (sym one) ∙ sym (drop-drop 1 next new) ∙ ap (drop 1) same_rest ∙ drop-drop 1 next old ∙ ap (λ k. drop k old) one ∙ after_one;
+  }
+    where
+      after_one : drop (suc next) old ≡ drop next ms
+      after_one =
+          let far : suc next ≡ suc p + position_count t = omega (arith, is) in
+          ap (λ k. drop k old) far ∙ sym (drop-drop (position_count t) (suc p) old) ∙ ap (drop (position_count t)) shifted.same ∙ drop-drop (position_count t) p ms
+          ∙ ap (λ k. drop k ms) (sym is)
+
+  entered_before : take next new ≡ take p old ++ entered t enter (drop p ms) a
+  entered_before = rw is (mid_prefix p (position_count t) old new (entered t enter (drop p ms) a) (length-entered t enter (drop p ms) a) within moved)
+
+  entered_parts : (both others behind whole : List Bool) → both ≡ entered t enter (drop p ms) a ++ others → take p old ++ (both ++ behind) ≡ whole →
       take next new ++ (others ++ behind) ≡ whole
-  moved_positions both others behind whole e h =
-      let first = step t enter (drop p ms) a b in
-      rw moved_prefix (append_assoc (take p old) first (others ++ behind) ∙ ap (λ k. take p old ++ k) (sym (append_assoc first others behind))
+  entered_parts both others behind whole e h =
+      let part = entered t enter (drop p ms) a in
+      rw entered_before (append_assoc (take p old) part (others ++ behind) ∙ ap (λ k. take p old ++ k) (sym (append_assoc part others behind))
       ∙ ap (λ k. take p old ++ (k ++ behind)) (sym e) ∙ h)
 
-  pub moved_all : (whole : List Bool) →
-      take p old ++ (step_all (more t ts) enter (drop p ms) a b ++ drop (p + position_count_of (more t ts)) ms) ≡ whole →
-      take next new ++ (step_all ts (accepts t enter (drop p ms) a) (drop next ms) a b ++ drop (next + position_count_of ts) ms) ≡ whole
-  moved_all whole h =
+  pub all_entered : (whole : List Bool) →
+      take p old ++ (entered_all (more t ts) enter (drop p ms) a ++ drop (p + position_count_of (more t ts)) first) ≡ whole →
+      take next new ++ (entered_all ts (accepts t enter (drop p ms) a) (drop next ms) a ++ drop (next + position_count_of ts) first) ≡ whole
+  all_entered whole h =
       let far : next + position_count_of ts ≡ p + position_count_of (more t ts) = omega arith in
       rw (next_drop t ts ms a p next is, far)
-      (moved_positions (step_all (more t ts) enter (drop p ms) a b) _ _ whole (step_cat t ts enter (drop p ms) a b) h)
+      (entered_parts (entered_all (more t ts) enter (drop p ms) a) _ _ whole (entered_cat t ts enter (drop p ms) a) h)
 
-  pub moved_each : (whole : List Bool) →
-      take p old ++ (step_each (more t ts) enter (drop p ms) a b ++ drop (p + position_count_of (more t ts)) ms) ≡ whole →
-      take next new ++ (step_each ts enter (drop next ms) a b ++ drop (next + position_count_of ts) ms) ≡ whole
-  moved_each whole h =
+  pub each_entered : (whole : List Bool) →
+      take p old ++ (entered_each (more t ts) enter (drop p ms) a ++ drop (p + position_count_of (more t ts)) first) ≡ whole →
+      take next new ++ (entered_each ts enter (drop next ms) a ++ drop (next + position_count_of ts) first) ≡ whole
+  each_entered whole h =
       let far : next + position_count_of ts ≡ p + position_count_of (more t ts) = omega arith in
       rw (next_drop t ts ms a p next is, far)
-      (moved_positions (step_each (more t ts) enter (drop p ms) a b) _ _ whole (step_alt t ts enter (drop p ms) a b) h)
+      (entered_parts (entered_each (more t ts) enter (drop p ms) a) _ _ whole (entered_alt t ts enter (drop p ms) a) h)
 
--- two positions are written, one after the other
-put_both : (p : ℕ) (ms : List Bool) (x y : Bool) → p < length ms →
-    take (suc p) (take p ms ++ x ∷ drop (suc p) ms) ++ y ∷ drop (suc (suc p)) (take p ms ++ x ∷ drop (suc p) ms) ≡ take p ms ++ ((x ∷ y ∷ []) ++ drop (suc (suc p)) ms)
-put_both p [] x y lt = absurd (omega arith)
-put_both zero (m ∷ ms) x y lt = refl
-put_both (suc p) (m ∷ ms) x y lt = ap (λ rest. m ∷ rest) (put_both p ms x y (omega arith))
-
-pub put_two : (p : ℕ) (ms : List Bool) (x y : Bool) → p + 1 < length ms →
-    take (p + 1) (take p ms ++ x ∷ drop (p + 1) ms) ++ y ∷ drop (p + 1 + 1) (take p ms ++ x ∷ drop (p + 1) ms) ≡ take p ms ++ ((x ∷ y ∷ []) ++ drop (p + 2) ms)
-put_two p ms x y lt =
+-- a run is entered at its first position, and at each other one after the position before it
+pub run_entered : (n p : ℕ) (enter : Bool) (ms old : List Bool) (a : LookAround) → 0 < n → p + n ≤ length ms → AreShifted p ms old →
+    take p old ++ enter ∷ drop (p + 1) old ≡ take p old ++ (entered (run n) enter (drop p ms) a ++ drop (p + n) old)
+run_entered zero p enter ms old a some room shifted = absurd (omega (arith, some))
+run_entered (suc n) p enter ms old a some room shifted =
+    let rest = drop p ms in
     let one : p + 1 ≡ suc p = omega arith in
-    let two : p + 1 + 1 ≡ suc (suc p) = omega arith in
-    let both : suc (suc p) ≡ p + 2 = omega arith in
-    ap (λ q. take q (take p ms ++ x ∷ drop q ms) ++ y ∷ drop (p + 1 + 1) (take p ms ++ x ∷ drop q ms)) one
-    ∙ ap (λ r. take (suc p) (take p ms ++ x ∷ drop (suc p) ms) ++ y ∷ drop r (take p ms ++ x ∷ drop (suc p) ms)) two
-    ∙ put_both p ms x y (omega arith)
-    ∙ ap (λ r. take p ms ++ ((x ∷ y ∷ []) ++ drop r ms)) both
+    let far : p + suc n ≡ suc p + n = omega arith in
+    ap (λ k. take p old ++ enter ∷ drop k old) one
+    ∙ ap (λ xs. take p old ++ enter ∷ xs) (shifted.same ∙ sym (take-append-drop n rest) ∙ ap (λ xs. take n rest ++ xs) (ap (drop n) (sym shifted.same) ∙ drop-drop n (suc p) old))
+    ∙ ap (λ xs. take p old ++ (xs ++ drop (suc p + n) old)) (sym (entered_run n enter rest a (omega (arith, length-drop p ms))))
+    ∙ ap (λ k. take p old ++ (entered (run (suc n)) enter rest a ++ drop k old)) (sym far)
+
+-- a run without positions
+pub no_run_entered : (p : ℕ) (old : List Bool) → old ≡ take p old ++ drop (p + 0) old
+no_run_entered p old =
+    let e : p ≡ p + 0 = omega arith in
+    sym (take-append-drop p old) ∙ ap (λ k. take p old ++ drop k old) e
+
+-- a run ends with its last position
+pub run_final : (n p : ℕ) (ms : List Bool) (a : LookAround) → 0 < n → get_or ms (p + n - 1) false ≡ is_final (run n) (drop p ms) a
+run_final zero p ms a some = absurd (omega (arith, some))
+run_final (suc n) p ms a some =
+    let last : p + suc n - 1 ≡ p + n = omega arith in
+    ap (λ k. get_or ms k false) last ∙ sym (get_or-drop p ms n false) ∙ sym (is_final_run n (drop p ms) a)
+
+pub run_accepts : (n p : ℕ) (enter : Bool) (ms : List Bool) (a : LookAround) → 0 < n → get_or ms (p + n - 1) false ≡ accepts (run n) enter (drop p ms) a
+run_accepts zero p enter ms a some = absurd (omega (arith, some))
+run_accepts (suc n) p enter ms a some = run_final (suc n) p ms a some ∙ sym (rw (and-false enter) (or-false (is_final (run (suc n)) (drop p ms) a)))

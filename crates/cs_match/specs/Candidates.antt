@@ -1,5 +1,5 @@
 -- Lines that contain a word of a prefilter.
-use Rattle.std.specs.Prelude.{ℕ, List, length, drop, slice_range, Option, Some, None, All}
+use Rattle.std.specs.Prelude.{ℕ, List, drop, slice_range, Option, Some, None, All}
 use Rattle.cs_prefilter.specs.declared.word.Word.{Word}
 use Rattle.cs_prefilter.specs.WordAt.{HasWord, IsInLine}
 use Rattle.cs_match.specs.declared.matcher.Line.{Line}

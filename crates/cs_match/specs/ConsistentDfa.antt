@@ -1,9 +1,10 @@
 -- The invariant of the lazy DFA.
-use Rattle.std.specs.Prelude.{ℕ, Bool, List, ◌≡◌, length, vec_len}
+use Rattle.std.specs.Prelude.{ℕ, Bool, ◌≡◌, length}
 use Rattle.cs_syntax.specs.Matching.{Tree}
 use Rattle.cs_match.specs.declared.state.State.{State}
 use Rattle.cs_match.specs.declared.dfa.LazyDfa.{LazyDfa}
-use Rattle.cs_match.specs.Glushkov.{position_count, repeats, IsExpanded}
+use Rattle.cs_match.specs.Glushkov.{position_count, IsExpanded}
+use Rattle.cs_match.specs.Masks.{IsScratch}
 use Rattle.cs_match.specs.States.{successor, accepts_before}
 use Rattle.cs_match.specs.LazyDfa as dfa
 
@@ -17,7 +18,7 @@ pub record IsConsistent (t : LazyDfa) : Type 0 where
   pub cached : dfa.AreStates (tree_in t) t.cached.items t.used
   pub transitions : dfa.AreTransitions (tree_in t) t.cached.items t.used t.transitions.items
   pub room : length t.scratch.positions ≡ position_count (tree_in t)
-  pub loops : vec_len t.loops ≡ repeats (tree_in t)
+  pub memory : IsScratch (tree_in t) t.memory
 
 -- the state with this number
 abbrev pub state_in : LazyDfa → ℕ → State

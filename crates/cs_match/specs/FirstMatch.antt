@@ -1,8 +1,10 @@
 -- Searches for the first matching line of a text.
-use Rattle.std.specs.Prelude.{ℕ, ◌≡◌, ◌<◌, ◌∷◌, Bool, true, false, List, [], take, length, slice_range, slice_index, Option, MatchOption}
+use Rattle.std.specs.Prelude.{ℕ, ◌≡◌, ◌<◌, ◌≤◌, ◌∷◌, Bool, true, false, List, [], take, length, slice_range, slice_index, Option, MatchOption}
 use Rattle.cs_syntax.specs.Matching.{Tree, HasMatch}
 use Rattle.cs_match.specs.declared.matcher.Line.{Line}
 use Rattle.cs_match.specs.declared.state.State.{State}
+use Rattle.cs_match.specs.declared.dfa.LazyDfa.{LazyDfa}
+use Rattle.cs_match.specs.ConsistentDfa.{HasState, tree_in}
 use Rattle.cs_match.specs.Deciding.{Decides}
 use Rattle.cs_match.specs.LastPart.{last_part}
 use Rattle.cs_match.specs.Lines.{terminated_lines}
@@ -26,6 +28,12 @@ pub record AcceptsFirst (t : Tree) (text : List ℕ) (offset : ℕ) : Type 0 whe
   pub within : offset < length text
   pub scanned : AreScanned t text offset
   pub accepts : accepts_before t (state t (last_part (take offset text))) (slice_index text offset) ≡ true
+
+-- the first bytes of the text are scanned, and the state of the unfinished line has this number
+pub record HasScanned (dfa : LazyDfa) (text : List ℕ) (to number : ℕ) : Type 0 where
+  pub within : to ≤ length text
+  pub scanned : AreScanned (tree_in dfa) text to
+  pub at : HasState dfa number (state (tree_in dfa) (last_part (take to text)))
 
 -- the first matching line of the block at or after `from`
 pub record IsFirstMatch (t : Tree) (block : List ℕ) (from start end : ℕ) : Type 0 where

@@ -1,7 +1,7 @@
 -- Glushkov's position automaton. The positions of a tree are its sets, from left to right. A position set is a
 -- list with a truth value for each position: the position is in the set after a prefix of the line if a span that
--- ends there is matched with this position last. A set of characters has two: it is *taken*, as a set of bytes is,
--- or it is *begun*: it was entered where the unfinished character begins. The automaton is not built; its sets
+-- ends there is matched with this position last. A set of characters has two: it is *begun* if it was entered where
+-- the unfinished character begins, and it is *taken* as a set of bytes is. The automaton is not built; its sets
 -- nullable, last and follow are computed from the tree at each byte. The tree is expanded (`IsExpanded`): every
 -- repeat is a loop of at least 0 or 1 iterations.
 use Rattle.std.specs.Prelude.{ℕ, zero, suc, ◌≡◌, ◌+◌, Bool, true, false, ◌&&◌, ◌||◌, not, List, [], ◌∷◌, ◌++◌, take, drop, length, replicate, nat_eq, ◌≤◌, slice_index, slice_index_or, None, if◌then◌else◌}
@@ -87,7 +87,7 @@ abbrev mutual
   pub is_final : Tree → List Bool → LookAround → Bool
   is_final empty ms a = false
   is_final (one_of set) ms a = slice_index_or ms 0 false
-  is_final (one_char ranges) ms a = slice_index_or ms 0 false
+  is_final (one_char ranges) ms a = slice_index_or ms 1 false
   is_final (cat ts) ms a = is_final_all ts ms a
   is_final (alt ts) ms a = is_final_some ts ms a
   is_final (rep x n m) ms a = is_final x ms a
@@ -139,8 +139,8 @@ char_step_of t at b = if (look_behind t).char then char_step (cuts_of t) at b el
 -- the two positions of a set of characters after a step
 abbrev pub step_chars : List (ℕ × ℕ) → Bool → List Bool → CharStep → List Bool
 step_chars ranges enter ms char =
-    taken_after ranges enter (slice_index_or ms 1 false) char
-    ∷ begun_after enter (slice_index_or ms 1 false) char ∷ []
+    begun_after enter (slice_index_or ms 0 false) char
+    ∷ taken_after ranges enter (slice_index_or ms 0 false) char ∷ []
 
 -- the position set after a byte
 abbrev mutual

@@ -1,5 +1,5 @@
 -- Position sets as bit vectors.
-use Rattle.std.specs.Prelude.{◌≡◌, ℕ, ◌+◌, ◌/◌, ◌^◌, ◌<◌, ◌≤◌, All, Bool, false, ◌&&◌, ◌||◌, List, [], ◌∷◌, length, map}
+use Rattle.std.specs.Prelude.{◌≡◌, ℕ, ◌+◌, ◌/◌, ◌^◌, ◌<◌, ◌≤◌, All, Bool, false, ◌&&◌, ◌||◌, List, [], ◌∷◌, length, map, slice_index_or}
 use Rattle.std.specs.List.{range_with_len}
 use Rattle.cs_syntax.specs.Bits.{has_bit}
 
@@ -12,6 +12,14 @@ pub record IsPositionSet (words : List ℕ) (count : ℕ) : Type 0 where
   pub enough : length words ≡ (count + 63) / 64
   pub fit : All (λ word. word < 2 ^ 64) words
   pub no_other : (at : ℕ) → count ≤ at → has_bit words at ≡ false
+
+-- position k is in the set after an input: it was entered, or the one before it was, or it was in the set, and does so
+-- over the input
+abbrev pub is_moved : List Bool → List Bool → List Bool → List Bool → List Bool → ℕ → Bool
+is_moved entries if_entered if_previous if_kept positions k =
+    ((slice_index_or entries k false && slice_index_or if_entered k false)
+    || (slice_index_or (false ∷ entries) k false && slice_index_or if_previous k false))
+    || (slice_index_or positions k false && slice_index_or if_kept k false)
 
 -- A Shift-And step: each position moves to the next one, first positions are added, and the positions of the
 -- mask are kept.

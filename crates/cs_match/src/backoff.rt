@@ -1,7 +1,7 @@
 // Exponential backoff for a search method that is not worth its cost here. No contract depends on it.
 
 /// The longest backoff, in calls.
-const MOST: usize = 512;
+const LONGEST: usize = 512;
 
 /// The number of calls to skip before the method is tried again: 1, 2, 4 and so on, as long as it keeps failing.
 #[derive(Clone, Copy, Drop)]
@@ -27,9 +27,9 @@ impl Backoff {
         true
     }
 
-    /// Starts a backoff, twice as long as the last one, up to `MOST`.
+    /// Starts a backoff, twice as long as the last one, up to `LONGEST`.
     pub(crate) fn begin(&mut self) {
-        self.last = self.last.saturating_mul(2).max(1).min(MOST);
+        self.last = self.last.saturating_mul(2).max(1).min(LONGEST);
         self.remaining = self.last;
     }
 

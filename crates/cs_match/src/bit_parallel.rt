@@ -1,14 +1,17 @@
 // Bit-parallel simulation of an alternation of sequences: Shift-And (Baeza-Yates, Gonnet).
 ghost use Rattle.std.specs.Prelude.{◌≡◌, IfOk, IfSome, length, true, false};
 ghost use Rattle.cs_syntax.specs.Node.{tree_of};
-ghost use Rattle.cs_match.specs.Glushkov.{position_count, repeats, accepts, step};
+ghost use Rattle.cs_match.specs.Glushkov.{position_count, accepts, step};
 ghost use Rattle.cs_match.specs.PositionSet.{shift_and, intersect};
 ghost use Rattle.cs_match.specs.BitParallel.{mask_of, IsBitParallel};
+ghost use Rattle.cs_match.specs.Masks.{IsScratch};
 
 use crate::glushkov;
+use crate::glushkov::Scratch;
 use crate::input::Input;
 use crate::look_around::LookAround;
 use crate::position_set::PositionSet;
+use crate::program::Program;
 use crate::sequences::Sequences;
 use cs_syntax::Node;
 use std::alloc::{AllocError, Global};
@@ -67,39 +70,31 @@ impl BitParallel {
 
 /// Moves the position set over a byte, and returns whether it accepts before the byte.
 pub(crate) fn step_over(
-    root: &Node,
-    bits: Option<&BitParallel>,
+    program: &Program,
     positions: &mut PositionSet,
-    loops: &mut [bool],
+    scratch: &mut Scratch,
     here: LookAround,
     input: Input,
 ) -> bool
-    requires bits { IfSome bits (λ bits. IsBitParallel (tree_of root.now) bits.now) }
-    requires one_each { length positions.old ≡ position_count (tree_of root.now) }
-    requires loops { length loops.old ≡ repeats (tree_of root.now) }
-    ensures accepting { result ≡ accepts (tree_of root.now) true positions.old here }
-    ensures positions { positions.new ≡ step (tree_of root.now) true positions.old here input }
-    ensures loops { length loops.new ≡ length loops.old }
+    requires one_each { length positions.old ≡ position_count program.now }
+    requires scratch { IsScratch program.now scratch.old }
+    ensures accepting { result ≡ accepts program.now true positions.old here }
+    ensures positions { positions.new ≡ step program.now true positions.old here input }
+    ensures scratch { IsScratch program.now scratch.new }
 {
-    match bits {
+    match program.bits() {
         Some(bits) => bits.step_over(positions, input.byte),
-        None => glushkov::step_over(root, positions, loops, here, input),
+        None => glushkov::step_over(program, positions, scratch, here, input),
     }
 }
 
 /// Whether the position set accepts here.
-pub(crate) fn is_accepting(
-    root: &Node,
-    bits: Option<&BitParallel>,
-    positions: &PositionSet,
-    here: LookAround,
-) -> bool
-    requires bits { IfSome bits (λ bits. IsBitParallel (tree_of root.now) bits.now) }
-    requires one_each { length positions.now ≡ position_count (tree_of root.now) }
-    ensures { result ≡ accepts (tree_of root.now) true positions.now here }
+pub(crate) fn is_accepting(program: &Program, positions: &PositionSet, here: LookAround) -> bool
+    requires one_each { length positions.now ≡ position_count program.now }
+    ensures { result ≡ accepts program.now true positions.now here }
 {
-    match bits {
+    match program.bits() {
         Some(bits) => positions.intersects(&bits.lasts),
-        None => glushkov::is_accepting(root, positions, here),
+        None => glushkov::is_accepting(program, positions, here),
     }
 }

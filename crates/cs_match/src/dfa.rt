@@ -3,16 +3,18 @@
 ghost use Rattle.std.specs.Prelude.{◌≡◌, ◌≢◌, ◌↔◌, ◌+◌, ◌<◌, ◌≤◌, ◌*◌, ◌/◌, ℕ, IfOk, IsTrue, MatchOption, EachIndex, length, vec_len, replicate, slice_index, slice_index_or, slice_set, true, false};
 ghost use Rattle.cs_syntax.specs.Matching.{HasMatch};
 ghost use Rattle.cs_match.specs.Automaton.{GrowsOver};
-ghost use Rattle.cs_match.specs.FirstMatch.{AcceptsFirst, AreScanned};
+ghost use Rattle.cs_match.specs.FirstMatch.{AcceptsFirst, AreScanned, HasScanned};
 ghost use Rattle.cs_match.specs.Lines.{newline};
-ghost use Rattle.cs_match.specs.Glushkov.{position_count, repeats, IsExpanded};
+ghost use Rattle.cs_match.specs.Glushkov.{position_count, IsExpanded};
+ghost use Rattle.cs_match.specs.Masks.{IsScratch};
 ghost use Rattle.cs_match.specs.States.{start, successor, accepts_before};
 ghost use Rattle.cs_match.specs.LazyDfa.{blank_transition};
 ghost use Rattle.cs_match.specs.declared.state.State.{State};
 ghost use Rattle.cs_match.specs.ConsistentDfa.{IsConsistent, HasState, LeadsIn, tree_in, state_in, accepts_from, successor_in};
 
 use crate::byte_classes::class_of;
-use crate::interleaved_scan::MATCH;
+use crate::glushkov::Scratch;
+use crate::interleaved_scan::{FIRST_SPECIAL, MATCH};
 use crate::program::Program;
 use crate::state::State;
 use cs_syntax::Unfinished;
@@ -22,7 +24,14 @@ use std::alloc::{AllocError, Global};
 /// `MATCH`.
 const UNKNOWN: u16 = 0xFF00;
 /// The size of the state cache.
-const MOST: usize = 254;
+const MOST_STATES: usize = 254;
+
+/// The end of the scanned bytes, and the number of the state there.
+#[derive(Clone, Copy)]
+struct Scanned {
+    to: usize,
+    number: u16,
+}
 
 /// The cached states and their transitions.
 #[derive(Drop)]
@@ -38,16 +47,16 @@ pub(crate) struct LazyDfa<'a> {
     pub(crate) used: usize,
     /// The state under construction.
     pub(crate) scratch: State,
-    /// Scratch memory of the traversals: a flag for each repeat.
-    pub(crate) loops: Vec<bool>,
+    /// The memory of the steps.
+    pub(crate) memory: Scratch,
 }
 
 /// A full cache of copies of the start state.
 fn start_states(alloc: Global, program: &Program) -> Result<Vec<State>, AllocError>
     ensures { IfOk result (λ cached. cached.items ≡ replicate 254 (start program.now)) }
 {
-    let mut cached = Vec::with_capacity(alloc, MOST)?;
-    for i in 0..MOST {
+    let mut cached = Vec::with_capacity(alloc, MOST_STATES)?;
+    for i in 0..MOST_STATES {
         let slot = State::new(alloc, program)?;
         cached.push(slot)?;
     }
@@ -126,18 +135,18 @@ fn step_from(
     program: &Program,
     from: &State,
     next: &mut State,
-    loops: &mut [bool],
+    memory: &mut Scratch,
     byte: u8,
 ) -> bool
     requires positions { length from.now.positions ≡ position_count program.now }
     requires room { length next.old.positions ≡ position_count program.now }
-    requires loops { length loops.old ≡ repeats program.now }
+    requires memory { IsScratch program.now memory.old }
     ensures accepting { result ≡ accepts_before program.now from.now byte }
     ensures moved { next.new ≡ successor program.now from.now byte }
-    ensures loops { length loops.new ≡ length loops.old }
+    ensures memory { IsScratch program.now memory.new }
 {
     next.copy_from(from);
-    next.step_over(program, loops, byte)
+    next.step_over(program, memory, byte)
 }
 
 impl<'a> LazyDfa<'a> {
@@ -150,7 +159,7 @@ impl<'a> LazyDfa<'a> {
         let scratch = State::new(alloc, program)?;
         let mut hashes = [0; 256];
         hashes[0] = scratch.hash();
-        let loops = vec![in alloc; false; program.repeats()]?;
+        let memory = Scratch::new(alloc, program)?;
         let transitions = blank(alloc)?;
         Ok(LazyDfa {
             program,
@@ -159,7 +168,7 @@ impl<'a> LazyDfa<'a> {
             hashes,
             used: 1,
             scratch,
-            loops,
+            memory,
         })
     }
 
@@ -191,7 +200,7 @@ impl<'a> LazyDfa<'a> {
         ensures same { tree_in self.new ≡ tree_in self.old }
         ensures states { self.new.used ≡ self.old.used }
     {
-        self.scratch.search(self.program, &mut self.loops, line)
+        self.scratch.search(self.program, &mut self.memory, line)
     }
 
     /// Whether the line has a match. If the scan reaches a newline within the line, the whole line is simulated.
@@ -226,14 +235,45 @@ impl<'a> LazyDfa<'a> {
         ensures same { tree_in self.new ≡ tree_in self.old }
         ensures states { GrowsOver (length text.now) self.old.used self.new.used }
     {
+        let mut to = 0;
         let mut number = 0;
-        for (offset, byte) in text.iter().enumerate() {
-            number = self.next(number, *byte);
-            if number == MATCH {
-                return Some(offset);
+        'scan: while to < text.len() {
+            let known = self.scan_known(text, Scanned { to, number });
+            if known.to == text.len() {
+                return None;
             }
+            number = self.next(known.number, text[known.to]);
+            if number == MATCH {
+                return Some(known.to);
+            }
+            to = known.to + 1;
         }
         None
+    }
+
+    /// Scans up to the first byte whose transition is special. The column of a byte does not depend on the state, so
+    /// that a step waits for one load alone.
+    #[inline(always)]
+    fn scan_known(&self, text: &[u8], from: Scanned) -> Scanned
+        requires right { IsConsistent self.now }
+        requires from { HasScanned self.now text.now from.to from.number }
+        ensures low { from.to ≤ result.to }
+        ensures scanned { HasScanned self.now text.now result.to result.number }
+    {
+        let transitions = &self.transitions[..];
+        let mut number = from.number;
+        for to in from.to..text.len() {
+            let column = &transitions[text[to] as usize..];
+            let next = column[number as usize];
+            if next >= FIRST_SPECIAL {
+                return Scanned { to, number };
+            }
+            number = next;
+        }
+        Scanned {
+            to: text.len(),
+            number,
+        }
     }
 
     /// Computes an unknown transition and stores it.
@@ -251,7 +291,7 @@ impl<'a> LazyDfa<'a> {
             self.program,
             &self.cached[(from >> 8) as usize],
             &mut self.scratch,
-            &mut self.loops,
+            &mut self.memory,
             byte,
         ) {
             self.put(from, byte, MATCH);
@@ -283,7 +323,7 @@ impl<'a> LazyDfa<'a> {
             self.put(from, byte, next);
             return next;
         }
-        if self.used == MOST {
+        if self.used == MOST_STATES {
             // `from` is no longer cached, so its transition is not stored.
             self.empty();
             return self.add(hash);

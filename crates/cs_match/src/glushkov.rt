@@ -1,17 +1,26 @@
-// Glushkov's position automaton, simulated on the tree itself. A step is two traversals, and each visits a node once:
-// the first, bottom-up, computes for each repeat whether its body is final; the second, top-down, moves the position
-// set over a byte. Cursors count the positions and repeats that were visited.
-ghost use Rattle.std.specs.Prelude.{◌≡◌, ℕ, ◌+◌, ◌<◌, ◌≤◌, ◌^◌, ◌&&◌, ◌||◌, length, take, drop, min, Bool, true, false, nat_eq, ◌++◌, ◌∷◌, slice_index_or, slice_set};
+// Glushkov's position automaton, simulated on the parts of a program. A step is two traversals, and each visits a part
+// once: the first, bottom-up, computes for each repeat whether its body is final; the second, top-down, finds which
+// positions are entered. Then all positions are moved over the byte at once. Cursors count the positions and repeats
+// that were visited.
+ghost use Rattle.std.specs.Prelude.{◌≡◌, ℕ, ◌+◌, ◌<◌, ◌≤◌, ◌^◌, ◌&&◌, ◌||◌, IfOk, length, take, drop, min, true, false, nat_eq, ◌++◌, slice_set};
 ghost use Rattle.std.proofs.Math.Seq.{sets};
 ghost use Rattle.cs_syntax.specs.Node.{tree_of};
 ghost use Rattle.cs_syntax.specs.NodeList.{trees_of};
 ghost use Rattle.cs_syntax.specs.Matching.{cat, alt};
-ghost use Rattle.cs_match.specs.Glushkov.{position_count, position_count_of, repeats, repeats_of, nullable, nullable_all, nullable_some, is_final, is_final_all, is_final_some, accepts, loop_ends, loop_ends_of, step, step_chars, step_all, step_each};
+ghost use Rattle.cs_match.specs.Glushkov.{position_count, position_count_of, repeats, repeats_of, nullable, nullable_all, nullable_some, is_final, is_final_all, is_final_some, accepts, loop_ends, loop_ends_of, step, IsExpanded};
+ghost use Rattle.cs_match.specs.Entered.{entered, entered_all, entered_each, AreShifted};
+ghost use Rattle.cs_match.specs.Parts.{run, shape_of, shapes_of};
+ghost use Rattle.cs_match.specs.Masks.{IsScratch};
+ghost use Rattle.cs_match.specs.declared.look_around.LookAround.{LookAround};
 
-use crate::input::{Input, is_begun, is_taken};
+use crate::input::Input;
 use crate::look_around::LookAround;
+use crate::masks::Masks;
+use crate::parts::Part;
 use crate::position_set::PositionSet;
-use cs_syntax::{CharSet, CharStep, Node};
+use crate::program::Program;
+use cs_syntax::Node;
+use std::alloc::{AllocError, Global};
 
 /// The number of positions of the tree.
 #[cycle(count)]
@@ -135,40 +144,95 @@ impl Ends {
     }
 }
 
+/// The memory of a step.
+#[derive(Drop)]
+pub(crate) struct Scratch {
+    /// A flag for each repeat.
+    pub(crate) loops: Vec<bool>,
+    /// The positions that are entered, and one more.
+    pub(crate) entries: PositionSet,
+    pub(crate) masks: Masks,
+}
+
+impl Scratch {
+    /// The memory of the steps of a program.
+    pub(crate) fn new(alloc: Global, program: &Program) -> Result<Scratch, AllocError>
+        ensures scratch { IfOk result (IsScratch program.now) }
+        ensures expanded { IsExpanded program.now }
+    {
+        Ok(Scratch {
+            loops: vec![in alloc; false; program.repeats()]?,
+            entries: PositionSet::none(alloc, program.positions().len() + 1)?,
+            masks: Masks::new(alloc, program.positions())?,
+        })
+    }
+}
+
 /// Whether the position set accepts here.
-pub(crate) fn is_accepting(root: &Node, positions: &PositionSet, here: LookAround) -> bool
-    requires { length positions.now ≡ position_count (tree_of root.now) }
-    ensures { result ≡ accepts (tree_of root.now) true positions.now here }
+pub(crate) fn is_accepting(program: &Program, positions: &PositionSet, here: LookAround) -> bool
+    requires { length positions.now ≡ position_count program.now }
+    ensures { result ≡ accepts program.now true positions.now here }
 {
     let mut cursor = START;
-    let ends = find_ends(root, positions, &mut [], here, &mut cursor);
+    let ends = find_ends(program.part(), positions, &mut [], here, &mut cursor);
     ends.accepting || ends.nullable
 }
 
 /// Moves the position set over a byte, and returns whether it accepts before the byte.
 pub(crate) fn step_over(
-    root: &Node,
+    program: &Program,
     positions: &mut PositionSet,
-    loops: &mut [bool],
+    scratch: &mut Scratch,
     here: LookAround,
     input: Input,
 ) -> bool
-    requires one_each { length positions.old ≡ position_count (tree_of root.now) }
-    requires loops { length loops.old ≡ repeats (tree_of root.now) }
-    ensures accepting { result ≡ accepts (tree_of root.now) true positions.old here }
-    ensures positions { positions.new ≡ step (tree_of root.now) true positions.old here input }
-    ensures loops { length loops.new ≡ length loops.old }
+    requires one_each { length positions.old ≡ position_count program.now }
+    requires scratch { IsScratch program.now scratch.old }
+    ensures accepting { result ≡ accepts program.now true positions.old here }
+    ensures positions { positions.new ≡ step program.now true positions.old here input }
+    ensures scratch { IsScratch program.now scratch.new }
 {
-    note_loops(root, positions, loops, here);
+    let accepting = enter(program, positions, scratch, here);
+    let slot = scratch.masks.find(program.positions(), input);
+    let mask = &scratch.masks.slots[slot];
+    positions.move_over(&scratch.entries, &mask.entered, &mask.previous, &mask.kept);
+    accepting
+}
+
+/// Finds which positions are entered, and returns whether the position set accepts.
+fn enter(
+    program: &Program,
+    positions: &PositionSet,
+    scratch: &mut Scratch,
+    here: LookAround,
+) -> bool
+    requires one_each { length positions.now ≡ position_count program.now }
+    requires scratch { IsScratch program.now scratch.old }
+    ensures accepting { result ≡ accepts program.now true positions.now here }
+    ensures entries { take (position_count program.now) scratch.new.entries
+        ≡ entered program.now true positions.now here }
+    ensures scratch { IsScratch program.now scratch.new }
+{
+    let part = program.part();
+    note_loops(part, positions, &mut scratch.loops, here);
+    scratch.entries.shift_from(positions);
     let mut cursor = START;
-    advance(root, true, positions, loops, here, input, &mut cursor)
+    advance(
+        part,
+        true,
+        positions,
+        &mut scratch.entries,
+        &scratch.loops,
+        here,
+        &mut cursor,
+    )
 }
 
 /// Stores for each repeat whether its body is final here.
-fn note_loops(root: &Node, positions: &PositionSet, loops: &mut [bool], here: LookAround)
-    requires one_each { length positions.now ≡ position_count (tree_of root.now) }
-    requires loops { length loops.old ≡ repeats (tree_of root.now) }
-    ensures { loops.new ≡ loop_ends (tree_of root.now) positions.now here }
+fn note_loops(root: &Part, positions: &PositionSet, loops: &mut [bool], here: LookAround)
+    requires one_each { length positions.now ≡ position_count (shape_of root.now) }
+    requires loops { length loops.old ≡ repeats (shape_of root.now) }
+    ensures { loops.new ≡ loop_ends (shape_of root.now) positions.now here }
 {
     if !loops.is_empty() {
         let mut cursor = START;
@@ -180,79 +244,88 @@ fn note_loops(root: &Node, positions: &PositionSet, loops: &mut [bool], here: Lo
 /// `loops` has entries.
 #[cycle(find_ends)]
 fn find_ends(
-    node: &Node,
+    part: &Part,
     positions: &PositionSet,
     loops: &mut [bool],
     here: LookAround,
     cursor: &mut Cursor,
 ) -> Ends
-    requires room { cursor.old.position + position_count (tree_of node.now) ≤ length positions.now }
+    requires room { cursor.old.position + position_count (shape_of part.now) ≤ length positions.now }
     requires within { cursor.old.repeat ≤ length loops.old }
-    ensures accepting { result.accepting ≡ is_final (tree_of node.now)
+    ensures accepting { result.accepting ≡ is_final (shape_of part.now)
         (drop cursor.old.position positions.now) here }
-    ensures nullable { result.nullable ≡ nullable (tree_of node.now) here }
+    ensures nullable { result.nullable ≡ nullable (shape_of part.now) here }
     ensures noted { loops.new ≡ sets loops.old cursor.old.repeat
-        (loop_ends (tree_of node.now) (drop cursor.old.position positions.now) here) }
+        (loop_ends (shape_of part.now) (drop cursor.old.position positions.now) here) }
     ensures position { cursor.new.position
-        ≡ cursor.old.position + position_count (tree_of node.now) }
+        ≡ cursor.old.position + position_count (shape_of part.now) }
     ensures repeat { cursor.new.repeat
-        ≡ min (length loops.old) (cursor.old.repeat + repeats (tree_of node.now)) }
+        ≡ min (length loops.old) (cursor.old.repeat + repeats (shape_of part.now)) }
 {
-    match node {
-        Node::Empty => Ends::within(true),
-        Node::Chars(_) => {
-            let accepting = next_chars(positions, cursor);
-            Ends {
-                accepting,
-                nullable: false,
-            }
-        }
-        Node::Set(_) => {
-            let accepting = next_position(positions, cursor);
-            Ends {
-                accepting,
-                nullable: false,
-            }
-        }
-        Node::Cat(parts) => find_ends_all(parts, positions, loops, here, cursor),
-        Node::Alt(parts) => find_ends_some(parts, positions, loops, here, cursor),
-        Node::Rep(x, least, _) => {
+    match part {
+        Part::Run(n) => end_run(*n, positions, cursor),
+        Part::Cat(parts) => find_ends_all(parts, positions, loops, here, cursor),
+        Part::Alt(parts) => find_ends_some(parts, positions, loops, here, cursor),
+        Part::Rep(x, least) => {
             let own = next_repeat(loops.len(), cursor);
             let ends = find_ends(x, positions, loops, here, cursor);
             note_loop(loops, own, ends.accepting);
             ends.repeated(*least)
         }
-        Node::LineStart => Ends::within(here.first),
-        Node::LineEnd => Ends::within(here.last),
-        Node::WordEdge => Ends::within(here.edge),
-        Node::NotWordEdge => Ends::within(!here.edge),
+        Part::LineStart => Ends::within(here.first),
+        Part::LineEnd => Ends::within(here.last),
+        Part::WordEdge => Ends::within(here.edge),
+        Part::NotWordEdge => Ends::within(!here.edge),
     }
 }
 
-/// Whether the next position is in the set.
-fn next_position(positions: &PositionSet, cursor: &mut Cursor) -> bool
-    requires { cursor.old.position < length positions.now }
-    ensures is { result ≡ slice_index_or positions.now cursor.old.position false }
-    ensures position { cursor.new.position ≡ cursor.old.position + 1 }
+/// The ends of a run: its last position, or the empty span if it has none.
+fn end_run(n: usize, positions: &PositionSet, cursor: &mut Cursor) -> Ends
+    requires { cursor.old.position + n ≤ length positions.now }
+    ensures accepting { (here : LookAround) → result.accepting
+        ≡ is_final (run n) (drop cursor.old.position positions.now) here }
+    ensures nullable { (here : LookAround) → result.nullable ≡ nullable (run n) here }
+    ensures position { cursor.new.position ≡ cursor.old.position + n }
     ensures repeat { cursor.new.repeat ≡ cursor.old.repeat }
 {
-    // The cursor is below the number of positions, so the sum cannot overflow.
-    prove!(cursor.position < positions.len());
-    let position = cursor.position;
-    cursor.position += 1;
-    positions.get(position)
+    if n == 0 {
+        return Ends::within(true);
+    }
+    // The run is within the set, so the sum cannot overflow.
+    prove!(n <= positions.len() - cursor.position);
+    cursor.position += n;
+    Ends {
+        accepting: positions.get(cursor.position - 1),
+        nullable: false,
+    }
 }
 
-/// Whether the next set of characters is taken. It has two positions.
-fn next_chars(positions: &PositionSet, cursor: &mut Cursor) -> bool
-    requires { cursor.old.position + 1 < length positions.now }
-    ensures is { result ≡ slice_index_or positions.now cursor.old.position false }
-    ensures position { cursor.new.position ≡ cursor.old.position + 2 }
+/// Sets or clears the first position of a run, and returns whether the run accepts. Each other position is entered if
+/// the one before it is in the set.
+fn enter_run(
+    n: usize,
+    enter: bool,
+    positions: &PositionSet,
+    entries: &mut PositionSet,
+    cursor: &mut Cursor,
+) -> bool
+    requires room { cursor.old.position + n ≤ length positions.now }
+    requires shifted { AreShifted cursor.old.position positions.now entries.old }
+    ensures accepting { (here : LookAround) → result
+        ≡ accepts (run n) enter (drop cursor.old.position positions.now) here }
+    ensures entries { (here : LookAround) → entries.new ≡ take cursor.old.position entries.old
+        ++ (entered (run n) enter (drop cursor.old.position positions.now) here
+        ++ drop (cursor.old.position + n) entries.old) }
+    ensures position { cursor.new.position ≡ cursor.old.position + n }
     ensures repeat { cursor.new.repeat ≡ cursor.old.repeat }
 {
-    let taken = next_position(positions, cursor);
-    next_position(positions, cursor);
-    taken
+    if n == 0 {
+        return enter;
+    }
+    prove!(n <= positions.len() - cursor.position);
+    entries.put(cursor.position, enter);
+    cursor.position += n;
+    positions.get(cursor.position - 1)
 }
 
 /// Moves the cursor over a repeat, and returns its index. Repeats past the end of `loops` share one index.
@@ -280,24 +353,24 @@ fn note_loop(loops: &mut [bool], index: usize, accepting: bool)
 
 #[cycle(find_ends)]
 fn find_ends_all(
-    parts: &[Node],
+    parts: &[Part],
     positions: &PositionSet,
     loops: &mut [bool],
     here: LookAround,
     cursor: &mut Cursor,
 ) -> Ends
-    requires room { cursor.old.position + position_count_of (trees_of parts.now)
+    requires room { cursor.old.position + position_count_of (shapes_of parts.now)
         ≤ length positions.now }
     requires within { cursor.old.repeat ≤ length loops.old }
     ensures accepting { result.accepting
-        ≡ is_final_all (trees_of parts.now) (drop cursor.old.position positions.now) here }
-    ensures nullable { result.nullable ≡ nullable_all (trees_of parts.now) here }
+        ≡ is_final_all (shapes_of parts.now) (drop cursor.old.position positions.now) here }
+    ensures nullable { result.nullable ≡ nullable_all (shapes_of parts.now) here }
     ensures noted { loops.new ≡ sets loops.old cursor.old.repeat
-        (loop_ends_of (trees_of parts.now) (drop cursor.old.position positions.now) here) }
+        (loop_ends_of (shapes_of parts.now) (drop cursor.old.position positions.now) here) }
     ensures position { cursor.new.position
-        ≡ cursor.old.position + position_count_of (trees_of parts.now) }
+        ≡ cursor.old.position + position_count_of (shapes_of parts.now) }
     ensures repeat { cursor.new.repeat
-        ≡ min (length loops.old) (cursor.old.repeat + repeats_of (trees_of parts.now)) }
+        ≡ min (length loops.old) (cursor.old.repeat + repeats_of (shapes_of parts.now)) }
 {
     let mut all = Ends::within(true);
     for part in parts {
@@ -309,24 +382,24 @@ fn find_ends_all(
 
 #[cycle(find_ends)]
 fn find_ends_some(
-    parts: &[Node],
+    parts: &[Part],
     positions: &PositionSet,
     loops: &mut [bool],
     here: LookAround,
     cursor: &mut Cursor,
 ) -> Ends
-    requires room { cursor.old.position + position_count_of (trees_of parts.now)
+    requires room { cursor.old.position + position_count_of (shapes_of parts.now)
         ≤ length positions.now }
     requires within { cursor.old.repeat ≤ length loops.old }
     ensures accepting { result.accepting
-        ≡ is_final_some (trees_of parts.now) (drop cursor.old.position positions.now) here }
-    ensures nullable { result.nullable ≡ nullable_some (trees_of parts.now) here }
+        ≡ is_final_some (shapes_of parts.now) (drop cursor.old.position positions.now) here }
+    ensures nullable { result.nullable ≡ nullable_some (shapes_of parts.now) here }
     ensures noted { loops.new ≡ sets loops.old cursor.old.repeat
-        (loop_ends_of (trees_of parts.now) (drop cursor.old.position positions.now) here) }
+        (loop_ends_of (shapes_of parts.now) (drop cursor.old.position positions.now) here) }
     ensures position { cursor.new.position
-        ≡ cursor.old.position + position_count_of (trees_of parts.now) }
+        ≡ cursor.old.position + position_count_of (shapes_of parts.now) }
     ensures repeat { cursor.new.repeat
-        ≡ min (length loops.old) (cursor.old.repeat + repeats_of (trees_of parts.now)) }
+        ≡ min (length loops.old) (cursor.old.repeat + repeats_of (shapes_of parts.now)) }
 {
     let mut some = Ends::within(false);
     for part in parts {
@@ -336,148 +409,108 @@ fn find_ends_some(
     some
 }
 
-/// Moves the positions of the subtree over a byte, and returns whether the subtree accepts before it. `enter` says
-/// whether the subtree can begin here.
+/// Finds which positions of the part are entered, and returns whether the part accepts. `enter` says whether the part
+/// can begin here.
 #[cycle(advance)]
+#[tactic(auto, using(crate::proofs::PartLemmas::part_rules))]
 fn advance(
-    node: &Node,
+    part: &Part,
     enter: bool,
-    positions: &mut PositionSet,
+    positions: &PositionSet,
+    entries: &mut PositionSet,
     loops: &[bool],
     here: LookAround,
-    input: Input,
     cursor: &mut Cursor,
 ) -> bool
-    requires room { cursor.old.position + position_count (tree_of node.now) ≤ length positions.old }
-    requires noted { take (repeats (tree_of node.now)) (drop cursor.old.repeat loops.now)
-        ≡ loop_ends (tree_of node.now) (drop cursor.old.position positions.old) here }
-    ensures accepting { result ≡ accepts (tree_of node.now) enter
-        (drop cursor.old.position positions.old) here }
-    ensures positions { positions.new ≡ take cursor.old.position positions.old
-        ++ (step (tree_of node.now) enter (drop cursor.old.position positions.old) here input
-        ++ drop (cursor.old.position + position_count (tree_of node.now)) positions.old) }
+    requires room { cursor.old.position + position_count (shape_of part.now) ≤ length positions.now }
+    requires shifted { AreShifted cursor.old.position positions.now entries.old }
+    requires noted { take (repeats (shape_of part.now)) (drop cursor.old.repeat loops.now)
+        ≡ loop_ends (shape_of part.now) (drop cursor.old.position positions.now) here }
+    ensures accepting { result ≡ accepts (shape_of part.now) enter
+        (drop cursor.old.position positions.now) here }
+    ensures entries { entries.new ≡ take cursor.old.position entries.old
+        ++ (entered (shape_of part.now) enter (drop cursor.old.position positions.now) here
+        ++ drop (cursor.old.position + position_count (shape_of part.now)) entries.old) }
     ensures position { cursor.new.position
-        ≡ cursor.old.position + position_count (tree_of node.now) }
-    ensures repeat { cursor.new.repeat ≡ cursor.old.repeat + repeats (tree_of node.now) }
+        ≡ cursor.old.position + position_count (shape_of part.now) }
+    ensures repeat { cursor.new.repeat ≡ cursor.old.repeat + repeats (shape_of part.now) }
 {
-    match node {
-        Node::Empty => enter,
-        Node::Set(set) => put_position(positions, enter && set.contains(input.byte), cursor),
-        Node::Cat(parts) => advance_all(parts, enter, positions, loops, here, input, cursor),
-        Node::Alt(parts) => advance_each(parts, enter, positions, loops, here, input, cursor),
-        Node::Rep(x, least, _) => {
+    match part {
+        Part::Run(n) => enter_run(*n, enter, positions, entries, cursor),
+        Part::Cat(parts) => advance_all(parts, enter, positions, entries, loops, here, cursor),
+        Part::Alt(parts) => advance_each(parts, enter, positions, entries, loops, here, cursor),
+        Part::Rep(x, least) => {
             let again = loops[cursor.repeat];
             cursor.repeat += 1;
-            let accepting = advance(x, enter || again, positions, loops, here, input, cursor);
+            let accepting = advance(x, enter || again, positions, entries, loops, here, cursor);
             accepting || (*least == 0 && enter)
         }
-        Node::Chars(set) => step_chars(set, enter, positions, input.char, cursor),
         // The operator `&` makes no branch. Each branch would have all clauses to prove.
-        Node::LineStart => enter & here.first,
-        Node::LineEnd => enter & here.last,
-        Node::WordEdge => enter & here.edge,
-        Node::NotWordEdge => enter & !here.edge,
+        Part::LineStart => enter & here.first,
+        Part::LineEnd => enter & here.last,
+        Part::WordEdge => enter & here.edge,
+        Part::NotWordEdge => enter & !here.edge,
     }
-}
-
-/// Sets or clears the next position, and returns whether it was in the set.
-fn put_position(positions: &mut PositionSet, on: bool, cursor: &mut Cursor) -> bool
-    requires { cursor.old.position < length positions.old }
-    ensures was { result ≡ slice_index_or positions.old cursor.old.position false }
-    ensures now { positions.new
-        ≡ take cursor.old.position positions.old
-        ++ on ∷ drop (cursor.old.position + 1) positions.old }
-    ensures position { cursor.new.position ≡ cursor.old.position + 1 }
-    ensures repeat { cursor.new.repeat ≡ cursor.old.repeat }
-{
-    let position = cursor.position;
-    let was = next_position(positions, cursor);
-    positions.put(position, on);
-    was
-}
-
-/// Steps a set of characters, which has the next two positions, and returns whether it was taken.
-fn step_chars(
-    set: &CharSet,
-    enter: bool,
-    positions: &mut PositionSet,
-    step: CharStep,
-    cursor: &mut Cursor,
-) -> bool
-    requires { cursor.old.position + 1 < length positions.old }
-    ensures was { result ≡ slice_index_or positions.old cursor.old.position false }
-    ensures now { positions.new
-        ≡ take cursor.old.position positions.old
-        ++ (step_chars set.now enter (drop cursor.old.position positions.old) step
-        ++ drop (cursor.old.position + 2) positions.old) }
-    ensures position { cursor.new.position ≡ cursor.old.position + 2 }
-    ensures repeat { cursor.new.repeat ≡ cursor.old.repeat }
-{
-    prove!(cursor.position < positions.len());
-    let was_begun = positions.get(cursor.position + 1);
-    let taken = is_taken(set, enter, was_begun, step);
-    let begun = is_begun(enter, was_begun, step);
-    let was_taken = put_position(positions, taken, cursor);
-    put_position(positions, begun, cursor);
-    was_taken
 }
 
 #[cycle(advance)]
 fn advance_all(
-    parts: &[Node],
+    parts: &[Part],
     enter: bool,
-    positions: &mut PositionSet,
+    positions: &PositionSet,
+    entries: &mut PositionSet,
     loops: &[bool],
     here: LookAround,
-    input: Input,
     cursor: &mut Cursor,
 ) -> bool
-    requires room { cursor.old.position + position_count_of (trees_of parts.now)
-        ≤ length positions.old }
-    requires noted { take (repeats_of (trees_of parts.now)) (drop cursor.old.repeat loops.now)
-        ≡ loop_ends_of (trees_of parts.now) (drop cursor.old.position positions.old) here }
+    requires room { cursor.old.position + position_count_of (shapes_of parts.now)
+        ≤ length positions.now }
+    requires shifted { AreShifted cursor.old.position positions.now entries.old }
+    requires noted { take (repeats_of (shapes_of parts.now)) (drop cursor.old.repeat loops.now)
+        ≡ loop_ends_of (shapes_of parts.now) (drop cursor.old.position positions.now) here }
     ensures accepting { result
-        ≡ accepts (cat (trees_of parts.now)) enter (drop cursor.old.position positions.old) here }
-    ensures positions { positions.new ≡ take cursor.old.position positions.old
-        ++ (step_all (trees_of parts.now) enter (drop cursor.old.position positions.old) here input
-        ++ drop (cursor.old.position + position_count_of (trees_of parts.now)) positions.old) }
+        ≡ accepts (cat (shapes_of parts.now)) enter (drop cursor.old.position positions.now) here }
+    ensures entries { entries.new ≡ take cursor.old.position entries.old
+        ++ (entered_all (shapes_of parts.now) enter (drop cursor.old.position positions.now) here
+        ++ drop (cursor.old.position + position_count_of (shapes_of parts.now)) entries.old) }
     ensures position { cursor.new.position
-        ≡ cursor.old.position + position_count_of (trees_of parts.now) }
-    ensures repeat { cursor.new.repeat ≡ cursor.old.repeat + repeats_of (trees_of parts.now) }
+        ≡ cursor.old.position + position_count_of (shapes_of parts.now) }
+    ensures repeat { cursor.new.repeat ≡ cursor.old.repeat + repeats_of (shapes_of parts.now) }
 {
     let mut accepting = enter;
     for part in parts {
-        accepting = advance(part, accepting, positions, loops, here, input, cursor);
+        accepting = advance(part, accepting, positions, entries, loops, here, cursor);
     }
     accepting
 }
 
 #[cycle(advance)]
 fn advance_each(
-    parts: &[Node],
+    parts: &[Part],
     enter: bool,
-    positions: &mut PositionSet,
+    positions: &PositionSet,
+    entries: &mut PositionSet,
     loops: &[bool],
     here: LookAround,
-    input: Input,
     cursor: &mut Cursor,
 ) -> bool
-    requires room { cursor.old.position + position_count_of (trees_of parts.now)
-        ≤ length positions.old }
-    requires noted { take (repeats_of (trees_of parts.now)) (drop cursor.old.repeat loops.now)
-        ≡ loop_ends_of (trees_of parts.now) (drop cursor.old.position positions.old) here }
+    requires room { cursor.old.position + position_count_of (shapes_of parts.now)
+        ≤ length positions.now }
+    requires shifted { AreShifted cursor.old.position positions.now entries.old }
+    requires noted { take (repeats_of (shapes_of parts.now)) (drop cursor.old.repeat loops.now)
+        ≡ loop_ends_of (shapes_of parts.now) (drop cursor.old.position positions.now) here }
     ensures accepting { result
-        ≡ accepts (alt (trees_of parts.now)) enter (drop cursor.old.position positions.old) here }
-    ensures positions { positions.new ≡ take cursor.old.position positions.old
-        ++ (step_each (trees_of parts.now) enter (drop cursor.old.position positions.old) here input
-        ++ drop (cursor.old.position + position_count_of (trees_of parts.now)) positions.old) }
+        ≡ accepts (alt (shapes_of parts.now)) enter (drop cursor.old.position positions.now) here }
+    ensures entries { entries.new ≡ take cursor.old.position entries.old
+        ++ (entered_each (shapes_of parts.now) enter (drop cursor.old.position positions.now) here
+        ++ drop (cursor.old.position + position_count_of (shapes_of parts.now)) entries.old) }
     ensures position { cursor.new.position
-        ≡ cursor.old.position + position_count_of (trees_of parts.now) }
-    ensures repeat { cursor.new.repeat ≡ cursor.old.repeat + repeats_of (trees_of parts.now) }
+        ≡ cursor.old.position + position_count_of (shapes_of parts.now) }
+    ensures repeat { cursor.new.repeat ≡ cursor.old.repeat + repeats_of (shapes_of parts.now) }
 {
     let mut out = false;
     for part in parts {
-        let accepting = advance(part, enter, positions, loops, here, input, cursor);
+        let accepting = advance(part, enter, positions, entries, loops, here, cursor);
         out |= accepting;
     }
     out

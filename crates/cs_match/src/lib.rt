@@ -2,15 +2,14 @@
 //! line or over many lines at once. What a tree matches is defined in `specs/Matching.antt` of `cs_syntax`. Read
 //! `specs/Deciding.antt` first, then `specs/Lines.antt`, `specs/Skipping.antt`, `specs/Automaton.antt` (what
 //! contracts see of a matcher) and `specs/Size.antt`. The internals are defined in `specs/Glushkov.antt`,
-//! `specs/LookBehind.antt`, `specs/States.antt`, `specs/ByteClasses.antt`, `specs/LazyDfa.antt`,
-//! `specs/FirstMatch.antt`, `specs/BitParallel.antt`, `specs/Scan.antt`, `specs/Counting.antt` and
-//! `specs/Expansion.antt`.
+//! `specs/Entered.antt`, `specs/Parts.antt`, `specs/Masks.antt`, `specs/LookBehind.antt`, `specs/States.antt`,
+//! `specs/ByteClasses.antt`, `specs/LazyDfa.antt`, `specs/FirstMatch.antt`, `specs/BitParallel.antt`, `specs/Scan.antt`
+//! and `specs/Expansion.antt`.
 #![tactic(auto)]
 
 mod backoff;
 mod bit_parallel;
 mod byte_classes;
-mod counting;
 mod dfa;
 mod expand;
 mod glushkov;
@@ -18,13 +17,17 @@ mod input;
 mod interleaved_scan;
 pub mod laws;
 mod look_around;
+mod masks;
 mod matcher;
 mod pacing;
+mod parts;
+mod position;
 mod position_set;
 mod program;
 mod sequences;
 mod skipping;
 mod state;
 
-pub use matcher::{Line, Matcher};
+pub use matcher::{Cache, Line, Matcher};
 pub use program::Program;
+pub use skipping::whole_lines_len;

@@ -7,14 +7,15 @@ ghost use Rattle.cs_match.specs.FirstMatch.{IsFirstMatch, IsSearched};
 ghost use Rattle.cs_match.specs.Lines.{terminated_lines};
 ghost use Rattle.cs_match.specs.Skipped.{AreSkipped};
 ghost use Rattle.cs_match.specs.Skipping.{AreWholeLines, IsLineAfter, NoneMatch};
-ghost use Rattle.cs_match.specs.Counting.{CountsMatchingLines};
 
-use crate::counting::count_batch;
+mod cache;
+
 use crate::dfa::LazyDfa;
 use crate::interleaved_scan::{cut, line_end, skip_interleaved};
 use crate::pacing::{Method, Pacing};
 use crate::program::Program;
 use crate::skipping::{next_candidate, whole_lines_len};
+pub use cache::Cache;
 use cs_prefilter::Prefilter;
 use std::alloc::{AllocError, Global};
 use std::marker::Model;
@@ -40,13 +41,6 @@ pub struct Matcher<'a> {
 pub(crate) struct Searched {
     to: usize,
     line: Option<Line>,
-}
-
-/// The end of some counted lines, and how many of them match.
-#[derive(Clone, Copy)]
-pub(crate) struct CountedLines {
-    to: usize,
-    matching_lines: u64,
 }
 
 impl<'a> Model for Matcher<'a> {
@@ -134,95 +128,11 @@ impl<'a> Matcher<'a> {
     {
         let mut offset = 0;
         let mut matching_lines = 0u64;
-        'lines: while offset < block.len() {
-            let counted = self.count_some(block, offset);
-            offset = counted.to;
-            matching_lines += counted.matching_lines;
+        'lines: while let Some(line) = self.next_match(block, offset) {
+            offset = line.end + 1;
+            matching_lines += 1;
         }
         matching_lines
-    }
-
-    /// Counts some lines by the method that suits the density of matches.
-    fn count_some(&mut self, block: &[u8], from: usize) -> CountedLines
-        requires within { from < length block.now }
-        requires whole { AreWholeLines (drop from block.now) }
-        ensures counted { CountsMatchingLines (λ has_match. Decides has_match self.old.tree)
-            block.now from result.to result.matching_lines }
-        ensures moves { from < result.to }
-        ensures same { self.new.tree ≡ self.old.tree }
-    {
-        if !self.pacing.is_dense() {
-            return self.count_next(block, from);
-        }
-        let counted = self.count_batch(block, from);
-        self.note_batch(counted.to - from, counted.matching_lines);
-        counted
-    }
-
-    /// Counts the lines up to the next matching one.
-    fn count_next(&mut self, block: &[u8], from: usize) -> CountedLines
-        requires within { from < length block.now }
-        requires whole { AreWholeLines (drop from block.now) }
-        ensures counted { CountsMatchingLines (λ has_match. Decides has_match self.old.tree)
-            block.now from result.to result.matching_lines }
-        ensures moves { from < result.to }
-        ensures same { self.new.tree ≡ self.old.tree }
-    {
-        match self.next_match(block, from) {
-            Some(line) => {
-                self.note_match(line.start - from);
-                CountedLines {
-                    to: line.end + 1,
-                    matching_lines: 1,
-                }
-            }
-            None => CountedLines {
-                to: block.len(),
-                matching_lines: 0,
-            },
-        }
-    }
-
-    /// Counts a batch by the counting scan, or line by line if the scan reaches an unknown transition.
-    fn count_batch(&mut self, block: &[u8], from: usize) -> CountedLines
-        requires within { from < length block.now }
-        requires whole { AreWholeLines (drop from block.now) }
-        ensures counted { CountsMatchingLines (λ has_match. Decides has_match self.old.tree)
-            block.now from result.to result.matching_lines }
-        ensures moves { from < result.to }
-        ensures same { self.new.tree ≡ self.old.tree }
-    {
-        let batch = count_batch(&self.dfa.transitions, block, from);
-        match batch.matching_lines {
-            Some(matching_lines) => CountedLines {
-                to: batch.to,
-                matching_lines,
-            },
-            None => self.count_lines(block, from, batch.to),
-        }
-    }
-
-    /// Counts line by line, at least up to the offset `least`.
-    fn count_lines(&mut self, block: &[u8], from: usize, least: usize) -> CountedLines
-        requires low { from < least }
-        requires high { least ≤ length block.now }
-        requires whole { AreWholeLines (drop from block.now) }
-        ensures counted { CountsMatchingLines (λ has_match. Decides has_match self.old.tree)
-            block.now from result.to result.matching_lines }
-        ensures moves { from < result.to }
-        ensures same { self.new.tree ≡ self.old.tree }
-    {
-        let mut offset = from;
-        let mut matching_lines = 0u64;
-        'lines: while offset < least {
-            let end = line_end(block, offset);
-            matching_lines += u64::from(self.is_match(&block[offset..end]));
-            offset = end + 1;
-        }
-        CountedLines {
-            to: offset,
-            matching_lines,
-        }
     }
 
     /// Searches some lines, at least one, by the method that suits the text.
@@ -392,19 +302,5 @@ impl<'a> Matcher<'a> {
         };
         self.pacing
             .note_part(method, end.saturating_sub(from), found);
-    }
-
-    /// Notes how many bytes were skipped before a matching line.
-    fn note_match(&mut self, skipped: usize)
-        ensures { self.new ≡ self.old }
-    {
-        self.pacing.note_match(skipped);
-    }
-
-    /// Notes how many lines of a batch match.
-    fn note_batch(&mut self, bytes: usize, matching_lines: u64)
-        ensures { self.new ≡ self.old }
-    {
-        self.pacing.note_batch(bytes, matching_lines);
     }
 }

@@ -1,5 +1,4 @@
 // Which way of searching is tried next. No contract depends on it.
-ghost use Rattle.std.specs.Prelude.{◌<◌};
 
 use crate::backoff::Backoff;
 use crate::interleaved_scan::BATCH;
@@ -9,15 +8,6 @@ const NEAR: usize = 256;
 
 /// How many such candidates in a row are put down to chance.
 const MOST_MISSES: usize = 16;
-
-/// After this many bytes without a match the interleaved scan is tried again.
-const FAR: usize = 1024;
-
-/// Below this distance between matching lines a counting scan is faster than a prefilter.
-const DENSE: usize = 192;
-
-/// The same distance for a program without a prefilter.
-const LESS_DENSE: usize = 2048;
 
 /// A way to find the next lines to search.
 #[derive(Clone, Copy)]
@@ -40,8 +30,6 @@ pub(crate) struct Pacing {
     interleaved_backoff: Backoff,
     /// How many near candidates in a row had no match.
     misses: usize,
-    /// How many matching lines in a row were close to the one before.
-    dense: usize,
 }
 
 impl Pacing {
@@ -51,7 +39,6 @@ impl Pacing {
             prefilter_backoff: Backoff::new(),
             interleaved_backoff: Backoff::new(),
             misses: 0,
-            dense: 0,
         }
     }
 
@@ -83,7 +70,7 @@ impl Pacing {
             }
             Method::Line => {}
             Method::Single => {
-                if without_match >= FAR {
+                if without_match >= BATCH {
                     self.interleaved_backoff.end();
                 }
             }
@@ -100,38 +87,6 @@ impl Pacing {
             if self.misses > MOST_MISSES {
                 self.prefilter_backoff.begin();
             }
-        }
-    }
-
-    /// Whether matching lines are so close to one another that the counting scan pays.
-    pub(crate) fn is_dense(&self) -> bool {
-        self.dense > MOST_MISSES
-    }
-
-    /// Notes how many bytes were skipped before a matching line.
-    pub(crate) fn note_match(&mut self, skipped: usize) {
-        self.dense = if skipped < self.spacing() {
-            self.dense.saturating_add(1)
-        } else {
-            0
-        };
-    }
-
-    /// Notes how many lines of a batch match. After a sparse batch the next close match resumes the counting scan.
-    pub(crate) fn note_batch(&mut self, bytes: usize, matching_lines: u64) {
-        if (bytes / self.spacing()) as u64 > matching_lines {
-            self.dense = MOST_MISSES;
-        }
-    }
-
-    /// The largest distance between matching lines at which the counting scan pays.
-    fn spacing(&self) -> usize
-        ensures { 0 < result }
-    {
-        if self.has_prefilter {
-            DENSE
-        } else {
-            LESS_DENSE
         }
     }
 }

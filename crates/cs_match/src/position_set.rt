@@ -1,7 +1,7 @@
 // Sets of Glushkov positions as bit vectors.
 ghost use Rattle.std.specs.Prelude.{◌≡◌, ◌≢◌, ◌↔◌, ℕ, ◌+◌, ◌<◌, ◌∷◌, ◌++◌, ◌==◌, false, IsTrue, IfOk, length, take, drop, replicate, slice_index_or};
 ghost use Rattle.std.specs.Int.{bit_at};
-ghost use Rattle.cs_match.specs.PositionSet.{shift_and, intersect};
+ghost use Rattle.cs_match.specs.PositionSet.{shift_and, intersect, is_moved};
 
 use std::alloc::{AllocError, Global};
 use std::marker::Model;
@@ -107,6 +107,47 @@ impl PositionSet {
         }
     }
 
+    /// Makes this the set in which each position is moved to the next one. It has room for one position more.
+    pub(crate) fn shift_from(&mut self, from: &PositionSet)
+        requires { length self.old ≡ length from.now + 1 }
+        ensures { self.new ≡ false ∷ from.now }
+    {
+        let mut carried = 0;
+        for index in 0..self.words.len() {
+            let word = word_at(&from.words, index);
+            self.words[index] = word << 1 | carried;
+            carried = word >> 63;
+        }
+    }
+
+    /// Moves the set over an input: a position is in it afterwards by one of three masks, if it was entered, if the one
+    /// before it was entered, or if it was in the set.
+    pub(crate) fn move_over(
+        &mut self,
+        entries: &PositionSet,
+        if_entered: &PositionSet,
+        if_previous: &PositionSet,
+        if_kept: &PositionSet,
+    )
+        requires entries { length entries.now ≡ length self.old + 1 }
+        requires if_entered { length if_entered.now ≡ length self.old }
+        requires if_previous { length if_previous.now ≡ length self.old }
+        requires if_kept { length if_kept.now ≡ length self.old }
+        ensures length { length self.new ≡ length self.old }
+        ensures each { (k : ℕ) → k < length self.old → slice_index_or self.new k false
+            ≡ is_moved entries.now if_entered.now if_previous.now if_kept.now self.old k }
+    {
+        let mut carried = 0;
+        for index in 0..self.words.len() {
+            let entry = entries.words[index];
+            let previous = entry << 1 | carried;
+            self.words[index] = entry & if_entered.words[index]
+                | previous & if_previous.words[index]
+                | self.words[index] & if_kept.words[index];
+            carried = entry >> 63;
+        }
+    }
+
     /// Whether the sets have a position in common.
     pub(crate) fn intersects(&self, other: &PositionSet) -> bool
         requires { length other.now ≡ length self.now }
@@ -131,6 +172,13 @@ impl PositionSet {
         }
         (mixed & 0xffff_ffff) as u32
     }
+}
+
+/// The word at an index, or 0 past the end.
+fn word_at(words: &[u64], index: usize) -> u64
+    ensures { result ≡ slice_index_or words.now index 0 }
+{
+    if index < words.len() { words[index] } else { 0 }
 }
 
 /// The word with the bit at `index` set or cleared.

@@ -7,6 +7,8 @@ ghost use Rattle.cs_prefilter.specs.WordAt.{IsPrefilterOf};
 ghost use Rattle.cs_match.specs.BitParallel.{IsBitParallel};
 ghost use Rattle.cs_match.specs.LookBehind.{look_behind};
 ghost use Rattle.cs_match.specs.ByteClasses.{AreClasses};
+ghost use Rattle.cs_match.specs.Parts.{HaveSameShape, shape_of};
+ghost use Rattle.cs_match.specs.Entered.{position_list};
 ghost use Rattle.cs_match.specs.Size.{FitsWeight};
 
 use crate::bit_parallel::{BitParallel, bit_parallel_of};
@@ -14,6 +16,8 @@ use crate::byte_classes::byte_classes;
 use crate::expand::expand;
 use crate::glushkov::{count, count_repeats};
 use crate::look_around::{LookBehind, look_behind};
+use crate::parts::{Part, part_of};
+use crate::position::{Position, add_positions};
 use cs_prefilter::Prefilter;
 use cs_syntax::{CharStep, Cuts, Node, Pattern, Unfinished};
 use std::alloc::{AllocError, Global};
@@ -24,6 +28,10 @@ use std::marker::Model;
 pub struct Program {
     /// The expanded tree.
     root: Node,
+    /// The tree without its sets.
+    part: Part,
+    /// The positions of the tree.
+    positions: Vec<Position>,
     /// The number of positions.
     count: usize,
     /// The number of repeats.
@@ -41,7 +49,7 @@ pub struct Program {
 }
 
 impl Model for Program {
-    ghost use Rattle.std.specs.Prelude.{IfSome};
+    ghost use Rattle.std.specs.Prelude.{◌≡◌, IfSome};
     ghost use Rattle.cs_syntax.specs.Matching.{Tree};
     ghost use Rattle.cs_syntax.specs.TreeCode.{tree_code};
 
@@ -55,12 +63,16 @@ impl Model for Program {
     ghost use Rattle.cs_syntax.specs.Cuts.{AreCutsOf};
     ghost use Rattle.cs_prefilter.specs.WordAt.{IsPrefilterOf};
     ghost use Rattle.cs_match.specs.BitParallel.{IsBitParallel};
+    ghost use Rattle.cs_match.specs.Parts.{HaveSameShape, shape_of};
+    ghost use Rattle.cs_match.specs.Entered.{position_list};
 
     ghost view = { λ program. tree_of program.root };
 
     ghost invariant = { λ program. IsProgram (tree_of program.root) program.count program.repeats program.look_behind
         × IfSome program.prefilter (IsPrefilterOf (tree_of program.root))
         × IfSome program.bits (IsBitParallel (tree_of program.root))
+        × HaveSameShape (tree_of program.root) (shape_of program.part)
+        × (program.positions.items ≡ position_list (tree_of program.root))
         × AreClasses (tree_of program.root) program.byte_classes
         × AreCutsOf (tree_of program.root) program.cuts };
 }
@@ -80,8 +92,13 @@ impl Program {
         let cuts = Cuts::of_tree(alloc, &root)?;
         let prefilter = Prefilter::of(alloc, &root)?;
         let bits = bit_parallel_of(alloc, &root, count)?;
+        let part = part_of(alloc, &root)?;
+        let mut positions = Vec::new(alloc);
+        add_positions(alloc, &root, &mut positions)?;
         Ok(Program {
             root,
+            part,
+            positions,
             count,
             repeats,
             look_behind,
@@ -97,6 +114,20 @@ impl Program {
         ensures { tree_of result.now ≡ self.now }
     {
         &self.root
+    }
+
+    /// The tree without its sets.
+    pub(crate) fn part(&self) -> &Part
+        ensures { HaveSameShape self.now (shape_of result.now) }
+    {
+        &self.part
+    }
+
+    /// The positions of the tree.
+    pub(crate) fn positions(&self) -> &[Position]
+        ensures { result.now ≡ position_list self.now }
+    {
+        &self.positions
     }
 
     /// The number of positions of the tree.

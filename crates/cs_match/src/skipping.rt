@@ -27,7 +27,7 @@ pub(crate) fn next_candidate(prefilter: &Prefilter, block: &[u8], from: usize) -
 }
 
 /// The length of the terminated lines of the text.
-pub(crate) fn whole_lines_len(text: &[u8]) -> usize
+pub fn whole_lines_len(text: &[u8]) -> usize
     ensures within { result ≤ length text.now }
     ensures whole { AreWholeLines (take result text.now) }
     ensures rest { HasNoNewline (drop result text.now) }

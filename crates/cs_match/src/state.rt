@@ -2,10 +2,12 @@
 ghost use Rattle.std.specs.Prelude.{◌≡◌, ◌↔◌, IfOk, IsTrue, length, true, false};
 ghost use Rattle.std.specs.Bool.{xor};
 ghost use Rattle.cs_syntax.specs.Matching.{HasMatch};
-ghost use Rattle.cs_match.specs.Glushkov.{position_count, repeats, accepts, IsExpanded};
+ghost use Rattle.cs_match.specs.Glushkov.{position_count, accepts, IsExpanded};
+ghost use Rattle.cs_match.specs.Masks.{IsScratch};
 ghost use Rattle.cs_match.specs.States.{start, ahead, look_at_end, next_state, successor, accepts_before};
 
 use crate::bit_parallel::{is_accepting, step_over};
+use crate::glushkov::Scratch;
 use crate::input::Input;
 use crate::look_around::LookAround;
 use crate::position_set::PositionSet;
@@ -84,17 +86,17 @@ impl State {
     }
 
     /// Whether the line has a match, simulated byte by byte.
-    pub(crate) fn search(&mut self, program: &Program, loops: &mut [bool], line: &[u8]) -> bool
+    pub(crate) fn search(&mut self, program: &Program, scratch: &mut Scratch, line: &[u8]) -> bool
         requires one_each { length self.old.positions ≡ position_count program.now }
-        requires loops { length loops.old ≡ repeats program.now }
+        requires scratch { IsScratch program.now scratch.old }
         requires expanded { IsExpanded program.now }
         ensures found { IsTrue result ↔ HasMatch program.now line.now }
         ensures one_each { length self.new.positions ≡ position_count program.now }
-        ensures loops { length loops.new ≡ length loops.old }
+        ensures scratch { IsScratch program.now scratch.new }
     {
         self.begin(program);
         for b in line {
-            if self.step_in_line(program, loops, *b) {
+            if self.step_in_line(program, scratch, *b) {
                 return true;
             }
         }
@@ -102,28 +104,28 @@ impl State {
     }
 
     /// Moves over a byte, and returns whether the state accepts before it. A newline is the end of the line.
-    pub(crate) fn step_over(&mut self, program: &Program, loops: &mut [bool], byte: u8) -> bool
+    pub(crate) fn step_over(&mut self, program: &Program, scratch: &mut Scratch, byte: u8) -> bool
         requires one_each { length self.old.positions ≡ position_count program.now }
-        requires loops { length loops.old ≡ repeats program.now }
+        requires scratch { IsScratch program.now scratch.old }
         ensures accepting { result ≡ accepts_before program.now self.old byte }
         ensures moved { self.new ≡ successor program.now self.old byte }
-        ensures loops { length loops.new ≡ length loops.old }
+        ensures scratch { IsScratch program.now scratch.new }
     {
         if byte == b'\n' {
             self.end(program)
         } else {
-            self.step_in_line(program, loops, byte)
+            self.step_in_line(program, scratch, byte)
         }
     }
 
     /// Moves over a byte of the line, and returns whether the state accepts before it.
-    fn step_in_line(&mut self, program: &Program, loops: &mut [bool], byte: u8) -> bool
+    fn step_in_line(&mut self, program: &Program, scratch: &mut Scratch, byte: u8) -> bool
         requires one_each { length self.old.positions ≡ position_count program.now }
-        requires loops { length loops.old ≡ repeats program.now }
+        requires scratch { IsScratch program.now scratch.old }
         ensures accepting { result
             ≡ accepts program.now true self.old.positions (ahead program.now self.old byte) }
         ensures moved { self.new ≡ next_state program.now self.old byte }
-        ensures loops { length loops.new ≡ length loops.old }
+        ensures scratch { IsScratch program.now scratch.new }
     {
         let bits = program.look_behind();
         let is_word = bits.is_word(byte);
@@ -134,15 +136,7 @@ impl State {
         };
         let char = program.char_step(self.unfinished, byte);
         let input = Input { byte, char };
-        let root = program.root();
-        let accepting = step_over(
-            root,
-            program.bits(),
-            &mut self.positions,
-            loops,
-            here,
-            input,
-        );
+        let accepting = step_over(program, &mut self.positions, scratch, here, input);
         self.first = false;
         self.word = is_word;
         self.unfinished = char.unfinished();
@@ -161,7 +155,7 @@ impl State {
             last: true,
             edge: self.word,
         };
-        let accepting = is_accepting(program.root(), program.bits(), &self.positions, here);
+        let accepting = is_accepting(program, &self.positions, here);
         self.begin(program);
         accepting
     }

@@ -10,12 +10,17 @@ use Rattle.cs_index.proofs.postings.EncodedRuns.{onward_last}
 use Rattle.cs_trigram.specs.Trigram.{has}
 use Rattle.cs_index.specs.Written.{ids_of, with_id, Written, AllBelow, last_ids, with_written_id, with_last_id, with_last_ids}
 use Rattle.cs_index.specs.AscendingIds.{next_after, AscendWithin, ids_onward}
-use Rattle.cs_index.specs.Segments.{list_of}
+use Rattle.cs_index.specs.Gathering.{list_of}
 use Rattle.cs_merge.specs.ListMerge.{lower_of, without_number, IsRunOfEither, of_older, of_newer, IsMergedList}
 use Rattle.cs_merge.proofs.TrigramSetLemmas.{with_one_more, ids_of_more}
 use Rattle.cs_index.proofs.postings.StreamPush.{next_append}
-use Rattle.cs_index.proofs.writer.SegmentMerge.{rise_behind}
 use Rattle.std.proofs.Math.Bool.{or-true}
+
+-- what follows ascending ids begins after them
+rise_behind : (name_count next : ℕ) (xs ys : List ℕ) → AscendWithin name_count next (xs ++ ys) →
+    AscendWithin name_count (next_after next xs) ys
+rise_behind name_count next [] ys up = up
+rise_behind name_count next (x ∷ xs) ys up = rise_behind name_count (x + 1) xs ys up.2
 
 -- ---- the lower of two first ids
 

@@ -8,7 +8,7 @@ use Rattle.cs_index.specs.Encoding.{PostingList}
 use Rattle.cs_index.specs.Written.{ids_of, with_id}
 use Rattle.cs_index.specs.PostingLists.{set_at}
 use Rattle.cs_merge.specs.IdMap.{NewIds, new_id, new_ids_of, AreIdMaps, AreMappedLists}
-use Rattle.cs_index.specs.Segments.{list_of}
+use Rattle.cs_index.specs.Gathering.{list_of}
 use Rattle.cs_merge.proofs.ReadIdsLemmas.{set_push}
 use Rattle.cs_merge.proofs.IdMapLemmas.{has_mapped, has_no_mapped}
 

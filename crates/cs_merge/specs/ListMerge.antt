@@ -10,7 +10,7 @@ use Rattle.cs_index.specs.OpenedParts.{Parts, ids_read, lists_in}
 use Rattle.cs_trigram.specs.TrigramSets.{AreDistinct}
 use Rattle.cs_index.specs.PostingLists.{Ids}
 use Rattle.cs_index.specs.Postings.{nothing_read}
-use Rattle.cs_index.specs.Segments.{list_of}
+use Rattle.cs_index.specs.Gathering.{list_of}
 use Rattle.cs_merge.specs.IdMap.{NewIds, new_id, AreMappedLists, IsImageOfRun}
 
 -- the minimum of two optional numbers

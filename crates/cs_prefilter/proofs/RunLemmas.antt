@@ -14,7 +14,7 @@ use Rattle.cs_prefilter.specs.WordAt.{HasWord, AreSufficient, IsPrefilterOf}
 use Rattle.cs_prefilter.specs.Words.{HasWordOf, SetsEndAt}
 use Rattle.cs_prefilter.specs.Runs.{sets_from, current_sets, RunsFollow}
 use Rattle.cs_prefilter.specs.declared.runs.Runs.{Runs}
-use Rattle.cs_prefilter.proofs.SpanLemmas.{within, first_round, last_round, still}
+use Rattle.cs_prefilter.proofs.SpanLemmas.{within, first_round, last_round}
 
 -- words of a list, and of a list with more words
 module _ (line : List ℕ) (xs ys : List Word) where
@@ -169,9 +169,6 @@ chosen t first next last sets best f kept line i j here h =
 -- the same for an equal tree
 pub follow_same : (t u : Tree) (old new : Runs) → t ≡ u → RunsFollow (λ line i j. MatchesSpan line u i j) old new → RunsFollow (λ line i j. MatchesSpan line t i j) old new
 follow_same t u old new e f = subst (λ (v : Tree). RunsFollow (λ line i j. MatchesSpan line v i j) old new) (sym e) f
-
-pub follow_still : (node : Node) (runs : Runs) → (node ≡ Empty) ⊎ ((node ≡ LineStart) ⊎ ((node ≡ LineEnd) ⊎ ((node ≡ WordEdge) ⊎ (node ≡ NotWordEdge)))) → RunsFollow (λ line i j. MatchesSpan line (tree_of node) i j) runs runs
-follow_still node runs is = follow_none _ (λ line i j h. still line node is i j h) runs
 
 -- words that every span has to contain are required
 pub required : (t : Tree) (words : Option Words) (prefilter : Option (List Word × Bool)) →

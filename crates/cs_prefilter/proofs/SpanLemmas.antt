@@ -49,20 +49,6 @@ module _ (s : List ℕ) where
   first_round x n m i j some (zero, le, most, chain) = absurd (omega arith)
   first_round x n m i j some (suc k, le, most, chain) = (chain.0, chain.1)
 
--- nodes that match no byte
-pub still : (s : List ℕ) (node : Node) → (node ≡ Empty) ⊎ ((node ≡ LineStart) ⊎ ((node ≡ LineEnd) ⊎ ((node ≡ WordEdge) ⊎ (node ≡ NotWordEdge)))) →
-    (i j : ℕ) → MatchesSpan s (tree_of node) i j → i ≡ j
-still s node is i j h = elim is [
-  | inl e ↦ taken empty (ap tree_of e ∙ tree_of-Empty)
-  | inr (inl e) ↦ let k = taken line_start (ap tree_of e ∙ tree_of-LineStart) in k.0 ∙ sym k.1
-  | inr (inr (inl e)) ↦ let k = taken line_end (ap tree_of e ∙ tree_of-LineEnd) in k.0 ∙ sym k.1
-  | inr (inr (inr (inl e))) ↦ let k = taken word_edge (ap tree_of e ∙ tree_of-WordEdge) in k.0
-  | inr (inr (inr (inr e))) ↦ let k = taken not_word_edge (ap tree_of e ∙ tree_of-NotWordEdge) in k.0
-]
-  where
-    taken : (t : Tree) → tree_of node ≡ t → MatchesSpan s t i j
-    taken t e = subst (λ (u : Tree). MatchesSpan s u i j) e h
-
 pub on_ok_both : {T E A B C : Type 0} (r : Result T E) → (A → B → C) → OnOk r A → OnOk r B → OnOk r C
 on_ok_both (Ok x) f a b = f a b
 on_ok_both (Err e) f a b = tt

@@ -19,8 +19,9 @@ const RARE: u64 = 1_000_000_000;
 /// Below this share trigrams are worth their search, unless there are rare pairs.
 const WORTH: u64 = 5_000_000_000;
 
-/// Below this share pairs are worth their search, unless there are trigrams.
-const MOST: u64 = 10_000_000_000;
+/// Below this share pairs are worth their search, unless there are trigrams. If each candidate is a match, they always
+/// are.
+const MOST_SHARE: u64 = 10_000_000_000;
 
 /// Words, and a search that rules out most offsets. Contracts see the words, and whether each line that contains one of
 /// them has a match.
@@ -59,7 +60,7 @@ impl Prefilter {
         Ok(Prefilter::by(root, Kind::Pairs, pairs))
     }
 
-    /// A prefilter for these words, if there are any and they are rare enough.
+    /// A prefilter for these words, if there are any, and if they are rare enough or decide whether a line matches.
     fn by(root: &Node, kind: Kind, words: Option<Words>) -> Option<Prefilter>
         ensures required { (line : List ℕ) → HasWordOf line words →
             IfSome result (λ prefilter. HasWord prefilter.0 line) }
@@ -67,11 +68,11 @@ impl Prefilter {
             prefilter.1 ≡ true → AreSufficient (tree_of root.now) prefilter.0) }
     {
         let words = words?;
-        if words.share >= MOST {
-            return None;
-        }
         let search = Search::of(kind, &words.words)?;
         let is_exact = are_sufficient(root, &words.words);
+        if words.share >= MOST_SHARE && !is_exact {
+            return None;
+        }
         Some(Prefilter {
             words: words.words,
             search,

@@ -99,7 +99,8 @@ fn rarest_trigram(run: &[ByteSet], frequencies: &[u64]) -> Option<Part> {
 /// Above this share of offsets, per 10^8, a pair is not worth its search.
 const MOST_PAIRS: u64 = 1_000_000;
 
-/// What counts as the frequency of the second set of a pair that has none: a single byte has to be rarer than a pair.
+/// What counts as the frequency of the second set of a pair that has none: a single byte has to be rarer than a pair,
+/// unless it is a run by itself.
 const NO_SECOND: u64 = 30_000;
 
 /// The indices of the rarest two sets that can be tested by a comparison, given the frequencies of the sets, if they are
@@ -107,7 +108,9 @@ const NO_SECOND: u64 = 30_000;
 pub(crate) fn rarest_pair(run: &[ByteSet], frequencies: &[u64]) -> Option<(usize, usize)> {
     let first = rarest_tested(run, frequencies, None)?;
     let second = rarest_tested(run, frequencies, Some(first)).unwrap_or(first);
-    let rest = if second == first {
+    let rest = if run.len() == 1 {
+        0
+    } else if second == first {
         NO_SECOND
     } else {
         *frequencies.get(second)?

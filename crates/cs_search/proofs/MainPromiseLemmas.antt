@@ -38,7 +38,7 @@ use Rattle.cs_index.specs.Answerable.{is_answerable}
 use Rattle.cs_index.specs.Postings.{IsListFault}
 use Rattle.cs_index.specs.declared.fault.IndexFault.{IndexFault}
 use Rattle.cs_args.specs.Faults.{index_fault}
-use Rattle.cs_search.specs.Plans.{IsPlan, AnswersQuery, RefusesPlan}
+use Rattle.cs_search.specs.Plans.{IsPlan, AreSelected, RefusesPlan}
 use Rattle.cs_search.specs.declared.plan.Plan.{Plan}
 use Rattle.cs_search.specs.Csearch.{file_text, OpensWith, IsQueryOf, IndexQuery, DecidesSearch, csearch_printed, AreAccepted, OpensWhole, PrintsCandidates}
 use Rattle.cs_search.proofs.SkippedFileLemmas.{search_alike}
@@ -63,52 +63,43 @@ module _ (job : SearchJob) (index : Option (List ℕ)) (has_match keeps : List �
       search_alike job.style has_match keeps tree query tests.pattern (loses job.brute tests.pattern query (index_query.is_right tests.pattern tests.reads)) tests.decides Csearch Cgrep (files_read index_query.parts) agrees
       ∙ ap (λ (names : List (List ℕ)). all_printed (file_printed max_searched Cgrep job.style has_match tree) (filter keeps names)) (names_of_files 0 index_query.parts.names (lists_in index_query.parts))
 
--- a plan, and an index that answers its query
-module _ (job : SearchJob) (index : Option (List ℕ)) (plan : Plan) (is : IsPlan job plan) (parts : Parts) (answering : AnswersQuery plan.query index parts) where
+-- a required list is damaged
+pub lists_refused : (job : SearchJob) (index : Option (List ℕ)) (plan : Plan) → IsPlan job plan → (parts : Parts) → OpensWith index parts → (fault : IndexFault) → IsListFault (is_answerable parts plan.query) fault → RefusesPlan job index (index_fault fault)
+lists_refused job index plan is parts opens fault refused =
+    lists_fourth job index plan.query fault (accepted_plan job plan is) (record { parts = parts; opens = opens; is_right = is.query }) refused
+
+-- a plan, and the candidates of its query
+module _ (job : SearchJob) (index : Option (List ℕ)) (plan : Plan) (is : IsPlan job plan) (indexed : List (List ℕ)) (ids : List ℕ) (selected : AreSelected plan.query index indexed ids) where
   abbrev index_query : IndexQuery job index plan.query
-  index_query = record { parts = answering.whole; opens = answering.opens; is_right = is.query }
+  index_query = record { parts = selected.parts; opens = selected.opens; is_right = is.query }
 
-  -- a required list is damaged
-  pub lists_refused : (fault : IndexFault) → IsListFault (is_answerable parts plan.query) fault → RefusesPlan job index (index_fault fault)
-  lists_refused fault refused =
-      lists_fourth job index plan.query fault (accepted_plan job plan is) index_query
-      (subst (λ (whole : Bool). IsListFault whole fault) answering.answers.answerable refused)
+  -- both patterns are accepted, the index opens, and the required lists are whole
+  pub ready : AreAccepted job × OpensWhole job index plan.query true
+  ready = (accepted_plan job plan is, (index_query, selected.whole))
 
-  module _ (whole : is_answerable parts plan.query ≡ true) where
-    all_whole : is_answerable answering.whole plan.query ≡ true
-    all_whole = sym answering.answers.answerable ∙ whole
+  -- what is printed for the candidates
+  module _ (tree : Option Snapshot) (Prints : Option Printed → Type 0) where
+    abbrev Chosen : (List ℕ → Bool) → (List ℕ → Bool) → List (List ℕ) → Option Printed
+    Chosen has_match keeps names = option_map (λ (s : Snapshot). all_printed (file_printed max_searched Csearch job.style has_match s) (filter keeps (names_at names ids))) tree
 
-    -- both patterns are accepted, the index opens, and the required lists are whole
-    pub ready : AreAccepted job × OpensWhole job index plan.query true
-    ready = (accepted_plan job plan is, (index_query, all_whole))
+    pub searched : ((has_match keeps : List ℕ → Bool) → Decides has_match plan.program → DecidesNames keeps plan.file → Prints (Chosen has_match keeps indexed)) → PrintsCandidates job index plan.query tree Prints
+    searched prints = (
+      index_query,
+      selected.whole,
+      λ has_match keeps decides_search.
+          let decides = decides_program (string_bytes job.pattern) job.fold plan.program decides_search.pattern has_match is.program decides_search.reads decides_search.decides in
+          let kept = names_decided (file_text job) plan.file keeps is.file decides_search.names in
+          subst Prints (ap (Chosen has_match keeps) selected.named ∙ chosen max_searched job.style has_match keeps selected.parts plan.query tree ids selected.candidates)
+          (prints has_match keeps decides kept),
+    )
 
-    module _ (ids : List ℕ) (found : ids ≡ candidates_of parts plan.query) where
-      chosen_ids : ids ≡ candidates_of answering.whole plan.query
-      chosen_ids = found ∙ answering.answers.candidates
-
-      -- what is printed for the candidates
-      module _ (tree : Option Snapshot) (Prints : Option Printed → Type 0) where
-        abbrev Chosen : (List ℕ → Bool) → (List ℕ → Bool) → List (List ℕ) → Option Printed
-        Chosen has_match keeps names = option_map (λ (s : Snapshot). all_printed (file_printed max_searched Csearch job.style has_match s) (filter keeps (names_at names ids))) tree
-
-        pub searched : ((has_match keeps : List ℕ → Bool) → Decides has_match plan.program → DecidesNames keeps plan.file → Prints (Chosen has_match keeps parts.names)) → PrintsCandidates job index plan.query tree Prints
-        searched prints = (
-          index_query,
-          all_whole,
-          λ has_match keeps decides_search.
-              let decides = decides_program (string_bytes job.pattern) job.fold plan.program decides_search.pattern has_match is.program decides_search.reads decides_search.decides in
-              let kept = names_decided (file_text job) plan.file keeps is.file decides_search.names in
-              subst Prints (ap (Chosen has_match keeps) answering.answers.names ∙ chosen max_searched job.style has_match keeps answering.whole plan.query tree ids chosen_ids)
-              (prints has_match keeps decides kept),
-        )
-
-      -- faults of candidates are faults of indexed names
-      pub faults_chosen : {A E : Type 0} (r : Result A E) (opened : Parts) (failed failed' : ℕ) (err err' : Option SinkModel) → OpensWith index opened →
-          PrintsAllFaults Csearch (names_at parts.names ids) failed failed' err err' r → PrintsAllFaults Csearch opened.names failed failed' err err' r
-      faults_chosen r opened failed failed' err err' opens faults =
-          subst (λ (p : Parts). PrintsAllFaults Csearch p.names failed failed' err err' r) (opens_once index answering.whole opened answering.opens opens)
-          (PrintsAllFaults-chosen r Csearch answering.whole plan.query ids failed failed' err err' chosen_ids
-          (subst (λ (names : List (List ℕ)). PrintsAllFaults Csearch (names_at names ids) failed failed' err err' r) answering.answers.names faults))
+  -- faults of candidates are faults of indexed names
+  pub faults_chosen : {A E : Type 0} (r : Result A E) (opened : Parts) (failed failed' : ℕ) (err err' : Option SinkModel) → OpensWith index opened →
+      PrintsAllFaults Csearch (names_at indexed ids) failed failed' err err' r → PrintsAllFaults Csearch opened.names failed failed' err err' r
+  faults_chosen r opened failed failed' err err' opens faults =
+      subst (λ (p : Parts). PrintsAllFaults Csearch p.names failed failed' err err' r) (opens_once index selected.parts opened selected.opens opens)
+      (PrintsAllFaults-chosen r Csearch selected.parts plan.query ids failed failed' err err' selected.candidates
+      (subst (λ (names : List (List ℕ)). PrintsAllFaults Csearch (names_at names ids) failed failed' err err' r) selected.named faults))
 
 module _ (job : SearchJob) (index : Option (List ℕ)) (query : Query) (tree : Option Snapshot) (Prints : Option Printed → Type 0) (by_index : PrintsCandidates job index query tree Prints) where
   -- what is printed over a tree with a snapshot

@@ -1,10 +1,11 @@
 -- The plan of a search by an index: its contents, its errors, and the index that answers its query.
-use Rattle.std.specs.Prelude.{ℕ, ◌≡◌, false, List, Option, string_bytes, Err}
+use Rattle.std.specs.Prelude.{ℕ, ◌≡◌, true, false, List, Option, string_bytes, Err}
 use Rattle.cs_syntax.specs.Matching.{Tree}
 use Rattle.cs_syntax.specs.Parsing.{ParsesAs}
 use Rattle.cs_trigram.specs.declared.queries.Query.{Query}
 use Rattle.cs_index.specs.OpenedParts.{Parts}
-use Rattle.cs_index.specs.PartialIndex.{AnswersAs}
+use Rattle.cs_index.specs.Candidates.{candidates_of}
+use Rattle.cs_index.specs.Answerable.{is_answerable}
 use Rattle.cs_args.specs.declared.jobs.SearchJob.{SearchJob}
 use Rattle.cs_args.specs.declared.fault.ToolFault.{ToolFault}
 use Rattle.cs_search.specs.declared.plan.Plan.{Plan}
@@ -27,8 +28,10 @@ RefusesPlan job index fault =
     (query : Query) × RefusedInOrder {A = Status} job index query (Err fault)
     × (has_write_failed {A = Status} (Err fault) ≡ false)
 
--- The opened index answers the query as the index in the bytes does.
-pub record AnswersQuery (query : Query) (index : Option (List ℕ)) (answering : Parts) : Type 0 where
-  pub whole : Parts
-  pub opens : OpensWith index whole
-  pub answers : AnswersAs query whole answering
+-- The ids are the candidates of the index in the bytes, which has these names, and whose required lists are whole.
+pub record AreSelected (query : Query) (index : Option (List ℕ)) (names : List (List ℕ)) (ids : List ℕ) : Type 0 where
+  pub parts : Parts
+  pub opens : OpensWith index parts
+  pub named : names ≡ parts.names
+  pub candidates : ids ≡ candidates_of parts query
+  pub whole : is_answerable parts query ≡ true

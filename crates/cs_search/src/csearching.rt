@@ -12,7 +12,7 @@ ghost use Rattle.cs_search.specs.Refusals.{has_write_failed, SilentOnError};
 ghost use Rattle.cs_search.specs.GrepFaults.{IsSearchFault};
 ghost use Rattle.cs_search.specs.Csearch.{OpensWith};
 ghost use Rattle.cs_search.specs.IndexSearch.{names_at, DecidesNames, matcher_tree, OpenRefused};
-ghost use Rattle.cs_search.specs.Plans.{IsPlan, AnswersQuery, RefusesPlan};
+ghost use Rattle.cs_search.specs.Plans.{IsPlan, AreSelected, RefusesPlan};
 ghost use Rattle.cs_search.specs.Printed.{PrintsNothing, all_printed, file_printed};
 ghost use Rattle.cs_search.specs.Searched.{IsSearch, search_outputs};
 
@@ -22,7 +22,7 @@ use crate::searcher::Searcher;
 use crate::searching::finish;
 use crate::status::Status;
 use cs_args::{SearchJob, ToolFault};
-use cs_index::Index;
+use cs_index::{Index, NameTable};
 use cs_tree::{Sink, Tree};
 use std::alloc::Global;
 
@@ -58,24 +58,25 @@ pub fn csearch<T: Tree, O: Sink, E: Sink>(
         (O.failed out.old) (O.failed out.new) (E.failed err.old) (E.failed err.new) }
     ensures keeps { T.snapshot tree.new ≡ T.snapshot tree.old }
 {
-    let (plan, index) = prepare(alloc, job, index)?;
-    search_by(alloc, job, &plan, &index, tree, out, err)
+    let (plan, names, ids) = prepare(alloc, job, index)?;
+    search_by(alloc, job, &plan, &names, &ids, tree, out, err)
 }
 
-/// The plan of the job, and the opened index.
+/// The plan of the job, the names of the index, and the ids of the candidates.
 fn prepare<'a>(
     alloc: Global,
     job: &SearchJob,
     index: Option<&'a [u8]>,
-) -> Result<(Plan, Index<'a>), ToolFault>
+) -> Result<(Plan, NameTable<'a>, Vec<u32>), ToolFault>
     ensures plan { IfOk result (λ ready. IsPlan job.now ready.0) }
-    ensures answering { IfOk result (λ ready. AnswersQuery ready.0.query
-        (option_copied index.entry) ready.1) }
+    ensures selected { IfOk result (λ ready. AreSelected ready.0.query
+        (option_copied index.entry) ready.1 ready.2.items) }
     ensures refused { IfErr result (RefusesPlan job.now (option_copied index.entry)) }
 {
     let plan = Plan::new(alloc, job)?;
     let index = open(index)?;
-    Ok((plan, index))
+    let ids = index.candidates(alloc, &plan.query)?;
+    Ok((plan, index.name_table(), ids))
 }
 
 /// Opens the index, if there is one.
@@ -90,18 +91,19 @@ fn open<'a>(index: Option<&'a [u8]>) -> Result<Index<'a>, ToolFault>
     Ok(index)
 }
 
-/// Searches by a plan of the job and an index that answers its query.
+/// Searches the candidates of a plan of the job, among the names of the index.
 pub(crate) fn search_by<T: Tree, O: Sink, E: Sink>(
     alloc: Global,
     job: &SearchJob,
     plan: &Plan,
-    index: &Index<'_>,
+    names: &NameTable<'_>,
+    ids: &[u32],
     tree: &mut T,
     out: &mut O,
     err: &mut E,
 ) -> Result<Status, ToolFault>
     requires { IsPlan job.now plan.now }
-    ensures searches { (bytes : Option (List ℕ)) → AnswersQuery plan.now.query bytes index.now →
+    ensures searches { (bytes : Option (List ℕ)) → AreSelected plan.now.query bytes names.now ids.now →
         IsSearch job.now bytes (T.snapshot tree.old) (T.failed tree.old) (T.failed tree.new)
         (search_outputs O.model E.model out.old err.old)
         (search_outputs O.model E.model out.new err.new) result }
@@ -116,8 +118,7 @@ pub(crate) fn search_by<T: Tree, O: Sink, E: Sink>(
         (O.failed out.old) (O.failed out.new) (E.failed err.old) (E.failed err.new) }
     ensures keeps { T.snapshot tree.new ≡ T.snapshot tree.old }
 {
-    let ids = index.candidates(alloc, &plan.query)?;
-    let matched = plan.search(alloc, job.style, index, &ids, tree, out, err)?;
+    let matched = plan.search(alloc, job.style, names, ids, tree, out, err)?;
     let status = finish(matched, out, err)?;
     Ok(status)
 }
@@ -126,7 +127,7 @@ pub(crate) fn search_by<T: Tree, O: Sink, E: Sink>(
 pub(crate) fn search_ids<T: Tree, O: Sink, E: Sink>(
     searcher: &mut Searcher<'_>,
     kept: &mut NameFilter<'_>,
-    index: &Index<'_>,
+    names: &NameTable<'_>,
     ids: &[u32],
     tree: &mut T,
     out: &mut O,
@@ -137,18 +138,18 @@ pub(crate) fn search_ids<T: Tree, O: Sink, E: Sink>(
         DecidesNames keeps (matcher_tree kept.old.matcher) →
         Prints (option_map (λ tree. all_printed
         (file_printed max_searched searcher.old.tool searcher.old.style has_match tree)
-        (filter keeps (names_at index.now.names ids.now))) (T.snapshot tree.old))
+        (filter keeps (names_at names.now ids.now))) (T.snapshot tree.old))
         (O.model out.old) (O.model out.new) (E.model err.old) (E.model err.new) matched) }
     ensures prefix { OnErr result ((has_match keeps : List ℕ → Bool) →
         Decides has_match searcher.old.matcher.tree →
         DecidesNames keeps (matcher_tree kept.old.matcher) →
         PrintsPrefix (option_map (λ tree. all_printed
         (file_printed max_searched searcher.old.tool searcher.old.style has_match tree)
-        (filter keeps (names_at index.now.names ids.now))) (T.snapshot tree.old))
+        (filter keeps (names_at names.now ids.now))) (T.snapshot tree.old))
         (O.model out.old) (O.model out.new) (E.model err.old) (E.model err.new)) }
     ensures reads { ReadsWithin (max_searched + 1)
         (T.read_counts tree.old) (T.read_counts tree.new) }
-    ensures faults { PrintsAllFaults searcher.old.tool (names_at index.now.names ids.now)
+    ensures faults { PrintsAllFaults searcher.old.tool (names_at names.now ids.now)
         (T.failed tree.old) (T.failed tree.new) (E.model err.old) (E.model err.new) result }
     ensures writes { CountsOne (has_write_failed result)
         (O.failed out.old) (O.failed out.new) (E.failed err.old) (E.failed err.new) }
@@ -157,7 +158,7 @@ pub(crate) fn search_ids<T: Tree, O: Sink, E: Sink>(
 {
     let mut matched = false;
     for id in ids {
-        matched |= search_id(searcher, kept, index, *id, tree, out, err)?;
+        matched |= search_id(searcher, kept, names, *id, tree, out, err)?;
     }
     Ok(matched)
 }
@@ -166,7 +167,7 @@ pub(crate) fn search_ids<T: Tree, O: Sink, E: Sink>(
 fn search_id<T: Tree, O: Sink, E: Sink>(
     searcher: &mut Searcher<'_>,
     kept: &mut NameFilter<'_>,
-    index: &Index<'_>,
+    names: &NameTable<'_>,
     id: u32,
     tree: &mut T,
     out: &mut O,
@@ -177,18 +178,18 @@ fn search_id<T: Tree, O: Sink, E: Sink>(
         DecidesNames keeps (matcher_tree kept.old.matcher) →
         Prints (option_map (λ tree. all_printed
         (file_printed max_searched searcher.old.tool searcher.old.style has_match tree)
-        (filter keeps (names_at index.now.names (id ∷ [])))) (T.snapshot tree.old))
+        (filter keeps (names_at names.now (id ∷ [])))) (T.snapshot tree.old))
         (O.model out.old) (O.model out.new) (E.model err.old) (E.model err.new) matched) }
     ensures prefix { OnErr result ((has_match keeps : List ℕ → Bool) →
         Decides has_match searcher.old.matcher.tree →
         DecidesNames keeps (matcher_tree kept.old.matcher) →
         PrintsPrefix (option_map (λ tree. all_printed
         (file_printed max_searched searcher.old.tool searcher.old.style has_match tree)
-        (filter keeps (names_at index.now.names (id ∷ [])))) (T.snapshot tree.old))
+        (filter keeps (names_at names.now (id ∷ [])))) (T.snapshot tree.old))
         (O.model out.old) (O.model out.new) (E.model err.old) (E.model err.new)) }
     ensures reads { ReadsWithin (max_searched + 1)
         (T.read_counts tree.old) (T.read_counts tree.new) }
-    ensures faults { PrintsAllFaults searcher.old.tool (names_at index.now.names (id ∷ []))
+    ensures faults { PrintsAllFaults searcher.old.tool (names_at names.now (id ∷ []))
         (T.failed tree.old) (T.failed tree.new) (E.model err.old) (E.model err.new) result }
     ensures writes { CountsOne (has_write_failed result)
         (O.failed out.old) (O.failed out.new) (E.failed err.old) (E.failed err.new) }
@@ -197,7 +198,7 @@ fn search_id<T: Tree, O: Sink, E: Sink>(
     ensures names { matcher_tree kept.new.matcher ≡ matcher_tree kept.old.matcher }
     ensures keeps { T.snapshot tree.new ≡ T.snapshot tree.old }
 {
-    let Some(name) = index.name(id) else {
+    let Some(name) = names.name(id) else {
         return Ok(false);
     };
     if !kept.keeps(name) {

@@ -17,7 +17,7 @@ use crate::csearching::search_ids;
 use crate::name_filter::{NameFilter, compile_file};
 use crate::searcher::Searcher;
 use cs_args::{SearchJob, Style, Tool, ToolFault};
-use cs_index::Index;
+use cs_index::NameTable;
 use cs_match::Program;
 use cs_syntax::{Pattern, parse};
 use cs_tree::{Sink, Tree};
@@ -50,13 +50,13 @@ impl Plan {
         })
     }
 
-    /// Searches the files with these ids in the index, if their names are kept. Returns whether some line of some
+    /// Searches the files with these ids, if their names are kept. Returns whether some line of some
     /// file matched.
     pub(crate) fn search<T: Tree, O: Sink, E: Sink>(
         &self,
         alloc: Global,
         style: Style,
-        index: &Index<'_>,
+        names: &NameTable<'_>,
         ids: &[u32],
         tree: &mut T,
         out: &mut O,
@@ -66,17 +66,17 @@ impl Plan {
             Decides has_match self.now.program → DecidesNames keeps self.now.file →
             Prints (option_map (λ tree. all_printed
             (file_printed max_searched Csearch style has_match tree)
-            (filter keeps (names_at index.now.names ids.now))) (T.snapshot tree.old))
+            (filter keeps (names_at names.now ids.now))) (T.snapshot tree.old))
             (O.model out.old) (O.model out.new) (E.model err.old) (E.model err.new) matched) }
         ensures prefix { OnErr result ((has_match keeps : List ℕ → Bool) →
             Decides has_match self.now.program → DecidesNames keeps self.now.file →
             PrintsPrefix (option_map (λ tree. all_printed
             (file_printed max_searched Csearch style has_match tree)
-            (filter keeps (names_at index.now.names ids.now))) (T.snapshot tree.old))
+            (filter keeps (names_at names.now ids.now))) (T.snapshot tree.old))
             (O.model out.old) (O.model out.new) (E.model err.old) (E.model err.new)) }
         ensures reads { ReadsWithin (max_searched + 1)
             (T.read_counts tree.old) (T.read_counts tree.new) }
-        ensures faults { PrintsAllFaults Csearch (names_at index.now.names ids.now)
+        ensures faults { PrintsAllFaults Csearch (names_at names.now ids.now)
             (T.failed tree.old) (T.failed tree.new) (E.model err.old) (E.model err.new) result }
         ensures writes { CountsOne (has_write_failed result)
             (O.failed out.old) (O.failed out.new) (E.failed err.old) (E.failed err.new) }
@@ -85,7 +85,7 @@ impl Plan {
     {
         let mut searcher = Searcher::new(alloc, Tool::Csearch, style, &self.program)?;
         let mut kept = NameFilter::new(alloc, self.file.as_ref())?;
-        let matched = search_ids(&mut searcher, &mut kept, index, ids, tree, out, err)?;
+        let matched = search_ids(&mut searcher, &mut kept, names, ids, tree, out, err)?;
         Ok(matched)
     }
 }

@@ -6,7 +6,7 @@ ghost use Rattle.cs_tree.specs.FailureCount.{count_after};
 ghost use Rattle.cs_tree.specs.Transfers.{is_io_failure};
 ghost use Rattle.cs_search.specs.Refusals.{has_write_failed, SilentOnError};
 ghost use Rattle.cs_search.specs.Csearch.{AreAccepted};
-ghost use Rattle.cs_search.specs.Plans.{IsPlan, AnswersQuery, RefusesPlan};
+ghost use Rattle.cs_search.specs.Plans.{IsPlan, AreSelected, RefusesPlan};
 ghost use Rattle.cs_search.specs.Printed.{PrintsNothing};
 ghost use Rattle.cs_search.specs.Searched.{IsSearch, search_outputs};
 ghost use Rattle.cs_search.specs.InputReport.{max_searched};
@@ -16,7 +16,7 @@ use crate::csearching::search_by;
 use crate::plan::Plan;
 use crate::status::Status;
 use cs_args::{SearchJob, ToolFault};
-use cs_index::{IndexFault, PartialIndex, StoredIndex};
+use cs_index::{IndexFault, StoredIndex};
 use cs_tree::{IoFault, Sink, Store, Tree};
 use std::alloc::Global;
 
@@ -61,27 +61,27 @@ pub fn csearch_stored<S: Store, T: Tree, O: Sink, E: Sink>(
     ensures size { S.size store.new ≡ S.size store.old }
     ensures failed { S.failed store.new ≡ count_after is_io_failure result (S.failed store.old) }
 {
-    let ready = load_lists(alloc, job, opened, store)?;
+    let ready = select(alloc, job, opened, store)?;
     match ready {
-        Ok((plan, part)) => {
-            let answer = search_by(alloc, job, &plan, &part.index(), tree, out, err);
+        Ok((plan, index, ids)) => {
+            let answer = search_by(alloc, job, &plan, &index.name_table(), &ids, tree, out, err);
             Ok(answer)
         }
         Err(fault) => Ok(Err(fault)),
     }
 }
 
-/// The plan of the job, and the part of the index that answers its query.
-fn load_lists<S: Store>(
+/// The plan of the job, the index, and the ids of the candidates.
+fn select<S: Store>(
     alloc: Global,
     job: &SearchJob,
     opened: Result<StoredIndex, IndexFault>,
     store: &mut S,
-) -> Result<Result<(Plan, PartialIndex), ToolFault>, IoFault>
+) -> Result<Result<(Plan, StoredIndex, Vec<u32>), ToolFault>, IoFault>
     requires { IsOpened (S.model store.old) opened }
     ensures plan { IfOk result (λ answer. IfOk answer (λ ready. IsPlan job.now ready.0)) }
-    ensures answering { IfRead (S.model store.old) result (λ index answer.
-        IfOk answer (λ ready. AnswersQuery ready.0.query index ready.1)) }
+    ensures selected { IfRead (S.model store.old) result (λ index answer.
+        IfOk answer (λ ready. AreSelected ready.0.query index ready.1.names ready.2.items)) }
     ensures refused { IfRead (S.model store.old) result (λ index answer.
         IfErr answer (RefusesPlan job.now index)) }
     ensures unopened { IfErr opened (λ fault. IsUnopened job.now fault result) }
@@ -99,6 +99,8 @@ fn load_lists<S: Store>(
         Ok(index) => index,
         Err(fault) => return Ok(Err(ToolFault::from(fault))),
     };
-    let part = index.load_lists(alloc, store, &plan.query)?;
-    Ok(Ok((plan, part)))
+    match index.candidates(alloc, store, &plan.query)? {
+        Ok(ids) => Ok(Ok((plan, index, ids))),
+        Err(fault) => Ok(Err(ToolFault::from(fault))),
+    }
 }

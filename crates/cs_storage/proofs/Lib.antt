@@ -1,1 +1,2 @@
+mod RightsLemmas
 mod ScheduleLemmas

@@ -1,4 +1,5 @@
 -- Definitions that public contracts cite.
+pub mod FileAfter
 pub mod Storing
 pub mod MemFolders
 pub mod Rights

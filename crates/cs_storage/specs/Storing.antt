@@ -8,7 +8,8 @@ use Rattle.std.specs.Prelude.{◌≡◌, ◌⊎◌, ℕ, Bool, true, false, List
 use Rattle.cs_tree.specs.Failures.{next_count}
 use Rattle.cs_storage.specs.declared.fault.StorageFault.{StorageFault}
 use Rattle.cs_storage.specs.declared.update.IndexUpdate.{IndexUpdate}
-use Rattle.cs_storage.specs.declared.update.IndexUpdate.TheVariants.{Keep, Write, Remove}
+use Rattle.cs_storage.specs.declared.update.IndexUpdate.TheVariants.{Keep}
+use Rattle.cs_storage.specs.FileAfter.{file_after, IsChange}
 
 -- what a crash may leave at FILE: no file, a file with exactly these bytes, or a file with any bytes
 pub data Left : Type 0 where
@@ -25,8 +26,8 @@ pub record OwnFile : Type 0 where
 pub record Folder : Type 0 where
   -- the bytes at FILE, if there is a file
   pub file : Option (List ℕ)
-  -- what stood at FILE when this run opened it
-  pub seen : Option (List ℕ)
+  -- what stood at FILE when this run opened it, or why it could not be opened; none before
+  pub seen : Option (Result (Option (List ℕ)) StorageFault)
   -- FILE~, if this run holds it
   pub own : Option OwnFile
   -- what a crash at this moment may leave at FILE
@@ -35,6 +36,8 @@ pub record Folder : Type 0 where
   pub since : List Left
   -- how often FILE~ could not be taken away
   pub stuck : ℕ
+  -- what this run replaced at FILE when it last changed FILE, if it did
+  pub replaced : Option (Option (List ℕ))
 
 -- ---- the calls of a folder
 
@@ -43,22 +46,27 @@ abbrev pub Moves : (Folder → Folder → Type 0) → Option Folder → Option F
 Moves step None new = new ≡ None
 Moves step (Some old) new = IsSomeAnd new (step old)
 
--- The call itself changes nothing. Other runs may change FILE, unless this run holds FILE~.
-pub record Keeps (old new : Folder) : Type 0 where
-  pub seen : new.seen ≡ old.seen
+-- The call changes neither FILE nor FILE~.
+pub record LeavesFiles (old new : Folder) : Type 0 where
   pub own : new.own ≡ old.own
   pub stuck : new.stuck ≡ old.stuck
+  pub replaced : new.replaced ≡ old.replaced
+
+-- The call changes nothing. Other runs may change FILE, unless this run holds FILE~.
+pub record ChangesNothing (old new : Folder) : Type 0 where
+  pub leaves : LeavesFiles old new
+  pub seen : new.seen ≡ old.seen
   pub held : IsSome old.own → new ≡ old
 
 -- the opened file, if there is one, has the bytes at FILE
-abbrev pub IsOpened : {I : Type 0} → (I → Option (List ℕ)) → Option I → Option (List ℕ) → Type 0
-IsOpened model None file = file ≡ None
-IsOpened model (Some index) file = IsSome file × (model index ≡ file)
+abbrev pub HasBytesOf : {I : Type 0} → (I → Option (List ℕ)) → Option I → Option (List ℕ) → Type 0
+HasBytesOf model None file = file ≡ None
+HasBytesOf model (Some index) file = IsSome file × (model index ≡ file)
 
--- FILE is opened, and from then on counts as seen.
+-- FILE is opened, and from then on counts as seen; or it is known why it could not be opened.
 abbrev pub Looks : {I : Type 0} → (I → Option (List ℕ)) → Result (Option I) StorageFault → Folder → Folder → Type 0
-Looks model (Ok index) old new = (new.own ≡ old.own) × (new.seen ≡ new.file) × IsOpened model index new.file
-Looks model (Err fault) old new = new.own ≡ old.own
+Looks model (Ok index) old new = LeavesFiles old new × (new.seen ≡ Some (Ok new.file)) × HasBytesOf model index new.file
+Looks model (Err fault) old new = LeavesFiles old new × (new.seen ≡ Some (Err fault))
 
 -- FILE~ is not held, or could not be taken away
 abbrev pub IsFree : Folder → Folder → Type 0
@@ -68,17 +76,17 @@ IsFree old new = (new.own ≡ None) ⊎ (new.stuck ≡ next_count old.stuck)
 abbrev pub Claims : Result (Unit {0}) StorageFault → Folder → Folder → Type 0
 Claims (Ok _) old new =
     (new.seen ≡ old.seen) × (new.own ≡ Some (record { bytes = []; synced = false })) × (new.since ≡ new.now)
-    × (new.stuck ≡ old.stuck)
-Claims (Err fault) old new = (new.seen ≡ old.seen) × IsFree old new
+    × (new.stuck ≡ old.stuck) × (new.replaced ≡ old.replaced)
+Claims (Err fault) old new = (new.seen ≡ old.seen) × (new.replaced ≡ old.replaced) × IsFree old new
 
 -- whether FILE is still what was seen
 abbrev pub Compares : Bool → Folder → Folder → Type 0
-Compares unchanged old new = Keeps old new × (IsTrue unchanged → new.file ≡ new.seen)
+Compares unchanged old new = ChangesNothing old new × (IsTrue unchanged → new.seen ≡ Some (Ok new.file))
 
 -- FILE~ gets these bytes, not yet synced; after an error it has any bytes
-abbrev pub Fills : List ℕ → Result (Unit {0}) StorageFault → Folder → Folder → Type 0
-Fills bytes (Ok _) old new = new ≡ record old { own = Some (record { bytes = bytes; synced = false }) }
-Fills bytes (Err fault) old new = (own : OwnFile) × (new ≡ record old { own = Some own })
+abbrev pub FillsOwn : List ℕ → Result (Unit {0}) StorageFault → Folder → Folder → Type 0
+FillsOwn bytes (Ok _) old new = new ≡ record old { own = Some (record { bytes = bytes; synced = false }) }
+FillsOwn bytes (Err fault) old new = (own : OwnFile) × (new ≡ record old { own = Some own })
 
 abbrev pub synced : OwnFile → OwnFile
 synced own = record own { synced = true }
@@ -88,27 +96,33 @@ Syncs (Ok _) old new = new ≡ record old { own = option_map synced old.own }
 Syncs (Err fault) old new = new ≡ old
 
 -- what a crash may leave of a file that is renamed to FILE: all its bytes if they are synced
-abbrev pub left_of : OwnFile → Left
-left_of own = if own.synced then whole own.bytes else torn
+abbrev pub left_renamed : OwnFile → Left
+left_renamed own = if own.synced then whole own.bytes else torn
 
 -- FILE~ becomes FILE, and is held no more. A crash may still undo this.
 abbrev pub Renames : Result (Unit {0}) StorageFault → Folder → Folder → Type 0
 Renames (Ok _) old new = IfSome old.own (λ own. new ≡ record old {
   file = Some own.bytes;
   own = None;
-  now = old.now ++ left_of own ∷ [];
-  since = old.since ++ left_of own ∷ [];
+  now = old.now ++ left_renamed own ∷ [];
+  since = old.since ++ left_renamed own ∷ [];
+  replaced = Some old.file;
 })
 Renames (Err fault) old new = new ≡ old
 
 -- FILE is removed, if it is there. A crash may still undo this.
 abbrev pub Removes : Result (Unit {0}) StorageFault → Folder → Folder → Type 0
-Removes (Ok _) old new = new ≡ record old { file = None; now = old.now ++ absent ∷ []; since = old.since ++ absent ∷ [] }
+Removes (Ok _) old new = new ≡ record old {
+  file = None;
+  now = old.now ++ absent ∷ [];
+  since = old.since ++ absent ∷ [];
+  replaced = Some old.file;
+}
 Removes (Err fault) old new = new ≡ old
 
 -- FILE~ is taken away, unless the system refuses
 abbrev pub Releases : Folder → Folder → Type 0
-Releases old new = MatchOption old.own (Keeps old new)
+Releases old new = MatchOption old.own (ChangesNothing old new)
     (λ _. (new ≡ record old { own = None }) ⊎ (new ≡ record old { stuck = next_count old.stuck }))
 
 -- ---- an update of the index file
@@ -120,35 +134,32 @@ IsHeld folder = IfSome folder (λ folder. IsSome folder.own)
 -- At the begin FILE~ is made, and FILE is what was seen. On error FILE~ is free.
 abbrev pub Begins : Result (Unit {0}) StorageFault → Folder → Folder → Type 0
 Begins (Ok _) old new =
-    IsSome new.own × (new.seen ≡ old.seen) × (new.file ≡ new.seen) × (new.since ≡ new.now)
-Begins (Err fault) old new = IsFree old new
-
--- the bytes at FILE after an update
-abbrev pub file_after : IndexUpdate → Option (List ℕ) → Option (List ℕ)
-file_after Keep file = file
-file_after (Write bytes) file = Some bytes.items
-file_after Remove file = None
+    IsSome new.own × (new.seen ≡ old.seen) × (new.seen ≡ Some (Ok new.file)) × (new.since ≡ new.now)
+    × (new.stuck ≡ old.stuck) × (new.replaced ≡ old.replaced)
+Begins (Err fault) old new = (new.seen ≡ old.seen) × (new.replaced ≡ old.replaced) × IsFree old new
 
 -- a file or none, whole
 abbrev pub left_whole : Option (List ℕ) → Left
 left_whole None = absent
 left_whole (Some bytes) = whole bytes
 
--- an update that changes FILE
-abbrev pub IsChange : IndexUpdate → Type 0
-IsChange Keep = ⊥
-IsChange _ = Unit {0}
-
 -- What a crash may leave has at most one outcome more: what is asked, whole.
 abbrev pub LeavesAsked : Option (List ℕ) → List Left → List Left → Type 0
 LeavesAsked file before after = (after ≡ before) ⊎ (after ≡ before ++ left_whole file ∷ [])
+
+-- what this run has replaced after an update
+abbrev pub replaced_after : IndexUpdate → Folder → Option (Option (List ℕ))
+replaced_after Keep old = old.replaced
+replaced_after _ old = Some old.file
 
 -- After an update FILE is as asked, and what it replaced is what was seen. After an error FILE is as before. A crash at
 -- any moment leaves what one before the update might have left, or what is asked, whole.
 pub record Updates (update : IndexUpdate) (result : Result (Unit {0}) StorageFault) (old new : Folder) : Type 0 where
   pub file : IfOk result (λ _. new.file ≡ file_after update old.file)
-  pub replaced : IfOk result (λ _. IsChange update → old.file ≡ old.seen)
-  pub error : IfErr result (λ _. new.file ≡ old.file)
+  pub was_seen : IfOk result (λ _. IsChange update → old.seen ≡ Some (Ok old.file))
+  pub replaced : IfOk result (λ _. new.replaced ≡ replaced_after update old)
+  pub error : IfErr result (λ _. (new.file ≡ old.file) × (new.replaced ≡ old.replaced))
+  pub seen : new.seen ≡ old.seen
   pub crash : LeavesAsked (file_after update old.file) old.since new.since
   pub later_crash : LeavesAsked (file_after update old.file) old.now new.now
   pub free : IsFree old new

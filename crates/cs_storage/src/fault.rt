@@ -1,8 +1,8 @@
 // Why the index file cannot be read or written.
-ghost use Rattle.std.specs.Prelude.{◌≡◌};
+ghost use Rattle.std.specs.Prelude.{◌≡◌, ◌≢◌};
 ghost use Rattle.cs_storage.specs.declared.fault.StorageFault.TheVariants.{Memory};
 
-use cs_tree::{IoFault, TreeFault};
+use cs_tree::TreeFault;
 use std::alloc::{AllocError, AllocFailed};
 use std::io::{self, ErrorKind};
 
@@ -11,12 +11,25 @@ use std::io::{self, ErrorKind};
 pub enum StorageFault {
     /// A call of the system failed, or another run writes the index.
     Failed,
+    /// At FILE~ there is a file that this run may not take away.
+    Leftover,
+    /// The process or the system can open no more files.
+    Descriptors,
     /// An allocation failed.
     Memory,
 }
 
+/// The error of the system if the process can open no more files (EMFILE).
+const PROCESS_DESCRIPTORS: i32 = 24;
+
+/// The error of the system if no process can open more files (ENFILE).
+const SYSTEM_DESCRIPTORS: i32 = 23;
+
 impl From<io::Error> for StorageFault {
     fn from(error: io::Error) -> StorageFault {
+        if let Some(PROCESS_DESCRIPTORS | SYSTEM_DESCRIPTORS) = error.raw_os_error() {
+            return StorageFault::Descriptors;
+        }
         match error.kind() {
             ErrorKind::OutOfMemory => StorageFault::Memory,
             _ => StorageFault::Failed,
@@ -24,17 +37,11 @@ impl From<io::Error> for StorageFault {
     }
 }
 
-impl From<IoFault> for StorageFault {
-    fn from(fault: IoFault) -> StorageFault {
-        match fault {
-            IoFault::Failed => StorageFault::Failed,
-            IoFault::Memory => StorageFault::Memory,
-        }
-    }
-}
-
 impl From<TreeFault> for StorageFault {
-    fn from(fault: TreeFault) -> StorageFault {
+    fn from(fault: TreeFault) -> StorageFault
+        ensures memory { fault ≡ TreeFault.Memory → result ≡ StorageFault.Memory }
+        ensures failed { fault ≢ TreeFault.Memory → result ≡ StorageFault.Failed }
+    {
         match fault {
             TreeFault::Memory => StorageFault::Memory,
             _ => StorageFault::Failed,

@@ -1,6 +1,6 @@
 // The index file and its surroundings.
 ghost use Rattle.std.specs.Prelude.{◌≡◌, Option, None};
-ghost use Rattle.cs_storage.specs.Storing.{Folder, Moves, Keeps, Looks, Claims, Compares, Fills, Syncs, Renames, Removes, Releases, IsHeld};
+ghost use Rattle.cs_storage.specs.Storing.{Folder, Moves, Looks, Claims, Compares, FillsOwn, Syncs, Renames, Removes, Releases, IsHeld};
 
 use crate::fault::StorageFault;
 use cs_tree::Store;
@@ -28,7 +28,7 @@ pub trait IndexFolder {
     /// Writes the bytes to FILE~.
     fn fill(&mut self, bytes: &[u8]) -> Result<(), StorageFault>
         requires { IsHeld (model self.old) }
-        ensures { Moves (Fills bytes.now result) (model self.old) (model self.new) };
+        ensures { Moves (FillsOwn bytes.now result) (model self.old) (model self.new) };
 
     /// Syncs FILE~.
     fn sync(&mut self) -> Result<(), StorageFault>

@@ -1,11 +1,11 @@
 // A folder in memory.
-ghost use Rattle.std.specs.Prelude.{◌≡◌, ◌++◌, ◌∷◌, [], ◌↔◌, Some, None, IfOk, IsSome, IsTrue, map, option_map};
-ghost use Rattle.cs_storage.specs.Storing.{Keeps, left_whole};
-ghost use Rattle.cs_storage.specs.MemFolders.{folder_view, bytes_view, left_view};
+ghost use Rattle.std.specs.Prelude.{◌≡◌, ◌++◌, ◌∷◌, [], ◌↔◌, Some, None, Ok, IfOk, IsSome, IsTrue, map, option_map};
+ghost use Rattle.cs_storage.specs.Storing.{ChangesNothing, HasBytesOf, left_whole};
+ghost use Rattle.cs_storage.specs.MemFolders.{folder_view, bytes_view, left_view, mem_bytes};
 
 use crate::fault::StorageFault;
 use crate::folder::IndexFolder;
-use crate::mem_types::{MemFile, MemFolder, MemIndex, MemLeft, MemVisit};
+use crate::mem_types::{MemFile, MemFolder, MemIndex, MemLeft, MemOpened, MemVisit};
 use std::alloc::{AllocError, Global};
 
 impl MemFolder {
@@ -15,9 +15,10 @@ impl MemFolder {
         ensures now { IfOk result (λ folder. (folder_view folder).now
             ≡ left_whole (bytes_view file) ∷ []) }
         ensures free { IfOk result (λ folder. (folder_view folder).own ≡ None) }
+        ensures fresh { IfOk result (λ folder. (folder_view folder).replaced ≡ None) }
     {
         let mut lefts = Vec::new(alloc);
-        lefts.push(left_of(alloc, &file)?)?;
+        lefts.push(left_of_file(alloc, &file)?)?;
         Ok(MemFolder {
             alloc,
             file,
@@ -27,6 +28,7 @@ impl MemFolder {
             now_at: 0,
             since_at: 0,
             stuck: 0,
+            replaced: None,
             taken: false,
             next: None,
             calls: usize::MAX,
@@ -72,14 +74,14 @@ impl MemFolder {
     pub fn let_other_run(&mut self, file: Option<Vec<u8>>) -> Result<(), AllocError>
         ensures { folder_view self.new ≡ folder_view self.old }
     {
-        let left = left_of(self.alloc, &file)?;
+        let left = left_of_file(self.alloc, &file)?;
         self.next = Some(MemVisit { file, left });
         Ok(())
     }
 
     /// Another run acts, unless FILE~ is held. After the crash, returns an error.
     fn step(&mut self) -> Result<(), StorageFault>
-        ensures { Keeps (folder_view self.old) (folder_view self.new) }
+        ensures { ChangesNothing (folder_view self.old) (folder_view self.new) }
     {
         if self.own.is_none() {
             self.be_visited()?;
@@ -91,10 +93,44 @@ impl MemFolder {
         Ok(())
     }
 
+    /// Copies FILE, for the caller and for the comparisons to come.
+    fn open(&mut self) -> Result<MemOpened, StorageFault>
+        ensures changes { ChangesNothing (folder_view self.old) (folder_view self.new) }
+        ensures seen { IfOk result
+            (λ opened. bytes_view opened.seen ≡ (folder_view self.new).file) }
+        ensures index { IfOk result (λ opened.
+            HasBytesOf mem_bytes opened.index (folder_view self.new).file) }
+    {
+        self.step()?;
+        let Some(bytes) = &self.file else {
+            return Ok(MemOpened {
+                seen: None,
+                index: None,
+            });
+        };
+        Ok(MemOpened {
+            seen: Some(bytes.to_vec(self.alloc)?),
+            index: Some(MemIndex {
+                bytes: bytes.to_vec(self.alloc)?,
+            }),
+        })
+    }
+
+    /// Whether FILE is what was opened.
+    fn is_seen(&self) -> bool
+        ensures { IsTrue result →
+            (folder_view self.now).seen ≡ Some (Ok (folder_view self.now).file) }
+    {
+        match &self.seen {
+            Some(Ok(seen)) => is_same(&self.file, seen),
+            Some(Err(_)) | None => false,
+        }
+    }
+
     /// Another run changes FILE.
     fn be_visited(&mut self) -> Result<(), AllocError>
         requires { (folder_view self.old).own ≡ None }
-        ensures { Keeps (folder_view self.old) (folder_view self.new) }
+        ensures { ChangesNothing (folder_view self.old) (folder_view self.new) }
     {
         if let Some(MemVisit { file, left }) = self.next.take() {
             self.now_at = self.lefts.len();
@@ -111,14 +147,16 @@ impl IndexFolder for MemFolder {
     ghost model = { λ m. Some (folder_view m) };
 
     fn look(&mut self) -> Result<Option<MemIndex>, StorageFault> {
-        self.step()?;
-        let Some(bytes) = &self.file else {
-            self.seen = None;
-            return Ok(None);
-        };
-        let index = bytes.to_vec(self.alloc)?;
-        self.seen = Some(bytes.to_vec(self.alloc)?);
-        Ok(Some(MemIndex { bytes: index }))
+        match self.open() {
+            Ok(opened) => {
+                self.seen = Some(Ok(opened.seen));
+                Ok(opened.index)
+            }
+            Err(fault) => {
+                self.seen = Some(Err(fault));
+                Err(fault)
+            }
+        }
     }
 
     fn claim(&mut self) -> Result<(), StorageFault> {
@@ -136,7 +174,7 @@ impl IndexFolder for MemFolder {
     }
 
     fn is_unchanged(&mut self) -> bool {
-        self.step().is_ok() && self.file == self.seen
+        self.step().is_ok() && self.is_seen()
     }
 
     fn fill(&mut self, bytes: &[u8]) -> Result<(), StorageFault> {
@@ -167,6 +205,7 @@ impl IndexFolder for MemFolder {
             MemLeft::Torn
         };
         self.lefts.push(left)?;
+        self.replaced = Some(self.file.take());
         self.file = self.own.take().map(|own| own.bytes);
         Ok(())
     }
@@ -174,7 +213,7 @@ impl IndexFolder for MemFolder {
     fn remove(&mut self) -> Result<(), StorageFault> {
         self.step()?;
         self.lefts.push(MemLeft::Absent)?;
-        self.file = None;
+        self.replaced = Some(self.file.take());
         Ok(())
     }
 
@@ -188,11 +227,18 @@ impl IndexFolder for MemFolder {
 }
 
 /// What a crash leaves of a file that is on the disk, or of none.
-fn left_of(alloc: Global, file: &Option<Vec<u8>>) -> Result<MemLeft, AllocError>
+fn left_of_file(alloc: Global, file: &Option<Vec<u8>>) -> Result<MemLeft, AllocError>
     ensures { IfOk result (λ left. left_view left ≡ left_whole (bytes_view file.now)) }
 {
     match file {
         Some(bytes) => Ok(MemLeft::Whole(bytes.to_vec(alloc)?)),
         None => Ok(MemLeft::Absent),
     }
+}
+
+/// Whether both are missing, or have the same bytes.
+fn is_same(one: &Option<Vec<u8>>, other: &Option<Vec<u8>>) -> bool
+    ensures { IsTrue result → bytes_view one.now ≡ bytes_view other.now }
+{
+    one == other
 }

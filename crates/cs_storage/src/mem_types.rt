@@ -1,6 +1,7 @@
 // The types of a folder in memory. They have a module of their own because `specs/MemFolders.antt` cites them.
 ghost use Rattle.std.specs.Prelude.{◌≤◌, vec_len};
 
+use crate::fault::StorageFault;
 use std::alloc::Global;
 
 /// An index file in memory, with FILE~ beside it. It can crash after any call, and another run can act before any call
@@ -9,7 +10,8 @@ use std::alloc::Global;
 pub struct MemFolder {
     pub(crate) alloc: Global,
     pub(crate) file: Option<Vec<u8>>,
-    pub(crate) seen: Option<Vec<u8>>,
+    /// What stood at FILE when it was opened, or why it could not be opened.
+    pub(crate) seen: Option<Result<Option<Vec<u8>>, StorageFault>>,
     pub(crate) own: Option<MemFile>,
     /// What a crash may have left at FILE, in order of time.
     pub(crate) lefts: Vec<MemLeft>,
@@ -18,6 +20,8 @@ pub struct MemFolder {
     /// Where in `lefts` the outcomes since the claim begin.
     pub(crate) since_at: usize,
     pub(crate) stuck: u64,
+    /// What this run replaced at FILE when it last changed FILE, if it did.
+    pub(crate) replaced: Option<Option<Vec<u8>>>,
     /// Whether another run holds FILE~.
     pub(crate) taken: bool,
     /// What another run does next.
@@ -26,6 +30,13 @@ pub struct MemFolder {
     pub(crate) calls: usize,
     ghost now_within: { now_at ≤ vec_len lefts },
     ghost since_within: { since_at ≤ vec_len lefts },
+}
+
+/// Two copies of FILE: what is compared later, and what the caller gets.
+#[derive(Drop)]
+pub(crate) struct MemOpened {
+    pub(crate) seen: Option<Vec<u8>>,
+    pub(crate) index: Option<MemIndex>,
 }
 
 /// FILE~, if it is held.

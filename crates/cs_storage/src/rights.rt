@@ -1,13 +1,11 @@
 // The rights to an index file that replaces another one.
-ghost use Rattle.std.specs.Prelude.{◌≡◌, ◌<◌};
-ghost use Rattle.cs_storage.specs.Rights.{owner_rights, group_rights, other_rights, common_rights};
+ghost use Rattle.std.specs.Prelude.{◌<◌};
+ghost use Rattle.cs_storage.specs.Rights.{IsKeptMode};
 
 /// The mode of a file that replaces one with this mode: its owner keeps their rights, and nobody else gets more than
 /// everybody had.
 pub fn kept_mode(mode: u32) -> u32
-    ensures owner { owner_rights result ≡ owner_rights mode }
-    ensures group { group_rights result ≡ common_rights mode }
-    ensures others { other_rights result ≡ common_rights mode }
+    ensures kept { IsKeptMode mode result }
     ensures bound { result < 512 }
 {
     let owner = mode / 64 % 8;

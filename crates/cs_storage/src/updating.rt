@@ -1,5 +1,6 @@
 // The update of the index file, safe against crashes and other runs.
-ghost use Rattle.std.specs.Prelude.{Some, None};
+ghost use Rattle.std.specs.Prelude.{Some, None, IfErr};
+ghost use Rattle.cs_storage.specs.FileAfter.{IsChange};
 ghost use Rattle.cs_storage.specs.Storing.{Moves, IsHeld, Begins, Updates};
 ghost use Rattle.cs_storage.specs.Steps.{Replaces, RenamesFilled};
 
@@ -27,7 +28,8 @@ pub fn finish_update<F: IndexFolder>(
     update: &IndexUpdate,
 ) -> Result<(), StorageFault>
     requires { IsHeld (F.model folder.old) }
-    ensures { Moves (Updates update.now result) (F.model folder.old) (F.model folder.new) }
+    ensures tried { IfErr result (λ _. IsChange update.now) }
+    ensures updates { Moves (Updates update.now result) (F.model folder.old) (F.model folder.new) }
 {
     match update {
         IndexUpdate::Keep => {

@@ -1,4 +1,5 @@
 // The index: written, read, and queried.
 mod building;
 mod candidates;
+mod pieces;
 mod reading;

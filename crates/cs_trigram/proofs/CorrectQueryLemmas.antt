@@ -12,8 +12,7 @@ use Rattle.cs_trigram.specs.Analysis.{some_matches, some_mentions, has_any, Ment
 use Rattle.cs_trigram.specs.declared.queries.Query.{Query}
 use Rattle.cs_trigram.specs.declared.queries.Query.TheVariants.{All, Or}
 use Rattle.cs_trigram.proofs.LeadingRunLemmas.{concatenates_one, exact_of_one}
-use Rattle.cs_trigram.proofs.SequenceQueryLemmas.{any_run_found, found_any_run, few_tree}
-use Rattle.cs_trigram.specs.ExactStrings.{ConcatenatesExactStrings}
+use Rattle.cs_trigram.proofs.SequenceQueryLemmas.{any_run_found, found_any_run}
 use Rattle.cs_trigram.proofs.ExactStringLemmas.{match_is_exact, exact_match_has_runs}
 use Rattle.cs_trigram.proofs.SubstringTrigramLemmas.{has_part}
 use Rattle.cs_trigram.proofs.QueryLemmas.{matches_set-All, matches_set-Or, some_matches_push, mentions-Or, mentions_push}
@@ -97,27 +96,6 @@ right_more queries q t ts match_query others = record {
       (trigrams_within (some_mentions queries) (HaveMembers ts) A (MayMatchBranch ts) P others.mentioned (λ h. h.1) (λ h w m. (w, inr m, occurs_itself w w refl)))
       (trigrams_within (mentions q) (HasMembers t) A (MayMatch t) P match_query.mentioned (λ h. h.0) (λ h w m. (w, inl m, occurs_itself w w refl)));
 }
-
--- an alternation with an exact string has a branch
-pub some_branch : (ws : List (List ℕ)) (ts : Trees) → AreExactStrings ws (alt ts) → HaveMembers ts → HasMembers (alt ts)
-some_branch ws none strings h = none_exact (few_tree ws (alt none) strings).1.0
-  where
-    none_exact : (w : List ℕ) × ConcatenatesExactStrings (more (alt none) none) w → HasMembers (alt none)
-    none_exact w = absurd (exact_of_one (alt none) w.0 w.1)
-some_branch ws (more t ts) strings h = h
-
--- a disjunction with a single query
-pub correct_one : (queries : List Query) (q : Query) (ts : Trees) → queries ≡ q ∷ [] → (HaveMembers ts → HasMembers (alt ts)) → IsCorrect q (alt ts) → AreCorrect queries ts
-correct_one queries q ts e members r = record {
-  matching = λ s set i j h has. same set ∙ r.matching s set i j h has;
-  selective = λ set h. (r.selective set (sym (same set) ∙ h)).1;
-  mentioned = λ g h.
-      let only = r.mentioned g (sym (ap (λ (qs : List Query). some_mentions qs g) e ∙ mentions_push g [] q) ∙ h) in
-      (only.0, λ m. only.1 (members m));
-}
-  where
-    same : (set : ℕ → Bool) → some_matches queries set ≡ matches_set q set
-    same set = ap (λ (qs : List Query). some_matches qs set) e ∙ some_matches_push set [] q
 
 pub correct_alternation : (members : Vec Query Global) (ts : Trees) → AreCorrect members.items ts → IsMatchQuery (Or members) (alt ts)
 correct_alternation members ts r many = record {

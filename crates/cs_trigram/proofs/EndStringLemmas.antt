@@ -1,12 +1,11 @@
 -- End strings of concatenations and of trees.
-use Rattle.std.proofs.Common.{◌≡◌, ℕ, zero, suc, ◌+◌, ◌-◌, ◌<◌, ◌≤◌, ◌⊎◌, inl, inr, not, true, false, List, [], ◌∷◌, ◌++◌, take, drop, length, get_or, refl, sym, ◌∙◌, ap, subst, arith, append_assoc, drop-cons, drop_of_length-le}
+use Rattle.std.proofs.Common.{◌≡◌, ℕ, zero, suc, ◌+◌, ◌-◌, ◌<◌, ◌≤◌, ◌⊎◌, inl, inr, not, true, false, List, [], ◌∷◌, ◌++◌, take, drop, length, get_or, refl, sym, ◌∙◌, ap, subst, arith, append_assoc, drop-cons, drop_of_length-le, length-drop, length-take}
 use Rattle.std.specs.Prelude.{None, slice_range}
 use Rattle.std.specs.List.{list_all}
-use Rattle.std.proofs.lemmas.Bool.{and_parts, not-true}
+use Rattle.std.proofs.lemmas.Bool.{and_parts, not-true, false≢true}
 use Rattle.std.proofs.lemmas.List.{append-nil, take-append-drop}
 use Rattle.cs_syntax.specs.Matching.{Tree, Trees, empty, one_of, one_char, cat, alt, rep, line_start, line_end, word_edge, not_word_edge, none, more, Chain, MatchesSpan, MatchesSequence, MatchesBranch}
-use Rattle.cs_trigram.specs.EndStrings.{concatenation, near_part, HasEndString, HasSomeEndString}
-use Rattle.cs_trigram.specs.ShortString.{bytes_of}
+use Rattle.cs_trigram.specs.EndStrings.{concatenation, near_part, HasEndString, HasSomeEndString, IsEndStringOfText}
 use Rattle.cs_trigram.specs.declared.end_strings.Side.{Side}
 use Rattle.cs_trigram.specs.declared.end_strings.Side.TheVariants.{Prefix, Suffix}
 use Rattle.cs_trigram.specs.declared.end_strings.EndString.{EndString}
@@ -24,22 +23,11 @@ pub none_concatenation : (side : Side) (a : List ℕ) → concatenation side [] 
 none_concatenation Prefix a = refl
 none_concatenation Suffix a = append-nil a
 
--- an end string of a concatenation, if the near one is whole and if it is not
-pub fits_concatenation : (side : Side) (near far end_string : EndString) → (bytes_of end_string.string) ≡ concatenation side (bytes_of near.string) (bytes_of far.string) → end_string.whole ≡ far.whole → near.whole ≡ true →
-    (u v : List ℕ) → HasEndString side near u → HasEndString side far v → HasEndString side end_string (concatenation side u v)
-fits_concatenation side near far end_string string whole is u v a b =
-    let same : u ≡ (bytes_of near.string) = a.1 ∙ ap (concatenation side (bytes_of near.string)) (a.2 is) ∙ concatenation-none side (bytes_of near.string) in (
-      b.0,
-      ap (λ (x : List ℕ). concatenation side x v) same ∙ ap (concatenation side (bytes_of near.string)) b.1 ∙ sym (concatenation-assoc side (bytes_of near.string) (bytes_of far.string) b.0)
-          ∙ ap (λ (x : List ℕ). concatenation side x b.0) (sym string),
-      λ e. b.2 (sym whole ∙ e),
-    )
-
-pub fits_open : (side : Side) (near end_string : EndString) → (bytes_of end_string.string) ≡ (bytes_of near.string) → end_string.whole ≡ false →
+pub fits_open : (side : Side) (near end_string : EndString) → end_string.string ≡ near.string → end_string.whole ≡ false →
     (u v : List ℕ) → HasEndString side near u → HasEndString side end_string (concatenation side u v)
 fits_open side near end_string string loose u v a = (
   concatenation side a.0 v,
-  ap (λ (x : List ℕ). concatenation side x v) a.1 ∙ concatenation-assoc side (bytes_of near.string) a.0 v ∙ ap (λ (x : List ℕ). concatenation side x (concatenation side a.0 v)) (sym string),
+  ap (λ (x : List ℕ). concatenation side x v) a.1 ∙ concatenation-assoc side near.string a.0 v ∙ ap (λ (x : List ℕ). concatenation side x (concatenation side a.0 v)) (sym string),
   λ e. let odd : false ≡ true = sym loose ∙ e in (cc),
 )
 
@@ -53,19 +41,6 @@ fits_all_open side (e ∷ end_strings) u v loose h =
       | inr b ↦ inr (fits_all_open side end_strings u v (and_parts (not e.whole) (list_all (λ (x : EndString). not x.whole) end_strings) loose).1 b)
     ]
 
--- an end string with the same bytes and flag
-pub fits_same : (side : Side) (old end_string : EndString) → (bytes_of end_string.string) ≡ (bytes_of old.string) → end_string.whole ≡ old.whole → (text : List ℕ) → HasEndString side old text → HasEndString side end_string text
-fits_same side old end_string string whole text a =
-    (a.0, a.1 ∙ ap (λ (x : List ℕ). concatenation side x a.0) (sym string), λ e. a.2 (sym whole ∙ e))
-
--- a truncated end string
-pub fits_cut : (side : Side) (old end_string : EndString) (rest : List ℕ) → (bytes_of old.string) ≡ concatenation side (bytes_of end_string.string) rest → end_string.whole ≡ false → (text : List ℕ) → HasEndString side old text → HasEndString side end_string text
-fits_cut side old end_string rest string loose text a = (
-  concatenation side rest a.0,
-  a.1 ∙ ap (λ (x : List ℕ). concatenation side x a.0) string ∙ concatenation-assoc side (bytes_of end_string.string) rest a.0,
-  λ e. let odd : false ≡ true = sym loose ∙ e in (cc),
-)
-
 -- one more end string
 pub fits_push : (side : Side) (end_strings : List EndString) (end_string : EndString) (text : List ℕ) → HasEndString side end_string text ⊎ HasSomeEndString side end_strings text → HasSomeEndString side (end_strings ++ end_string ∷ []) text
 fits_push side [] end_string text h = h
@@ -76,30 +51,28 @@ fits_push side (e ∷ end_strings) end_string text h =
     ]
 
 -- the end strings from an index on
-pub fits_from : (side : Side) (end_strings : List EndString) (i : ℕ) (end_string : EndString) (text : List ℕ) → i < length end_strings →
-    HasSomeEndString side (drop i end_strings) text → HasEndString side (get_or end_strings i end_string) text ⊎ HasSomeEndString side (drop (i + 1) end_strings) text
-fits_from side end_strings i end_string text lt h =
+pub item_from : (end_strings : List EndString) (i : ℕ) (item : EndString) → i < length end_strings → item ≡ get_or end_strings i item → drop i end_strings ≡ item ∷ drop (i + 1) end_strings
+item_from end_strings i item lt is =
     let next : suc i ≡ i + 1 = omega arith in
-    let cut : drop i end_strings ≡ get_or end_strings i end_string ∷ drop (i + 1) end_strings =
-    drop-cons end_strings i end_string lt ∙ ap (λ n. get_or end_strings i end_string ∷ drop n end_strings) next in
-    subst (λ (es : List EndString). HasSomeEndString side es text) cut h
+    drop-cons end_strings i item lt ∙ ap (λ (e : EndString). e ∷ drop (suc i) end_strings) (sym is) ∙ ap (λ n. item ∷ drop n end_strings) next
 
-pub fits_at : (side : Side) (end_strings : List EndString) (i : ℕ) (end_string : EndString) (text : List ℕ) → i < length end_strings →
-    HasEndString side (get_or end_strings i end_string) text → HasSomeEndString side end_strings text
-fits_at side [] i end_string text lt h = absurd (omega arith)
-fits_at side (e ∷ end_strings) zero end_string text lt h = inl h
-fits_at side (e ∷ end_strings) (suc i) end_string text lt h = inr (fits_at side end_strings i end_string text (omega arith) h)
+pub fits_from : (side : Side) (end_strings : List EndString) (i : ℕ) (item : EndString) (text : List ℕ) → i < length end_strings → item ≡ get_or end_strings i item →
+    HasSomeEndString side (drop i end_strings) text → HasEndString side item text ⊎ HasSomeEndString side (drop (i + 1) end_strings) text
+fits_from side end_strings i item text lt is h = subst (λ (es : List EndString). HasSomeEndString side es text) (item_from end_strings i item lt is) h
+
+pub fits_at : (side : Side) (end_strings : List EndString) (i : ℕ) (item : EndString) (text : List ℕ) → i < length end_strings → item ≡ get_or end_strings i item →
+    HasEndString side item text → HasSomeEndString side end_strings text
+fits_at side [] i item text lt is h = absurd (omega arith)
+fits_at side (e ∷ end_strings) zero item text lt is h = inl (subst (λ (x : EndString). HasEndString side x text) is h)
+fits_at side (e ∷ end_strings) (suc i) item text lt is h = inr (fits_at side end_strings i item text (omega arith) is h)
 
 -- the end string of every text, and that of the empty text
-pub fits_any : (side : Side) (end_string : EndString) (text : List ℕ) → (bytes_of end_string.string) ≡ [] → end_string.whole ≡ false → HasSomeEndString side (end_string ∷ []) text
+pub fits_any : (side : Side) (end_string : EndString) (text : List ℕ) → end_string.string ≡ [] → end_string.whole ≡ false → HasSomeEndString side (end_string ∷ []) text
 fits_any side end_string text string loose =
     inl (text, sym (none_concatenation side text) ∙ ap (λ (x : List ℕ). concatenation side x text) (sym string), λ e. let odd : false ≡ true = sym loose ∙ e in (cc))
 
-pub fits_none : (side : Side) (end_string : EndString) → (bytes_of end_string.string) ≡ [] → HasSomeEndString side (end_string ∷ []) []
-fits_none side end_string string = inl ([], sym (concatenation-none side []) ∙ ap (λ (x : List ℕ). concatenation side x []) (sym string), λ e. refl)
-
-pub fits_whole : (side : Side) (end_string : EndString) (text : List ℕ) → text ≡ (bytes_of end_string.string) → HasEndString side end_string text
-fits_whole side end_string text e = ([], e ∙ sym (concatenation-none side (bytes_of end_string.string)), λ w. refl)
+pub fits_whole : (side : Side) (end_string : EndString) (text : List ℕ) → text ≡ end_string.string → HasEndString side end_string text
+fits_whole side end_string text e = ([], e ∙ sym (concatenation-none side end_string.string), λ w. refl)
 
 -- offsets do not decrease along a chain
 chain_rises : (R : ℕ → ℕ → Type 0) → ((i j : ℕ) → R i j → i ≤ j) → (k i j : ℕ) → Chain R k i j → i ≤ j
@@ -194,9 +167,26 @@ pub near_far : (side : Side) (n : ℕ) (text : List ℕ) → text ≡ concatenat
 near_far Prefix n text = sym (take-append-drop n text)
 near_far Suffix n text = sym (take-append-drop (length text - n) text)
 
--- the bytes at a known side
-pub near_prefix : (side : Side) (n : ℕ) (text near : List ℕ) → side ≡ Prefix → near ≡ take n text → near ≡ near_part side n text
-near_prefix side n text near is e = subst (λ (x : Side). near ≡ near_part x n text) (sym is) e
+-- the end string of a text: of the text itself, of texts with another end string, and of concatenations
+module _ (side : Side) (e : EndString) where
+  pub of_itself : (text : List ℕ) → IsEndStringOfText side text true e → HasEndString side e text
+  of_itself text of = subst (HasEndString side e) (concatenation-none side text) (of [] (λ _. refl))
 
-pub near_suffix : (side : Side) (n : ℕ) (text near : List ℕ) → side ≡ Suffix → near ≡ drop (length text - n) text → near ≡ near_part side n text
-near_suffix side n text near is e = subst (λ (x : Side). near ≡ near_part x n text) (sym is) e
+  pub of_end_string : (old : EndString) → IsEndStringOfText side old.string old.whole e → (text : List ℕ) → HasEndString side old text → HasEndString side e text
+  of_end_string old of text a = subst (HasEndString side e) (sym a.1) (of a.0 a.2)
+
+  pub of_open : (near : EndString) → IsEndStringOfText side near.string false e → (u v : List ℕ) → HasEndString side near u → HasEndString side e (concatenation side u v)
+  of_open near of u v a =
+      subst (HasEndString side e) (sym (ap (λ (x : List ℕ). concatenation side x v) a.1 ∙ concatenation-assoc side near.string a.0 v)) (of (concatenation side a.0 v) (λ odd. absurd (false≢true odd)))
+
+  pub of_two : (near far : EndString) (string : List ℕ) → string ≡ concatenation side near.string far.string → near.whole ≡ true → IsEndStringOfText side string far.whole e →
+      (u v : List ℕ) → HasEndString side near u → HasEndString side far v → HasEndString side e (concatenation side u v)
+  of_two near far string is whole of u v a b =
+      let same : u ≡ near.string = a.1 ∙ ap (concatenation side near.string) (a.2 whole) ∙ concatenation-none side near.string in
+      let all : concatenation side u v ≡ concatenation side string b.0 =
+      ap (λ (x : List ℕ). concatenation side x v) same ∙ ap (concatenation side near.string) b.1 ∙ sym (concatenation-assoc side near.string far.string b.0) ∙ ap (λ (x : List ℕ). concatenation side x b.0) (sym is) in
+      subst (HasEndString side e) (sym all) (of b.0 b.2)
+
+pub near_length : (side : Side) (n : ℕ) (text : List ℕ) → n < length text → length (near_part side n text) ≤ n
+near_length Prefix n text lt = omega (arith, length-take n text)
+near_length Suffix n text lt = omega (arith, length-drop (length text - n) text)

@@ -7,10 +7,7 @@ use Rattle.std.proofs.lemmas.List.Elements.{Contains-append_cases}
 use Rattle.cs_syntax.specs.Matching.{Tree, Trees, alt, rep, none, more}
 use Rattle.cs_trigram.specs.ExactStrings.{IsRepeated}
 use Rattle.cs_trigram.specs.MayMatch.{MayMatch, MayMatchSequence, MayMatchBranch}
-use Rattle.cs_trigram.specs.ShortString.{bytes_of}
 use Rattle.cs_trigram.specs.EndStrings.{concatenation, HasEndString, HasSomeEndString, Subsumes, EachSubsumes, IsConcatenation, AreConcatenations, any_end, empty_end, IsEndStringOf, AreEndStrings, AreEndStringsOfAll, AreEndStringsOfSome}
-use Rattle.cs_trigram.specs.declared.short_string.ShortString.{ShortString}
-use Rattle.cs_trigram.specs.declared.short_string.ShortString.TheVariants.{Empty, One, Two, Three}
 use Rattle.cs_trigram.specs.declared.end_strings.Side.{Side}
 use Rattle.cs_trigram.specs.declared.end_strings.Side.TheVariants.{Prefix, Suffix}
 use Rattle.cs_trigram.specs.declared.end_strings.EndString.{EndString}
@@ -29,12 +26,6 @@ origin_subsuming side P x y s o = (o.0, o.1, s o.0 o.2)
 -- an end string of a whole text
 pub origin_whole : (side : Side) (P : List ℕ → Type 0) (x : EndString) (text : List ℕ) → P text → HasEndString side x text → IsEndStringOf side P x
 origin_whole side P x text p has = (text, ([], subst P (sym (concatenation-none side text)) p, λ lt. refl), has)
-
-short_length : (s : ShortString) → length (bytes_of s) ≤ 3
-short_length Empty = omega arith
-short_length (One a) = omega arith
-short_length (Two a b) = omega arith
-short_length (Three a b c) = omega arith
 
 length_concatenation : (side : Side) (u v : List ℕ) → length (concatenation side u v) ≡ length u + length v
 length_concatenation Prefix u v = length-append u v
@@ -59,15 +50,13 @@ none_right [] b e = e
 none_right (x ∷ a) b e = (cc)
 
 -- an end string of a concatenation is one of the near text, if this has three bytes
-has_near : (side : Side) (x : EndString) (u v : List ℕ) → 3 ≤ length u → HasEndString side x (concatenation side u v) → HasEndString side x u
-has_near Prefix x u v long h =
-    let short = short_length x.string in
-    let r = two_cuts u v (bytes_of x.string) h.0 h.1 (omega (arith, short, long)) in
+has_near : (side : Side) (x : EndString) (u v : List ℕ) → length x.string ≤ 3 → 3 ≤ length u → HasEndString side x (concatenation side u v) → HasEndString side x u
+has_near Prefix x u v short long h =
+    let r = two_cuts u v x.string h.0 h.1 (omega (arith, short, long)) in
     (r.0, r.1, λ e. none_left r.0 v (sym r.2 ∙ h.2 e))
-has_near Suffix x u v long h =
-    let short = short_length x.string in
+has_near Suffix x u v short long h =
     let total = ap length h.1 in
-    let r = two_cuts h.0 (bytes_of x.string) v u (sym h.1) (omega (arith, short, long, total, length-append v u, length-append h.0 (bytes_of x.string))) in
+    let r = two_cuts h.0 x.string v u (sym h.1) (omega (arith, short, long, total, length-append v u, length-append h.0 x.string)) in
     (r.0, r.2, λ e. none_right v r.0 (sym r.1 ∙ h.2 e))
 
 -- an end string of a near text of the first kind and a far text of the second
@@ -78,9 +67,9 @@ module _ (side : Side) (P Q R : List ℕ → Type 0) (both : (u v : List ℕ) �
       origin_whole side R x (concatenation side o.0 (concatenation side rest v))
       (subst R (concatenation-assoc side o.0 rest v) (both (concatenation side o.0 rest) v o.1.1 q)) (opens o.0 (concatenation side rest v) o.2)
 
-  origin_two : (near far x : EndString) → ((u v : List ℕ) → HasEndString side near u → HasEndString side far v → HasEndString side x (concatenation side u v)) →
+  origin_two : (near far x : EndString) → length x.string ≤ 3 → ((u v : List ℕ) → HasEndString side near u → HasEndString side far v → HasEndString side x (concatenation side u v)) →
       IsEndStringOf side P near → IsEndStringOf side Q far → IsEndStringOf side R x
-  origin_two near far x two a b =
+  origin_two near far x small two a b =
       let u = a.0 in
       let v = b.0 in
       let whole = both (concatenation side u a.1.0) (concatenation side v b.1.0) a.1.1 b.1.1 in
@@ -91,13 +80,13 @@ module _ (side : Side) (P Q R : List ℕ → Type 0) (both : (u v : List ℕ) �
             (concatenation side u v, (b.1.0, joined, λ lt. b.1.2 (omega (arith, lt, length_concatenation side u v))), two u v a.2 b.2)
         | inr long ↦
             let rest = concatenation side a.1.0 (concatenation side v b.1.0) in
-            (u, (rest, subst R (concatenation-assoc side u a.1.0 (concatenation side v b.1.0)) whole, λ lt. absurd (omega arith)), has_near side x u v long (two u v a.2 b.2))
+            (u, (rest, subst R (concatenation-assoc side u a.1.0 (concatenation side v b.1.0)) whole, λ lt. absurd (omega arith)), has_near side x u v small long (two u v a.2 b.2))
       ]
 
   pub origin_concatenation : (near : EndString) (fars : List EndString) (x : EndString) → IsConcatenation side near fars x → IsEndStringOf side P near →
       ((y : EndString) → Contains fars y → IsEndStringOf side Q y) → (text : List ℕ) × Q text → IsEndStringOf side R x
   origin_concatenation near fars x (inl opens) a b some = origin_open near x some.0 some.1 opens a
-  origin_concatenation near fars x (inr two) a b some = origin_two near two.0 x two.2 a (b two.0 two.1)
+  origin_concatenation near fars x (inr two) a b some = origin_two near two.0 x two.3 two.2 a (b two.0 two.1)
 
 -- ---- any text, and no text
 

@@ -1,16 +1,15 @@
 -- Runs with few exact strings, and leading runs.
-use Rattle.std.proofs.Common.{◌≡◌, ℕ, zero, suc, ◌-◌, ◌<◌, ◌≤◌, ◌⊎◌, ◌&&◌, inl, inr, true, false, List, [], ◌∷◌, ◌++◌, take, drop, length, map, refl, sym, ◌∙◌, ap, subst, arith, append_assoc, length-append}
+use Rattle.std.proofs.Common.{◌≡◌, ℕ, ◌-◌, ◌<◌, ◌≤◌, ◌⊎◌, ◌&&◌, inl, inr, true, false, List, [], ◌∷◌, ◌++◌, take, drop, length, map, refl, sym, ◌∙◌, ap, subst, arith, append_assoc, length-append}
 use Rattle.cs_syntax.specs.TreeList.{append}
-use Rattle.std.specs.Prelude.{nat_le, nat_lt}
 use Rattle.std.proofs.Math.Bool.{and_assoc}
 use Rattle.std.proofs.Math.Seq.{take-append_seam, drop-append_seam}
-use Rattle.std.proofs.lemmas.Bool.{and_parts, and_from, leb-true, le-leb, lt-ltb, ltb-true, both_ways, false_from_ne_true}
+use Rattle.std.proofs.lemmas.Bool.{and_parts, and_from, both_ways}
 use Rattle.std.proofs.lemmas.List.{append-nil, length-map}
 use Rattle.cs_syntax.specs.Matching.{Tree, Trees, none, more}
 use Rattle.cs_syntax.proofs.TreeListLemmas.{append_assoc_trees}
 use Rattle.cs_tree.specs.Cover.{is_among}
 use Rattle.cs_trigram.specs.ExactStrings.{is_finite, are_finite, HasExactString, ConcatenatesExactStrings, SomeHasExactString, HaveFewExactStrings}
-use Rattle.cs_trigram.specs.Analysis.{with_strings, concatenations, is_few, IsEnumeration, AreFewStrings, IsBlocked, IsLongestLeadingRun, EnumeratesTree, EnumeratesRun, EnumeratesAlternation, AreExactStrings, AreExactStringsOfRun}
+use Rattle.cs_trigram.specs.Analysis.{with_strings, concatenations, IsEnumeration, AreFewStrings, IsBlocked, IsLongestLeadingRun, EnumeratesTree, EnumeratesRun, EnumeratesAlternation, AreExactStrings, AreExactStringsOfRun}
 use Rattle.cs_trigram.proofs.MemberLemmas.{map_member, different_within, no_member, first_member, only_member}
 use Rattle.cs_trigram.proofs.EnumerationLemmas.{enumeration_same, enumeration_strings, enumeration_of_concatenations}
 
@@ -113,17 +112,6 @@ run_begins ts ws f w m run after e few =
         subst HaveFewExactStrings (same ∙ sym (append_assoc_trees a (more t none) c)) few in
         blocked (subst (λ (z : Tree). HaveFewExactStrings (append a (more z none))) (sym tree) (few_prefix (append a (more t none)) c long))
 
--- `is_few` as two inequalities
-pub few_count : (n : ℕ) → is_few n ≡ true → (0 < n) × (n ≤ 20)
-few_count n h = let p = and_parts (nat_lt 0 n) (nat_le n 20) h in (ltb-true 0 n p.0, leb-true n 20 p.1)
-
-pub many_count : (n : ℕ) → 20 < n → is_few n ≡ false
-many_count n lt = false_from_ne_true (is_few n) (λ e. let p = few_count n e in absurd (omega (arith, p.1, lt)))
-
-pub odd_count : (n : ℕ) → is_few n ≡ false → n ≤ 20 → n ≡ 0
-odd_count zero h le = refl
-odd_count (suc n) h le = absurd (both_ways (is_few (suc n)) h (and_from (nat_lt 0 (suc n)) (nat_le (suc n) 20) (lt-ltb 0 (suc n) (omega arith)) (le-leb (suc n) 20 le)))
-
 -- an enumeration of one to twenty strings is complete
 pub whole_enumeration : (ws : List (List ℕ)) (P : List ℕ → Type 0) → IsEnumeration ws P → 0 < length ws → length ws ≤ 20 → AreFewStrings ws P
 whole_enumeration ws P s some few =
@@ -182,19 +170,18 @@ run_is_leading run after ts ws e strings blocked =
     record { run = run; after = after; is = e; finite = strings.0; each = strings.1; blocked = blocked }
 
 -- few strings after a run, and too many
-pub appended_strings : (ts : Trees) (t : Tree) (ws us : List (List ℕ)) → AreExactStringsOfRun ws ts → AreExactStrings us t → is_few (length (with_strings [] (concatenations ws us))) ≡ true →
+pub appended_strings : (ts : Trees) (t : Tree) (ws us : List (List ℕ)) → AreExactStringsOfRun ws ts → AreExactStrings us t → 0 < length (with_strings [] (concatenations ws us)) → length (with_strings [] (concatenations ws us)) ≤ 20 →
     AreExactStringsOfRun (with_strings [] (concatenations ws us)) (append ts (more t none))
-appended_strings ts t ws us r s few =
-    let count = few_count (length (with_strings [] (concatenations ws us))) few in (
-      finite_append ts (more t none) ∙ and_from (are_finite ts) (is_finite t && true) r.0 (and_from (is_finite t) true s.0 refl),
-      whole_enumeration _ _ (appended_enumeration ts t ws us (strings_enumeration ws (ConcatenatesExactStrings ts) r.1) (strings_enumeration us (HasExactString t) s.1)) count.0 count.1,
-    )
+appended_strings ts t ws us r s some few = (
+  finite_append ts (more t none) ∙ and_from (are_finite ts) (is_finite t && true) r.0 (and_from (is_finite t) true s.0 refl),
+  whole_enumeration _ _ (appended_enumeration ts t ws us (strings_enumeration ws (ConcatenatesExactStrings ts) r.1) (strings_enumeration us (HasExactString t) s.1)) some few,
+)
 
-pub too_many_appended : (ts : Trees) (t : Tree) (ws us : List (List ℕ)) → AreExactStringsOfRun ws ts → AreExactStrings us t → is_few (length (with_strings [] (concatenations ws us))) ≡ false →
+pub too_many_appended : (ts : Trees) (t : Tree) (ws us : List (List ℕ)) → AreExactStringsOfRun ws ts → AreExactStrings us t → (length (with_strings [] (concatenations ws us)) ≤ 20 → length (with_strings [] (concatenations ws us)) ≡ 0) →
     HaveFewExactStrings (append ts (more t none)) → ⊥
 too_many_appended ts t ws us r s odd =
     not_few (with_strings [] (concatenations ws us)) (append ts (more t none))
-    (appended_enumeration ts t ws us (strings_enumeration ws (ConcatenatesExactStrings ts) r.1) (strings_enumeration us (HasExactString t) s.1)) (odd_count (length (with_strings [] (concatenations ws us))) odd)
+    (appended_enumeration ts t ws us (strings_enumeration ws (ConcatenatesExactStrings ts) r.1) (strings_enumeration us (HasExactString t) s.1)) odd
 
 -- the strings of a run of one part
 pub run_strings : (ws : List (List ℕ)) (t : Tree) → AreExactStrings ws t → AreExactStringsOfRun ws (more t none)
@@ -210,16 +197,6 @@ run_strings ws t s = (
 
 pub not_few_appended : (ts : Trees) (t : Tree) → (HaveFewExactStrings (more t none) → ⊥) → HaveFewExactStrings (append ts (more t none)) → ⊥
 not_few_appended ts t no_few few = no_few (few_suffix ts (more t none) few)
-
--- a tree whose enumeration has one to twenty strings, and a tree whose enumeration has none or more
-pub tree_strings : (ws : List (List ℕ)) (t : Tree) → EnumeratesTree ws t → is_few (length ws) ≡ true → AreExactStrings ws t
-tree_strings ws t s few = let count = few_count (length ws) few in (s.0, whole_enumeration ws (HasExactString t) s.1 count.0 count.1)
-
-pub tree_not_few : (ws : List (List ℕ)) (t : Tree) → EnumeratesTree ws t → is_few (length ws) ≡ false → HaveFewExactStrings (more t none) → ⊥
-tree_not_few ws t s odd =
-    not_few ws (more t none)
-    (enumeration_same ws (HasExactString t) (ConcatenatesExactStrings (more t none)) s.1 (concatenates_one t) (exact_of_one t))
-    (odd_count (length ws) odd)
 
 pub tree_not_finite : (t : Tree) → is_finite t ≡ false → HaveFewExactStrings (more t none) → ⊥
 tree_not_finite t wild few = both_ways (is_finite t) wild (and_parts (is_finite t) true few.0).0

@@ -5,10 +5,8 @@ pub mod SetLemmas
 mod EndStringLemmas
 mod SequenceQueryLemmas
 mod CharStringLemmas
-mod ConcatenationLemmas
 mod ExactSetLemmas
 mod CrossProductLemmas
-mod RadixPassLemmas
 mod Examples
 mod LeadingRunLemmas
 mod SixgramCacheLemmas
@@ -29,7 +27,6 @@ mod RepeatLemmas
 mod EnumerationLemmas
 mod ScanLemmas
 mod SortedSetLemmas
-mod TwoPassLemmas
 mod TruncationLemmas
 mod SplitTrigramLemmas
 mod ExactStringLemmas

@@ -1,5 +1,5 @@
 -- Which end strings the members of truncated lists and of cross products come from.
-use Rattle.std.proofs.Common.{◌≡◌, ℕ, ◌<◌, ◌⊎◌, true, false, not, List, [], ◌∷◌, ◌++◌, length, get_or, refl, sym, subst, inl, inr, arith}
+use Rattle.std.proofs.Common.{◌≡◌, ℕ, ◌<◌, ◌≤◌, ◌⊎◌, true, false, not, List, [], ◌∷◌, ◌++◌, length, get_or, refl, sym, subst, inl, inr, arith}
 use Rattle.std.specs.Prelude.{Contains}
 use Rattle.std.specs.List.{list_all}
 use Rattle.std.proofs.lemmas.Bool.{and_parts, not-true, false≢true}
@@ -48,29 +48,21 @@ adds_pushed old end_strings e is x m = Contains-push_cases old e x (subst (λ (e
 pub subsumes_same : (side : Side) (e x y : EndString) → e ≡ x → Subsumes side e y → Subsumes side x y
 subsumes_same side e x y same s = subst (λ (z : EndString). Subsumes side z y) same s
 
-pub adds_subsuming : (side : Side) (old short ends : List EndString) (e : EndString) (i : ℕ) (d : EndString) → i < length ends → AddsOnly old short (λ x. e ≡ x) →
-    Subsumes side e (get_or ends i d) → EachSubsumes side old ends → EachSubsumes side short ends
-adds_subsuming side old short ends e i d lt adds s each x m =
+pub item_at : (ends : List EndString) (i : ℕ) (item : EndString) → i < length ends → item ≡ get_or ends i item → Contains ends item
+item_at ends i item lt is = subst (λ (y : EndString). Contains ends y) (sym is) (Contains-get_or ends i item lt)
+
+pub adds_subsuming : (side : Side) (old short ends : List EndString) (e item : EndString) → Contains ends item → AddsOnly old short (λ x. e ≡ x) →
+    Subsumes side e item → EachSubsumes side old ends → EachSubsumes side short ends
+adds_subsuming side old short ends e item there adds s each x m =
     elim (adds x m) [
       | inl before ↦ each x before
-      | inr same ↦ (get_or ends i d, Contains-get_or ends i d lt, subsumes_same side e x (get_or ends i d) same s)
+      | inr same ↦ (item, there, subsumes_same side e x item same s)
     ]
 
 -- concatenations of a near end string
 module _ (side : Side) (near : EndString) where
-  pub open_concatenation : (fars : List EndString) (e x : EndString) → e ≡ x → ((u v : List ℕ) → HasEndString side near u → HasEndString side e (concatenation side u v)) →
-      IsConcatenation side near fars x
-  open_concatenation fars e x same opens = subst (λ (z : EndString). IsConcatenation side near fars z) same (inl opens)
-
-  pub far_concatenation : (fars : List EndString) (i : ℕ) (d e x : EndString) → i < length fars → e ≡ x → IsEndStringOfTwo side near (get_or fars i d) e → IsConcatenation side near fars x
-  far_concatenation fars i d e x lt same two =
-      subst (λ (z : EndString). IsConcatenation side near fars z) same (inr (get_or fars i d, Contains-get_or fars i d lt, two))
-
-  pub coarser_concatenation : (short fars : List EndString) (x : EndString) → AreCoarser side short fars → IsConcatenation side near short x → IsConcatenation side near fars x
-  coarser_concatenation short fars x coarser (inl opens) = inl opens
-  coarser_concatenation short fars x coarser (inr two) =
-      let far = coarser.each two.0 two.1 in
-      inr (far.0, far.1, λ u v a b. two.2 u v a (far.2 v b))
+  pub far_concatenation : (fars : List EndString) (far e x : EndString) → Contains fars far → e ≡ x → IsEndStringOfTwo side near far e → length e.string ≤ 3 → IsConcatenation side near fars x
+  far_concatenation fars far e x there same two short = subst (λ (z : EndString). IsConcatenation side near fars z) same (inr (far, there, two, short))
 
 -- no end string of the list is whole
 not_whole : (end_strings : List EndString) (x : EndString) → list_all (λ (e : EndString). not e.whole) end_strings ≡ true → Contains end_strings x → x.whole ≡ false
@@ -107,12 +99,12 @@ subsume_appended side one other both from short coarser x m =
     let y = coarser.each x m in
     (y.0, from y.0 y.1, y.2)
 
-pub adds_appended : (one other old end_strings : List EndString) (i : ℕ) (d : EndString) → i < length other → AddsOnly old end_strings (λ x. get_or other i d ≡ x) →
+pub adds_appended : (one other old end_strings : List EndString) (item : EndString) → Contains other item → AddsOnly old end_strings (λ x. item ≡ x) →
     ((x : EndString) → Contains old x → Contains (one ++ other) x) → (x : EndString) → Contains end_strings x → Contains (one ++ other) x
-adds_appended one other old end_strings i d lt adds before x m =
+adds_appended one other old end_strings item there adds before x m =
     elim (adds x m) [
       | inl a ↦ before x a
-      | inr same ↦ Contains-append_right one other x (subst (λ (y : EndString). Contains other y) same (Contains-get_or other i d lt))
+      | inr same ↦ Contains-append_right one other x (subst (λ (y : EndString). Contains other y) same there)
     ]
 
 -- equal lists

@@ -1,12 +1,12 @@
 -- The query analysis: enumerations of exact strings up to twenty-one, and correct queries.
-use Rattle.std.specs.Prelude.{ℕ, ◌≡◌, ◌≤◌, ◌<◌, ◌↔◌, ◌&&◌, ◌||◌, ◌++◌, ◌∷◌, [], Bool, true, not, List, length, map, nat_le, nat_lt, if◌then◌else◌, Option, IsTrue}
+use Rattle.std.specs.Prelude.{ℕ, ◌≡◌, ◌≤◌, ◌<◌, ◌↔◌, ◌&&◌, ◌||◌, ◌++◌, ◌∷◌, [], Bool, true, not, List, length, map, nat_le, if◌then◌else◌, IsTrue}
 use Rattle.cs_trigram.specs.TrigramSets.{trigram_count}
 use Rattle.cs_trigram.specs.MayMatch.{MayMatch, MayMatchBranch, HasMembers, HaveMembers, IsTrigramOf}
 use Rattle.cs_syntax.specs.TreeList.{append}
 use Rattle.std.specs.List.{list_any, list_all}
 use Rattle.cs_tree.specs.Cover.{is_among}
 use Rattle.cs_tree.specs.Folders.{are_distinct}
-use Rattle.cs_syntax.specs.Matching.{Tree, Trees, none, more, cat, alt, rep, member, MatchesSpan, MatchesSequence, MatchesBranch}
+use Rattle.cs_syntax.specs.Matching.{Tree, Trees, none, more, cat, member, MatchesSpan, MatchesSequence, MatchesBranch}
 use Rattle.cs_trigram.specs.Trigram.{tri}
 use Rattle.cs_trigram.specs.Query.{matches_set, mentions, HasTrigrams}
 use Rattle.cs_trigram.specs.ExactRuns.{HasRunsWithin, SomeHasExactRuns, IsSelective}
@@ -34,15 +34,6 @@ pub record IsEnumeration (strings : List (List ℕ)) (P : List ℕ → Type 0) :
   pub right : (string : List ℕ) → IsTrue (is_among strings string) → P string
   pub different : IsTrue (are_distinct strings)
   pub whole : length strings ≤ 20 → (string : List ℕ) → P string → IsTrue (is_among strings string)
-
--- the strings are the distinct concatenations, which are at most twenty
-abbrev pub AreFewConcatenations : List (List ℕ) → List (List ℕ) → List (List ℕ) → Type 0
-AreFewConcatenations strings prefixes suffixes =
-    (strings ≡ with_strings [] (concatenations prefixes suffixes)) × (length strings ≤ 20)
-
--- at least one and at most twenty
-abbrev pub is_few : ℕ → Bool
-is_few n = nat_lt 0 n && nat_le n 20
 
 -- exactly the strings with a property, at least one and at most twenty
 pub record AreFewStrings (strings : List (List ℕ)) (P : List ℕ → Type 0) : Type 0 where
@@ -109,14 +100,6 @@ pub record AreCorrect (queries : List Query) (ts : Trees) : Type 0 where
 -- the query is correct for the tree, unless the exact strings of the tree are few
 abbrev pub IsMatchQuery : Query → Tree → Type 0
 IsMatchQuery query t = (HasFewExactStrings t → ⊥) → IsCorrect query t
-
--- the same for the branches of an alternation
-abbrev pub AreMatchQueries : List Query → Trees → Type 0
-AreMatchQueries queries ts = (HasFewExactStrings (alt ts) → ⊥) → AreCorrect queries ts
-
--- the same for at least `least` iterations of the tree
-abbrev pub IsMatchQueryOfRepeat : Query → Tree → ℕ → Type 0
-IsMatchQueryOfRepeat query t least = (most : Option ℕ) → IsMatchQuery query (rep t least most)
 
 -- the strings enumerate the exact strings of a finite tree, of a run and of an alternation
 abbrev pub EnumeratesTree : List (List ℕ) → Tree → Type 0

@@ -1,11 +1,9 @@
 -- Prefixes and suffixes of matches. An end string is a prefix or a suffix, depending on the side.
 -- Cox, "Regular Expression Matching with a Trigram Index".
-use Rattle.std.specs.Prelude.{ℕ, ◌≡◌, ◌-◌, ◌<◌, ◌⊎◌, ◌++◌, ◌∷◌, [], Bool, true, false, List, Contains, length, take, drop, nat_eq, slice_range, Option}
+use Rattle.std.specs.Prelude.{ℕ, ◌≡◌, ◌-◌, ◌<◌, ◌≤◌, ◌⊎◌, ◌++◌, ◌∷◌, [], Bool, true, false, List, Contains, length, take, drop, nat_eq, slice_range, Option}
 use Rattle.std.specs.List.{list_all}
 use Rattle.cs_syntax.specs.Matching.{Tree, Trees, rep, MatchesSpan, MatchesSequence, MatchesBranch}
 use Rattle.cs_trigram.specs.MayMatch.{MayMatch, MayMatchSequence, MayMatchBranch, HasMembers, HaveMembers}
-use Rattle.cs_trigram.specs.ShortString.{bytes_of}
-use Rattle.cs_trigram.specs.declared.short_string.ShortString.TheVariants.{Empty}
 use Rattle.cs_trigram.specs.declared.end_strings.Side.{Side}
 use Rattle.cs_trigram.specs.declared.end_strings.Side.TheVariants.{Prefix, Suffix}
 use Rattle.cs_trigram.specs.declared.end_strings.EndString.{EndString}
@@ -22,12 +20,12 @@ near_part Suffix n text = drop (length text - n) text
 
 -- no end string has a byte
 abbrev pub are_all_empty : List EndString → Bool
-are_all_empty end_strings = list_all (λ end_string. nat_eq (length (bytes_of end_string.string)) 0) end_strings
+are_all_empty end_strings = list_all (λ end_string. nat_eq (length end_string.string) 0) end_strings
 
 -- the text begins or ends with the string, and is the string if the end string is whole
 abbrev pub HasEndString : Side → EndString → List ℕ → Type 0
 HasEndString side end_string text =
-    (rest : List ℕ) × (text ≡ concatenation side (bytes_of end_string.string) rest) × (end_string.whole ≡ true → rest ≡ [])
+    (rest : List ℕ) × (text ≡ concatenation side end_string.string rest) × (end_string.whole ≡ true → rest ≡ [])
 
 -- the text has one of the end strings
 abbrev pub HasSomeEndString : Side → List EndString → List ℕ → Type 0
@@ -46,6 +44,11 @@ SomeSubsumes side end_strings end_string = (text : List ℕ) → HasEndString si
 abbrev pub SubsumeAll : Side → List EndString → List EndString → Type 0
 SubsumeAll side end_strings others =
     (text : List ℕ) → HasSomeEndString side others text → HasSomeEndString side end_strings text
+
+-- each text with these bytes on the near side, or if `whole` this text alone, has the end string
+abbrev pub IsEndStringOfText : Side → List ℕ → Bool → EndString → Type 0
+IsEndStringOfText side text whole end_string =
+    (rest : List ℕ) → (whole ≡ true → rest ≡ []) → HasEndString side end_string (concatenation side text rest)
 
 -- the concatenation of a near text with the first end string and a far text with the second has this one
 abbrev pub IsEndStringOfTwo : Side → EndString → EndString → EndString → Type 0
@@ -76,7 +79,7 @@ AddsOnly old end_strings P = (x : EndString) → Contains end_strings x → Cont
 abbrev pub IsConcatenation : Side → EndString → List EndString → EndString → Type 0
 IsConcatenation side near fars end_string =
     ((u v : List ℕ) → HasEndString side near u → HasEndString side end_string (concatenation side u v))
-    ⊎ ((far : EndString) × Contains fars far × IsEndStringOfTwo side near far end_string)
+    ⊎ ((far : EndString) × Contains fars far × IsEndStringOfTwo side near far end_string × (length end_string.string ≤ 3))
 
 -- the end strings are those of a near text with one of the first and a far text with one of the others
 pub record AreConcatenations (side : Side) (nears fars end_strings : List EndString) : Type 0 where
@@ -86,10 +89,10 @@ pub record AreConcatenations (side : Side) (nears fars end_strings : List EndStr
 
 -- the end string of every text, and that of the empty text
 abbrev pub any_end : EndString
-any_end = record { string = Empty; whole = false }
+any_end = record { string = []; whole = false }
 
 abbrev pub empty_end : EndString
-empty_end = record { string = Empty; whole = true }
+empty_end = record { string = []; whole = true }
 
 -- A text with the property begins or ends with the near text, and is equal to it if it has less than three bytes.
 abbrev pub Reaches : Side → (List ℕ → Type 0) → List ℕ → Type 0

@@ -3,7 +3,8 @@ use Rattle.cs_syntax.specs.Matching.{Tree, Trees, cat, alt}
 use Rattle.cs_trigram.specs.SequenceQuery.{IsSequenceQueryOf}
 use Rattle.cs_trigram.specs.ExactSet.{IsExactSetOf, AreExactSetsReversed}
 use Rattle.cs_trigram.specs.Ends.{AreEnds, AreEndsOfAll, AreEndsOfSome}
-use Rattle.cs_trigram.specs.Analysis.{IsMatchQuery, AreMatchQueries}
+use Rattle.cs_trigram.specs.ExactQuery.{HasFewExactStrings, RequiresExactString}
+use Rattle.cs_trigram.specs.Analysis.{IsCorrect, AreCorrect}
 use Rattle.cs_trigram.specs.declared.regexp_info.RegexpInfo.{RegexpInfo}
 use Rattle.cs_trigram.specs.declared.sequence.SequenceInfo.{SequenceInfo}
 use Rattle.cs_trigram.specs.declared.alternation.AlternationInfo.{AlternationInfo}
@@ -11,7 +12,8 @@ use Rattle.cs_trigram.specs.declared.alternation.AlternationInfo.{AlternationInf
 pub record IsInfoOf (info : RegexpInfo) (t : Tree) : Type 0 where
   pub exact : IsExactSetOf info.exact t
   pub ends : AreEnds info.ends t
-  pub query : IsMatchQuery info.query t
+  pub query : IsCorrect info.query t
+  pub required : HasFewExactStrings t → RequiresExactString info.query t
 
 pub record IsSequence (info : SequenceInfo) (ts : Trees) : Type 0 where
   pub exact : IsExactSetOf info.exact (cat ts)
@@ -22,4 +24,4 @@ pub record IsSequence (info : SequenceInfo) (ts : Trees) : Type 0 where
 pub record IsAlternation (info : AlternationInfo) (ts : Trees) : Type 0 where
   pub exact : IsExactSetOf info.exact (alt ts)
   pub ends : AreEndsOfSome info.ends ts
-  pub members : AreMatchQueries info.members.items ts
+  pub members : AreCorrect info.members.items ts

@@ -1,12 +1,11 @@
 -- The query of a sequence.
-use Rattle.std.specs.Prelude.{Contains, ℕ, ◌≡◌, ◌+◌, ◌&&◌, ◌||◌, ◌++◌, Bool, true, List, length, nat_lt}
+use Rattle.std.specs.Prelude.{Contains, ℕ, ◌≡◌, ◌+◌, ◌&&◌, ◌||◌, ◌++◌, Bool, true, List, [], ◌∷◌, length, map, nat_lt}
 use Rattle.std.specs.List.{list_all}
 use Rattle.cs_syntax.specs.Matching.{Tree, Trees, more}
 use Rattle.cs_trigram.specs.Query.{matches_set, HasTrigrams}
 use Rattle.cs_trigram.specs.MayMatch.{MayMatchSequence, HaveMembers}
 use Rattle.cs_trigram.specs.EndStrings.{are_all_empty, HasSomeEndString}
-use Rattle.cs_trigram.specs.ShortString.{bytes_of}
-use Rattle.cs_trigram.specs.Analysis.{IsQueryBeyondRun, AreTrigramsOf, all_match, some_matches, some_mentions}
+use Rattle.cs_trigram.specs.Analysis.{IsQueryBeyondRun, AreTrigramsOf, all_match, some_mentions}
 use Rattle.cs_trigram.specs.declared.queries.Query.{Query}
 use Rattle.cs_trigram.specs.declared.end_strings.EndString.{EndString}
 use Rattle.cs_trigram.specs.declared.end_strings.Side.TheVariants.{Prefix, Suffix}
@@ -20,7 +19,7 @@ IsSequenceQueryOf sequence_query ts =
 -- the strings of the run have at least two bytes after the first part, which has this suffix
 abbrev pub goes_two_past : List (List ℕ) → EndString → Bool
 goes_two_past leading suffix =
-    suffix.whole && list_all (λ string. nat_lt (length (bytes_of suffix.string) + 1) (length string)) leading
+    suffix.whole && list_all (λ string. nat_lt (length suffix.string + 1) (length string)) leading
 
 -- the leading run has all trigrams across the end of the first part, which has these suffixes, into the parts
 -- after it, which have these prefixes
@@ -36,22 +35,16 @@ MatchesAcross query suffixes prefixes =
     (set : ℕ → Bool) (u v : List ℕ) → HasSomeEndString Suffix suffixes u → HasSomeEndString Prefix prefixes v →
     HasTrigrams set (u ++ v) → matches_set query set ≡ true
 
--- the same for a disjunction
-abbrev pub SomeMatchesAcross : List Query → List EndString → List EndString → Type 0
-SomeMatchesAcross queries suffixes prefixes =
-    (set : ℕ → Bool) (u v : List ℕ) → HasSomeEndString Suffix suffixes u → HasSomeEndString Prefix prefixes v →
-    HasTrigrams set (u ++ v) → some_matches queries set ≡ true
+-- each suffix followed by each prefix
+abbrev pub pairs : List EndString → List EndString → List (List ℕ)
+pairs [] prefixes = []
+pairs (suffix ∷ suffixes) prefixes = map (λ prefix. suffix.string ++ prefix.string) prefixes ++ pairs suffixes prefixes
 
 -- the text is one of the suffixes followed by one of the prefixes
 abbrev pub IsAcross : List EndString → List EndString → List ℕ → Type 0
 IsAcross suffixes prefixes text =
     (suffix prefix : EndString) × Contains suffixes suffix × Contains prefixes prefix
-    × (text ≡ bytes_of suffix.string ++ bytes_of prefix.string)
-
--- the queries mention only trigrams of such texts
-abbrev pub MentionOnlyAcross : List Query → List EndString → List EndString → Type 0
-MentionOnlyAcross queries suffixes prefixes =
-    AreTrigramsOf (some_mentions queries) (Unit {0}) (IsAcross suffixes prefixes)
+    × (text ≡ suffix.string ++ prefix.string)
 
 -- the new query is that of the sequence with one more part at the start
 abbrev pub ExtendsSequenceQuery : SequenceQuery → SequenceQuery → Tree → Trees → Type 0

@@ -12,10 +12,9 @@ ghost use Rattle.cs_trigram.specs.MayMatch.{MentionsTrigramsOf};
 ghost use Rattle.cs_trigram.specs.RegexpInfo.{IsInfoOf};
 
 use crate::alternation::AlternationInfo;
-use crate::exact_set::ExactSet;
 use crate::expansion::{empty_string, strings_of_chars, strings_of_set};
 use crate::queries::Query;
-use crate::regexp_info::{RegexpInfo, info_of_exact, info_of_repeat, query_of_exact};
+use crate::regexp_info::RegexpInfo;
 use crate::sequence::SequenceInfo;
 use cs_syntax::{Node, Pattern};
 use std::alloc::{AllocError, Global};
@@ -41,12 +40,7 @@ pub fn query(alloc: Global, pattern: &Pattern) -> Result<Query, AllocError>
     ensures mentioned { IfOk result (λ query. MentionsTrigramsOf query pattern.now) }
     ensures numbers { IfOk result (λ query. (g : ℕ) → mentions query g ≡ true → g < trigram_count) }
 {
-    let RegexpInfo {
-        exact,
-        ends: _,
-        query,
-    } = analyze(alloc, pattern.tree())?;
-    query_of_exact(alloc, &exact, query)
+    Ok(analyze(alloc, pattern.tree())?.query)
 }
 
 #[cycle(query)]
@@ -56,11 +50,13 @@ fn analyze(alloc: Global, node: &Node) -> Result<RegexpInfo, AllocError>
     match node {
         Node::Cat(parts) => analyze_sequence(alloc, parts),
         Node::Alt(parts) => analyze_alternation(alloc, parts),
-        Node::Rep(x, least, most) => info_of_repeat(alloc, analyze(alloc, x)?, *least, *most),
-        Node::Set(set) => info_of_exact(alloc, ExactSet::of(strings_of_set(alloc, set)?)),
-        Node::Chars(set) => info_of_exact(alloc, ExactSet::of(strings_of_chars(alloc, set)?)),
+        Node::Rep(x, least, most) => {
+            RegexpInfo::of_repeat(alloc, analyze(alloc, x)?, *least, *most)
+        },
+        Node::Set(set) => RegexpInfo::of_leaf(alloc, Some(strings_of_set(alloc, set)?)),
+        Node::Chars(set) => RegexpInfo::of_leaf(alloc, Some(strings_of_chars(alloc, set)?)),
         Node::Empty | Node::LineStart | Node::LineEnd | Node::WordEdge | Node::NotWordEdge => {
-            info_of_exact(alloc, ExactSet::Few(empty_string(alloc)?))
+            RegexpInfo::of_leaf(alloc, Some(empty_string(alloc)?))
         }
     }
 }
@@ -88,5 +84,5 @@ fn analyze_alternation(alloc: Global, parts: &[Node]) -> Result<RegexpInfo, Allo
         index -= 1;
         alternation.add(alloc, analyze(alloc, &parts[index])?)?;
     }
-    Ok(alternation.finish())
+    alternation.finish(alloc)
 }

@@ -8,7 +8,6 @@ ghost use Rattle.cs_trigram.specs.Small.{IsSmall};
 use crate::gatherer::Gatherer;
 use crate::limits::Limits;
 use crate::scan::{Gathered, Scan, ScanFault};
-use crate::trigram_sorter::TrigramSorter;
 use cs_tree::Source;
 use std::alloc::{AllocError, Global};
 use std::marker::Model;
@@ -19,7 +18,6 @@ use std::marker::Model;
 #[derive(Drop)]
 pub struct BoundedScanner {
     alloc: Global,
-    sorter: TrigramSorter,
     gatherer: Gatherer,
 }
 
@@ -43,7 +41,6 @@ impl BoundedScanner {
     {
         Ok(BoundedScanner {
             alloc,
-            sorter: TrigramSorter::new(alloc, limits.trigrams)?,
             gatherer: Gatherer::new(alloc, limits)?,
         })
     }
@@ -58,7 +55,7 @@ impl BoundedScanner {
         ensures keeps { R.Keeps source.old source.new }
         ensures same { self.new ≡ self.old }
     {
-        self.gatherer.scan(self.alloc, &mut self.sorter, source)
+        self.gatherer.scan(self.alloc, source)
     }
 
     /// Scans a file. The trigrams of the result are borrowed from the scanner, in the order of

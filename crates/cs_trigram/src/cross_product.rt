@@ -1,17 +1,13 @@
 // Trigrams across two neighbouring parts, from the cross product of the suffixes of the first and
 // the prefixes of the second (`concat` in Go's codesearch).
-ghost use Rattle.std.specs.Prelude.{◌≡◌, ◌++◌, Contains, ℕ, Bool, List, true, IfOk, OnOk};
-ghost use Rattle.cs_trigram.specs.Query.{HasTrigrams};
-ghost use Rattle.cs_trigram.specs.SequenceQuery.{MatchesAcross, SomeMatchesAcross, IsAcross, MentionOnlyAcross};
-ghost use Rattle.cs_trigram.specs.Analysis.{some_matches, MentionsOnly, RequiresText};
-ghost use Rattle.cs_trigram.specs.ShortString.{bytes_of};
-ghost use Rattle.cs_trigram.specs.EndStrings.{HasEndString, HasSomeEndString};
-ghost use Rattle.cs_trigram.specs.declared.end_strings.Side.TheVariants.{Prefix, Suffix};
+ghost use Rattle.std.specs.Prelude.{◌≡◌, ◌++◌, IfOk, OnOk, map};
+ghost use Rattle.cs_trigram.specs.SequenceQuery.{MatchesAcross, IsAcross, pairs};
+ghost use Rattle.cs_trigram.specs.Analysis.{MentionsOnly};
 
-use crate::connectives::{add_conjunct, all_trigrams, any_of, trigram};
+use crate::connectives::{add_conjunct, any_string};
 use crate::end_strings::{EndString, Side, truncated_end_strings};
+use crate::exact_string::ExactString;
 use crate::queries::Query;
-use crate::short_string::ShortString;
 use std::alloc::{AllocError, Global};
 
 /// The most pairs for which a query has all trigrams of each pair.
@@ -20,71 +16,36 @@ const MAX_WHOLE_CONCATENATIONS: usize = 64;
 /// The most pairs for which a query is made, so that its size is bounded.
 const MAX_CONCATENATIONS: usize = 256;
 
-/// The trigrams of a suffix followed by a prefix.
-fn pair_query(alloc: Global, suffix: ShortString, prefix: ShortString) -> Result<Query, AllocError>
-    ensures required { IfOk result (λ query.
-        RequiresText query (bytes_of suffix ++ bytes_of prefix)) }
-    ensures mentioned { IfOk result (λ query.
-        MentionsOnly query (λ text. text ≡ bytes_of suffix ++ bytes_of prefix)) }
-{
-    if let Some(ShortString::Three(a, b, c)) = suffix.before(prefix) {
-        return Ok(Query::Tri(trigram(a, b, c)));
-    }
-    all_trigrams(alloc, suffix.concatenate(prefix).bytes())
-}
-
-/// Adds a query for each pair of this suffix and a prefix.
-fn add_pair_queries(
+/// Adds the suffix followed by each prefix.
+fn add_pairs(
     alloc: Global,
     suffix: &EndString,
     prefixes: &[EndString],
-    members: &mut Vec<Query>,
+    strings: &mut Vec<ExactString>,
 ) -> Result<(), AllocError>
-    ensures keeps { OnOk result ((set : ℕ → Bool) → some_matches members.old.items set ≡ true →
-        some_matches members.new.items set ≡ true) }
-    ensures adds { OnOk result ((set : ℕ → Bool) (u v : List ℕ) → HasEndString Suffix suffix.now u →
-        HasSomeEndString Prefix prefixes.now v → HasTrigrams set (u ++ v) →
-        some_matches members.new.items set ≡ true) }
-    ensures mentioned { OnOk result ((suffixes : List EndString) → Contains suffixes suffix.now →
-        MentionOnlyAcross members.old.items suffixes prefixes.now →
-        MentionOnlyAcross members.new.items suffixes prefixes.now) }
+    ensures { OnOk result (strings.new.items ≡
+        strings.old.items ++ map (λ prefix. suffix.now.string ++ prefix.string) prefixes.now) }
 {
     for prefix in prefixes {
-        members.push(pair_query(alloc, suffix.string, prefix.string)?)?;
+        let (first, last) = (suffix.string.bytes(), prefix.string.bytes());
+        strings.push(ExactString::concatenation(alloc, first, last)?)?;
     }
     Ok(())
 }
 
-/// A query for each pair of a suffix and a prefix.
-fn pair_queries(
+/// Each suffix followed by each prefix.
+fn all_pairs(
     alloc: Global,
     suffixes: &[EndString],
     prefixes: &[EndString],
-) -> Result<Vec<Query>, AllocError>
-    ensures required { IfOk result (λ members.
-        SomeMatchesAcross members.items suffixes.now prefixes.now) }
-    ensures mentioned { IfOk result (λ members.
-        MentionOnlyAcross members.items suffixes.now prefixes.now) }
+) -> Result<Vec<ExactString>, AllocError>
+    ensures { IfOk result (λ strings. strings.items ≡ pairs suffixes.now prefixes.now) }
 {
-    let mut members = Vec::with_capacity(alloc, count_concatenations(suffixes, prefixes))?;
+    let mut strings = Vec::with_capacity(alloc, count_concatenations(suffixes, prefixes))?;
     for suffix in suffixes {
-        add_pair_queries(alloc, suffix, prefixes, &mut members)?;
+        add_pairs(alloc, suffix, prefixes, &mut strings)?;
     }
-    Ok(members)
-}
-
-/// Whether some string has at most `most` bytes.
-fn has_short(end_strings: &[EndString], most: usize) -> bool {
-    end_strings
-        .iter()
-        .any(|end_string| end_string.string.len() <= most)
-}
-
-/// Whether some pair has fewer than three bytes, and so no trigram.
-fn have_short_concatenation(suffixes: &[EndString], prefixes: &[EndString]) -> bool {
-    has_short(suffixes, 0) && has_short(prefixes, 2)
-        || has_short(suffixes, 1) && has_short(prefixes, 1)
-        || has_short(suffixes, 2) && has_short(prefixes, 0)
+    Ok(strings)
 }
 
 /// The number of pairs.
@@ -101,12 +62,10 @@ fn product_query(
     ensures required { IfOk result (λ query. MatchesAcross query suffixes.now prefixes.now) }
     ensures mentioned { IfOk result (λ query. MentionsOnly query (IsAcross suffixes.now prefixes.now)) }
 {
-    if have_short_concatenation(suffixes, prefixes)
-        || count_concatenations(suffixes, prefixes) > MAX_CONCATENATIONS
-    {
+    if count_concatenations(suffixes, prefixes) > MAX_CONCATENATIONS {
         return Ok(Query::All);
     }
-    Ok(any_of(pair_queries(alloc, suffixes, prefixes)?))
+    any_string(alloc, &all_pairs(alloc, suffixes, prefixes)?)
 }
 
 /// Requires, for some pair, the trigram of two bytes of the suffix and one of the prefix, and

@@ -2,15 +2,13 @@
 // truncation (`cross`, `union` and `simplifySet` in Go's codesearch). An end string is a prefix or
 // a suffix, depending on the side. Of two adjacent strings, the *near* one is at that side of both:
 // the first one for prefixes, the last one for suffixes.
-ghost use Rattle.std.specs.Prelude.{not, ◌≡◌, ◌<◌, ◌≤◌, ◌⊎◌, ◌++◌, [], ◌∷◌, ℕ, true, List, Contains, length, IfOk, IfSome, OnOk, IsTrue};
+ghost use Rattle.std.specs.Prelude.{not, ◌≡◌, ◌<◌, ◌≤◌, ◌⊎◌, ◌++◌, [], ◌∷◌, ℕ, true, List, length, IfOk, IfSome, OnOk};
 ghost use Rattle.std.specs.List.{list_all};
-ghost use Rattle.cs_tree.specs.Cover.{is_among};
-ghost use Rattle.cs_trigram.specs.EndStrings.{concatenation, near_part, are_all_empty, HasEndString, HasSomeEndString, Subsumes, SomeSubsumes, SubsumeAll, EachSubsumes, AreCoarser, AddsOnly, IsConcatenation, AreConcatenations, IsEndStringOfTwo, any_end, empty_end};
-ghost use Rattle.cs_trigram.specs.Truncations.{AreTruncationsOf};
-ghost use Rattle.cs_trigram.specs.ShortString.{bytes_of};
+ghost use Rattle.cs_syntax.specs.Matching.{Tree};
+ghost use Rattle.cs_trigram.specs.Analysis.{AreExactStrings};
+ghost use Rattle.cs_trigram.specs.EndStrings.{concatenation, near_part, are_all_empty, HasEndString, HasSomeEndString, Subsumes, SomeSubsumes, SubsumeAll, EachSubsumes, AreCoarser, AddsOnly, IsConcatenation, AreConcatenations, IsEndStringOfTwo, IsEndStringOfText, AreEndStrings, any_end, empty_end};
 
 use crate::exact_string::ExactString;
-use crate::short_string::ShortString;
 use std::alloc::{AllocError, Global};
 
 /// The most end strings of a set (`maxSet` in Go's codesearch).
@@ -27,79 +25,108 @@ pub(crate) enum Side {
 }
 
 /// A prefix or a suffix of a text.
-#[derive(Clone, Copy)]
+#[derive(Drop)]
 pub(crate) struct EndString {
-    pub(crate) string: ShortString,
+    pub(crate) string: ExactString,
     /// Whether the text is this string and nothing else.
     pub(crate) whole: bool,
 }
 
-/// The concatenation of a near string and a far one; `None` if it has more than three bytes.
-fn string_of_two(side: Side, near: ShortString, far: ShortString) -> Option<ShortString>
-    ensures { IfSome result (λ string. bytes_of string ≡
-        concatenation side (bytes_of near) (bytes_of far)) }
-{
-    match side {
-        Side::Prefix => near.before(far),
-        Side::Suffix => far.before(near),
-    }
-}
-
-/// The end string of the concatenation of two texts with these end strings.
-fn end_string_of_two(side: Side, near: EndString, far: EndString) -> EndString
-    ensures { IsEndStringOfTwo side near far result }
-{
-    if near.whole
-        && let Some(string) = string_of_two(side, near.string, far.string)
+impl EndString {
+    /// A copy.
+    fn copy(&self, alloc: Global) -> Result<EndString, AllocError>
+        ensures { IfOk result (λ copy. copy ≡ self.now) }
     {
-        return EndString {
+        let string = ExactString::of(alloc, self.string.bytes())?;
+        Ok(EndString {
             string,
-            whole: far.whole,
-        };
-    }
-    EndString {
-        string: near.string,
-        whole: false,
+            whole: self.whole,
+        })
     }
 }
 
-/// The first or last `len` bytes of a string, or all if it is shorter.
-fn near_string(side: Side, string: ShortString, len: usize) -> ShortString
-    ensures { bytes_of result ≡ near_part side len (bytes_of string) }
+/// The first or last `len` bytes of a longer text.
+fn near_bytes(side: Side, text: &[u8], len: usize) -> &[u8]
+    requires { len < length text.now }
+    ensures { result.now ≡ near_part side len text.now }
 {
     match side {
-        Side::Prefix => string.prefix(len),
-        Side::Suffix => string.suffix(len),
+        Side::Prefix => &text[..len],
+        Side::Suffix => &text[text.len() - len..],
     }
 }
 
-/// The end string, truncated to `longest` bytes.
-fn truncated_end_string(side: Side, end_string: EndString, longest: usize) -> EndString
-    ensures { Subsumes side result end_string }
+/// The end string of the texts with these bytes on the near side, or if `whole` of this text alone,
+/// truncated to `longest` bytes.
+fn end_string_of_text(
+    alloc: Global,
+    side: Side,
+    text: &[u8],
+    whole: bool,
+    longest: usize,
+) -> Result<EndString, AllocError>
+    ensures is { IfOk result (λ end_string. IsEndStringOfText side text.now whole end_string) }
+    ensures short { IfOk result (λ end_string. length end_string.string ≤ longest) }
 {
-    if end_string.string.len() <= longest {
-        return end_string;
+    if text.len() <= longest {
+        let string = ExactString::of(alloc, text)?;
+        return Ok(EndString { string, whole });
     }
-    EndString {
-        string: near_string(side, end_string.string, longest),
+    let string = ExactString::of(alloc, near_bytes(side, text, longest))?;
+    Ok(EndString {
+        string,
         whole: false,
+    })
+}
+
+/// The concatenation of a near string and a far one.
+fn string_of_two(
+    alloc: Global,
+    side: Side,
+    near: &ExactString,
+    far: &ExactString,
+) -> Result<ExactString, AllocError>
+    ensures { IfOk result (λ string. string ≡ concatenation side near.now far.now) }
+{
+    match side {
+        Side::Prefix => ExactString::concatenation(alloc, near.bytes(), far.bytes()),
+        Side::Suffix => ExactString::concatenation(alloc, far.bytes(), near.bytes()),
     }
+}
+
+/// The end string of the concatenation of two texts with these end strings, truncated to `longest`
+/// bytes.
+fn end_string_of_two(
+    alloc: Global,
+    side: Side,
+    near: &EndString,
+    far: &EndString,
+    longest: usize,
+) -> Result<EndString, AllocError>
+    ensures two { IfOk result (IsEndStringOfTwo side near.now far.now) }
+    ensures short { IfOk result (λ end_string. length end_string.string ≤ longest) }
+{
+    if near.whole {
+        let string = string_of_two(alloc, side, &near.string, &far.string)?;
+        return end_string_of_text(alloc, side, string.bytes(), far.whole, longest);
+    }
+    end_string_of_text(alloc, side, near.string.bytes(), false, longest)
 }
 
 /// Whether each text with the other end string certainly has this one: the strings are equal, and
 /// the other one is whole if this one is.
-fn subsumes(end_string: EndString, other: EndString) -> bool
-    ensures { result ≡ true → (side : Side) → Subsumes side end_string other }
+fn subsumes(end_string: &EndString, other: &EndString) -> bool
+    ensures { result ≡ true → (side : Side) → Subsumes side end_string.now other.now }
 {
-    end_string.string == other.string && (!end_string.whole || other.whole)
+    end_string.string.bytes() == other.string.bytes() && (!end_string.whole || other.whole)
 }
 
 /// Whether one of the end strings subsumes this one.
-fn has_subsuming(end_strings: &[EndString], end_string: EndString) -> bool
-    ensures { result ≡ true → (side : Side) → SomeSubsumes side end_strings.now end_string }
+fn has_subsuming(end_strings: &[EndString], end_string: &EndString) -> bool
+    ensures { result ≡ true → (side : Side) → SomeSubsumes side end_strings.now end_string.now }
 {
     for other in end_strings {
-        if subsumes(*other, end_string) {
+        if subsumes(other, end_string) {
             return true;
         }
     }
@@ -112,26 +139,10 @@ fn add_end_string(end_strings: &mut Vec<EndString>, end_string: EndString) -> Re
         SubsumeAll side end_strings.new.items (end_string ∷ end_strings.old.items)) }
     ensures each { OnOk result (AddsOnly end_strings.old.items end_strings.new.items (λ x. end_string ≡ x)) }
 {
-    if !has_subsuming(end_strings, end_string) {
+    if !has_subsuming(end_strings, &end_string) {
         end_strings.push(end_string)?;
     }
     Ok(())
-}
-
-/// Whether some end string has more than `len` bytes.
-fn has_longer(end_strings: &[EndString], len: usize) -> bool {
-    end_strings
-        .iter()
-        .any(|end_string| end_string.string.len() > len)
-}
-
-/// A copy of the list.
-fn copies(alloc: Global, end_strings: &[EndString]) -> Result<Vec<EndString>, AllocError>
-    ensures { IfOk result (λ copies. copies.items ≡ end_strings.now) }
-{
-    let mut copies = Vec::with_capacity(alloc, end_strings.len())?;
-    copies.extend_from_slice(end_strings)?;
-    Ok(copies)
 }
 
 /// The end strings, each truncated to `longest` bytes.
@@ -143,13 +154,11 @@ pub(crate) fn truncated_end_strings(
 ) -> Result<Vec<EndString>, AllocError>
     ensures { IfOk result (λ short. AreCoarser side short.items end_strings.now) }
 {
-    // Without truncation there are no duplicates.
-    if !has_longer(end_strings, longest) {
-        return copies(alloc, end_strings);
-    }
     let mut short = Vec::with_capacity(alloc, end_strings.len())?;
     for end_string in end_strings {
-        add_end_string(&mut short, truncated_end_string(side, *end_string, longest))?;
+        let text = end_string.string.bytes();
+        let shorter = end_string_of_text(alloc, side, text, end_string.whole, longest)?;
+        add_end_string(&mut short, shorter)?;
     }
     Ok(short)
 }
@@ -171,124 +180,32 @@ fn simplify_set(
     Ok(short)
 }
 
-/// The end string, truncated to `longest` bytes, of a text that continues on the far side: it is
-/// not whole.
-fn open_end_string(side: Side, end_string: EndString, longest: usize) -> EndString
-    ensures { (u v : List ℕ) → HasEndString side end_string u →
-        HasEndString side result (concatenation side u v) }
-{
-    let short = truncated_end_string(side, end_string, longest);
-    EndString {
-        string: short.string,
-        whole: false,
-    }
-}
-
-/// A set of end strings, truncated to each length.
-#[derive(Drop)]
-struct Truncations {
-    to_three: Vec<EndString>,
-    to_two: Vec<EndString>,
-    to_one: Vec<EndString>,
-    to_none: Vec<EndString>,
-}
-
-impl Truncations {
-    ghost use Rattle.cs_trigram.specs.Truncations.{AreTruncationsOf};
-
-    /// Truncates the end strings to each length.
-    fn new(alloc: Global, side: Side, end_strings: &[EndString]) -> Result<Truncations, AllocError>
-        ensures { IfOk result (λ truncations. AreTruncationsOf side truncations end_strings.now) }
-    {
-        let to_three = truncated_end_strings(alloc, side, end_strings, 3)?;
-        let to_two = truncated_end_strings(alloc, side, &to_three, 2)?;
-        let to_one = truncated_end_strings(alloc, side, &to_two, 1)?;
-        let to_none = truncated_end_strings(alloc, side, &to_one, 0)?;
-        Ok(Truncations {
-            to_three,
-            to_two,
-            to_one,
-            to_none,
-        })
-    }
-
-    /// The end strings truncated to `longest` bytes.
-    fn to(&self, longest: usize) -> &[EndString]
-        ensures { (side : Side) (end_strings : List EndString) → AreTruncationsOf side self.now end_strings →
-            AreCoarser side result.now end_strings }
-    {
-        match longest {
-            0 => &self.to_none,
-            1 => &self.to_one,
-            2 => &self.to_two,
-            _ => &self.to_three,
-        }
-    }
-}
-
-/// Adds the concatenations of an end string with each of the far ones, until there are more than
-/// `MAX_SET`.
+/// Adds the concatenations of an end string with each of the far ones, truncated to `longest`
+/// bytes, until there are more than `MAX_SET`.
 fn add_concatenations(
+    alloc: Global,
     side: Side,
-    near: EndString,
+    near: &EndString,
     fars: &[EndString],
+    longest: usize,
     end_strings: &mut Vec<EndString>,
 ) -> Result<(), AllocError>
+    requires { longest ≤ 3 }
     ensures keeps { OnOk result (SubsumeAll side end_strings.new.items end_strings.old.items) }
     ensures concatenates { OnOk result (length end_strings.new.items ≤ 20 → (u v : List ℕ) →
-        HasEndString side near u → HasSomeEndString side fars.now v →
+        HasEndString side near.now u → HasSomeEndString side fars.now v →
         HasSomeEndString side end_strings.new.items (concatenation side u v)) }
     ensures each { OnOk result (
-        AddsOnly end_strings.old.items end_strings.new.items (IsConcatenation side near fars.now)) }
+        AddsOnly end_strings.old.items end_strings.new.items (IsConcatenation side near.now fars.now)) }
 {
     for far in fars {
         if end_strings.len() > MAX_SET {
             return Ok(());
         }
-        add_end_string(end_strings, end_string_of_two(side, near, *far))?;
+        let both = end_string_of_two(alloc, side, near, far, longest)?;
+        add_end_string(end_strings, both)?;
     }
     Ok(())
-}
-
-/// Adds the concatenations of an end string with each of the far ones, truncated to `longest`
-/// bytes, until there are more than `MAX_SET`.
-fn add_truncated_concatenations(
-    side: Side,
-    near: EndString,
-    fars: &Truncations,
-    longest: usize,
-    end_strings: &mut Vec<EndString>,
-) -> Result<(), AllocError>
-    ensures keeps { OnOk result (SubsumeAll side end_strings.new.items end_strings.old.items) }
-    ensures concatenates { OnOk result (length end_strings.new.items ≤ 20 → (all : List EndString)
-        (u v : List ℕ) → AreTruncationsOf side fars.now all → HasEndString side near u →
-        HasSomeEndString side all v →
-        HasSomeEndString side end_strings.new.items (concatenation side u v)) }
-    ensures each { OnOk result ((all : List EndString) → AreTruncationsOf side fars.now all →
-        AddsOnly end_strings.old.items end_strings.new.items (IsConcatenation side near all)) }
-{
-    let len = near.string.len();
-    if !near.whole || len > longest {
-        return add_end_string(end_strings, open_end_string(side, near, longest));
-    }
-    add_concatenations(side, near, fars.to(longest - len), end_strings)
-}
-
-/// Whether the cross product certainly has more than `MAX_SET` members, tested before it is
-/// computed: if the near strings are whole and of one length, no two concatenations are equal.
-fn are_many(nears: &[EndString], fars: &Truncations, longest: usize) -> bool {
-    let Some(first) = nears.first() else {
-        return false;
-    };
-    let len = first.string.len();
-    if len > longest
-        || !nears
-            .iter()
-            .all(|near| near.whole && near.string.len() == len)
-    {
-        return false;
-    }
-    fars.to(longest - len).len() > MAX_SET / nears.len().max(1)
 }
 
 /// The cross product, truncated to `longest` bytes; `None` if it has more than `MAX_SET` members.
@@ -296,18 +213,16 @@ fn few_concatenations(
     alloc: Global,
     side: Side,
     nears: &[EndString],
-    fars: &Truncations,
+    fars: &[EndString],
     longest: usize,
 ) -> Result<Option<Vec<EndString>>, AllocError>
-    ensures { IfOk result (λ found. IfSome found (λ end_strings. (all : List EndString) →
-        AreTruncationsOf side fars.now all → AreConcatenations side nears.now all end_strings.items)) }
+    requires { longest ≤ 3 }
+    ensures { IfOk result (λ found. IfSome found (λ end_strings.
+        AreConcatenations side nears.now fars.now end_strings.items)) }
 {
-    if are_many(nears, fars, longest) {
-        return Ok(None);
-    }
     let mut end_strings = Vec::with_capacity(alloc, MAX_SET + 1)?;
     for near in nears {
-        add_truncated_concatenations(side, *near, fars, longest, &mut end_strings)?;
+        add_concatenations(alloc, side, near, fars, longest, &mut end_strings)?;
         if end_strings.len() > MAX_SET {
             return Ok(None);
         }
@@ -334,15 +249,25 @@ pub(crate) fn concatenate_end_strings(
     if are_inexact(nears) {
         return copies(alloc, nears);
     }
-    let truncations = Truncations::new(alloc, side, fars)?;
     let mut longest = MAX_LEN;
     'cut: while longest > 0 {
-        if let Some(end_strings) = few_concatenations(alloc, side, nears, &truncations, longest)? {
+        if let Some(end_strings) = few_concatenations(alloc, side, nears, fars, longest)? {
             return Ok(end_strings);
         }
         longest -= 1;
     }
     any_end_string(alloc)
+}
+
+/// A copy of the list.
+fn copies(alloc: Global, end_strings: &[EndString]) -> Result<Vec<EndString>, AllocError>
+    ensures { IfOk result (λ copies. copies.items ≡ end_strings.now) }
+{
+    let mut copies = Vec::with_capacity(alloc, end_strings.len())?;
+    for end_string in end_strings {
+        copies.push(end_string.copy(alloc)?)?;
+    }
+    Ok(copies)
 }
 
 /// The union of the two sets, truncated to at most `MAX_SET` members.
@@ -359,61 +284,33 @@ pub(crate) fn union_of_end_strings(
 {
     let mut both = end_strings;
     for end_string in more {
-        add_end_string(&mut both, *end_string)?;
+        add_end_string(&mut both, end_string.copy(alloc)?)?;
     }
     simplify_set(alloc, side, both)
+}
+
+/// The end string without bytes: if it is not whole, every text has it, otherwise the empty text.
+fn bare_end_string(alloc: Global, whole: bool) -> Result<Vec<EndString>, AllocError>
+    ensures { IfOk result (λ end_strings. end_strings.items ≡ (record { string = []; whole = whole }) ∷ []) }
+{
+    let string = ExactString::of(alloc, &[])?;
+    let mut end_strings = Vec::new(alloc);
+    end_strings.push(EndString { string, whole })?;
+    Ok(end_strings)
 }
 
 /// The end string that every text has: no bytes, not whole.
 pub(crate) fn any_end_string(alloc: Global) -> Result<Vec<EndString>, AllocError>
     ensures { IfOk result (λ any. any.items ≡ any_end ∷ []) }
 {
-    let mut end_strings = Vec::new(alloc);
-    end_strings.push(EndString {
-        string: ShortString::Empty,
-        whole: false,
-    })?;
-    Ok(end_strings)
+    bare_end_string(alloc, false)
 }
 
 /// The end string of the empty text: no bytes, whole.
 pub(crate) fn empty_end_string(alloc: Global) -> Result<Vec<EndString>, AllocError>
     ensures { IfOk result (λ end_strings. end_strings.items ≡ empty_end ∷ []) }
 {
-    let mut end_strings = Vec::new(alloc);
-    end_strings.push(EndString {
-        string: ShortString::Empty,
-        whole: true,
-    })?;
-    Ok(end_strings)
-}
-
-/// The first or last `len` bytes of a string.
-fn near_bytes(side: Side, string: &[u8], len: usize) -> &[u8]
-    requires shorter { len < length string.now }
-    ensures { result.now ≡ near_part side len string.now }
-{
-    match side {
-        Side::Prefix => &string[..len],
-        Side::Suffix => &string[string.len() - len..],
-    }
-}
-
-/// The end string of one exact string.
-fn end_string_of(side: Side, string: &ExactString) -> EndString
-    ensures { HasEndString side result string.now }
-{
-    let bytes = string.bytes();
-    if bytes.len() <= MAX_LEN {
-        return EndString {
-            string: ShortString::of(bytes),
-            whole: true,
-        };
-    }
-    EndString {
-        string: ShortString::of(near_bytes(side, bytes, MAX_LEN)),
-        whole: false,
-    }
+    bare_end_string(alloc, true)
 }
 
 /// The end strings of exact strings.
@@ -422,14 +319,13 @@ pub(crate) fn end_strings_of(
     side: Side,
     strings: &[ExactString],
 ) -> Result<Vec<EndString>, AllocError>
-    ensures all { IfOk result (λ end_strings. (text : List ℕ) → IsTrue (is_among strings.now text) →
-        HasSomeEndString side end_strings.items text) }
-    ensures each { IfOk result (λ end_strings. (x : EndString) → Contains end_strings.items x →
-        (text : List ℕ) × IsTrue (is_among strings.now text) × HasEndString side x text) }
+    ensures { IfOk result (λ end_strings. (t : Tree) → AreExactStrings strings.now t →
+        AreEndStrings side end_strings.items t) }
 {
     let mut end_strings = Vec::with_capacity(alloc, strings.len())?;
     for string in strings {
-        add_end_string(&mut end_strings, end_string_of(side, string))?;
+        let end_string = end_string_of_text(alloc, side, string.bytes(), true, MAX_LEN)?;
+        add_end_string(&mut end_strings, end_string)?;
     }
     Ok(end_strings)
 }
@@ -440,5 +336,5 @@ pub(crate) fn are_empty(end_strings: &[EndString]) -> bool
 {
     end_strings
         .iter()
-        .all(|end_string| end_string.string.len() == 0)
+        .all(|end_string| end_string.string.bytes().len() == 0)
 }

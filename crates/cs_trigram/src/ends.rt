@@ -2,14 +2,14 @@
 ghost use Rattle.std.specs.Prelude.{IfOk, ℕ, Option};
 ghost use Rattle.cs_syntax.specs.Matching.{Tree, Trees, none, more, rep};
 ghost use Rattle.cs_trigram.specs.EndStrings.{AreEndStrings, AreEndStringsOfRepeat};
-ghost use Rattle.cs_trigram.specs.ExactSet.{IsExactSetOf};
+ghost use Rattle.cs_trigram.specs.Analysis.{AreExactStrings};
 ghost use Rattle.cs_trigram.specs.Ends.{AreEnds, AreEndsOfAll, AreEndsOfSome};
 
 use crate::end_strings::{
     EndString, Side, any_end_string, concatenate_end_strings, empty_end_string, end_strings_of,
     union_of_end_strings,
 };
-use crate::exact_set::ExactSet;
+use crate::exact_string::ExactString;
 use std::alloc::{AllocError, Global};
 
 /// The most iterations that a repeat is unrolled to: an end string has at most three bytes.
@@ -20,21 +20,6 @@ const MAX_ITERATIONS: u32 = 3;
 pub(crate) struct Ends {
     pub(crate) prefixes: Vec<EndString>,
     pub(crate) suffixes: Vec<EndString>,
-}
-
-/// The end strings of a tree with this exact set.
-fn end_strings_of_exact(
-    alloc: Global,
-    side: Side,
-    strings: &ExactSet,
-) -> Result<Vec<EndString>, AllocError>
-    ensures { IfOk result (λ end_strings. (t : Tree) → IsExactSetOf strings.now t →
-        AreEndStrings side end_strings.items t) }
-{
-    match strings {
-        ExactSet::Few(few) => end_strings_of(alloc, side, few),
-        _ => any_end_string(alloc),
-    }
 }
 
 /// The end strings of at least `least` iterations.
@@ -56,12 +41,21 @@ fn end_strings_of_repeat(
 }
 
 impl Ends {
-    /// The ends of a tree with this exact set.
-    pub(crate) fn of_exact(alloc: Global, strings: &ExactSet) -> Result<Ends, AllocError>
-        ensures { IfOk result (λ ends. (t : Tree) → IsExactSetOf strings.now t → AreEnds ends t) }
+    /// The ends of a tree with these exact strings.
+    pub(crate) fn of_strings(alloc: Global, strings: &[ExactString]) -> Result<Ends, AllocError>
+        ensures { IfOk result (λ ends. (t : Tree) → AreExactStrings strings.now t → AreEnds ends t) }
     {
-        let prefixes = end_strings_of_exact(alloc, Side::Prefix, strings)?;
-        let suffixes = end_strings_of_exact(alloc, Side::Suffix, strings)?;
+        let prefixes = end_strings_of(alloc, Side::Prefix, strings)?;
+        let suffixes = end_strings_of(alloc, Side::Suffix, strings)?;
+        Ok(Ends { prefixes, suffixes })
+    }
+
+    /// The ends that every tree has.
+    pub(crate) fn of_any(alloc: Global) -> Result<Ends, AllocError>
+        ensures { IfOk result (λ ends. (t : Tree) → AreEnds ends t) }
+    {
+        let prefixes = any_end_string(alloc)?;
+        let suffixes = any_end_string(alloc)?;
         Ok(Ends { prefixes, suffixes })
     }
 

@@ -7,7 +7,7 @@ ghost use Rattle.cs_trigram.specs.CharStrings.{range_forms, with_form};
 ghost use Rattle.cs_syntax.specs.CharRanges.{IsCharRange};
 ghost use Rattle.cs_trigram.specs.ExactSet.{IsExactSetOf};
 
-use crate::exact_set::ExactSet;
+use crate::exact_set::{concatenate, is_infinite, union};
 use crate::exact_string::{ExactString, MAX_EXACT, add_string};
 use cs_syntax::{ByteSet, CharSet};
 use std::alloc::{AllocError, Global};
@@ -17,7 +17,7 @@ pub(crate) fn empty_string(alloc: Global) -> Result<Vec<ExactString>, AllocError
     ensures { IfOk result (λ strings. strings.items ≡ [] ∷ []) }
 {
     let mut strings = Vec::new(alloc);
-    strings.push(ExactString::empty(alloc))?;
+    strings.push(ExactString::of(alloc, &[])?)?;
     Ok(strings)
 }
 
@@ -31,7 +31,7 @@ fn add_byte(
     ensures { OnOk result (strings.new.items ≡ with_byte strings.old.items set.now byte) }
 {
     if set.contains(byte) {
-        add_string(strings, ExactString::of_byte(alloc, byte))?;
+        add_string(strings, ExactString::of(alloc, &[byte])?)?;
     }
     Ok(())
 }
@@ -95,15 +95,18 @@ pub(crate) fn strings_of_chars(alloc: Global, set: &CharSet) -> Result<Vec<Exact
 }
 
 /// The exact set of at most `most` iterations of a finite tree.
-fn strings_up_to(alloc: Global, once: &ExactSet, most: u32) -> Result<ExactSet, AllocError>
+fn strings_up_to(
+    alloc: Global,
+    once: &Option<Vec<ExactString>>,
+    most: u32,
+) -> Result<Option<Vec<ExactString>>, AllocError>
     ensures { IfOk result (λ strings. (t : Tree) → IsExactSetOf once.now t → is_finite t ≡ true →
         IsExactSetOf strings (rep t 0 (Some most))) }
 {
-    let mut strings = ExactSet::Few(empty_string(alloc)?);
+    let mut strings = Some(empty_string(alloc)?);
     for _iteration in 0..most {
-        strings = once
-            .concatenate(alloc, strings)?
-            .or(alloc, &ExactSet::Few(empty_string(alloc)?))?;
+        let more = concatenate(alloc, once, &strings)?;
+        strings = union(alloc, &more, &Some(empty_string(alloc)?))?;
     }
     Ok(strings)
 }
@@ -111,17 +114,17 @@ fn strings_up_to(alloc: Global, once: &ExactSet, most: u32) -> Result<ExactSet, 
 /// The exact set of `count` more iterations of a finite tree.
 fn strings_repeated(
     alloc: Global,
-    once: &ExactSet,
+    once: &Option<Vec<ExactString>>,
     count: u32,
-    suffixes: ExactSet,
-) -> Result<ExactSet, AllocError>
+    suffixes: Option<Vec<ExactString>>,
+) -> Result<Option<Vec<ExactString>>, AllocError>
     ensures { IfOk result (λ strings. (t : Tree) (least most : ℕ) → IsExactSetOf once.now t →
         is_finite t ≡ true → least ≤ most → IsExactSetOf suffixes (rep t least (Some most)) →
         IsExactSetOf strings (rep t (least + count) (Some (most + count)))) }
 {
     let mut strings = suffixes;
     for _iteration in 0..count {
-        strings = once.concatenate(alloc, strings)?;
+        strings = concatenate(alloc, once, &strings)?;
     }
     Ok(strings)
 }
@@ -129,18 +132,18 @@ fn strings_repeated(
 /// The exact set of a repeat.
 pub(crate) fn strings_of_repeat(
     alloc: Global,
-    once: &ExactSet,
+    once: &Option<Vec<ExactString>>,
     least: u32,
     most: Option<u32>,
-) -> Result<ExactSet, AllocError>
+) -> Result<Option<Vec<ExactString>>, AllocError>
     ensures { IfOk result (λ strings. (t : Tree) → IsExactSetOf once.now t →
         IsExactSetOf strings (rep t least most)) }
 {
     let Some(most) = most else {
-        return Ok(ExactSet::Infinite);
+        return Ok(None);
     };
-    if most < least || once.is_infinite() {
-        return Ok(ExactSet::Infinite);
+    if most < least || is_infinite(once) {
+        return Ok(None);
     }
     let beyond = strings_up_to(alloc, once, most - least)?;
     strings_repeated(alloc, once, least, beyond)

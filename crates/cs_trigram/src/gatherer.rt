@@ -1,13 +1,12 @@
 // Reads a file block by block, tests the text rules and collects the trigrams.
 ghost use Rattle.std.specs.Prelude.{◌≡◌, ◌+◌, ◌<◌, ◌≤◌, ◌^◌, ℕ, List, [], None, Ok, length, IfOk};
-ghost use Rattle.std.specs.List.{AllByRecursion};
 ghost use Rattle.cs_tree.specs.ConsumesAtMost.{ConsumesAtMost};
 ghost use Rattle.cs_tree.specs.FailureCount.{count_after};
 ghost use Rattle.cs_tree.specs.StreamModels.{ends};
 ghost use Rattle.cs_trigram.specs.Scans.{ScanOutcome, scan_outcome_of, is_scan_failure, ReportsUnordered, HasDistinctTrigrams, IsScanOf, HasTrigramSet};
 ghost use Rattle.cs_trigram.specs.Text.{first_broken};
 ghost use Rattle.cs_trigram.specs.Trigram.{set_of_numbers};
-ghost use Rattle.cs_trigram.specs.TrigramSets.{trigram_count, AreDistinct};
+ghost use Rattle.cs_trigram.specs.TrigramSets.{AreDistinct};
 ghost use Rattle.cs_trigram.specs.Small.{IsSmall};
 ghost use Rattle.cs_trigram.specs.declared.seen_trigrams.TheConstants.{WITH_TWO};
 ghost use Rattle.cs_trigram.specs.SeenTrigrams.{HasSeenBytes, IsSound, numbers_of};
@@ -19,7 +18,6 @@ use crate::limits::Limits;
 use crate::position::Position;
 use crate::scan::{Gathered, Reason, Scan, ScanFault};
 use crate::seen_trigrams::{BLOCK, SeenTrigrams};
-use crate::trigram_sorter::TrigramSorter;
 use cs_tree::{IoFault, Source};
 use std::alloc::{AllocError, Global};
 
@@ -86,19 +84,21 @@ fn read_to_end<R: Source>(
     }
 }
 
+/// Sorts distinct numbers.
+pub(crate) fn sort_distinct(numbers: &mut [u32])
+    requires { AreDistinct numbers.old }
+    ensures { numbers.new ≡ set_of_numbers numbers.old }
+{
+    numbers.sort_unstable();
+}
+
 /// The sorted set of distinct numbers.
-fn set_of(
-    alloc: Global,
-    sorter: &mut TrigramSorter,
-    numbers: &[u32],
-) -> Result<Vec<u32>, AllocError>
-    requires fits { length numbers.now < 2 ^ 32 }
-    requires below { AllByRecursion (λ n. n < trigram_count) numbers.now }
-    requires once { AreDistinct numbers.now }
+fn set_of(alloc: Global, numbers: &[u32]) -> Result<Vec<u32>, AllocError>
+    requires { AreDistinct numbers.now }
     ensures { IfOk result (λ set. set.items ≡ set_of_numbers numbers.now) }
 {
     let mut set = Vec::from_slice(alloc, numbers)?;
-    sorter.sort(&mut set);
+    sort_distinct(&mut set);
     Ok(set)
 }
 
@@ -161,7 +161,6 @@ impl Gatherer {
     pub(crate) fn scan<R: Source>(
         &mut self,
         alloc: Global,
-        sorter: &mut TrigramSorter,
         source: &mut R,
     ) -> Result<Scan, ScanFault>
         requires { IsPrepared self.old }
@@ -176,7 +175,7 @@ impl Gatherer {
     {
         match self.read(source)? {
             Outcome::Text(bytes) => {
-                let trigrams = set_of(alloc, sorter, self.found.numbers())?;
+                let trigrams = set_of(alloc, self.found.numbers())?;
                 Ok(Scan::Text { trigrams, bytes })
             }
             Outcome::Skip(reason) => Ok(Scan::Skip(reason)),

@@ -4,27 +4,31 @@ ghost use Rattle.cs_syntax.specs.TreeList.{append};
 ghost use Rattle.cs_syntax.specs.Matching.{Tree, Trees, none, more};
 ghost use Rattle.cs_trigram.specs.ExactStrings.{HaveFewExactStrings};
 ghost use Rattle.cs_trigram.specs.Analysis.{AreExactStrings, AreExactStringsOfRun, IsLongestLeadingRun};
-ghost use Rattle.cs_trigram.specs.ExactSet.{AreExactSetsReversed};
+ghost use Rattle.cs_trigram.specs.ExactSet.{IsExactSetOf, AreExactSetsReversed};
 
-use crate::exact_set::ExactSet;
-use crate::exact_string::{ExactString, copies, few_concatenations};
+use crate::exact_set::few_strings;
+use crate::exact_string::{ExactString, MAX_EXACT, copies, cross_product};
 use std::alloc::{AllocError, Global};
 
 /// The exact strings of a run extended by the part after it, if there are one to twenty.
 fn extended_run(
     alloc: Global,
     strings: &[ExactString],
-    suffixes: &[ExactString],
+    next: &Option<Vec<ExactString>>,
 ) -> Result<Option<Vec<ExactString>>, AllocError>
     ensures { IfOk result (λ found. (run : Trees) (t : Tree) →
-        AreExactStringsOfRun strings.now run → AreExactStrings suffixes.now t →
+        AreExactStringsOfRun strings.now run → IsExactSetOf next.now t →
         MatchOption found (¬ HaveFewExactStrings (append run (more t none)))
         (λ longer. AreExactStringsOfRun longer.items (append run (more t none)))) }
 {
-    let Some(longer) = few_concatenations(alloc, strings, suffixes)? else {
+    let Some(suffixes) = few_strings(next) else {
         return Ok(None);
     };
+    let longer = cross_product(alloc, strings, suffixes)?;
     if longer.len() == 0 {
+        return Ok(None);
+    }
+    if longer.len() > MAX_EXACT {
         return Ok(None);
     }
     Ok(Some(longer))
@@ -36,7 +40,7 @@ fn extended_run(
 pub(crate) fn longest_leading_run(
     alloc: Global,
     strings: &[ExactString],
-    following: &[ExactSet],
+    following: &[Option<Vec<ExactString>>],
 ) -> Result<Vec<ExactString>, AllocError>
     ensures { IfOk result (λ leading. (t : Tree) (ts : Trees) → AreExactStrings strings.now t →
         AreExactSetsReversed following.now ts → IsLongestLeadingRun (more t ts) leading.items) }
@@ -45,10 +49,7 @@ pub(crate) fn longest_leading_run(
     let mut index = following.len();
     'parts: while index > 0 {
         index -= 1;
-        let Some(suffixes) = following[index].few() else {
-            return Ok(leading);
-        };
-        let Some(longer) = extended_run(alloc, &leading, suffixes)? else {
+        let Some(longer) = extended_run(alloc, &leading, &following[index])? else {
             return Ok(leading);
         };
         leading = longer;

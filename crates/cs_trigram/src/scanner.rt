@@ -8,7 +8,6 @@ ghost use Rattle.cs_trigram.specs.Text.{limits};
 use crate::gatherer::Gatherer;
 use crate::limits::LIMITS;
 use crate::scan::{Gathered, Scan, ScanFault};
-use crate::trigram_sorter::TrigramSorter;
 use cs_tree::Source;
 use std::alloc::{AllocError, Global};
 use std::marker::Model;
@@ -18,7 +17,6 @@ use std::marker::Model;
 #[derive(Drop)]
 pub struct Scanner {
     alloc: Global,
-    sorter: TrigramSorter,
     gatherer: Gatherer,
 }
 
@@ -38,7 +36,6 @@ impl Scanner {
     pub fn new(alloc: Global) -> Result<Scanner, AllocError> {
         Ok(Scanner {
             alloc,
-            sorter: TrigramSorter::new(alloc, LIMITS.trigrams)?,
             gatherer: Gatherer::new(alloc, LIMITS)?,
         })
     }
@@ -57,7 +54,7 @@ impl Scanner {
         ensures bounded { ConsumesAtMost (limits.bytes + 1) (R.model source.old) (R.model source.new) }
         ensures keeps { R.Keeps source.old source.new }
     {
-        self.gatherer.scan(self.alloc, &mut self.sorter, source)
+        self.gatherer.scan(self.alloc, source)
     }
 
     /// Scans a file as `scan` does. The trigrams of the result are borrowed from the scanner, in

@@ -12,13 +12,12 @@ ghost use Rattle.cs_trigram.specs.declared.end_strings.Side.TheVariants.{Prefix,
 use crate::connectives::{add_conjunct, any_string};
 use crate::cross_product::cross_product_query;
 use crate::end_strings::{EndString, are_empty};
-use crate::exact_set::ExactSet;
-use crate::exact_string::{ExactString, are_longer, few_concatenations, prepend_to_owned};
+use crate::exact_set::few_strings;
+use crate::exact_string::{ExactString, MAX_EXACT, are_longer, cross_product};
 use crate::expansion::empty_string;
 use crate::leading_run::longest_leading_run;
 use crate::queries::Query;
 use std::alloc::{AllocError, Global};
-use std::mem;
 
 /// The query of the last parts of a sequence.
 #[derive(Drop)]
@@ -29,7 +28,7 @@ pub(crate) struct SequenceQuery {
     /// The other requirements.
     conjuncts: Vec<Query>,
     /// The exact set of each part, that of the first part last.
-    parts: Vec<ExactSet>,
+    parts: Vec<Option<Vec<ExactString>>>,
 }
 
 impl SequenceQuery {
@@ -54,9 +53,9 @@ impl SequenceQuery {
         ensures required { OnOk result ((t : Tree) (ts : Trees) → ¬ HasFewExactStrings t → IsCorrect match_query t →
             ExtendsSequenceQuery self.old self.new t ts) }
     {
-        let finished_run = mem::replace(&mut self.leading, empty_string(alloc)?);
-        add_conjunct(&mut self.conjuncts, any_string(alloc, &finished_run)?)?;
+        add_conjunct(&mut self.conjuncts, any_string(alloc, &self.leading)?)?;
         add_conjunct(&mut self.conjuncts, match_query)?;
+        self.leading = empty_string(alloc)?;
         Ok(())
     }
 
@@ -66,17 +65,13 @@ impl SequenceQuery {
         ensures required { OnOk result ((t : Tree) (ts : Trees) → AreExactStrings strings.now t →
             AreExactSetsReversed self.old.parts.items ts → ExtendsSequenceQuery self.old self.new t ts) }
     {
-        let finished_run = mem::replace(&mut self.leading, Vec::new(alloc));
-        if strings.len() == 1 {
-            self.leading = prepend_to_owned(alloc, &strings[0], finished_run)?;
-            return Ok(());
-        }
-        if let Some(longer) = few_concatenations(alloc, strings, &finished_run)? {
+        let longer = cross_product(alloc, strings, &self.leading)?;
+        if longer.len() <= MAX_EXACT {
             self.leading = longer;
             return Ok(());
         }
+        add_conjunct(&mut self.conjuncts, any_string(alloc, &self.leading)?)?;
         self.leading = longest_leading_run(alloc, strings, &self.parts)?;
-        add_conjunct(&mut self.conjuncts, any_string(alloc, &finished_run)?)?;
         Ok(())
     }
 
@@ -85,13 +80,13 @@ impl SequenceQuery {
         &mut self,
         alloc: Global,
         match_query: Query,
-        strings: &ExactSet,
+        exact: &Option<Vec<ExactString>>,
     ) -> Result<(), AllocError>
         ensures parts { OnOk result (self.new.parts ≡ self.old.parts) }
-        ensures required { OnOk result ((t : Tree) (ts : Trees) → IsExactSetOf strings.now t → IsMatchQuery match_query t →
+        ensures required { OnOk result ((t : Tree) (ts : Trees) → IsExactSetOf exact.now t → IsCorrect match_query t →
             AreExactSetsReversed self.old.parts.items ts → ExtendsSequenceQuery self.old self.new t ts) }
     {
-        match strings.few() {
+        match few_strings(exact) {
             Some(few) => self.prepend_few(alloc, few),
             None => self.cut(alloc, match_query),
         }
@@ -102,7 +97,7 @@ impl SequenceQuery {
     fn extends_past(&self, suffix: &EndString) -> bool
         ensures { result ≡ goes_two_past self.now.leading.items suffix.now }
     {
-        suffix.whole && are_longer(&self.leading, suffix.string.len() + 1)
+        suffix.whole && are_longer(&self.leading, suffix.string.bytes().len() + 1)
     }
 
     /// The same, for each of these suffixes.
@@ -159,19 +154,19 @@ impl SequenceQuery {
         &mut self,
         alloc: Global,
         match_query: Query,
-        strings: ExactSet,
+        exact: Option<Vec<ExactString>>,
         suffixes: &[EndString],
         prefixes: &[EndString],
     ) -> Result<(), AllocError>
-        ensures parts { OnOk result ((t : Tree) (ts : Trees) → IsExactSetOf strings t →
+        ensures parts { OnOk result ((t : Tree) (ts : Trees) → IsExactSetOf exact t →
             AreExactSetsReversed self.old.parts.items ts → AreExactSetsReversed self.new.parts.items (more t ts)) }
-        ensures required { OnOk result ((t : Tree) (ts : Trees) → IsExactSetOf strings t → IsMatchQuery match_query t →
+        ensures required { OnOk result ((t : Tree) (ts : Trees) → IsExactSetOf exact t → IsCorrect match_query t →
             AreEndStrings Suffix suffixes.now t → AreEndStringsOfAll Prefix prefixes.now ts →
             AreExactSetsReversed self.old.parts.items ts → ExtendsSequenceQuery self.old self.new t ts) }
     {
-        self.prepend(alloc, match_query, &strings)?;
+        self.prepend(alloc, match_query, &exact)?;
         self.add_cross(alloc, suffixes, prefixes)?;
-        self.parts.push(strings)?;
+        self.parts.push(exact)?;
         Ok(())
     }
 

@@ -1,5 +1,5 @@
 -- Filtered ids, ranges of ids and ascending ids.
-use Rattle.std.proofs.Common.{◌≡◌, ℕ, zero, suc, ◌+◌, ◌-◌, ◌<◌, ◌≤◌, true, false, ◌&&◌, ◌||◌, eqb, ltb, List, [], ◌∷◌, ◌++◌, refl, sym, ap, subst, ◌∙◌, ◌⊎◌, inl, inr, arith, Option, Some, None}
+use Rattle.std.proofs.Common.{◌≡◌, ℕ, zero, suc, ◌+◌, ◌-◌, ◌<◌, ◌≤◌, true, ◌&&◌, ◌||◌, eqb, ltb, List, [], ◌∷◌, refl, sym, ap, subst, ◌∙◌, inl, inr, arith, Option, Some, None}
 use Rattle.cs_index.specs.AscendingIds.{AscendWithin}
 use Rattle.cs_index.specs.PostingLists.{read_varint, Ids, damage, onto, read_ids}
 use Rattle.cs_trigram.specs.Trigram.{has, Ascends}

@@ -7,7 +7,7 @@ use Rattle.cs_index.specs.AscendingIds.{AscendWithin, max_ids}
 use Rattle.cs_trigram.specs.Trigram.{has}
 use Rattle.cs_trigram.specs.Query.{matches_set}
 use Rattle.cs_trigram.specs.declared.queries.Query.{Query, Query-F, map-Query, roll-Query, ind-Query}
-use Rattle.cs_trigram.specs.declared.queries.Query.TheVariants.{All, Nothing, Tri, And, Or, rolls-All, rolls-Nothing, rolls-Tri, rolls-And, rolls-Or}
+use Rattle.cs_trigram.specs.declared.queries.Query.TheVariants.{Tri, And, Or, rolls-All, rolls-Nothing, rolls-Tri, rolls-And, rolls-Or}
 use Rattle.cs_trigram.proofs.QueryLemmas.{matches_set-All, matches_set-Nothing, matches_set-Tri}
 use Rattle.cs_index.specs.Encoding.{ListEntry}
 use Rattle.cs_index.specs.PostingLists.{Ids, set_at}
@@ -18,7 +18,8 @@ use Rattle.cs_index.specs.Answerable.{mentions, is_answerable}
 use Rattle.cs_index.specs.Postings.{read_for}
 use Rattle.cs_index.specs.declared.reading.form.Node.{Node}
 use Rattle.cs_index.specs.Form.{number_matches, IsNumberOf}
-use Rattle.cs_index.specs.Rows.{are_whole, have_id}
+use Rattle.cs_index.specs.Rows.{are_whole, have_id, IsLeftFrom}
+use Rattle.cs_index.specs.StoredLists.{ListState, Holds, ids_left}
 use Rattle.cs_index.proofs.candidates.FormValues.{all_at, all_from, bool_eq}
 use Rattle.cs_index.proofs.candidates.QueryMembers.{answerable_as, answerable-Tri, candidates_are, list_rises, is_mentioned-And, is_mentioned-Or, is_mentioned-Tri, matches_set-And, matches_set-Or, set_is}
 
@@ -96,6 +97,12 @@ module _ (mentioned : ℕ → Bool) (whole : ListEntry → Bool) where
       head holds (inl here) = or_right (not (eqb e.trigram g)) (whole e) (sym (ap (λ b. not b || whole e) (ap mentioned (eqb-true e.trigram g here) ∙ there)) ∙ holds)
       head holds (inr apart) = ap (λ b. not b || whole e) apart
 
+abbrev ids_have : List Ids → ℕ → List Bool
+ids_have lists id = map (λ (list : Ids). has list.ids id) lists
+
+abbrev ids_whole : List Ids → Bool
+ids_whole lists = list_all (λ (list : Ids). list.whole) lists
+
 module _ (parts : Parts) (up : rises parts.entries ≡ true) (query : Query) (trigrams : List ℕ) (are : (g : ℕ) → has trigrams g ≡ mentions query g) where
   one_list : (g : ℕ) → list_all (λ (e : ListEntry). not (eqb e.trigram g) || (ids_read parts e).whole) parts.entries ≡ (read_for parts g).whole
   one_list g = sym (answerable_as parts (Tri g) (λ h. eqb h g) (λ h. is_mentioned-Tri h g)) ∙ answerable-Tri parts up g
@@ -112,19 +119,19 @@ module _ (parts : Parts) (up : rises parts.entries ≡ true) (query : Query) (tr
   map_alike f h [] same = refl
   map_alike f h (x ∷ xs) same = λ i. same x (or_left (eqb x x) (has xs x) (eq-eqb x x refl)) i ∷ map_alike f h xs (λ g there. same g (or_right (eqb x g) (has xs g) there)) i
 
-  have_all : (id : ℕ) (xs : List ℕ) → have_id (map (read_for parts) xs) id ≡ map (λ g. has (read_for parts g).ids id) xs
+  have_all : (id : ℕ) (xs : List ℕ) → ids_have (map (read_for parts) xs) id ≡ map (λ g. has (read_for parts g).ids id) xs
   have_all id [] = refl
   have_all id (x ∷ xs) = λ i. has (read_for parts x).ids id ∷ have_all id xs i
 
-  whole_all : (xs : List ℕ) → are_whole (map (read_for parts) xs) ≡ list_all (λ g. (read_for parts g).whole) xs
+  whole_all : (xs : List ℕ) → ids_whole (map (read_for parts) xs) ≡ list_all (λ g. (read_for parts g).whole) xs
   whole_all [] = refl
   whole_all (x ∷ xs) = λ i. (read_for parts x).whole && whole_all xs i
 
-  pub lists_answer' : are_whole (map (read_for parts) trigrams) ≡ is_answerable parts query
+  pub lists_answer' : ids_whole (map (read_for parts) trigrams) ≡ is_answerable parts query
   lists_answer' = whole_all trigrams ∙ lists_answer
 
   -- the form matches an id as the query does
-  form_matches : (nodes : List Node) (root : ℕ) → IsNumberOf trigrams nodes query root → are_whole (map (read_for parts) trigrams) ≡ true → (id : ℕ) → number_matches (have_id (map (read_for parts) trigrams) id) nodes root ≡ name_matches parts query id
+  form_matches : (nodes : List Node) (root : ℕ) → IsNumberOf trigrams nodes query root → ids_whole (map (read_for parts) trigrams) ≡ true → (id : ℕ) → number_matches (ids_have (map (read_for parts) trigrams) id) nodes root ≡ name_matches parts query id
   form_matches nodes root number whole id =
       let set : ℕ → Bool = λ g. has trigrams g && has (whole_ids (read_for parts g)) id in
       let each : (g : ℕ) → has trigrams g ≡ true → has (read_for parts g).ids id ≡ set g =
@@ -133,7 +140,7 @@ module _ (parts : Parts) (up : rises parts.entries ≡ true) (query : Query) (tr
       ∙ number set (λ g gone. ap (λ b. b && has (whole_ids (read_for parts g)) id) gone)
       ∙ matches_same set (λ g. has (set_at id (lists_in parts)) g) query (λ g there. ap (λ b. b && has (whole_ids (read_for parts g)) id) (are g ∙ there) ∙ sym (set_is parts up g id))
 
-  pub candidates_met : (nodes : List Node) (root : ℕ) (count : ℕ) (ids : List ℕ) → count ≡ length parts.names → IsNumberOf trigrams nodes query root → are_whole (map (read_for parts) trigrams) ≡ true → ids ≡ filter (λ id. number_matches (have_id (map (read_for parts) trigrams) id) nodes root) (range_with_len 0 count) → ids ≡ candidates_of parts query
+  pub candidates_met : (nodes : List Node) (root : ℕ) (count : ℕ) (ids : List ℕ) → count ≡ length parts.names → IsNumberOf trigrams nodes query root → ids_whole (map (read_for parts) trigrams) ≡ true → ids ≡ filter (λ id. number_matches (ids_have (map (read_for parts) trigrams) id) nodes root) (range_with_len 0 count) → ids ≡ candidates_of parts query
   candidates_met nodes root count ids names number whole is =
       is ∙ (λ i. filter (λ id. form_matches nodes root number whole id i) (range_with_len 0 (names i))) ∙ sym (candidates_are parts query)
 
@@ -144,3 +151,33 @@ module _ (parts : Parts) (up : rises parts.entries ≡ true) (query : Query) (tr
       wider : (next : ℕ) (ids : List ℕ) → AscendWithin (length parts.names) next ids → AscendWithin max_ids next ids
       wider next [] h = tt
       wider next (id ∷ ids) h = (h.0, omega (arith, few, h.1), wider (id + 1) ids h.2)
+
+-- ---- the lists as they are read from a store
+
+module _ (bytes : List ℕ) where
+  have_left : (lists : List ListState) (id : ℕ) → have_id bytes lists id ≡ ids_have (map (ids_left bytes) lists) id
+  have_left [] id = refl
+  have_left (l ∷ ls) id = ap (λ t. has (ids_left bytes l).ids id ∷ t) (have_left ls id)
+
+  whole_left : (lists : List ListState) → are_whole bytes lists ≡ ids_whole (map (ids_left bytes) lists)
+  whole_left [] = refl
+  whole_left (l ∷ ls) = ap (λ b. (ids_left bytes l).whole && b) (whole_left ls)
+
+  both_left : (lists : List ListState) → AllByRecursion (Holds bytes) lists → AllByRecursion (λ (list : Ids). AscendWithin max_ids 0 list.ids) (map (ids_left bytes) lists) → AllByRecursion (IsLeftFrom bytes 0) lists
+  both_left [] held up = tt
+  both_left (l ∷ ls) held up = ((held.0, up.0), both_left ls held.1 up.1)
+
+  module _ (parts : Parts) (up : rises parts.entries ≡ true) (query : Query) (trigrams : List ℕ) (are : (g : ℕ) → has trigrams g ≡ mentions query g)
+      (lists : List ListState) (is : map (ids_left bytes) lists ≡ map (read_for parts) trigrams) where
+    pub all_left : length parts.names < max_ids → AllByRecursion (Holds bytes) lists → AllByRecursion (IsLeftFrom bytes 0) lists
+    all_left few held =
+        both_left lists held (subst (AllByRecursion (λ (list : Ids). AscendWithin max_ids 0 list.ids)) (sym is) (lists_ascend parts up query trigrams are few trigrams))
+
+    pub whole_answers : are_whole bytes lists ≡ is_answerable parts query
+    whole_answers = whole_left lists ∙ ap ids_whole is ∙ lists_answer' parts up query trigrams are
+
+    pub ids_are : (nodes : List Node) (root count : ℕ) (ids : List ℕ) → count ≡ length parts.names → IsNumberOf trigrams nodes query root → are_whole bytes lists ≡ true
+        → ids ≡ filter (λ id. number_matches (have_id bytes lists id) nodes root) (range_with_len 0 count) → ids ≡ candidates_of parts query
+    ids_are nodes root count ids names number whole found =
+        candidates_met parts up query trigrams are nodes root count ids names number (ap ids_whole (sym is) ∙ sym (whole_left lists) ∙ whole)
+        (found ∙ (λ i. filter (λ id. number_matches ((have_left lists id ∙ ap (λ (ls : List Ids). ids_have ls id) is) i) nodes root) (range_with_len 0 count)))

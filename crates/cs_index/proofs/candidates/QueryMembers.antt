@@ -1,5 +1,5 @@
 -- Queries by their members.
-use Rattle.std.proofs.Common.{◌≡◌, ℕ, ◌+◌, ◌<◌, Bool, true, false, not, cond, ◌&&◌, ◌||◌, eqb, List, [], ◌∷◌, length, map, Vec, Global, Option, Some, None, refl, sym, ap, ◌∙◌, inl, inr, find, take, drop}
+use Rattle.std.proofs.Common.{◌≡◌, ℕ, ◌+◌, Bool, true, false, not, cond, ◌&&◌, ◌||◌, eqb, List, [], ◌∷◌, length, map, Vec, Global, Option, Some, None, refl, sym, ap, ◌∙◌, inl, inr, find, take, drop}
 use Rattle.cs_index.specs.Postings.{entry_of, nothing_read, read_for}
 use Rattle.cs_index.specs.AscendingIds.{AscendWithin}
 use Rattle.cs_index.specs.PostingLists.{Ids, damage, read_ids, set_at}

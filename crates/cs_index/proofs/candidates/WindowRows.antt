@@ -1,17 +1,15 @@
 -- The rows of a window of ids.
-use Rattle.std.proofs.Common.{◌≡◌, ℕ, zero, suc, ◌+◌, ◌-◌, ◌<◌, ◌≤◌, Bool, true, false, cond, ◌&&◌, ◌||◌, eqb, List, [], ◌∷◌, ◌++◌, length, take, drop, get_or, set, Vec, Global, Result, Ok, Err, refl, sym, ap, subst, ◌∙◌, ◌⊎◌, inl, inr, arith, length-set, replicate}
+use Rattle.std.proofs.Common.{◌≡◌, ℕ, zero, suc, ◌+◌, ◌-◌, ◌<◌, ◌≤◌, Bool, true, false, cond, ◌&&◌, ◌||◌, eqb, List, [], ◌∷◌, ◌++◌, length, take, drop, get_or, set, Vec, Global, refl, sym, ap, subst, ◌∙◌, ◌⊎◌, inl, inr, arith, length-set, replicate}
 use Rattle.std.proofs.lemmas.Bool.{true≢false, cases_Bool, eqb-true, eq-eqb, ne_eqb}
 use Rattle.std.proofs.Math.Bool.{or-false}
 use Rattle.std.proofs.lemmas.List.{append-nil, get_or-drop}
-use Rattle.std.specs.Prelude.{IfErr}
-use Rattle.std.specs.Result.{IsErrAnd}
-use Rattle.cs_index.specs.declared.fault.IndexFault.{IndexFault}
 use Rattle.std.specs.Prelude.{filter}
 use Rattle.std.specs.List.{AllByRecursion, AllZip, list_all, list_any, range_with_len}
 use Rattle.cs_trigram.specs.Trigram.{has}
-use Rattle.cs_index.specs.AscendingIds.{AscendWithin, max_ids}
+use Rattle.cs_index.specs.AscendingIds.{AscendWithin, BeginsFrom, max_ids}
 use Rattle.cs_index.specs.PostingLists.{Ids}
-use Rattle.cs_index.specs.Rows.{are_whole, column, have_id, BeginsFrom, HaveWidth, IsReadTo}
+use Rattle.cs_index.specs.Rows.{are_whole, column, have_id, HaveWidth, IsLeftFrom, IsReadOn, IsReadTo}
+use Rattle.cs_index.specs.StoredLists.{ListState, Holds, ids_left}
 use Rattle.cs_index.proofs.postings.IteratorSteps.{mark_step}
 
 -- ---- ids that ascend
@@ -93,35 +91,69 @@ read_on a b list rest after h r s = record {
   whole = s.whole ∙ r.whole;
 }
 
-pub read_all_on : (a b : ℕ) (lists rests afters : List Ids) → a ≤ b → AllZip (IsReadTo a) lists rests → AllZip (IsReadTo b) rests afters → AllZip (IsReadTo b) lists afters
-read_all_on a b [] [] [] h r s = tt
-read_all_on a b (l ∷ ls) (m ∷ ms) (n ∷ ns) h r s = (read_on a b l m n h r.0 s.0, read_all_on a b ls ms ns h r.1 s.1)
-read_all_on a b [] [] (n ∷ ns) h r s = absurd s
-read_all_on a b [] (m ∷ ms) ns h r s = absurd r
-read_all_on a b (l ∷ ls) [] ns h r s = absurd r
-read_all_on a b (l ∷ ls) (m ∷ ms) [] h r s = absurd s
+module _ (bytes : List ℕ) where
+  pub read_all_on : (a b : ℕ) (lists rests afters : List ListState) → a ≤ b → AllZip (IsReadOn bytes a) lists rests → AllZip (IsReadOn bytes b) rests afters → AllZip (IsReadOn bytes b) lists afters
+  read_all_on a b [] [] [] h r s = tt
+  read_all_on a b (l ∷ ls) (m ∷ ms) (n ∷ ns) h r s = ((s.0.0, read_on a b (ids_left bytes l) (ids_left bytes m) (ids_left bytes n) h r.0.1 s.0.1), read_all_on a b ls ms ns h r.1 s.1)
+  read_all_on a b [] [] (n ∷ ns) h r s = absurd s
+  read_all_on a b [] (m ∷ ms) ns h r s = absurd r
+  read_all_on a b (l ∷ ls) [] ns h r s = absurd r
+  read_all_on a b (l ∷ ls) (m ∷ ms) [] h r s = absurd s
 
-pub not_read : (lists : List Ids) → AllByRecursion (λ (list : Ids). AscendWithin max_ids 0 list.ids) lists → AllZip (IsReadTo 0) lists lists
-not_read [] up = tt
-not_read (l ∷ ls) up = (record { same = λ id h. refl; from = up.0; whole = refl }, not_read ls up.1)
+  pub not_read : (lists : List ListState) → AllByRecursion (IsLeftFrom bytes 0) lists → AllZip (IsReadOn bytes 0) lists lists
+  not_read [] up = tt
+  not_read (l ∷ ls) up = ((up.0.0, record { same = λ id h. refl; from = up.0.1; whole = refl }), not_read ls up.1)
 
-pub all_from : (end : ℕ) (lists rests : List Ids) → AllZip (IsReadTo end) lists rests → AllByRecursion (λ (list : Ids). AscendWithin max_ids end list.ids) rests
-all_from end [] [] r = tt
-all_from end (l ∷ ls) (m ∷ ms) r = (r.0.from, all_from end ls ms r.1)
-all_from end [] (m ∷ ms) r = absurd r
-all_from end (l ∷ ls) [] r = absurd r
+  pub all_from : (end : ℕ) (lists rests : List ListState) → AllZip (IsReadOn bytes end) lists rests → AllByRecursion (IsLeftFrom bytes end) rests
+  all_from end [] [] r = tt
+  all_from end (l ∷ ls) (m ∷ ms) r = ((r.0.0, r.0.1.from), all_from end ls ms r.1)
+  all_from end [] (m ∷ ms) r = absurd r
+  all_from end (l ∷ ls) [] r = absurd r
 
-pub have_alike : (end id : ℕ) (lists rests : List Ids) → end ≤ id → AllZip (IsReadTo end) lists rests → have_id rests id ≡ have_id lists id
-have_alike end id [] [] h r = refl
-have_alike end id (l ∷ ls) (m ∷ ms) h r = λ i. r.0.same id h i ∷ have_alike end id ls ms h r.1 i
-have_alike end id [] (m ∷ ms) h r = absurd r
-have_alike end id (l ∷ ls) [] h r = absurd r
+  pub all_held : (end : ℕ) (lists rests : List ListState) → AllZip (IsReadOn bytes end) lists rests → AllByRecursion (Holds bytes) rests
+  all_held end [] [] r = tt
+  all_held end (l ∷ ls) (m ∷ ms) r = (r.0.0, all_held end ls ms r.1)
+  all_held end [] (m ∷ ms) r = absurd r
+  all_held end (l ∷ ls) [] r = absurd r
 
-pub whole_alike : (end : ℕ) (lists rests : List Ids) → AllZip (IsReadTo end) lists rests → are_whole rests ≡ are_whole lists
-whole_alike end [] [] r = refl
-whole_alike end (l ∷ ls) (m ∷ ms) r = λ i. r.0.whole i && whole_alike end ls ms r.1 i
-whole_alike end [] (m ∷ ms) r = absurd r
-whole_alike end (l ∷ ls) [] r = absurd r
+  pub have_alike : (end id : ℕ) (lists rests : List ListState) → end ≤ id → AllZip (IsReadOn bytes end) lists rests → have_id bytes rests id ≡ have_id bytes lists id
+  have_alike end id [] [] h r = refl
+  have_alike end id (l ∷ ls) (m ∷ ms) h r = λ i. r.0.1.same id h i ∷ have_alike end id ls ms h r.1 i
+  have_alike end id [] (m ∷ ms) h r = absurd r
+  have_alike end id (l ∷ ls) [] h r = absurd r
+
+  pub whole_alike : (end : ℕ) (lists rests : List ListState) → AllZip (IsReadOn bytes end) lists rests → are_whole bytes rests ≡ are_whole bytes lists
+  whole_alike end [] [] r = refl
+  whole_alike end (l ∷ ls) (m ∷ ms) r = λ i. r.0.1.whole i && whole_alike end ls ms r.1 i
+  whole_alike end [] (m ∷ ms) r = absurd r
+  whole_alike end (l ∷ ls) [] r = absurd r
+
+  -- all lists are whole if each of them is
+  pub whole-append : (lists : List ListState) (list : ListState) → are_whole bytes (lists ++ list ∷ []) ≡ (are_whole bytes lists && (ids_left bytes list).whole)
+  whole-append [] list = and_true (ids_left bytes list).whole
+    where
+      and_true : (b : Bool) → (b && true) ≡ b
+      and_true true = refl
+      and_true false = refl
+  whole-append (l ∷ ls) list = ap (λ b. (ids_left bytes l).whole && b) (whole-append ls list) ∙ and_assoc (ids_left bytes l).whole (are_whole bytes ls) (ids_left bytes list).whole
+    where
+      and_assoc : (a b c : Bool) → (a && (b && c)) ≡ ((a && b) && c)
+      and_assoc true b c = refl
+      and_assoc false b c = refl
+
+  -- one list more
+  pub have-push : (lists : List ListState) (list : ListState) (id : ℕ) → have_id bytes (lists ++ list ∷ []) id ≡ have_id bytes lists id ++ has (ids_left bytes list).ids id ∷ []
+  have-push [] list id = refl
+  have-push (l ∷ ls) list id = ap (λ t. has (ids_left bytes l).ids id ∷ t) (have-push ls list id)
+
+  pub held_at : (start : ℕ) (lists : List ListState) (k : ℕ) (d : ListState) → k < length lists → AllByRecursion (IsLeftFrom bytes start) lists → IsLeftFrom bytes start (get_or lists k d)
+  held_at start [] k d below h = absurd (omega (arith, below))
+  held_at start (l ∷ ls) zero d below h = h.0
+  held_at start (l ∷ ls) (suc k) d below h = held_at start ls k d (omega (arith, below)) h.1
+
+  pub held_parts : (lists : List ListState) (list : ListState) → AllByRecursion (Holds bytes) (lists ++ list ∷ []) → AllByRecursion (Holds bytes) lists × Holds bytes list
+  held_parts [] list h = (tt, h.0)
+  held_parts (l ∷ ls) list h = let more = held_parts ls list h.1 in ((h.0, more.0), more.1)
 
 -- ---- ids of a window
 
@@ -165,20 +197,6 @@ all_pushed [] start end id old new (inl none) at is =
     sym (append-nil new) ∙ sym (is ∙ ap (λ n. new ++ filter (λ k. get_or [] (k - start) false) (range_with_len id n)) zero')
     ∙ ap (λ t. old ++ t) (sym (no_flags start start (end - start)))
 all_pushed (b ∷ row) start end id old new (inl none) at is = absurd (omega (arith, none))
-
--- ---- all lists are whole if each of them is
-
-pub whole-append : (lists : List Ids) (list : Ids) → are_whole (lists ++ list ∷ []) ≡ (are_whole lists && list.whole)
-whole-append [] list = and_true list.whole
-  where
-    and_true : (b : Bool) → (b && true) ≡ b
-    and_true true = refl
-    and_true false = refl
-whole-append (l ∷ ls) list = ap (λ b. l.whole && b) (whole-append ls list) ∙ and_assoc l.whole (are_whole ls) list.whole
-  where
-    and_assoc : (a b c : Bool) → (a && (b && c)) ≡ ((a && b) && c)
-    and_assoc true b c = refl
-    and_assoc false b c = refl
 
 -- ---- rows of nodes
 
@@ -234,11 +252,6 @@ column_out k [] n h = refl
 column_out k (r ∷ rows) zero h = absurd (omega (arith, h))
 column_out k (r ∷ rows) (suc n) h = column_out k rows n (omega (arith, h))
 
--- one list more
-pub have-push : (lists : List Ids) (list : Ids) (id : ℕ) → have_id (lists ++ list ∷ []) id ≡ have_id lists id ++ has list.ids id ∷ []
-have-push [] list id = refl
-have-push (l ∷ ls) list id = ap (λ t. has l.ids id ∷ t) (have-push ls list id)
-
 -- ---- one member more
 
 module _ (known : List Bool) where
@@ -267,30 +280,17 @@ module _ (known : List Bool) where
       none true = refl
       none false = refl
 
--- ---- errors
+-- ---- lists in a vector
 
-pub err_of : {X : Type 0} (r : Result X IndexFault) (fault : IndexFault) (P : IndexFault → Type 0) → IsErrAnd r (λ f. f ≡ fault) → P fault → IfErr r P
-err_of (Ok x) fault P h p = tt
-err_of (Err f) fault P h p = subst P (sym h) p
-
-pub whole_at : (lists : List Ids) (k : ℕ) (d : Ids) → k < length lists → (get_or lists k d).whole ≡ false → are_whole lists ≡ false
-whole_at [] k d below bad = absurd (omega (arith, below))
-whole_at (l ∷ ls) zero d below bad = ap (λ b. b && are_whole ls) bad
-whole_at (l ∷ ls) (suc k) d below bad = ap (λ b. l.whole && b) (whole_at ls k d (omega (arith, below)) bad) ∙ none l.whole
-  where
-    none : (a : Bool) → (a && false) ≡ false
-    none true = refl
-    none false = refl
-
-pub left_at : (xs ys : List Ids) (k : ℕ) (d : Ids) → drop k xs ≡ drop k ys → get_or xs k d ≡ get_or ys k d
+pub left_at : (xs ys : List ListState) (k : ℕ) (d : ListState) → drop k xs ≡ drop k ys → get_or xs k d ≡ get_or ys k d
 left_at xs ys k d same =
     let at : k + 0 ≡ k = omega arith in
-    sym (get_or-drop k xs 0 d ∙ ap (λ n. get_or xs n d) at) ∙ ap (λ (zs : List Ids). get_or zs 0 d) same ∙ get_or-drop k ys 0 d ∙ ap (λ n. get_or ys n d) at
+    sym (get_or-drop k xs 0 d ∙ ap (λ n. get_or xs n d) at) ∙ ap (λ (zs : List ListState). get_or zs 0 d) same ∙ get_or-drop k ys 0 d ∙ ap (λ n. get_or ys n d) at
 
 -- what is written back to a Vec
-pub taken_back : (n : ℕ) (xs ys : List Ids) → n ≡ length xs → take n (xs ++ ys) ≡ xs
+pub taken_back : (n : ℕ) (xs ys : List ListState) → n ≡ length xs → take n (xs ++ ys) ≡ xs
 taken_back n xs ys is = ap (λ k. take k (xs ++ ys)) is ∙ of xs
   where
-    of : (zs : List Ids) → take (length zs) (zs ++ ys) ≡ zs
+    of : (zs : List ListState) → take (length zs) (zs ++ ys) ≡ zs
     of [] = refl
-    of (z ∷ zs) = ap (λ (t : List Ids). z ∷ t) (of zs)
+    of (z ∷ zs) = ap (λ (t : List ListState). z ∷ t) (of zs)

@@ -2,7 +2,7 @@
 use Rattle.std.proofs.Common.{◌≡◌, ℕ, ◌+◌, ◌<◌, ◌≤◌, ◌^◌, true, List, [], ◌∷◌, ◌++◌, length, refl, sym, ap, subst, ◌∙◌, arith}
 use Rattle.cs_tree.specs.NameOrder.{bytes_cmp}
 use Rattle.cs_tree.specs.NamesAscending.{are_ascending}
-use Rattle.cs_index.specs.AscendingIds.{AscendWithin, IsPostingList, next_after}
+use Rattle.cs_index.specs.AscendingIds.{AscendWithin, next_after}
 use Rattle.cs_index.specs.PostingLists.{entries_of}
 use Rattle.cs_trigram.specs.TrigramSets.{IsTrigramSet}
 use Rattle.std.proofs.lemmas.Bool.{and_parts, and_from}
@@ -71,14 +71,10 @@ built_indexable built bytes is written short = record {
 
 -- ---- the posting lists of one more name
 
-rise_further : (name_count next : ℕ) (ids : List ℕ) → AscendWithin name_count next ids → AscendWithin (name_count + 1) next ids
+pub rise_further : (name_count next : ℕ) (ids : List ℕ) → AscendWithin name_count next ids → AscendWithin (name_count + 1) next ids
 rise_further name_count next [] up = tt
 rise_further name_count next (id ∷ ids) up = (up.0, omega (arith, up.1), rise_further name_count (id + 1) ids up.2)
 
 pub rise_next : (name_count next : ℕ) (ids : List ℕ) → AscendWithin name_count next ids → next ≤ name_count → next_after next ids ≤ name_count
 rise_next name_count next [] up h = h
 rise_next name_count next (id ∷ ids) up h = rise_next name_count (id + 1) ids up.2 (omega (arith, up.1))
-
-pub each_further : (name_count : ℕ) (lists : List PostingList) → AllByRecursion (IsPostingList name_count) lists → AllByRecursion (IsPostingList (name_count + 1)) lists
-each_further name_count [] all = tt
-each_further name_count (p ∷ lists) all = ((all.0.0, rise_further name_count 0 p.1 all.0.1), each_further name_count lists all.1)

@@ -24,7 +24,7 @@ use Rattle.cs_index.proofs.encoding.EncodingOpens.{lists_back}
 use Rattle.cs_index.proofs.writer.WrittenSteps.{written_begun, written_given, written_encoding, written_indexable}
 use Rattle.cs_index.proofs.decoding.DecodingIsUnique.{top_zero}
 use Rattle.cs_index.proofs.writer.IdAdded.{gathered_new}
-use Rattle.cs_index.proofs.writer.SegmentMerge.{rise_wider}
+use Rattle.cs_index.proofs.writer.ListsBelow.{rise_wider}
 
 -- ---- reading the written lists back
 

@@ -1,20 +1,21 @@
 -- The invariant of `Written` after each operation.
-use Rattle.std.proofs.Common.{◌≡◌, ◌≢◌, ℕ, ◌+◌, ◌*◌, ◌^◌, ◌<◌, ◌≤◌, false, cond, eqb, List, [], ◌∷◌, ◌++◌, length, map, Option, None, Some, refl, sym, ap, subst, ◌∙◌, inl, inr, arith, append_assoc, length-append}
+use Rattle.std.proofs.Common.{◌≡◌, ◌≢◌, ℕ, ◌+◌, ◌*◌, ◌^◌, ◌<◌, ◌≤◌, false, cond, eqb, List, [], ◌∷◌, ◌++◌, length, map, Option, None, Some, refl, sym, subst, ◌∙◌, inl, inr, arith, append_assoc, length-append}
 use Rattle.cs_trigram.specs.Trigram.{has, Ascends}
-use Rattle.cs_trigram.proofs.SetLemmas.{Above, ascends_cons, ascends_tail, ascends_head, ascends_set, ascends_same, all_above, has-set_of_numbers}
-use Rattle.std.proofs.lemmas.Bool.{true≢false, cases_Bool, cond_both, eq-eqb, ne_eqb}
+use Rattle.cs_trigram.proofs.SetLemmas.{Above, ascends_cons, ascends_tail, ascends_head}
+use Rattle.std.proofs.lemmas.Bool.{true≢false, cases_Bool, cond_both, eq-eqb}
 use Rattle.std.proofs.lemmas.List.{append-nil, length_push, length-map}
 use Rattle.std.specs.Prelude.{filter}
 use Rattle.std.specs.List.{AllByRecursion, concat}
 use Rattle.cs_index.specs.Encoding.{Entry, PostingList, IsString, encoding_of, layout, postings_of, sections_of, with_nul, starts_from, four_bytes, name_offsets}
 use Rattle.cs_index.specs.AscendingIds.{next_after, ArePostingLists, IsPostingList}
-use Rattle.cs_index.specs.Gathering.{trigrams_in, lists_of, ordered_lists}
+use Rattle.cs_index.specs.Gathering.{trigrams_in}
 use Rattle.cs_index.specs.Written.{ids_of, with_id, Written, entries_written, with_written_name, with_written_id, with_list, AllBelow}
 use Rattle.cs_index.specs.WrittenLists.{IsWritten, IsLastList, with_posting, with_postings}
 use Rattle.cs_index.specs.Indexable.{IsIndexable}
 use Rattle.cs_index.specs.PostingLists.{entries_of, set_at}
 use Rattle.cs_index.proofs.writer.BuilderAdd.{names_entries}
 use Rattle.cs_index.proofs.writer.EntriesOfLists.{each_gathered}
+use Rattle.cs_index.proofs.writer.ListsBelow.{ascend_push}
 use Rattle.cs_index.proofs.encoding.InvertedLists.{length-entries_of, postings_gathered}
 use Rattle.cs_index.proofs.writer.StringsPush.{all_texts, length-starts_from}
 use Rattle.cs_index.proofs.decoding.DecodingIsUnique.{lengths}
@@ -115,17 +116,6 @@ written_given output trigram id is begun above named =
 
 -- ---- one more list
 
-pub ascend_push : (lists : List PostingList) (p : PostingList) → Ascends (trigrams_in lists) → AllBelow lists p.0 →
-    Ascends (trigrams_in (lists ++ p ∷ []))
-ascend_push [] p up all = tt
-ascend_push (q ∷ lists) p up all = ascends_cons q.0 (trigrams_in (lists ++ p ∷ []))
-    (above_push q.0 lists (ascends_head q.0 (trigrams_in lists) up) all.0)
-    (ascend_push lists p (ascends_tail q.0 (trigrams_in lists) up) all.1)
-  where
-    above_push : (n : ℕ) (ps : List PostingList) → Above n (trigrams_in ps) → n < p.0 → Above n (trigrams_in (ps ++ p ∷ []))
-    above_push n [] h less = less
-    above_push n (r ∷ ps) h less = h
-
 pub each_push : (P : PostingList → Type 0) (lists : List PostingList) (p : PostingList) → AllByRecursion P lists → P p →
     AllByRecursion P (lists ++ p ∷ [])
 each_push P [] p all h = (h, tt)
@@ -207,28 +197,6 @@ written_indexable output is short =
       bound = omega (arith, bound, many);
       short = short;
     }
-
--- ascending lists
-pub ordered_already : (lists : List PostingList) → Ascends (trigrams_in lists) → ordered_lists lists ≡ lists
-ordered_already lists up = ap (lists_of lists)
-    (ascends_same _ _ (ascends_set (trigrams_in lists)) up (λ g. has-set_of_numbers g (trigrams_in lists))) ∙ same_lists lists up
-  where
-    others : (p : PostingList) (lists : List PostingList) (gs : List ℕ) → AllByRecursion (λ g. p.0 < g) gs →
-        lists_of (p ∷ lists) gs ≡ lists_of lists gs
-    others p lists [] all = refl
-    others p lists (g ∷ gs) all =
-        let rest = others p lists gs all.1 in
-        let here : ids_of (p ∷ lists) g ≡ ids_of lists g = ap (λ b. cond b p.1 (ids_of lists g))
-        (ne_eqb p.0 g (λ e. absurd (omega (arith, e, all.0)))) in
-        λ i. (g, here i) ∷ rest i
-
-    same_lists : (lists : List PostingList) → Ascends (trigrams_in lists) → lists_of lists (trigrams_in lists) ≡ lists
-    same_lists [] up = refl
-    same_lists (p ∷ lists) up =
-        let here : ids_of (p ∷ lists) p.0 ≡ p.1 = ap (λ b. cond b p.1 (ids_of lists p.0)) (eq-eqb p.0 p.0 refl) in
-        let rest : lists_of (p ∷ lists) (trigrams_in lists) ≡ lists = others p lists (trigrams_in lists)
-        (all_above p.0 (trigrams_in lists) up) ∙ same_lists lists (ascends_tail p.0 (trigrams_in lists) up) in
-        λ i. (p.0, here i) ∷ rest i
 
 -- ---- several more lists
 

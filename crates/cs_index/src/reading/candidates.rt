@@ -1,23 +1,29 @@
 // Candidates: the files whose trigrams match a query (Go: `PostingQuery` in index/read.go). The query's form is
 // evaluated over windows of ids, so that each posting list is read once.
-ghost use Rattle.std.specs.Prelude.{◌≡◌, ◌<◌, ◌≤◌, ◌+◌, ◌-◌, ◌⊎◌, ◌^◌, ◌++◌, ℕ, List, map, true, false, filter, length, slice_index_or, IfOk, IfErr, OnOk};
+ghost use Rattle.std.specs.Prelude.{◌≡◌, ◌<◌, ◌≤◌, ◌+◌, ◌-◌, ◌⊎◌, ◌^◌, ◌++◌, ℕ, List, Some, map, true, false, filter, length, slice_index_or, IfOk, IfErr, OnOk, IfSome};
 ghost use Rattle.std.specs.List.{AllByRecursion, AllZip, list_all, range_with_len};
+ghost use Rattle.cs_tree.specs.FailureCount.{count_after};
+ghost use Rattle.cs_tree.specs.Transfers.{is_io_failure};
 ghost use Rattle.cs_trigram.specs.Trigram.{has, Ascends};
-ghost use Rattle.cs_index.specs.AscendingIds.{AscendWithin, max_ids};
 ghost use Rattle.cs_index.specs.Opening.{rises};
-ghost use Rattle.cs_index.specs.PostingLists.{Ids};
+ghost use Rattle.cs_index.specs.OpenedParts.{Parts};
 ghost use Rattle.cs_index.specs.Postings.{IsListFault, read_for};
 ghost use Rattle.cs_index.specs.Candidates.{candidates_of};
-ghost use Rattle.cs_index.specs.Answerable.{is_answerable};
+ghost use Rattle.cs_index.specs.Answerable.{is_answerable, AreCandidates};
 ghost use Rattle.cs_index.specs.Form.{number_matches};
-ghost use Rattle.cs_index.specs.Rows.{are_whole, have_id, IsReadTo};
+ghost use Rattle.cs_index.specs.Rows.{are_whole, have_id, IsLeftFrom, IsReadOn};
+ghost use Rattle.cs_index.specs.Stored.{whole_of};
+ghost use Rattle.cs_index.specs.StoredLists.{HasLists, Holds, IsSection, ids_left};
 
 use crate::fault::IndexFault;
+use crate::reading::entries::entry_offset;
 use crate::reading::form::{Form, form_of};
 use crate::reading::index::Index;
-use crate::reading::postings::Postings;
 use crate::reading::query_trigrams::mentioned_trigrams;
-use crate::reading::rows::{row_at, rows_of};
+use crate::reading::rows::{Window, row_at, rows_of};
+use crate::reading::stored::StoredIndex;
+use crate::reading::stored_list::{ListSection, StoredList};
+use cs_tree::{IoFault, MemStore, Store};
 use cs_trigram::Query;
 use std::alloc::{AllocError, Global};
 
@@ -25,6 +31,12 @@ use std::alloc::{AllocError, Global};
 const FLAGS: usize = 1 << 22;
 /// But a window has at least as many ids.
 const LEAST_WINDOW: usize = 1024;
+/// The most bytes of the pieces of all lists.
+const PIECES: usize = 1 << 20;
+/// But a piece may have at least as many bytes.
+const LEAST_PIECE: usize = 64;
+/// And it has at most as many.
+const LONGEST_PIECE: usize = 1 << 16;
 
 impl<'a> Index<'a> {
     /// The ids of the names whose trigrams match the query, ascending. Each posting list that the
@@ -34,61 +46,152 @@ impl<'a> Index<'a> {
         ensures whole { IfOk result (λ _. is_answerable self.now query.now ≡ true) }
         ensures fault { IfErr result (IsListFault (is_answerable self.now query.now)) }
     {
-        // Naming a field makes the invariant of `Index` available: its trigrams are ascending.
-        let _entries = &self.slices;
-        let trigrams = mentioned_trigrams(alloc, query)?;
-        let form = form_of(alloc, &trigrams, query)?;
-        let mut lists = lists_of(self, alloc, &trigrams)?;
-        let ids = meet(alloc, &form, &mut lists, self.len())?;
-        finish_all(lists)?;
-        Ok(ids)
+        let mut store = MemStore::new(self.slices.postings, usize::MAX);
+        let section = ListSection {
+            list_index: self.slices.list_index,
+            start: 0,
+            room: self.slices.postings.len(),
+            name_count: self.len(),
+        };
+        match candidates_in(alloc, &mut store, &section, query) {
+            Ok(answer) => answer,
+            // No read of bytes in memory fails.
+            Err(_) => Err(IndexFault::Memory),
+        }
+    }
+}
+
+impl StoredIndex {
+    /// The ids of the names whose trigrams match the query, ascending, or `BadList`. Each posting list that the query
+    /// mentions is read to its end, once, and no other.
+    pub fn candidates<S: Store>(
+        &self,
+        alloc: Global,
+        store: &mut S,
+        query: &Query,
+    ) -> Result<Result<Vec<u32>, IndexFault>, IoFault>
+        ensures answers { IfSome (S.model store.old) (λ bytes.
+            IfOk result (AreCandidates query.now (whole_of bytes self.now))) }
+        ensures keeps { S.model store.new ≡ S.model store.old }
+        ensures size { S.size store.new ≡ S.size store.old }
+        ensures failed { S.failed store.new
+            ≡ count_after is_io_failure result (S.failed store.old) }
+    {
+        let section = ListSection {
+            list_index: &self.list_index,
+            start: self.start,
+            room: self.room,
+            name_count: self.name_table().len(),
+        };
+        candidates_in(alloc, store, &section, query)
+    }
+}
+
+/// The ids of the names whose trigrams match the query, by the lists of a section of the store.
+fn candidates_in<S: Store>(
+    alloc: Global,
+    store: &mut S,
+    section: &ListSection<'_>,
+    query: &Query,
+) -> Result<Result<Vec<u32>, IndexFault>, IoFault>
+    requires { IsSection section.now }
+    ensures answers { (bytes : List ℕ) → S.model store.old ≡ Some bytes → (parts : Parts) →
+        HasLists bytes section.now parts → IfOk result (AreCandidates query.now parts) }
+    ensures keeps { S.model store.new ≡ S.model store.old }
+    ensures size { S.size store.new ≡ S.size store.old }
+    ensures failed { S.failed store.new ≡ count_after is_io_failure result (S.failed store.old) }
+{
+    let trigrams = mentioned_trigrams(alloc, query)?;
+    let form = form_of(alloc, &trigrams, query)?;
+    let mut lists = lists_of(alloc, store, section, &trigrams)?;
+    let ids = meet(alloc, store, &form, &mut lists, section.name_count)?;
+    if finish_all(alloc, store, lists)? {
+        Ok(Ok(ids))
+    } else {
+        Ok(Err(IndexFault::BadList))
     }
 }
 
 /// The posting list of each trigram.
-fn lists_of<'a>(
-    index: &Index<'a>,
+fn lists_of<S: Store>(
     alloc: Global,
+    store: &mut S,
+    section: &ListSection<'_>,
     trigrams: &[u32],
-) -> Result<Vec<Postings<'a>>, AllocError>
-    ensures { IfOk result (λ lists. lists.items ≡ map (read_for index.now) trigrams.now) }
+) -> Result<Vec<StoredList>, IoFault>
+    requires { IsSection section.now }
+    ensures lists { (bytes : List ℕ) → S.model store.old ≡ Some bytes → (parts : Parts) →
+        HasLists bytes section.now parts → IfOk result (λ lists.
+        map (ids_left bytes) lists.items ≡ map (read_for parts) trigrams.now) }
+    ensures holds { (bytes : List ℕ) → S.model store.old ≡ Some bytes →
+        IfOk result (λ lists. AllByRecursion (Holds bytes) lists.items) }
+    ensures keeps { S.model store.new ≡ S.model store.old }
+    ensures size { S.size store.new ≡ S.size store.old }
+    ensures failed { S.failed store.new ≡ count_after is_io_failure result (S.failed store.old) }
 {
+    let size = piece_size(trigrams.len());
     let mut lists = Vec::with_capacity(alloc, trigrams.len())?;
     for trigram in trigrams {
-        lists.push(trigram_postings(index, *trigram))?;
+        lists.push(trigram_list(alloc, store, section, *trigram, size)?)?;
     }
     Ok(lists)
 }
 
-/// The posting list of a trigram; empty if the trigram has no entry.
-fn trigram_postings<'a>(index: &Index<'a>, trigram: u32) -> Postings<'a>
-    ensures { result ≡ read_for index.now trigram }
+/// The most bytes of a piece, for this number of lists.
+fn piece_size(lists: usize) -> usize
+    ensures { 8 ≤ result }
 {
-    match index.postings(trigram) {
-        Some(list) => list,
-        None => Postings::empty(),
+    (PIECES / lists.saturating_add(1)).clamp(LEAST_PIECE, LONGEST_PIECE)
+}
+
+/// The posting list of a trigram; empty if the trigram has no entry.
+fn trigram_list<S: Store>(
+    alloc: Global,
+    store: &mut S,
+    section: &ListSection<'_>,
+    trigram: u32,
+    size: usize,
+) -> Result<StoredList, IoFault>
+    requires section { IsSection section.now }
+    requires longest { 8 ≤ size }
+    ensures ids { (bytes : List ℕ) → S.model store.old ≡ Some bytes → (parts : Parts) →
+        HasLists bytes section.now parts → IfOk result (λ list. ids_left bytes list ≡ read_for parts trigram) }
+    ensures holds { (bytes : List ℕ) → S.model store.old ≡ Some bytes → IfOk result (Holds bytes) }
+    ensures keeps { S.model store.new ≡ S.model store.old }
+    ensures size { S.size store.new ≡ S.size store.old }
+    ensures failed { S.failed store.new ≡ count_after is_io_failure result (S.failed store.old) }
+{
+    match entry_offset(section.list_index, trigram) {
+        Some(at) => StoredList::open(alloc, store, section, at, size),
+        None => Ok(StoredList::ended(alloc, true)),
     }
 }
 
 /// The ids below `count` that match a form, window by window.
-fn meet(
+fn meet<S: Store>(
     alloc: Global,
+    store: &mut S,
     form: &Form,
-    lists: &mut [Postings],
+    lists: &mut [StoredList],
     count: u32,
-) -> Result<Vec<u32>, IndexFault>
-    requires { AllByRecursion (λ (list : Ids). AscendWithin max_ids 0 list.ids) lists.old }
-    ensures ids { IfOk result (λ ids. ids.items ≡
-        filter (λ id. number_matches (have_id lists.old id) form.now.nodes.items form.now.root) (range_with_len 0 count)) }
-    ensures lists { IfOk result (λ _. AllZip (IsReadTo count) lists.old lists.new) }
-    ensures fault { IfErr result (IsListFault (are_whole lists.old)) }
+) -> Result<Vec<u32>, IoFault>
+    ensures ids { (bytes : List ℕ) → S.model store.old ≡ Some bytes →
+        AllByRecursion (IsLeftFrom bytes 0) lists.old → IfOk result (λ ids. ids.items ≡
+        filter (λ id. number_matches (have_id bytes lists.old id) form.now.nodes.items form.now.root)
+        (range_with_len 0 count)) }
+    ensures lists { (bytes : List ℕ) → S.model store.old ≡ Some bytes →
+        AllByRecursion (IsLeftFrom bytes 0) lists.old →
+        IfOk result (λ _. AllZip (IsReadOn bytes count) lists.old lists.new) }
+    ensures keeps { S.model store.new ≡ S.model store.old }
+    ensures size { S.size store.new ≡ S.size store.old }
+    ensures failed { S.failed store.new ≡ count_after is_io_failure result (S.failed store.old) }
 {
     let width = window_width(form.nodes.len(), lists.len());
     let mut ids = Vec::new(alloc);
     let mut start = 0;
     'windows: while start < count {
         let end = start + width.min(count - start);
-        let rows = rows_of(alloc, &form.nodes, lists, start, end)?;
+        let rows = rows_of(alloc, store, &form.nodes, lists, Window { start, end })?;
         push_ids(&mut ids, row_at(&rows, form.root), start, end)?;
         start = end;
     }
@@ -120,13 +223,23 @@ fn push_ids(ids: &mut Vec<u32>, row: &[bool], start: u32, end: u32) -> Result<()
     Ok(())
 }
 
-/// Reads the lists to their ends.
-fn finish_all(mut lists: Vec<Postings>) -> Result<(), IndexFault>
-    ensures whole { IfOk result (λ _. are_whole lists.entry.items ≡ true) }
-    ensures fault { IfErr result (IsListFault (are_whole lists.entry.items)) }
+/// Reads the lists to their ends. Returns whether all of them are whole.
+fn finish_all<S: Store>(
+    alloc: Global,
+    store: &mut S,
+    mut lists: Vec<StoredList>,
+) -> Result<bool, IoFault>
+    ensures whole { (bytes : List ℕ) → S.model store.old ≡ Some bytes →
+        AllByRecursion (Holds bytes) lists.items →
+        IfOk result (λ whole. whole ≡ are_whole bytes lists.items) }
+    ensures keeps { S.model store.new ≡ S.model store.old }
+    ensures size { S.size store.new ≡ S.size store.old }
+    ensures failed { S.failed store.new ≡ count_after is_io_failure result (S.failed store.old) }
 {
-    'lists: while let Some(list) = lists.pop() {
-        list.finish()?;
+    'lists: while let Some(mut list) = lists.pop() {
+        if !list.finish(alloc, store)? {
+            return Ok(false);
+        }
     }
-    Ok(())
+    Ok(true)
 }

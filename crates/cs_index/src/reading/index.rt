@@ -1,5 +1,5 @@
 // An index that is read in place.
-ghost use Rattle.std.specs.Prelude.{◌≡◌, ◌==◌, ◌<◌, ◌^◌, ℕ, List, Err, IfOk, IfErr, length, slice_get, option_map};
+ghost use Rattle.std.specs.Prelude.{◌≡◌, ◌==◌, ◌<◌, ◌^◌, ℕ, List, Err, IsOk, IfOk, IfErr, length, slice_get, option_map};
 ghost use Rattle.cs_index.specs.Postings.{entry_of};
 ghost use Rattle.cs_tree.specs.NamesAscending.{are_ascending};
 ghost use Rattle.cs_index.specs.ValidSections.{AreValidSections, AreOpenedSections};
@@ -16,6 +16,7 @@ ghost use Rattle.cs_index.specs.StoredOpening.{with_lists};
 use crate::fault::IndexFault;
 use crate::reading::bytes::{ascend, is_closed, is_complete, read_number, read_trigram};
 use crate::reading::entries::{entry_offset, entry_postings, has_entries, has_offsets};
+use crate::reading::name_table::NameTable;
 use crate::reading::postings::Postings;
 use crate::reading::section_slices::{SectionSlices, split};
 use crate::reading::texts::Texts;
@@ -54,11 +55,22 @@ impl<'a> Index<'a> {
         }
     }
 
+    /// Opens bytes that have opened before, in constant time: only the magics and the trailer are read again.
+    pub fn reopen(bytes: &'a [u8]) -> Result<Index<'a>, IndexFault>
+        requires opened { IsOk (opening bytes.now) }
+        ensures { result ≡ opening bytes.now }
+    {
+        match split(bytes) {
+            Ok(slices) => Ok(Index { slices }),
+            Err(error) => Err(error),
+        }
+    }
+
     /// The number of names.
     pub fn len(&self) -> u32
         ensures { result ≡ length self.now.names }
     {
-        (self.slices.name_index.len() / 4 - 1) as u32
+        self.name_table().len()
     }
 
     /// Whether there are no names.
@@ -86,11 +98,14 @@ impl<'a> Index<'a> {
     pub fn name(&self, id: u32) -> Option<&'a str>
         ensures { option_copied result ≡ slice_get self.now.names id }
     {
-        if id >= self.len() {
-            return None;
-        }
-        let start = read_number(self.slices.name_index, 4 * id as usize) as usize;
-        Texts::new(&self.slices.names[start..]).next()
+        self.name_table().name(id)
+    }
+
+    /// The names by their ids.
+    pub fn name_table(&self) -> NameTable<'a>
+        ensures { result ≡ self.now.names }
+    {
+        NameTable::new(self.slices.names, self.slices.name_index)
     }
 
     /// The names, in the order of their ids.

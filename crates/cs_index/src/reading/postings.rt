@@ -1,9 +1,8 @@
 // A posting list, decoded id by id from the bytes of an index (Go: `postReader` in index/read.go).
-ghost use Rattle.std.specs.Prelude.{◌≡◌, ◌≤◌, ◌<◌, ◌^◌, ◌+◌, ◌∷◌, ◌++◌, Some, None, List, ℕ, Option, drop, length, IfSome, IfNone, IfOk, IfErr, MatchOption, true};
+ghost use Rattle.std.specs.Prelude.{◌≡◌, ◌≤◌, ◌<◌, ◌^◌, ◌+◌, ◌∷◌, ◌++◌, Some, None, List, ℕ, Option, drop, length, IfSome, MatchOption};
 ghost use Rattle.std.specs.List.{AllByRecursion};
 ghost use Rattle.cs_index.specs.AscendingIds.{ids_onward, max_ids};
-ghost use Rattle.cs_index.specs.Postings.{ids_given, nothing_read, IsListFault};
-ghost use Rattle.cs_index.specs.Rows.{BeginsFrom};
+ghost use Rattle.cs_index.specs.Postings.{ids_given};
 ghost use Rattle.cs_index.specs.PostingLists.{varint_at, read_varint, Ids, damage, read_ids};
 ghost use Rattle.std.specs.Iterator.{YieldsFirst, item_count};
 
@@ -49,19 +48,6 @@ impl<'a> Postings<'a> {
         }
     }
 
-    /// A list without ids.
-    pub(crate) fn empty() -> Postings<'a>
-        ensures { result ≡ nothing_read }
-    {
-        Postings {
-            bytes: &[],
-            left: 0,
-            next: 0,
-            name_count: 0,
-            has_ended: true,
-        }
-    }
-
     /// Skips the ids less than `end` that follow `last`, the id that was yielded last, and returns
     /// them as an encoded run. It ends before the first delta that is longer than two bytes or not
     /// canonical. If `last` is another id, the run is empty.
@@ -79,50 +65,6 @@ impl<'a> Postings<'a> {
         self.left -= ids.len();
         self.next += ids.next();
         ids
-    }
-
-    /// The next id, if it is less than `end`; without one, the list stays as it is.
-    pub(crate) fn next_below(&mut self, end: u32) -> Result<Option<u32>, IndexFault>
-        ensures some { IfOk result (λ found. IfSome found (λ id. (self.old.ids ≡ id ∷ self.new.ids) × (id < end))) }
-        ensures none { IfOk result (λ found. IfNone found ((self.new.ids ≡ self.old.ids) × BeginsFrom end self.old.ids)) }
-        ensures whole { IfOk result (λ _. self.new.whole ≡ self.old.whole) }
-        ensures fault { IfErr result (IsListFault self.old.whole) }
-    {
-        if self.has_ended {
-            return Ok(None);
-        }
-        let Some((delta, size)) = decode_varint(self.bytes) else {
-            return Err(IndexFault::BadList);
-        };
-        if self.left == 0 {
-            return if delta == 0 {
-                Ok(None)
-            } else {
-                Err(IndexFault::BadList)
-            };
-        }
-        let room = self.name_count - self.next;
-        if delta == 0 || delta > room {
-            return Err(IndexFault::BadList);
-        }
-        if self.next + delta > end {
-            return Ok(None);
-        }
-        self.bytes = &self.bytes[size..];
-        self.left -= 1;
-        self.next += delta;
-        Ok(Some(self.next - 1))
-    }
-
-    /// Reads the list to its end.
-    pub(crate) fn finish(self) -> Result<(), IndexFault>
-        ensures whole { IfOk result (λ _. self.entry.whole ≡ true) }
-        ensures fault { IfErr result (IsListFault self.entry.whole) }
-    {
-        for id in self {
-            id?;
-        }
-        Ok(())
     }
 
     /// A list that is damaged from the start.
@@ -168,7 +110,7 @@ impl<'a> Iterator for Postings<'a> {
 }
 
 /// Decodes the first varint: its value and its length. A varint of one byte is the fast path.
-fn decode_varint(bytes: &[u8]) -> Option<(u32, usize)>
+pub(crate) fn decode_varint(bytes: &[u8]) -> Option<(u32, usize)>
     ensures value { MatchOption result (read_varint bytes.now ≡ None)
         (λ found. read_varint bytes.now ≡ Some (found.0, drop found.1 bytes.now)) }
     ensures within { IfSome result (λ found. found.1 ≤ length bytes.now) }

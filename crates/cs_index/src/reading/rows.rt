@@ -1,36 +1,46 @@
-// The ids of a window that match each node of a form, as a flag for each id.
-ghost use Rattle.std.specs.Prelude.{◌≡◌, ◌<◌, ◌≤◌, ◌+◌, ◌-◌, ◌⊎◌, ◌&&◌, ◌||◌, ℕ, Bool, false, true, List, [], ◌∷◌, length, map, slice_index_or, IfOk, IfErr, OnOk};
+// Rows: the ids of a window that match each node of a form, as a flag for each id.
+ghost use Rattle.std.specs.Prelude.{◌≡◌, ◌<◌, ◌≤◌, ◌+◌, ◌-◌, ◌⊎◌, ◌&&◌, ◌||◌, ℕ, Bool, false, true, Some, List, [], ◌∷◌, length, map, slice_index_or, IfOk, OnOk};
 ghost use Rattle.std.specs.List.{AllByRecursion, AllZip};
-ghost use Rattle.cs_trigram.specs.Trigram.{has};
-ghost use Rattle.cs_index.specs.AscendingIds.{AscendWithin, max_ids};
-ghost use Rattle.cs_index.specs.PostingLists.{Ids};
-ghost use Rattle.cs_index.specs.Postings.{IsListFault};
+ghost use Rattle.cs_tree.specs.FailureCount.{count_after};
+ghost use Rattle.cs_tree.specs.Transfers.{is_io_failure};
 ghost use Rattle.cs_index.specs.Form.{matched, members_match, node_matches};
-ghost use Rattle.cs_index.specs.Rows.{are_whole, column, have_id, HaveWidth, IsReadTo};
+ghost use Rattle.cs_index.specs.Rows.{column, have_id, HaveWidth, IsLeftFrom, IsReadOn, IsRowOf};
 
-use crate::fault::IndexFault;
 use crate::reading::form::Node;
-use crate::reading::postings::Postings;
+use crate::reading::stored_list::StoredList;
+use cs_tree::{IoFault, Store};
 use std::alloc::{AllocError, Global};
 
+/// The ids from `start` to `end`.
+#[derive(Clone, Copy, Drop)]
+pub(crate) struct Window {
+    pub(crate) start: u32,
+    pub(crate) end: u32,
+}
+
 /// The rows of a window of ids: that of each list, which is read up to the window's end, and that of each node.
-pub(crate) fn rows_of(
+pub(crate) fn rows_of<S: Store>(
     alloc: Global,
+    store: &mut S,
     nodes: &[Node],
-    lists: &mut [Postings],
-    start: u32,
-    end: u32,
-) -> Result<Vec<Vec<bool>>, IndexFault>
-    requires order { start ≤ end }
-    requires from { AllByRecursion (λ (list : Ids). AscendWithin max_ids start list.ids) lists.old }
-    ensures rows { IfOk result (λ rows. (k : ℕ) → start + k < end →
-        column k rows.items ≡ matched (have_id lists.old (start + k)) nodes.now) }
-    ensures width { IfOk result (λ rows. HaveWidth (end - start) rows.items) }
-    ensures lists { IfOk result (λ _. AllZip (IsReadTo end) lists.old lists.new) }
-    ensures fault { IfErr result (IsListFault (are_whole lists.old)) }
+    lists: &mut [StoredList],
+    window: Window,
+) -> Result<Vec<Vec<bool>>, IoFault>
+    requires order { window.start < window.end }
+    ensures rows { (bytes : List ℕ) → S.model store.old ≡ Some bytes →
+        AllByRecursion (IsLeftFrom bytes window.start) lists.old →
+        IfOk result (λ rows. (k : ℕ) → window.start + k < window.end →
+        column k rows.items ≡ matched (have_id bytes lists.old (window.start + k)) nodes.now) }
+    ensures width { IfOk result (λ rows. HaveWidth (window.end - window.start) rows.items) }
+    ensures lists { (bytes : List ℕ) → S.model store.old ≡ Some bytes →
+        AllByRecursion (IsLeftFrom bytes window.start) lists.old →
+        IfOk result (λ _. AllZip (IsReadOn bytes window.end) lists.old lists.new) }
+    ensures keeps { S.model store.new ≡ S.model store.old }
+    ensures size { S.size store.new ≡ S.size store.old }
+    ensures failed { S.failed store.new ≡ count_after is_io_failure result (S.failed store.old) }
 {
-    let mut rows = list_rows(alloc, lists, start, end)?;
-    let width = (end - start) as usize;
+    let mut rows = list_rows(alloc, store, lists, window)?;
+    let width = (window.end - window.start) as usize;
     for node in nodes {
         let row = row_of(alloc, node, &rows, width)?;
         rows.push(row)?;
@@ -39,51 +49,60 @@ pub(crate) fn rows_of(
 }
 
 /// The rows of nothing, of everything and of each list.
-fn list_rows(
+fn list_rows<S: Store>(
     alloc: Global,
-    lists: &mut [Postings],
-    start: u32,
-    end: u32,
-) -> Result<Vec<Vec<bool>>, IndexFault>
-    requires order { start ≤ end }
-    requires from { AllByRecursion (λ (list : Ids). AscendWithin max_ids start list.ids) lists.old }
-    ensures rows { IfOk result (λ rows. (k : ℕ) → start + k < end →
-        column k rows.items ≡ false ∷ true ∷ have_id lists.old (start + k)) }
-    ensures width { IfOk result (λ rows. HaveWidth (end - start) rows.items) }
-    ensures lists { IfOk result (λ _. AllZip (IsReadTo end) lists.old lists.new) }
-    ensures fault { IfErr result (IsListFault (are_whole lists.old)) }
+    store: &mut S,
+    lists: &mut [StoredList],
+    window: Window,
+) -> Result<Vec<Vec<bool>>, IoFault>
+    requires order { window.start < window.end }
+    ensures rows { (bytes : List ℕ) → S.model store.old ≡ Some bytes →
+        AllByRecursion (IsLeftFrom bytes window.start) lists.old →
+        IfOk result (λ rows. (k : ℕ) → window.start + k < window.end →
+        column k rows.items ≡ false ∷ true ∷ have_id bytes lists.old (window.start + k)) }
+    ensures width { IfOk result (λ rows. HaveWidth (window.end - window.start) rows.items) }
+    ensures lists { (bytes : List ℕ) → S.model store.old ≡ Some bytes →
+        AllByRecursion (IsLeftFrom bytes window.start) lists.old →
+        IfOk result (λ _. AllZip (IsReadOn bytes window.end) lists.old lists.new) }
+    ensures keeps { S.model store.new ≡ S.model store.old }
+    ensures size { S.size store.new ≡ S.size store.old }
+    ensures failed { S.failed store.new ≡ count_after is_io_failure result (S.failed store.old) }
 {
     let mut rows = Vec::new(alloc);
     rows.push(Vec::new(alloc))?;
-    rows.push(vec![in alloc; true; (end - start) as usize]?)?;
+    rows.push(vec![in alloc; true; (window.end - window.start) as usize]?)?;
     for at in 0..lists.len() {
-        let row = list_row(alloc, &mut lists[at], start, end)?;
+        let row = list_row(alloc, store, &mut lists[at], window)?;
         rows.push(row)?;
     }
     Ok(rows)
 }
 
 /// The row of a list, which is read up to the window's end.
-fn list_row(
+fn list_row<S: Store>(
     alloc: Global,
-    list: &mut Postings,
-    start: u32,
-    end: u32,
-) -> Result<Vec<bool>, IndexFault>
-    requires order { start ≤ end }
-    requires from { AscendWithin max_ids start list.old.ids }
-    ensures row { IfOk result (λ row. (k : ℕ) → start + k < end →
-        slice_index_or row.items k false ≡ has list.old.ids (start + k)) }
-    ensures width { IfOk result (λ row. (length row.items ≡ 0) ⊎ (length row.items ≡ end - start)) }
-    ensures list { IfOk result (λ _. IsReadTo end list.old list.new) }
-    ensures fault { IfErr result (IsListFault list.old.whole) }
+    store: &mut S,
+    list: &mut StoredList,
+    window: Window,
+) -> Result<Vec<bool>, IoFault>
+    requires order { window.start < window.end }
+    ensures row { (bytes : List ℕ) → S.model store.old ≡ Some bytes → IsLeftFrom bytes window.start list.old →
+        IfOk result (λ row. IsRowOf bytes window.start window.end list.old row.items) }
+    ensures width { IfOk result (λ row.
+        (length row.items ≡ 0) ⊎ (length row.items ≡ window.end - window.start)) }
+    ensures list { (bytes : List ℕ) → S.model store.old ≡ Some bytes → IsLeftFrom bytes window.start list.old →
+        IfOk result (λ _. IsReadOn bytes window.end list.old list.new) }
+    ensures keeps { S.model store.new ≡ S.model store.old }
+    ensures size { S.size store.new ≡ S.size store.old }
+    ensures failed { S.failed store.new ≡ count_after is_io_failure result (S.failed store.old) }
 {
     let mut row = Vec::new(alloc);
-    'ids: while let Some(id) = list.next_below(end)? {
+    'ids: while let Some(id) = list.next_below(alloc, store, window.end)? {
         if row.is_empty() {
-            row.resize((end - start) as usize, false)?;
+            row.resize((window.end - window.start) as usize, false)?;
         }
-        row[(id - start) as usize] = true;
+        // Only a store whose bytes change can have an id below the window.
+        row[id.saturating_sub(window.start) as usize] = true;
     }
     Ok(row)
 }

@@ -8,6 +8,7 @@ ghost use Rattle.cs_index.specs.Opening.{OpensAs};
 
 use crate::fault::IndexFault;
 use crate::reading::index::test_sections;
+use crate::reading::name_table::NameTable;
 use crate::reading::section_offsets::{SectionOffsets, find_offsets};
 use crate::reading::texts::Texts;
 use cs_tree::{IoFault, Store, read_part};
@@ -72,6 +73,13 @@ impl StoredIndex {
         ensures { result ≡ self.now.paths }
     {
         Texts::new(&self.paths)
+    }
+
+    /// The names by their ids.
+    pub fn name_table(&self) -> NameTable<'_>
+        ensures { result ≡ self.now.names }
+    {
+        NameTable::new(&self.names, &self.name_index)
     }
 }
 

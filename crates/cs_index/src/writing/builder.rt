@@ -1,4 +1,4 @@
-// The index builder: blocked sort-based indexing (Manning, Raghavan and Schütze).
+// The index builder: postings are distributed to buckets, and the lists are written at the end.
 ghost use Rattle.std.specs.Prelude.{◌≡◌, ◌≢◌, ◌<◌, ◌≤◌, ◌^◌, ◌⊎◌, ◌↔◌, [], true, false, length, map, string_bytes, Err, IfOk, IfErr, OnOk, OnErr};
 ghost use Rattle.cs_trigram.specs.Trigram.{set_of_numbers, closing_trigram};
 ghost use Rattle.cs_trigram.specs.Scans.{AreDistinctTrigrams};
@@ -9,9 +9,9 @@ ghost use Rattle.cs_index.specs.Indexable.{IsIndexable};
 ghost use Rattle.cs_index.specs.Built.{with_entry, are_paths, file_map, is_above, is_storable, IsBuilt, IsFull, IsOutOfOrder, max_names, path_set};
 
 use crate::fault::BuildFault;
-use crate::writing::batch::Batch;
+use crate::writing::bucket::Bucket;
+use crate::writing::buckets::{empty_buckets, pop_file, push_file, write_buckets};
 use crate::writing::sections::Sections;
-use crate::writing::segments::Segments;
 use crate::writing::storable_texts::{are_index_paths, is_text};
 use crate::writing::strings::{Strings, strings_of};
 use std::alloc::{AllocError, Global};
@@ -20,15 +20,13 @@ use std::marker::Model;
 /// The maximum number of names.
 const MAX_NAMES: u32 = 1 << 30;
 
-/// An index under construction: the paths, the names, and the ids of each trigram as sorted
-/// segments and one unsorted batch.
+/// An index under construction: the paths, the names, and the postings in buckets.
 #[derive(Drop)]
 pub struct Builder {
     alloc: Global,
     paths: Strings,
     names: Strings,
-    lists: Segments,
-    batch: Batch,
+    buckets: Vec<Bucket>,
 }
 
 impl Model for Builder {
@@ -61,8 +59,7 @@ impl Builder {
             alloc,
             paths,
             names: Strings::new(alloc),
-            lists: Segments::new(alloc),
-            batch: Batch::new(alloc),
+            buckets: empty_buckets(alloc)?,
         })
     }
 
@@ -107,10 +104,8 @@ impl Builder {
         ensures other { IfErr result
             (λ fault. (fault ≡ BuildFault.TooLarge) ⊎ (fault ≡ BuildFault.Memory)) }
     {
-        let name_count = self.names.len() as u32;
-        self.batch.flush(&mut self.lists, name_count)?;
         let mut sections = Sections::of(self.alloc, self.paths, self.names);
-        self.lists.write(&mut sections)?;
+        write_buckets(self.alloc, &mut self.buckets, &mut sections)?;
         sections.finish_within(limit)
     }
 
@@ -173,10 +168,11 @@ impl Builder {
         ensures err { OnErr result (self.new ≡ self.old) }
     {
         let id = self.names.len() as u32;
-        self.batch.make_room(&mut self.lists, id)?;
-        self.batch.reserve(trigrams.len())?;
-        self.names.push(name)?;
-        self.batch.push(trigrams, id);
+        push_file(&mut self.buckets, trigrams, id)?;
+        if self.names.push(name).is_err() {
+            pop_file(&mut self.buckets, trigrams);
+            return Err(AllocError);
+        }
         Ok(id)
     }
 }

@@ -1,12 +1,9 @@
 // The ids of one trigram as a stream of varints.
-ghost use Rattle.std.specs.Prelude.{◌≡◌, ◌<◌, ◌+◌, ◌++◌, [], List, ℕ, length, OnOk, OnErr};
-ghost use Rattle.std.specs.List.{AllByRecursion};
+ghost use Rattle.std.specs.Prelude.{◌≡◌, ◌<◌, ◌≤◌, ◌++◌, ◌∷◌, [], List, ℕ, length, OnOk, OnErr};
 ghost use Rattle.cs_index.specs.AscendingIds.{max_ids, next_after, AscendWithin};
 ghost use Rattle.cs_index.specs.Encoding.{stream_of};
-ghost use Rattle.cs_index.specs.Segments.{sums_from};
 
-use crate::writing::output::append_both;
-use crate::writing::varint::encode_varint;
+use crate::writing::varint::push_varint;
 use std::alloc::{AllocError, Global};
 use std::marker::Model;
 
@@ -61,19 +58,17 @@ impl IdStream {
         &self.deltas
     }
 
-    /// Appends ids: the partial sums of the deltas, starting from `from`. On error nothing changes.
+    /// Appends an id. On error nothing changes.
     #[inline]
-    pub(crate) fn extend(&mut self, from: u32, delta_bytes: &[u8]) -> Result<(), AllocError>
-        requires some { 0 < length delta_bytes.now }
-        requires short { AllByRecursion (λ delta_byte. delta_byte < 128) delta_bytes.now }
-        requires rise { AscendWithin max_ids (next_after 0 self.old) (sums_from from delta_bytes.now) }
-        ensures ok { OnOk result (self.new ≡ self.old ++ sums_from from delta_bytes.now) }
+    pub(crate) fn push(&mut self, id: u32) -> Result<(), AllocError>
+        requires above { next_after 0 self.old ≤ id }
+        requires bound { id < max_ids }
+        ensures ok { OnOk result (self.new ≡ self.old ++ id ∷ []) }
         ensures err { OnErr result (self.new ≡ self.old) }
     {
-        let (first, len) = encode_varint(from + delta_bytes[0] as u32 + 1 - self.next);
-        append_both(&mut self.deltas, &first[..len], &delta_bytes[1..])?;
-        self.count += delta_bytes.len() as u32;
-        self.next = last_of(from, delta_bytes) + 1;
+        push_varint(&mut self.deltas, id + 1 - self.next)?;
+        self.count += 1;
+        self.next = id + 1;
         Ok(())
     }
 
@@ -85,16 +80,4 @@ impl IdStream {
         self.count = 0;
         self.next = 0;
     }
-}
-
-/// The sum of `from` and the deltas.
-fn last_of(from: u32, delta_bytes: &[u8]) -> u32
-    requires { AllByRecursion (λ id. id < max_ids) (sums_from from delta_bytes.now) }
-    ensures { result + 1 ≡ next_after (from + 1) (sums_from from delta_bytes.now) }
-{
-    let mut last = from;
-    'delta_bytes: for delta_byte in delta_bytes {
-        last += *delta_byte as u32;
-    }
-    last
 }

@@ -3,6 +3,7 @@ use crate::fixtures::{Files, ROW, builder_of, index_of, strings};
 use crate::index::reading::EMPTY;
 use cs_index::{BuildFault, Builder};
 use std::alloc::{AllocError, Global};
+use std::str::from_utf8;
 use std::test::Fail;
 
 /// Whether the index of a path with one file is these bytes.
@@ -127,5 +128,78 @@ fn names_and_bytes_are_kept_within_limits(rt: HostRuntime) {
     assert!(rt; keeps_limits(rt.alloc()) == Ok(true));
     for (most, want) in WITHIN {
         assert!(rt; length_within(rt.alloc(), *most) == *want, "at {most}");
+    }
+}
+
+/// A number in seven digits.
+fn digits(number: u32) -> [u8; 7] {
+    let mut text = [b'0'; 7];
+    let mut rest = number;
+    for at in 0..7 {
+        text[6 - at] = b'0' + (rest % 10) as u8;
+        rest /= 10;
+    }
+    text
+}
+
+/// Adds a name, with the trigram `abc` and the last trigram with the same high bits, or without
+/// trigrams.
+fn add_some(builder: &mut Builder, name: &str, has_some: bool) -> Result<u32, BuildFault> {
+    if has_some {
+        builder.add(name, &[0x616fff, 0x616263])
+    } else {
+        builder.add(name, &[])
+    }
+}
+
+/// The index of this many names, from `0000000` on. Those with these ids have trigrams. An
+/// allocation that fails is tried again.
+fn sparse(alloc: Global, count: u32, ids: &[u32]) -> Result<Vec<u8>, BuildFault> {
+    let mut builder = builder_of(alloc, &["/a"])?;
+    for id in 0..count {
+        let text = digits(id);
+        let Ok(name) = from_utf8(&text) else {
+            return Err(BuildFault::BadName);
+        };
+        let has_some = ids.contains(&id);
+        if add_some(&mut builder, name, has_some) == Err(BuildFault::Memory) {
+            let _id = add_some(&mut builder, name, has_some)?;
+        }
+    }
+    builder.finish()
+}
+
+/// Whether the two lists of the sparse index have these deltas.
+fn has_deltas(alloc: Global, ids: &[u32], deltas: &[u8]) -> Result<bool, BuildFault> {
+    let count = match ids.last() {
+        Some(last) => last.saturating_add(1),
+        None => 0,
+    };
+    let mut want = Vec::new(alloc);
+    want.extend_from_slice(b"abc")?;
+    want.extend_from_slice(deltas)?;
+    want.extend_from_slice(b"\0ao\xff")?;
+    want.extend_from_slice(deltas)?;
+    want.extend_from_slice(b"\0\xff\xff\xff\0")?;
+    let index = sparse(alloc, count, ids)?;
+    match index.split_at_checked(21 + 8 * count as usize) {
+        Some((_before, lists)) => Ok(lists.starts_with(&want)),
+        None => Ok(false),
+    }
+}
+
+/// Ids, and the varints of their deltas: about groups of 15 ids, and about the longest advance of a
+/// bucket, which is 61,440 ids.
+const SPARSE: &[(&[u32], &[u8])] = &[
+    (&[14, 15, 16, 29, 30, 31], b"\x0f\x01\x01\x0d\x01\x01"),
+    (&[127, 128], b"\x80\x01\x01"),
+    (&[0, 61_439, 61_440, 61_455], b"\x01\xff\xdf\x03\x01\x0f"),
+    (&[61_440, 122_881], b"\x81\xe0\x03\x81\xe0\x03"),
+];
+
+#[test]
+fn ids_far_apart_are_encoded(rt: HostRuntime) {
+    for (ids, deltas) in SPARSE {
+        assert!(rt; has_deltas(rt.alloc(), *ids, *deltas) == Ok(true), "of {ids:?}");
     }
 }

@@ -71,6 +71,8 @@ const WORDS: &[(&str, &str)] = &[
     ("(?i)copyright", "copyRIGHT"),
     ("return", "return"),
     ("q", "q"),
+    ("e", "e"),
+    (";$", "b;"),
     ("alpha|beta|gamma", "beta"),
     ("[0-9]{3}-[0-9]{4}", "123-4567"),
 ];
@@ -123,6 +125,7 @@ const SKIPPED: &[(&str, &str, &str)] = &[
     ("(static.*struct)|\\n\\n\\n", "stat struct", "static"),
     ("(?i)(zebra|crossing)$", "missing", "aCrOssings"),
     ("[^a-z]q[^u]", "no p", "aq."),
+    (";$", "no end", "a;b"),
     // Words that are searched for by their first three sets.
     ("[0-9]{3}-[0-9]{4}$", "1-3456", "123-4567."),
     ("(alpha|beta|gamma)$", "alph eta amma", "alphas"),

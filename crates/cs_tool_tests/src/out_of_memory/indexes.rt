@@ -116,8 +116,9 @@ fn candidates(rt: HostRuntime) -> Result<(), Fail> {
 fn called_on_a_store(alloc: Global, bytes: &[u8], query: &Query) -> Outcome {
     let mut store = MemStore::new(bytes, 7);
     match StoredIndex::open(alloc, &mut store) {
-        Ok(Ok(index)) => match index.load_lists(alloc, &mut store, query) {
-            Ok(partial) => called(alloc, &partial.index(), query),
+        Ok(Ok(index)) => match index.candidates(alloc, &mut store, query) {
+            Ok(Ok(ids)) => Outcome::of(ids.as_slice() == [1].as_slice()),
+            Ok(Err(_)) => Outcome::Wrong,
             Err(IoFault::Memory) => Outcome::OutOfMemory,
             Err(IoFault::Failed) => Outcome::Wrong,
         },

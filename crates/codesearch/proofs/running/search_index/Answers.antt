@@ -1,16 +1,16 @@
-use Rattle.std.proofs.Common.{◌≡◌, Some, Ok, refl, sym, subst, rules}
+use Rattle.std.proofs.Common.{◌≡◌, Some, refl, sym, subst, rules}
 use Rattle.std.specs.Prelude.{IsSomeAnd}
 use Rattle.cs_search.specs.Searched.{IsSearch, search_outputs}
 use Rattle.codesearch.specs.Program.{IsIndex}
 use Rattle.codesearch.proofs.CallLemmas.{of_known}
 use Rattle.codesearch.proofs.running.search_index.Goals as goal
 
-pub returns-in_ok-answer-in-Ok-Some-clause-does : goal.returns-in_ok-answer-in-Ok-Some-clause-does
-returns-in_ok-answer-in-Ok-Some-clause-does g c = λ index is.
+pub returns-in_ok-answer-in-Some-clause-does : goal.returns-in_ok-answer-in-Some-clause-does
+returns-in_ok-answer-in-Some-clause-does g c = λ index is.
     let world = c.args.world.now in
-    let ran = c.in_ok-answer-in-Ok-Some.ensures in
-    let answer = c.in_ok-answer-in-Ok-Some.answer in
-    let found : world.file.index ≡ Ok (Some c.in-Ok-Some.store) = search rules in
+    let ran = c.in_ok-answer-in-Some.ensures in
+    let answer = c.in_ok-answer-in-Some.answer in
+    let found : world.file.index ≡ Some c.in-Some.store = search rules in
     let known = subst (λ o. IsIndex g.S.Store.model o index) found is in
     let same = subst (λ model. IsSomeAnd model (λ bytes. index ≡ Some bytes)) (sym c.open.ensures.keeps) known in
     let old = search_outputs g.O.Sink.model g.E.Sink.model world.out world.err in

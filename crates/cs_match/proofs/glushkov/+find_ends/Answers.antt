@@ -1,19 +1,19 @@
-use Rattle.std.proofs.Common.{◌≡◌, ◌+◌, drop, sym, ◌∙◌, ap, arith}
+use Rattle.std.proofs.Common.{◌≡◌, ◌+◌, drop, refl, sym, ◌∙◌, ap, arith}
+use Rattle.std.specs.Prelude.{None}
 use Rattle.std.proofs.Math.Bool.{and_assoc, or_assoc}
 use Rattle.cs_syntax.specs.Matching.{rep}
-use Rattle.cs_syntax.specs.Node.{tree_of}
-use Rattle.cs_syntax.specs.NodeList.{trees_of}
-use Rattle.cs_syntax.proofs.NodeLemmas.{tree_of-Rep}
-use Rattle.cs_syntax.proofs.TreeLemmas.{trees_from}
+use Rattle.cs_match.specs.Parts.{run, shape_of, shapes_of}
+use Rattle.cs_match.proofs.PartLemmas.{shape_of-Run, shape_of-Rep, shapes_from}
 use Rattle.cs_match.specs.Glushkov.{nullable, nullable_all, nullable_some, is_final, loop_ends}
+use Rattle.cs_match.proofs.ShapeLemmas.{position_count_run, repeats_run, loop_ends_run}
 use Rattle.cs_match.proofs.TraversalLemmas.{rep_noted, accepted_all, accepted_some, noted_more}
 use Rattle.cs_match.proofs.glushkov.+find_ends.Goals as goal
 
 pub find_ends-returns-in-Rep-clause-noted : goal.find_ends-returns-in-Rep-clause-noted
 find_ends-returns-in-Rep-clause-noted t c =
-    let x = tree_of c.deref-in-Rep.result.now in
-    let e : tree_of c.args.node.now ≡ rep x c.in-Rep.least c.in-Rep.field-2 =
-    ap tree_of c.in-Rep.is ∙ tree_of-Rep _ _ _ ∙ ap (λ n. rep (tree_of n) c.in-Rep.least c.in-Rep.field-2) (sym c.deref-in-Rep.ensures) in
+    let x = shape_of c.deref-in-Rep.result.now in
+    let e : shape_of c.args.part.now ≡ rep x c.in-Rep.least None =
+    ap shape_of c.in-Rep.is ∙ shape_of-Rep _ _ ∙ ap (λ n. rep (shape_of n) c.in-Rep.least None) (sym c.deref-in-Rep.ensures) in
     let ms = drop c.next_repeat-own.new.cursor.position c.args.positions.now in
     rw (e, ← c.next_repeat-own.ensures.position, c.note_loop.ensures, c.next_repeat-own.ensures.is, c.find_ends-ends.ensures.accepting)
     (rep_noted c.args.loops.now c.find_ends-ends.new.loops c.args.cursor.now.repeat c.next_repeat-own.new.cursor.repeat (is_final x ms c.args.here) (loop_ends x ms c.args.here)
@@ -21,10 +21,10 @@ find_ends-returns-in-Rep-clause-noted t c =
 
 pub find_ends_all-loop-part-preserved : goal.find_ends_all-loop-part-preserved
 find_ends_all-loop-part-preserved t c =
-    let more = trees_from c.args.parts.now c.loop-part.part-index c.part-item.result c.loop-part-test.true c.part-item.is in
+    let more = shapes_from c.args.parts.now c.loop-part.part-index c.part-item.result c.loop-part-test.true c.part-item.is in
     let i = c.loop-part.invariant in
-    let t = tree_of c.part-item.result in
-    let ts = trees_of (drop (c.loop-part.part-index + 1) c.args.parts.now) in
+    let t = shape_of c.part-item.result in
+    let ts = shapes_of (drop (c.loop-part.part-index + 1) c.args.parts.now) in
     let position = rw more at i.position in
     let repeat = rw more at i.repeat in
     let next = c.find_ends-ends.ensures.position in
@@ -42,10 +42,10 @@ find_ends_all-loop-part-preserved t c =
 
 pub find_ends_some-loop-part-preserved : goal.find_ends_some-loop-part-preserved
 find_ends_some-loop-part-preserved t c =
-    let more = trees_from c.args.parts.now c.loop-part.part-index c.part-item.result c.loop-part-test.true c.part-item.is in
+    let more = shapes_from c.args.parts.now c.loop-part.part-index c.part-item.result c.loop-part-test.true c.part-item.is in
     let i = c.loop-part.invariant in
-    let t = tree_of c.part-item.result in
-    let ts = trees_of (drop (c.loop-part.part-index + 1) c.args.parts.now) in
+    let t = shape_of c.part-item.result in
+    let ts = shapes_of (drop (c.loop-part.part-index + 1) c.args.parts.now) in
     let position = rw more at i.position in
     let repeat = rw more at i.repeat in
     let next = c.find_ends-ends.ensures.position in
@@ -60,3 +60,23 @@ find_ends_some-loop-part-preserved t c =
       noted = noted_more t ts c.args.positions.now c.args.here c.loop-part.cursor.position _ next c.loop-part.loops c.find_ends-ends.new.loops _ c.loop-part.cursor.repeat _
           (rw more at i.noted) c.find_ends-ends.ensures.repeat c.find_ends-ends.ensures.noted;
     }
+
+pub find_ends-end_run-requires : goal.find_ends-end_run-requires
+find_ends-end_run-requires t c =
+    let e : shape_of c.args.part.now ≡ run c.in-Run.n = ap shape_of c.in-Run.is ∙ shape_of-Run c.in-Run.n in
+    rw (e, position_count_run c.in-Run.n) at c.requires.room
+
+pub find_ends-returns-in-Run-clause-noted : goal.find_ends-returns-in-Run-clause-noted
+find_ends-returns-in-Run-clause-noted t c =
+    let e : shape_of c.args.part.now ≡ run c.in-Run.n = ap shape_of c.in-Run.is ∙ shape_of-Run c.in-Run.n in
+    rw (e, loop_ends_run c.in-Run.n (drop c.args.cursor.now.position c.args.positions.now) c.args.here) refl
+
+pub find_ends-returns-in-Run-clause-position : goal.find_ends-returns-in-Run-clause-position
+find_ends-returns-in-Run-clause-position t c =
+    let e : shape_of c.args.part.now ≡ run c.in-Run.n = ap shape_of c.in-Run.is ∙ shape_of-Run c.in-Run.n in
+    rw (e, position_count_run c.in-Run.n) c.end_run.ensures.position
+
+pub find_ends-returns-in-Run-clause-repeat : goal.find_ends-returns-in-Run-clause-repeat
+find_ends-returns-in-Run-clause-repeat t c =
+    let e : shape_of c.args.part.now ≡ run c.in-Run.n = ap shape_of c.in-Run.is ∙ shape_of-Run c.in-Run.n in
+    rw (e, repeats_run c.in-Run.n) (omega (arith, c.end_run.ensures.repeat, c.requires.within))

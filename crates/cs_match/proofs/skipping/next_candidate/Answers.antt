@@ -1,6 +1,6 @@
-use Rattle.std.proofs.Common.{◌≡◌, ℕ, ◌+◌, ◌-◌, ◌≤◌, List, length, take, drop, sym, subst, ap, ◌∙◌, arith, length-drop, length-take-le}
+use Rattle.std.proofs.Common.{◌≡◌, ℕ, ◌+◌, ◌-◌, ◌≤◌, List, length, take, drop, sym, subst, ap, arith, length-drop, length-take-le}
 use Rattle.std.specs.Prelude.{Any}
-use Rattle.std.proofs.lemmas.List.{take_rest, take_all}
+use Rattle.std.proofs.lemmas.List.{take_rest}
 use Rattle.cs_prefilter.specs.WordAt.{WordAt, NoWordFrom}
 use Rattle.cs_match.specs.Lines.{terminated_lines}
 use Rattle.cs_match.specs.NoNewline.{HasNoNewline}

@@ -3,11 +3,12 @@ use Rattle.std.specs.Prelude.{option_copied}
 use Rattle.std.proofs.lemmas.Result.{err_from_is_err_and}
 use Rattle.cs_tree.proofs.GrowsLemmas.{Grows-same}
 use Rattle.cs_tree.specs.Sinks.{CountsOne}
+use Rattle.cs_search.specs.Plans.{AreSelected}
 use Rattle.cs_search.proofs.CgrepLemmas.{all_silent}
 use Rattle.cs_search.proofs.SearchLemmas.{refused_first}
 use Rattle.cs_search.proofs.csearching.csearch.Goals as goal
 
--- ---- no plan, or no index
+-- ---- no plan, or no candidates
 
 pub returns-in_err-plan-clause-searches : goal.returns-in_err-plan-clause-searches
 returns-in_err-plan-clause-searches g c =
@@ -24,7 +25,7 @@ returns-in_err-plan-clause-writes g c =
 pub returns-in_err-plan-clause-silent : goal.returns-in_err-plan-clause-silent
 returns-in_err-plan-clause-silent g c = all_silent _ c.from_residual.result ((Grows-same _, Grows-same _), refl, refl)
 
--- ---- the search by the plan and the index
+-- ---- the search of the candidates
 
 pub returns-clause-searches : goal.returns-clause-searches
-returns-clause-searches g c = c.search_by.ensures.searches (option_copied c.args.index) c.in_ok-plan.ensures.answering
+returns-clause-searches g c = c.search_by.ensures.searches (option_copied c.args.index) (subst (AreSelected c.in_ok-plan.plan.query (option_copied c.args.index) c.in_ok-plan.names) (sym c.deref.ensures.value) c.in_ok-plan.ensures.selected)

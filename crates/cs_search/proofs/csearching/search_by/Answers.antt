@@ -15,33 +15,15 @@ use Rattle.cs_search.proofs.MainPromiseLemmas.{searched, ready, faults_chosen, l
 use Rattle.cs_search.proofs.SearchLemmas.{refused_first, refused_late, searched_to_the_end}
 use Rattle.cs_search.proofs.csearching.search_by.Goals as goal
 
--- ---- a damaged list
-
-pub returns-in_err-ids-clause-searches : goal.returns-in_err-ids-clause-searches
-returns-in_err-ids-clause-searches g c = λ bytes answering.
-    let p = err_from_is_err_and c.from_residual.result c.from_residual.ensures.1 in
-    rw (p.1, p.2)
-    (refused_first c.args.job.now bytes (g.T.Tree.snapshot c.args.tree.now) (g.T.Tree.failed c.args.tree.now) (record { out = g.O.Sink.model c.args.out.now; err = g.E.Sink.model c.args.err.now }) (index_fault c.in_err-ids.field-0.0)
-    (lists_refused c.args.job.now bytes c.args.plan.now c.requires c.args.index.now answering c.in_err-ids.field-0.0 c.in_err-ids.ensures.fault))
-
-pub returns-in_err-ids-clause-writes : goal.returns-in_err-ids-clause-writes
-returns-in_err-ids-clause-writes g c =
-    let p = err_from_is_err_and c.from_residual.result c.from_residual.ensures.1 in
-    let out = g.O.Sink.failed c.args.out.now in
-    let err = g.E.Sink.failed c.args.err.now in
-    rw (p.1, p.2) (subst (λ fails. CountsOne fails out out err err) (sym (list_unwritten c.in_err-ids.field-0.0)) (refl, refl))
-
-pub returns-in_err-ids-clause-silent : goal.returns-in_err-ids-clause-silent
-returns-in_err-ids-clause-silent g c = all_silent _ c.from_residual.result ((Grows-same _, Grows-same _), refl, refl)
-
 -- ---- the search fails
 
 pub returns-in_err-matched-clause-searches : goal.returns-in_err-matched-clause-searches
-returns-in_err-matched-clause-searches g c = λ bytes answering.
-    let p = err_from_is_err_and c.from_residual-in_err-matched.result c.from_residual-in_err-matched.ensures.1 in
+returns-in_err-matched-clause-searches g c = λ bytes selected.
+    let p = err_from_is_err_and c.from_residual.result c.from_residual.ensures.1 in
     let job = c.args.job.now in
     let plan = c.args.plan.now in
-    let parts = c.args.index.now in
+    let names' = c.args.names.now in
+    let ids = c.args.ids.now in
     let tree = g.T.Tree.snapshot c.args.tree.now in
     let before = g.T.Tree.failed c.args.tree.now in
     let after = g.T.Tree.failed c.search.new.tree in
@@ -49,34 +31,32 @@ returns-in_err-matched-clause-searches g c = λ bytes answering.
     let out-now = g.O.Sink.model c.search.new.out in
     let err = g.E.Sink.model c.args.err.now in
     let err-now = g.E.Sink.model c.search.new.err in
-    let whole = c.in_ok-ids.ensures.whole in
-    let ids = c.deref.result.now in
-    let found = c.deref.ensures.value ∙ c.in_ok-ids.ensures.ids in
     let Claim = λ (printed : Option Printed). PrintsSome printed out out-now err err-now in
     rw (p.1, p.2)
-    (refused_late job bytes tree before after (record { out = out; err = err }) (record { out = out-now; err = err-now }) plan.query (ready job bytes plan c.requires parts answering whole) c.in_err-matched.field-0.0 c.in_err-matched.ensures.only
-    (searched job bytes plan c.requires parts answering whole ids found tree Claim
+    (refused_late job bytes tree before after (record { out = out; err = err }) (record { out = out-now; err = err-now }) plan.query (ready job bytes plan c.requires names' ids selected) c.in_err-matched.field-0.0 c.in_err-matched.ensures.only
+    (searched job bytes plan c.requires names' ids selected tree Claim
     (λ has_match keeps decides names. PrintsSome-prefix _ out out-now err err-now (c.in_err-matched.ensures.prefix has_match keeps decides names)))
-    (λ opened opens. PrintsFaults-cut Csearch {A = Status} (Err c.in_err-matched.field-0.0) _ opened.names before after err err-now refl (faults_chosen job bytes plan c.requires parts answering whole ids found undone opened before after err err-now opens c.in_err-matched.ensures.faults)))
+    (λ opened opens. PrintsFaults-cut Csearch {A = Status} (Err c.in_err-matched.field-0.0) _ opened.names before after err err-now refl (faults_chosen job bytes plan c.requires names' ids selected undone opened before after err err-now opens c.in_err-matched.ensures.faults)))
 
 pub returns-in_err-matched-clause-writes : goal.returns-in_err-matched-clause-writes
 returns-in_err-matched-clause-writes g c =
-    let p = err_from_is_err_and c.from_residual-in_err-matched.result c.from_residual-in_err-matched.ensures.1 in
+    let p = err_from_is_err_and c.from_residual.result c.from_residual.ensures.1 in
     rw (p.1, p.2) c.in_err-matched.ensures.writes
 
 pub returns-in_err-matched-clause-silent : goal.returns-in_err-matched-clause-silent
 returns-in_err-matched-clause-silent g c =
-    let p = err_from_is_err_and c.from_residual-in_err-matched.result c.from_residual-in_err-matched.ensures.1 in
+    let p = err_from_is_err_and c.from_residual.result c.from_residual.ensures.1 in
     rw (p.1, p.2) (search_silent _ c.in_err-matched.field-0.0 c.in_err-matched.ensures.only)
 
 -- ---- a flush fails
 
 pub returns-in_err-status-clause-searches : goal.returns-in_err-status-clause-searches
-returns-in_err-status-clause-searches g c = λ bytes answering.
+returns-in_err-status-clause-searches g c = λ bytes selected.
     let p = err_from_is_err_and c.from_residual-in_err-status.result c.from_residual-in_err-status.ensures.1 in
     let job = c.args.job.now in
     let plan = c.args.plan.now in
-    let parts = c.args.index.now in
+    let names' = c.args.names.now in
+    let ids = c.args.ids.now in
     let tree = g.T.Tree.snapshot c.args.tree.now in
     let before = g.T.Tree.failed c.args.tree.now in
     let after = g.T.Tree.failed c.search.new.tree in
@@ -85,16 +65,13 @@ returns-in_err-status-clause-searches g c = λ bytes answering.
     let err = g.E.Sink.model c.args.err.now in
     let err-now = g.E.Sink.model c.search.new.err in
     let err-later = g.E.Sink.model c.finish.new.err in
-    let whole = c.in_ok-ids.ensures.whole in
-    let ids = c.deref.result.now in
-    let found = c.deref.ensures.value ∙ c.in_ok-ids.ensures.ids in
     let Claim = λ (printed : Option Printed). PrintsSome printed out out-later err err-later in
     rw (p.1, p.2)
-    (refused_late job bytes tree before after (record { out = out; err = err }) (record { out = out-later; err = err-later }) plan.query (ready job bytes plan c.requires parts answering whole) c.in_err-status.field-0.0 c.in_err-status.ensures.only
-    (searched job bytes plan c.requires parts answering whole ids found tree Claim
+    (refused_late job bytes tree before after (record { out = out; err = err }) (record { out = out-later; err = err-later }) plan.query (ready job bytes plan c.requires names' ids selected) c.in_err-status.field-0.0 c.in_err-status.ensures.only
+    (searched job bytes plan c.requires names' ids selected tree Claim
     (λ has_match keeps decides names. PrintsSome-all _ _ (g.O.Sink.model c.search.new.out) _ _ err-now _ c.in_ok-matched.matched (c.in_ok-matched.ensures.prints has_match keeps decides names) c.in_err-status.ensures.out c.in_err-status.ensures.err))
     (λ opened opens. PrintsFaults-flushed Csearch {A = Status} (Err c.in_err-status.field-0.0) opened.names before after err err-now err-later
-    (faults_chosen job bytes plan c.requires parts answering whole ids found done opened before after err err-now opens c.in_ok-matched.ensures.faults) c.in_err-status.ensures.err))
+    (faults_chosen job bytes plan c.requires names' ids selected done opened before after err err-now opens c.in_ok-matched.ensures.faults) c.in_err-status.ensures.err))
 
 pub returns-in_err-status-clause-writes : goal.returns-in_err-status-clause-writes
 returns-in_err-status-clause-writes g c =
@@ -116,10 +93,11 @@ returns-in_err-status-clause-silent g c =
 -- ---- success
 
 pub returns-clause-searches : goal.returns-clause-searches
-returns-clause-searches g c = λ bytes answering.
+returns-clause-searches g c = λ bytes selected.
     let job = c.args.job.now in
     let plan = c.args.plan.now in
-    let parts = c.args.index.now in
+    let names' = c.args.names.now in
+    let ids = c.args.ids.now in
     let tree = g.T.Tree.snapshot c.args.tree.now in
     let before = g.T.Tree.failed c.args.tree.now in
     let after = g.T.Tree.failed c.search.new.tree in
@@ -128,15 +106,12 @@ returns-clause-searches g c = λ bytes answering.
     let err = g.E.Sink.model c.args.err.now in
     let err-now = g.E.Sink.model c.search.new.err in
     let err-later = g.E.Sink.model c.finish.new.err in
-    let whole = c.in_ok-ids.ensures.whole in
-    let ids = c.deref.result.now in
-    let found = c.deref.ensures.value ∙ c.in_ok-ids.ensures.ids in
     let Claim = λ (printed : Option Printed). PrintsStatus printed out out-later err err-later c.in_ok-status.status in
-    searched_to_the_end job bytes tree before after (record { out = out; err = err }) (record { out = out-later; err = err-later }) plan.query (ready job bytes plan c.requires parts answering whole) c.in_ok-status.status
-    (searched job bytes plan c.requires parts answering whole ids found tree Claim
+    searched_to_the_end job bytes tree before after (record { out = out; err = err }) (record { out = out-later; err = err-later }) plan.query (ready job bytes plan c.requires names' ids selected) c.in_ok-status.status
+    (searched job bytes plan c.requires names' ids selected tree Claim
     (λ has_match keeps decides names. PrintsStatus-flushed _ _ (g.O.Sink.model c.search.new.out) _ _ err-now _ c.in_ok-matched.matched c.in_ok-status.status (c.in_ok-matched.ensures.prints has_match keeps decides names) c.in_ok-status.ensures.out c.in_ok-status.ensures.err c.in_ok-status.ensures.status))
     (λ opened opens. PrintsFaults-flushed Csearch {E = ToolFault} (Ok c.in_ok-status.status) opened.names before after err err-now err-later
-    (faults_chosen job bytes plan c.requires parts answering whole ids found done opened before after err err-now opens c.in_ok-matched.ensures.faults) c.in_ok-status.ensures.err)
+    (faults_chosen job bytes plan c.requires names' ids selected done opened before after err err-now opens c.in_ok-matched.ensures.faults) c.in_ok-status.ensures.err)
 
 pub returns-clause-flushed : goal.returns-clause-flushed
 returns-clause-flushed g c = (leaves_flushed _ _ _ c.in_ok-status.ensures.out, leaves_flushed _ _ _ c.in_ok-status.ensures.err)

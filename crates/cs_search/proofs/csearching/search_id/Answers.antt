@@ -15,8 +15,8 @@ pub returns-in_default-clause-prints : goal.returns-in_default-clause-prints
 returns-in_default-clause-prints g c = λ has_match keeps decides names.
     let searcher = c.args.searcher.now in
     let file = λ (s : Snapshot). file_printed max_searched searcher.tool searcher.style has_match s in
-    Prints-nothing (g.T.Tree.snapshot c.args.tree.now) (λ s. all_printed (file s) (filter keeps (names_at c.args.index.now.names (c.args.id ∷ [])))) _ _
-    (λ s. none_at (file s) keeps c.args.index.now.names c.args.id (sym c.in_default.ensures))
+    Prints-nothing (g.T.Tree.snapshot c.args.tree.now) (λ s. all_printed (file s) (filter keeps (names_at c.args.names.now (c.args.id ∷ [])))) _ _
+    (λ s. none_at (file s) keeps c.args.names.now c.args.id (sym c.in_default.ensures))
 
 pub returns-then-not-keeps-clause-prints : goal.returns-then-not-keeps-clause-prints
 returns-then-not-keeps-clause-prints g c = λ has_match keeps decides names.
@@ -24,8 +24,8 @@ returns-then-not-keeps-clause-prints g c = λ has_match keeps decides names.
     let file = λ (s : Snapshot). file_printed max_searched searcher.tool searcher.style has_match s in
     let tested : c.keeps.result ≡ keeps c.in-Some.name.now = c.keeps.ensures.tested keeps names in
     let out : keeps c.in-Some.name.now ≡ false = sym tested ∙ c.if-not-keeps.true in
-    Prints-nothing (g.T.Tree.snapshot c.args.tree.now) (λ s. all_printed (file s) (filter keeps (names_at c.args.index.now.names (c.args.id ∷ [])))) _ _
-    (λ s. left_out_at (file s) keeps c.args.index.now.names c.args.id c.in-Some.name.now (sym c.in-Some.ensures) out)
+    Prints-nothing (g.T.Tree.snapshot c.args.tree.now) (λ s. all_printed (file s) (filter keeps (names_at c.args.names.now (c.args.id ∷ [])))) _ _
+    (λ s. left_out_at (file s) keeps c.args.names.now c.args.id c.in-Some.name.now (sym c.in-Some.ensures) out)
 
 pub returns-clause-prints : goal.returns-clause-prints
 returns-clause-prints g c = λ has_match keeps decides names.
@@ -33,8 +33,8 @@ returns-clause-prints g c = λ has_match keeps decides names.
     let file = λ (s : Snapshot). file_printed max_searched searcher.tool searcher.style has_match s in
     let tested : c.keeps.result ≡ keeps c.in-Some.name.now = c.keeps.ensures.tested keeps names in
     let in_it : keeps c.in-Some.name.now ≡ true = sym tested ∙ c.if-not-keeps.false in
-    Prints-as (g.T.Tree.snapshot c.args.tree.now) (λ s. file s c.in-Some.name.now) (λ s. all_printed (file s) (filter keeps (names_at c.args.index.now.names (c.args.id ∷ [])))) _ _ _ _ c.in_ok-matched.matched
-    (λ s. kept_at (file s) keeps c.args.index.now.names c.args.id c.in-Some.name.now (sym c.in-Some.ensures) in_it)
+    Prints-as (g.T.Tree.snapshot c.args.tree.now) (λ s. file s c.in-Some.name.now) (λ s. all_printed (file s) (filter keeps (names_at c.args.names.now (c.args.id ∷ [])))) _ _ _ _ c.in_ok-matched.matched
+    (λ s. kept_at (file s) keeps c.args.names.now c.args.id c.in-Some.name.now (sym c.in-Some.ensures) in_it)
     (c.in_ok-matched.ensures.prints has_match decides)
 
 pub returns-in_err-matched-clause-prefix : goal.returns-in_err-matched-clause-prefix
@@ -44,26 +44,26 @@ returns-in_err-matched-clause-prefix g c =
     let file = λ (s : Snapshot). file_printed max_searched searcher.tool searcher.style has_match s in
     let tested : c.keeps.result ≡ keeps c.in-Some.name.now = c.keeps.ensures.tested keeps names in
     let in_it : keeps c.in-Some.name.now ≡ true = sym tested ∙ c.if-not-keeps.false in
-    PrintsPrefix-as (g.T.Tree.snapshot c.args.tree.now) (λ s. file s c.in-Some.name.now) (λ s. all_printed (file s) (filter keeps (names_at c.args.index.now.names (c.args.id ∷ [])))) _ _ _ _
-    (λ s. kept_at (file s) keeps c.args.index.now.names c.args.id c.in-Some.name.now (sym c.in-Some.ensures) in_it)
+    PrintsPrefix-as (g.T.Tree.snapshot c.args.tree.now) (λ s. file s c.in-Some.name.now) (λ s. all_printed (file s) (filter keeps (names_at c.args.names.now (c.args.id ∷ [])))) _ _ _ _
+    (λ s. kept_at (file s) keeps c.args.names.now c.args.id c.in-Some.name.now (sym c.in-Some.ensures) in_it)
     (c.in_err-matched.ensures.prefix has_match decides))
 
 pub returns-in_default-clause-faults : goal.returns-in_default-clause-faults
 returns-in_default-clause-faults g c =
-    PrintsAllFaults-none c.args.searcher.now.tool done (names_at c.args.index.now.names (c.args.id ∷ [])) (g.T.Tree.failed c.args.tree.now) (g.T.Tree.failed c.args.tree.now) (g.E.Sink.model c.args.err.now) (g.E.Sink.model c.args.err.now) refl refl
+    PrintsAllFaults-none c.args.searcher.now.tool done (names_at c.args.names.now (c.args.id ∷ [])) (g.T.Tree.failed c.args.tree.now) (g.T.Tree.failed c.args.tree.now) (g.E.Sink.model c.args.err.now) (g.E.Sink.model c.args.err.now) refl refl
 
 pub returns-then-not-keeps-clause-faults : goal.returns-then-not-keeps-clause-faults
 returns-then-not-keeps-clause-faults g c =
-    PrintsAllFaults-none c.args.searcher.now.tool done (names_at c.args.index.now.names (c.args.id ∷ [])) (g.T.Tree.failed c.args.tree.now) (g.T.Tree.failed c.args.tree.now) (g.E.Sink.model c.args.err.now) (g.E.Sink.model c.args.err.now) refl refl
+    PrintsAllFaults-none c.args.searcher.now.tool done (names_at c.args.names.now (c.args.id ∷ [])) (g.T.Tree.failed c.args.tree.now) (g.T.Tree.failed c.args.tree.now) (g.E.Sink.model c.args.err.now) (g.E.Sink.model c.args.err.now) refl refl
 
 pub returns-clause-faults : goal.returns-clause-faults
 returns-clause-faults g c =
     subst (λ names. PrintsAllFaults c.args.searcher.now.tool names (g.T.Tree.failed c.args.tree.now) (g.T.Tree.failed c.search_file.new.tree) (g.E.Sink.model c.args.err.now) (g.E.Sink.model c.search_file.new.err) done)
-    (sym (name_at c.args.index.now.names c.args.id c.in-Some.name.now (sym c.in-Some.ensures))) c.in_ok-matched.ensures.faults
+    (sym (name_at c.args.names.now c.args.id c.in-Some.name.now (sym c.in-Some.ensures))) c.in_ok-matched.ensures.faults
 
 pub returns-in_err-matched-clause-faults : goal.returns-in_err-matched-clause-faults
 returns-in_err-matched-clause-faults g c =
     let p = err_from_is_err_and c.from_residual.result c.from_residual.ensures.1 in
-    PrintsAllFaults-refused c.args.searcher.now.tool c.from_residual.result p.0 (names_at c.args.index.now.names (c.args.id ∷ [])) _ _ _ _ p.1
+    PrintsAllFaults-refused c.args.searcher.now.tool c.from_residual.result p.0 (names_at c.args.names.now (c.args.id ∷ [])) _ _ _ _ p.1
     (subst (λ names. PrintsAllFaults c.args.searcher.now.tool names (g.T.Tree.failed c.args.tree.now) (g.T.Tree.failed c.search_file.new.tree) (g.E.Sink.model c.args.err.now) (g.E.Sink.model c.search_file.new.err) undone)
-    (sym (name_at c.args.index.now.names c.args.id c.in-Some.name.now (sym c.in-Some.ensures))) c.in_err-matched.ensures.faults)
+    (sym (name_at c.args.names.now c.args.id c.in-Some.name.now (sym c.in-Some.ensures))) c.in_err-matched.ensures.faults)

@@ -34,7 +34,7 @@ loop-id-preserved g c =
     record {
       prints = λ has_match keeps decides names.
           let searcher = c.args.searcher.now in
-          let all = c.args.index.now.names in
+          let all = c.args.names.now in
           let ids = c.args.ids.now in
           let at = c.loop-id.id-index in
           let id = get_or ids at 0 in
@@ -49,7 +49,7 @@ loop-id-preserved g c =
           (i.prints has_match keeps decides names) last;
       faults =
           let tool = c.args.searcher.now.tool in
-          let all = c.args.index.now.names in
+          let all = c.args.names.now in
           let ids = c.args.ids.now in
           let at = c.loop-id.id-index in
           let last = subst (λ t. PrintsAllFaults t (names_at all (get_or ids at 0 ∷ [])) (g.T.Tree.failed c.loop-id.tree) (g.T.Tree.failed c.search_id.new.tree) (g.E.Sink.model c.loop-id.err) (g.E.Sink.model c.search_id.new.err) done) i.kept.tool s.faults in
@@ -67,7 +67,7 @@ pub returns-clause-prints : goal.returns-clause-prints
 returns-clause-prints g c = λ has_match keeps decides names.
     let i = c.loop-id.invariant in
     let ids = c.args.ids.now in
-    subst (λ (l : List ℕ). Prints (option_map (λ (tree : Snapshot). all_printed (file_printed max_searched c.args.searcher.now.tool c.args.searcher.now.style has_match tree) (filter keeps (names_at c.args.index.now.names l))) (g.T.Tree.snapshot c.args.tree.now)) (g.O.Sink.model c.args.out.now) (g.O.Sink.model c.loop-id.out) (g.E.Sink.model c.args.err.now) (g.E.Sink.model c.loop-id.err) c.loop-id.matched)
+    subst (λ (l : List ℕ). Prints (option_map (λ (tree : Snapshot). all_printed (file_printed max_searched c.args.searcher.now.tool c.args.searcher.now.style has_match tree) (filter keeps (names_at c.args.names.now l))) (g.T.Tree.snapshot c.args.tree.now)) (g.O.Sink.model c.args.out.now) (g.O.Sink.model c.loop-id.out) (g.E.Sink.model c.args.err.now) (g.E.Sink.model c.loop-id.err) c.loop-id.matched)
     (take_all c.loop-id.id-index ids c.loop-id-test.false) (i.prints has_match keeps decides names)
 
 pub returns-in_err-matched-clause-prefix : goal.returns-in_err-matched-clause-prefix
@@ -75,7 +75,7 @@ returns-in_err-matched-clause-prefix g c =
     any_err c.from_residual.result (λ has_match keeps decides names.
     let i = c.loop-id.invariant in
     let searcher = c.args.searcher.now in
-    let all = c.args.index.now.names in
+    let all = c.args.names.now in
     let ids = c.args.ids.now in
     let at = c.loop-id.id-index in
     let id = get_or ids at 0 in
@@ -92,7 +92,7 @@ returns-in_err-matched-clause-prefix g c =
 pub returns-clause-faults : goal.returns-clause-faults
 returns-clause-faults g c =
     let i = c.loop-id.invariant in
-    subst (λ (l : List ℕ). PrintsAllFaults c.args.searcher.now.tool (names_at c.args.index.now.names l) (g.T.Tree.failed c.args.tree.now) (g.T.Tree.failed c.loop-id.tree) (g.E.Sink.model c.args.err.now) (g.E.Sink.model c.loop-id.err) done)
+    subst (λ (l : List ℕ). PrintsAllFaults c.args.searcher.now.tool (names_at c.args.names.now l) (g.T.Tree.failed c.args.tree.now) (g.T.Tree.failed c.loop-id.tree) (g.E.Sink.model c.args.err.now) (g.E.Sink.model c.loop-id.err) done)
     (take_all c.loop-id.id-index c.args.ids.now c.loop-id-test.false) i.faults
 
 pub returns-in_err-matched-clause-faults : goal.returns-in_err-matched-clause-faults
@@ -100,7 +100,7 @@ returns-in_err-matched-clause-faults g c =
     let p = err_from_is_err_and c.from_residual.result c.from_residual.ensures.1 in
     let i = c.loop-id.invariant in
     let tool = c.args.searcher.now.tool in
-    let all = c.args.index.now.names in
+    let all = c.args.names.now in
     let ids = c.args.ids.now in
     let at = c.loop-id.id-index in
     let last = subst (λ t. PrintsAllFaults t (names_at all (get_or ids at 0 ∷ [])) (g.T.Tree.failed c.loop-id.tree) (g.T.Tree.failed c.search_id.new.tree) (g.E.Sink.model c.loop-id.err) (g.E.Sink.model c.search_id.new.err) undone) i.kept.tool c.in_err-matched.ensures.faults in

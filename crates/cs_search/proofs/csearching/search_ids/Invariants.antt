@@ -12,8 +12,8 @@ use Rattle.cs_search.proofs.csearching.search_ids.Given as goal
 
 abbrev pub invariant-loop-id : goal.invariant-loop-id
 invariant-loop-id g l = record {
-  prints : (has_match keeps : List ℕ → Bool) → Decides has_match l.initial.searcher.matcher.tree → DecidesNames keeps (matcher_tree l.initial.kept.matcher) → Prints (option_map (λ (tree : Snapshot). all_printed (file_printed max_searched l.initial.searcher.tool l.initial.searcher.style has_match tree) (filter keeps (names_at l.index.names (take l.id-index l.ids)))) (g.T.Tree.snapshot l.initial.tree)) (g.O.Sink.model l.initial.out) (g.O.Sink.model l.out) (g.E.Sink.model l.initial.err) (g.E.Sink.model l.err) l.matched;
-  faults : PrintsAllFaults l.initial.searcher.tool (names_at l.index.names (take l.id-index l.ids)) (g.T.Tree.failed l.initial.tree) (g.T.Tree.failed l.tree) (g.E.Sink.model l.initial.err) (g.E.Sink.model l.err) done;
+  prints : (has_match keeps : List ℕ → Bool) → Decides has_match l.initial.searcher.matcher.tree → DecidesNames keeps (matcher_tree l.initial.kept.matcher) → Prints (option_map (λ (tree : Snapshot). all_printed (file_printed max_searched l.initial.searcher.tool l.initial.searcher.style has_match tree) (filter keeps (names_at l.names (take l.id-index l.ids)))) (g.T.Tree.snapshot l.initial.tree)) (g.O.Sink.model l.initial.out) (g.O.Sink.model l.out) (g.E.Sink.model l.initial.err) (g.E.Sink.model l.err) l.matched;
+  faults : PrintsAllFaults l.initial.searcher.tool (names_at l.names (take l.id-index l.ids)) (g.T.Tree.failed l.initial.tree) (g.T.Tree.failed l.tree) (g.E.Sink.model l.initial.err) (g.E.Sink.model l.err) done;
   out_failed : g.O.Sink.failed l.out ≡ g.O.Sink.failed l.initial.out;
   err_failed : g.E.Sink.failed l.err ≡ g.E.Sink.failed l.initial.err;
   kept : IsKept l.initial.searcher l.searcher;

@@ -1,16 +1,18 @@
-use Rattle.std.proofs.Common.{Some, sym, subst}
+use Rattle.std.proofs.Common.{Some, sym, subst, List, ℕ}
 use Rattle.cs_index.proofs.stored.SectionReads.{if_some_map}
-use Rattle.cs_search.specs.Plans.{AnswersQuery}
+use Rattle.cs_search.specs.Plans.{AreSelected}
 use Rattle.cs_search.specs.declared.status.Status.{Status}
 use Rattle.cs_search.proofs.SearchLemmas.{refused_first, unopened_unready, unopened_as}
 use Rattle.cs_search.proofs.stored.csearch_stored.Goals as goal
 
--- a search by the part of the index that was read
+-- a search of the candidates
 pub returns-in-Ok-clause-searches : goal.returns-in-Ok-clause-searches
 returns-in-Ok-clause-searches g c =
     if_some_map _ _ (g.S.Store.model c.args.store.now)
-    (λ bytes answering. c.search_by-answer.ensures.searches (Some bytes) (subst (AnswersQuery c.in-Ok.plan.query (Some bytes)) (sym c.index.ensures) answering))
-    (rw c.in-Ok.is at c.in_ok-ready.ensures.answering)
+    (λ bytes selected. c.search_by-answer.ensures.searches (Some bytes)
+    (subst (λ (names : List (List ℕ)). AreSelected c.in-Ok.plan.query (Some bytes) names c.deref.result.now) (sym c.name_table.ensures)
+    (subst (AreSelected c.in-Ok.plan.query (Some bytes) c.in-Ok.index.names) (sym c.deref.ensures.value) selected)))
+    (rw c.in-Ok.is at c.in_ok-ready.ensures.selected)
 
 -- a job with an error
 pub returns-in-Err-clause-searches : goal.returns-in-Err-clause-searches

@@ -28,12 +28,13 @@ pub analyze_alternation-returns : goal.analyze_alternation-returns
 analyze_alternation-returns t c =
     let parts = c.args.parts.now in
     let start : c.parts.index ≡ 0 = omega arith in
-    c.finish.ensures (trees_of parts) (subst (λ n. IsAlternation c.parts.alternation (trees_of (drop n parts))) start c.parts.invariant.1)
+    if_ok c.finish.result _ _ c.finish.ensures
+    (λ _ right. right (trees_of parts) (subst (λ n. IsAlternation c.parts.alternation (trees_of (drop n parts))) start c.parts.invariant.1))
 
 pub analyze-returns-in_ok-strings_of_chars-in-Chars : goal.analyze-returns-in_ok-strings_of_chars-in-Chars
 analyze-returns-in_ok-strings_of_chars-in-Chars t c =
     let leaf = one_char c.in-Chars.set in
     let is : tree_of c.args.node.now ≡ leaf = ap tree_of c.in-Chars.is ∙ tree_of-Chars c.in-Chars.set in
-    if_ok c.info_of_exact-in-Chars.result _ _ c.info_of_exact-in-Chars.ensures
+    if_ok c.of_leaf-in-Chars.result _ _ c.of_leaf-in-Chars.ensures
     (λ info right. subst (IsInfoOf info) (sym is)
-    (right leaf (c.of-in-Chars.ensures leaf (refl, c.in_ok-strings_of_chars-in-Chars.ensures)) (leaf_match_query leaf (λ set. tt))))
+    (right leaf (refl, c.in_ok-strings_of_chars-in-Chars.ensures) (leaf_match_query leaf (λ set. tt))))

@@ -3,8 +3,9 @@ use Rattle.std.specs.List.{list_all}
 use Rattle.cs_trigram.specs.Trigram.{trigram_sequence}
 use Rattle.cs_trigram.specs.Query.{mentions}
 use Rattle.cs_trigram.specs.Analysis.{all_match, some_mentions}
+use Rattle.cs_trigram.specs.declared.queries.Query.{Query}
 use Rattle.cs_trigram.specs.declared.queries.Query.TheVariants.{Tri}
-use Rattle.cs_trigram.proofs.QueryLemmas.{matches_set-And, mentions-And, trigram_end}
+use Rattle.cs_trigram.proofs.QueryLemmas.{matches_set-And, mentions-And, all_match_push, mentions_push, trigram_end}
 use Rattle.cs_trigram.proofs.MentionLemmas.{trigrams_of_both, mentions_one, sequence_next, trigram_at, trigram_step}
 use Rattle.cs_trigram.proofs.SubstringTrigramLemmas.{all_trigrams_tri}
 use Rattle.cs_trigram.proofs.connectives.all_trigrams.Goals as goal
@@ -27,8 +28,8 @@ loop-offset-preserved c =
     sequence_next text offset (omega arith) ∙ ap (λ n. n ∷ rest) (sym c.trigram-number.ensures.number) in (
       omega arith,
       λ set.
-          trigram_step set c.loop-offset.members.items c.add_next.new.members.items number rest (c.in_ok-next.ensures.required set)
+          trigram_step set c.loop-offset.members.items c.push.new.self.items number rest (ap (λ (qs : List Query). all_match qs set) c.in_ok-push.ensures.items ∙ all_match_push set c.loop-offset.members.items (Tri number))
           ∙ ap (λ (ns : List ℕ). all_match c.loop-offset.members.items set && list_all set ns) (sym next) ∙ c.loop-offset.invariant.1 set,
-      trigrams_of_both (some_mentions c.loop-offset.members.items) (mentions (Tri number)) (some_mentions c.add_next.new.members.items) (Unit {0}) (λ part. part ≡ text)
-          c.in_ok-next.ensures.mentioned c.loop-offset.invariant.2 (mentions_one number text c.trigram-number.ensures.below (trigram_at text offset number next)),
+      trigrams_of_both (some_mentions c.loop-offset.members.items) (mentions (Tri number)) (some_mentions c.push.new.self.items) (Unit {0}) (λ part. part ≡ text)
+          (λ g. ap (λ (qs : List Query). some_mentions qs g) c.in_ok-push.ensures.items ∙ mentions_push g c.loop-offset.members.items (Tri number)) c.loop-offset.invariant.2 (mentions_one number text c.trigram-number.ensures.below (trigram_at text offset number next)),
     )

@@ -23,4 +23,4 @@ returns c =
     (λ end_strings is. any_concatenations c.args.side c.args.nears.now c.args.fars.now end_strings.items is (sym c.are_inexact.ensures ∙ c.if-are_inexact.false))
 
 pub returns-in-Some : goal.returns-in-Some
-returns-in-Some c = if_some c.in_ok-end_strings.field-0 c.in-Some.end_strings _ c.in_ok-end_strings.ensures c.in-Some.is c.args.fars.now c.in_ok-truncations.ensures
+returns-in-Some c = if_some c.in_ok-end_strings.field-0 c.in-Some.end_strings _ c.in_ok-end_strings.ensures c.in-Some.is

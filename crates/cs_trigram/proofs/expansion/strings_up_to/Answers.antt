@@ -8,6 +8,6 @@ pub loop-iteration-preserved : goal.loop-iteration-preserved
 loop-iteration-preserved c = λ t once finite.
     let i = c.loop-iteration._iteration in
     let r = rep t 0 (Some i) in
-    let iteration = c.in_ok-concatenate.ensures t r once (c.loop-iteration.invariant t once finite) in
+    let iteration = c.in_ok-more.ensures t r once (c.loop-iteration.invariant t once finite) in
     let bare = single_empty_string c.in_ok-empty_string-2.field-0 empty c.in_ok-empty_string-2.ensures refl (λ w h. h) refl in
     exact_set_iterations c.in_ok-strings.strings t i finite (c.in_ok-strings.ensures (cat (pair t r)) empty iteration bare)

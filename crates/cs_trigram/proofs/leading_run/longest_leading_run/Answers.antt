@@ -4,15 +4,14 @@ use Rattle.cs_syntax.specs.TreeList.{append}
 use Rattle.cs_syntax.specs.Matching.{Tree, Trees, none, more}
 use Rattle.cs_trigram.specs.ExactSet.{IsExactSetOf, AreExactSetsReversed}
 use Rattle.cs_trigram.specs.Analysis.{AreExactStringsOfRun, IsBlocked}
-use Rattle.cs_trigram.specs.declared.exact_set.ExactSet.{ExactSet}
-use Rattle.cs_trigram.proofs.ExactSetLemmas.{exact_set_first, exact_set_none}
-use Rattle.cs_trigram.proofs.LeadingRunLemmas.{run_is_leading, run_strings, not_few_appended}
+use Rattle.cs_trigram.proofs.ExactSetLemmas.{Exact, exact_set_first, exact_set_none}
+use Rattle.cs_trigram.proofs.LeadingRunLemmas.{run_is_leading, run_strings}
 use Rattle.cs_syntax.proofs.TreeListLemmas.{append_assoc_trees}
 use Rattle.cs_trigram.proofs.NodeListLemmas.{none_of, some_of}
 use Rattle.cs_trigram.proofs.leading_run.longest_leading_run.Goals as goal
 
 -- the part before an index
-before : (counts : List ExactSet) (index : ℕ) (c : ExactSet) (ts : Trees) → 0 < index → index - 1 < length counts → c ≡ get_or counts (index - 1) c →
+before : (counts : List Exact) (index : ℕ) (c : Exact) (ts : Trees) → 0 < index → index - 1 < length counts → c ≡ get_or counts (index - 1) c →
     AreExactSetsReversed (take index counts) ts → (t : Tree) × (rest : Trees) × (ts ≡ more t rest) × IsExactSetOf c t × AreExactSetsReversed (take (index - 1) counts) rest
 before counts index c ts some lt is h =
     let same : index ≡ index - 1 + 1 = omega arith in
@@ -27,7 +26,7 @@ parts-init c =
         ts,
         refl,
         subst (λ (ws : List (List ℕ)). AreExactStringsOfRun ws (more t none)) (sym c.in_ok-leading.ensures) (run_strings c.args.strings.now t strings),
-        subst (λ (cs : List ExactSet). AreExactSetsReversed cs ts) (sym (take-length following)) counts,
+        subst (λ (cs : List Exact). AreExactSetsReversed cs ts) (sym (take-length following)) counts,
       ),
     )
 
@@ -37,18 +36,8 @@ returns-in_default c = λ t ts strings counts.
     let part = c.index-following-index.result in
     let h = c.parts.invariant.1 t ts strings counts in
     let next = before c.args.following.now index part h.1 (omega arith) (omega (arith, c.parts.invariant.0)) c.index-following-index.is h.4 in
-    let stop = none_of c.few.result _ _ c.few.ensures c.in_default.not-Some next.0 next.3 in
-    run_is_leading h.0 h.1 (more t ts) c.parts.leading.items h.2 h.3 (subst (IsBlocked h.0) (sym next.2) (not_few_appended h.0 next.0 stop))
-
-pub returns-in_default-2 : goal.returns-in_default-2
-returns-in_default-2 c = λ t ts strings counts.
-    let index = c.parts.index in
-    let part = c.index-following-index.result in
-    let h = c.parts.invariant.1 t ts strings counts in
-    let next = before c.args.following.now index part h.1 (omega arith) (omega (arith, c.parts.invariant.0)) c.index-following-index.is h.4 in
-    let suffixes = some_of c.few.result c.in-Some.suffixes _ _ c.few.ensures c.in-Some.is next.0 next.3 in
     let run = subst (λ (ws : List (List ℕ)). AreExactStringsOfRun ws h.0) (sym c.deref.ensures.value) h.3 in
-    let stop = none_of c.in_ok-longer.field-0 _ _ (c.in_ok-longer.ensures h.0 next.0 run suffixes) c.in_default-2.not-Some in
+    let stop = none_of c.in_ok-longer.field-0 _ _ (c.in_ok-longer.ensures h.0 next.0 run next.3) c.in_default.not-Some in
     run_is_leading h.0 h.1 (more t ts) c.parts.leading.items h.2 h.3 (subst (IsBlocked h.0) (sym next.2) stop)
 
 pub parts-preserved : goal.parts-preserved
@@ -59,9 +48,8 @@ parts-preserved c = (
       let part = c.index-following-index.result in
       let h = c.parts.invariant.1 t ts strings counts in
       let next = before c.args.following.now index part h.1 (omega arith) (omega (arith, c.parts.invariant.0)) c.index-following-index.is h.4 in
-      let suffixes = some_of c.few.result c.in-Some.suffixes _ _ c.few.ensures c.in-Some.is next.0 next.3 in
       let run = subst (λ (ws : List (List ℕ)). AreExactStringsOfRun ws h.0) (sym c.deref.ensures.value) h.3 in
-      let longer = some_of c.in_ok-longer.field-0 c.in-Some-2.longer _ _ (c.in_ok-longer.ensures h.0 next.0 run suffixes) c.in-Some-2.is in (
+      let longer = some_of c.in_ok-longer.field-0 c.in-Some.longer _ _ (c.in_ok-longer.ensures h.0 next.0 run next.3) c.in-Some.is in (
         append h.0 (more next.0 none),
         next.1,
         h.2 ∙ ap (append h.0) next.2 ∙ sym (append_assoc_trees h.0 (more next.0 none) next.1),

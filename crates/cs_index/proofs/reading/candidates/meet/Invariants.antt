@@ -1,16 +1,19 @@
-use Rattle.std.proofs.Common.{◌≡◌, ◌≤◌, ◌-◌}
+use Rattle.std.proofs.Common.{◌≡◌, ◌≤◌, ◌-◌, List, ℕ, Some}
 use Rattle.std.specs.Prelude.{filter}
-use Rattle.std.specs.List.{AllZip, range_with_len}
+use Rattle.std.specs.List.{AllByRecursion, AllZip, range_with_len}
 use Rattle.cs_index.specs.Form.{number_matches}
-use Rattle.cs_index.specs.Rows.{have_id, IsReadTo}
+use Rattle.cs_index.specs.Rows.{have_id, IsLeftFrom, IsReadOn}
 use Rattle.cs_index.proofs.reading.candidates.meet.Given as goal
 
 abbrev pub invariant-windows : goal.invariant-windows
-invariant-windows l = record {
+invariant-windows g l = record {
   within : l.start ≤ l.count;
-  ids : l.ids.items ≡ filter (λ id. number_matches (have_id l.fn.lists id) l.form.nodes.items l.form.root) (range_with_len 0 l.start);
-  lists : AllZip (IsReadTo l.start) l.fn.lists l.lists;
+  ids : (bytes : List ℕ) → g.S.Store.model l.fn.store ≡ Some bytes → AllByRecursion (IsLeftFrom bytes 0) l.fn.lists → l.ids.items ≡ filter (λ id. number_matches (have_id bytes l.fn.lists id) l.form.nodes.items l.form.root) (range_with_len 0 l.start);
+  lists : (bytes : List ℕ) → g.S.Store.model l.fn.store ≡ Some bytes → AllByRecursion (IsLeftFrom bytes 0) l.fn.lists → AllZip (IsReadOn bytes l.start) l.fn.lists l.lists;
+  keeps : g.S.Store.model l.store ≡ g.S.Store.model l.fn.store;
+  size : g.S.Store.size l.store ≡ g.S.Store.size l.fn.store;
+  failed : g.S.Store.failed l.store ≡ g.S.Store.failed l.fn.store;
 }
 
 abbrev pub decreases-windows : goal.decreases-windows
-decreases-windows l = l.count - l.start
+decreases-windows g l = l.count - l.start

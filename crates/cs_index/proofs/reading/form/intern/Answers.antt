@@ -1,4 +1,4 @@
-use Rattle.std.proofs.Common.{rules, ◌≡◌, ◌+◌, ◌∙◌, ap, sym, subst, ℕ, List, ◌++◌, ◌∷◌, [], length}
+use Rattle.std.proofs.Common.{rules, ◌≡◌, ◌+◌, ◌∙◌, ap, sym, subst, List, ◌++◌, ◌∷◌, [], length}
 use Rattle.std.proofs.lemmas.List.Filters.{dedup_is}
 use Rattle.cs_index.specs.declared.reading.form.Node.{Node}
 use Rattle.cs_index.specs.Form.{matched, number_matches, node_matches, numbers, Exist, Grows}

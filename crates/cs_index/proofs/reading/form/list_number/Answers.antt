@@ -1,4 +1,4 @@
-use Rattle.std.proofs.Common.{◌+◌, ◌∙◌, ap, sym}
+use Rattle.std.proofs.Common.{◌∙◌, ap, sym}
 use Rattle.std.proofs.lemmas.List.Sorted.{searched}
 use Rattle.cs_trigram.proofs.QueryLemmas.{matches_set-Tri}
 use Rattle.cs_index.proofs.candidates.FormValues.{ascends_order, list_matches, not_between, nothing_matches}

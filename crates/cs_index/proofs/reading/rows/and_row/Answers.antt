@@ -1,4 +1,4 @@
-use Rattle.std.proofs.Common.{◌≡◌, ◌∙◌, ap, sym, length, inl, inr}
+use Rattle.std.proofs.Common.{◌∙◌, ap, sym, length, inl, inr}
 use Rattle.std.proofs.lemmas.Bool.{eq-eqb, true≢false}
 use Rattle.cs_index.proofs.reading.rows.and_row.Goals as goal
 

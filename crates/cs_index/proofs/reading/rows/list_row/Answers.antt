@@ -1,28 +1,50 @@
-use Rattle.std.proofs.Common.{rules, ◌≡◌, ◌-◌, ◌∙◌, ap, sym, ℕ, Bool, Vec, Global, length, get_or, false, arith, inl, inr, vec_len}
+use Rattle.std.proofs.Common.{rules, ◌≡◌, ◌-◌, ◌∙◌, ap, sym, subst, ℕ, List, Bool, Vec, Global, length, length-set, get_or, set, true, false, arith, inl, inr, vec_len}
 use Rattle.std.proofs.lemmas.Bool.{eqb-true, eq-eqb, true≢false}
-use Rattle.cs_index.proofs.candidates.WindowRows.{row_more, row_ends, widened}
+use Rattle.cs_index.specs.PostingLists.{Ids}
+use Rattle.cs_index.specs.StoredLists.{ids_left, GivesBelow}
+use Rattle.cs_index.proofs.candidates.WindowRows.{row_more, row_ends, widened, RowSoFar}
 use Rattle.cs_index.proofs.reading.rows.list_row.Goals as goal
 use Rattle.cs_index.proofs.reading.rows.list_row.Goals.{then-is_empty+in_ok-resize, else-is_empty}
 
 pub ids-preserved : goal.ids-preserved
-ids-preserved c =
-    let found = rw c.in-Some.is at c.in_ok-id.ensures.some in
+ids-preserved g c =
+    let i = c.ids.invariant in
+    let start : ℕ = c.args.window.start in
+    let end : ℕ = c.args.window.end in
+    let row : List Bool = c.ids.row.items in
+    let wide : List Bool = c.if-is_empty.row.items in
     let len : vec_len c.ids.row ≡ length c.ids.row.items = search rules in
+    let flags : (length wide ≡ end - start) × ((k : ℕ) → get_or wide k false ≡ get_or row k false) =
     elim c.if-is_empty.branch [
       | then-is_empty+in_ok-resize w ↦
-          let none : length c.ids.row.items ≡ 0 = sym len ∙ eqb-true (vec_len c.ids.row) 0 (sym w.if-is_empty.ensures) in
-          let wide = widened (c.args.end - c.args.start) (c.args.end - c.args.start - vec_len c.ids.row) c.ids.row.items c.if-is_empty.row.items none (ap (λ (v : Vec Bool Global). v.items) w.row-is ∙ w.in_ok-resize.ensures.items) (omega (arith, len, none)) in
-          row_more c.args.start c.args.end c.args.list.now c.ids.row.items c.if-is_empty.row.items c.ids.list c.next_below.new.self c.in-Some.id c.ids.invariant found.0 c.in_ok-id.ensures.whole found.1 wide.0 wide.1
+          let none : length row ≡ 0 = sym len ∙ eqb-true (vec_len c.ids.row) 0 (sym w.if-is_empty.ensures) in
+          widened (end - start) (end - start - vec_len c.ids.row) row wide none (ap (λ (v : Vec Bool Global). v.items) w.row-is ∙ w.in_ok-resize.ensures.items) (omega (arith, len, none))
       | else-is_empty w ↦
-          let long : length c.if-is_empty.row.items ≡ c.args.end - c.args.start =
-          elim c.ids.invariant.width [
+          let long : length wide ≡ end - start =
+          elim i.width [
             | inl z ↦ absurd (true≢false (sym (eq-eqb (vec_len c.ids.row) 0 (len ∙ z)) ∙ sym w.if-is_empty.ensures))
             | inr wide ↦ ap (λ (v : Vec Bool Global). length v.items) w.row-is ∙ wide
           ] in
-          row_more c.args.start c.args.end c.args.list.now c.ids.row.items c.if-is_empty.row.items c.ids.list c.next_below.new.self c.in-Some.id c.ids.invariant found.0 c.in_ok-id.ensures.whole found.1 long (λ k. ap (λ (v : Vec Bool Global). get_or v.items k false) w.row-is)
-    ]
+          (long, λ k. ap (λ (v : Vec Bool Global). get_or v.items k false) w.row-is)
+    ] in
+    record {
+      width = inr (length-set wide c.saturating_sub.result true ∙ flags.0);
+      so_far = λ bytes is held.
+          let before = i.so_far bytes is held in
+          let given = subst (GivesBelow bytes end c.ids.list c.next_below.new.self) c.in-Some.is (c.in_ok-id.ensures.gives bytes (i.keeps ∙ is) before.0) in (
+            given.0,
+            subst (λ n. RowSoFar start end (ids_left bytes c.args.list.now) (set wide n true) (ids_left bytes c.next_below.new.self)) (sym c.saturating_sub.ensures)
+                (row_more start end (ids_left bytes c.args.list.now) row wide (ids_left bytes c.ids.list) (ids_left bytes c.next_below.new.self) c.in-Some.id before.1
+                (ap (λ (ids : Ids). ids.ids) given.1) (sym (ap (λ (ids : Ids). ids.whole) given.1)) given.2 flags.0 flags.1),
+          );
+      keeps = c.next_below.ensures.keeps ∙ i.keeps;
+      size = c.next_below.ensures.size ∙ i.size;
+      failed = c.in_ok-id.ensures.failed ∙ i.failed;
+    }
 
 pub returns-clause-row : goal.returns-clause-row
-returns-clause-row c =
-    let ended = rw c.in_default.is at c.in_ok-id.ensures.none in
-    row_ends c.args.start c.args.end c.args.list.now c.ids.row.items c.ids.list c.ids.invariant ended.1
+returns-clause-row g c bytes is held =
+    let i = c.ids.invariant in
+    let before = i.so_far bytes is held in
+    let given = subst (GivesBelow bytes c.args.window.end c.ids.list c.next_below.new.self) c.in_default.is (c.in_ok-id.ensures.gives bytes (i.keeps ∙ is) before.0) in
+    row_ends c.args.window.start c.args.window.end (ids_left bytes c.args.list.now) c.ids.row.items (ids_left bytes c.ids.list) before.1 given.2

@@ -21,5 +21,5 @@ returns-clause-right c =
       transitions = subst (λ (cached : List State). AreTransitions t cached (s.used + 1) s.transitions.items) is
           (added_transitions t s.cached.items s.used s.scratch c.requires.room given.cached s.transitions.items given.transitions);
       room = given.room;
-      loops = given.loops;
+      memory = given.memory;
     }

@@ -16,5 +16,5 @@ returns-clause-right c =
       transitions = subst (AreTransitions (tree_in s) s.cached.items 1) (sym (with_items_is s.transitions blank (c.reset.ensures.length ∙ c.deref_mut.ensures.len)))
           (blank_transitions (tree_in s) s.cached.items 1 blank (c.reset.ensures.length ∙ ap length c.deref_mut.ensures.value ∙ given.transitions.all) c.reset.ensures.blank);
       room = given.room;
-      loops = given.loops;
+      memory = given.memory;
     }

@@ -12,7 +12,7 @@ put-requires-clause-right c =
       cached = c.requires.right.cached;
       transitions = c.requires.right.transitions;
       room = ap (λ (n : State). length n.positions) c.step_from.ensures.moved ∙ length-successor (tree_in s) c.index.result.now c.args.byte;
-      loops = c.requires.right.loops;
+      memory = c.step_from.ensures.memory;
     }
 
 pub next_number-requires-clause-right : goal.next_number-requires-clause-right
@@ -23,5 +23,5 @@ next_number-requires-clause-right c =
       cached = c.requires.right.cached;
       transitions = c.requires.right.transitions;
       room = ap (λ (n : State). length n.positions) c.step_from.ensures.moved ∙ length-successor (tree_in s) c.index.result.now c.args.byte;
-      loops = c.requires.right.loops;
+      memory = c.step_from.ensures.memory;
     }

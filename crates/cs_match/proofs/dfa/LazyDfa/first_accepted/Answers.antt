@@ -1,6 +1,9 @@
-use Rattle.std.proofs.Common.{◌≡◌, ◌<◌, ◌+◌, false, length, get_or, take, refl, ap, subst, sym, ◌∙◌, arith}
+use Rattle.std.proofs.Common.{◌≡◌, ◌<◌, ◌≤◌, ◌+◌, ℕ, false, length, get_or, take, refl, ap, subst, sym, ◌∙◌, arith, inl, inr}
+use Rattle.std.proofs.lemmas.Bool.{cases_lt}
+use Rattle.cs_syntax.specs.Matching.{Tree}
 use Rattle.cs_match.specs.declared.state.State.{State}
 use Rattle.cs_match.specs.ConsistentDfa.{tree_in, state_in}
+use Rattle.cs_match.specs.FirstMatch.{AreScanned}
 use Rattle.cs_match.specs.LastPart.{last_part}
 use Rattle.cs_match.specs.LazyDfa.{IsStateNumber}
 use Rattle.cs_match.specs.States.{state, successor, accepts_before}
@@ -9,38 +12,54 @@ use Rattle.cs_match.proofs.StateCountLemmas.{grows_none, grows_on}
 use Rattle.cs_match.proofs.TransitionLemmas.{leads_on}
 use Rattle.cs_match.proofs.dfa.LazyDfa.first_accepted.Goals as goal
 
-pub loop-offset-init : goal.loop-offset-init
+pub scan-init : goal.scan-init
 unfolding last_part
-loop-offset-init c =
+scan-init c =
     let right = c.requires.right in
     record {
       right = right;
       same = refl;
       states = grows_none 0 _ _ refl;
-      number = record { whole = refl; in_use = omega (arith, right.cached.some); same = right.cached.first };
-      scanned = scanned_none (tree_in c.args.self.now) c.args.text.now;
+      scanned = record {
+        within = omega arith;
+        scanned = scanned_none (tree_in c.args.self.now) c.args.text.now;
+        at = record { whole = refl; in_use = omega (arith, right.cached.some); same = right.cached.first };
+      };
     }
 
-pub loop-offset-preserved : goal.loop-offset-preserved
-loop-offset-preserved c =
-    let t = tree_in c.args.self.now in
+-- an offset that is not the end is before it
+before_end : (i n : ℕ) → i ≤ n → (i ≡ n → ⊥) → i < n
+before_end i n within other =
+    elim (cases_lt i n) [
+      | inl low ↦ low
+      | inr high ↦ absurd (other (omega (arith, within, high)))
+    ]
+
+pub scan-preserved : goal.scan-preserved
+scan-preserved c =
+    let s = c.scan.self in
+    let t = tree_in s in
     let text = c.args.text.now in
-    let i = c.loop-offset.offset in
+    let i = c.scan_known-known.result.to in
     let b = get_or text i 0 in
-    let given = c.loop-offset.invariant in
+    let given = c.scan.invariant in
+    let known = c.scan_known-known.ensures.scanned in
     let new = c.next-number.new.self in
-    let n = state_in c.loop-offset.self c.loop-offset.number in
+    let n = state_in s c.scan_known-known.result.number in
     let m = state t (last_part (take i text)) in
-    let lt : i < length text = omega arith in
-    let same : tree_in new ≡ t = c.next-number.ensures.same ∙ given.same in
+    let lt : i < length text = before_end i (length text) known.within c.if-known-text.false in
+    let same : tree_in new ≡ t = c.next-number.ensures.same in
     let next = leads_on (tree_in new) new.cached.items new.used b c.next-number.result n c.next-number.ensures.leads c.if-number.false in
-    let is : n ≡ m = given.number.same in
-    let stays : accepts_before t m b ≡ false = sym (ap (λ x. accepts_before x n b) same ∙ ap (λ x. accepts_before t x b) is) ∙ next.0 in
+    let is : n ≡ m = known.at.same in
+    let stays : accepts_before t m b ≡ false = sym (ap (λ (u : Tree). accepts_before u n b) same ∙ ap (λ x. accepts_before t x b) is) ∙ next.0 in
     record {
       right = c.next-number.ensures.right;
-      same = same;
-      states = grows_on i 1 (i + 1) _ _ _ given.states c.next-number.ensures.states (omega arith);
-      number = subst (λ (x : State). IsStateNumber (tree_in new) new.cached.items new.used c.next-number.result x)
-          (ap (λ x. successor x n b) same ∙ ap (λ x. successor t x b) is ∙ state_on t text i lt) next.1;
-      scanned = scanned_on t text i lt c.requires.right.expanded given.scanned stays;
+      same = same ∙ given.same;
+      states = grows_on c.scan.to 1 (i + 1) _ _ _ given.states c.next-number.ensures.states (omega (arith, c.scan_known-known.ensures.low));
+      scanned = record {
+        within = omega (arith, lt);
+        scanned = subst (λ (u : Tree). AreScanned u text (i + 1)) (sym same) (scanned_on t text i lt given.right.expanded known.scanned stays);
+        at = subst (λ (x : State). IsStateNumber (tree_in new) new.cached.items new.used c.next-number.result x)
+            (ap (λ (u : Tree). successor u n b) same ∙ ap (λ x. successor t x b) is ∙ state_on t text i lt ∙ ap (λ (u : Tree). state u (last_part (take (i + 1) text))) (sym same)) next.1;
+      };
     }

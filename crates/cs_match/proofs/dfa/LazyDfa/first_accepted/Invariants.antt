@@ -1,16 +1,16 @@
-use Rattle.std.proofs.Common.{◌≡◌, take}
+use Rattle.std.proofs.Common.{◌≡◌, ◌-◌, length}
 use Rattle.cs_match.specs.Automaton.{GrowsOver}
-use Rattle.cs_match.specs.ConsistentDfa.{IsConsistent, HasState, tree_in}
-use Rattle.cs_match.specs.FirstMatch.{AreScanned}
-use Rattle.cs_match.specs.LastPart.{last_part}
-use Rattle.cs_match.specs.States.{state}
+use Rattle.cs_match.specs.ConsistentDfa.{IsConsistent, tree_in}
+use Rattle.cs_match.specs.FirstMatch.{HasScanned}
 use Rattle.cs_match.proofs.dfa.LazyDfa.first_accepted.Given as goal
 
-abbrev pub invariant-loop-offset : goal.invariant-loop-offset
-invariant-loop-offset l = record {
+abbrev pub invariant-scan : goal.invariant-scan
+invariant-scan l = record {
   right : IsConsistent l.self;
   same : tree_in l.self ≡ tree_in l.fn.self;
-  states : GrowsOver l.offset l.fn.self.used l.self.used;
-  number : HasState l.self l.number (state (tree_in l.fn.self) (last_part (take l.offset l.text)));
-  scanned : AreScanned (tree_in l.fn.self) l.text l.offset;
+  states : GrowsOver l.to l.fn.self.used l.self.used;
+  scanned : HasScanned l.self l.text l.to l.number;
 }
+
+abbrev pub decreases-scan : goal.decreases-scan
+decreases-scan l = length l.text - l.to

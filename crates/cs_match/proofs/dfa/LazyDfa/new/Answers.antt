@@ -12,11 +12,11 @@ returns c =
     let transitions = c.in_ok-transitions.ensures in (
       refl,
       record {
-        expanded = c.repeats.ensures.expanded;
+        expanded = c.in_ok-memory.ensures.expanded;
         cached = new_states t cached c.in_ok-cached.ensures;
         transitions = blank_transitions t cached 1 c.in_ok-transitions.transitions.items transitions.0 transitions.1;
         room = ap (λ (n : State). length n.positions) c.in_ok-scratch.ensures ∙ length-replicate (position_count t) false;
-        loops = c.in_ok-loops.ensures.len ∙ c.repeats.ensures.count;
+        memory = c.in_ok-memory.ensures.scratch;
       },
       refl,
     )

@@ -32,5 +32,5 @@ returns-clause-right c =
           (subst (λ (n : ℕ). (k : ℕ) → k < n + low → slice_index stored k ≡ slice_index s.transitions.items k) index (λ k lt. put.before k lt ∙ same k))
           (subst (λ (n : ℕ). (k : ℕ) → n + high ≤ k → slice_index stored k ≡ slice_index s.transitions.items k) index (λ k le. put.after k le ∙ same k)) (put.length ∙ ap length c.deref_mut.ensures.value));
       room = c.requires.right.room;
-      loops = c.requires.right.loops;
+      memory = c.requires.right.memory;
     }

@@ -1,11 +1,14 @@
-use Rattle.std.proofs.Common.{◌-◌, ◌≡◌, length}
+use Rattle.std.proofs.Common.{ℕ, Bool, List, ◌-◌, ◌≡◌, ◌≤◌, length}
 use Rattle.cs_match.specs.Deciding.{Decides}
-use Rattle.cs_match.specs.Counting.{CountsMatchingLines}
+use Rattle.cs_match.specs.Skipped.{AreLinesBetween}
+use Rattle.cs_match.proofs.CountingLemmas.{count_between}
 use Rattle.cs_match.proofs.matcher.Matcher.count.Given as goal
 
 abbrev pub invariant-lines : goal.invariant-lines
 invariant-lines l = record {
-  counted : CountsMatchingLines (λ has_match. Decides has_match l.fn.self.tree) l.block 0 l.offset l.matching_lines;
+  lines : AreLinesBetween l.block 0 l.offset;
+  bound : l.matching_lines ≤ l.offset;
+  count : (has_match : List ℕ → Bool) → Decides has_match l.fn.self.tree → l.matching_lines ≡ count_between has_match l.block 0 l.offset;
   same : l.self.tree ≡ l.fn.self.tree;
 }
 

@@ -1,4 +1,4 @@
-use Rattle.std.proofs.Common.{◌-◌, take, drop, length, inl, inr, sym, subst, arith}
+use Rattle.std.proofs.Common.{length, inl, inr, sym, subst, arith}
 use Rattle.std.proofs.lemmas.Bool.{cases_lt}
 use Rattle.cs_match.specs.FirstMatch.{IsSearched}
 use Rattle.cs_match.proofs.FirstMatchLemmas.{searched_after}

@@ -2,7 +2,8 @@ use Rattle.std.proofs.Common.{◌≡◌, ℕ, ◌/◌, ◌<◌, false, length, g
 use Rattle.std.proofs.lemmas.List.{get_or_read}
 use Rattle.cs_match.specs.PositionSet.{positions_of, shift_and}
 use Rattle.cs_match.proofs.PositionSetLemmas.{same_count, same_length}
-use Rattle.cs_match.proofs.ShiftAndLemmas.{carry, next_word, IsPositionSet-shift_and, positions_of-shift_and}
+use Rattle.cs_match.proofs.BitwiseLemmas.{carry}
+use Rattle.cs_match.proofs.ShiftAndLemmas.{next_word, IsPositionSet-shift_and, positions_of-shift_and}
 use Rattle.cs_match.proofs.position_set.PositionSet.shift.Goals as goal
 use Rattle.cs_match.proofs.position_set.PositionSet.shift.Goals.{After-loop-index}
 

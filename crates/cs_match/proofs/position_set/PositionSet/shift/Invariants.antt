@@ -1,5 +1,6 @@
 use Rattle.std.proofs.Common.{◌≡◌, ℕ, ◌<◌, ◌≤◌, length, get_or}
-use Rattle.cs_match.proofs.ShiftAndLemmas.{carry, next_word}
+use Rattle.cs_match.proofs.BitwiseLemmas.{carry}
+use Rattle.cs_match.proofs.ShiftAndLemmas.{next_word}
 use Rattle.cs_match.proofs.position_set.PositionSet.shift.Given as goal
 
 abbrev pub invariant-loop-index : goal.invariant-loop-index

@@ -45,7 +45,7 @@ loop-b-preserved c =
     let stays = sym (accepts_ahead t line i (omega arith)) ∙ ap (λ (n : State). accepts t true n.positions (ahead t n byte)) (sym given.here) ∙ sym c.step_in_line.ensures.accepting ∙ c.if-step_in_line.false in
     record {
       here = c.step_in_line.ensures.moved ∙ ap (λ (n : State). next_state t n byte) given.here ∙ next_more t line i (omega arith);
-      loops = c.step_in_line.ensures.loops ∙ given.loops;
+      scratch = c.step_in_line.ensures.scratch;
       none = below_more _ _ given.none stays;
     }
 

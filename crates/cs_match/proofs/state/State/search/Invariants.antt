@@ -1,11 +1,12 @@
-use Rattle.std.proofs.Common.{◌≡◌, ℕ, ◌<◌, length, take, false}
+use Rattle.std.proofs.Common.{◌≡◌, ℕ, ◌<◌, take, false}
 use Rattle.cs_match.specs.Glushkov.{accepts_in}
+use Rattle.cs_match.specs.Masks.{IsScratch}
 use Rattle.cs_match.specs.States.{state}
 use Rattle.cs_match.proofs.state.State.search.Given as goal
 
 abbrev pub invariant-loop-b : goal.invariant-loop-b
 invariant-loop-b l = record {
   here : l.self ≡ state l.program (take l.b-index l.line);
-  loops : length l.loops ≡ length l.fn.loops;
+  scratch : IsScratch l.program l.scratch;
   none : (k : ℕ) → k < l.b-index → accepts_in l.line l.program k ≡ false;
 }

@@ -1,4 +1,4 @@
-use Rattle.std.proofs.Common.{◌≡◌, ◌∙◌, ◌&&◌, ap}
+use Rattle.std.proofs.Common.{◌≡◌, ◌∙◌, ◌&&◌, refl, ap}
 use Rattle.cs_syntax.specs.Matching.{is_word}
 use Rattle.cs_match.specs.declared.look_around.LookBehind.{LookBehind}
 use Rattle.cs_match.specs.States.{is_word_for}
@@ -9,10 +9,10 @@ pub returns-clause-accepting : goal.returns-clause-accepting
 returns-clause-accepting c =
     let word : c.is_word-is_word.result ≡ is_word_for c.args.program.now c.args.byte = c.is_word-is_word.ensures ∙ ap (λ (bits : LookBehind). is_word c.args.byte && bits.word) c.look_behind-bits.ensures in
     c.step_over-accepting.ensures.accepting
-    ∙ accepts_here c.args.program.now _ c.args.self.now c.args.byte c.is_edge.result c.is_word-is_word.result c.root-root.ensures word c.is_edge.ensures
+    ∙ accepts_here c.args.program.now c.args.program.now c.args.self.now c.args.byte c.is_edge.result c.is_word-is_word.result refl word c.is_edge.ensures
 
 pub returns-clause-moved : goal.returns-clause-moved
 returns-clause-moved c =
     let word : c.is_word-is_word.result ≡ is_word_for c.args.program.now c.args.byte = c.is_word-is_word.ensures ∙ ap (λ (bits : LookBehind). is_word c.args.byte && bits.word) c.look_behind-bits.ensures in
-    moves_to c.args.program.now _ c.args.self.now c.args.byte c.is_edge.result c.is_word-is_word.result c.root-root.ensures word c.is_edge.ensures
+    moves_to c.args.program.now c.args.program.now c.args.self.now c.args.byte c.is_edge.result c.is_word-is_word.result refl word c.is_edge.ensures
     c.char_step-char.result c.unfinished-self.result c.step_over-accepting.new.positions c.char_step-char.ensures c.unfinished-self.ensures c.step_over-accepting.ensures.positions

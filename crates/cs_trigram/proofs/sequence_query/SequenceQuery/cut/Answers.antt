@@ -1,4 +1,4 @@
-use Rattle.std.proofs.Common.{◌≡◌, ◌&&◌, ℕ, Bool, true, List, [], ◌∷◌, sym, ap, ◌∙◌, subst}
+use Rattle.std.proofs.Common.{◌≡◌, ◌&&◌, ℕ, Bool, true, List, sym, ap, ◌∙◌, subst}
 use Rattle.cs_tree.specs.Cover.{is_among}
 use Rattle.cs_syntax.specs.Matching.{more}
 use Rattle.cs_trigram.specs.Query.{matches_set, mentions}
@@ -15,12 +15,11 @@ returns-clause-required c = λ t ts no_few match_query sequence_query.
     let leading = c.args.self.now.leading.items in
     let conjuncts : (ℕ → Bool) → Bool = λ set. all_match c.args.self.now.conjuncts.items set in
     let later : (ℕ → Bool) → Bool = λ set. all_match c.add_conjunct-2.new.conjuncts.items set in
-    let finished_run : c.deref.result.now ≡ leading = c.deref.ensures.value ∙ ap (λ v. v.items) c.replace-finished_run.ensures.value in
+    let finished_run : c.deref.result.now ≡ leading = c.deref.ensures.value in
     let is : (set : ℕ → Bool) → later set ≡ ((conjuncts set && has_any set leading) && matches_set c.args.match_query set) =
     λ set. c.in_ok-add_conjunct-2.ensures.required set
-    ∙ ap (λ b. b && matches_set c.args.match_query set) (c.in_ok-add_conjunct.ensures.required set ∙ ap (λ b. conjuncts set && b) (c.in_ok-any_string.ensures.required set ∙ ap (has_any set) finished_run)) in
-    let misses : c.replace-finished_run.new.dest.items ≡ [] ∷ [] = ap (λ v. v.items) c.replace-finished_run.ensures.after ∙ c.in_ok-empty_string.ensures in (
-      subst (λ (ws : List (List ℕ)). IsQueryBeyondRun ws later (more t ts)) (sym misses)
+    ∙ ap (λ b. b && matches_set c.args.match_query set) (c.in_ok-add_conjunct.ensures.required set ∙ ap (λ b. conjuncts set && b) (c.in_ok-any_string.ensures.required set ∙ ap (has_any set) finished_run)) in (
+      subst (λ (ws : List (List ℕ)). IsQueryBeyondRun ws later (more t ts)) (sym c.in_ok-self.ensures)
           (query_past_cut leading conjuncts later t ts sequence_query.0 (λ set. matches_set c.args.match_query set) no_few match_query.matching match_query.selective is),
       trigrams_of_both (some_mentions c.add_conjunct.new.conjuncts.items) (mentions c.args.match_query) (some_mentions c.add_conjunct-2.new.conjuncts.items) (HaveMembers (more t ts)) (MayMatchSequence (more t ts))
           c.in_ok-add_conjunct-2.ensures.mentioned

@@ -1,49 +1,24 @@
-use Rattle.std.proofs.Common.{◌≡◌, ◌&&◌, ◌≤◌, ◌++◌, ℕ, Bool, List, [], length, map, sym, ap, ◌∙◌, subst, arith, true}
+use Rattle.std.proofs.Common.{◌≡◌, ◌&&◌, ◌≤◌, ℕ, Bool, List, [], length, sym, ap, ◌∙◌, subst, arith, true}
 use Rattle.cs_tree.specs.Cover.{is_among}
 use Rattle.cs_syntax.specs.Matching.{more}
 use Rattle.cs_trigram.specs.Query.{mentions}
 use Rattle.cs_trigram.specs.MayMatch.{MayMatchSequence, HaveMembers}
-use Rattle.std.proofs.lemmas.List.{length-map}
 use Rattle.cs_trigram.specs.ExactSet.{AreExactSetsReversed}
-use Rattle.cs_tree.specs.Folders.{are_distinct}
 use Rattle.cs_trigram.specs.Analysis.{IsQueryBeyondRun, IsLongestLeadingRun, MentionsOnly, all_match, some_mentions, has_any, with_strings, concatenations}
-use Rattle.cs_trigram.specs.declared.exact_set.ExactSet.{ExactSet}
-use Rattle.cs_trigram.proofs.NodeListLemmas.{some_of}
-use Rattle.cs_trigram.proofs.ExactSetLemmas.{only_string}
-use Rattle.cs_trigram.proofs.ConcatenationLemmas.{concatenations_of_one}
+use Rattle.cs_trigram.proofs.ExactSetLemmas.{Exact}
 use Rattle.cs_trigram.proofs.MentionLemmas.{trigrams_of_both}
 use Rattle.cs_trigram.proofs.SequenceMentionLemmas.{trigrams_of_run, trigrams_of_rest}
 use Rattle.cs_trigram.proofs.SequenceQueryLemmas.{query_past_few, query_past_run, few_tree}
 use Rattle.cs_trigram.proofs.sequence_query.SequenceQuery.prepend_few.Goals as goal
 
-pub returns-then-strings-eq1-clause-required : goal.returns-then-strings-eq1-clause-required
-returns-then-strings-eq1-clause-required c = λ t ts strings parts sequence_query.
+pub returns-then-len-le-MAX_EXACT-clause-required : goal.returns-then-len-le-MAX_EXACT-clause-required
+returns-then-len-le-MAX_EXACT-clause-required c = λ t ts strings parts sequence_query.
     let leading = c.args.self.now.leading.items in
     let conjuncts : (ℕ → Bool) → Bool = λ set. all_match c.args.self.now.conjuncts.items set in
     let us = c.args.strings.now in
-    let u = c.index-strings-0.result in
-    let run = sequence_query.0.run.each in
-    let one = only_string us u (omega arith) c.index-strings-0.is in
-    let longer = c.in_ok-self.field-0.items in
-    let behind : longer ≡ map (λ v. u ++ v) leading =
-    c.in_ok-self.ensures ∙ ap (λ v. map (λ w. u ++ w) v.items) c.replace-finished_run.ensures.value in
-    let same : longer ≡ with_strings [] (concatenations us leading) =
-    behind ∙ sym (concatenations_of_one u leading run.different run.few) ∙ ap (λ (ws : List (List ℕ)). with_strings [] (concatenations ws leading)) (sym one) in
-    let few : length (with_strings [] (concatenations us leading)) ≤ 20 =
-    subst (λ (ws : List (List ℕ)). length ws ≤ 20) same (omega (arith, ap length behind, length-map leading (λ (v : List ℕ). u ++ v), run.few)) in
-    (subst (λ (ws : List (List ℕ)). IsQueryBeyondRun ws conjuncts (more t ts)) (sym same) (query_past_few leading conjuncts conjuncts t ts sequence_query.0 us strings few), trigrams_of_rest (some_mentions c.args.self.now.conjuncts.items) t ts sequence_query.1)
-
-pub returns-in-Some-clause-required : goal.returns-in-Some-clause-required
-returns-in-Some-clause-required c = λ t ts strings parts sequence_query.
-    let leading = c.args.self.now.leading.items in
-    let conjuncts : (ℕ → Bool) → Bool = λ set. all_match c.args.self.now.conjuncts.items set in
-    let us = c.args.strings.now in
-    let finished_run : c.deref.result.now ≡ leading = c.deref.ensures.value ∙ ap (λ v. v.items) c.replace-finished_run.ensures.value in
-    let differ = subst (λ (ws : List (List ℕ)). are_distinct ws ≡ true) (sym finished_run) sequence_query.0.run.each.different in
-    let longer = some_of c.in_ok-longer.field-0 c.in-Some.longer _ _ (c.in_ok-longer.ensures strings.1.different differ) c.in-Some.is in
-    let same : c.in-Some.longer.items ≡ with_strings [] (concatenations us leading) =
-    longer.0 ∙ ap (λ (vs : List (List ℕ)). with_strings [] (concatenations us vs)) finished_run in
-    let few : length (with_strings [] (concatenations us leading)) ≤ 20 = subst (λ (ws : List (List ℕ)). length ws ≤ 20) same longer.1 in
+    let same : c.in_ok-longer.longer.items ≡ with_strings [] (concatenations us leading) =
+    c.in_ok-longer.ensures ∙ ap (λ (vs : List (List ℕ)). with_strings [] (concatenations us vs)) c.deref.ensures.value in
+    let few : length (with_strings [] (concatenations us leading)) ≤ 20 = subst (λ (ws : List (List ℕ)). length ws ≤ 20) same (omega arith) in
     (subst (λ (ws : List (List ℕ)). IsQueryBeyondRun ws conjuncts (more t ts)) (sym same) (query_past_few leading conjuncts conjuncts t ts sequence_query.0 us strings few), trigrams_of_rest (some_mentions c.args.self.now.conjuncts.items) t ts sequence_query.1)
 
 pub returns-clause-required : goal.returns-clause-required
@@ -52,12 +27,12 @@ returns-clause-required c = λ t ts strings parts sequence_query.
     let leading = c.args.self.now.leading.items in
     let conjuncts : (ℕ → Bool) → Bool = λ set. all_match c.args.self.now.conjuncts.items set in
     let later : (ℕ → Bool) → Bool = λ set. all_match c.add_conjunct.new.conjuncts.items set in
-    let finished_run : c.deref-3.result.now ≡ leading = c.deref-3.ensures.value ∙ ap (λ v. v.items) c.replace-finished_run.ensures.value in
+    let finished_run : c.deref-2.result.now ≡ leading = c.deref-2.ensures.value in
     let added : (set : ℕ → Bool) → later set ≡ (conjuncts set && has_any set leading) =
     λ set. c.in_ok-add_conjunct.ensures.required set ∙ ap (λ b. conjuncts set && b) (c.in_ok-any_string.ensures.required set ∙ ap (has_any set) finished_run) in
-    let behind : AreExactSetsReversed c.deref-2.result.now ts = subst (λ (cs : List ExactSet). AreExactSetsReversed cs ts) (sym c.deref-2.ensures.value) parts in
-    let longest : IsLongestLeadingRun (more t ts) c.in_ok-self-2.field-0.items = c.in_ok-self-2.ensures t ts strings behind in (
-      query_past_run leading conjuncts later t ts sequence_query.0 c.in_ok-self-2.field-0.items longest (few_tree c.args.strings.now t strings) added,
+    let behind : AreExactSetsReversed c.deref-3.result.now ts = subst (λ (cs : List Exact). AreExactSetsReversed cs ts) (sym c.deref-3.ensures.value) parts in
+    let longest : IsLongestLeadingRun (more t ts) c.in_ok-self.field-0.items = c.in_ok-self.ensures t ts strings behind in (
+      query_past_run leading conjuncts later t ts sequence_query.0 c.in_ok-self.field-0.items longest (few_tree c.args.strings.now t strings) added,
       trigrams_of_both (some_mentions c.args.self.now.conjuncts.items) (mentions query) (some_mentions c.add_conjunct.new.conjuncts.items) (HaveMembers (more t ts)) (MayMatchSequence (more t ts))
           c.in_ok-add_conjunct.ensures.mentioned (trigrams_of_rest (some_mentions c.args.self.now.conjuncts.items) t ts sequence_query.1)
           (trigrams_of_rest (mentions query) t ts (trigrams_of_run query ts leading sequence_query.0.run

@@ -1,219 +1,173 @@
-use Rattle.std.proofs.Common.{◌≡◌, ◌∙◌, ◌+◌, ◌-◌, ◌<◌, ◌++◌, ◌∷◌, [], ap, sym, subst, refl, length, List, ℕ, arith}
-use Rattle.std.proofs.lemmas.List.{length_push}
+use Rattle.std.proofs.Common.{◌≡◌, ◌∙◌, ◌+◌, ◌<◌, ◌≤◌, ◌++◌, ◌∷◌, [], cond, ap, sym, subst, length, List, ℕ, Vec, Global, arith}
+use Rattle.std.proofs.lemmas.List.{length_push, with_items_is}
+use Rattle.std.specs.Vec.{with_items}
 use Rattle.std.specs.List.{AllByRecursion}
-use Rattle.cs_trigram.specs.Trigram.{set_of_numbers, closing_trigram}
-use Rattle.cs_trigram.proofs.SetLemmas.{ascends_set}
+use Rattle.cs_trigram.specs.Trigram.{has, set_of_numbers, closing_trigram}
+use Rattle.cs_trigram.specs.TrigramSets.{trigram_count, AreDistinct}
+use Rattle.cs_trigram.proofs.SetLemmas.{all_set, ascends_set}
+use Rattle.cs_index.specs.Gathering.{lists_below}
+use Rattle.cs_index.specs.AscendingIds.{AscendWithin}
 use Rattle.cs_index.specs.PostingLists.{entries_of}
-use Rattle.cs_index.specs.Encoding.{PostingList, Entry}
-use Rattle.cs_trigram.specs.TrigramSets.{AreDistinct}
-use Rattle.cs_index.specs.Gathering.{ordered_lists, HaveSameIds}
-use Rattle.cs_index.specs.PackedPostings.{post_of, with_post, AreBuffered}
-use Rattle.cs_index.specs.BatchInvariant.{lists_with, IsBatch}
-use Rattle.cs_index.specs.declared.writing.batch.Batch.{Batch}
+use Rattle.cs_index.specs.Encoding.{Entry}
+use Rattle.cs_index.specs.Buckets.{ids_in_buckets, postings_of, with_file, without_file, AreBuckets, BucketPostings, HaveBases, Posting}
 use Rattle.cs_index.specs.declared.writing.builder.Builder.TheInside.{Inside}
-use Rattle.cs_index.specs.BuilderInvariant.{complete_lists, built_of}
+use Rattle.cs_index.specs.BuilderInvariant.{bucket_lists, built_of}
 use Rattle.cs_index.specs.Built.{Built, IsBuilt, with_entry}
-use Rattle.cs_index.proofs.common.ResultClauses.{any_err}
+use Rattle.cs_index.proofs.common.ResultClauses.{of_err, of_ok}
 use Rattle.cs_index.proofs.encoding.InvertedLists.{length-entries_of}
-use Rattle.cs_index.proofs.writer.EntriesOfLists.{entries_added, entries_given}
+use Rattle.cs_index.proofs.writer.EntriesOfLists.{entries_added}
 use Rattle.cs_index.proofs.writer.BuilderAdd.{built_added}
-use Rattle.cs_index.proofs.writer.PackedPostings.{file_given, buffered_added}
-use Rattle.cs_trigram.proofs.SetLemmas.{all_set}
+use Rattle.cs_index.proofs.writer.BucketPostings.{bases_later, file_given, file_ids, file_removed, file_rises, length_postings, none_past}
 use Rattle.cs_index.proofs.writing.builder.Builder.add_above.Goals as goal
-
-many : (b : Inside) → length b.names ≡ length (built_of b).entries
-many b = sym (length-entries_of 0 b.names (ordered_lists (complete_lists b)))
 
 -- the number of names in the model
 counted : (b : Inside) (now : Built) (id : ℕ) → built_of b ≡ now → id ≡ length b.names → id ≡ length now.entries
-counted b now id is e = e ∙ many b ∙ ap (λ (built : Built). length built.entries) is
+counted b now id is e = e ∙ sym (length-entries_of 0 b.names (bucket_lists b)) ∙ ap (λ (built : Built). length built.entries) is
+
+-- The names and buckets of a model.
+record Hold (b : Inside) (now : Built) (names : List (List ℕ)) (buckets : List BucketPostings) : Type 0 where
+  are : AreBuckets (length names) buckets
+  is : ◌≡◌ {A = Built} (record {
+    paths = b.paths;
+    entries = entries_of 0 names (lists_below trigram_count (ids_in_buckets (postings_of buckets)));
+  }) now
+
+-- buckets with the same postings
+same : (b : Inside) (now : Built) (names : List (List ℕ)) (buckets : List BucketPostings) → built_of b ≡ now →
+    AreBuckets (length b.names) b.buckets.items → names ≡ b.names → length buckets ≡ 4096 →
+    HaveBases (length b.names) buckets → postings_of buckets ≡ postings_of b.buckets.items → Hold b now names buckets
+same b now names buckets is are named long bases kept = record {
+  are = subst (λ (ns : List (List ℕ)). AreBuckets (length ns) buckets) (sym named) (record {
+    long = long;
+    bases = bases;
+    rise = λ g. subst (λ (ps : List (List Posting)). AscendWithin (length b.names) 0 (ids_in_buckets ps g)) (sym kept)
+        (are.rise g);
+    below = λ g past. ap (λ (ps : List (List Posting)). ids_in_buckets ps g) kept ∙ are.below g past;
+  });
+  is = (λ i. record {
+    paths = b.paths;
+    entries = entries_of 0 (named i) (lists_below trigram_count (ids_in_buckets (kept i)));
+  }) ∙ is;
+}
+
+-- one more name, with its postings
+added : (b : Inside) (now : Built) (names : List (List ℕ)) (name gs : List ℕ) (id : ℕ) (buckets : List BucketPostings) →
+    built_of b ≡ now → AreBuckets (length b.names) b.buckets.items → id ≡ length b.names → names ≡ b.names ++ name ∷ [] →
+    length buckets ≡ 4096 → HaveBases id buckets →
+    postings_of buckets ≡ with_file id (postings_of b.buckets.items) gs → AreDistinct gs →
+    AllByRecursion (λ g. g < closing_trigram) gs → Hold b (with_entry now name (set_of_numbers gs)) names buckets
+added b now names name gs id buckets is are at named long bases pushed once below =
+    let n : ℕ = length b.names in
+    let old : List (List Posting) = postings_of b.buckets.items in
+    let f : ℕ → List ℕ = ids_in_buckets old in
+    let more : ℕ → List ℕ = ids_in_buckets (postings_of buckets) in
+    let many : length (b.names ++ name ∷ []) ≡ n + 1 = length_push b.names name in
+    let given : (g : ℕ) → more g ≡ f g ++ cond (has gs g) (n ∷ []) [] = λ g.
+    ap (λ (ps : List (List Posting)). ids_in_buckets ps g) pushed
+    ∙ file_ids gs old id g below once (length_postings b.buckets.items ∙ are.long)
+    ∙ ap (λ k. f g ++ cond (has gs g) (k ∷ []) []) at in
+    let none : (g : ℕ) → closing_trigram ≤ g → more g ≡ [] = λ g past.
+    given g ∙ (λ i. are.below g past i ++ cond (none_past gs g below past i) (n ∷ []) []) in
+    record {
+      are = subst (λ (ns : List (List ℕ)). AreBuckets (length ns) buckets) (sym named) (subst (λ m. AreBuckets m buckets)
+          (sym many) (record {
+            long = long;
+            bases = bases_later id (n + 1) buckets (omega (arith, at)) bases;
+            rise = λ g. subst (AscendWithin (n + 1) 0) (sym (given g)) (file_rises n (f g) (has gs g) (are.rise g));
+            below = none;
+          }));
+      is = (λ i. record {
+        paths = b.paths;
+        entries = entries_of 0 (named i) (lists_below trigram_count more);
+      })
+          ∙ ap (λ (es : List Entry). let built : Built = record { paths = b.paths; entries = es } in built)
+          (entries_added trigram_count b.names name f more gs (λ g past. are.below g (omega (arith, past)))
+          (λ g past. none g (omega (arith, past))) (file_given f more n gs are.rise given))
+          ∙ ap (λ (built : Built). with_entry built name (set_of_numbers gs)) is;
+    }
 
 pub overflow_cast-id : goal.overflow_cast-id
 overflow_cast-id c =
     let count = counted c.self.inside c.args.self.now c.len-id.result c.self.view_is c.len-id.ensures in
     omega (arith, count, c.requires.bound)
 
-pub make_room-requires-clause-bound : goal.make_room-requires-clause-bound
-make_room-requires-clause-bound c =
-    let count = counted c.self.inside c.args.self.now c.len-id.result c.self.view_is c.len-id.ensures in
-    omega (arith, count, c.requires.bound)
+-- the buckets of a Vec whose elements are replaced
+replaced : (v : Vec BucketPostings Global) (buckets : List BucketPostings) → length v.items ≡ 4096 → length buckets ≡ 4096 →
+    (with_items v buckets).items ≡ buckets
+replaced v buckets long long' = with_items_is v buckets (let is = v.ok.0 in omega (arith, is, long, long'))
 
--- The names, lists and batch of a model.
-record Hold (b : Inside) (now : Built) (names : List (List ℕ)) (lists : List PostingList) (batch : Batch) : Type 0 where
-  is_batch : IsBatch (length names) lists batch
-  is : ◌≡◌ {A = Built} (record {
-    paths = b.paths;
-    entries = entries_of 0 names (ordered_lists (lists_with lists
-        batch));
-  }) now
+-- the postings of a name that was not added are removed
+removed : (b : Inside) (now : Built) (names : List (List ℕ)) (gs : List ℕ) (id : ℕ)
+    (old pushed held popped : List BucketPostings) →
+    built_of b ≡ now → AreBuckets (length b.names) b.buckets.items → id ≡ length b.names → names ≡ b.names →
+    old ≡ b.buckets.items →
+    length pushed ≡ 4096 → HaveBases id pushed → postings_of pushed ≡ with_file id (postings_of old) gs →
+    held ≡ (with_items b.buckets pushed).items → length popped ≡ 4096 → ((n : ℕ) → HaveBases n held → HaveBases n popped) →
+    postings_of popped ≡ without_file (postings_of held) gs → AllByRecursion (λ g. g < closing_trigram) gs →
+    Hold b now names (with_items (with_items b.buckets pushed) popped).items
+removed b now names gs id old pushed held popped is are at named start long bases pushed_is holds long' bases' popped_is below =
+    let items = replaced b.buckets pushed are.long long in
+    let long_start : length (postings_of b.buckets.items) ≡ 4096 = length_postings b.buckets.items ∙ are.long in
+    subst (Hold b now names) (sym (replaced (with_items b.buckets pushed) popped (ap length items ∙ long) long'))
+    (same b now names popped is are named long'
+    (bases' (length b.names) (subst (HaveBases (length b.names)) (sym (holds
+    ∙ items)) (subst (λ n. HaveBases n pushed) at bases)))
+    (popped_is
+    ∙ ap (λ (ps : List (List Posting)). without_file ps gs) (ap postings_of (holds ∙ items) ∙ pushed_is
+    ∙ ap (λ (bs : List BucketPostings). with_file id (postings_of bs) gs) start)
+    ∙ file_removed gs (postings_of b.buckets.items) id below long_start))
 
--- making room keeps the model
-roomy : (b : Inside) (now : Built) (lists : List PostingList) (batch : Batch) (id : ℕ) → built_of b ≡ now →
-    id ≡ length b.names → IsBatch id lists batch → HaveSameIds (lists_with lists batch) (complete_lists b) →
-    Hold b now b.names lists batch
-roomy b now lists batch id is at is_batch same = record {
-  is_batch = subst (λ n. IsBatch n lists batch) at is_batch;
-  is = ap (λ (es : List Entry). let built : Built = record { paths = b.paths; entries = es } in built)
-      (entries_given 0 b.names (lists_with lists batch) (complete_lists b) same) ∙ is;
-}
+pub invariant_of-self-then-is_err : goal.invariant_of-self-then-is_err
+invariant_of-self-then-is_err c =
+    let h = removed c.self.inside c.args.self.now c.push.new.self c.args.trigrams.now c.len-id.result c.deref_mut.result.now
+    c.push_file.new.buckets c.deref_mut-then-is_err.result.now c.pop_file.new.buckets c.self.view_is c.self.invariant.buckets
+    c.len-id.ensures (of_err c.push.result c.push.ensures.err (sym c.is_err.ensures.value ∙ c.if-is_err.true))
+    c.deref_mut.ensures.value c.push_file.ensures.long c.push_file.ensures.bases c.in_ok-push_file.ensures.ok
+    c.deref_mut-then-is_err.ensures.value c.pop_file.ensures.long c.pop_file.ensures.bases c.pop_file.ensures.without
+    c.requires.below in
+    record { buckets = h.are; built = subst IsBuilt (c.self.view_is ∙ sym h.is) c.self.invariant.built }
 
--- another batch with the same postings
-buffered_same : (name_count : ℕ) (lists : List PostingList) (room batch : Batch) → batch.post.items ≡ room.post.items →
-    batch.base ≡ room.base →
-    AreBuffered name_count room.base lists room.post.items → AreBuffered name_count batch.base lists batch.post.items
-buffered_same name_count lists room batch post base buffered =
-    subst (λ n. AreBuffered name_count n lists batch.post.items) (sym base)
-    (subst (AreBuffered name_count room.base lists) (sym post) buffered)
+pub returns-then-is_err-clause-err : goal.returns-then-is_err-clause-err
+returns-then-is_err-clause-err c =
+    (removed c.self.inside c.args.self.now c.push.new.self c.args.trigrams.now c.len-id.result c.deref_mut.result.now
+    c.push_file.new.buckets c.deref_mut-then-is_err.result.now c.pop_file.new.buckets c.self.view_is c.self.invariant.buckets
+    c.len-id.ensures (of_err c.push.result c.push.ensures.err (sym c.is_err.ensures.value ∙ c.if-is_err.true))
+    c.deref_mut.ensures.value c.push_file.ensures.long c.push_file.ensures.bases c.in_ok-push_file.ensures.ok
+    c.deref_mut-then-is_err.ensures.value c.pop_file.ensures.long c.pop_file.ensures.bases c.pop_file.ensures.without
+    c.requires.below).is
 
-same_post : (b : Inside) (now : Built) (names : List (List ℕ)) (lists : List PostingList) (room batch : Batch) →
-    batch.post.items ≡ room.post.items → batch.base ≡ room.base → names ≡ b.names →
-    Hold b now b.names lists room → Hold b now names lists batch
-same_post b now names lists room batch post base named h = record {
-  is_batch = subst (λ (ns : List (List ℕ)). IsBatch (length ns) lists batch) (sym named) (record {
-    begun = omega (arith, base, h.is_batch.begun);
-    bound = omega (arith, base, h.is_batch.bound);
-    buffered = buffered_same (length b.names) lists room batch post base h.is_batch.buffered;
-  });
-  is = (λ i. record {
-    paths = b.paths;
-    entries = entries_of 0 (named i) (ordered_lists (with_post (base i) lists (post i)));
-  }) ∙ h.is;
-}
-
--- one more name, with its postings at the end of the batch
-added : (b : Inside) (now : Built) (names : List (List ℕ)) (name gs : List ℕ) (lists : List PostingList) (room batch :
-    Batch) →
-    names ≡ b.names ++ name ∷ [] → batch.post.items ≡ room.post.items ++ post_of (length b.names - room.base) gs →
-    batch.base ≡ room.base → length b.names < room.base + 128 → AreDistinct gs →
-    AllByRecursion (λ g. g < closing_trigram) gs → Hold b now b.names lists room →
-    Hold b (with_entry now name (set_of_numbers gs)) names lists batch
-added b now names name gs lists room batch named post base bound distinct below h =
-    let n : ℕ = length b.names in
-    let position : ℕ = n - room.base in
-    let rest : List ℕ = room.post.items in
-    let at : room.base + position ≡ n = omega (arith, h.is_batch.begun) in
-    let small : position < 256 = omega (arith, bound) in
-    let more : length (b.names ++ name ∷ []) ≡ n + 1 = length_push b.names name in
-    let buffered : AreBuffered (n + 1) room.base lists (rest ++ post_of position gs) =
-    buffered_added n room.base position lists rest gs h.is_batch.buffered small at distinct below in
-    record {
-      is_batch = subst (λ (ns : List (List ℕ)). IsBatch (length ns) lists batch) (sym named) (subst (λ m. IsBatch m
-          lists batch) (sym more) (record {
-            begun = omega (arith, base, h.is_batch.begun);
-            bound = omega (arith, base, bound);
-            buffered = subst (λ m. AreBuffered (n + 1) m lists batch.post.items) (sym base)
-                (subst (AreBuffered (n + 1) room.base lists) (sym post) buffered);
-          }));
-      is = (λ i. record {
-        paths = b.paths;
-        entries = entries_of 0 (named i) (ordered_lists (with_post (base i) lists (post i)));
-      })
-          ∙ ap (λ (es : List Entry). let built : Built = record { paths = b.paths; entries = es } in built)
-          (entries_added b.names name (with_post room.base lists rest) (with_post room.base lists (rest ++ post_of
-          position gs)) gs
-          (file_given n room.base position lists rest gs h.is_batch.buffered small at))
-          ∙ ap (λ (built : Built). with_entry built name (set_of_numbers gs)) h.is;
-    }
-
-pub invariant_of-self : goal.invariant_of-self
-invariant_of-self c =
-    let b : Inside = c.self.inside in
-    let h = roomy b c.args.self.now c.make_room.new.lists c.make_room.new.self c.len-id.result c.self.view_is
-    c.len-id.ensures c.make_room.ensures.batch c.make_room.ensures.same in
-    record { batch = h.is_batch; built = subst IsBuilt (c.self.view_is ∙ sym h.is) c.self.invariant.built }
-
-pub returns-in_err-make_room-clause-err : goal.returns-in_err-make_room-clause-err
-returns-in_err-make_room-clause-err c =
-    let b : Inside = c.self.inside in
-    let h = roomy b c.args.self.now c.make_room.new.lists c.make_room.new.self c.len-id.result c.self.view_is
-    c.len-id.ensures c.make_room.ensures.batch c.make_room.ensures.same in
-    any_err c.from_residual.result h.is
-
-pub invariant_of-self-in_err-reserve : goal.invariant_of-self-in_err-reserve
-invariant_of-self-in_err-reserve c =
-    let b : Inside = c.self.inside in
-    let room = roomy b c.args.self.now c.make_room.new.lists c.make_room.new.self c.len-id.result c.self.view_is
-    c.len-id.ensures c.make_room.ensures.batch c.make_room.ensures.same in
-    let h = same_post b c.args.self.now b.names c.make_room.new.lists c.make_room.new.self c.reserve.new.self
-    c.reserve.ensures.post c.reserve.ensures.base refl room in
-    record { batch = h.is_batch; built = subst IsBuilt (c.self.view_is ∙ sym h.is) c.self.invariant.built }
-
-pub returns-in_err-reserve-clause-err : goal.returns-in_err-reserve-clause-err
-returns-in_err-reserve-clause-err c =
-    let b : Inside = c.self.inside in
-    let room = roomy b c.args.self.now c.make_room.new.lists c.make_room.new.self c.len-id.result c.self.view_is
-    c.len-id.ensures c.make_room.ensures.batch c.make_room.ensures.same in
-    let h = same_post b c.args.self.now b.names c.make_room.new.lists c.make_room.new.self c.reserve.new.self
-    c.reserve.ensures.post c.reserve.ensures.base refl room in
-    any_err c.from_residual-in_err-reserve.result h.is
-
-pub invariant_of-self-in_err-push : goal.invariant_of-self-in_err-push
-invariant_of-self-in_err-push c =
-    let b : Inside = c.self.inside in
-    let room = roomy b c.args.self.now c.make_room.new.lists c.make_room.new.self c.len-id.result c.self.view_is
-    c.len-id.ensures c.make_room.ensures.batch c.make_room.ensures.same in
-    let h = same_post b c.args.self.now c.push.new.self c.make_room.new.lists c.make_room.new.self
-    c.reserve.new.self c.reserve.ensures.post c.reserve.ensures.base
-    c.in_err-push.ensures.err room in
-    record { batch = h.is_batch; built = subst IsBuilt (c.self.view_is ∙ sym h.is) c.self.invariant.built }
-
-pub returns-in_err-push-clause-err : goal.returns-in_err-push-clause-err
-returns-in_err-push-clause-err c =
-    let b : Inside = c.self.inside in
-    let room = roomy b c.args.self.now c.make_room.new.lists c.make_room.new.self c.len-id.result c.self.view_is
-    c.len-id.ensures c.make_room.ensures.batch c.make_room.ensures.same in
-    let h = same_post b c.args.self.now c.push.new.self c.make_room.new.lists c.make_room.new.self
-    c.reserve.new.self c.reserve.ensures.post c.reserve.ensures.base
-    c.in_err-push.ensures.err room in
-    any_err c.from_residual-in_err-push.result h.is
+pub returns-clause-id : goal.returns-clause-id
+returns-clause-id c = counted c.self.inside c.args.self.now c.len-id.result c.self.view_is c.len-id.ensures
 
 -- the model with the name
-more : (b : Inside) (now : Built) (names : List (List ℕ)) (name gs : List ℕ) (lists : List PostingList) (id : ℕ) (room
-    spare batch : Batch) →
-    built_of b ≡ now → id ≡ length b.names → IsBatch id lists room →
-    HaveSameIds (lists_with lists room) (complete_lists b) →
-    spare.post.items ≡ room.post.items → spare.base ≡ room.base → id < room.base + 128 →
-    names ≡ b.names ++ name ∷ [] → batch.post.items ≡ spare.post.items ++ post_of (id - spare.base) gs →
-    batch.base ≡ spare.base → AreDistinct gs →
-    AllByRecursion (λ g. g < closing_trigram) gs →
-    Hold b (with_entry now name (set_of_numbers gs)) names lists batch
-more b now names name gs lists id room spare batch is at is_batch same post base bound named pushed base'
-    distinct below =
-    added b now names name gs lists spare batch named (pushed
-    ∙ ap (λ n. spare.post.items ++ post_of (n - spare.base) gs) at)
-    base' (omega (arith, bound, at, base)) distinct below
-    (same_post b now b.names lists room spare post base refl (roomy b now lists room id is at is_batch same))
+more : (c : goal.Else-is_err) → Hold c.self.inside (with_entry c.args.self.now c.args.name.now
+    (set_of_numbers c.args.trigrams.now))
+    c.push.new.self (with_items c.self.inside.buckets c.push_file.new.buckets).items
+more c =
+    subst (Hold c.self.inside (with_entry c.args.self.now c.args.name.now (set_of_numbers c.args.trigrams.now)) c.push.new.self)
+    (sym (replaced c.self.inside.buckets c.push_file.new.buckets c.self.invariant.buckets.long c.push_file.ensures.long))
+    (added c.self.inside c.args.self.now c.push.new.self c.args.name.now c.args.trigrams.now c.len-id.result
+    c.push_file.new.buckets
+    c.self.view_is c.self.invariant.buckets c.len-id.ensures
+    (of_ok c.push.result c.push.ensures.ok (sym c.is_err.ensures.value ∙ c.if-is_err.false))
+    c.push_file.ensures.long c.push_file.ensures.bases
+    (c.in_ok-push_file.ensures.ok ∙ ap (λ (bs : List BucketPostings). with_file c.len-id.result
+    (postings_of bs) c.args.trigrams.now) c.deref_mut.ensures.value)
+    c.requires.distinct c.requires.below)
 
-pub invariant_of-self-2 : goal.invariant_of-self-2
-invariant_of-self-2 c =
-    let b : Inside = c.self.inside in
-    let h = more b c.args.self.now c.push.new.self c.args.name.now c.args.trigrams.now c.make_room.new.lists
-    c.len-id.result c.make_room.new.self c.reserve.new.self c.push-2.new.self
-    c.self.view_is c.len-id.ensures c.make_room.ensures.batch c.make_room.ensures.same c.reserve.ensures.post
-    c.reserve.ensures.base c.in_ok-make_room.ensures.room
-    c.in_ok-push.ensures.ok c.push-2.ensures.post c.push-2.ensures.base c.requires.distinct
-    c.requires.below in
+pub invariant_of-self-else-is_err : goal.invariant_of-self-else-is_err
+invariant_of-self-else-is_err c =
+    let h = more c in
     record {
-      batch = h.is_batch;
+      buckets = h.are;
       built = subst IsBuilt (sym h.is) (built_added c.args.self.now c.args.name.now (set_of_numbers
-          c.args.trigrams.now) (subst IsBuilt c.self.view_is c.self.invariant.built) c.in_ok-push.ensures.each
+          c.args.trigrams.now) (subst IsBuilt c.self.view_is c.self.invariant.built)
+          (of_ok c.push.result c.push.ensures.each (sym c.is_err.ensures.value ∙ c.if-is_err.false))
           c.requires.above (
             ascends_set c.args.trigrams.now,
-            all_set (λ g. g < closing_trigram) c.args.trigrams.now
-                c.requires.below,
+            all_set (λ g. g < closing_trigram) c.args.trigrams.now c.requires.below,
           ) c.requires.bound);
     }
 
 pub returns-clause-ok : goal.returns-clause-ok
-returns-clause-ok c =
-    let b : Inside = c.self.inside in
-    let h = more b c.args.self.now c.push.new.self c.args.name.now c.args.trigrams.now c.make_room.new.lists
-    c.len-id.result c.make_room.new.self c.reserve.new.self c.push-2.new.self
-    c.self.view_is c.len-id.ensures c.make_room.ensures.batch c.make_room.ensures.same c.reserve.ensures.post
-    c.reserve.ensures.base c.in_ok-make_room.ensures.room
-    c.in_ok-push.ensures.ok c.push-2.ensures.post c.push-2.ensures.base c.requires.distinct
-    c.requires.below in
-    h.is
-
-pub returns-clause-id : goal.returns-clause-id
-returns-clause-id c = counted c.self.inside c.args.self.now c.len-id.result c.self.view_is c.len-id.ensures
+returns-clause-ok c = (more c).is

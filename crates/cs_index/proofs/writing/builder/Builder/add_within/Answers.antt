@@ -1,12 +1,13 @@
-use Rattle.std.proofs.Common.{rules}
-use Rattle.cs_index.proofs.writer.PackedPostings.{once_below}
+use Rattle.std.proofs.Common.{◌<◌, rules}
+use Rattle.cs_trigram.proofs.SetLemmas.{all_from_set}
+use Rattle.cs_trigram.specs.Trigram.{closing_trigram}
 use Rattle.cs_index.proofs.writing.builder.Builder.add_within.Goals as goal
 
 pub add_above-requires-clause-distinct : goal.add_above-requires-clause-distinct
 add_above-requires-clause-distinct c = c.requires.once.1
 
 pub add_above-requires-clause-below : goal.add_above-requires-clause-below
-add_above-requires-clause-below c = once_below c.args.trigrams.now c.requires.once
+add_above-requires-clause-below c = all_from_set (λ g. g < closing_trigram) c.args.trigrams.now c.requires.once.0.1
 
 pub add_above-requires-clause-bound : goal.add_above-requires-clause-bound
 add_above-requires-clause-bound c = search rules

@@ -1,0 +1,305 @@
+//! Searches source trees by regular expressions through an index of trigrams: safe functions over `libcodesearch`, whose
+//! matcher, reader and builder are proved.
+//!
+//! An [`Index`] borrows its bytes and can be shared by threads. A [`Pattern`] keeps a cache that its matches change, and a
+//! [`Builder`] an index under construction: neither is `Send` or `Sync`, so that each thread makes its own. (The library
+//! proves nothing of slots that move between threads.)
+//!
+//! ```
+//! use codesearch::{Builder, Index, Pattern};
+//! let mut builder = Builder::new(&["/src"])?;
+//! builder.add("/src/a.c", b"int main(void)\n")?;
+//! let bytes = builder.finish()?;
+//! let index = Index::new(&bytes)?;
+//! let mut pattern = Pattern::new("ma.n", false)?;
+//! assert_eq!(pattern.candidates(&index)?, [0]);
+//! assert_eq!(index.name(0).as_deref(), Some("/src/a.c"));
+//! assert!(pattern.is_match(b"int main(void)")?);
+//! # Ok::<(), codesearch::Error>(())
+//! ```
+
+mod error;
+mod sys;
+
+pub use error::{BuildFault, Error, IndexFault, PatternFault, Skip};
+use std::ops::Range;
+
+fn done(code: i32) -> Result<i32, Error> {
+    if code < 0 { Err(Error::of(code, 0)) } else { Ok(code) }
+}
+
+const ROOM: i32 = -3;
+
+/// Calls with a buffer that is long enough.
+fn grown<T: Copy + Default>(first: usize, mut call: impl FnMut(*mut T, usize, &mut usize) -> i32) -> Result<Vec<T>, Error> {
+    let mut buffer = vec![T::default(); first];
+    loop {
+        let mut len = 0;
+        match call(buffer.as_mut_ptr(), buffer.len(), &mut len) {
+            ROOM => buffer.resize(len, T::default()),
+            code => {
+                done(code)?;
+                buffer.truncate(len);
+                return Ok(buffer);
+            }
+        }
+    }
+}
+
+/// An index whose bytes have been checked.
+#[derive(Clone, Copy)]
+pub struct Index<'a> {
+    bytes: &'a [u8],
+}
+
+impl<'a> Index<'a> {
+    /// Checks all of an index but its posting lists.
+    pub fn new(bytes: &'a [u8]) -> Result<Index<'a>, Error> {
+        // SAFETY: the pointer and the length are those of the slice. So it is below, too.
+        done(unsafe { sys::cs_index_check(bytes.as_ptr(), bytes.len()) })?;
+        Ok(Index { bytes })
+    }
+
+    /// The bytes.
+    pub fn bytes(&self) -> &'a [u8] {
+        self.bytes
+    }
+
+    /// The number of names.
+    pub fn len(&self) -> u32 {
+        let mut count = 0;
+        // SAFETY: `new` has checked these bytes, and they are borrowed since.
+        unsafe { sys::cs_index_names(self.bytes.as_ptr(), self.bytes.len(), &mut count) };
+        count
+    }
+
+    /// Whether there are no names.
+    pub fn is_empty(&self) -> bool {
+        self.len() == 0
+    }
+
+    /// The name with an id.
+    pub fn name(&self, id: u32) -> Option<String> {
+        // SAFETY: as in `len`.
+        self.entry(|buffer, room, len| unsafe { sys::cs_index_name(self.bytes.as_ptr(), self.bytes.len(), id, buffer, room, len) })
+    }
+
+    /// The indexed path at a position.
+    pub fn path(&self, at: u32) -> Option<String> {
+        // SAFETY: as in `len`.
+        self.entry(|buffer, room, len| unsafe { sys::cs_index_path(self.bytes.as_ptr(), self.bytes.len(), at, buffer, room, len) })
+    }
+
+    fn entry(&self, call: impl FnMut(*mut u8, usize, &mut usize) -> i32) -> Option<String> {
+        String::from_utf8(grown(256, call).ok()?).ok()
+    }
+}
+
+/// Bytes that the library made.
+struct Bytes(sys::Slot);
+
+impl Bytes {
+    fn copied(&mut self) -> Result<Vec<u8>, Error> {
+        let mut len = 0;
+        // SAFETY: the slot is the library's, and the buffer is as long as said.
+        unsafe {
+            done(sys::cs_bytes_len(&mut self.0, &mut len))?;
+            let mut bytes = vec![0; len];
+            done(sys::cs_bytes_copy(&mut self.0, 0, bytes.as_mut_ptr(), len))?;
+            Ok(bytes)
+        }
+    }
+}
+
+impl Drop for Bytes {
+    fn drop(&mut self) {
+        // SAFETY: the slot is the library's.
+        unsafe { sys::cs_bytes_free(&mut self.0) }
+    }
+}
+
+/// How [`Pattern::grep`] prints: the options of `cgrep`.
+#[derive(Clone, Copy, Debug, Default, PartialEq, Eq)]
+pub struct Style {
+    /// `-c`: the number of matching lines.
+    pub count: bool,
+    /// `-l`: the name only.
+    pub list: bool,
+    /// `-n`: numbers of lines.
+    pub number: bool,
+    /// `-h`: no name.
+    pub bare: bool,
+}
+
+/// A compiled pattern, with the cache of its matcher.
+pub struct Pattern {
+    slot: sys::Slot,
+}
+
+impl Pattern {
+    /// Compiles a pattern. With `fold` an ASCII letter matches both of its cases.
+    pub fn new(text: &str, fold: bool) -> Result<Pattern, Error> {
+        let mut pattern = Pattern { slot: sys::Slot::EMPTY };
+        let mut offset = 0;
+        // SAFETY: the slot is empty.
+        match unsafe { sys::cs_pattern_compile(text.as_ptr(), text.len(), fold, &mut pattern.slot, &mut offset) } {
+            0 => Ok(pattern),
+            code => Err(Error::of(code, offset)),
+        }
+    }
+
+    /// Whether some part of the line matches.
+    pub fn is_match(&mut self, line: &[u8]) -> Result<bool, Error> {
+        // SAFETY: the slot is filled, and borrowed for the call. So it is below, too.
+        Ok(done(unsafe { sys::cs_pattern_is_match(&mut self.slot, line.as_ptr(), line.len()) })? == 1)
+    }
+
+    /// The first matching line of those that begin at an offset.
+    pub fn next_line(&mut self, block: &[u8], from: usize) -> Result<Option<Range<usize>>, Error> {
+        let mut line = sys::Line::default();
+        let found = done(unsafe { sys::cs_pattern_next(&mut self.slot, block.as_ptr(), block.len(), from, &mut line) })?;
+        Ok((found == 1).then_some(line.start..line.end))
+    }
+
+    /// The matching lines of a block. The iterator ends at the first error.
+    pub fn lines<'p, 'b>(&'p mut self, block: &'b [u8]) -> Lines<'p, 'b> {
+        Lines { pattern: self, block, from: Some(0) }
+    }
+
+    /// The number of matching lines of a block.
+    pub fn count(&mut self, block: &[u8]) -> Result<u64, Error> {
+        let mut count = 0;
+        done(unsafe { sys::cs_pattern_count(&mut self.slot, block.as_ptr(), block.len(), &mut count) })?;
+        Ok(count)
+    }
+
+    /// The ids of the names whose text may have a matching line, ascending.
+    pub fn candidates(&mut self, index: &Index<'_>) -> Result<Vec<u32>, Error> {
+        let bytes = index.bytes;
+        grown(64, |ids, room, count| unsafe {
+            sys::cs_pattern_candidates(&mut self.slot, bytes.as_ptr(), bytes.len(), ids, room, count)
+        })
+    }
+
+    /// What `cgrep` prints for an input with this name and text.
+    pub fn grep(&mut self, name: &str, text: &[u8], style: Style) -> Result<Vec<u8>, Error> {
+        let mut out = Vec::new();
+        if text.len() > 1 << 30 {
+            return Err(Error::TooLong);
+        }
+        if style.count && !style.list {
+            let count = self.count(text)?;
+            if count > 0 {
+                out.extend_from_slice(format!("{name}: {count}\n").as_bytes());
+            }
+            return Ok(out);
+        }
+        let (mut from, mut number) = (0, 1);
+        while let Some(line) = self.next_line(text, from)? {
+            if style.list {
+                out.extend_from_slice(name.as_bytes());
+                out.push(b'\n');
+                break;
+            }
+            if !style.bare {
+                out.extend_from_slice(name.as_bytes());
+                out.push(b':');
+            }
+            if style.number {
+                number += text[from..line.start].iter().filter(|byte| **byte == b'\n').count();
+                out.extend_from_slice(format!("{number}:").as_bytes());
+                number += 1;
+            }
+            out.extend_from_slice(&text[line.clone()]);
+            out.push(b'\n');
+            from = line.end + 1;
+        }
+        Ok(out)
+    }
+}
+
+impl Drop for Pattern {
+    fn drop(&mut self) {
+        // SAFETY: the slot is the library's.
+        unsafe { sys::cs_pattern_free(&mut self.slot) }
+    }
+}
+
+/// The matching lines of a block, in order.
+pub struct Lines<'p, 'b> {
+    pattern: &'p mut Pattern,
+    block: &'b [u8],
+    from: Option<usize>,
+}
+
+impl<'b> Iterator for Lines<'_, 'b> {
+    type Item = Result<&'b [u8], Error>;
+
+    fn next(&mut self) -> Option<Self::Item> {
+        match self.pattern.next_line(self.block, self.from?) {
+            Ok(Some(line)) => {
+                self.from = line.end.checked_add(1);
+                Some(Ok(&self.block[line]))
+            }
+            Ok(None) => {
+                self.from = None;
+                None
+            }
+            Err(error) => {
+                self.from = None;
+                Some(Err(error))
+            }
+        }
+    }
+}
+
+/// Why an index takes no text, if so.
+pub fn scan(text: &[u8]) -> Result<Option<Skip>, Error> {
+    Ok(Skip::of(done(unsafe { sys::cs_text_scan(text.as_ptr(), text.len()) })?))
+}
+
+/// An index under construction.
+pub struct Builder {
+    slot: sys::Slot,
+}
+
+impl Builder {
+    /// A builder over paths, which ascend, and none of which covers another.
+    pub fn new(paths: &[&str]) -> Result<Builder, Error> {
+        let mut text = String::new();
+        for path in paths {
+            // A NUL within a path would begin another one.
+            if path.contains('\0') {
+                return Err(Error::Build(BuildFault::BadPaths));
+            }
+            text.push_str(path);
+            text.push('\0');
+        }
+        let mut builder = Builder { slot: sys::Slot::EMPTY };
+        // SAFETY: the slot is empty.
+        done(unsafe { sys::cs_builder_new(text.as_ptr(), text.len(), &mut builder.slot) })?;
+        Ok(builder)
+    }
+
+    /// Adds a name, greater than those before, with its text; or says why the text is left out.
+    pub fn add(&mut self, name: &str, text: &[u8]) -> Result<Option<Skip>, Error> {
+        // SAFETY: the slot is filled.
+        let code = unsafe { sys::cs_builder_add(&mut self.slot, name.as_ptr(), name.len(), text.as_ptr(), text.len()) };
+        Ok(Skip::of(done(code)?))
+    }
+
+    /// The bytes of the index.
+    pub fn finish(mut self) -> Result<Vec<u8>, Error> {
+        let mut bytes = Bytes(sys::Slot::EMPTY);
+        // SAFETY: the builder's slot is filled, and the other is empty.
+        done(unsafe { sys::cs_builder_finish(&mut self.slot, &mut bytes.0) })?;
+        bytes.copied()
+    }
+}
+
+impl Drop for Builder {
+    fn drop(&mut self) {
+        // SAFETY: the slot is the library's.
+        unsafe { sys::cs_builder_free(&mut self.slot) }
+    }
+}

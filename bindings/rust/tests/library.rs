@@ -1,0 +1,83 @@
+use codesearch::{scan, BuildFault, Builder, Error, Index, IndexFault, Pattern, PatternFault, Skip, Style};
+
+fn sample() -> Vec<u8> {
+    let mut builder = Builder::new(&["/a", "/b"]).unwrap();
+    for (name, text) in [("/a/1", "alpha\nmarker here\n"), ("/a/2", "beta\n"), ("/b/3", "marker\nmarkers")] {
+        assert_eq!(builder.add(name, text.as_bytes()), Ok(None));
+    }
+    builder.finish().unwrap()
+}
+
+#[test]
+fn an_index_is_read() {
+    let bytes = sample();
+    let index = Index::new(&bytes).unwrap();
+    assert_eq!((index.len(), index.is_empty()), (3, false));
+    assert_eq!((index.name(2).as_deref(), index.name(3)), (Some("/b/3"), None));
+    assert_eq!((index.path(1).as_deref(), index.path(2)), (Some("/b"), None));
+    assert_eq!(Index::new(&bytes[..bytes.len() - 1]).err(), Some(Error::Index(IndexFault::BadTrailer)));
+    assert_eq!(Index::new(b"").err().unwrap().to_string(), "bad index: magic");
+    assert_eq!(Pattern::new("markers?", false).unwrap().candidates(&index), Ok(vec![0, 2]));
+}
+
+#[test]
+fn patterns_match_lines() {
+    let mut pattern = Pattern::new("b(c|d)*$", false).unwrap();
+    assert_eq!((pattern.is_match(b"abcd"), pattern.is_match(b"abx"), pattern.is_match(b"")), (Ok(true), Ok(false), Ok(false)));
+    let block = b"ab\nx\nbc\n\nbdd";
+    let lines: Result<Vec<_>, _> = pattern.lines(block).collect();
+    assert_eq!(lines, Ok(vec![&b"ab"[..], b"bc", b"bdd"]));
+    assert_eq!((pattern.count(block), pattern.next_line(block, 3)), (Ok(3), Ok(Some(5..7))));
+    assert_eq!(pattern.next_line(block, usize::MAX), Ok(None));
+    assert_eq!(Pattern::new("x(a", false).err(), Some(Error::Pattern(PatternFault::OpenGroup, 1)));
+    assert_eq!(Pattern::new("a**", false).err().unwrap().to_string(), "bad pattern at byte 2: a repeat of a repeat");
+    assert_eq!(Pattern::new("É", true).unwrap().is_match("É".as_bytes()), Ok(true));
+}
+
+#[test]
+fn reports_are_those_of_cgrep() {
+    let mut pattern = Pattern::new("b", false).unwrap();
+    let style = |count, list, number, bare| Style { count, list, number, bare };
+    for (style, wanted) in [
+        (style(false, false, false, false), "n:ab\nn:b\n"),
+        (style(true, false, false, false), "n: 2\n"),
+        (style(true, true, false, false), "n\n"),
+        (style(false, false, true, true), "1:ab\n3:b\n"),
+    ] {
+        assert_eq!(pattern.grep("n", b"ab\nx\nb", style).unwrap(), wanted.as_bytes());
+    }
+    let long = "b\n".repeat(5000);
+    assert_eq!(pattern.grep("n", long.as_bytes(), Style::default()).unwrap().len(), 4 * 5000);
+}
+
+#[test]
+fn indexes_are_built() {
+    assert_eq!(Builder::new(&["/b", "/a"]).err(), Some(Error::Build(BuildFault::BadPaths)));
+    assert_eq!(Builder::new(&["/a\0/b"]).err(), Some(Error::Build(BuildFault::BadPaths)));
+    let mut builder = Builder::new(&["/b"]).unwrap();
+    assert_eq!(builder.add("/b/1", b"a\0"), Ok(Some(Skip::Nul)));
+    assert_eq!(builder.add("/b/1", b"marker"), Ok(None));
+    assert_eq!(builder.add("/b/1", b"marker"), Err(Error::Build(BuildFault::OutOfOrder)));
+    let bytes = builder.finish().unwrap();
+    assert_eq!(Index::new(&bytes).unwrap().name(0).as_deref(), Some("/b/1"));
+}
+
+#[test]
+fn texts_are_scanned() {
+    assert_eq!((scan(b"text\n"), scan(b"\xe9a"), scan(&[b'a'; 2001])), (Ok(None), Ok(Some(Skip::Utf8)), Ok(Some(Skip::LongLine))));
+}
+
+#[test]
+fn an_index_is_shared_by_threads() {
+    let bytes = sample();
+    let index = Index::new(&bytes).unwrap();
+    std::thread::scope(|scope| {
+        for _ in 0..4 {
+            scope.spawn(|| {
+                for _ in 0..200 {
+                    assert_eq!(Pattern::new("marker", false).unwrap().candidates(&index), Ok(vec![0, 2]));
+                }
+            });
+        }
+    });
+}

@@ -1,0 +1,5 @@
+pub mod Compiled
+pub mod Slots
+pub mod Codes
+pub mod Copies
+pub mod Patterns

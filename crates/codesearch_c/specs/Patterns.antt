@@ -1,0 +1,67 @@
+-- What the calls over a pattern answer.
+use Rattle.std.specs.Prelude.{◌≡◌, ◌≢◌, ◌≤◌, ℕ, ℤ, pos, Bool, true, false, List, length, Option}
+use Rattle.std.specs.Str.{IsUtf8}
+use Rattle.cs_syntax.specs.Matching.{Tree, HasMatch}
+use Rattle.cs_syntax.specs.Parsing.{ParsesAs}
+use Rattle.cs_syntax.specs.ParseErrors.{IsParseError}
+use Rattle.cs_syntax.specs.declared.fault.PatternError.{PatternError}
+use Rattle.codesearch_c.specs.declared.held.Held.{Held}
+use Rattle.codesearch_c.specs.Compiled.{Compiled}
+use Rattle.cs_trigram.specs.Query.{LosesNoLine}
+use Rattle.cs_trigram.specs.declared.queries.Query.{Query}
+use Rattle.cs_index.specs.OpenedParts.{Parts}
+use Rattle.cs_index.specs.Candidates.{candidates_of}
+use Rattle.cs_index.specs.Answerable.{is_answerable}
+use Rattle.cs_index.specs.Postings.{IsListFault}
+use Rattle.cs_index.specs.declared.fault.IndexFault.{IndexFault}
+use Rattle.codesearch_c.specs.declared.lines.Line.{Line}
+use Rattle.codesearch_c.specs.Codes.{done, memory, misuse, not_utf8, index_code, pattern_code}
+use Rattle.codesearch_c.specs.Copies.{IsCopy}
+use Rattle.codesearch_c.specs.Slots.{OnPattern}
+
+-- Why a text is not compiled: it is not UTF-8, it has a syntax error, or memory is refused.
+pub data IsRefusal (text : List ℕ) (fold : Bool) (code : ℤ) (at : ℕ) : Type 0 where
+  foreign : code ≡ not_utf8 → at ≡ 0 → ¬ (IsUtf8 text) → IsRefusal text fold code at
+  rejected : (e : PatternError) → IsParseError text fold e → code ≡ pattern_code e.fault → at ≡ e.at → IsRefusal text fold code at
+  refused : code ≡ memory → at ≡ 0 → IsRefusal text fold code at
+
+-- after a compilation into an empty slot it holds the pattern of the text, or nothing
+abbrev pub IsCompiled : List ℕ → Bool → ℕ → Option Held → ℤ → ℕ → Type 0
+IsCompiled text fold old_at slot code at =
+    OnPattern slot (IsRefusal text fold code at)
+    (λ held. ParsesAs text fold held.pattern × LosesNoLine held.query held.pattern × (code ≡ done) × (at ≡ old_at))
+
+-- the call is answered so, and the slot keeps what it holds
+abbrev pub IsMisuse : Option Held → Option Held → ℤ → Type 0
+IsMisuse old new code = (code ≡ misuse) × (new ≡ old)
+
+-- the slot still holds this pattern
+abbrev pub Keeps : Compiled → Option Held → Type 0
+Keeps held slot = OnPattern slot (false ≡ true) (λ kept. kept ≡ held)
+
+-- 1 and a match, 0 and none, or memory is refused
+pub record IsMatchCode (pattern : Tree) (line : List ℕ) (code : ℤ) : Type 0 where
+  pub yes : code ≡ pos 1 → HasMatch pattern line
+  pub no : code ≡ pos 0 → ¬ (HasMatch pattern line)
+  pub only : code ≢ pos 1 → code ≢ pos 0 → code ≡ memory
+
+-- offsets of a line that does not begin before `from`
+pub record IsLineFrom (block : List ℕ) (from start end : ℕ) : Type 0 where
+  pub low : from ≤ start
+  pub order : start ≤ end
+  pub within : end ≤ length block
+
+-- 1 and a line from an offset on; or the line stays, and the code is 0 or memory is refused
+pub record IsNextCode (block : List ℕ) (from : ℕ) (old new : Line) (code : ℤ) : Type 0 where
+  pub found : code ≡ pos 1 → IsLineFrom block from new.start new.end
+  pub kept : code ≢ pos 1 → new ≡ old
+  pub only : code ≢ pos 1 → code ≢ pos 0 → code ≡ memory
+
+-- a count; or memory is refused, and the count stays
+pub record IsCountCode (old new : ℕ) (code : ℤ) : Type 0 where
+  pub kept : code ≢ done → (new ≡ old) × (code ≡ memory)
+
+-- the ids of the candidates are copied; or a list is damaged, or memory is refused, and nothing changes
+pub data AreCandidates (parts : Parts) (query : Query) (old new : List ℕ) (old_count count : ℕ) (code : ℤ) : Type 0 where
+  copied : IsCopy (candidates_of parts query) old new count code → is_answerable parts query ≡ true → AreCandidates parts query old new old_count count code
+  failed : (fault : IndexFault) → IsListFault (is_answerable parts query) fault → code ≡ index_code fault → new ≡ old → count ≡ old_count → AreCandidates parts query old new old_count count code

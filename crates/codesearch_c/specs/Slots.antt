@@ -1,0 +1,33 @@
+-- What a slot holds, and what a handle owns: nothing, or a box.
+use Rattle.std.specs.Prelude.{Option, Some, None, Bool, true, false}
+use Rattle.std.specs.Coded.{Coded, coded_option}
+use base.Fml.{Fml, ftrue}
+use denote.RawPtr.{Ptr}
+use Rattle.std_alloc.specs.Box.Ownership.{box_owns}
+use Rattle.std_heap.specs.contracts.GlobalAllocator.TheImpl.{ghosts}
+use Rattle.std_heap.specs.declared.Global.{Global}
+use Rattle.codesearch_c.specs.declared.held.Held.{Held}
+use Rattle.codesearch_c.specs.declared.held.Held.TheVariants.{Pattern, Builder, Bytes}
+use Rattle.codesearch_c.specs.Compiled.{Compiled}
+use Rattle.codesearch_c.specs.contracts.held.Held.{the_row}
+
+-- the slot holds something
+abbrev pub is_filled : Option Held → Bool
+is_filled None = false
+is_filled (Some held) = true
+
+-- of a slot with a pattern, what holds of it; of each other slot, the other
+abbrev pub OnPattern : Option Held → Type 0 → (Compiled → Type 0) → Type 0
+OnPattern None other of_pattern = other
+OnPattern (Some (Pattern held)) other of_pattern = of_pattern held
+OnPattern (Some (Builder held)) other of_pattern = other
+OnPattern (Some (Bytes held)) other of_pattern = other
+
+-- what a handle owns
+abbrev pub holds : Global → Ptr → Option Held → Fml
+holds alloc at None = ftrue
+holds alloc at (Some x) = box_owns (ghosts.dealloc_token alloc) the_row at x
+
+-- how the logic stores what a slot has
+abbrev pub slot_code : Coded (Option Held)
+slot_code = coded_option (the_row.coded)

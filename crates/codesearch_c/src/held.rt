@@ -1,0 +1,49 @@
+// What a slot holds.
+use cs_index::Builder;
+use cs_match::{Cache, Program};
+use cs_syntax::Pattern;
+use cs_trigram::{Query, Scanner};
+use std::marker::Model;
+
+/// A pattern, its query and its program. The cache is that of the last matcher; it is made at the first match. Contracts
+/// see the pattern and the query.
+#[derive(Drop)]
+pub struct HeldPattern {
+    pub(crate) pattern: Pattern,
+    pub(crate) query: Query,
+    pub(crate) program: Program,
+    pub(crate) cache: Option<Cache>,
+}
+
+impl Model for HeldPattern {
+    ghost use Rattle.codesearch_c.specs.Compiled.{Compiled, compiled_code};
+
+    ghost Value = { Compiled };
+
+    ghost coded = { compiled_code };
+
+    ghost use Rattle.std.specs.Prelude.{IfSome};
+    ghost use Rattle.cs_match.specs.Cached.{IsCacheOf};
+    ghost use Rattle.cs_match.specs.SameLines.{MatchSameLines};
+    ghost use Rattle.cs_trigram.specs.Query.{LosesNoLine};
+
+    ghost view = { λ held. record { pattern = held.pattern; query = held.query } };
+
+    ghost invariant = { λ held. MatchSameLines held.program held.pattern
+        × LosesNoLine held.query held.pattern × IfSome held.cache (IsCacheOf held.program) };
+}
+
+/// An index under construction, and the scanner of its texts.
+#[derive(Drop)]
+pub struct HeldBuilder {
+    pub(crate) builder: Builder,
+    pub(crate) scanner: Scanner,
+}
+
+/// What a slot holds.
+#[derive(Drop)]
+pub enum Held {
+    Pattern(HeldPattern),
+    Builder(HeldBuilder),
+    Bytes(Vec<u8>),
+}

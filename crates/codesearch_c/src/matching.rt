@@ -1,0 +1,303 @@
+// Exports over a pattern.
+ghost use Rattle.std.specs.Prelude.{◌≡◌, true, false, Some, None, IsOk, IfOk, IfErr};
+ghost use Rattle.cs_syntax.specs.Parsing.{ParsesAs};
+ghost use Rattle.cs_trigram.specs.Query.{LosesNoLine};
+ghost use Rattle.cs_index.specs.Opening.{opening};
+ghost use Rattle.codesearch_c.specs.Slots.{is_filled, OnPattern};
+ghost use Rattle.codesearch_c.specs.Patterns.{IsRefusal, IsCompiled, IsMisuse, IsMatchCode, IsNextCode, IsCountCode, AreCandidates, Keeps};
+
+use crate::codes::{MEMORY, MISUSE, NOT_UTF8, OK, ROOM, index_code, pattern_code};
+use crate::copying::copy_items;
+use crate::held::{Held, HeldPattern};
+use crate::lines::Line;
+use crate::slot::Slot;
+use cs_index::Index;
+use cs_match::Program;
+use cs_syntax::{Pattern, parse};
+use cs_trigram::query;
+use std::alloc::{AllocError, Global};
+use std::str::from_utf8;
+
+/// Fills an empty slot with a pattern. On a syntax error `at` is its offset.
+#[unsafe(no_mangle)]
+pub extern "C" fn cs_pattern_compile(
+    alloc: Global,
+    text: &[u8],
+    fold: bool,
+    slot: &mut Slot,
+    at: &mut usize,
+) -> i32
+    ensures misuse { is_filled slot.old.handle.value ≡ true →
+        IsMisuse slot.old.handle.value slot.new.handle.value result × (at.new ≡ at.old) }
+    ensures compiled { is_filled slot.old.handle.value ≡ false →
+        IsCompiled text.now fold at.old slot.new.handle.value result at.new }
+{
+    if slot.is_filled() {
+        return MISUSE;
+    }
+    match compile(alloc, text, fold) {
+        Ok(held) => {
+            slot.fill(held);
+            OK
+        }
+        Err((code, place)) => {
+            *at = place;
+            code
+        }
+    }
+}
+
+/// A box with the pattern of a text; or a code and an offset.
+fn compile(alloc: Global, text: &[u8], fold: bool) -> Result<Box<Held>, (i32, usize)>
+    ensures compiled { IfOk result (λ held.
+        OnPattern (Some held.value) (false ≡ true) (λ p.
+        ParsesAs text.now fold p.pattern × LosesNoLine p.query p.pattern)) }
+    ensures refused { IfErr result (λ (code, at). IsRefusal text.now fold code at) }
+{
+    let pattern = parsed(alloc, text, fold)?;
+    match prepared(alloc, pattern) {
+        Ok(held) => Ok(held),
+        Err(AllocError) => Err((MEMORY, 0)),
+    }
+}
+
+/// The pattern of a text; or a code and an offset.
+fn parsed(alloc: Global, text: &[u8], fold: bool) -> Result<Pattern, (i32, usize)>
+    ensures parsed { IfOk result (λ pattern. ParsesAs text.now fold pattern) }
+    ensures refused { IfErr result (λ (code, at). IsRefusal text.now fold code at) }
+{
+    let Ok(text) = from_utf8(text) else {
+        return Err((NOT_UTF8, 0));
+    };
+    match parse(alloc, text, fold) {
+        Ok(pattern) => Ok(pattern),
+        Err(error) => Err((pattern_code(error.fault), error.at)),
+    }
+}
+
+/// A box with the pattern, its program and its query.
+fn prepared(alloc: Global, pattern: Pattern) -> Result<Box<Held>, AllocError>
+    ensures { IfOk result (λ held.
+        OnPattern (Some held.value) (false ≡ true) (λ p.
+        (p.pattern ≡ pattern) × LosesNoLine p.query p.pattern)) }
+{
+    let program = Program::compile(alloc, &pattern)?;
+    let query = query(alloc, &pattern)?;
+    let held = HeldPattern {
+        pattern,
+        query,
+        program,
+        cache: None,
+    };
+    match Box::new(alloc, Held::Pattern(held)) {
+        Ok(held) => Ok(held),
+        Err(_) => Err(AllocError),
+    }
+}
+
+/// Empties a slot, and frees what it holds.
+#[unsafe(no_mangle)]
+pub extern "C" fn cs_pattern_free(alloc: Global, slot: &mut Slot)
+    ensures { slot.new.handle.value ≡ None }
+{
+    let _held = slot.take(alloc);
+}
+
+/// Whether the line has a match: 1, 0, or a code.
+#[unsafe(no_mangle)]
+pub extern "C" fn cs_pattern_is_match(alloc: Global, slot: &mut Slot, line: &[u8]) -> i32
+    ensures { OnPattern slot.old.handle.value
+        (IsMisuse slot.old.handle.value slot.new.handle.value result)
+        (λ held. IsMatchCode held.pattern line.now result × Keeps held slot.new.handle.value) }
+{
+    let Some(mut held) = slot.take(alloc) else {
+        return MISUSE;
+    };
+    let code = match &mut *held {
+        Held::Pattern(pattern) => match_code(pattern, alloc, line),
+        _ => MISUSE,
+    };
+    slot.fill(held);
+    code
+}
+
+fn match_code(pattern: &mut HeldPattern, alloc: Global, line: &[u8]) -> i32
+    ensures code { IsMatchCode pattern.old.pattern line.now result }
+    ensures same { pattern.new ≡ pattern.old }
+{
+    match pattern.is_match(alloc, line) {
+        Ok(found) => i32::from(found),
+        Err(AllocError) => MEMORY,
+    }
+}
+
+/// The first matching line at or after an offset: 1, 0 if there is none, or a code.
+#[unsafe(no_mangle)]
+pub extern "C" fn cs_pattern_next(
+    alloc: Global,
+    slot: &mut Slot,
+    block: &[u8],
+    from: usize,
+    line: &mut Line,
+) -> i32
+    ensures { OnPattern slot.old.handle.value
+        (IsMisuse slot.old.handle.value slot.new.handle.value result × (line.new ≡ line.old))
+        (λ held. IsNextCode block.now from line.old line.new result
+        × Keeps held slot.new.handle.value) }
+{
+    let Some(mut held) = slot.take(alloc) else {
+        return MISUSE;
+    };
+    let code = match &mut *held {
+        Held::Pattern(pattern) => next_code(pattern, alloc, block, from, line),
+        _ => MISUSE,
+    };
+    slot.fill(held);
+    code
+}
+
+fn next_code(
+    pattern: &mut HeldPattern,
+    alloc: Global,
+    block: &[u8],
+    from: usize,
+    line: &mut Line,
+) -> i32
+    ensures code { IsNextCode block.now from line.old line.new result }
+    ensures same { pattern.new ≡ pattern.old }
+{
+    match pattern.next_line(alloc, block, from) {
+        Ok(Some(found)) => {
+            *line = found;
+            1
+        }
+        Ok(None) => 0,
+        Err(AllocError) => MEMORY,
+    }
+}
+
+/// The matching lines of a block, and how many they are.
+#[unsafe(no_mangle)]
+pub extern "C" fn cs_pattern_lines(
+    alloc: Global,
+    slot: &mut Slot,
+    block: &[u8],
+    lines: &mut [Line],
+    count: &mut usize,
+) -> i32
+    ensures { OnPattern slot.old.handle.value
+        (IsMisuse slot.old.handle.value slot.new.handle.value result)
+        (λ held. Keeps held slot.new.handle.value) }
+{
+    let Some(mut held) = slot.take(alloc) else {
+        return MISUSE;
+    };
+    let code = match &mut *held {
+        Held::Pattern(pattern) => lines_code(pattern, alloc, block, lines, count),
+        _ => MISUSE,
+    };
+    slot.fill(held);
+    code
+}
+
+fn lines_code(
+    pattern: &mut HeldPattern,
+    alloc: Global,
+    block: &[u8],
+    lines: &mut [Line],
+    count: &mut usize,
+) -> i32
+    ensures same { pattern.new ≡ pattern.old }
+{
+    match pattern.matching_lines(alloc, block, lines) {
+        Ok(found) => {
+            *count = found;
+            if found > lines.len() { ROOM } else { OK }
+        }
+        Err(AllocError) => MEMORY,
+    }
+}
+
+/// The number of matching lines of a block.
+#[unsafe(no_mangle)]
+pub extern "C" fn cs_pattern_count(
+    alloc: Global,
+    slot: &mut Slot,
+    block: &[u8],
+    count: &mut u64,
+) -> i32
+    ensures { OnPattern slot.old.handle.value
+        (IsMisuse slot.old.handle.value slot.new.handle.value result × (count.new ≡ count.old))
+        (λ held. IsCountCode count.old count.new result
+        × Keeps held slot.new.handle.value) }
+{
+    let Some(mut held) = slot.take(alloc) else {
+        return MISUSE;
+    };
+    let code = match &mut *held {
+        Held::Pattern(pattern) => count_code(pattern, alloc, block, count),
+        _ => MISUSE,
+    };
+    slot.fill(held);
+    code
+}
+
+fn count_code(pattern: &mut HeldPattern, alloc: Global, block: &[u8], count: &mut u64) -> i32
+    ensures code { IsCountCode count.old count.new result }
+    ensures same { pattern.new ≡ pattern.old }
+{
+    match pattern.count(alloc, block) {
+        Ok(found) => {
+            *count = found;
+            OK
+        }
+        Err(AllocError) => MEMORY,
+    }
+}
+
+/// The ids of the names whose files may have a matching line, ascending, and how many they are.
+#[unsafe(no_mangle)]
+pub extern "C" fn cs_pattern_candidates(
+    alloc: Global,
+    slot: &mut Slot,
+    index: &[u8],
+    ids: &mut [u32],
+    count: &mut usize,
+) -> i32
+    requires opened { IsOk (opening index.now) }
+    ensures { OnPattern slot.old.handle.value
+        (IsMisuse slot.old.handle.value slot.new.handle.value result)
+        (λ held. IfOk (opening index.now) (λ parts.
+        AreCandidates parts held.query ids.old ids.new count.old count.new result)
+        × Keeps held slot.new.handle.value) }
+{
+    let Some(held) = slot.take(alloc) else {
+        return MISUSE;
+    };
+    let code = match &*held {
+        Held::Pattern(pattern) => candidates_code(pattern, alloc, index, ids, count),
+        _ => MISUSE,
+    };
+    slot.fill(held);
+    code
+}
+
+fn candidates_code(
+    pattern: &HeldPattern,
+    alloc: Global,
+    index: &[u8],
+    ids: &mut [u32],
+    count: &mut usize,
+) -> i32
+    requires opened { IsOk (opening index.now) }
+    ensures { IfOk (opening index.now) (λ parts.
+        AreCandidates parts pattern.now.query ids.old ids.new count.old count.new result) }
+{
+    match Index::reopen(index) {
+        Ok(index) => match index.candidates(alloc, &pattern.query) {
+            Ok(found) => copy_items(&found, ids, count),
+            Err(fault) => index_code(fault),
+        },
+        Err(fault) => index_code(fault),
+    }
+}

@@ -1,0 +1,82 @@
+// Matches of a held pattern. The cache of its matcher is kept from one call to the next.
+ghost use Rattle.std.specs.Prelude.{◌≡◌, ◌↔◌, None, IfOk, IfSome, IsTrue, length};
+ghost use Rattle.cs_syntax.specs.Matching.{HasMatch};
+ghost use Rattle.cs_match.specs.Cached.{IsCacheOf};
+ghost use Rattle.codesearch_c.specs.Patterns.{IsLineFrom};
+
+use crate::held::HeldPattern;
+use crate::lines::{Line, count_lines, first_line, list_lines};
+use cs_match::{Cache, Matcher, Program};
+use std::alloc::{AllocError, Global};
+
+/// The kept cache of a program, or a new one.
+fn cache_of(alloc: Global, kept: &mut Option<Cache>, program: &Program) -> Result<Cache, AllocError>
+    requires { IfSome kept.old (IsCacheOf program.now) }
+    ensures cache { IfOk result (IsCacheOf program.now) }
+    ensures none { kept.new ≡ None }
+{
+    match kept.take() {
+        Some(cache) => Ok(cache),
+        None => Cache::new(alloc, program),
+    }
+}
+
+impl HeldPattern {
+    /// Whether the line has a match.
+    pub(crate) fn is_match(&mut self, alloc: Global, line: &[u8]) -> Result<bool, AllocError>
+        ensures found { IfOk result (λ found. IsTrue found ↔ HasMatch self.old.pattern line.now) }
+        ensures same { self.new ≡ self.old }
+    {
+        let cache = cache_of(alloc, &mut self.cache, &self.program)?;
+        let mut matcher = Matcher::resume(&self.program, cache);
+        let found = matcher.is_match(line);
+        self.cache = Some(matcher.into_cache());
+        Ok(found)
+    }
+
+    /// The first matching line at or after an offset.
+    pub(crate) fn next_line(
+        &mut self,
+        alloc: Global,
+        block: &[u8],
+        from: usize,
+    ) -> Result<Option<Line>, AllocError>
+        ensures found { IfOk result (λ found. IfSome found (λ line.
+            IsLineFrom block.now from line.start line.end)) }
+        ensures same { self.new ≡ self.old }
+    {
+        let cache = cache_of(alloc, &mut self.cache, &self.program)?;
+        let mut matcher = Matcher::resume(&self.program, cache);
+        let found = first_line(&mut matcher, block, from);
+        self.cache = Some(matcher.into_cache());
+        Ok(found)
+    }
+
+    /// The number of matching lines. Those for which there is room are written.
+    pub(crate) fn matching_lines(
+        &mut self,
+        alloc: Global,
+        block: &[u8],
+        lines: &mut [Line],
+    ) -> Result<usize, AllocError>
+        ensures same { self.new ≡ self.old }
+        ensures length { length lines.new ≡ length lines.old }
+    {
+        let cache = cache_of(alloc, &mut self.cache, &self.program)?;
+        let mut matcher = Matcher::resume(&self.program, cache);
+        let found = list_lines(&mut matcher, block, lines);
+        self.cache = Some(matcher.into_cache());
+        Ok(found)
+    }
+
+    /// The number of matching lines.
+    pub(crate) fn count(&mut self, alloc: Global, block: &[u8]) -> Result<u64, AllocError>
+        ensures same { self.new ≡ self.old }
+    {
+        let cache = cache_of(alloc, &mut self.cache, &self.program)?;
+        let mut matcher = Matcher::resume(&self.program, cache);
+        let found = count_lines(&mut matcher, block);
+        self.cache = Some(matcher.into_cache());
+        Ok(found)
+    }
+}

@@ -1,0 +1,62 @@
+use Rattle.std.proofs.Common.{◌≡◌, ◌<◌, ◌∙◌, ◌++◌, ap, sym, subst, refl, ℕ, List, true, length, map, take, drop, arith}
+use Rattle.std.specs.List.{AllByRecursion}
+use Rattle.cs_index.specs.AscendingIds.{max_ids}
+use Rattle.cs_index.specs.Opening.{rises}
+use Rattle.cs_index.specs.OpenedParts.{Parts}
+use Rattle.cs_index.specs.Postings.{read_for}
+use Rattle.cs_index.specs.Form.{IsNumberOf}
+use Rattle.cs_index.specs.Rows.{are_whole}
+use Rattle.cs_index.specs.StoredLists.{HasLists, Holds, IsSection, ListState, ids_left}
+use Rattle.cs_index.specs.declared.reading.stored_list.ListSection.{ListSection}
+use Rattle.cs_index.proofs.decoding.IndexFields.{entries_rise}
+use Rattle.cs_index.proofs.candidates.MentionedLists.{all_left, ids_are, whole_answers}
+use Rattle.cs_index.proofs.candidates.WindowRows.{all_held, taken_back, whole_alike}
+use Rattle.cs_index.proofs.reading.candidates.candidates_in.Goals as goal
+
+rising : (bytes : List ℕ) (s : ListSection) (parts : Parts) → IsSection s → HasLists bytes s parts → rises parts.entries ≡ true
+rising bytes s parts is has = ap rises has.entries ∙ entries_rise s.room s.list_index.now is.entries
+
+few_names : (bytes : List ℕ) (s : ListSection) (parts : Parts) → IsSection s → HasLists bytes s parts → length parts.names < max_ids
+few_names bytes s parts is has = let same = has.names in let few = is.names in omega (arith, same, few)
+
+pub returns-then-branch-clause-answers : goal.returns-then-branch-clause-answers
+returns-then-branch-clause-answers g c bytes m parts has =
+    let s : ListSection = c.args.section.now in
+    let trigrams : List ℕ = c.in_ok-trigrams.trigrams.items in
+    let up = rising bytes s parts c.requires has in
+    let lists : List ListState = c.deref_mut.result.now in
+    let after : List ListState = c.meet.new.lists in
+    let are = c.in_ok-trigrams.ensures.mentioned in
+    let is : map (ids_left bytes) lists ≡ map (read_for parts) trigrams = ap (map (ids_left bytes)) c.deref_mut.ensures.value ∙ c.in_ok-lists.ensures.lists bytes m parts has ∙ ap (map (read_for parts)) c.deref-2.ensures.value in
+    let held = subst (AllByRecursion (Holds bytes)) (sym c.deref_mut.ensures.value) (c.in_ok-lists.ensures.holds bytes m) in
+    let left = all_left bytes parts up c.args.query.now trigrams are lists is (few_names bytes s parts c.requires has) held in
+    let modelled = c.lists_of.ensures.keeps ∙ m in
+    let read = c.in_ok-ids.ensures.lists bytes modelled left in
+    let kept : take c.in_ok-lists.lists.len (after ++ drop (length after) c.in_ok-lists.lists.items) ≡ after = taken_back c.in_ok-lists.lists.len after (drop (length after) c.in_ok-lists.lists.items) (sym (c.meet.auto.lists ∙ c.deref_mut.ensures.len)) in
+    let whole : c.in_ok-finish_all.field-0 ≡ are_whole bytes lists =
+    c.in_ok-finish_all.ensures.whole bytes (c.meet.ensures.keeps ∙ modelled) (subst (AllByRecursion (Holds bytes)) (sym kept) (all_held bytes s.name_count lists after read))
+    ∙ ap (are_whole bytes) kept ∙ whole_alike bytes s.name_count lists after read in
+    let all : are_whole bytes lists ≡ true = sym whole ∙ c.if-branch.true in (
+      ids_are bytes parts up c.args.query.now trigrams are lists is c.in_ok-form.form.nodes.items c.in_ok-form.form.root s.name_count c.in_ok-ids.ids.items (sym has.names)
+          (subst (λ (gs : List ℕ). IsNumberOf gs c.in_ok-form.form.nodes.items c.args.query.now c.in_ok-form.form.root) c.deref.ensures.value c.in_ok-form.ensures) all (c.in_ok-ids.ensures.ids bytes modelled left),
+      sym (whole_answers bytes parts up c.args.query.now trigrams are lists is) ∙ all,
+    )
+
+pub returns-clause-answers : goal.returns-clause-answers
+returns-clause-answers g c bytes m parts has =
+    let s : ListSection = c.args.section.now in
+    let trigrams : List ℕ = c.in_ok-trigrams.trigrams.items in
+    let up = rising bytes s parts c.requires has in
+    let lists : List ListState = c.deref_mut.result.now in
+    let after : List ListState = c.meet.new.lists in
+    let are = c.in_ok-trigrams.ensures.mentioned in
+    let is : map (ids_left bytes) lists ≡ map (read_for parts) trigrams = ap (map (ids_left bytes)) c.deref_mut.ensures.value ∙ c.in_ok-lists.ensures.lists bytes m parts has ∙ ap (map (read_for parts)) c.deref-2.ensures.value in
+    let held = subst (AllByRecursion (Holds bytes)) (sym c.deref_mut.ensures.value) (c.in_ok-lists.ensures.holds bytes m) in
+    let left = all_left bytes parts up c.args.query.now trigrams are lists is (few_names bytes s parts c.requires has) held in
+    let modelled = c.lists_of.ensures.keeps ∙ m in
+    let read = c.in_ok-ids.ensures.lists bytes modelled left in
+    let kept : take c.in_ok-lists.lists.len (after ++ drop (length after) c.in_ok-lists.lists.items) ≡ after = taken_back c.in_ok-lists.lists.len after (drop (length after) c.in_ok-lists.lists.items) (sym (c.meet.auto.lists ∙ c.deref_mut.ensures.len)) in
+    let whole : c.in_ok-finish_all.field-0 ≡ are_whole bytes lists =
+    c.in_ok-finish_all.ensures.whole bytes (c.meet.ensures.keeps ∙ modelled) (subst (AllByRecursion (Holds bytes)) (sym kept) (all_held bytes s.name_count lists after read))
+    ∙ ap (are_whole bytes) kept ∙ whole_alike bytes s.name_count lists after read in
+    (refl, sym (whole_answers bytes parts up c.args.query.now trigrams are lists is) ∙ sym whole ∙ c.if-branch.false)

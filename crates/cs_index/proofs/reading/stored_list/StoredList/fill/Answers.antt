@@ -1,0 +1,20 @@
+use Rattle.std.proofs.Common.{◌≡◌, ◌+◌, ◌-◌, ◌∙◌, inl, inr, ap, ℕ, List, arith}
+use Rattle.std.proofs.lemmas.Bool.{cases_lt}
+use Rattle.cs_tree.specs.Store.{part_of}
+use Rattle.cs_index.proofs.stored.ListPieces.{new_piece, shown}
+use Rattle.cs_index.proofs.reading.stored_list.StoredList.fill.Goals as goal
+
+pub returns-clause-ready : goal.returns-clause-ready
+returns-clause-ready g c bytes is holds =
+    let s = c.self.inside in
+    let at : ℕ = s.start + s.used in
+    let len : ℕ = c.min-len.result in
+    let m : ℕ = s.stop - (at + 0) in
+    let piece : List ℕ = c.in_ok-self-inside.field-0.items in
+    let read = shown (λ b. piece ≡ part_of b at len) (g.S.Store.model c.args.store.now) bytes is c.in_ok-self-inside.ensures.bytes in
+    new_piece bytes piece (at + 0) m len (omega (arith, c.min.ensures, c.min-len.ensures))
+    (elim (cases_lt len 5) [
+      | inl less ↦ inl (omega (arith, less, c.min.ensures, c.min-len.ensures, c.self.invariant.room))
+      | inr more ↦ inr more
+    ])
+    (read ∙ ap (λ n. part_of bytes n len) (let z : at ≡ at + 0 = omega arith in z))

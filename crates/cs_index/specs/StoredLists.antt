@@ -1,0 +1,80 @@
+-- Posting lists that are read from a store by offset, in pieces.
+-- docs/FORMAT.md, "The index as it is read".
+use Rattle.std.specs.Prelude.{◌≡◌, ◌<◌, ◌≤◌, ◌^◌, ◌⊎◌, ℕ, ◌+◌, ◌-◌, Bool, true, List, [], ◌++◌, length, Option, Some, None, if◌then◌else◌, Vec}
+use Rattle.std.specs.declared.alloc.Global.{Global}
+use Rattle.cs_tree.specs.Store.{part_of}
+use Rattle.cs_index.specs.AscendingIds.{BeginsFrom, max_ids}
+use Rattle.cs_index.specs.PostingLists.{Ids, onto, read_ids}
+use Rattle.cs_index.specs.OpenedParts.{Parts}
+use Rattle.cs_index.specs.Opening.{entries_in, is_list_index}
+use Rattle.cs_index.specs.declared.reading.stored_list.ListSection.{ListSection}
+
+-- A list that is read in part: the offset of its next byte in the store, the end of the section, and the bytes that
+-- are read ahead. If it has ended, whether it is whole.
+pub record ListState : Type 0 where
+  pub piece : List ℕ
+  pub at : ℕ
+  pub stop : ℕ
+  pub left : ℕ
+  pub next : ℕ
+  pub name_count : ℕ
+  pub has_ended : Bool
+  pub is_whole : Bool
+
+-- the bytes from the next one to the end of the section
+abbrev pub bytes_left : List ℕ → ListState → List ℕ
+bytes_left bytes list = part_of bytes list.at (list.stop - list.at)
+
+-- the ids that are left of the list, in a store of these bytes
+abbrev pub ids_left : List ℕ → ListState → Ids
+ids_left bytes list = if list.has_ended then record { ids = []; whole = list.is_whole }
+    else read_ids list.name_count list.left list.next (bytes_left bytes list)
+
+-- the piece is the first of the bytes that are left
+abbrev pub Holds : List ℕ → ListState → Type 0
+Holds bytes list = (more : List ℕ) × (bytes_left bytes list ≡ list.piece ++ more)
+
+-- and it has a whole varint, or all of them
+abbrev pub IsReady : List ℕ → ListState → Type 0
+IsReady bytes list =
+    (more : List ℕ) × (bytes_left bytes list ≡ list.piece ++ more) × ((5 ≤ length list.piece) ⊎ (more ≡ []))
+
+-- the same list with another piece
+abbrev pub with_piece : ListState → List ℕ → ListState
+with_piece list piece = record {
+  piece = piece;
+  at = list.at;
+  stop = list.stop;
+  left = list.left;
+  next = list.next;
+  name_count = list.name_count;
+  has_ended = list.has_ended;
+  is_whole = list.is_whole;
+}
+
+-- The next id is less than `end` and is taken from the list, or there is none and the list has the same ids as before.
+abbrev pub GivesBelow : List ℕ → ℕ → ListState → ListState → Option ℕ → Type 0
+GivesBelow bytes end list rest (Some id) = Holds bytes rest × (ids_left bytes list ≡ onto id (ids_left bytes rest)) × (id < end)
+GivesBelow bytes end list rest None =
+    Holds bytes rest × (ids_left bytes rest ≡ ids_left bytes list) × BeginsFrom end (ids_left bytes list).ids
+
+-- The offsets, the ids and the piece of a list are within their bounds.
+pub record IsListState (piece : Vec ℕ Global) (used start stop size next name_count : ℕ) : Type 0 where
+  pub used_within : used ≤ length piece.items
+  pub within : start + length piece.items ≤ stop
+  pub short : stop < 2 ^ 63
+  pub room : 5 ≤ size
+  pub ids : next ≤ name_count
+  pub bound : name_count < max_ids
+
+-- The list index is valid for its section of posting lists.
+pub record IsSection (s : ListSection) : Type 0 where
+  pub entries : is_list_index s.room s.list_index.now ≡ true
+  pub short : s.start + s.room < 2 ^ 63
+  pub names : s.name_count < max_ids
+
+-- The parts have the lists of this section of the bytes.
+pub record HasLists (bytes : List ℕ) (s : ListSection) (parts : Parts) : Type 0 where
+  pub entries : parts.entries ≡ entries_in s.list_index.now
+  pub postings : parts.postings ≡ part_of bytes s.start s.room
+  pub names : length parts.names ≡ s.name_count

@@ -1,0 +1,235 @@
+// Posting lists of a store, decoded id by id from pieces of its bytes (Go: `postReader` in index/read.go).
+ghost use Rattle.std.specs.Prelude.{◌≡◌, ◌≤◌, ◌<◌, ◌^◌, ◌+◌, ℕ, Bool, true, List, [], Some, length, take, IfSome, IfNone, IfOk, OnOk, bytes_eq};
+ghost use Rattle.cs_tree.specs.Store.{part_of};
+ghost use Rattle.cs_tree.specs.FailureCount.{count_after};
+ghost use Rattle.cs_tree.specs.Transfers.{is_io_failure};
+ghost use Rattle.cs_index.specs.Encoding.{three_bytes};
+ghost use Rattle.cs_index.specs.Opening.{entry_at, number_at, trigram_at};
+ghost use Rattle.cs_index.specs.PostingLists.{Ids, read_list};
+ghost use Rattle.cs_index.specs.StoredLists.{GivesBelow, Holds, IsReady, IsSection, ids_left, with_piece};
+
+use crate::reading::bytes::{read_number, read_trigram};
+use crate::reading::postings::decode_varint;
+use cs_tree::{IoFault, Store, read_part};
+use std::alloc::Global;
+use std::marker::Model;
+
+const TRIGRAM_LEN: usize = 3;
+
+/// The most bytes of a varint.
+const VARINT_LEN: usize = 5;
+
+/// The list index, and where the section of posting lists stands in a store.
+#[derive(Drop)]
+pub(crate) struct ListSection<'a> {
+    pub(crate) list_index: &'a [u8],
+    pub(crate) start: usize,
+    pub(crate) room: usize,
+    pub(crate) name_count: u32,
+}
+
+/// A posting list of a store. Its ids are decoded from a piece of its bytes, and the next piece is read where fewer
+/// bytes are left than a varint may have. So each byte of a list is read once, except for up to four bytes of a piece.
+#[derive(Drop)]
+pub(crate) struct StoredList {
+    piece: Vec<u8>,
+    used: usize,
+    start: usize,
+    stop: usize,
+    size: usize,
+    left: u32,
+    next: u32,
+    name_count: u32,
+    has_ended: bool,
+    is_whole: bool,
+}
+
+impl Model for StoredList {
+    ghost use Rattle.std.specs.Prelude.{◌+◌, drop};
+    ghost use Rattle.cs_index.specs.StoredLists.{ListState, IsListState};
+
+    ghost Value = { ListState };
+
+    ghost view = { λ s. record {
+      piece = drop s.used s.piece.items;
+      at = s.start + s.used;
+      stop = s.stop;
+      left = s.left;
+      next = s.next;
+      name_count = s.name_count;
+      has_ended = s.has_ended;
+      is_whole = s.is_whole;
+    } };
+
+    ghost invariant = { λ s. IsListState s.piece s.used s.start s.stop s.size s.next s.name_count };
+}
+
+impl StoredList {
+    /// The posting list of the entry at an offset of the list index. Pieces have at most `size` bytes.
+    pub(crate) fn open<S: Store>(
+        alloc: Global,
+        store: &mut S,
+        section: &ListSection<'_>,
+        at: usize,
+        size: usize,
+    ) -> Result<StoredList, IoFault>
+        requires section { IsSection section.now }
+        requires entry { at + 11 ≤ length section.now.list_index.now }
+        requires fits { number_at section.now.list_index.now (at + 7) + 4 ≤ section.now.room }
+        requires longest { 8 ≤ size }
+        ensures holds { (bytes : List ℕ) → S.model store.old ≡ Some bytes → IfOk result (Holds bytes) }
+        ensures ids { (bytes : List ℕ) → S.model store.old ≡ Some bytes → IfOk result (λ list. ids_left bytes list
+            ≡ read_list (part_of bytes section.now.start section.now.room) section.now.name_count
+            (entry_at section.now.list_index.now at)) }
+        ensures keeps { S.model store.new ≡ S.model store.old }
+        ensures size { S.size store.new ≡ S.size store.old }
+        ensures failed { S.failed store.new ≡ count_after is_io_failure result (S.failed store.old) }
+    {
+        let count = read_number(section.list_index, at + 3);
+        let offset = read_number(section.list_index, at + 7) as usize;
+        let start = section.start + offset;
+        let most = TRIGRAM_LEN + VARINT_LEN * (count as usize + 1);
+        let len = (section.room - offset).min(size).min(most);
+        let piece = read_part(alloc, store, start, len)?;
+        if !is_list_of(&piece, section.list_index, at) {
+            return Ok(StoredList::ended(alloc, false));
+        }
+        Ok(StoredList {
+            piece,
+            used: TRIGRAM_LEN,
+            start,
+            stop: section.start + section.room,
+            size,
+            left: count,
+            next: 0,
+            name_count: section.name_count,
+            has_ended: false,
+            is_whole: false,
+        })
+    }
+
+    /// A list without ids, whole or damaged.
+    pub(crate) fn ended(alloc: Global, is_whole: bool) -> StoredList
+        ensures holds { (bytes : List ℕ) → Holds bytes result }
+        ensures ids { (bytes : List ℕ) → ids_left bytes result ≡ record { ids = []; whole = is_whole } }
+    {
+        StoredList {
+            piece: Vec::new(alloc),
+            used: 0,
+            start: 0,
+            stop: 0,
+            size: VARINT_LEN,
+            left: 0,
+            next: 0,
+            name_count: 0,
+            has_ended: true,
+            is_whole,
+        }
+    }
+
+    /// The next id, if it is less than `end`; without one, the list stays as it is.
+    pub(crate) fn next_below<S: Store>(
+        &mut self,
+        alloc: Global,
+        store: &mut S,
+        end: u32,
+    ) -> Result<Option<u32>, IoFault>
+        ensures gives { (bytes : List ℕ) → S.model store.old ≡ Some bytes → Holds bytes self.old →
+            IfOk result (GivesBelow bytes end self.old self.new) }
+        ensures below { IfOk result (λ found. IfSome found (λ id. id < end)) }
+        ensures left { IfOk result (λ found. IfSome found (λ _. self.new.left < self.old.left)) }
+        ensures ended { IfOk result (λ found. IfNone found (self.old.name_count ≤ end → self.new.has_ended ≡ true)) }
+        ensures names { self.new.name_count ≡ self.old.name_count }
+        ensures keeps { S.model store.new ≡ S.model store.old }
+        ensures size { S.size store.new ≡ S.size store.old }
+        ensures failed { S.failed store.new ≡ count_after is_io_failure result (S.failed store.old) }
+    {
+        if self.has_ended {
+            return Ok(None);
+        }
+        self.fill(alloc, store)?;
+        Ok(self.take_below(end))
+    }
+
+    /// Reads the list to its end. Returns whether it is whole.
+    pub(crate) fn finish<S: Store>(&mut self, alloc: Global, store: &mut S) -> Result<bool, IoFault>
+        ensures whole { (bytes : List ℕ) → S.model store.old ≡ Some bytes → Holds bytes self.old →
+            IfOk result (λ whole. whole ≡ (ids_left bytes self.old).whole) }
+        ensures keeps { S.model store.new ≡ S.model store.old }
+        ensures size { S.size store.new ≡ S.size store.old }
+        ensures failed { S.failed store.new ≡ count_after is_io_failure result (S.failed store.old) }
+    {
+        let end = self.name_count;
+        'ids: while let Some(_id) = self.next_below(alloc, store, end)? {}
+        Ok(self.is_whole)
+    }
+
+    /// Reads the next piece if the one that is there may end inside a varint.
+    fn fill<S: Store>(&mut self, alloc: Global, store: &mut S) -> Result<(), IoFault>
+        ensures ready { (bytes : List ℕ) → S.model store.old ≡ Some bytes → Holds bytes self.old →
+            OnOk result (IsReady bytes self.new) }
+        ensures same { self.new ≡ with_piece self.old self.new.piece }
+        ensures keeps { S.model store.new ≡ S.model store.old }
+        ensures size { S.size store.new ≡ S.size store.old }
+        ensures failed { S.failed store.new ≡ count_after is_io_failure result (S.failed store.old) }
+    {
+        let at = self.start + self.used;
+        let len = self.piece.len();
+        if len - self.used >= VARINT_LEN || self.start + len == self.stop {
+            return Ok(());
+        }
+        let most = VARINT_LEN * (self.left as usize + 1);
+        let len = (self.stop - at).min(self.size).min(most);
+        self.piece = read_part(alloc, store, at, len)?;
+        self.start = at;
+        self.used = 0;
+        Ok(())
+    }
+
+    /// The next id of the piece, if it is less than `end`; without one, the list stays as it is, or ends.
+    fn take_below(&mut self, end: u32) -> Option<u32>
+        ensures gives { (bytes : List ℕ) → IsReady bytes self.old → GivesBelow bytes end self.old self.new result }
+        ensures below { IfSome result (λ id. id < end) }
+        ensures left { IfSome result (λ _. self.new.left < self.old.left) }
+        ensures ended { IfNone result (self.old.name_count ≤ end → self.new.has_ended ≡ true) }
+        ensures names { self.new.name_count ≡ self.old.name_count }
+    {
+        if self.has_ended {
+            return None;
+        }
+        let Some((delta, len)) = decode_varint(&self.piece[self.used..]) else {
+            self.has_ended = true;
+            self.is_whole = false;
+            return None;
+        };
+        if self.left == 0 {
+            self.has_ended = true;
+            self.is_whole = delta == 0;
+            return None;
+        }
+        if delta == 0 || delta > self.name_count - self.next {
+            self.has_ended = true;
+            self.is_whole = false;
+            return None;
+        }
+        if self.next + delta > end {
+            return None;
+        }
+        self.used += len;
+        self.left -= 1;
+        self.next += delta;
+        Some(self.next - 1)
+    }
+}
+
+/// Whether a piece begins with the trigram of the entry at an offset of the list index.
+fn is_list_of(piece: &[u8], list_index: &[u8], at: usize) -> bool
+    requires { at + TRIGRAM_LEN ≤ length list_index.now }
+    ensures named { result ≡ bytes_eq (take TRIGRAM_LEN piece.now) (three_bytes (trigram_at list_index.now at)) }
+    ensures long { result ≡ true → TRIGRAM_LEN ≤ length piece.now }
+{
+    if piece.len() < TRIGRAM_LEN {
+        return false;
+    }
+    read_trigram(piece, 0) == read_trigram(list_index, at)
+}

@@ -1,0 +1,51 @@
+-- The shapes of parts: the equations of `shape_of`, one for each variant, and the shapes of lists of parts.
+use Rattle.std.proofs.Common.{◌≡◌, ℕ, suc, ◌+◌, ◌<◌, List, [], ◌∷◌, ◌++◌, Vec, Box, Global, drop, length, get_or, refl, sym, ap, ◌∙◌, arith, drop-cons}
+use Rattle.std.specs.Prelude.{None}
+use Rattle.cs_syntax.specs.Matching.{cat, alt, rep, line_start, line_end, word_edge, not_word_edge, none, more}
+use Rattle.cs_syntax.specs.TreeList.{append}
+use Rattle.cs_match.specs.Parts.{run, shape_of, shape_step, shapes_of}
+use Rattle.cs_match.specs.declared.parts.Part.{Part, Part-F, fold-roll-Part}
+use Rattle.cs_match.specs.declared.parts.Part.TheVariants.{Run, Cat, Alt, Rep, LineStart, LineEnd, WordEdge, NotWordEdge, rolls-Run, rolls-Cat, rolls-Alt, rolls-Rep, rolls-LineStart, rolls-LineEnd, rolls-WordEdge, rolls-NotWordEdge}
+use Rattle.cs_syntax.specs.Matching.{Tree}
+
+pub shape_of-Run : (n : ℕ) → shape_of (Run n) ≡ run n
+shape_of-Run n = ap shape_of (sym (rolls-Run n)) ∙ fold-roll-Part Tree shape_step (Part-F.Run n)
+
+pub shape_of-Cat : (parts : Vec Part Global) → shape_of (Cat parts) ≡ cat (shapes_of parts.items)
+shape_of-Cat parts = ap shape_of (sym (rolls-Cat parts)) ∙ fold-roll-Part Tree shape_step (Part-F.Cat parts)
+
+pub shape_of-Alt : (parts : Vec Part Global) → shape_of (Alt parts) ≡ alt (shapes_of parts.items)
+shape_of-Alt parts = ap shape_of (sym (rolls-Alt parts)) ∙ fold-roll-Part Tree shape_step (Part-F.Alt parts)
+
+pub shape_of-Rep : (x : Box Part Global) (n : ℕ) → shape_of (Rep x n) ≡ rep (shape_of x.value) n None
+shape_of-Rep x n = ap shape_of (sym (rolls-Rep x n)) ∙ fold-roll-Part Tree shape_step (Part-F.Rep x n)
+
+pub shape_of-LineStart : shape_of LineStart ≡ line_start
+shape_of-LineStart = ap shape_of (sym rolls-LineStart) ∙ fold-roll-Part Tree shape_step Part-F.LineStart
+
+pub shape_of-LineEnd : shape_of LineEnd ≡ line_end
+shape_of-LineEnd = ap shape_of (sym rolls-LineEnd) ∙ fold-roll-Part Tree shape_step Part-F.LineEnd
+
+pub shape_of-WordEdge : shape_of WordEdge ≡ word_edge
+shape_of-WordEdge = ap shape_of (sym rolls-WordEdge) ∙ fold-roll-Part Tree shape_step Part-F.WordEdge
+
+pub shape_of-NotWordEdge : shape_of NotWordEdge ≡ not_word_edge
+shape_of-NotWordEdge = ap shape_of (sym rolls-NotWordEdge) ∙ fold-roll-Part Tree shape_step Part-F.NotWordEdge
+
+-- the shapes from an index on
+pub shapes_from : (parts : List Part) (i : ℕ) (part : Part) → i < length parts → part ≡ get_or parts i part →
+    shapes_of (drop i parts) ≡ more (shape_of part) (shapes_of (drop (i + 1) parts))
+shapes_from parts i part lt is =
+    let next : suc i ≡ i + 1 = omega arith in
+    ap shapes_of (drop-cons parts i part lt ∙ ap (λ x. x ∷ drop (suc i) parts) (sym is) ∙ ap (λ n. part ∷ drop n parts) next)
+
+-- a part is pushed
+pub shapes_last : (xs : List Part) (x : Part) → shapes_of (xs ++ x ∷ []) ≡ append (shapes_of xs) (more (shape_of x) none)
+shapes_last [] x = refl
+shapes_last (y ∷ xs) x = ap (more (shape_of y)) (shapes_last xs x)
+
+pub ruleset part_rules = (shape_of-Run, shape_of-Cat, shape_of-Alt, shape_of-Rep, shape_of-LineStart, shape_of-LineEnd, shape_of-WordEdge, shape_of-NotWordEdge)
+
+pub shapes_none : (xs : List Part) → length xs ≡ 0 → shapes_of xs ≡ none
+shapes_none [] h = refl
+shapes_none (x ∷ xs) h = absurd (omega (arith, h))

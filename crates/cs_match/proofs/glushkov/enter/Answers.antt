@@ -1,0 +1,33 @@
+use Rattle.std.proofs.Common.{◌≡◌, ◌+◌, ◌≤◌, ◌∙◌, take, drop, length, true, sym, ap, arith}
+use Rattle.std.proofs.lemmas.List.{take_at}
+use Rattle.cs_match.specs.Glushkov.{position_count}
+use Rattle.cs_match.specs.Entered.{entered}
+use Rattle.cs_match.specs.Parts.{shape_of}
+use Rattle.cs_match.proofs.EnteredLemmas.{length-entered}
+use Rattle.cs_match.proofs.TraversalLemmas.{mid_long}
+use Rattle.cs_match.proofs.glushkov.enter.Goals as goal
+
+pub returns-clause-entries : goal.returns-clause-entries
+returns-clause-entries c =
+    let t = c.args.program.now in
+    let s = shape_of c.part-part.result.now in
+    let ms = c.args.positions.now in
+    let same = c.part-part.ensures in
+    ap (take (position_count t)) c.advance.ensures.entries
+    ∙ take_at (entered s true ms c.args.here) (drop (0 + position_count s) c.shift_from.new.self) (position_count t) (length-entered s true ms c.args.here ∙ sym same.positions)
+    ∙ sym (same.entered true ms c.args.here)
+
+pub returns-clause-scratch : goal.returns-clause-scratch
+returns-clause-scratch c =
+    let s = shape_of c.part-part.result.now in
+    let ms = c.args.positions.now in
+    let old = c.shift_from.new.self in
+    let same = c.part-part.ensures in
+    let size : length old ≡ length ms + 1 = omega (arith, ap length c.shift_from.ensures) in
+    let room : 0 + position_count s ≤ length old = omega (arith, size, c.requires.one_each, same.positions) in
+    record {
+      loops = c.requires.scratch.loops;
+      entries = mid_long 0 (position_count s) old c.advance.new.entries (entered s true ms c.args.here) (length-entered s true ms c.args.here) room c.advance.ensures.entries
+          ∙ omega (arith, size, c.requires.one_each);
+      masks = c.requires.scratch.masks;
+    }

@@ -1,0 +1,5 @@
+use Rattle.std.proofs.Common.{refl}
+use Rattle.cs_match.proofs.matcher.Matcher.resume.Goals as goal
+
+pub invariant_of-result : goal.invariant_of-result
+invariant_of-result c = (c.requires.cache c.args.program refl, c.prefilter.ensures)

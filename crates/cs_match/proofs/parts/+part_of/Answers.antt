@@ -1,0 +1,74 @@
+use Rattle.std.proofs.Common.{◌≡◌, ◌+◌, ◌≤◌, List, drop, length, ◌∙◌, sym, ap, subst, arith, drop_of_length-le}
+use Rattle.std.proofs.lemmas.Grind.{common_steps}
+use Rattle.cs_syntax.specs.Matching.{Tree, Trees, cat, alt, more, none}
+use Rattle.cs_syntax.specs.TreeList.{append}
+use Rattle.cs_syntax.specs.Node.{tree_of}
+use Rattle.cs_syntax.specs.NodeList.{trees_of}
+use Rattle.cs_syntax.specs.declared.node.Node.{Node}
+use Rattle.cs_syntax.proofs.TreeLemmas.{trees_from}
+use Rattle.cs_syntax.proofs.TreeListLemmas.{append_assoc_trees, append_none}
+use Rattle.cs_match.specs.Glushkov.{position_count_of}
+use Rattle.cs_match.specs.Parts.{run, shape_of, shapes_of, HaveSameShape}
+use Rattle.cs_match.proofs.PartLemmas.{shape_of-Run, shape_of-Cat, shape_of-Alt, shapes_last, shapes_none}
+use Rattle.cs_match.proofs.ShapeLemmas.{shape_trans, cat_first, cat_rest, alt_more, before_same, only_run, position_count_append, position_count_run}
+use Rattle.cs_match.proofs.parts.+part_of.Goals as goal
+
+pub alternation_of-loop-node-preserved : goal.alternation_of-loop-node-preserved
+alternation_of-loop-node-preserved t c =
+    let next = trees_from c.args.nodes.now c.loop-node.node-index c.node-item.result c.loop-node-test.true c.node-item.is in
+    let t = tree_of c.node-item.result in
+    let ts = trees_of (drop (c.loop-node.node-index + 1) c.args.nodes.now) in
+    let s = shape_of c.in_ok-part.part in
+    let ss = shapes_of c.loop-node.parts.items in
+    let all = trees_of c.args.nodes.now in
+    let pushed : append (shapes_of c.push.new.self.items) ts ≡ append ss (more s ts) =
+    ap (λ us. append us ts) (ap shapes_of c.in_ok-push.ensures.items ∙ shapes_last c.loop-node.parts.items c.in_ok-part.part) ∙ append_assoc_trees ss (more s none) ts in
+    let same : HaveSameShape (alt all) (alt (append (shapes_of c.push.new.self.items) ts)) =
+    subst (λ (us : Trees). HaveSameShape (alt all) (alt us)) (sym pushed) (shape_trans _ _ _ (rw next at c.loop-node.invariant.same) (alt_more ss t s ts c.in_ok-part.ensures)) in
+    record {
+      same = same;
+      total = sym (position_count_append (shapes_of c.push.new.self.items) ts) ∙ sym same.positions;
+    }
+
+pub alternation_of-returns : goal.alternation_of-returns
+alternation_of-returns t c =
+    let ss = shapes_of c.loop-node.parts.items in
+    let none_left : alt (append ss (trees_of (drop c.loop-node.node-index c.args.nodes.now))) ≡ alt ss =
+    ap (λ (ns : List Node). alt (append ss (trees_of ns))) (drop_of_length-le c.args.nodes.now {i = c.loop-node.node-index} (omega arith)) ∙ ap alt (append_none ss) in
+    subst (λ (u : Tree). HaveSameShape (alt (trees_of c.args.nodes.now)) u) (none_left ∙ sym (shape_of-Alt c.loop-node.parts)) c.loop-node.invariant.same
+
+pub sequence_of-loop-node-preserved : goal.sequence_of-loop-node-preserved
+sequence_of-loop-node-preserved t c =
+    let next = trees_from c.args.nodes.now c.loop-node.node-index c.node-item.result c.loop-node-test.true c.node-item.is in
+    let t = tree_of c.node-item.result in
+    let ts = trees_of (drop (c.loop-node.node-index + 1) c.args.nodes.now) in
+    let s = shape_of c.in_ok-part.part in
+    let ss = shapes_of c.loop-node.parts.items in
+    let us = shapes_of c.add_part.new.parts.items in
+    let n = c.in_ok-positions.positions in
+    let same : HaveSameShape (cat (trees_of c.args.nodes.now)) (cat (append us (more (run n) ts))) =
+    shape_trans _ _ _ (rw next at c.loop-node.invariant.same)
+    (shape_trans _ _ _ (before_same ss _ _ (cat_rest (run c.loop-node.positions) _ _ (cat_first t s ts c.in_ok-part.ensures))) (c.in_ok-positions.ensures ts)) in
+    record {
+      same = same;
+      total = omega (arith, same.positions, position_count_append us (more (run n) ts), position_count_run n);
+    }
+
+pub sequence_of-returns-then-is_empty : goal.sequence_of-returns-then-is_empty
+sequence_of-returns-then-is_empty t c =
+    let n = c.loop-node.positions in
+    let empty : length c.loop-node.parts.items ≡ 0 = grind (arith, common_steps) in
+    let alone : cat (append (shapes_of c.loop-node.parts.items) (more (run n) (trees_of (drop c.loop-node.node-index c.args.nodes.now)))) ≡ cat (more (run n) none) =
+    ap (λ (ns : List Node). cat (append (shapes_of c.loop-node.parts.items) (more (run n) (trees_of ns)))) (drop_of_length-le c.args.nodes.now {i = c.loop-node.node-index} (omega arith))
+    ∙ ap (λ us. cat (append us (more (run n) none))) (shapes_none c.loop-node.parts.items empty) in
+    subst (λ (u : Tree). HaveSameShape (cat (trees_of c.args.nodes.now)) u) (sym (shape_of-Run n))
+    (shape_trans _ _ _ (subst (λ (u : Tree). HaveSameShape (cat (trees_of c.args.nodes.now)) u) alone c.loop-node.invariant.same) (only_run n))
+
+pub sequence_of-returns : goal.sequence_of-returns
+sequence_of-returns t c =
+    let ss = shapes_of c.loop-node.parts.items in
+    let n = c.loop-node.positions in
+    let none_left : cat (append ss (more (run n) (trees_of (drop c.loop-node.node-index c.args.nodes.now)))) ≡ cat (append ss (more (run n) none)) =
+    ap (λ (ns : List Node). cat (append ss (more (run n) (trees_of ns)))) (drop_of_length-le c.args.nodes.now {i = c.loop-node.node-index} (omega arith)) in
+    subst (λ (u : Tree). HaveSameShape (cat (trees_of c.args.nodes.now)) u) (sym (shape_of-Cat c.add_run.new.parts))
+    (shape_trans _ _ _ (subst (λ (u : Tree). HaveSameShape (cat (trees_of c.args.nodes.now)) u) none_left c.loop-node.invariant.same) c.in_ok-add_run.ensures)

@@ -1,0 +1,35 @@
+-- The masks of a program, one for each input that was seen.
+use Rattle.std.specs.Prelude.{ℕ, ◌≡◌, ◌+◌, ◌<◌, true, List, length, map, vec_len, slice_index_or}
+use Rattle.cs_syntax.specs.Matching.{Tree}
+use Rattle.cs_match.specs.declared.input.Input.{Input}
+use Rattle.cs_match.specs.declared.position.Position.{Position}
+use Rattle.cs_match.specs.declared.masks.Mask.{Mask}
+use Rattle.cs_match.specs.declared.masks.Masks.{Masks}
+use Rattle.cs_match.specs.declared.glushkov.Scratch.{Scratch}
+use Rattle.cs_match.specs.Glushkov.{position_count, repeats}
+use Rattle.cs_match.specs.Entered.{position_list, if_entered, if_previous, if_kept}
+
+-- the mask has a bit for each of so many positions
+pub record HasRoom (count : ℕ) (mask : Mask) : Type 0 where
+  pub entered : length mask.entered ≡ count
+  pub previous : length mask.previous ≡ count
+  pub kept : length mask.kept ≡ count
+
+-- the mask says what each position does over its input
+pub record IsMask (ps : List Position) (mask : Mask) : Type 0 where
+  pub entered : mask.entered ≡ map (if_entered mask.input) ps
+  pub previous : mask.previous ≡ map (if_previous mask.input) ps
+  pub kept : mask.kept ≡ map (if_kept mask.input) ps
+
+-- each mask that is known is that of its input
+pub record AreMasks (ps : List Position) (masks : Masks) : Type 0 where
+  pub all : length masks.slots.items ≡ 320
+  pub room : (k : ℕ) (other : Mask) → k < 320 → HasRoom (length ps) (slice_index_or masks.slots.items k other)
+  pub known : (k : ℕ) (other : Mask) → k < 320 → (slice_index_or masks.slots.items k other).is_known ≡ true →
+      IsMask ps (slice_index_or masks.slots.items k other)
+
+-- the memory of the steps of a tree
+pub record IsScratch (t : Tree) (scratch : Scratch) : Type 0 where
+  pub loops : vec_len scratch.loops ≡ repeats t
+  pub entries : length scratch.entries ≡ position_count t + 1
+  pub masks : AreMasks (position_list t) scratch.masks

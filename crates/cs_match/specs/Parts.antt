@@ -1,0 +1,41 @@
+-- The parts of a program: its tree without the sets. A run of positions is one part.
+use Rattle.std.specs.Prelude.{ℕ, ◌≡◌, Bool, List, [], map, None}
+use Rattle.cs_syntax.specs.Matching.{Tree, Trees, one_of, cat, alt, rep, line_start, line_end, word_edge, not_word_edge, none}
+use Rattle.cs_syntax.specs.Node.{trees}
+use Rattle.cs_match.specs.declared.look_around.LookAround.{LookAround}
+use Rattle.cs_match.specs.declared.parts.Part.{Part}
+use Rattle.cs_match.specs.declared.parts.Part.TheOpen.{Part-F}
+use Rattle.cs_match.specs.declared.parts.Part.TheFolds.{fold-Part}
+use Rattle.cs_match.specs.Glushkov.{position_count, repeats, nullable, is_final, loop_ends}
+use Rattle.cs_match.specs.Expansion.{copies}
+use Rattle.cs_match.specs.Entered.{entered}
+
+-- a sequence of n sets of bytes; where positions are entered it does not matter which sets they are
+abbrev pub run : ℕ → Tree
+run n = cat (copies n (one_of []) none)
+
+-- the shape of a part: a tree with such sets
+abbrev pub shape_step : Part-F Tree → Tree
+shape_step (Part-F.Run n) = run n
+shape_step (Part-F.Cat parts) = cat (trees parts.items)
+shape_step (Part-F.Alt parts) = alt (trees parts.items)
+shape_step (Part-F.Rep x n) = rep x.value n None
+shape_step Part-F.LineStart = line_start
+shape_step Part-F.LineEnd = line_end
+shape_step Part-F.WordEdge = word_edge
+shape_step Part-F.NotWordEdge = not_word_edge
+
+abbrev pub shape_of : Part → Tree
+shape_of = fold-Part Tree shape_step
+
+abbrev pub shapes_of : List Part → Trees
+shapes_of ps = trees (map shape_of ps)
+
+-- trees whose position sets enter and end alike, whatever their sets are
+pub record HaveSameShape (t s : Tree) : Type 0 where
+  pub positions : position_count t ≡ position_count s
+  pub repeats : repeats t ≡ repeats s
+  pub nullable : (a : LookAround) → nullable t a ≡ nullable s a
+  pub final : (ms : List Bool) (a : LookAround) → is_final t ms a ≡ is_final s ms a
+  pub ends : (ms : List Bool) (a : LookAround) → loop_ends t ms a ≡ loop_ends s ms a
+  pub entered : (enter : Bool) (ms : List Bool) (a : LookAround) → entered t enter ms a ≡ entered s enter ms a

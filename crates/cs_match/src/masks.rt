@@ -1,0 +1,116 @@
+// Masks: what each position does over an input, one bit each. They are computed when an input is seen first.
+ghost use Rattle.std.specs.Prelude.{◌≡◌, ◌<◌, IfOk, length, true, false, slice_index_or};
+ghost use Rattle.cs_match.specs.Masks.{IsMask, HasRoom, AreMasks};
+
+use crate::input::Input;
+use crate::position::Position;
+use crate::position_set::PositionSet;
+use cs_syntax::CharStep;
+use std::alloc::{AllocError, Global};
+
+/// The number of masks: one for each byte, and 64 for the last bytes of characters.
+const MOST: usize = 320;
+
+/// What each position does over an input.
+#[derive(Drop)]
+pub(crate) struct Mask {
+    pub(crate) input: Input,
+    /// The mask of the input is computed.
+    pub(crate) is_known: bool,
+    /// The positions that are in the set after the input if they were entered.
+    pub(crate) entered: PositionSet,
+    /// The positions that are in it if the one before was entered.
+    pub(crate) previous: PositionSet,
+    /// The positions that are in it if they were in it before.
+    pub(crate) kept: PositionSet,
+}
+
+impl Mask {
+    /// A mask for this many positions, of no input.
+    fn none(alloc: Global, position_count: usize) -> Result<Mask, AllocError>
+        ensures room { IfOk result (HasRoom position_count) }
+        ensures none { IfOk result (λ mask. mask.is_known ≡ false) }
+    {
+        let input = Input {
+            byte: 0,
+            char: CharStep::Nothing,
+        };
+        Ok(Mask {
+            input,
+            is_known: false,
+            entered: PositionSet::none(alloc, position_count)?,
+            previous: PositionSet::none(alloc, position_count)?,
+            kept: PositionSet::none(alloc, position_count)?,
+        })
+    }
+
+    /// Whether this is the mask of the input.
+    fn is_of(&self, input: Input) -> bool
+        ensures known { result ≡ true → self.now.is_known ≡ true }
+        ensures same { result ≡ true → self.now.input ≡ input }
+    {
+        self.is_known && self.input.byte == input.byte && self.input.char == input.char
+    }
+
+    /// Computes the mask of the input.
+    fn fill(&mut self, positions: &[Position], input: Input)
+        requires { HasRoom (length positions.now) self.old }
+        ensures room { HasRoom (length positions.now) self.new }
+        ensures mask { IsMask positions.now self.new }
+        ensures input { self.new.input ≡ input }
+    {
+        self.input = input;
+        self.is_known = true;
+        for (index, position) in positions.iter().enumerate() {
+            self.entered.put(index, position.if_entered(input));
+            self.previous.put(index, position.if_previous(input));
+            self.kept.put(index, position.if_kept(input));
+        }
+    }
+}
+
+/// The masks of the inputs that were seen last.
+#[derive(Drop)]
+pub(crate) struct Masks {
+    pub(crate) slots: Vec<Mask>,
+}
+
+impl Masks {
+    /// Memory for the masks of these positions. None is computed.
+    pub(crate) fn new(alloc: Global, positions: &[Position]) -> Result<Masks, AllocError>
+        ensures { IfOk result (AreMasks positions.now) }
+    {
+        let mut slots = Vec::with_capacity(alloc, MOST)?;
+        for slot in 0..MOST {
+            let mask = Mask::none(alloc, positions.len())?;
+            slots.push(mask)?;
+        }
+        Ok(Masks { slots })
+    }
+
+    /// The index of the mask of an input, computed first if it is not there.
+    pub(crate) fn find(&mut self, positions: &[Position], input: Input) -> usize
+        requires { AreMasks positions.now self.old }
+        ensures masks { AreMasks positions.now self.new }
+        ensures within { result < 320 }
+        ensures mask { (other : Mask) → IsMask positions.now (slice_index_or self.new.slots.items result other) }
+        ensures input { (other : Mask) → (slice_index_or self.new.slots.items result other).input ≡ input }
+    {
+        let slot = slot_of(input);
+        if !self.slots[slot].is_of(input) {
+            self.slots[slot].fill(positions, input);
+        }
+        slot
+    }
+}
+
+/// Where the mask of an input is kept.
+fn slot_of(input: Input) -> usize
+    ensures { result < 320 }
+{
+    let byte = input.byte as usize;
+    match input.char {
+        CharStep::Completes(low) => 256 + (low as usize ^ byte) % 64,
+        _ => byte,
+    }
+}

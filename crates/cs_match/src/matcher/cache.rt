@@ -1,0 +1,93 @@
+// What a matcher has cached, kept apart from its program (as `Cache` of Rust's regex-automata), so that who owns the
+// program can own the cache too.
+ghost use Rattle.std.specs.Prelude.{◌≡◌, IfOk};
+ghost use Rattle.cs_match.specs.Cached.{IsCacheOf};
+
+use super::Matcher;
+use crate::dfa::LazyDfa;
+use crate::glushkov::Scratch;
+use crate::pacing::Pacing;
+use crate::program::Program;
+use crate::state::State;
+use std::alloc::{AllocError, Global};
+
+/// The cached states of a matcher, and its counters.
+#[derive(Drop)]
+pub struct Cache {
+    pub(crate) transitions: Vec<u16>,
+    pub(crate) cached: Vec<State>,
+    pub(crate) hashes: [u32; 256],
+    pub(crate) used: usize,
+    pub(crate) scratch: State,
+    pub(crate) memory: Scratch,
+    pacing: Pacing,
+}
+
+impl Cache {
+    /// The cache of a new matcher of the program.
+    pub fn new(alloc: Global, program: &Program) -> Result<Cache, AllocError>
+        ensures { IfOk result (λ cache. IsCacheOf program.now cache) }
+    {
+        Ok(Matcher::new(alloc, program)?.into_cache())
+    }
+}
+
+impl<'a> Matcher<'a> {
+    /// A matcher that goes on with the cache of an earlier matcher of this program. It allocates nothing.
+    pub fn resume(program: &'a Program, cache: Cache) -> Matcher<'a>
+        requires cache { IsCacheOf program.now cache }
+        ensures tree { result.tree ≡ program.now }
+    {
+        let Cache {
+            transitions,
+            cached,
+            hashes,
+            used,
+            scratch,
+            memory,
+            pacing,
+        } = cache;
+        Matcher {
+            dfa: LazyDfa {
+                program,
+                transitions,
+                cached,
+                hashes,
+                used,
+                scratch,
+                memory,
+            },
+            prefilter: program.prefilter(),
+            pacing,
+        }
+    }
+
+    /// The cache, for a later matcher of the same program.
+    pub fn into_cache(self) -> Cache
+        ensures { IsCacheOf self.entry.tree result }
+    {
+        let Matcher {
+            dfa,
+            prefilter: _,
+            pacing,
+        } = self;
+        let LazyDfa {
+            program: _,
+            transitions,
+            cached,
+            hashes,
+            used,
+            scratch,
+            memory,
+        } = dfa;
+        Cache {
+            transitions,
+            cached,
+            hashes,
+            used,
+            scratch,
+            memory,
+            pacing,
+        }
+    }
+}

@@ -1,0 +1,113 @@
+// The parts of a program: its tree without the sets. A run of positions is one part, so that a traversal visits it
+// once.
+ghost use Rattle.std.specs.Prelude.{◌≡◌, ◌+◌, ◌<◌, ◌^◌, IfOk, OnOk};
+ghost use Rattle.cs_syntax.specs.Matching.{Trees, cat, alt, more, none};
+ghost use Rattle.cs_syntax.specs.TreeList.{append};
+ghost use Rattle.cs_syntax.specs.Node.{tree_of};
+ghost use Rattle.cs_syntax.specs.NodeList.{trees_of};
+ghost use Rattle.cs_match.specs.Glushkov.{position_count, position_count_of};
+ghost use Rattle.cs_match.specs.Parts.{run, shape_of, shapes_of, HaveSameShape};
+
+use cs_syntax::Node;
+use std::alloc::{AllocError, Global};
+
+/// A part of a program.
+#[derive(Drop)]
+pub(crate) enum Part {
+    /// A sequence of sets, by the number of its positions.
+    Run(usize),
+    /// A concatenation.
+    Cat(Vec<Part>),
+    /// An alternation.
+    Alt(Vec<Part>),
+    /// A loop of at least so many iterations.
+    Rep(Box<Part>, u32),
+    LineStart,
+    LineEnd,
+    WordEdge,
+    NotWordEdge,
+}
+
+/// The parts of an expanded tree.
+#[cycle(part_of)]
+pub(crate) fn part_of(alloc: Global, node: &Node) -> Result<Part, AllocError>
+    requires { position_count (tree_of node.now) < 2 ^ 64 }
+    ensures { IfOk result (λ part. HaveSameShape (tree_of node.now) (shape_of part)) }
+{
+    match node {
+        Node::Empty => Ok(Part::Run(0)),
+        Node::Set(_) => Ok(Part::Run(1)),
+        Node::Chars(_) => Ok(Part::Run(2)),
+        Node::Cat(parts) => sequence_of(alloc, parts),
+        Node::Alt(parts) => alternation_of(alloc, parts),
+        Node::Rep(x, least, _) => {
+            let part = part_of(alloc, x)?;
+            Ok(Part::Rep(Box::new(alloc, part)?, *least))
+        }
+        Node::LineStart => Ok(Part::LineStart),
+        Node::LineEnd => Ok(Part::LineEnd),
+        Node::WordEdge => Ok(Part::WordEdge),
+        Node::NotWordEdge => Ok(Part::NotWordEdge),
+    }
+}
+
+/// The parts of a concatenation. If all are runs, it is a run itself.
+#[cycle(part_of)]
+fn sequence_of(alloc: Global, nodes: &[Node]) -> Result<Part, AllocError>
+    requires { position_count_of (trees_of nodes.now) < 2 ^ 64 }
+    ensures { IfOk result (λ part. HaveSameShape (cat (trees_of nodes.now)) (shape_of part)) }
+{
+    let mut parts = Vec::new(alloc);
+    let mut positions = 0;
+    for node in nodes {
+        let part = part_of(alloc, node)?;
+        positions = add_part(&mut parts, positions, part)?;
+    }
+    if parts.is_empty() {
+        return Ok(Part::Run(positions));
+    }
+    add_run(&mut parts, positions)?;
+    Ok(Part::Cat(parts))
+}
+
+/// Adds a part after a run of so many positions, and returns those of the run that the part ends with. It is not added
+/// yet.
+fn add_part(parts: &mut Vec<Part>, positions: usize, part: Part) -> Result<usize, AllocError>
+    requires { positions + position_count (shape_of part) < 2 ^ 64 }
+    ensures { IfOk result (λ more_positions. (ts : Trees) →
+        HaveSameShape (cat (append (shapes_of parts.old.items) (more (run positions) (more (shape_of part) ts))))
+        (cat (append (shapes_of parts.new.items) (more (run more_positions) ts)))) }
+{
+    match part {
+        Part::Run(more) => Ok(positions + more),
+        _ => {
+            add_run(parts, positions)?;
+            parts.push(part)?;
+            Ok(0)
+        }
+    }
+}
+
+/// Adds a run, unless it has no positions.
+fn add_run(parts: &mut Vec<Part>, positions: usize) -> Result<(), AllocError>
+    ensures { OnOk result (HaveSameShape (cat (append (shapes_of parts.old.items) (more (run positions) none)))
+        (cat (shapes_of parts.new.items))) }
+{
+    if positions > 0 {
+        parts.push(Part::Run(positions))?;
+    }
+    Ok(())
+}
+
+#[cycle(part_of)]
+fn alternation_of(alloc: Global, nodes: &[Node]) -> Result<Part, AllocError>
+    requires { position_count_of (trees_of nodes.now) < 2 ^ 64 }
+    ensures { IfOk result (λ part. HaveSameShape (alt (trees_of nodes.now)) (shape_of part)) }
+{
+    let mut parts = Vec::new(alloc);
+    for node in nodes {
+        let part = part_of(alloc, node)?;
+        parts.push(part)?;
+    }
+    Ok(Part::Alt(parts))
+}

@@ -1,0 +1,15 @@
+-- What an update makes of the index file.
+use Rattle.std.specs.Prelude.{ℕ, List, Option, Some, None}
+use Rattle.cs_storage.specs.declared.update.IndexUpdate.{IndexUpdate}
+use Rattle.cs_storage.specs.declared.update.IndexUpdate.TheVariants.{Keep, Write, Remove}
+
+-- the bytes of the file after an update
+abbrev pub file_after : IndexUpdate → Option (List ℕ) → Option (List ℕ)
+file_after Keep file = file
+file_after (Write bytes) file = Some bytes.items
+file_after Remove file = None
+
+-- an update that changes the file
+abbrev pub IsChange : IndexUpdate → Type 0
+IsChange Keep = ⊥
+IsChange _ = Unit {0}

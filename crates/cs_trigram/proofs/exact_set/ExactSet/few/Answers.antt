@@ -1,5 +1,0 @@
-use Rattle.cs_trigram.proofs.ExactSetLemmas.{exact_set_not_few}
-use Rattle.cs_trigram.proofs.exact_set.ExactSet.few.Goals as goal
-
-pub returns-in_default : goal.returns-in_default
-returns-in_default c = λ t counts. exact_set_not_few c.args.self.now t counts c.in_default.not-Few

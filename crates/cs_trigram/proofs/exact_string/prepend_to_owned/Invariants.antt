@@ -1,5 +1,0 @@
-use Rattle.std.proofs.Common.{◌≡◌, ◌++◌, map}
-use Rattle.cs_trigram.proofs.exact_string.prepend_to_owned.Given as goal
-
-abbrev pub invariant-loop-suffix : goal.invariant-loop-suffix
-invariant-loop-suffix l = l.strings.items ≡ map (λ v. l.prefix ++ v) l.yielded

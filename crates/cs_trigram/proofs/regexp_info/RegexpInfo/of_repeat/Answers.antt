@@ -1,0 +1,17 @@
+use Rattle.std.proofs.Common.{arith}
+use Rattle.cs_syntax.specs.Matching.{rep}
+use Rattle.cs_trigram.proofs.NodeListLemmas.{if_ok}
+use Rattle.cs_trigram.proofs.CorrectQueryLemmas.{all_repeated, correct_repeated}
+use Rattle.cs_trigram.proofs.regexp_info.RegexpInfo.of_repeat.Goals as goal
+
+pub returns-then-least-eq0 : goal.returns-then-least-eq0
+returns-then-least-eq0 c =
+    if_ok c.new.result _ _ c.new.ensures
+    (λ _ right. λ t once.
+    right (rep t c.args.least c.args.most) (c.in_ok-exact.ensures t once.exact) (c.in_ok-ends.ensures t c.args.most once.ends) (λ many. all_repeated t c.args.least c.args.most (omega arith)))
+
+pub returns : goal.returns
+returns c =
+    if_ok c.new-2.result _ _ c.new-2.ensures
+    (λ _ right. λ t once.
+    right (rep t c.args.least c.args.most) (c.in_ok-exact.ensures t once.exact) (c.in_ok-ends.ensures t c.args.most once.ends) (correct_repeated _ t c.args.least c.args.most (omega arith) once.query))

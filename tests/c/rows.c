@@ -1,0 +1,270 @@
+/* Worked rows for each call: results, codes, empty and filled slots, buffers with room and with one byte too few. */
+#include "check.h"
+
+/* the index of three texts */
+static uint8_t *built(const char *paths, size_t paths_len, const char *const *names, const char *const *texts, int count,
+                      size_t *len) {
+    cs_builder builder = CS_EMPTY;
+    cs_bytes bytes = CS_EMPTY;
+    CHECK(CS_OK, cs_builder_new((const uint8_t *)paths, paths_len, &builder));
+    CHECK(1, builder.filled);
+    for (int i = 0; i < count; i++) CHECK(CS_OK, cs_builder_add(&builder, BYTES(names[i]), BYTES(texts[i])));
+    CHECK(CS_OK, cs_builder_finish(&builder, &bytes));
+    CHECK(0, builder.filled);
+    CHECK(CS_OK, cs_bytes_len(&bytes, len));
+    uint8_t *index = (uint8_t *)malloc(*len);
+    CHECK(CS_OK, cs_bytes_copy(&bytes, 0, index, *len));
+    CHECK(CS_NO_ENTRY, cs_bytes_copy(&bytes, 1, index, *len));
+    CHECK(CS_NO_ENTRY, cs_bytes_copy(&bytes, *len + 1, index, 0));
+    CHECK(CS_OK, cs_bytes_copy(&bytes, *len, index, 0));
+    cs_bytes_free(&bytes);
+    CHECK(0, bytes.filled);
+    return index;
+}
+
+static void patterns(void) {
+    static const struct {
+        const char *text;
+        int32_t code;
+        size_t at;
+    } rows[] = {
+        {"*a", CS_P_NO_OPERAND, 0},      {"ab**", CS_P_STACKED_REPEAT, 3}, {"a{2,1}", CS_P_BAD_REPEAT, 1},
+        {"x(a", CS_P_OPEN_GROUP, 1},     {"a)", CS_P_STRAY_CLOSE, 1},      {"(?z)", CS_P_BAD_GROUP, 0},
+        {"[a", CS_P_OPEN_CLASS, 0},      {"[b-a]", CS_P_BAD_RANGE, 1},     {"a\\8", CS_P_BAD_ESCAPE, 1},
+        {"a\\", CS_P_LONE_BACKSLASH, 1}, {"\\A", CS_P_NOT_IN_PROFILE, 0},  {"\xff", CS_NOT_UTF8, 0},
+    };
+    for (size_t i = 0; i < sizeof rows / sizeof *rows; i++) {
+        cs_pattern slot = CS_EMPTY;
+        size_t at = 99;
+        CHECK(rows[i].code, cs_pattern_compile(BYTES(rows[i].text), false, &slot, &at));
+        CHECK(rows[i].at, at);
+        CHECK(0, slot.filled);
+    }
+    char deep[202];
+    char large[10002];
+    cs_pattern slot = CS_EMPTY;
+    size_t at = 99;
+    memset(deep, '(', 201);
+    deep[201] = 0;
+    CHECK(CS_P_TOO_DEEP, cs_pattern_compile(BYTES(deep), false, &slot, &at));
+    CHECK(200, at);
+    memset(large, 'a', 10001);
+    large[10001] = 0;
+    CHECK(CS_P_TOO_LARGE, cs_pattern_compile(BYTES(large), false, &slot, &at));
+    CHECK(0, at);
+    at = 99;
+    CHECK(CS_OK, cs_pattern_compile(BYTES("a(b|c)+$"), false, &slot, &at));
+    CHECK(99, at);
+    CHECK(1, slot.filled);
+    CHECK(CS_MISUSE, cs_pattern_compile(BYTES("x"), false, &slot, &at));
+    CHECK(1, cs_pattern_is_match(&slot, BYTES("xabcb")));
+    CHECK(0, cs_pattern_is_match(&slot, BYTES("abd")));
+    CHECK(0, cs_pattern_is_match(&slot, BYTES("")));
+    CHECK(0, cs_pattern_is_match(&slot, BYTES("ABC")));
+    cs_pattern_free(&slot);
+    CHECK(0, slot.filled);
+    cs_pattern_free(&slot);
+    CHECK(CS_OK, cs_pattern_compile(BYTES("a(b|c)+$"), true, &slot, &at));
+    CHECK(1, cs_pattern_is_match(&slot, BYTES("ABC")));
+    cs_pattern_free(&slot);
+}
+
+static void lines(void) {
+    cs_pattern slot = CS_EMPTY;
+    size_t at, count = 99;
+    uint64_t number = 99;
+    cs_line line = {7, 7}, few[2] = {{7, 7}, {7, 7}}, all[4];
+    CHECK(CS_MISUSE, cs_pattern_next(&slot, BYTES("a"), 0, &line));
+    CHECK(CS_MISUSE, cs_pattern_lines(&slot, BYTES("a"), few, 2, &count));
+    CHECK(CS_MISUSE, cs_pattern_count(&slot, BYTES("a"), &number));
+    CHECK(99, count);
+    CHECK(99, number);
+    CHECK(CS_OK, cs_pattern_compile(BYTES("b"), false, &slot, &at));
+    const char *block = "ab\nxx\nb\n\nbb";
+    CHECK(1, cs_pattern_next(&slot, BYTES(block), 0, &line));
+    CHECK(0, line.start);
+    CHECK(2, line.end);
+    CHECK(1, cs_pattern_next(&slot, BYTES(block), line.end + 1, &line));
+    CHECK(6, line.start);
+    CHECK(7, line.end);
+    CHECK(1, cs_pattern_next(&slot, BYTES(block), line.end + 1, &line));
+    CHECK(9, line.start);
+    CHECK(11, line.end);
+    CHECK(0, cs_pattern_next(&slot, BYTES(block), 11, &line));
+    CHECK(0, cs_pattern_next(&slot, BYTES(block), 12, &line));
+    CHECK(0, cs_pattern_next(&slot, BYTES(block), SIZE_MAX, &line));
+    CHECK(9, line.start);
+    CHECK(CS_ROOM, cs_pattern_lines(&slot, BYTES(block), few, 2, &count));
+    CHECK(3, count);
+    CHECK(6, few[1].start);
+    CHECK(CS_OK, cs_pattern_lines(&slot, BYTES(block), all, 3, &count));
+    CHECK(9, all[2].start);
+    CHECK(CS_OK, cs_pattern_lines(&slot, BYTES(block), all, 4, &count));
+    CHECK(CS_OK, cs_pattern_count(&slot, BYTES(block), &number));
+    CHECK(3, number);
+    CHECK(CS_OK, cs_pattern_count(&slot, BYTES("b\n"), &number));
+    CHECK(1, number);
+    CHECK(CS_OK, cs_pattern_count(&slot, BYTES(""), &number));
+    CHECK(0, number);
+    cs_pattern_free(&slot);
+    CHECK(CS_OK, cs_pattern_compile(BYTES("^$"), false, &slot, &at));
+    CHECK(CS_OK, cs_pattern_lines(&slot, BYTES("\na\n\n"), all, 4, &count));
+    CHECK(2, count);
+    CHECK(0, all[0].end);
+    CHECK(3, all[1].start);
+    cs_pattern_free(&slot);
+}
+
+static const char *const texts[] = {"alpha\nmarker here\n", "beta\n", "gamma\nmarker\nmarkers"};
+
+static int32_t read_text(void *context, uint32_t id, const uint8_t **text, size_t *len) {
+    (void)context;
+    *text = (const uint8_t *)texts[id];
+    *len = strlen(texts[id]);
+    return 1;
+}
+
+static int32_t note_line(void *context, uint32_t id, size_t number, const uint8_t *text, cs_line line) {
+    char *out = (char *)context;
+    sprintf(out + strlen(out), "%u:%zu:%.*s;", id, number, (int)(line.end - line.start), (const char *)text + line.start);
+    return number == 99;
+}
+
+static void indexes(void) {
+    static const char *const names[] = {"/a/1", "/a/2", "/b/3"};
+    size_t len = 0, count = 99, name_len = 99, at;
+    uint8_t *index = built("/a\0/b", 6, names, texts, 3, &len);
+    uint32_t number = 99, ids[3] = {9, 9, 9};
+    uint8_t name[8];
+    CHECK(CS_OK, cs_index_check(index, len));
+    CHECK(CS_I_TRAILER, cs_index_check(index, len - 1));
+    CHECK(CS_I_MAGIC, cs_index_check(index + 1, len - 1));
+    CHECK(CS_I_MAGIC, cs_index_check(index, 0));
+    CHECK(CS_OK, cs_index_names(index, len, &number));
+    CHECK(3, number);
+    memset(name, 'x', sizeof name);
+    CHECK(CS_OK, cs_index_name(index, len, 2, name, 4, &name_len));
+    CHECK(4, name_len);
+    CHECK(0, memcmp(name, "/b/3xxxx", 8));
+    CHECK(CS_ROOM, cs_index_name(index, len, 0, name, 3, &name_len));
+    CHECK(0, memcmp(name, "/b/3xxxx", 8));
+    CHECK(4, name_len);
+    CHECK(CS_NO_ENTRY, cs_index_name(index, len, 3, name, 8, &name_len));
+    CHECK(CS_OK, cs_index_path(index, len, 1, name, 2, &name_len));
+    CHECK(0, memcmp(name, "/b/3", 4));
+    CHECK(2, name_len);
+    CHECK(CS_NO_ENTRY, cs_index_path(index, len, 2, name, 8, &name_len));
+    CHECK(2, name_len);
+
+    cs_pattern slot = CS_EMPTY;
+    CHECK(CS_MISUSE, cs_pattern_candidates(&slot, index, len, ids, 3, &count));
+    CHECK(CS_OK, cs_pattern_compile(BYTES("marker"), false, &slot, &at));
+    CHECK(CS_ROOM, cs_pattern_candidates(&slot, index, len, ids, 1, &count));
+    CHECK(2, count);
+    CHECK(9, ids[0]);
+    CHECK(CS_OK, cs_pattern_candidates(&slot, index, len, ids, 2, &count));
+    CHECK(0, ids[0]);
+    CHECK(2, ids[1]);
+    CHECK(9, ids[2]);
+    char found[200] = "";
+    CHECK(0, cs_search(&slot, index, len, read_text, note_line, found));
+    CHECK(0, strcmp(found, "0:2:marker here;2:2:marker;2:3:markers;"));
+
+    /* a list with the id 0 twice */
+    uint8_t *damaged = (uint8_t *)malloc(len);
+    memcpy(damaged, index, len);
+    for (size_t i = 0; i + 5 < len; i++)
+        if (!memcmp(damaged + i, "mar", 3) && damaged[i + 3] == 1 && damaged[i + 4] == 2) damaged[i + 4] = 200;
+    CHECK(CS_OK, cs_index_check(damaged, len));
+    count = 99;
+    CHECK(CS_I_LIST, cs_pattern_candidates(&slot, damaged, len, ids, 3, &count));
+    CHECK(99, count);
+    cs_pattern_free(&slot);
+    free(damaged);
+
+    free(index);
+}
+
+static void building(void) {
+    cs_builder builder = CS_EMPTY;
+    cs_bytes bytes = CS_EMPTY;
+    size_t len = 99;
+    static uint8_t many[2002];
+    memset(many, 'a', sizeof many);
+    CHECK(CS_MISUSE, cs_builder_add(&builder, BYTES("/a"), BYTES("a")));
+    CHECK(CS_MISUSE, cs_builder_finish(&builder, &bytes));
+    CHECK(CS_MISUSE, cs_bytes_len(&bytes, &len));
+    CHECK(CS_MISUSE, cs_bytes_copy(&bytes, 0, many, 1));
+    CHECK(99, len);
+    CHECK(CS_B_PATHS, cs_builder_new((const uint8_t *)"/b\0/a", 6, &builder));
+    CHECK(CS_B_PATHS, cs_builder_new((const uint8_t *)"/a\0/a/b", 8, &builder));
+    CHECK(CS_B_PATHS, cs_builder_new((const uint8_t *)"\0", 1, &builder));
+    CHECK(CS_NOT_UTF8, cs_builder_new((const uint8_t *)"/\xff", 3, &builder));
+    CHECK(0, builder.filled);
+    CHECK(CS_OK, cs_builder_new((const uint8_t *)"/a", 3, &builder));
+    CHECK(CS_MISUSE, cs_builder_new((const uint8_t *)"/a", 3, &builder));
+    CHECK(CS_B_NAME, cs_builder_add(&builder, BYTES(""), BYTES("a")));
+    CHECK(CS_B_NAME, cs_builder_add(&builder, (const uint8_t *)"a\0b", 3, BYTES("a")));
+    CHECK(CS_NOT_UTF8, cs_builder_add(&builder, BYTES("\xff"), BYTES("a")));
+    CHECK(CS_SKIP_NUL, cs_builder_add(&builder, BYTES("/a/1"), (const uint8_t *)"a\0", 2));
+    CHECK(CS_SKIP_UTF8, cs_builder_add(&builder, BYTES("/a/1"), BYTES("a\xff")));
+    CHECK(CS_SKIP_LONG_LINE, cs_builder_add(&builder, BYTES("/a/1"), many, sizeof many));
+    CHECK(CS_OK, cs_builder_add(&builder, BYTES("/a/1"), BYTES("a")));
+    CHECK(CS_B_ORDER, cs_builder_add(&builder, BYTES("/a/1"), BYTES("a")));
+    /* a slot of another kind is reported */
+    cs_pattern *other = (cs_pattern *)&builder;
+    CHECK(CS_MISUSE, cs_pattern_is_match(other, BYTES("a")));
+    CHECK(CS_OK, cs_builder_finish(&builder, &bytes));
+    CHECK(CS_MISUSE, cs_builder_add((cs_builder *)&bytes, BYTES("/a/2"), BYTES("a")));
+    CHECK(CS_MISUSE, cs_builder_finish((cs_builder *)&bytes, (cs_bytes *)&builder));
+    CHECK(CS_OK, cs_bytes_len(&bytes, &len));
+    cs_bytes_free(&bytes);
+    CHECK(CS_OK, cs_builder_new((const uint8_t *)"", 0, &builder));
+    cs_builder_free(&builder);
+    CHECK(0, builder.filled);
+    CHECK(CS_OK, cs_text_scan(BYTES("a text\n")));
+    CHECK(CS_SKIP_NUL, cs_text_scan((const uint8_t *)"a\0", 2));
+    CHECK(CS_SKIP_UTF8, cs_text_scan(BYTES("\xe9" "a")));
+    CHECK(CS_SKIP_LONG_LINE, cs_text_scan(many, sizeof many));
+}
+
+static void reports(void) {
+    static const struct {
+        uint32_t style;
+        const char *wanted;
+    } rows[] = {
+        {0, "n:ab\nn:b\n"},
+        {CS_COUNT, "n: 2\n"},
+        {CS_LIST, "n\n"},
+        {CS_NUMBER, "n:1:ab\nn:3:b\n"},
+        {CS_BARE, "ab\nb\n"},
+        {CS_NUMBER | CS_BARE, "1:ab\n3:b\n"},
+        {CS_LIST | CS_COUNT, "n\n"},
+    };
+    cs_pattern slot = CS_EMPTY;
+    size_t at, len = 99;
+    uint8_t out[64];
+    CHECK(CS_MISUSE, cs_grep(&slot, BYTES("n"), BYTES("b"), 0, out, 64, &len));
+    CHECK(CS_OK, cs_pattern_compile(BYTES("b"), false, &slot, &at));
+    for (size_t i = 0; i < sizeof rows / sizeof *rows; i++) {
+        size_t size = strlen(rows[i].wanted);
+        memset(out, 'x', sizeof out);
+        CHECK(CS_ROOM, cs_grep(&slot, BYTES("n"), BYTES("ab\nx\nb"), rows[i].style, out, size - 1, &len));
+        CHECK(size, len);
+        CHECK('x', out[size - 1]);
+        CHECK(CS_OK, cs_grep(&slot, BYTES("n"), BYTES("ab\nx\nb"), rows[i].style, out, size, &len));
+        CHECK(0, memcmp(out, rows[i].wanted, size));
+        CHECK('x', out[size]);
+    }
+    cs_pattern_free(&slot);
+}
+
+int main(void) {
+    patterns();
+    lines();
+    indexes();
+    building();
+    reports();
+    for (int32_t code = -100; code < 10; code++) CHECK(1, cs_error_text(code)[0] != 0);
+    return summary();
+}

@@ -1,0 +1,63 @@
+/* Four threads with slots of their own search the same index bytes at once, and each finds what one alone finds. */
+#include "check.h"
+#include <pthread.h>
+
+enum { NAMES = 200, ROUNDS = 50, THREADS = 4 };
+static uint8_t *index_bytes;
+static size_t index_len;
+static char texts[NAMES][32];
+
+static int32_t read_text(void *context, uint32_t id, const uint8_t **text, size_t *len) {
+    (void)context;
+    *text = (const uint8_t *)texts[id];
+    *len = strlen(texts[id]);
+    return 1;
+}
+
+static int32_t count_line(void *context, uint32_t id, size_t number, const uint8_t *text, cs_line line) {
+    (void)id, (void)number, (void)text, (void)line;
+    ++*(long *)context;
+    return 0;
+}
+
+static void *search(void *result) {
+    long found = 0;
+    for (int round = 0; round < ROUNDS; round++) {
+        char text[32];
+        cs_pattern slot = CS_EMPTY;
+        size_t at;
+        sprintf(text, "word%d[0-9]", round % 20);
+        if (cs_pattern_compile(BYTES(text), false, &slot, &at)) found = -1000000;
+        if (cs_search(&slot, index_bytes, index_len, read_text, count_line, &found)) found = -1000000;
+        cs_pattern_free(&slot);
+    }
+    *(long *)result = found;
+    return 0;
+}
+
+int main(void) {
+    cs_builder builder = CS_EMPTY;
+    cs_bytes bytes = CS_EMPTY;
+    CHECK(CS_OK, cs_builder_new((const uint8_t *)"/", 2, &builder));
+    for (int i = 0; i < NAMES; i++) {
+        char name[32];
+        sprintf(name, "/%03d", i);
+        sprintf(texts[i], "line\nword%d\n", i);
+        CHECK(CS_OK, cs_builder_add(&builder, BYTES(name), BYTES(texts[i])));
+    }
+    CHECK(CS_OK, cs_builder_finish(&builder, &bytes));
+    CHECK(CS_OK, cs_bytes_len(&bytes, &index_len));
+    index_bytes = (uint8_t *)malloc(index_len);
+    CHECK(CS_OK, cs_bytes_copy(&bytes, 0, index_bytes, index_len));
+    cs_bytes_free(&bytes);
+
+    long alone, found[THREADS];
+    pthread_t threads[THREADS];
+    search(&alone);
+    CHECK(1, alone > 0);
+    for (int i = 0; i < THREADS; i++) CHECK(0, pthread_create(&threads[i], 0, search, &found[i]));
+    for (int i = 0; i < THREADS; i++) pthread_join(threads[i], 0);
+    for (int i = 0; i < THREADS; i++) CHECK(alone, found[i]);
+    free(index_bytes);
+    return summary();
+}

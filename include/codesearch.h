@@ -1,7 +1,7 @@
 /* codesearch.h - search trees of source code by regular expressions, through an index of trigrams.
  *
  * The library is the part of codesearch that is proved, without its tools: patterns, lines, candidates of an index, the
- * scan of a text and the builder of indexes. It opens no file, prints nothing and starts no thread.
+ * scan of a text, and the building and merging of indexes. It opens no file, prints nothing and starts no thread.
  *
  * Bytes    An index, a pattern, a name, a line, a block, a text are a pointer and a length, and belong to the caller.
  *          The library keeps nothing of them after a call. No pointer is null, also where the length is 0.
@@ -18,9 +18,8 @@
  *          made in a signal handler.
  * Aliasing What a call writes (slots, buffers, counts) overlaps nothing else that the call is given.
  *
- * Proved   Each call that is given what it wants ends and stays within its buffers. What is proved of its answer stands in
- *          docs/PROMISES.md, and what is not: which lines cs_pattern_next, _lines and _count answer, the answers of
- *          cs_text_scan and of the builder, and the functions in C below are tested only. That a call is given what it wants
+ * Proved   Each call that is given what it wants ends, stays within its buffers, and answers and leaves what is said at it:
+ *          docs/PROMISES.md has each promise. The functions in C below are tested only. That a call is given what it wants
  *          is tested for slots alone.
  * Trusted  This header against those contracts, the static inline functions below, malloc (blocks aligned to 16), a stack
  *          of 256 KB or more, and index bytes that do not change after cs_index_check.
@@ -76,7 +75,10 @@ enum {
     CS_B_NAME = -60,      /* the name is empty or has a NUL */
     CS_B_ORDER = -61,     /* the name is not greater than the last one */
     CS_B_PATHS = -62,     /* a path is empty, or the paths do not ascend, or one covers another */
-    CS_B_TOO_LARGE = -63 /* 2^30 names, or an index of 2^32 bytes */
+    CS_B_TOO_LARGE = -63, /* 2^30 names, or an index of 2^32 bytes */
+    /* two indexes are not merged */
+    CS_M_UNSORTED = -80, /* an index holds a name twice */
+    CS_M_UNCOVERED = -81 /* no path of the newer index covers one of its names */
 };
 
 /* why an index leaves a text out: the answers of cs_text_scan and cs_builder_add above 0 */
@@ -112,9 +114,9 @@ typedef struct cs_bytes {
 #define CS_EMPTY {0, 0}
 
 /* ---- an index
- * cs_index_check reads the whole index but its posting lists, once. All other calls want bytes for which it has answered
- * CS_OK and that have not changed since, and take constant time to open them: map a file privately, and replace an index
- * by renaming a new file. */
+ * cs_index_check reads the whole index but its posting lists, once. All other calls but cs_index_merge want bytes for which
+ * it has answered CS_OK and that have not changed since, and take constant time to open them: map a file privately, and
+ * replace an index by renaming a new file. */
 
 /* CS_OK, or a code CS_I_*, of the first part that is not as it should be. */
 int32_t cs_index_check(const uint8_t *index, size_t len);
@@ -187,6 +189,15 @@ int32_t cs_bytes_copy(cs_bytes *slot, size_t from, uint8_t *out, size_t room);
 
 void cs_bytes_free(cs_bytes *slot);
 
+/* ---- merging */
+
+/* Fills an empty slot with the bytes of the index that an older index and a newer one merge to. At a name that a newer path
+ * covers the newer index takes precedence, other names stay as they are, and the paths are those of both that no other path
+ * covers. The two are any bytes, and nothing is kept of them: they are checked first, as by cs_index_check.
+ * CS_OK; or a code that leaves the slot empty: CS_I_* of the older bytes, or else of the newer ones, or else, in this order,
+ * CS_M_UNSORTED, CS_M_UNCOVERED, CS_I_LIST (of either), CS_B_TOO_LARGE; or CS_MEMORY. CS_MISUSE: the slot was filled. */
+int32_t cs_index_merge(const uint8_t *older, size_t older_len, const uint8_t *newer, size_t newer_len, cs_bytes *index);
+
 #ifdef __cplusplus
 }
 #endif
@@ -227,6 +238,8 @@ static inline const char *cs_error_text(int32_t code) {
     case CS_B_ORDER: return "name out of order";
     case CS_B_PATHS: return "bad paths";
     case CS_B_TOO_LARGE: return "too large";
+    case CS_M_UNSORTED: return "index holds a name twice";
+    case CS_M_UNCOVERED: return "name outside the paths";
     default: return code < 0 ? "unknown code" : "no error";
     }
 }

@@ -1,7 +1,7 @@
 /* Worked rows for each call: results, codes, empty and filled slots, buffers with room and with one byte too few. */
 #include "check.h"
 
-/* the index of three texts */
+/* the index of some texts */
 static uint8_t *built(const char *paths, size_t paths_len, const char *const *names, const char *const *texts, int count,
                       size_t *len) {
     cs_builder builder = CS_EMPTY;
@@ -20,6 +20,17 @@ static uint8_t *built(const char *paths, size_t paths_len, const char *const *na
     cs_bytes_free(&bytes);
     CHECK(0, bytes.filled);
     return index;
+}
+
+/* a copy in which some bytes are others */
+static uint8_t *changed(const uint8_t *index, size_t len, const char *from, const char *to, size_t size) {
+    uint8_t *copy = (uint8_t *)malloc(len);
+    int found = 0;
+    memcpy(copy, index, len);
+    for (size_t i = 0; i + size <= len; i++)
+        if (!memcmp(index + i, from, size)) memcpy(copy + i, to, size), found++;
+    CHECK(1, found > 0);
+    return copy;
 }
 
 static void patterns(void) {
@@ -170,11 +181,7 @@ static void indexes(void) {
     CHECK(0, cs_search(&slot, index, len, read_text, note_line, found));
     CHECK(0, strcmp(found, "0:2:marker here;2:2:marker;2:3:markers;"));
 
-    /* a list with the id 0 twice */
-    uint8_t *damaged = (uint8_t *)malloc(len);
-    memcpy(damaged, index, len);
-    for (size_t i = 0; i + 5 < len; i++)
-        if (!memcmp(damaged + i, "mar", 3) && damaged[i + 3] == 1 && damaged[i + 4] == 2) damaged[i + 4] = 200;
+    uint8_t *damaged = changed(index, len, "mar\1\2", "mar\1\310", 5);
     CHECK(CS_OK, cs_index_check(damaged, len));
     count = 99;
     CHECK(CS_I_LIST, cs_pattern_candidates(&slot, damaged, len, ids, 3, &count));
@@ -228,6 +235,74 @@ static void building(void) {
     CHECK(CS_SKIP_LONG_LINE, cs_text_scan(many, sizeof many));
 }
 
+typedef struct {
+    const uint8_t *bytes;
+    size_t len;
+} bytes_of;
+
+/* a merge into an empty slot, which then has the wanted bytes; or the code is another one, and it stays empty */
+#define MERGES(code, older, newer, wanted) merges(__LINE__, code, older, newer, wanted)
+static void merges(int line, int32_t code, bytes_of older, bytes_of newer, bytes_of wanted) {
+    cs_bytes slot = CS_EMPTY;
+    size_t len = 0;
+    check_at(line, "the merge", code, cs_index_merge(older.bytes, older.len, newer.bytes, newer.len, &slot));
+    check_at(line, "the flag", code == CS_OK, slot.filled);
+    if (!slot.filled) return;
+    CHECK(CS_OK, cs_bytes_len(&slot, &len));
+    uint8_t *came = (uint8_t *)malloc(len);
+    CHECK(CS_OK, cs_bytes_copy(&slot, 0, came, len));
+    check_at(line, "the length", (long long)wanted.len, (long long)len);
+    check_at(line, "the bytes", 1, wanted.len == len && !memcmp(came, wanted.bytes, len));
+    free(came);
+    cs_bytes_free(&slot);
+}
+
+static void merging(void) {
+    static const char *const names[] = {"/a/1", "/a/2", "/b/3"}, *const newer_names[] = {"/a/2", "/a/4"};
+    static const char *const newer_texts[] = {"no marked line\n", "delta marker\n"}, *const both_names[] = {"/a/2", "/a/4", "/b/3"};
+    const char *const both_texts[] = {newer_texts[0], newer_texts[1], texts[2]};
+    bytes_of older, newer, both, empty, outside, three_paths, none = {0, 0};
+    older.bytes = built("/a\0/b", 6, names, texts, 3, &older.len);
+    newer.bytes = built("/a", 3, newer_names, newer_texts, 2, &newer.len);
+    both.bytes = built("/a\0/b", 6, both_names, both_texts, 3, &both.len);
+    empty.bytes = built("", 0, names, texts, 0, &empty.len);
+    outside.bytes = built("/c", 3, names, texts, 1, &outside.len);
+    three_paths.bytes = built("/a\0/b\0/c", 9, names, texts, 3, &three_paths.len);
+    MERGES(CS_OK, older, newer, both);
+    MERGES(CS_OK, newer, older, older);
+    MERGES(CS_OK, older, older, older);
+    MERGES(CS_OK, older, empty, older);
+    MERGES(CS_OK, empty, older, older);
+    MERGES(CS_OK, outside, older, three_paths);
+
+    bytes_of short_one = {older.bytes, older.len - 1}, late = {newer.bytes + 1, newer.len - 1};
+    MERGES(CS_I_TRAILER, short_one, newer, none);
+    MERGES(CS_I_TRAILER, short_one, late, none);
+    MERGES(CS_I_MAGIC, late, short_one, none);
+    MERGES(CS_I_MAGIC, older, late, none);
+
+    bytes_of damaged = {changed(older.bytes, older.len, "mar\1\2", "mar\1\310", 5), older.len};
+    bytes_of twice = {changed(older.bytes, older.len, "/a/1\0/a/2", "/a/1\0/a/1", 9), older.len};
+    MERGES(CS_I_LIST, damaged, newer, none);
+    MERGES(CS_I_LIST, newer, damaged, none);
+    MERGES(CS_M_UNCOVERED, older, outside, none);
+    MERGES(CS_M_UNCOVERED, damaged, outside, none);
+    MERGES(CS_M_UNSORTED, twice, outside, none);
+    MERGES(CS_M_UNSORTED, damaged, twice, none);
+
+    /* a filled slot stays */
+    cs_bytes slot = CS_EMPTY;
+    size_t len = 0;
+    CHECK(CS_OK, cs_index_merge(empty.bytes, empty.len, newer.bytes, newer.len, &slot));
+    CHECK(CS_MISUSE, cs_index_merge(older.bytes, older.len, newer.bytes, newer.len, &slot));
+    CHECK(CS_MISUSE, cs_index_merge(late.bytes, late.len, newer.bytes, newer.len, &slot));
+    CHECK(CS_OK, cs_bytes_len(&slot, &len));
+    CHECK(newer.len, len);
+    cs_bytes_free(&slot);
+    const bytes_of all[] = {older, newer, both, empty, outside, three_paths, damaged, twice};
+    for (size_t i = 0; i < sizeof all / sizeof *all; i++) free((void *)all[i].bytes);
+}
+
 static void reports(void) {
     static const struct {
         uint32_t style;
@@ -264,6 +339,7 @@ int main(void) {
     lines();
     indexes();
     building();
+    merging();
     reports();
     for (int32_t code = -100; code < 10; code++) CHECK(1, cs_error_text(code)[0] != 0);
     return summary();

@@ -64,6 +64,7 @@ if command -v emacs > /dev/null; then
 (setq enable-local-variables nil)
 (defun jumps (buffer count file)
   (while (process-live-p (get-buffer-process buffer)) (accept-process-output nil 0.05))
+  (while (accept-process-output nil 0.5))
   (let (found)
     (dotimes (_ count)
       (next-error)

@@ -17,83 +17,89 @@ pub enum Error {
     Index(IndexFault),
     /// An index cannot be built.
     Build(BuildFault),
+    /// Two indexes cannot be merged.
+    Merge(MergeFault),
     /// A code that this version of the crate does not know.
     Unknown(i32),
 }
 
+// Enums whose codes are consecutive: the first, and those above it (1) or below it (-1).
 macro_rules! faults {
-    ($(#[$doc:meta])* $name:ident { $($variant:ident = $code:literal, $text:literal;)* }) => {
+    ($($(#[$doc:meta])* $name:ident from $first:literal by $step:literal { $($variant:ident: $text:literal,)* })*) => {$(
         $(#[$doc])*
         #[derive(Clone, Copy, Debug, PartialEq, Eq)]
         pub enum $name { $(#[doc = $text] $variant,)* }
 
         impl $name {
+            const TEXTS: &'static [($name, &'static str)] = &[$(($name::$variant, $text),)*];
+
             pub(crate) fn of(code: i32) -> Option<$name> {
-                match code { $($code => Some($name::$variant),)* _ => None }
+                let at = usize::try_from((i64::from(code) - $first) * $step).ok()?;
+                $name::TEXTS.get(at).map(|(fault, _)| *fault)
             }
         }
 
         impl fmt::Display for $name {
             fn fmt(&self, out: &mut fmt::Formatter<'_>) -> fmt::Result {
-                out.write_str(match self { $($name::$variant => $text,)* })
+                out.write_str($name::TEXTS[*self as usize].1)
             }
         }
 
         impl std::error::Error for $name {}
-    };
+    )*};
 }
 
 faults! {
     /// Why a text is no pattern.
-    PatternFault {
-        NoOperand = -20, "nothing to repeat";
-        StackedRepeat = -21, "a repeat of a repeat";
-        BadRepeat = -22, "a bad count of a repeat";
-        OpenGroup = -23, "a group is not closed";
-        StrayClose = -24, "a parenthesis closes no group";
-        BadGroup = -25, "a bad head of a group";
-        OpenClass = -26, "a class is not closed";
-        BadRange = -27, "a bad range or name in a class";
-        BadEscape = -28, "a bad escape";
-        LoneBackslash = -29, "a backslash at the end";
-        NotInProfile = -30, "not in this profile";
-        TooDeep = -31, "nested too deep";
-        TooLarge = -32, "the pattern is too large";
+    PatternFault from -20 by -1 {
+        NoOperand: "nothing to repeat",
+        StackedRepeat: "a repeat of a repeat",
+        BadRepeat: "a bad count of a repeat",
+        OpenGroup: "a group is not closed",
+        StrayClose: "a parenthesis closes no group",
+        BadGroup: "a bad head of a group",
+        OpenClass: "a class is not closed",
+        BadRange: "a bad range or name in a class",
+        BadEscape: "a bad escape",
+        LoneBackslash: "a backslash at the end",
+        NotInProfile: "not in this profile",
+        TooDeep: "nested too deep",
+        TooLarge: "the pattern is too large",
     }
-}
 
-faults! {
     /// What an index does not have.
-    IndexFault {
-        BadMagic = -40, "magic";
-        BadTrailer = -41, "trailer";
-        BadOffsets = -42, "offsets";
-        BadPaths = -43, "paths";
-        BadNames = -44, "names";
-        BadNameIndex = -45, "name index";
-        BadListIndex = -46, "list index";
-        BadList = -47, "list";
+    IndexFault from -40 by -1 {
+        BadMagic: "magic",
+        BadTrailer: "trailer",
+        BadOffsets: "offsets",
+        BadPaths: "paths",
+        BadNames: "names",
+        BadNameIndex: "name index",
+        BadListIndex: "list index",
+        BadList: "list",
     }
-}
 
-faults! {
     /// Why an index cannot be built.
-    BuildFault {
-        BadName = -60, "bad name";
-        OutOfOrder = -61, "name out of order";
-        BadPaths = -62, "bad paths";
-        TooLarge = -63, "too large";
+    BuildFault from -60 by -1 {
+        BadName: "bad name",
+        OutOfOrder: "name out of order",
+        BadPaths: "bad paths",
+        TooLarge: "too large",
     }
-}
 
-faults! {
+    /// Why two indexes cannot be merged, if neither has another error.
+    MergeFault from -80 by -1 {
+        Unsorted: "index holds a name twice",
+        Uncovered: "name outside the paths",
+    }
+
     /// Why an index leaves a text out.
-    Skip {
-        Nul = 1, "a byte 0";
-        Utf8 = 2, "not UTF-8";
-        TooLong = 3, "too long";
-        LongLine = 4, "a line is too long";
-        ManyTrigrams = 5, "too many trigrams";
+    Skip from 1 by 1 {
+        Nul: "a byte 0",
+        Utf8: "not UTF-8",
+        TooLong: "too long",
+        LongLine: "a line is too long",
+        ManyTrigrams: "too many trigrams",
     }
 }
 
@@ -107,6 +113,7 @@ impl Error {
                 .map(|fault| Error::Pattern(fault, offset))
                 .or_else(|| IndexFault::of(code).map(Error::Index))
                 .or_else(|| BuildFault::of(code).map(Error::Build))
+                .or_else(|| MergeFault::of(code).map(Error::Merge))
                 .unwrap_or(Error::Unknown(code)),
         }
     }
@@ -121,6 +128,7 @@ impl fmt::Display for Error {
             Error::Pattern(fault, offset) => write!(out, "bad pattern at byte {offset}: {fault}"),
             Error::Index(fault) => write!(out, "bad index: {fault}"),
             Error::Build(fault) => fault.fmt(out),
+            Error::Merge(fault) => fault.fmt(out),
             Error::Unknown(code) => write!(out, "error {code}"),
         }
     }

@@ -1,5 +1,5 @@
 //! Searches source trees by regular expressions through an index of trigrams: safe functions over `libcodesearch`, whose
-//! matcher, reader and builder are proved.
+//! matcher, reader, builder and merge are proved.
 //!
 //! An [`Index`] borrows its bytes and can be shared by threads. A [`Pattern`] keeps a cache that its matches change, and a
 //! [`Builder`] an index under construction: neither is `Send` or `Sync`, so that each thread makes its own. (The library
@@ -21,7 +21,7 @@
 mod error;
 mod sys;
 
-pub use error::{BuildFault, Error, IndexFault, PatternFault, Skip};
+pub use error::{BuildFault, Error, IndexFault, MergeFault, PatternFault, Skip};
 use std::ops::Range;
 
 fn done(code: i32) -> Result<i32, Error> {
@@ -88,6 +88,16 @@ impl<'a> Index<'a> {
     pub fn path(&self, at: u32) -> Option<String> {
         // SAFETY: as in `len`.
         self.entry(|buffer, room, len| unsafe { sys::cs_index_path(self.bytes.as_ptr(), self.bytes.len(), at, buffer, room, len) })
+    }
+
+    /// The bytes of the index that this one and a newer one merge to: the newer one takes precedence at all names that its
+    /// paths cover.
+    pub fn merge(&self, newer: &Index<'_>) -> Result<Vec<u8>, Error> {
+        let (older, newer) = (self.bytes, newer.bytes);
+        let mut bytes = Bytes(sys::Slot::EMPTY);
+        // SAFETY: the pointers and the lengths are those of the slices, and the slot is empty.
+        done(unsafe { sys::cs_index_merge(older.as_ptr(), older.len(), newer.as_ptr(), newer.len(), &mut bytes.0) })?;
+        bytes.copied()
     }
 
     fn entry(&self, call: impl FnMut(*mut u8, usize, &mut usize) -> i32) -> Option<String> {

@@ -36,4 +36,5 @@ extern "C" {
     pub fn cs_bytes_len(slot: *mut Slot, len: *mut usize) -> i32;
     pub fn cs_bytes_copy(slot: *mut Slot, from: usize, out: *mut u8, room: usize) -> i32;
     pub fn cs_bytes_free(slot: *mut Slot);
+    pub fn cs_index_merge(older: *const u8, older_len: usize, newer: *const u8, newer_len: usize, index: *mut Slot) -> i32;
 }

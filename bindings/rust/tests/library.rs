@@ -1,11 +1,15 @@
-use codesearch::{scan, BuildFault, Builder, Error, Index, IndexFault, Pattern, PatternFault, Skip, Style};
+use codesearch::{scan, BuildFault, Builder, Error, Index, IndexFault, MergeFault, Pattern, PatternFault, Skip, Style};
 
-fn sample() -> Vec<u8> {
-    let mut builder = Builder::new(&["/a", "/b"]).unwrap();
-    for (name, text) in [("/a/1", "alpha\nmarker here\n"), ("/a/2", "beta\n"), ("/b/3", "marker\nmarkers")] {
+fn built(paths: &[&str], files: &[(&str, &str)]) -> Vec<u8> {
+    let mut builder = Builder::new(paths).unwrap();
+    for (name, text) in files {
         assert_eq!(builder.add(name, text.as_bytes()), Ok(None));
     }
     builder.finish().unwrap()
+}
+
+fn sample() -> Vec<u8> {
+    built(&["/a", "/b"], &[("/a/1", "alpha\nmarker here\n"), ("/a/2", "beta\n"), ("/b/3", "marker\nmarkers")])
 }
 
 #[test]
@@ -60,6 +64,17 @@ fn indexes_are_built() {
     assert_eq!(builder.add("/b/1", b"marker"), Err(Error::Build(BuildFault::OutOfOrder)));
     let bytes = builder.finish().unwrap();
     assert_eq!(Index::new(&bytes).unwrap().name(0).as_deref(), Some("/b/1"));
+}
+
+#[test]
+fn indexes_are_merged() {
+    let (older, newer) = (sample(), built(&["/a"], &[("/a/2", "a new marker\n")]));
+    let (older, newer) = (Index::new(&older).unwrap(), Index::new(&newer).unwrap());
+    let wanted = built(&["/a", "/b"], &[("/a/2", "a new marker\n"), ("/b/3", "marker\nmarkers")]);
+    assert_eq!((older.merge(&newer), newer.merge(&older)), (Ok(wanted), Ok(older.bytes().to_vec())));
+    let outside = built(&["/c"], &[("/a/1", "marker")]);
+    let error = older.merge(&Index::new(&outside).unwrap()).unwrap_err();
+    assert_eq!((error, error.to_string().as_str()), (Error::Merge(MergeFault::Uncovered), "name outside the paths"));
 }
 
 #[test]

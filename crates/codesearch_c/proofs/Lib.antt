@@ -1,1 +1,4 @@
 pub mod Boxes
+pub mod MatchingLineLemmas
+pub mod BuildingLemmas
+mod Examples

@@ -6,6 +6,8 @@ use Rattle.cs_index.specs.declared.fault.IndexFault.{IndexFault}
 use Rattle.cs_index.specs.declared.fault.IndexFault.TheVariants as index
 use Rattle.cs_index.specs.declared.fault.BuildFault.{BuildFault}
 use Rattle.cs_index.specs.declared.fault.BuildFault.TheVariants as build
+use Rattle.cs_merge.specs.declared.fault.MergeFault.{MergeFault}
+use Rattle.cs_merge.specs.declared.fault.MergeFault.TheVariants as merge
 use Rattle.cs_trigram.specs.declared.scan.Reason.{Reason}
 use Rattle.cs_trigram.specs.declared.scan.Reason.TheVariants as reason
 
@@ -66,6 +68,14 @@ build_code build.OutOfOrder = negsuc 60
 build_code build.BadPaths = negsuc 61
 build_code build.TooLarge = negsuc 62
 build_code build.Memory = memory
+
+-- -80 and below; an error that an index or a builder has too has its code
+abbrev pub merge_code : MergeFault → ℤ
+merge_code merge.Unsorted = negsuc 79
+merge_code merge.Uncovered = negsuc 80
+merge_code (merge.Index fault) = index_code fault
+merge_code merge.TooLarge = build_code build.TooLarge
+merge_code merge.Memory = memory
 
 -- 1 to 5
 abbrev pub reason_code : Reason → ℤ

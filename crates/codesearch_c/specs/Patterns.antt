@@ -1,5 +1,5 @@
 -- What the calls over a pattern answer.
-use Rattle.std.specs.Prelude.{◌≡◌, ◌≢◌, ◌≤◌, ℕ, ℤ, pos, Bool, true, false, List, length, Option}
+use Rattle.std.specs.Prelude.{◌≡◌, ◌≢◌, nat_le, if◌then◌else◌, ℕ, ℤ, pos, Bool, true, false, List, length, count_by, Option, Some, None}
 use Rattle.std.specs.Str.{IsUtf8}
 use Rattle.cs_syntax.specs.Matching.{Tree, HasMatch}
 use Rattle.cs_syntax.specs.Parsing.{ParsesAs}
@@ -7,6 +7,7 @@ use Rattle.cs_syntax.specs.ParseErrors.{IsParseError}
 use Rattle.cs_syntax.specs.declared.fault.PatternError.{PatternError}
 use Rattle.codesearch_c.specs.declared.held.Held.{Held}
 use Rattle.codesearch_c.specs.Compiled.{Compiled}
+use Rattle.cs_match.specs.Lines.{lines}
 use Rattle.cs_trigram.specs.Query.{LosesNoLine}
 use Rattle.cs_trigram.specs.declared.queries.Query.{Query}
 use Rattle.cs_index.specs.OpenedParts.{Parts}
@@ -15,8 +16,9 @@ use Rattle.cs_index.specs.Answerable.{is_answerable}
 use Rattle.cs_index.specs.Postings.{IsListFault}
 use Rattle.cs_index.specs.declared.fault.IndexFault.{IndexFault}
 use Rattle.codesearch_c.specs.declared.lines.Line.{Line}
-use Rattle.codesearch_c.specs.Codes.{done, memory, misuse, not_utf8, index_code, pattern_code}
+use Rattle.codesearch_c.specs.Codes.{done, memory, room, misuse, not_utf8, index_code, pattern_code}
 use Rattle.codesearch_c.specs.Copies.{IsCopy}
+use Rattle.codesearch_c.specs.MatchingLines.{ForEachTest, IsFirstLine, IsListing}
 use Rattle.codesearch_c.specs.Slots.{OnPattern}
 
 -- Why a text is not compiled: it is not UTF-8, it has a syntax error, or memory is refused.
@@ -45,21 +47,27 @@ pub record IsMatchCode (pattern : Tree) (line : List ℕ) (code : ℤ) : Type 0 
   pub no : code ≡ pos 0 → ¬ (HasMatch pattern line)
   pub only : code ≢ pos 1 → code ≢ pos 0 → code ≡ memory
 
--- offsets of a line that does not begin before `from`
-pub record IsLineFrom (block : List ℕ) (from start end : ℕ) : Type 0 where
-  pub low : from ≤ start
-  pub order : start ≤ end
-  pub within : end ≤ length block
-
--- 1 and a line from an offset on; or the line stays, and the code is 0 or memory is refused
-pub record IsNextCode (block : List ℕ) (from : ℕ) (old new : Line) (code : ℤ) : Type 0 where
-  pub found : code ≡ pos 1 → IsLineFrom block from new.start new.end
+-- 1 and the first matching line from an offset on; or the line stays, and the code is 0 and there is none, or memory is
+-- refused
+pub record IsNextCode (pattern : Tree) (block : List ℕ) (from : ℕ) (old new : Line) (code : ℤ) : Type 0 where
+  pub found : code ≡ pos 1 → IsFirstLine pattern block from (Some new)
+  pub none : code ≡ pos 0 → IsFirstLine pattern block from None
   pub kept : code ≢ pos 1 → new ≡ old
   pub only : code ≢ pos 1 → code ≢ pos 0 → code ≡ memory
 
--- a count; or memory is refused, and the count stays
-pub record IsCountCode (old new : ℕ) (code : ℤ) : Type 0 where
-  pub kept : code ≢ done → (new ≡ old) × (code ≡ memory)
+-- whether all that there is has room
+abbrev pub fit_code : ℕ → ℕ → ℤ
+fit_code count room_for = if nat_le count room_for then done else room
+
+-- the number of all matching lines, and those for which there is room; or memory is refused, and nothing changes
+pub record IsLinesCode (pattern : Tree) (block : List ℕ) (old new : List Line) (old_count count : ℕ) (code : ℤ) : Type 0 where
+  pub listed : code ≢ memory → IsListing pattern block old new count × (code ≡ fit_code count (length old))
+  pub kept : code ≡ memory → (new ≡ old) × (count ≡ old_count)
+
+-- the number of matching lines; or memory is refused, and the count stays
+pub record IsCountCode (pattern : Tree) (block : List ℕ) (old new : ℕ) (code : ℤ) : Type 0 where
+  pub counted : code ≢ memory → ForEachTest pattern (λ has_match. new ≡ count_by has_match (lines block)) × (code ≡ done)
+  pub kept : code ≡ memory → new ≡ old
 
 -- the ids of the candidates are copied; or a list is damaged, or memory is refused, and nothing changes
 pub data AreCandidates (parts : Parts) (query : Query) (old new : List ℕ) (old_count count : ℕ) (code : ℤ) : Type 0 where

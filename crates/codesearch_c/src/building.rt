@@ -1,5 +1,9 @@
 // Exports that build an index, and that copy its bytes.
-ghost use Rattle.std.specs.Prelude.{◌≡◌};
+ghost use Rattle.std.specs.Prelude.{◌≡◌, [], true, false, Some, None, IfOk, IfErr, length, map, string_bytes};
+ghost use Rattle.codesearch_c.specs.Slots.{is_filled, OnBuilder, OnBytes};
+ghost use Rattle.codesearch_c.specs.Codes.{done, memory, misuse};
+ghost use Rattle.codesearch_c.specs.Patterns.{IsMisuse};
+ghost use Rattle.codesearch_c.specs.Building.{nul_parts, IsPathsRefusal, IsNewBuilder, IsAddition, IsFinished, IsPart};
 
 use crate::codes::{MEMORY, MISUSE, NO_ENTRY, NOT_UTF8, OK, build_code, reason_code};
 use crate::held::{Held, HeldBuilder};
@@ -12,7 +16,12 @@ use std::str::from_utf8;
 
 /// Fills an empty slot with a builder of an index over paths, each followed by a NUL.
 #[unsafe(no_mangle)]
-pub extern "C" fn cs_builder_new(alloc: Global, paths: &[u8], slot: &mut Slot) -> i32 {
+pub extern "C" fn cs_builder_new(alloc: Global, paths: &[u8], slot: &mut Slot) -> i32
+    ensures misuse { is_filled slot.old.handle.value ≡ true →
+        IsMisuse slot.old.handle.value slot.new.handle.value result }
+    ensures made { is_filled slot.old.handle.value ≡ false →
+        IsNewBuilder paths.now slot.new.handle.value result }
+{
     if slot.is_filled() {
         return MISUSE;
     }
@@ -26,7 +35,11 @@ pub extern "C" fn cs_builder_new(alloc: Global, paths: &[u8], slot: &mut Slot) -
 }
 
 /// A box with a builder; or a code.
-fn new_builder(alloc: Global, paths: &[u8]) -> Result<Box<Held>, i32> {
+fn new_builder(alloc: Global, paths: &[u8]) -> Result<Box<Held>, i32>
+    ensures made { IfOk result (λ held. OnBuilder (Some held.value) (false ≡ true) (λ built.
+        (built.paths ≡ nul_parts paths.now) × (built.entries ≡ []))) }
+    ensures refused { IfErr result (IsPathsRefusal paths.now) }
+{
     let Ok(text) = from_utf8(paths) else {
         return Err(NOT_UTF8);
     };
@@ -44,7 +57,10 @@ fn new_builder(alloc: Global, paths: &[u8]) -> Result<Box<Held>, i32> {
 }
 
 /// A box; or a code.
-fn boxed(alloc: Global, held: Held) -> Result<Box<Held>, i32> {
+fn boxed(alloc: Global, held: Held) -> Result<Box<Held>, i32>
+    ensures boxed { IfOk result (λ it. it.value ≡ held) }
+    ensures refused { IfErr result (λ code. code ≡ memory) }
+{
     match Box::new(alloc, held) {
         Ok(held) => Ok(held),
         Err(_) => Err(MEMORY),
@@ -52,34 +68,52 @@ fn boxed(alloc: Global, held: Held) -> Result<Box<Held>, i32> {
 }
 
 /// The paths of a text, each followed by a NUL.
-fn split_paths(alloc: Global, text: &str) -> Result<Vec<String>, AllocError> {
+fn split_paths(alloc: Global, text: &str) -> Result<Vec<String>, AllocError>
+    ensures { IfOk result (λ paths. map string_bytes paths.items ≡ nul_parts text.now) }
+{
     let mut paths = Vec::new(alloc);
     let mut rest = text;
     'paths: while let Some((path, more)) = rest.split_once('\0') {
         paths.push(String::from_str(alloc, path)?)?;
         rest = more;
     }
-    if !rest.is_empty() {
-        paths.push(String::from_str(alloc, rest)?)?;
+    if rest.is_empty() {
+        return Ok(paths);
     }
+    paths.push(String::from_str(alloc, rest)?)?;
     Ok(paths)
 }
 
 /// Adds a name with the trigrams of its text: 0, the number of the reason to leave the text out, or a code.
 #[unsafe(no_mangle)]
-pub extern "C" fn cs_builder_add(alloc: Global, slot: &mut Slot, name: &[u8], text: &[u8]) -> i32 {
+pub extern "C" fn cs_builder_add(alloc: Global, slot: &mut Slot, name: &[u8], text: &[u8]) -> i32
+    ensures { OnBuilder slot.old.handle.value
+        (IsMisuse slot.old.handle.value slot.new.handle.value result)
+        (λ old. OnBuilder slot.new.handle.value (false ≡ true) (λ new.
+        IsAddition name.now text.now old new result)) }
+{
     let Some(mut held) = slot.take(alloc) else {
         return MISUSE;
     };
-    let code = match &mut *held {
-        Held::Builder(builder) => add_code(builder, name, text),
-        _ => MISUSE,
-    };
+    let code = add_to(&mut held, name, text);
     slot.fill(held);
     code
 }
 
-fn add_code(held: &mut HeldBuilder, name: &[u8], text: &[u8]) -> i32 {
+fn add_to(held: &mut Held, name: &[u8], text: &[u8]) -> i32
+    ensures { OnBuilder (Some held.old) (IsMisuse (Some held.old) (Some held.new) result)
+        (λ old. OnBuilder (Some held.new) (false ≡ true) (λ new.
+        IsAddition name.now text.now old new result)) }
+{
+    match held {
+        Held::Builder(builder) => add_code(builder, name, text),
+        _ => MISUSE,
+    }
+}
+
+fn add_code(held: &mut HeldBuilder, name: &[u8], text: &[u8]) -> i32
+    ensures { IsAddition name.now text.now held.old.builder held.new.builder result }
+{
     let Ok(name) = from_utf8(name) else {
         return NOT_UTF8;
     };
@@ -96,35 +130,56 @@ fn add_code(held: &mut HeldBuilder, name: &[u8], text: &[u8]) -> i32 {
 
 /// Empties a builder, and fills an empty slot with the bytes of its index.
 #[unsafe(no_mangle)]
-pub extern "C" fn cs_builder_finish(alloc: Global, slot: &mut Slot, index: &mut Slot) -> i32 {
+pub extern "C" fn cs_builder_finish(alloc: Global, slot: &mut Slot, index: &mut Slot) -> i32
+    ensures filled { is_filled index.old.handle.value ≡ true →
+        IsMisuse index.old.handle.value index.new.handle.value result
+        × (slot.new.handle.value ≡ slot.old.handle.value) }
+    ensures finished { is_filled index.old.handle.value ≡ false → OnBuilder slot.old.handle.value
+        (IsMisuse slot.old.handle.value slot.new.handle.value result
+        × (index.new.handle.value ≡ index.old.handle.value))
+        (λ built. (slot.new.handle.value ≡ None)
+        × IsFinished built index.new.handle.value result) }
+{
     if index.is_filled() {
         return MISUSE;
     }
-    let Some(held) = slot.take(alloc) else {
-        return MISUSE;
-    };
+    match take_builder(alloc, slot) {
+        Some(builder) => match builder.finish() {
+            Ok(bytes) => fill_bytes(alloc, index, bytes),
+            Err(fault) => build_code(fault),
+        },
+        None => MISUSE,
+    }
+}
+
+/// Empties a slot that holds a builder.
+fn take_builder(alloc: Global, slot: &mut Slot) -> Option<Builder>
+    ensures { OnBuilder slot.old.handle.value
+        ((result ≡ None) × (slot.new.handle.value ≡ slot.old.handle.value))
+        (λ built. (result ≡ Some built) × (slot.new.handle.value ≡ None)) }
+{
+    let held = slot.take(alloc)?;
+    if !matches!(&*held, Held::Builder(_)) {
+        slot.fill(held);
+        return None;
+    }
     match Box::into_inner(held) {
         Held::Builder(
             HeldBuilder {
                 builder,
                 scanner: _,
             },
-        ) => match builder.finish() {
-            Ok(bytes) => fill_bytes(alloc, index, bytes),
-            Err(fault) => build_code(fault),
-        },
-        other => match boxed(alloc, other) {
-            Ok(held) => {
-                slot.fill(held);
-                MISUSE
-            }
-            Err(code) => code,
-        },
+        ) => Some(builder),
+        _ => None,
     }
 }
 
-/// Fills a slot with bytes.
-pub(crate) fn fill_bytes(alloc: Global, slot: &mut Slot, bytes: Vec<u8>) -> i32 {
+/// Fills an empty slot with bytes.
+pub(crate) fn fill_bytes(alloc: Global, slot: &mut Slot, bytes: Vec<u8>) -> i32
+    requires empty { slot.old.handle.value ≡ None }
+    ensures { OnBytes slot.new.handle.value ((slot.new.handle.value ≡ None) × (result ≡ memory))
+        (λ held. (held ≡ bytes.items) × (result ≡ done)) }
+{
     match boxed(alloc, Held::Bytes(bytes)) {
         Ok(held) => {
             slot.fill(held);
@@ -136,7 +191,11 @@ pub(crate) fn fill_bytes(alloc: Global, slot: &mut Slot, bytes: Vec<u8>) -> i32 
 
 /// The number of bytes.
 #[unsafe(no_mangle)]
-pub extern "C" fn cs_bytes_len(alloc: Global, slot: &mut Slot, len: &mut usize) -> i32 {
+pub extern "C" fn cs_bytes_len(alloc: Global, slot: &mut Slot, len: &mut usize) -> i32
+    ensures same { slot.new.handle.value ≡ slot.old.handle.value }
+    ensures code { OnBytes slot.old.handle.value ((result ≡ misuse) × (len.new ≡ len.old))
+        (λ bytes. (result ≡ done) × (len.new ≡ length bytes)) }
+{
     let Some(held) = slot.take(alloc) else {
         return MISUSE;
     };
@@ -153,12 +212,11 @@ pub extern "C" fn cs_bytes_len(alloc: Global, slot: &mut Slot, len: &mut usize) 
 
 /// Copies the bytes from an offset on, until the buffer is full or the bytes end.
 #[unsafe(no_mangle)]
-pub extern "C" fn cs_bytes_copy(
-    alloc: Global,
-    slot: &mut Slot,
-    from: usize,
-    out: &mut [u8],
-) -> i32 {
+pub extern "C" fn cs_bytes_copy(alloc: Global, slot: &mut Slot, from: usize, out: &mut [u8]) -> i32
+    ensures same { slot.new.handle.value ≡ slot.old.handle.value }
+    ensures code { OnBytes slot.old.handle.value ((result ≡ misuse) × (out.new ≡ out.old))
+        (λ bytes. IsPart bytes from out.old out.new result) }
+{
     let Some(held) = slot.take(alloc) else {
         return MISUSE;
     };
@@ -171,7 +229,9 @@ pub extern "C" fn cs_bytes_copy(
 }
 
 /// Fills the buffer with the bytes from an offset on, if there are enough.
-fn copy_from(bytes: &[u8], from: usize, out: &mut [u8]) -> i32 {
+fn copy_from(bytes: &[u8], from: usize, out: &mut [u8]) -> i32
+    ensures { IsPart bytes.now from out.old out.new result }
+{
     if from > bytes.len() || out.len() > bytes.len() - from {
         return NO_ENTRY;
     }
@@ -181,12 +241,16 @@ fn copy_from(bytes: &[u8], from: usize, out: &mut [u8]) -> i32 {
 
 /// Empties a slot, and frees what it holds.
 #[unsafe(no_mangle)]
-pub extern "C" fn cs_builder_free(alloc: Global, slot: &mut Slot) {
+pub extern "C" fn cs_builder_free(alloc: Global, slot: &mut Slot)
+    ensures { slot.new.handle.value ≡ None }
+{
     let _held = slot.take(alloc);
 }
 
 /// Empties a slot, and frees what it holds.
 #[unsafe(no_mangle)]
-pub extern "C" fn cs_bytes_free(alloc: Global, slot: &mut Slot) {
+pub extern "C" fn cs_bytes_free(alloc: Global, slot: &mut Slot)
+    ensures { slot.new.handle.value ≡ None }
+{
     let _held = slot.take(alloc);
 }

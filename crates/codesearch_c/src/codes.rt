@@ -1,8 +1,9 @@
 // The codes of errors: the numbers of `codesearch.h`.
 ghost use Rattle.std.specs.Prelude.{◌≡◌};
-ghost use Rattle.codesearch_c.specs.Codes.{pattern_code, index_code, build_code, reason_code};
+ghost use Rattle.codesearch_c.specs.Codes.{pattern_code, index_code, build_code, merge_code, reason_code};
 
 use cs_index::{BuildFault, IndexFault};
+use cs_merge::MergeFault;
 use cs_syntax::PatternFault;
 use cs_trigram::Reason;
 
@@ -70,6 +71,20 @@ pub(crate) fn build_code(fault: BuildFault) -> i32
         BuildFault::BadPaths => -62,
         BuildFault::TooLarge => -63,
         BuildFault::Memory => MEMORY,
+    }
+}
+
+/// The code of a merge's error: -80 and below, in the order of the variants, or the code of the same error of an index
+/// or of a builder.
+pub(crate) fn merge_code(fault: MergeFault) -> i32
+    ensures { result ≡ merge_code fault }
+{
+    match fault {
+        MergeFault::Unsorted => -80,
+        MergeFault::Uncovered => -81,
+        MergeFault::Index(fault) => index_code(fault),
+        MergeFault::TooLarge => build_code(BuildFault::TooLarge),
+        MergeFault::Memory => MEMORY,
     }
 }
 

@@ -1,7 +1,8 @@
 //! The library for callers in C and Rust (`include/codesearch.h`). An index is bytes of the caller's own; a pattern, a
-//! builder and bytes that the library made are held in slots of the caller's own. Each export calls a function of the
-//! crates below; those over an index, `compile`, `is_match` and `candidates` state its clauses again. Read
-//! `specs/Slots.antt` first, then `specs/Codes.antt` and `specs/Copies.antt`.
+//! builder and bytes that the library made are held in slots of the caller's own. Each export calls functions of the
+//! crates below, and states in their words what it answers and leaves. Read `specs/Slots.antt` first, then
+//! `specs/Codes.antt`, `specs/Copies.antt`, `specs/MatchingLines.antt`, `specs/Patterns.antt`, `specs/Building.antt` and
+//! `specs/Merging.antt`.
 #![tactic(auto)]
 
 mod building;
@@ -11,6 +12,7 @@ mod held;
 mod indexing;
 mod lines;
 mod matching;
+mod merging;
 mod patterns;
 mod slot;
 mod texts;

@@ -1,6 +1,9 @@
 // Lines of a block, whose last line may have no newline.
-ghost use Rattle.std.specs.Prelude.{◌≡◌, IfSome, length};
-ghost use Rattle.codesearch_c.specs.Patterns.{IsLineFrom};
+ghost use Rattle.std.specs.Prelude.{◌≡◌, ◌≤◌, ◌<◌, IfSome, length, take, drop, slice_set, count_by};
+ghost use Rattle.cs_match.specs.Lines.{lines};
+ghost use Rattle.cs_match.specs.NoNewline.{HasNoNewline};
+ghost use Rattle.cs_match.specs.Skipping.{AreWholeLines};
+ghost use Rattle.codesearch_c.specs.MatchingLines.{ForEachTest, IsFirstLine, AreListedTo, IsListing};
 
 use cs_match::{Matcher, whole_lines_len};
 
@@ -12,76 +15,111 @@ pub struct Line {
     pub end: usize,
 }
 
-/// The first matching line at or after an offset.
+/// The first matching line from an offset on.
 pub(crate) fn first_line(matcher: &mut Matcher<'_>, block: &[u8], from: usize) -> Option<Line>
-    ensures found { IfSome result (λ line.
-        IsLineFrom block.now from line.start line.end) }
+    ensures found { IsFirstLine matcher.old.tree block.now from result }
+    ensures same { matcher.new.tree ≡ matcher.old.tree }
+{
+    let whole = whole_lines_len(block);
+    if from >= whole {
+        return last_line(matcher, block, from);
+    }
+    match matcher.next_match(&block[..whole], from) {
+        Some(line) => Some(Line {
+            start: line.start,
+            end: line.end,
+        }),
+        None => last_line(matcher, block, whole),
+    }
+}
+
+/// The line without a newline from an offset on, if it matches.
+fn last_line(matcher: &mut Matcher<'_>, block: &[u8], from: usize) -> Option<Line>
+    requires part { HasNoNewline (drop from block.now) }
+    ensures found { IsFirstLine matcher.old.tree block.now from result }
+    ensures last { IfSome result (λ line. (from < length block.now) × (line.end ≡ length block.now)) }
     ensures same { matcher.new.tree ≡ matcher.old.tree }
 {
     if from >= block.len() {
         return None;
     }
-    let rest = &block[from..];
-    match first_of(matcher, rest) {
-        Some(line) => Some(Line {
-            start: from + line.start,
-            end: from + line.end,
-        }),
-        None => None,
+    if matcher.is_match(&block[from..]) {
+        Some(Line {
+            start: from,
+            end: block.len(),
+        })
+    } else {
+        None
     }
-}
-
-/// The first matching line of a text.
-fn first_of(matcher: &mut Matcher<'_>, text: &[u8]) -> Option<Line>
-    ensures found { IfSome result (λ line.
-        IsLineFrom text.now 0 line.start line.end) }
-    ensures same { matcher.new.tree ≡ matcher.old.tree }
-{
-    let whole = whole_lines_len(text);
-    if let Some(line) = matcher.next_match(&text[..whole], 0) {
-        return Some(Line {
-            start: line.start,
-            end: line.end,
-        });
-    }
-    if whole < text.len() && matcher.is_match(&text[whole..]) {
-        return Some(Line {
-            start: whole,
-            end: text.len(),
-        });
-    }
-    None
 }
 
 /// The number of matching lines. Those for which there is room are written.
 pub(crate) fn list_lines(matcher: &mut Matcher<'_>, block: &[u8], lines: &mut [Line]) -> usize
+    ensures listed { IsListing matcher.old.tree block.now lines.old lines.new result }
     ensures same { matcher.new.tree ≡ matcher.old.tree }
-    ensures length { length lines.new ≡ length lines.old }
 {
+    let whole = whole_lines_len(block);
+    let count = list_whole_lines(matcher, block, whole, lines);
+    match last_line(matcher, block, whole) {
+        Some(line) => {
+            put_line(lines, count, line);
+            count + 1
+        }
+        None => count,
+    }
+}
+
+/// The same, of the whole lines before an offset.
+fn list_whole_lines(
+    matcher: &mut Matcher<'_>,
+    block: &[u8],
+    whole: usize,
+    lines: &mut [Line],
+) -> usize
+    requires within { whole ≤ length block.now }
+    requires whole { AreWholeLines (take whole block.now) }
+    ensures listed { ForEachTest matcher.old.tree (λ has_match.
+        AreListedTo has_match block.now lines.old lines.new result whole) }
+    ensures bound { result ≤ whole }
+    ensures same { matcher.new.tree ≡ matcher.old.tree }
+{
+    let text = &block[..whole];
     let mut count = 0;
     let mut offset = 0;
-    'lines: while let Some(line) = first_line(matcher, block, offset) {
-        if count < lines.len() {
-            lines[count] = line;
-        }
+    'lines: while let Some(line) = matcher.next_match(text, offset) {
+        put_line(
+            lines,
+            count,
+            Line {
+                start: line.start,
+                end: line.end,
+            },
+        );
         count += 1;
-        if line.end >= block.len() {
-            return count;
-        }
         offset = line.end + 1;
     }
     count
 }
 
+/// Writes a line, if there is room for it.
+fn put_line(lines: &mut [Line], count: usize, line: Line)
+    ensures { lines.new ≡ slice_set lines.old count line }
+{
+    if count < lines.len() {
+        lines[count] = line;
+    }
+}
+
 /// The number of matching lines.
 pub(crate) fn count_lines(matcher: &mut Matcher<'_>, block: &[u8]) -> u64
+    ensures found { ForEachTest matcher.old.tree (λ has_match.
+        result ≡ count_by has_match (lines block.now)) }
     ensures same { matcher.new.tree ≡ matcher.old.tree }
 {
     let whole = whole_lines_len(block);
     let count = matcher.count(&block[..whole]);
-    if whole < block.len() && matcher.is_match(&block[whole..]) {
-        count.saturating_add(1)
-    } else {
-        count
+    match last_line(matcher, block, whole) {
+        Some(_) => count + 1,
+        None => count,
     }
 }

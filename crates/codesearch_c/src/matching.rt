@@ -1,10 +1,11 @@
 // Exports over a pattern.
-ghost use Rattle.std.specs.Prelude.{◌≡◌, true, false, Some, None, IsOk, IfOk, IfErr};
+ghost use Rattle.std.specs.Prelude.{◌≡◌, ◌≢◌, true, false, Some, None, IsOk, IfOk, IfErr};
 ghost use Rattle.cs_syntax.specs.Parsing.{ParsesAs};
 ghost use Rattle.cs_trigram.specs.Query.{LosesNoLine};
 ghost use Rattle.cs_index.specs.Opening.{opening};
+ghost use Rattle.codesearch_c.specs.Codes.{done};
 ghost use Rattle.codesearch_c.specs.Slots.{is_filled, OnPattern};
-ghost use Rattle.codesearch_c.specs.Patterns.{IsRefusal, IsCompiled, IsMisuse, IsMatchCode, IsNextCode, IsCountCode, AreCandidates, Keeps};
+ghost use Rattle.codesearch_c.specs.Patterns.{IsRefusal, IsCompiled, IsMisuse, IsMatchCode, IsNextCode, IsLinesCode, IsCountCode, AreCandidates, Keeps};
 
 use crate::codes::{MEMORY, MISUSE, NOT_UTF8, OK, ROOM, index_code, pattern_code};
 use crate::copying::copy_items;
@@ -31,6 +32,8 @@ pub extern "C" fn cs_pattern_compile(
         IsMisuse slot.old.handle.value slot.new.handle.value result × (at.new ≡ at.old) }
     ensures compiled { is_filled slot.old.handle.value ≡ false →
         IsCompiled text.now fold at.old slot.new.handle.value result at.new }
+    ensures refused { is_filled slot.old.handle.value ≡ false → result ≢ done →
+        slot.new.handle.value ≡ None }
 {
     if slot.is_filled() {
         return MISUSE;
@@ -131,7 +134,7 @@ fn match_code(pattern: &mut HeldPattern, alloc: Global, line: &[u8]) -> i32
     }
 }
 
-/// The first matching line at or after an offset: 1, 0 if there is none, or a code.
+/// The first matching line from an offset on: 1, 0 if there is none, or a code.
 #[unsafe(no_mangle)]
 pub extern "C" fn cs_pattern_next(
     alloc: Global,
@@ -142,7 +145,7 @@ pub extern "C" fn cs_pattern_next(
 ) -> i32
     ensures { OnPattern slot.old.handle.value
         (IsMisuse slot.old.handle.value slot.new.handle.value result × (line.new ≡ line.old))
-        (λ held. IsNextCode block.now from line.old line.new result
+        (λ held. IsNextCode held.pattern block.now from line.old line.new result
         × Keeps held slot.new.handle.value) }
 {
     let Some(mut held) = slot.take(alloc) else {
@@ -163,7 +166,7 @@ fn next_code(
     from: usize,
     line: &mut Line,
 ) -> i32
-    ensures code { IsNextCode block.now from line.old line.new result }
+    ensures code { IsNextCode pattern.old.pattern block.now from line.old line.new result }
     ensures same { pattern.new ≡ pattern.old }
 {
     match pattern.next_line(alloc, block, from) {
@@ -186,8 +189,10 @@ pub extern "C" fn cs_pattern_lines(
     count: &mut usize,
 ) -> i32
     ensures { OnPattern slot.old.handle.value
-        (IsMisuse slot.old.handle.value slot.new.handle.value result)
-        (λ held. Keeps held slot.new.handle.value) }
+        (IsMisuse slot.old.handle.value slot.new.handle.value result
+        × (lines.new ≡ lines.old) × (count.new ≡ count.old))
+        (λ held. IsLinesCode held.pattern block.now lines.old lines.new count.old count.new result
+        × Keeps held slot.new.handle.value) }
 {
     let Some(mut held) = slot.take(alloc) else {
         return MISUSE;
@@ -207,6 +212,8 @@ fn lines_code(
     lines: &mut [Line],
     count: &mut usize,
 ) -> i32
+    ensures code { IsLinesCode pattern.old.pattern block.now lines.old lines.new count.old count.new
+        result }
     ensures same { pattern.new ≡ pattern.old }
 {
     match pattern.matching_lines(alloc, block, lines) {
@@ -228,7 +235,7 @@ pub extern "C" fn cs_pattern_count(
 ) -> i32
     ensures { OnPattern slot.old.handle.value
         (IsMisuse slot.old.handle.value slot.new.handle.value result × (count.new ≡ count.old))
-        (λ held. IsCountCode count.old count.new result
+        (λ held. IsCountCode held.pattern block.now count.old count.new result
         × Keeps held slot.new.handle.value) }
 {
     let Some(mut held) = slot.take(alloc) else {
@@ -243,7 +250,7 @@ pub extern "C" fn cs_pattern_count(
 }
 
 fn count_code(pattern: &mut HeldPattern, alloc: Global, block: &[u8], count: &mut u64) -> i32
-    ensures code { IsCountCode count.old count.new result }
+    ensures code { IsCountCode pattern.old.pattern block.now count.old count.new result }
     ensures same { pattern.new ≡ pattern.old }
 {
     match pattern.count(alloc, block) {
@@ -266,7 +273,8 @@ pub extern "C" fn cs_pattern_candidates(
 ) -> i32
     requires opened { IsOk (opening index.now) }
     ensures { OnPattern slot.old.handle.value
-        (IsMisuse slot.old.handle.value slot.new.handle.value result)
+        (IsMisuse slot.old.handle.value slot.new.handle.value result
+        × (ids.new ≡ ids.old) × (count.new ≡ count.old))
         (λ held. IfOk (opening index.now) (λ parts.
         AreCandidates parts held.query ids.old ids.new count.old count.new result)
         × Keeps held slot.new.handle.value) }

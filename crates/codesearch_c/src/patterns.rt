@@ -1,8 +1,9 @@
 // Matches of a held pattern. The cache of its matcher is kept from one call to the next.
-ghost use Rattle.std.specs.Prelude.{◌≡◌, ◌↔◌, None, IfOk, IfSome, IsTrue, length};
+ghost use Rattle.std.specs.Prelude.{◌≡◌, ◌↔◌, None, IfOk, IfSome, OnErr, IsTrue, count_by};
 ghost use Rattle.cs_syntax.specs.Matching.{HasMatch};
 ghost use Rattle.cs_match.specs.Cached.{IsCacheOf};
-ghost use Rattle.codesearch_c.specs.Patterns.{IsLineFrom};
+ghost use Rattle.cs_match.specs.Lines.{lines};
+ghost use Rattle.codesearch_c.specs.MatchingLines.{ForEachTest, IsFirstLine, IsListing};
 
 use crate::held::HeldPattern;
 use crate::lines::{Line, count_lines, first_line, list_lines};
@@ -34,15 +35,14 @@ impl HeldPattern {
         Ok(found)
     }
 
-    /// The first matching line at or after an offset.
+    /// The first matching line from an offset on.
     pub(crate) fn next_line(
         &mut self,
         alloc: Global,
         block: &[u8],
         from: usize,
     ) -> Result<Option<Line>, AllocError>
-        ensures found { IfOk result (λ found. IfSome found (λ line.
-            IsLineFrom block.now from line.start line.end)) }
+        ensures found { IfOk result (IsFirstLine self.old.pattern block.now from) }
         ensures same { self.new ≡ self.old }
     {
         let cache = cache_of(alloc, &mut self.cache, &self.program)?;
@@ -59,8 +59,9 @@ impl HeldPattern {
         block: &[u8],
         lines: &mut [Line],
     ) -> Result<usize, AllocError>
+        ensures listed { IfOk result (IsListing self.old.pattern block.now lines.old lines.new) }
+        ensures err { OnErr result (lines.new ≡ lines.old) }
         ensures same { self.new ≡ self.old }
-        ensures length { length lines.new ≡ length lines.old }
     {
         let cache = cache_of(alloc, &mut self.cache, &self.program)?;
         let mut matcher = Matcher::resume(&self.program, cache);
@@ -71,6 +72,8 @@ impl HeldPattern {
 
     /// The number of matching lines.
     pub(crate) fn count(&mut self, alloc: Global, block: &[u8]) -> Result<u64, AllocError>
+        ensures found { IfOk result (λ count. ForEachTest self.old.pattern (λ has_match.
+            count ≡ count_by has_match (lines block.now))) }
         ensures same { self.new ≡ self.old }
     {
         let cache = cache_of(alloc, &mut self.cache, &self.program)?;

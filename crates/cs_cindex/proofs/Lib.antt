@@ -10,6 +10,7 @@ mod JobPathLemmas
 mod DiagnosticLemmas
 mod NextIndexLemmas
 mod OldIndexLemmas
+mod ReplacedIndexLemmas
 mod OutcomeLemmas
 mod RefusedJobLemmas
 mod StepLemmas

@@ -34,7 +34,7 @@ use Rattle.cs_history.proofs.HistoryLemmas.{walk_content, walk_lies}
 use Rattle.cs_history.proofs.IndexLemmas.{merged_as, first_index, given_some, walked_own, walked_again, no_index}
 use Rattle.std.specs.Result.{IsOkAnd}
 use Rattle.cs_cindex.specs.Merges.{MergesTo, IsMergeRefusal}
-use Rattle.cs_cindex.specs.Next.{opening_paths, base_paths, paths_of_job, opening_merge, next_index, HasWholeLists, IsIndex, IsIndexOf, IsTreeTooLarge, IsOwnIndex, IsNextLong, alone, merged, IsNext}
+use Rattle.cs_cindex.specs.Next.{opening_paths, base_paths, paths_of_job, opening_merge, next_index, HasWholeLists, IsIndex, IsIndexOf, IsReducedIndex, IsTreeTooLarge, IsOwnIndex, IsNextLong, alone, merged, IsNext}
 use Rattle.cs_cindex.specs.Refusals.{base, IsWalkFault}
 use Rattle.cs_cindex.proofs.OldIndexLemmas.{OpensWith, OpensFor, history_opens, opened_encoding}
 use Rattle.cs_cindex.proofs.RefusedJobLemmas.{walks_parts}
@@ -50,6 +50,14 @@ pub own_index : (job : IndexJob) (tree : Option Snapshot) (old : Option (List �
 own_index job tree old paths bytes e index built short = record {
   index = subst (λ ps. IsIndex ps bytes) e index;
   model = subst (λ ps. IsIndexOf tree ps bytes) e built;
+  short = short;
+}
+
+-- it has reduced paths
+pub reduced_index : (job : IndexJob) (old : Option (List ℕ)) (paths : Paths) (bytes : List ℕ) → paths ≡ paths_of_job job old → IsIndex paths bytes → length bytes < 2 ^ 32 → IsReducedIndex bytes
+reduced_index job old paths bytes e index short = record {
+  paths = cond (has_no_path job) (base_paths old) (given_paths job);
+  index = subst (λ ps. IsIndex ps bytes) e index;
   short = short;
 }
 

@@ -60,6 +60,12 @@ pub record IsIndex (paths : Paths) (bytes : List ℕ) : Type 0 where
   pub under : LieUnder paths files
   pub is : bytes ≡ encoding paths files
 
+-- The index of a walk: its paths are reduced, its files lie under them, and it has fewer than 2^32 bytes.
+pub record IsReducedIndex (bytes : List ℕ) : Type 0 where
+  pub paths : Paths
+  pub index : IsIndex (least paths) bytes
+  pub short : IsShort (Some bytes)
+
 -- The bytes are the index of what a walk from the paths finds, if the tree is modelled.
 abbrev pub IsIndexOf : Option Snapshot → Paths → List ℕ → Type 0
 IsIndexOf tree paths bytes = IsModelled tree → bytes ≡ tree_index (modelled_snapshot tree) paths

@@ -1,5 +1,5 @@
 // Jobs that walk.
-ghost use Rattle.std.specs.Prelude.{◌≡◌, true, Some, None, map, string_bytes, IfOk, IfErr};
+ghost use Rattle.std.specs.Prelude.{◌≡◌, true, Some, None, Ok, map, string_bytes, IfOk, IfErr};
 ghost use Rattle.cs_tree.specs.Clean.{longest_path};
 ghost use Rattle.cs_tree.specs.Folders.{are_distinct};
 ghost use Rattle.cs_tree.specs.Walks.{RequestsWithin};
@@ -9,7 +9,7 @@ ghost use Rattle.cs_tree.specs.PathSet as set;
 ghost use Rattle.cs_tree.specs.Cover.{least};
 ghost use Rattle.cs_index.specs.Opening.{opening};
 ghost use Rattle.cs_cindex.specs.Merges.{IsMergeRefusal, MergesTo, refusal_of};
-ghost use Rattle.cs_cindex.specs.Next.{IsNext};
+ghost use Rattle.cs_cindex.specs.Next.{IsNext, IsReducedIndex};
 ghost use Rattle.cs_cindex.specs.Refusals.{IsWalkFault, base_fault, early_walk_fault};
 ghost use Rattle.cs_history.specs.Premises.{IsShort};
 ghost use Rattle.cs_history.specs.Jobs.{HasAbsoluteFolder};
@@ -22,7 +22,7 @@ use crate::indexing::index_paths;
 use crate::old::{open_old, recorded_paths};
 use cs_args::{CindexFault, IndexJob};
 use cs_index::{Index, IndexFault};
-use cs_merge::{MergeFault, merge};
+use cs_merge::{MergeFault, is_replaced, is_whole, merge};
 use cs_tree::{Sink, Tree, reduce};
 use std::alloc::{AllocError, Global};
 
@@ -119,7 +119,7 @@ fn extended_index<T: Tree, E: Sink>(
     let index = open_old(alloc, old)?;
     let paths = paths_to_walk(alloc, &index, given)?;
     let newer = index_paths(alloc, tree, &paths, job.log_skip, err)?;
-    let merged = merge_old(alloc, &index, &newer)?;
+    let merged = merge_old(alloc, &index, newer)?;
     Ok(merged)
 }
 
@@ -141,15 +141,34 @@ fn paths_to_walk(
     Ok(paths)
 }
 
-/// Merges the base index with the bytes of a newer one, whose names are distinct and lie under its paths.
-fn merge_old(alloc: Global, old: &Index<'_>, newer: &[u8]) -> Result<Vec<u8>, CindexFault>
-    requires { are_distinct old.now.names ≡ true }
-    ensures merged { IfOk result (λ index. MergesTo old.now (opening newer.now) index.items) }
+/// Merges the base index with that of a walk. Where the walked paths cover the base index, the bytes of the walk are
+/// the merged index, and the lists of the base are only read for damage.
+fn merge_old(alloc: Global, old: &Index<'_>, newer: Vec<u8>) -> Result<Vec<u8>, CindexFault>
+    requires names { are_distinct old.now.names ≡ true }
+    requires newer { IsReducedIndex newer.items }
+    ensures merged { IfOk result (λ index. MergesTo old.now (opening newer.items) index.items) }
     ensures short { IfOk result (λ index. IsShort (Some index.items)) }
-    ensures fault { IfErr result (IsMergeRefusal old.now (opening newer.now)) }
+    ensures fault { IfErr result (IsMergeRefusal old.now (opening newer.items)) }
 {
-    let newer = Index::open(newer)?;
-    match merge(alloc, old, &newer) {
+    let index = Index::open(&newer)?;
+    let replaced = is_replaced(alloc, old, &index)?;
+    if !replaced {
+        return merge_both(alloc, old, &index);
+    }
+    if !is_whole(old) {
+        return Err(CindexFault::BadIndex(IndexFault::BadList));
+    }
+    Ok(newer)
+}
+
+/// Merges the base index with a newer one, whose names are distinct and lie under its paths.
+fn merge_both(alloc: Global, old: &Index<'_>, newer: &Index<'_>) -> Result<Vec<u8>, CindexFault>
+    requires { are_distinct old.now.names ≡ true }
+    ensures merged { IfOk result (λ index. MergesTo old.now (Ok newer.now) index.items) }
+    ensures short { IfOk result (λ index. IsShort (Some index.items)) }
+    ensures fault { IfErr result (IsMergeRefusal old.now (Ok newer.now)) }
+{
+    match merge(alloc, old, newer) {
         Ok(index) => Ok(index),
         Err(fault) => Err(merge_refusal(fault)),
     }

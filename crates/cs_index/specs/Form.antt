@@ -45,6 +45,11 @@ abbrev pub IsNumberOf : List ℕ → List Node → Query → ℕ → Type 0
 IsNumberOf trigrams nodes query n = (set : ℕ → Bool) → IsWithin trigrams set →
     number_matches (map set trigrams) nodes n ≡ matches_set query set
 
+-- the list at this position matches whenever the number does
+abbrev pub IsRequired : ℕ → List Node → ℕ → ℕ → Type 0
+IsRequired lists nodes n at =
+    (at < lists) × ((bits : List Bool) → length bits ≡ lists → number_matches bits nodes n ≡ true → slice_index_or bits at false ≡ true)
+
 -- how many numbers there are
 abbrev pub numbers : ℕ → List Node → ℕ
 numbers lists nodes = 2 + lists + length nodes

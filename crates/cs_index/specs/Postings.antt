@@ -1,5 +1,6 @@
 -- Look-up of a posting list, and the items of its iterator.
 use Rattle.std.specs.Prelude.{◌≡◌, ◌⊎◌, ℕ, Bool, true, false, nat_eq, List, [], ◌∷◌, ◌++◌, map, if◌then◌else◌, Result, Ok, Err, Option, find, option_map, unwrap_or}
+use Rattle.std.specs.Option.{is_some}
 use Rattle.cs_index.specs.PostingLists.{Ids}
 use Rattle.cs_index.specs.declared.fault.IndexFault.{IndexFault}
 use Rattle.cs_index.specs.declared.fault.IndexFault.TheVariants.{BadList, Memory}
@@ -9,6 +10,10 @@ use Rattle.cs_index.specs.OpenedParts.{Parts, ids_read}
 -- the entry of a trigram
 abbrev pub entry_of : List ListEntry → ℕ → Option ListEntry
 entry_of entries g = find (λ (e : ListEntry). nat_eq e.trigram g) entries
+
+-- whether a trigram has an entry
+abbrev pub has_entry : List ListEntry → ℕ → Bool
+has_entry entries g = is_some (entry_of entries g)
 
 -- the list of a trigram without an entry
 abbrev pub nothing_read : Ids

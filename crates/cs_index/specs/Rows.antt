@@ -1,5 +1,5 @@
 -- Rows: the ids of a window that match each node of a form, as a flag for each id. A row without flags has no id.
-use Rattle.std.specs.Prelude.{◌≡◌, ◌<◌, ◌≤◌, ◌+◌, ◌⊎◌, ℕ, Bool, false, List, length, map, slice_index_or, Vec}
+use Rattle.std.specs.Prelude.{◌≡◌, ◌<◌, ◌≤◌, ◌+◌, ◌⊎◌, ℕ, Bool, false, List, length, map, slice_index_or, Vec, Option, None, Some}
 use Rattle.std.specs.declared.alloc.Global.{Global}
 use Rattle.std.specs.List.{AllByRecursion, list_all}
 use Rattle.cs_trigram.specs.Trigram.{has}
@@ -15,15 +15,15 @@ column k rows = map (λ row. slice_index_or row.items k false) rows
 abbrev pub HaveWidth : ℕ → List (Vec Bool Global) → Type 0
 HaveWidth width rows = AllByRecursion (λ row. (length row.items ≡ 0) ⊎ (length row.items ≡ width)) rows
 
--- The list as it is read further has the same ids from this one on, and no others.
+-- The list as it is read further has the same ids from this one on.
 pub record IsReadTo (end : ℕ) (list rest : Ids) : Type 0 where
   pub same : (id : ℕ) → end ≤ id → has rest.ids id ≡ has list.ids id
-  pub from : AscendWithin max_ids end rest.ids
+  pub ascend : AscendWithin max_ids 0 rest.ids
   pub whole : rest.whole ≡ list.whole
 
--- the ids that are left of the list are not less than this one
-abbrev pub IsLeftFrom : List ℕ → ℕ → ListState → Type 0
-IsLeftFrom bytes start list = Holds bytes list × AscendWithin max_ids start (ids_left bytes list).ids
+-- the list can be read on, and the ids that are left of it ascend
+abbrev pub IsLeft : List ℕ → ListState → Type 0
+IsLeft bytes list = Holds bytes list × AscendWithin max_ids 0 (ids_left bytes list).ids
 
 -- the list of a store as it is read further
 abbrev pub IsReadOn : List ℕ → ℕ → ListState → ListState → Type 0
@@ -37,6 +37,11 @@ IsRowOf bytes start end list row =
 -- whether each list has the id
 abbrev pub have_id : List ℕ → List ListState → ℕ → List Bool
 have_id bytes lists id = map (λ (list : ListState). has (ids_left bytes list).ids id) lists
+
+-- the list at this position does not have the id
+abbrev pub LacksId : List Bool → Option ℕ → Type 0
+LacksId bits None = ⊥
+LacksId bits (Some at) = slice_index_or bits at false ≡ false
 
 -- whether each list is whole
 abbrev pub are_whole : List ℕ → List ListState → Bool

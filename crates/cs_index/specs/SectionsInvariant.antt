@@ -1,5 +1,5 @@
 -- The model and the representation invariant of `Sections`.
-use Rattle.std.specs.Prelude.{◌≡◌, ◌≢◌, ℕ, ◌+◌, ◌-◌, nat_eq, List, [], ◌∷◌, ◌++◌, length, map, Option, None, Some, if◌then◌else◌}
+use Rattle.std.specs.Prelude.{◌≡◌, ◌≢◌, ℕ, ◌+◌, ◌-◌, nat_eq, List, [], ◌∷◌, ◌++◌, length, map, Option, None, Some, slice_get, if◌then◌else◌}
 use Rattle.std.specs.List.{concat}
 use Rattle.std.specs.Option.{option_map_or}
 use Rattle.cs_index.specs.declared.writing.sections.Sections.TheInside.{Inside}
@@ -25,6 +25,10 @@ lists_at bytes entries = map (λ (e : ListEntry). (e.trigram, ids_at bytes e)) e
 -- an entry whose offset is relative to `at`
 abbrev pub entry_from : ℕ → ListEntry → ListEntry
 entry_from at e = record { trigram = e.trigram; count = e.count; offset = e.offset - at }
+
+-- the offset of the first list; `last` is that of the list after the entries
+abbrev pub first_of : List ListEntry → ℕ → ℕ
+first_of entries last = option_map_or (λ (e : ListEntry). e.offset) (slice_get entries 0) last
 
 -- The bytes are a prefix, closed lists, and the current list without its closing zero.
 pub record IsOpen (prefix bytes : List ℕ) (entries : List ListEntry) (current : ListEntry) (next : ℕ)

@@ -2,9 +2,10 @@
 -- docs/FORMAT.md, "The index as it is read".
 use Rattle.std.specs.Prelude.{◌≡◌, ◌<◌, ◌≤◌, ◌^◌, ◌⊎◌, ℕ, ◌+◌, ◌-◌, Bool, true, List, [], ◌++◌, length, Option, Some, None, if◌then◌else◌, Vec}
 use Rattle.std.specs.declared.alloc.Global.{Global}
+use Rattle.std.specs.List.{AllByRecursion}
 use Rattle.cs_tree.specs.Store.{part_of}
 use Rattle.cs_index.specs.AscendingIds.{BeginsFrom, max_ids}
-use Rattle.cs_index.specs.PostingLists.{Ids, onto, read_ids}
+use Rattle.cs_index.specs.PostingLists.{Ids, before, onto, read_ids}
 use Rattle.cs_index.specs.OpenedParts.{Parts}
 use Rattle.cs_index.specs.Opening.{entries_in, is_list_index}
 use Rattle.cs_index.specs.declared.reading.stored_list.ListSection.{ListSection}
@@ -57,6 +58,11 @@ abbrev pub GivesBelow : List ℕ → ℕ → ListState → ListState → Option 
 GivesBelow bytes end list rest (Some id) = Holds bytes rest × (ids_left bytes list ≡ onto id (ids_left bytes rest)) × (id < end)
 GivesBelow bytes end list rest None =
     Holds bytes rest × (ids_left bytes rest ≡ ids_left bytes list) × BeginsFrom end (ids_left bytes list).ids
+
+-- ids less than `end` are taken from the list
+abbrev pub SkipsBelow : List ℕ → ℕ → ListState → ListState → Type 0
+SkipsBelow bytes end list rest =
+    Holds bytes rest × (skipped : List ℕ) × (ids_left bytes list ≡ before skipped (ids_left bytes rest)) × AllByRecursion (λ id. id < end) skipped
 
 -- The offsets, the ids and the piece of a list are within their bounds.
 pub record IsListState (piece : Vec ℕ Global) (used start stop size next name_count : ℕ) : Type 0 where

@@ -9,6 +9,7 @@ mod name_table;
 mod order;
 mod postings;
 mod query_trigrams;
+mod rarest;
 mod rows;
 mod section_offsets;
 mod section_slices;

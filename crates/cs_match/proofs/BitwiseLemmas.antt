@@ -1,10 +1,10 @@
 -- Bits of words that are combined or shifted.
-use Rattle.std.proofs.Common.{◌≡◌, ℕ, zero, suc, ◌+◌, ◌*◌, ◌/◌, ◌%◌, ◌^◌, ◌<◌, Bool, true, false, ◌&&◌, ◌||◌, eqb, List, length, get_or, bit_and, bit_or, min, max, refl, inl, inr, sym, ◌∙◌, ap, arith}
-use Rattle.std.proofs.Math.Bool.{or-false}
-use Rattle.std.proofs.lemmas.Nat.Bits.{bit_at-lt, bit_at-suc, bit_at_lowest, bit_at_above, bit_at_cat_low, bit_at_and, bit_at_or}
+use Rattle.std.proofs.Common.{◌≡◌, ℕ, zero, suc, ◌+◌, ◌*◌, ◌/◌, ◌%◌, ◌^◌, ◌<◌, Bool, true, false, ◌&&◌, ◌||◌, eqb, List, length, get_or, bit_and, bit_or, bit_xor, min, max, refl, inl, inr, sym, ◌∙◌, ap, arith}
+use Rattle.std.proofs.Math.Bool.{or-false, or-true}
+use Rattle.std.proofs.lemmas.Nat.Bits.{bit_at-lt, bit_at-suc, bit_at_lowest, bit_at_above, bit_at_cat_low, bit_at_and, bit_at_or, bit_at_xor}
 use Rattle.std.proofs.lemmas.Bool.{cases_lt}
 use Rattle.std.proofs.lemmas.List.{get_or_past}
-use Rattle.std.specs.Prelude.{All}
+use Rattle.std.specs.Prelude.{All, if◌then◌else◌}
 use Rattle.std.specs.Int.{bit_at}
 use Rattle.cs_syntax.specs.Bits.{has_bit}
 
@@ -42,6 +42,27 @@ bit-and a b i = ap (λ x. eqb x 1) (bit_at_and a b i) ∙ both (bit_at a i) (bit
 
 pub bit-or : (a b i : ℕ) → eqb (bit_at (bit_or a b) i) 1 ≡ eqb (bit_at a i) 1 || eqb (bit_at b i) 1
 bit-or a b i = ap (λ x. eqb x 1) (bit_at_or a b i) ∙ either (bit_at a i) (bit_at b i) (bit_at-lt a i) (bit_at-lt b i)
+
+-- bits of a word that are set or cleared
+set_bits : (w b on : Bool) → on ≡ true → w || b ≡ if b then on else w
+set_bits w true on e = or-true w ∙ sym e
+set_bits w false on e = or-false w
+
+pub bits-set : (word bits i : ℕ) (on : Bool) → on ≡ true → eqb (bit_at (bit_or word bits) i) 1 ≡ if eqb (bit_at bits i) 1 then on else eqb (bit_at word i) 1
+bits-set word bits i on e = bit-or word bits i ∙ set_bits (eqb (bit_at word i) 1) (eqb (bit_at bits i) 1) on e
+
+clear : (w b : ℕ) (on : Bool) → w < 2 → b < 2 → on ≡ false → eqb ((max w b + b) % 2) 1 ≡ if eqb b 1 then on else eqb w 1
+clear zero zero on p q e = refl
+clear zero (suc zero) on p q e = sym e
+clear (suc zero) zero on p q e = refl
+clear (suc zero) (suc zero) on p q e = sym e
+clear w (suc (suc b)) on p q e = absurd (omega (arith, q))
+clear (suc (suc w)) b on p q e = absurd (omega (arith, p))
+
+pub bits-cleared : (word bits i : ℕ) (on : Bool) → on ≡ false → eqb (bit_at (bit_xor (bit_or word bits) bits) i) 1 ≡ if eqb (bit_at bits i) 1 then on else eqb (bit_at word i) 1
+bits-cleared word bits i on e =
+    ap (λ x. eqb x 1) (bit_at_xor (bit_or word bits) bits i ∙ ap (λ x. (x + bit_at bits i) % 2) (bit_at_or word bits i))
+    ∙ clear (bit_at word i) (bit_at bits i) on (bit_at-lt word i) (bit_at-lt bits i) e
 
 -- the lowest bit of a word shifted left is clear, and the others move up by one
 pub shl-lowest : (word : ℕ) → eqb (bit_at (word * 2 % 18446744073709551616) 0) 1 ≡ false

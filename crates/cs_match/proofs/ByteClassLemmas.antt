@@ -1,7 +1,7 @@
 -- The bytes of a class are alike.
 use Rattle.std.proofs.Common.{◌≡◌, ℕ, zero, suc, ◌+◌, ◌-◌, ◌<◌, ◌≤◌, ◌⊎◌, inl, inr, Bool, true, false, ◌&&◌, ◌||◌, List, [], ◌∷◌, take, drop, refl, sym, ◌∙◌, ap, subst, arith}
-use Rattle.std.specs.Prelude.{nat_eq, nat_lt, not}
-use Rattle.std.proofs.lemmas.Bool.{and_parts, cases_lt, lt-ltb, ltb-true, ne_eqb, not-true, or_cases}
+use Rattle.std.specs.Prelude.{nat_eq}
+use Rattle.std.proofs.lemmas.Bool.{cases_lt, lt-ltb, ne_eqb}
 use Rattle.cs_syntax.specs.Matching.{Tree, Trees, empty, one_of, one_char, cat, alt, rep, line_start, line_end, word_edge, not_word_edge, none, more, is_word}
 use Rattle.cs_syntax.specs.CharSteps.{unfinished_after}
 use Rattle.cs_syntax.specs.declared.char_step.CharStep.TheVariants.{Single}
@@ -124,20 +124,6 @@ classes_by t bits first words new is ten eleven both marks b lt e =
     let kept = marks.kept (suc b) e in
     let words_alike = subst (λ (x : LookBehind). (is_word b && x.word) ≡ (is_word (suc b) && x.word)) is (both.alike b lt kept) in
     record { newline = newlines first b ten eleven (both.kept (suc b) kept); word = words_alike; sets = marks.alike b lt e }
-
--- no class begins at the next byte, and both bytes are characters or do the same
-pub together_by : (t : Tree) (begins : List Bool) (at : Unfinished) (b : ℕ) (is_begin alike : Bool) → AreClasses t begins → b < 255 → is_begin ≡ begins_at begins (b + 1) →
-    (alike ≡ true → char_step_of t at b ≡ char_step_of t at (b + 1)) → (not is_begin && (nat_lt b 127 || alike)) ≡ true → StepTogether t at b (suc b)
-together_by t begins at b is_begin alike classes lt is same h =
-    let parts = and_parts (not is_begin) (nat_lt b 127 || alike) h in
-    let next : b + 1 ≡ suc b = omega arith in
-    record {
-      together = classes b (omega arith) (ap (begins_at begins) (sym next) ∙ sym is ∙ not-true is_begin parts.0);
-      step = elim (or_cases (nat_lt b 127) alike parts.1) [
-        | inl low ↦ inl (let below = ltb-true b 127 low in omega arith)
-        | inr e ↦ inr (same e ∙ ap (char_step_of t at) next)
-      ];
-    }
 
 -- a class grows by a byte
 pub together_down : (t : Tree) (at : Unfinished) (low top : ℕ) → StepTogether t at low (suc low) → ((b : ℕ) → low + 1 ≤ b → b < top → StepTogether t at b (suc b)) →

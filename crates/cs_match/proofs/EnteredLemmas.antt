@@ -2,7 +2,7 @@
 use Rattle.std.proofs.Common.{◌≡◌, ℕ, zero, suc, ◌+◌, ◌<◌, Bool, true, false, ◌&&◌, ◌||◌, List, [], ◌∷◌, ◌++◌, take, drop, length, map, get_or, refl, sym, ◌∙◌, ap, arith, length-append, length-take, length-drop, ext_get_or}
 use Rattle.std.proofs.Math.Bool.{and-false, or-false}
 use Rattle.std.proofs.Math.Seq.{get_or-take}
-use Rattle.cs_syntax.specs.Matching.{Tree, Trees, empty, one_of, one_char, cat, alt, rep, line_start, line_end, word_edge, not_word_edge, none, more, member}
+use Rattle.cs_syntax.specs.Matching.{Tree, Trees, empty, one_of, one_char, cat, alt, rep, line_start, line_end, word_edge, not_word_edge, none, more}
 use Rattle.cs_syntax.specs.CharSteps.{taken_after, begun_after}
 use Rattle.cs_syntax.specs.declared.char_step.CharStep.{CharStep}
 use Rattle.cs_syntax.specs.declared.char_step.CharStep.TheVariants.{Single, Begins, Inside, Completes, Nothing}
@@ -12,7 +12,6 @@ use Rattle.cs_match.specs.declared.position.Position.{Position}
 use Rattle.cs_match.specs.Glushkov.{position_count, position_count_of, is_final, accepts, step, step_all, step_each}
 use Rattle.cs_match.specs.PositionSet.{is_moved}
 use Rattle.cs_match.specs.Entered.{position_list, position_list_of, entered, entered_all, entered_each, if_entered, if_previous, if_kept, moved}
-use Rattle.cs_match.proofs.GlushkovLemmas.{length-step}
 
 -- one for each position
 mutual

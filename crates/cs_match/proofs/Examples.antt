@@ -3,14 +3,14 @@ use Rattle.std.proofs.Common.{◌≡◌, true, false, [], ◌∷◌, refl, ap, a
 use Rattle.std.specs.Prelude.{None}
 use mathlib.Core.Bool.{xor}
 use Rattle.std.proofs.lemmas.Bool.{both_ways}
-use Rattle.cs_syntax.specs.Matching.{Tree, one_of, one_char, cat, rep, none, more, word_edge, line_end, member}
+use Rattle.cs_syntax.specs.Matching.{Tree, one_of, one_char, cat, rep, none, more, word_edge, line_end}
 use Rattle.cs_match.specs.declared.look_around.LookAround.{LookAround}
 use Rattle.cs_match.specs.Lines.{lines, terminated_lines}
-use Rattle.cs_match.specs.PositionSet.{positions_of, shift_and, intersect}
+use Rattle.cs_match.specs.PositionSet.{positions_of, intersect}
 use Rattle.cs_match.specs.Glushkov.{repeats, loop_ends}
-use Rattle.cs_match.specs.BitParallel.{lasts_by}
-use Rattle.cs_match.specs.Entered.{entered, position_list, moved}
-use Rattle.cs_match.specs.Parts.{run}
+use Rattle.cs_match.specs.Sequences.{firsts_of, lasts_of}
+use Rattle.cs_match.specs.Entered.{entered, entered_each, position_list, moved}
+use Rattle.cs_match.specs.Parts.{run, runs}
 use Rattle.cs_match.specs.declared.position.Position.TheVariants.{Bytes, Begun, Taken}
 use Rattle.cs_syntax.specs.declared.char_step.CharStep.TheVariants.{Begins}
 use Rattle.cs_match.specs.Skipping.{AreWholeLines}
@@ -46,13 +46,16 @@ five_is_the_first_and_the_third : positions_of (5 ∷ []) 3 ≡ true ∷ false �
 unfolding positions_of
 five_is_the_first_and_the_third = refl
 
--- sequences with two positions and one: the first position moves to the next, and the third does not match
--- the byte
-positions_shift : shift_and false (true ∷ false ∷ true ∷ []) (true ∷ true ∷ false ∷ []) (true ∷ false ∷ true ∷ []) ≡ true ∷ true ∷ false ∷ []
-positions_shift = refl
+-- sequences with two positions and one
+first_positions_of_sequences : firsts_of (1 ∷ 0 ∷ []) ≡ true ∷ false ∷ true ∷ []
+first_positions_of_sequences = refl
 
-a_sequence_ends_where_the_next_begins : lasts_by (true ∷ false ∷ true ∷ []) ≡ false ∷ true ∷ true ∷ []
-a_sequence_ends_where_the_next_begins = refl
+last_positions_of_sequences : lasts_of (1 ∷ 0 ∷ []) ≡ false ∷ true ∷ true ∷ []
+last_positions_of_sequences = refl
+
+-- the second position is entered after the first one, and the end of a sequence does not enter the next one
+sequences_that_are_not_entered : (a : LookAround) → entered_each (runs (1 ∷ 0 ∷ [])) false (true ∷ true ∷ false ∷ []) a ≡ false ∷ true ∷ false ∷ []
+sequences_that_are_not_entered a = refl
 
 a_last_position_is_accepted : intersect (true ∷ true ∷ false ∷ []) (false ∷ true ∷ true ∷ []) ≡ true
 a_last_position_is_accepted = refl

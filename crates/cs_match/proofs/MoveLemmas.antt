@@ -9,7 +9,7 @@ use Rattle.std.proofs.lemmas.Nat.Bits.{bit_at-zero}
 use Rattle.std.specs.Int.{bit_at}
 use Rattle.cs_syntax.specs.Bits.{has_bit}
 use Rattle.cs_match.specs.PositionSet.{positions_of, IsPositionSet, is_moved}
-use Rattle.cs_match.proofs.BitwiseLemmas.{carry, previous, shifted, shifted-bit, carry-lt, bit-and, bit-or, has_bit-at}
+use Rattle.cs_match.proofs.BitwiseLemmas.{carry, previous, shifted, shifted-bit, carry-lt, bit-and, bit-or}
 use Rattle.cs_match.proofs.PositionSetLemmas.{length-positions_of, get_or-positions_of}
 
 -- a set with one position more
@@ -17,7 +17,7 @@ pub one_more : (a b : List ℕ) (m n : ℕ) (xs ys : List Bool) → positions_of
 one_more a b m n xs ys of-a of-b more = omega (arith, length-positions_of a m, length-positions_of b n, ap length of-a, ap length of-b, more)
 
 -- a bit past the words
-past_words : (words : List ℕ) (k : ℕ) → length words ≤ k / 64 → has_bit words k ≡ false
+pub past_words : (words : List ℕ) (k : ℕ) → length words ≤ k / 64 → has_bit words k ≡ false
 past_words words k h = ap (λ x. eqb (bit_at x (k % 64)) 1) (get_or_past words (k / 64) 0 h) ∙ ap (λ x. eqb x 1) (bit_at-zero (k % 64))
 
 -- the shifted set has one position more

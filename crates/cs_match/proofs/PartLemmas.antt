@@ -3,13 +3,16 @@ use Rattle.std.proofs.Common.{◌≡◌, ℕ, suc, ◌+◌, ◌<◌, List, [], �
 use Rattle.std.specs.Prelude.{None}
 use Rattle.cs_syntax.specs.Matching.{cat, alt, rep, line_start, line_end, word_edge, not_word_edge, none, more}
 use Rattle.cs_syntax.specs.TreeList.{append}
-use Rattle.cs_match.specs.Parts.{run, shape_of, shape_step, shapes_of}
+use Rattle.cs_match.specs.Parts.{run, runs, shape_of, shape_step, shapes_of}
 use Rattle.cs_match.specs.declared.parts.Part.{Part, Part-F, fold-roll-Part}
-use Rattle.cs_match.specs.declared.parts.Part.TheVariants.{Run, Cat, Alt, Rep, LineStart, LineEnd, WordEdge, NotWordEdge, rolls-Run, rolls-Cat, rolls-Alt, rolls-Rep, rolls-LineStart, rolls-LineEnd, rolls-WordEdge, rolls-NotWordEdge}
+use Rattle.cs_match.specs.declared.parts.Part.TheVariants.{Run, Alternation, Cat, Alt, Rep, LineStart, LineEnd, WordEdge, NotWordEdge, rolls-Run, rolls-Alternation, rolls-Cat, rolls-Alt, rolls-Rep, rolls-LineStart, rolls-LineEnd, rolls-WordEdge, rolls-NotWordEdge}
 use Rattle.cs_syntax.specs.Matching.{Tree}
 
 pub shape_of-Run : (n : ℕ) → shape_of (Run n) ≡ run n
 shape_of-Run n = ap shape_of (sym (rolls-Run n)) ∙ fold-roll-Part Tree shape_step (Part-F.Run n)
+
+pub shape_of-Alternation : (ns : List ℕ) → shape_of (Alternation ns) ≡ alt (runs ns)
+shape_of-Alternation ns = ap shape_of (sym (rolls-Alternation ns)) ∙ fold-roll-Part Tree shape_step (Part-F.Alternation ns)
 
 pub shape_of-Cat : (parts : Vec Part Global) → shape_of (Cat parts) ≡ cat (shapes_of parts.items)
 shape_of-Cat parts = ap shape_of (sym (rolls-Cat parts)) ∙ fold-roll-Part Tree shape_step (Part-F.Cat parts)
@@ -49,3 +52,8 @@ pub ruleset part_rules = (shape_of-Run, shape_of-Cat, shape_of-Alt, shape_of-Rep
 pub shapes_none : (xs : List Part) → length xs ≡ 0 → shapes_of xs ≡ none
 shapes_none [] h = refl
 shapes_none (x ∷ xs) h = absurd (omega (arith, h))
+
+-- a run is pushed
+pub runs_last : (ns : List ℕ) (n : ℕ) → runs (ns ++ n ∷ []) ≡ append (runs ns) (more (run (suc n)) none)
+runs_last [] n = refl
+runs_last (m ∷ ns) n = ap (more (run (suc m))) (runs_last ns n)

@@ -1,17 +1,17 @@
 -- Trees of the same shape. The shape is that of each part, whatever the sets are, and a concatenation may be grouped
 -- in any way.
-use Rattle.std.proofs.Common.{◌≡◌, ℕ, zero, suc, ◌+◌, ◌-◌, ◌<◌, ◌≤◌, Bool, true, false, ◌&&◌, ◌||◌, List, [], ◌∷◌, ◌++◌, take, drop, length, get_or, refl, sym, ◌∙◌, ap, ap₂, subst, arith, append_assoc}
-use Rattle.std.specs.Prelude.{Option, None, nat_eq}
-use Rattle.std.proofs.Math.Bool.{and-false, and_assoc, or-false, or_assoc}
-use Rattle.std.proofs.Math.Seq.{take-take, get_or-take}
-use Rattle.std.proofs.lemmas.List.{append-nil, drop-drop, drop-take}
+use Rattle.std.proofs.Common.{◌≡◌, ℕ, zero, suc, ◌+◌, ◌≤◌, Bool, true, false, ◌&&◌, ◌||◌, List, [], ◌∷◌, ◌++◌, take, drop, length, get_or, refl, sym, ◌∙◌, ap, ap₂, subst, arith, append_assoc}
+use Rattle.std.specs.Prelude.{Option, nat_eq}
+use Rattle.std.proofs.Math.Bool.{and-false, and_assoc}
+use Rattle.std.proofs.Math.Seq.{take-take}
+use Rattle.std.proofs.lemmas.List.{drop-drop, drop-take}
 use Rattle.cs_syntax.specs.Matching.{Tree, Trees, empty, one_of, one_char, cat, alt, rep, none, more}
 use Rattle.cs_syntax.specs.TreeList.{append}
 use Rattle.cs_syntax.proofs.TreeListLemmas.{append_assoc_trees, append_none}
 use Rattle.cs_match.specs.declared.look_around.LookAround.{LookAround}
-use Rattle.cs_match.specs.Glushkov.{position_count, position_count_of, repeats, repeats_of, nullable, nullable_all, nullable_some, is_final, is_final_all, is_final_some, accepts, loop_ends, loop_ends_of}
+use Rattle.cs_match.specs.Glushkov.{position_count, position_count_of, repeats, repeats_of, nullable, nullable_all, nullable_some, is_final, is_final_all, accepts, loop_ends, loop_ends_of}
 use Rattle.cs_match.specs.Expansion.{copies}
-use Rattle.cs_match.specs.Entered.{entered, entered_all, entered_each}
+use Rattle.cs_match.specs.Entered.{entered, entered_all}
 use Rattle.cs_match.specs.Parts.{run, HaveSameShape}
 use Rattle.cs_match.proofs.GlushkovLemmas.{cat_bools}
 

@@ -1,7 +1,6 @@
 -- The masks of a program, one for each input that was seen.
 use Rattle.std.specs.Prelude.{ℕ, ◌≡◌, ◌+◌, ◌<◌, true, List, length, map, vec_len, slice_index_or}
 use Rattle.cs_syntax.specs.Matching.{Tree}
-use Rattle.cs_match.specs.declared.input.Input.{Input}
 use Rattle.cs_match.specs.declared.position.Position.{Position}
 use Rattle.cs_match.specs.declared.masks.Mask.{Mask}
 use Rattle.cs_match.specs.declared.masks.Masks.{Masks}

@@ -1,6 +1,6 @@
 -- The parts of a program: its tree without the sets. A run of positions is one part.
-use Rattle.std.specs.Prelude.{ℕ, ◌≡◌, Bool, List, [], map, None}
-use Rattle.cs_syntax.specs.Matching.{Tree, Trees, one_of, cat, alt, rep, line_start, line_end, word_edge, not_word_edge, none}
+use Rattle.std.specs.Prelude.{ℕ, suc, ◌≡◌, Bool, List, [], ◌∷◌, map, None}
+use Rattle.cs_syntax.specs.Matching.{Tree, Trees, one_of, cat, alt, rep, line_start, line_end, word_edge, not_word_edge, none, more}
 use Rattle.cs_syntax.specs.Node.{trees}
 use Rattle.cs_match.specs.declared.look_around.LookAround.{LookAround}
 use Rattle.cs_match.specs.declared.parts.Part.{Part}
@@ -14,9 +14,15 @@ use Rattle.cs_match.specs.Entered.{entered}
 abbrev pub run : ℕ → Tree
 run n = cat (copies n (one_of []) none)
 
+-- such sequences, by the number of positions after the first of each
+abbrev pub runs : List ℕ → Trees
+runs [] = none
+runs (n ∷ ns) = more (run (suc n)) (runs ns)
+
 -- the shape of a part: a tree with such sets
 abbrev pub shape_step : Part-F Tree → Tree
 shape_step (Part-F.Run n) = run n
+shape_step (Part-F.Alternation ns) = alt (runs ns)
 shape_step (Part-F.Cat parts) = cat (trees parts.items)
 shape_step (Part-F.Alt parts) = alt (trees parts.items)
 shape_step (Part-F.Rep x n) = rep x.value n None

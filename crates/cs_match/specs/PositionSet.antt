@@ -1,5 +1,5 @@
 -- Position sets as bit vectors.
-use Rattle.std.specs.Prelude.{◌≡◌, ℕ, ◌+◌, ◌/◌, ◌^◌, ◌<◌, ◌≤◌, All, Bool, false, ◌&&◌, ◌||◌, List, [], ◌∷◌, length, map, slice_index_or}
+use Rattle.std.specs.Prelude.{◌≡◌, ℕ, ◌+◌, ◌-◌, ◌/◌, ◌^◌, ◌<◌, ◌≤◌, All, Bool, false, ◌&&◌, ◌||◌, List, [], ◌∷◌, length, map, slice_index_or, nat_le}
 use Rattle.std.specs.List.{range_with_len}
 use Rattle.cs_syntax.specs.Bits.{has_bit}
 
@@ -21,14 +21,13 @@ is_moved entries if_entered if_previous if_kept positions k =
     || (slice_index_or (false ∷ entries) k false && slice_index_or if_previous k false))
     || (slice_index_or positions k false && slice_index_or if_kept k false)
 
--- A Shift-And step: each position moves to the next one, first positions are added, and the positions of the
--- mask are kept.
-abbrev pub shift_and : Bool → List Bool → List Bool → List Bool → List Bool
-shift_and before [] masks positions = []
-shift_and before (first ∷ firsts) [] positions = []
-shift_and before (first ∷ firsts) (mask ∷ masks) [] = []
-shift_and before (first ∷ firsts) (mask ∷ masks) (is_in ∷ positions) =
-    ((before || first) && mask) ∷ shift_and is_in firsts masks positions
+-- position k is in the set that begins at position `from`
+abbrev pub has_from : List Bool → ℕ → ℕ → Bool
+has_from positions from k = nat_le from k && slice_index_or positions (k - from) false
+
+-- the same for the bits of words
+abbrev pub has_bit_from : List ℕ → ℕ → ℕ → Bool
+has_bit_from words from k = nat_le from k && has_bit words (k - from)
 
 -- the sets have a position in common
 abbrev pub intersect : List Bool → List Bool → Bool

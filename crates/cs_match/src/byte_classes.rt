@@ -122,9 +122,10 @@ fn are_together(program: &Program, at: Unfinished, byte: usize) -> bool
     requires { byte < 255 }
     ensures { result ≡ true → StepTogether program.now at byte (suc byte) }
 {
-    let begins = is_begin(program.byte_classes(), byte + 1);
-    let alike = step_alike(program, at, byte as u8);
-    !begins & ((byte < 127) | alike)
+    if is_begin(program.byte_classes(), byte + 1) {
+        return false;
+    }
+    byte < 127 || step_alike(program, at, byte as u8)
 }
 
 /// Whether a class begins at the byte.

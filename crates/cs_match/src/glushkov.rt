@@ -9,7 +9,7 @@ ghost use Rattle.cs_syntax.specs.NodeList.{trees_of};
 ghost use Rattle.cs_syntax.specs.Matching.{cat, alt};
 ghost use Rattle.cs_match.specs.Glushkov.{position_count, position_count_of, repeats, repeats_of, nullable, nullable_all, nullable_some, is_final, is_final_all, is_final_some, accepts, loop_ends, loop_ends_of, step, IsExpanded};
 ghost use Rattle.cs_match.specs.Entered.{entered, entered_all, entered_each, AreShifted};
-ghost use Rattle.cs_match.specs.Parts.{run, shape_of, shapes_of};
+ghost use Rattle.cs_match.specs.Parts.{run, runs, shape_of, shapes_of};
 ghost use Rattle.cs_match.specs.Masks.{IsScratch};
 ghost use Rattle.cs_match.specs.declared.look_around.LookAround.{LookAround};
 
@@ -19,6 +19,7 @@ use crate::masks::Masks;
 use crate::parts::Part;
 use crate::position_set::PositionSet;
 use crate::program::Program;
+use crate::sequences::Sequences;
 use cs_syntax::Node;
 use std::alloc::{AllocError, Global};
 
@@ -264,6 +265,7 @@ fn find_ends(
 {
     match part {
         Part::Run(n) => end_run(*n, positions, cursor),
+        Part::Alternation(sequences) => end_sequences(sequences, positions, cursor),
         Part::Cat(parts) => find_ends_all(parts, positions, loops, here, cursor),
         Part::Alt(parts) => find_ends_some(parts, positions, loops, here, cursor),
         Part::Rep(x, least) => {
@@ -326,6 +328,53 @@ fn enter_run(
     entries.put(cursor.position, enter);
     cursor.position += n;
     positions.get(cursor.position - 1)
+}
+
+/// The ends of an alternation of sequences: their last positions.
+fn end_sequences(sequences: &Sequences, positions: &PositionSet, cursor: &mut Cursor) -> Ends
+    requires { cursor.old.position + position_count_of (runs sequences.now) ≤ length positions.now }
+    ensures accepting { (here : LookAround) → result.accepting
+        ≡ is_final_some (runs sequences.now) (drop cursor.old.position positions.now) here }
+    ensures nullable { (here : LookAround) → result.nullable ≡ nullable_some (runs sequences.now) here }
+    ensures position { cursor.new.position
+        ≡ cursor.old.position + position_count_of (runs sequences.now) }
+    ensures repeat { cursor.new.repeat ≡ cursor.old.repeat }
+{
+    let from = cursor.position;
+    let n = sequences.lasts().len();
+    prove!(n <= positions.len() - from);
+    cursor.position += n;
+    Ends {
+        accepting: positions.meets(from, sequences.lasts()),
+        nullable: false,
+    }
+}
+
+/// Sets or clears the first position of each sequence, and returns whether one of them accepts.
+fn enter_sequences(
+    sequences: &Sequences,
+    enter: bool,
+    positions: &PositionSet,
+    entries: &mut PositionSet,
+    cursor: &mut Cursor,
+) -> bool
+    requires room { cursor.old.position + position_count_of (runs sequences.now) ≤ length positions.now }
+    requires shifted { AreShifted cursor.old.position positions.now entries.old }
+    ensures accepting { (here : LookAround) → result
+        ≡ accepts (alt (runs sequences.now)) enter (drop cursor.old.position positions.now) here }
+    ensures entries { (here : LookAround) → entries.new ≡ take cursor.old.position entries.old
+        ++ (entered_each (runs sequences.now) enter (drop cursor.old.position positions.now) here
+        ++ drop (cursor.old.position + position_count_of (runs sequences.now)) entries.old) }
+    ensures position { cursor.new.position
+        ≡ cursor.old.position + position_count_of (runs sequences.now) }
+    ensures repeat { cursor.new.repeat ≡ cursor.old.repeat }
+{
+    let from = cursor.position;
+    let n = sequences.lasts().len();
+    prove!(n <= positions.len() - from);
+    cursor.position += n;
+    entries.put_all(from, sequences.firsts(), enter);
+    positions.meets(from, sequences.lasts())
 }
 
 /// Moves the cursor over a repeat, and returns its index. Repeats past the end of `loops` share one index.
@@ -437,6 +486,9 @@ fn advance(
 {
     match part {
         Part::Run(n) => enter_run(*n, enter, positions, entries, cursor),
+        Part::Alternation(sequences) => {
+            enter_sequences(sequences, enter, positions, entries, cursor)
+        }
         Part::Cat(parts) => advance_all(parts, enter, positions, entries, loops, here, cursor),
         Part::Alt(parts) => advance_each(parts, enter, positions, entries, loops, here, cursor),
         Part::Rep(x, least) => {

@@ -2,13 +2,11 @@
 //! line or over many lines at once. What a tree matches is defined in `specs/Matching.antt` of `cs_syntax`. Read
 //! `specs/Deciding.antt` first, then `specs/Lines.antt`, `specs/Skipping.antt`, `specs/Automaton.antt` (what
 //! contracts see of a matcher) and `specs/Size.antt`. The internals are defined in `specs/Glushkov.antt`,
-//! `specs/Entered.antt`, `specs/Parts.antt`, `specs/Masks.antt`, `specs/LookBehind.antt`, `specs/States.antt`,
-//! `specs/ByteClasses.antt`, `specs/LazyDfa.antt`, `specs/FirstMatch.antt`, `specs/BitParallel.antt`, `specs/Scan.antt`
-//! and `specs/Expansion.antt`.
+//! `specs/Entered.antt`, `specs/Parts.antt`, `specs/Sequences.antt`, `specs/Masks.antt`, `specs/LookBehind.antt`, `specs/States.antt`,
+//! `specs/ByteClasses.antt`, `specs/LazyDfa.antt`, `specs/FirstMatch.antt`, `specs/Scan.antt` and `specs/Expansion.antt`.
 #![tactic(auto)]
 
 mod backoff;
-mod bit_parallel;
 mod byte_classes;
 mod dfa;
 mod expand;

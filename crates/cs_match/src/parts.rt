@@ -1,13 +1,14 @@
-// The parts of a program: its tree without the sets. A run of positions is one part, so that a traversal visits it
-// once.
-ghost use Rattle.std.specs.Prelude.{◌≡◌, ◌+◌, ◌<◌, ◌^◌, IfOk, OnOk};
+// The parts of a program: its tree without the sets. A run of positions is one part, and so is an alternation of runs,
+// so that a traversal visits it once.
+ghost use Rattle.std.specs.Prelude.{◌≡◌, ◌+◌, ◌<◌, ◌^◌, IfOk, IfSome, OnOk};
 ghost use Rattle.cs_syntax.specs.Matching.{Trees, cat, alt, more, none};
 ghost use Rattle.cs_syntax.specs.TreeList.{append};
 ghost use Rattle.cs_syntax.specs.Node.{tree_of};
 ghost use Rattle.cs_syntax.specs.NodeList.{trees_of};
 ghost use Rattle.cs_match.specs.Glushkov.{position_count, position_count_of};
-ghost use Rattle.cs_match.specs.Parts.{run, shape_of, shapes_of, HaveSameShape};
+ghost use Rattle.cs_match.specs.Parts.{run, runs, shape_of, shapes_of, HaveSameShape};
 
+use crate::sequences::Sequences;
 use cs_syntax::Node;
 use std::alloc::{AllocError, Global};
 
@@ -16,6 +17,8 @@ use std::alloc::{AllocError, Global};
 pub(crate) enum Part {
     /// A sequence of sets, by the number of its positions.
     Run(usize),
+    /// An alternation of such sequences.
+    Alternation(Sequences),
     /// A concatenation.
     Cat(Vec<Part>),
     /// An alternation.
@@ -109,5 +112,25 @@ fn alternation_of(alloc: Global, nodes: &[Node]) -> Result<Part, AllocError>
         let part = part_of(alloc, node)?;
         parts.push(part)?;
     }
-    Ok(Part::Alt(parts))
+    match runs_of(alloc, &parts)? {
+        Some(following) => {
+            let sequences = Sequences::new(alloc, following)?;
+            Ok(Part::Alternation(sequences))
+        }
+        None => Ok(Part::Alt(parts)),
+    }
+}
+
+/// How many positions each part has after its first, if all are runs with positions.
+fn runs_of(alloc: Global, parts: &[Part]) -> Result<Option<Vec<usize>>, AllocError>
+    ensures { IfOk result (λ all. IfSome all (λ following. shapes_of parts.now ≡ runs following.items)) }
+{
+    let mut following = Vec::new(alloc);
+    for part in parts {
+        match part {
+            Part::Run(n) if *n > 0 => following.push(*n - 1)?,
+            _ => return Ok(None),
+        }
+    }
+    Ok(Some(following))
 }

@@ -1,7 +1,7 @@
 // Sets of Glushkov positions as bit vectors.
-ghost use Rattle.std.specs.Prelude.{◌≡◌, ◌≢◌, ◌↔◌, ℕ, ◌+◌, ◌<◌, ◌∷◌, ◌++◌, ◌==◌, false, IsTrue, IfOk, length, take, drop, replicate, slice_index_or};
+ghost use Rattle.std.specs.Prelude.{◌≡◌, ◌≢◌, ◌↔◌, ℕ, ◌+◌, ◌*◌, ◌<◌, ◌≤◌, ◌∷◌, ◌++◌, ◌==◌, false, IsTrue, IfOk, length, take, drop, replicate, slice_index_or, if◌then◌else◌};
 ghost use Rattle.std.specs.Int.{bit_at};
-ghost use Rattle.cs_match.specs.PositionSet.{shift_and, intersect, is_moved};
+ghost use Rattle.cs_match.specs.PositionSet.{has_from, has_bit_from, intersect, is_moved};
 
 use std::alloc::{AllocError, Global};
 use std::marker::Model;
@@ -92,19 +92,33 @@ impl PositionSet {
         self.count == other.count && self.words == other.words
     }
 
-    /// A Shift-And step: shifts each position to the next one, adds the first positions, and keeps the positions of
-    /// the mask.
-    pub(crate) fn shift(&mut self, firsts: &PositionSet, masks: &PositionSet)
-        requires firsts { length firsts.now ≡ length self.old }
-        requires masks { length masks.now ≡ length self.old }
-        ensures { self.new ≡ shift_and false firsts.now masks.now self.old }
+    /// Adds the positions of `which`, a set that begins at position `from`, or removes them.
+    pub(crate) fn put_all(&mut self, from: usize, which: &PositionSet, on: bool)
+        requires { from + length which.now ≤ length self.old }
+        ensures length { length self.new ≡ length self.old }
+        ensures each { (k : ℕ) → k < length self.old → slice_index_or self.new k false
+            ≡ (if has_from which.now from k then on else slice_index_or self.old k false) }
     {
-        let mut carried = 0;
-        for index in 0..self.words.len() {
-            let word = self.words[index];
-            self.words[index] = (word << 1 | carried | firsts.words[index]) & masks.words[index];
-            carried = word >> 63;
+        let first = from / 64;
+        let end = (first + which.words.len() + 1).min(self.words.len());
+        for index in first..end {
+            let bits = word_from(&which.words, from % 64, index - first);
+            self.words[index] = with_bits(self.words[index], bits, on);
         }
+    }
+
+    /// Whether the set has a position in common with a set that begins at position `from`.
+    pub(crate) fn meets(&self, from: usize, other: &PositionSet) -> bool
+        requires { from + length other.now ≤ length self.now }
+        ensures { result ≡ intersect (drop from self.now) other.now }
+    {
+        for index in 0..other.words.len() + 1 {
+            let word = word_at(&self.words, from / 64 + index);
+            if word & word_from(&other.words, from % 64, index) != 0 {
+                return true;
+            }
+        }
+        false
     }
 
     /// Makes this the set in which each position is moved to the next one. It has room for one position more.
@@ -148,19 +162,6 @@ impl PositionSet {
         }
     }
 
-    /// Whether the sets have a position in common.
-    pub(crate) fn intersects(&self, other: &PositionSet) -> bool
-        requires { length other.now ≡ length self.now }
-        ensures { result ≡ intersect self.now other.now }
-    {
-        for index in 0..self.words.len() {
-            if self.words[index] & other.words[index] != 0 {
-                return true;
-            }
-        }
-        false
-    }
-
     /// A hash of the set. The low bits depend on all positions.
     pub(crate) fn hash(&self) -> u32 {
         let mut mixed = 0u64;
@@ -189,4 +190,30 @@ fn with_bit(word: u64, index: usize, on: bool) -> u64
 {
     let bit = 1u64 << index;
     if on { word | bit } else { word & !bit }
+}
+
+/// The word with these bits set or cleared.
+fn with_bits(word: u64, bits: u64, on: bool) -> u64
+    ensures { (i : ℕ) → i < 64 → (bit_at result i == 1) ≡ (if bit_at bits i == 1 then on else bit_at word i == 1) }
+{
+    if on {
+        word | bits
+    } else {
+        (word | bits) ^ bits
+    }
+}
+
+/// The word at an index of a set that begins at the bit `by` of its first word.
+fn word_from(words: &[u64], by: usize, index: usize) -> u64
+    requires { by < 64 }
+    ensures { (i : ℕ) → i < 64 → (bit_at result i == 1) ≡ has_bit_from words.now by (index * 64 + i) }
+{
+    if by == 0 {
+        return word_at(words, index);
+    }
+    let low = word_at(words, index) << by;
+    if index == 0 {
+        return low;
+    }
+    low | word_at(words, index - 1) >> 1 >> (63 - by)
 }

@@ -4,14 +4,12 @@ ghost use Rattle.cs_syntax.specs.Node.{tree_of};
 ghost use Rattle.cs_match.specs.SameLines.{MatchSameLines};
 ghost use Rattle.cs_match.specs.Glushkov.{position_count, repeats, char_step_of, IsExpanded};
 ghost use Rattle.cs_prefilter.specs.WordAt.{IsPrefilterOf};
-ghost use Rattle.cs_match.specs.BitParallel.{IsBitParallel};
 ghost use Rattle.cs_match.specs.LookBehind.{look_behind};
 ghost use Rattle.cs_match.specs.ByteClasses.{AreClasses};
 ghost use Rattle.cs_match.specs.Parts.{HaveSameShape, shape_of};
 ghost use Rattle.cs_match.specs.Entered.{position_list};
 ghost use Rattle.cs_match.specs.Size.{FitsWeight};
 
-use crate::bit_parallel::{BitParallel, bit_parallel_of};
 use crate::byte_classes::byte_classes;
 use crate::expand::expand;
 use crate::glushkov::{count, count_repeats};
@@ -44,8 +42,6 @@ pub struct Program {
     cuts: Cuts,
     /// The prefilter, if the tree has rare words.
     prefilter: Option<Prefilter>,
-    /// The bit-parallel simulation, if the tree is an alternation of sequences.
-    bits: Option<BitParallel>,
 }
 
 impl Model for Program {
@@ -62,7 +58,6 @@ impl Model for Program {
     ghost use Rattle.cs_match.specs.ByteClasses.{AreClasses};
     ghost use Rattle.cs_syntax.specs.Cuts.{AreCutsOf};
     ghost use Rattle.cs_prefilter.specs.WordAt.{IsPrefilterOf};
-    ghost use Rattle.cs_match.specs.BitParallel.{IsBitParallel};
     ghost use Rattle.cs_match.specs.Parts.{HaveSameShape, shape_of};
     ghost use Rattle.cs_match.specs.Entered.{position_list};
 
@@ -70,7 +65,6 @@ impl Model for Program {
 
     ghost invariant = { λ program. IsProgram (tree_of program.root) program.count program.repeats program.look_behind
         × IfSome program.prefilter (IsPrefilterOf (tree_of program.root))
-        × IfSome program.bits (IsBitParallel (tree_of program.root))
         × HaveSameShape (tree_of program.root) (shape_of program.part)
         × (program.positions.items ≡ position_list (tree_of program.root))
         × AreClasses (tree_of program.root) program.byte_classes
@@ -91,7 +85,6 @@ impl Program {
         let byte_classes = byte_classes(&root, look_behind);
         let cuts = Cuts::of_tree(alloc, &root)?;
         let prefilter = Prefilter::of(alloc, &root)?;
-        let bits = bit_parallel_of(alloc, &root, count)?;
         let part = part_of(alloc, &root)?;
         let mut positions = Vec::new(alloc);
         add_positions(alloc, &root, &mut positions)?;
@@ -105,7 +98,6 @@ impl Program {
             byte_classes,
             cuts,
             prefilter,
-            bits,
         })
     }
 
@@ -175,12 +167,5 @@ impl Program {
         ensures { IfSome result (λ prefilter. IsPrefilterOf self.now prefilter.now) }
     {
         self.prefilter.as_ref()
-    }
-
-    /// The bit-parallel simulation, if the program is an alternation of sequences.
-    pub(crate) fn bits(&self) -> Option<&BitParallel>
-        ensures { IfSome result (λ bits. IsBitParallel self.now bits.now) }
-    {
-        self.bits.as_ref()
     }
 }

@@ -6,8 +6,7 @@ ghost use Rattle.cs_match.specs.Glushkov.{position_count, accepts, IsExpanded};
 ghost use Rattle.cs_match.specs.Masks.{IsScratch};
 ghost use Rattle.cs_match.specs.States.{start, ahead, look_at_end, next_state, successor, accepts_before};
 
-use crate::bit_parallel::{is_accepting, step_over};
-use crate::glushkov::Scratch;
+use crate::glushkov::{Scratch, is_accepting, step_over};
 use crate::input::Input;
 use crate::look_around::LookAround;
 use crate::position_set::PositionSet;

@@ -32,7 +32,7 @@ use Rattle.cs_tree.proofs.ReduceLemmas.{contains-from_list, true_from_T}
 
 -- ---- maps and sets made from lists
 
-find_all : {X : Type 0} (P : List ℕ → X → Type 0) (es : List (List ℕ × X)) (name : List ℕ) (x : X) → AllByRecursion (λ (e : List ℕ × X). P e.0 e.1) es → find bytes_cmp name es ≡ Some x → P name x
+pub find_all : {X : Type 0} (P : List ℕ → X → Type 0) (es : List (List ℕ × X)) (name : List ℕ) (x : X) → AllByRecursion (λ (e : List ℕ × X). P e.0 e.1) es → find bytes_cmp name es ≡ Some x → P name x
 find_all {X} P [] name x all h = cc
 find_all {X} P (e ∷ es) name x all h =
     elim (cases_Bool (eq_by_cmp bytes_cmp name e.0)) [

@@ -1,6 +1,7 @@
 pub mod ContentLemmas
 pub mod DecodedContentLemmas
 pub mod MergeLemmas
+pub mod ReplacedLemmas
 pub mod OpeningLemmas
 pub mod SortedIndexLemmas
 pub mod StorableLemmas
@@ -19,4 +20,5 @@ mod SortedRunLemmas
 mod ReadIdsLemmas
 mod IdMapLemmas
 mod TrigramMergeLemmas
+mod RestLemmas
 mod DistinctIdLemmas

@@ -19,3 +19,4 @@ pub mod SomePaths
 pub mod SortedIndex
 pub mod IdMap
 pub mod ListMerge
+pub mod ListsFault

@@ -10,10 +10,11 @@ ghost use Rattle.cs_tree.specs.Cover.{is_covered, least};
 ghost use Rattle.cs_index.specs.Encoding.{Files, encoding};
 ghost use Rattle.cs_index.specs.Roundtrip.{parts_written};
 ghost use Rattle.cs_index.specs.Opening.{opening};
-ghost use Rattle.cs_index.specs.OpenedParts.{Parts, lists_in};
+ghost use Rattle.cs_index.specs.OpenedParts.{Parts, files_in, lists_in, paths_in};
 ghost use Rattle.cs_index.specs.Decoding.{DecodesAs};
 ghost use Rattle.cs_merge.specs.Merge.{merge_files, merge_paths};
-ghost use Rattle.cs_merge.specs.Replacing.{IsCoveredBy};
+ghost use Rattle.cs_merge.specs.Mergeable.{merge_index};
+ghost use Rattle.cs_merge.specs.Replacing.{IsCoveredBy, is_replaced};
 ghost use Rattle.cs_merge.specs.Content.{IsContent, LieUnder, DecodesAsContent, HasContent, Opens};
 
 /// At a name that the newer paths cover, the merge has what the newer index has.
@@ -36,12 +37,14 @@ pub fn merged_paths_cover()
         (is_covered old name || is_covered newer name) }
 {}
 
-/// If the newer paths cover all old paths and names, the merge is the newer index.
+/// If the newer paths cover all old paths and names, the merge is the newer index, encoded anew.
 pub fn what_is_covered_is_replaced()
     ensures paths { (old newer : Paths) → IsCoveredBy old newer →
         merge_paths old newer ≡ least newer }
     ensures files { (p q : Paths) (old newer : Files) → IsCoveredBy p q → LieUnder p old →
         merge_files q old newer ≡ newer }
+    ensures index { (old newer : Parts) → is_replaced (paths_in newer) old ≡ true →
+        merge_index old newer ≡ encoding (least (paths_in newer)) (files_in newer) }
 {}
 
 /// The merge of valid contents is valid.

@@ -15,7 +15,9 @@ mod mapped_postings;
 mod merging;
 mod merging_lists;
 mod merging_names;
+mod replacing;
 mod sorted_index;
 
 pub use fault::MergeFault;
 pub use merging::{merge, merge_within};
+pub use replacing::{is_replaced, is_whole};

@@ -13,7 +13,7 @@ use crate::fault::MergeFault;
 use crate::merging_lists::merge_lists;
 use crate::merging_names::merge_names;
 use crate::sorted_index::SortedIndex;
-use cs_index::{Index, IndexFault, Texts};
+use cs_index::{Index, Texts};
 use cs_tree::reduce;
 use std::alloc::{AllocError, Global};
 
@@ -72,7 +72,7 @@ fn merge_sorted(
     let paths = merged_paths(alloc, older, later)?;
     let mut sections = begin(alloc, &paths)?;
     let ids = merge_names(alloc, &mut sections, old, newer)?;
-    merge_lists(alloc, &mut sections, older, later, &ids)?;
+    merge_lists(alloc, &mut sections, most, older, later, &ids)?;
     finish(sections, most)
 }
 

@@ -1,6 +1,6 @@
 // The merge of the posting lists: a two-way merge by trigram, and within each list a two-way merge
 // by id that copies whole runs.
-ghost use Rattle.std.specs.Prelude.{◌≡◌, ◌⊎◌, ◌<◌, ◌^◌, ◌&&◌, ◌++◌, [], true, false, Some, length, slice_get, MatchResult, OnOk};
+ghost use Rattle.std.specs.Prelude.{◌≡◌, ◌⊎◌, ◌<◌, ◌^◌, ◌&&◌, ◌++◌, [], true, false, Some, length, slice_get, IfErr, MatchResult, OnOk};
 ghost use Rattle.cs_trigram.specs.Trigram.{closing_trigram};
 ghost use Rattle.cs_index.specs.Written.{AllBelow};
 ghost use Rattle.cs_index.specs.Postings.{IsListFault};
@@ -8,24 +8,43 @@ ghost use Rattle.cs_index.specs.AscendingIds.{AscendWithin};
 ghost use Rattle.cs_index.specs.OpenedParts.{lists_in};
 ghost use Rattle.cs_index.specs.ValidParts.{AreValidParts};
 ghost use Rattle.cs_merge.specs.Mergeable.{both_whole};
+ghost use Rattle.cs_merge.specs.ListsFault.{are_whole_from, rest_fault, IsListsFault};
 ghost use Rattle.cs_merge.specs.IdMap.{new_ids_read, AreMappedLists, AreUnique, AreIdMaps, IsIncreasing, AreNewIdsFrom};
 ghost use Rattle.cs_merge.specs.ListMerge.{list_ids, lower_of, position_after, list_trigram, runs_ids, AreGathered, AreDistinctIds, IsRunOfEither, IsMergedList};
 
+use crate::fault::MergeFault;
 use crate::id_map::IdMaps;
 use crate::id_runs::IdRuns;
 use crate::mapped_postings::MappedPostings;
+use crate::replacing::is_whole_from;
 use cs_index::{EncodedRun, Index, IndexFault, Sections};
 use std::alloc::{AllocError, Global};
 
+/// The id maps of both indexes, with their runs.
+#[derive(Drop)]
+struct BothRuns<'a> {
+    older: IdRuns<'a>,
+    newer: IdRuns<'a>,
+}
+
+/// The new ids of both lists of a trigram.
+#[derive(Drop)]
+struct BothLists<'a, 'b> {
+    older: MappedPostings<'a, 'b>,
+    newer: MappedPostings<'a, 'b>,
+}
+
 /// Writes the merged posting lists in ascending order of trigrams. Each list is read once and to
-/// its end, even if all of its files are dropped, so that damage is always found.
+/// its end, even if all of its files are dropped, so that damage is always found. Once the lists
+/// have more than `most` bytes, the others are only read for damage.
 pub(crate) fn merge_lists(
     alloc: Global,
     sections: &mut Sections,
+    most: u32,
     old: &Index<'_>,
     newer: &Index<'_>,
     ids: &IdMaps,
-) -> Result<(), IndexFault>
+) -> Result<(), MergeFault>
     requires old_parts { AreValidParts old.now }
     requires newer_parts { AreValidParts newer.now }
     requires ids { AreIdMaps (length sections.old.names) ids.now.older ids.now.newer }
@@ -36,57 +55,83 @@ pub(crate) fn merge_lists(
     ensures names { OnOk result (sections.new.names ≡ sections.old.names) }
     ensures older { OnOk result (AreMappedLists ids.now.older (lists_in old.now) sections.new.lists) }
     ensures newer { OnOk result (AreMappedLists ids.now.newer (lists_in newer.now) sections.new.lists) }
-    ensures fault { MatchResult result (λ _. both_whole old.now newer.now ≡ true)
-        (IsListFault (both_whole old.now newer.now)) }
+    ensures whole { OnOk result (both_whole old.now newer.now ≡ true) }
+    ensures fault { IfErr result
+        (IsListsFault old.now newer.now ids.now.older ids.now.newer sections.old most) }
 {
     let older_runs = IdRuns::new(alloc, &ids.older)?;
     let newer_runs = IdRuns::new(alloc, &ids.newer)?;
-    merge_all_lists(alloc, sections, old, newer, &older_runs, &newer_runs)
+    let runs = BothRuns {
+        older: older_runs,
+        newer: newer_runs,
+    };
+    merge_all_lists(alloc, sections, most, old, newer, &runs)
 }
 
 /// Writes the merged posting lists, once the runs of both maps are known.
 fn merge_all_lists(
     alloc: Global,
     sections: &mut Sections,
+    most: u32,
     old: &Index<'_>,
     newer: &Index<'_>,
-    older_runs: &IdRuns<'_>,
-    newer_runs: &IdRuns<'_>,
-) -> Result<(), IndexFault>
+    runs: &BothRuns<'_>,
+) -> Result<(), MergeFault>
     requires old_parts { AreValidParts old.now }
     requires newer_parts { AreValidParts newer.now }
-    requires ids { AreIdMaps (length sections.old.names) older_runs.now newer_runs.now }
+    requires ids { AreIdMaps (length sections.old.names) runs.now.older runs.now.newer }
     requires unlisted { sections.old.lists ≡ [] }
     ensures paths { OnOk result (sections.new.paths ≡ sections.old.paths) }
     ensures names { OnOk result (sections.new.names ≡ sections.old.names) }
-    ensures older { OnOk result (AreMappedLists older_runs.now (lists_in old.now) sections.new.lists) }
-    ensures newer { OnOk result
-        (AreMappedLists newer_runs.now (lists_in newer.now) sections.new.lists) }
-    ensures fault { MatchResult result (λ _. both_whole old.now newer.now ≡ true)
-        (IsListFault (both_whole old.now newer.now)) }
+    ensures older { OnOk result (AreMappedLists runs.now.older (lists_in old.now) sections.new.lists) }
+    ensures newer { OnOk result (AreMappedLists runs.now.newer (lists_in newer.now) sections.new.lists) }
+    ensures whole { OnOk result (both_whole old.now newer.now ≡ true) }
+    ensures fault { IfErr result
+        (IsListsFault old.now newer.now runs.now.older runs.now.newer sections.old most) }
 {
-    let in_order = is_increasing(older_runs, newer_runs);
     let mut older_position = 0;
     let mut newer_position = 0;
     'lists: while let Some(trigram) = lower(
         trigram_at(old, older_position),
         trigram_at(newer, newer_position),
     ) {
-        let older = next_list(old, &mut older_position, trigram, &*older_runs)?;
-        let later = next_list(newer, &mut newer_position, trigram, &*newer_runs)?;
-        merge_list(
-            alloc, sections, trigram, older, later, older_runs, newer_runs, in_order,
-        )?;
+        let older = next_list(old, &mut older_position, trigram, &runs.older)?;
+        let later = next_list(newer, &mut newer_position, trigram, &runs.newer)?;
+        let lists = BothLists {
+            older,
+            newer: later,
+        };
+        merge_list(alloc, sections, trigram, lists, runs)?;
+        if sections.list_bytes() > most as usize {
+            return Err(fault_of_rest(old, older_position, newer, newer_position));
+        }
     }
     Ok(())
 }
 
-/// Whether both maps are increasing, so that the new ids of each list ascend.
-fn is_increasing(older_runs: &IdRuns<'_>, newer_runs: &IdRuns<'_>) -> bool
-    ensures older { result ≡ true → IsIncreasing older_runs.now }
-    ensures newer { result ≡ true → IsIncreasing newer_runs.now }
+/// The error if the lists so far are too long: a damaged list goes before.
+fn fault_of_rest(
+    old: &Index<'_>,
+    older_position: u32,
+    newer: &Index<'_>,
+    newer_position: u32,
+) -> MergeFault
+    ensures { result ≡ rest_fault
+        (are_whole_from old.now older_position && are_whole_from newer.now newer_position) }
 {
-    older_runs.is_increasing() && newer_runs.is_increasing()
+    if is_whole_from(old, older_position) && is_whole_from(newer, newer_position) {
+        MergeFault::TooLarge
+    } else {
+        MergeFault::Index(IndexFault::BadList)
+    }
+}
+
+/// Whether both maps are increasing, so that the new ids of each list ascend.
+fn is_increasing(runs: &BothRuns<'_>) -> bool
+    ensures older { result ≡ true → IsIncreasing runs.now.older }
+    ensures newer { result ≡ true → IsIncreasing runs.now.newer }
+{
+    runs.older.is_increasing() && runs.newer.is_increasing()
 }
 
 /// The trigram of the list at a position of the list index.
@@ -125,65 +170,60 @@ fn next_list<'a, 'b>(
 }
 
 /// Writes the merged list of one trigram.
-fn merge_list<'a>(
+fn merge_list(
     alloc: Global,
     sections: &mut Sections,
     trigram: u32,
-    older: MappedPostings<'a, '_>,
-    newer: MappedPostings<'a, '_>,
-    older_runs: &IdRuns<'_>,
-    newer_runs: &IdRuns<'_>,
-    in_order: bool,
+    lists: BothLists<'_, '_>,
+    runs: &BothRuns<'_>,
 ) -> Result<(), IndexFault>
-    requires once { AreUnique older_runs.now newer_runs.now }
-    requires older_under { AreNewIdsFrom older_runs.now 0 older.ids }
-    requires newer_under { AreNewIdsFrom newer_runs.now 0 newer.ids }
+    requires once { AreUnique runs.now.older runs.now.newer }
+    requires older_under { AreNewIdsFrom runs.now.older 0 lists.older.ids }
+    requires newer_under { AreNewIdsFrom runs.now.newer 0 lists.newer.ids }
     requires above { AllBelow sections.old.lists trigram }
-    requires older_rise { in_order ≡ true →
-        AscendWithin (length sections.old.names) 0 older.ids }
-    requires newer_rise { in_order ≡ true →
-        AscendWithin (length sections.old.names) 0 newer.ids }
-    requires ids { AreDistinctIds (length sections.old.names) (older.ids ++ newer.ids) }
-    requires below { (trigram < closing_trigram) ⊎ ((older.ids ≡ []) × (newer.ids ≡ [])) }
-    ensures ok { OnOk result
-        (IsMergedList trigram sections.old sections.new older.entry.ids newer.entry.ids [] []) }
-    ensures fault { MatchResult result (λ _. (older.entry.whole && newer.entry.whole) ≡ true)
-        (IsListFault (older.entry.whole && newer.entry.whole)) }
+    requires older_rise { IsIncreasing runs.now.older →
+        AscendWithin (length sections.old.names) 0 lists.older.ids }
+    requires newer_rise { IsIncreasing runs.now.newer →
+        AscendWithin (length sections.old.names) 0 lists.newer.ids }
+    requires ids { AreDistinctIds (length sections.old.names) (lists.older.ids ++ lists.newer.ids) }
+    requires below { (trigram < closing_trigram) ⊎ ((lists.older.ids ≡ []) × (lists.newer.ids ≡ [])) }
+    ensures ok { OnOk result (IsMergedList
+        trigram sections.old sections.new lists.entry.older.ids lists.entry.newer.ids [] []) }
+    ensures fault { MatchResult result
+        (λ _. (lists.entry.older.whole && lists.entry.newer.whole) ≡ true)
+        (IsListFault (lists.entry.older.whole && lists.entry.newer.whole)) }
 {
-    if in_order {
-        merge_ascending(sections, trigram, older, newer)
+    if is_increasing(runs) {
+        merge_ascending(sections, trigram, lists)
     } else {
-        merge_by_sorting(
-            alloc, sections, trigram, older, newer, older_runs, newer_runs,
-        )
+        merge_by_sorting(alloc, sections, trigram, lists, runs)
     }
 }
 
 /// Writes the merged list of one trigram if a map is not increasing: the runs of both lists are
 /// sorted by their first new id.
-fn merge_by_sorting<'a>(
+fn merge_by_sorting(
     alloc: Global,
     sections: &mut Sections,
     trigram: u32,
-    older: MappedPostings<'a, '_>,
-    newer: MappedPostings<'a, '_>,
-    older_runs: &IdRuns<'_>,
-    newer_runs: &IdRuns<'_>,
+    lists: BothLists<'_, '_>,
+    runs: &BothRuns<'_>,
 ) -> Result<(), IndexFault>
-    requires once { AreUnique older_runs.now newer_runs.now }
-    requires older_under { AreNewIdsFrom older_runs.now 0 older.ids }
-    requires newer_under { AreNewIdsFrom newer_runs.now 0 newer.ids }
+    requires once { AreUnique runs.now.older runs.now.newer }
+    requires older_under { AreNewIdsFrom runs.now.older 0 lists.older.ids }
+    requires newer_under { AreNewIdsFrom runs.now.newer 0 lists.newer.ids }
     requires above { AllBelow sections.old.lists trigram }
-    requires ids { AreDistinctIds (length sections.old.names) (older.ids ++ newer.ids) }
-    requires below { (trigram < closing_trigram) ⊎ ((older.ids ≡ []) × (newer.ids ≡ [])) }
-    ensures ok { OnOk result
-        (IsMergedList trigram sections.old sections.new older.entry.ids newer.entry.ids [] []) }
-    ensures fault { MatchResult result (λ _. (older.entry.whole && newer.entry.whole) ≡ true)
-        (IsListFault (older.entry.whole && newer.entry.whole)) }
+    requires ids { AreDistinctIds (length sections.old.names) (lists.older.ids ++ lists.newer.ids) }
+    requires below { (trigram < closing_trigram) ⊎ ((lists.older.ids ≡ []) × (lists.newer.ids ≡ [])) }
+    ensures ok { OnOk result (IsMergedList
+        trigram sections.old sections.new lists.entry.older.ids lists.entry.newer.ids [] []) }
+    ensures fault { MatchResult result
+        (λ _. (lists.entry.older.whole && lists.entry.newer.whole) ≡ true)
+        (IsListFault (lists.entry.older.whole && lists.entry.newer.whole)) }
 {
     let mut list_runs = Vec::new(alloc);
-    gather(&mut list_runs, older, older_runs)?;
-    gather(&mut list_runs, newer, newer_runs)?;
+    gather(&mut list_runs, lists.older, &runs.older)?;
+    gather(&mut list_runs, lists.newer, &runs.newer)?;
     list_runs.sort_unstable_by(|one, other| one.0.cmp(&other.0));
     write_runs(sections, trigram, &list_runs)?;
     Ok(())
@@ -234,23 +274,23 @@ fn write_runs(
 }
 
 /// Writes the merged list of one trigram by a two-way merge. A list without ids leaves no entry.
-fn merge_ascending<'a>(
+fn merge_ascending(
     sections: &mut Sections,
     trigram: u32,
-    older: MappedPostings<'a, '_>,
-    newer: MappedPostings<'a, '_>,
+    lists: BothLists<'_, '_>,
 ) -> Result<(), IndexFault>
     requires above { AllBelow sections.old.lists trigram }
-    requires older_rise { AscendWithin (length sections.old.names) 0 older.ids }
-    requires newer_rise { AscendWithin (length sections.old.names) 0 newer.ids }
-    requires below { (trigram < closing_trigram) ⊎ ((older.ids ≡ []) × (newer.ids ≡ [])) }
-    ensures ok { OnOk result
-        (IsMergedList trigram sections.old sections.new older.entry.ids newer.entry.ids [] []) }
-    ensures fault { MatchResult result (λ _. (older.entry.whole && newer.entry.whole) ≡ true)
-        (IsListFault (older.entry.whole && newer.entry.whole)) }
+    requires older_rise { AscendWithin (length sections.old.names) 0 lists.older.ids }
+    requires newer_rise { AscendWithin (length sections.old.names) 0 lists.newer.ids }
+    requires below { (trigram < closing_trigram) ⊎ ((lists.older.ids ≡ []) × (lists.newer.ids ≡ [])) }
+    ensures ok { OnOk result (IsMergedList
+        trigram sections.old sections.new lists.entry.older.ids lists.entry.newer.ids [] []) }
+    ensures fault { MatchResult result
+        (λ _. (lists.entry.older.whole && lists.entry.newer.whole) ≡ true)
+        (IsListFault (lists.entry.older.whole && lists.entry.newer.whole)) }
 {
-    let mut older = older;
-    let mut newer = newer;
+    let mut older = lists.older;
+    let mut newer = lists.newer;
     let mut next = lower(older.first(), newer.first());
     if next.is_some() {
         sections.list(trigram);

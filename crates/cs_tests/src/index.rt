@@ -3,3 +3,4 @@ mod building;
 mod candidates;
 mod pieces;
 mod reading;
+mod windows;

@@ -1,7 +1,7 @@
 // The merge of two indexes: worked examples.
 use crate::fixtures::{Files, ROW, UNSORTED, changed, index_of};
 use cs_index::{Index, IndexFault};
-use cs_merge::{MergeFault, merge, merge_within};
+use cs_merge::{MergeFault, is_replaced, is_whole, merge, merge_within};
 use std::alloc::Global;
 use std::test::Fail;
 
@@ -104,13 +104,14 @@ fn merge_limited(
     merge_within(alloc, most, &Index::open(old)?, &Index::open(newer)?)
 }
 
-/// Whether two indexes merge to these bytes if the limit is their length, and fail if it is one
-/// less.
+/// Whether two indexes merge to these bytes if the limit is their length, and fail if it is less.
 fn keeps_limits(alloc: Global, old: &[u8], newer: &[u8], want: &[u8]) -> Result<bool, MergeFault> {
-    Ok(
-        merge_limited(alloc, 148, old, newer).err() == Some(MergeFault::TooLarge)
-            && merge_limited(alloc, 149, old, newer)?.as_slice() == want,
-    )
+    for most in 0..149 {
+        if merge_limited(alloc, most, old, newer).err() != Some(MergeFault::TooLarge) {
+            return Ok(false);
+        }
+    }
+    Ok(merge_limited(alloc, 149, old, newer)?.as_slice() == want)
 }
 
 #[test]
@@ -152,6 +153,83 @@ fn errors_are_reported(rt: HostRuntime) -> Result<(), Fail> {
         assert!(rt;
             error_of(rt.alloc(), old, newer) == Some(fault),
             "{fault:?}"
+        );
+    }
+    Ok(())
+}
+
+/// Whether the merge is the newer bytes exactly where the newer index is said to replace the old
+/// one.
+fn replaces_alike(alloc: Global, old: &[u8], newer: &[u8]) -> Option<bool> {
+    let older = Index::open(old).ok()?;
+    let later = Index::open(newer).ok()?;
+    let replaced = is_replaced(alloc, &older, &later).ok()?;
+    let merged = merge(alloc, &older, &later).ok()?;
+    Some(replaced == (merged.as_slice() == newer))
+}
+
+/// Paths and files of small indexes. Each name lies under a path.
+const SMALL: [(&[&str], Files<'static>); 8] = [
+    (&[], &[]),
+    (&["/"], &[("/a/b", b"one\n"), ("/c", b"ten\n")]),
+    (&["/a"], &[]),
+    (&["/a"], &[("/a", b"two\n")]),
+    (&["/a"], &[("/a/b", b"one\n"), ("/a/c", b"two\n")]),
+    (&["/a/b"], &[("/a/b", b"six\n")]),
+    (&["/a/b", "/a/c"], &[("/a/c/d", b"six\n")]),
+    (&["/a", "/c"], &[("/a/b", b"ten\n"), ("/c", b"")]),
+];
+
+/// The small indexes.
+fn small_indexes(alloc: Global) -> Option<Vec<Vec<u8>>> {
+    let mut indexes = Vec::new(alloc);
+    for (paths, files) in SMALL {
+        indexes.push(index_of(alloc, paths, files)?).ok()?;
+    }
+    Some(indexes)
+}
+
+#[test]
+fn an_index_is_replaced_where_all_is_covered(rt: HostRuntime) -> Result<(), Fail> {
+    let indexes = small_indexes(rt.alloc()).ok_or("indexes")?;
+    // a name outside its paths: only its index can be the old one
+    let outside = index_of(rt.alloc(), &["/a"], &[("/d", b"one\n")]).ok_or("index")?;
+    for newer in &indexes {
+        assert!(rt; replaces_alike(rt.alloc(), &outside, newer) == Some(true));
+        for old in &indexes {
+            assert!(rt; replaces_alike(rt.alloc(), old, newer) == Some(true));
+        }
+    }
+    Ok(())
+}
+
+#[test]
+fn damage_is_found_in_each_list(rt: HostRuntime) {
+    for (offset, want) in [
+        (0, true),
+        (29, false),
+        (34, false),
+        (39, false),
+        (40, false),
+    ] {
+        let bytes = changed(ROW, &[(offset, if offset == 0 { b'c' } else { 2 })]);
+        let whole = Index::open(&bytes).is_ok_and(|index| is_whole(&index));
+        assert!(rt; whole == want, "{offset}");
+    }
+}
+
+#[test]
+fn damage_goes_before_the_limit(rt: HostRuntime) -> Result<(), Fail> {
+    let newer = index_of(rt.alloc(), &["/b"], &[("/b", b"abcd\n")]).ok_or("index")?;
+    for (offset, want) in [
+        (0, MergeFault::TooLarge),
+        (29, MergeFault::Index(IndexFault::BadList)),
+        (39, MergeFault::Index(IndexFault::BadList)),
+    ] {
+        let old = changed(ROW, &[(offset, if offset == 0 { b'c' } else { 2 })]);
+        assert!(rt;
+            merge_limited(rt.alloc(), 0, &old, &newer).err() == Some(want),
+            "{offset}"
         );
     }
     Ok(())

@@ -1,22 +1,23 @@
--- Exact sets of sequences, alternations and repeats.
+-- ExactSet sets of sequences, alternations and repeats.
 use Rattle.std.proofs.Math.Bool.{and-true}
+use Rattle.std.proofs.Math.Dec.{eqb-suc-zero}
 use Rattle.std.proofs.Math.Seq.{take-suc}
-use Rattle.std.proofs.Common.{get_or, take, reverse, ◌≡◌, ℕ, zero, suc, ◌+◌, ◌<◌, ◌≤◌, ◌&&◌, inl, inr, true, false, List, [], ◌∷◌, length, refl, sym, ◌∙◌, ap, subst, arith, Vec, Global, ◌++◌}
-use Rattle.std.proofs.lemmas.List.{reverse-append}
-use Rattle.std.proofs.lemmas.Bool.{and_from, and_left, and_right, le-leb}
-use Rattle.std.specs.Prelude.{Option, None, Some, nat_le}
+use Rattle.std.proofs.Common.{get_or, take, reverse, ◌≡◌, ℕ, zero, suc, ◌+◌, ◌<◌, ◌≤◌, ◌&&◌, ◌⊎◌, inl, inr, true, false, map, List, [], ◌∷◌, length, refl, sym, ◌∙◌, ap, subst, arith, Vec, Global, ◌++◌}
+use Rattle.std.proofs.lemmas.List.{reverse-append, append_cancel_left, append_cancel_right, length-map}
+use Rattle.cs_tree.specs.Cover.{is_among}
+use Rattle.std.proofs.lemmas.Bool.{and_from, and_left, and_right, le-leb, both_ways}
+use Rattle.std.specs.Prelude.{Some, nat_le, nat_eq}
 use Rattle.cs_syntax.specs.Matching.{Tree, Trees, cat, alt, rep, empty, none, more}
 use Rattle.cs_trigram.specs.ExactStrings.{HaveFewExactStrings, IsRepeated, is_finite, are_finite, HasExactString, ConcatenatesExactStrings, SomeHasExactString}
 use Rattle.cs_trigram.specs.Analysis.{with_strings, concatenations, IsEnumeration, EnumeratesTree, EnumeratesRun, EnumeratesAlternation, AreExactStrings}
-use Rattle.cs_trigram.specs.ExactSet.{IsExactSetOf, AreExactSetsOf, AreExactSetsReversed}
-use Rattle.cs_trigram.proofs.MemberLemmas.{first_member, only_member}
+use Rattle.cs_trigram.specs.ExactSet.{HasMany, HasNoString, HasAString, TellsEmpty, IsExactSetOf, AreExactSetsOf, AreExactSetsReversed}
+use Rattle.cs_trigram.specs.declared.exact_set.ExactSet.{ExactSet}
+use Rattle.cs_trigram.specs.declared.exact_set.ExactSet.TheVariants.{Strings, Many, Infinite}
+use Rattle.cs_trigram.proofs.MemberLemmas.{first_member, only_member, no_member, different_within, different_map, member_map}
 use Rattle.cs_trigram.proofs.EnumerationLemmas.{enumeration_same}
 use Rattle.cs_trigram.specs.declared.exact_string.ExactString.{ExactString}
 use Rattle.cs_trigram.proofs.RepeatLemmas.{longer_iterations, iterations_longer}
-use Rattle.cs_trigram.proofs.LeadingRunLemmas.{concatenates_one, exact_of_one, run_step, alternation_step, not_few, whole_enumeration}
-
-abbrev pub Exact : Type 0
-Exact = Option (Vec ExactString Global)
+use Rattle.cs_trigram.proofs.LeadingRunLemmas.{concatenates_one, exact_of_one, run_step, alternation_step, whole_enumeration, tree_not_finite}
 
 abbrev pub pair : Tree → Tree → Trees
 pair t u = more t (more u none)
@@ -38,7 +39,7 @@ enumerates_pair us vs t u s r = run_step t (more u none) us vs s (run_one vs u r
 pub enumerates_either : (us vs : List (List ℕ)) (t u : Tree) → EnumeratesTree us t → EnumeratesTree vs u → EnumeratesTree (with_strings vs us) (alt (pair t u))
 enumerates_either us vs t u s r = alternation_step t (more u none) us vs s (alternation_one vs u r)
 
-pair_finite : (t u : Tree) → is_finite t ≡ true → is_finite u ≡ true → are_finite (pair t u) ≡ true
+pub pair_finite : (t u : Tree) → is_finite t ≡ true → is_finite u ≡ true → are_finite (pair t u) ≡ true
 pair_finite t u f g = and_from (is_finite t) (is_finite u && true) f (and_from (is_finite u) true g refl)
 
 -- two trees are not finite if one of them is not
@@ -52,12 +53,16 @@ infinite_suffix t u e = and_right (is_finite t) (is_finite u && true) (and_left 
 pub enumerates_as : (ws : List (List ℕ)) (t u : Tree) → EnumeratesTree ws t → is_finite u ≡ true → ((w : List ℕ) → HasExactString t w → HasExactString u w) → ((w : List ℕ) → HasExactString u w → HasExactString t w) → EnumeratesTree ws u
 enumerates_as ws t u s f to from = (f, enumeration_same ws (HasExactString t) (HasExactString u) s.1 to from)
 
-pub exact_set_as : (c : Exact) (t u : Tree) → IsExactSetOf c t → is_finite t ≡ is_finite u → ((w : List ℕ) → HasExactString t w → HasExactString u w) → ((w : List ℕ) → HasExactString u w → HasExactString t w) → IsExactSetOf c u
-exact_set_as None t u h e to from = sym e ∙ h
-exact_set_as (Some strings) t u h e to from = enumerates_as strings.items t u h (sym e ∙ h.0) to from
+pub many_as : (P R : List ℕ → Type 0) → HasMany P → ((w : List ℕ) → P w → R w) → HasMany R
+many_as P R many to = (many.0, many.1, many.2, λ w m. to w (many.3 w m))
 
--- the empty string alone, and no string
-pub single_empty_string : (strings : Vec ExactString Global) (t : Tree) → strings.items ≡ [] ∷ [] → is_finite t ≡ true → ((w : List ℕ) → HasExactString t w → w ≡ []) → HasExactString t [] → IsExactSetOf (Some strings) t
+pub exact_set_as : (c : ExactSet) (t u : Tree) → IsExactSetOf c t → is_finite t ≡ is_finite u → ((w : List ℕ) → HasExactString t w → HasExactString u w) → ((w : List ℕ) → HasExactString u w → HasExactString t w) → IsExactSetOf c u
+exact_set_as (Strings strings) t u h e to from = (h.0, enumerates_as strings.items t u h.1 (sym e ∙ h.1.0) to from)
+exact_set_as Many t u h e to from = (sym e ∙ h.0, many_as (HasExactString t) (HasExactString u) h.1 to)
+exact_set_as Infinite t u h e to from = sym e ∙ h
+
+-- the empty string alone
+pub single_empty_string : (strings : Vec ExactString Global) (t : Tree) → strings.items ≡ [] ∷ [] → is_finite t ≡ true → ((w : List ℕ) → HasExactString t w → w ≡ []) → HasExactString t [] → EnumeratesTree strings.items t
 single_empty_string strings t e f only has =
     let enumeration : IsEnumeration ([] ∷ []) (HasExactString t) = record {
       right = λ w m. subst (HasExactString t) (sym (only_member w [] m)) has;
@@ -66,31 +71,99 @@ single_empty_string strings t e f only has =
     } in
     (f, subst (λ (ws : List (List ℕ)). IsEnumeration ws (HasExactString t)) (sym e) enumeration)
 
+-- more than twenty strings
+pub many_of : (ws : List (List ℕ)) (P : List ℕ → Type 0) → 20 < length ws → IsEnumeration ws P → HasMany P
+many_of ws P lt s = (ws, lt, s.different, s.right)
+
+one_of_many : (P : List ℕ → Type 0) → HasMany P → (w : List ℕ) × P w
+one_of_many P many = by many.0 many.1 many.3
+  where
+    by : (ws : List (List ℕ)) → 20 < length ws → ((w : List ℕ) → is_among ws w ≡ true → P w) → (w : List ℕ) × P w
+    by [] lt right = absurd (omega arith)
+    by (w ∷ ws) lt right = (w, right w (first_member w w ws refl))
+
+many_by : (P R : List ℕ → Type 0) (f : List ℕ → List ℕ) → HasMany P → ((u v : List ℕ) → f u ≡ f v → u ≡ v) → ((w : List ℕ) → P w → R (f w)) → HasMany R
+many_by P R f many once to = (
+  map f many.0,
+  rw (length-map many.0 f) many.1,
+  different_map f once many.0 many.2,
+  λ w m. let r = member_map f w many.0 m in subst R (sym r.2) (to r.0 (many.3 r.0 r.1)),
+)
+
+-- a tree that has more than twenty strings does not have few
+many_not_few : (t : Tree) → HasMany (HasExactString t) → HaveFewExactStrings (more t none) → ⊥
+many_not_few t many few =
+    let fits = different_within many.0 few.1.1.0 many.2 (λ w m. few.1.1.2 w (concatenates_one t w (many.3 w m))) in
+    absurd (omega (arith, fits, many.1, few.1.1.1))
+
+-- the strings of the set, where it has them
+pub exact_set_has : (c : ExactSet) (t : Tree) → IsExactSetOf c t → is_finite t ≡ true → ((strings : Vec ExactString Global) → c ≡ Strings strings → ⊥) → HasMany (HasExactString t)
+exact_set_has (Strings strings) t h f other = absurd (other strings refl)
+exact_set_has Many t h f other = h.1
+exact_set_has Infinite t h f other = absurd (both_ways (is_finite t) h f)
+
+no_string_of : (ws : List (List ℕ)) (t : Tree) → EnumeratesTree ws t → length ws ≡ 0 → HasNoString t
+no_string_of [] t s e = λ w h. no_member w (s.1.whole (omega arith) w h)
+no_string_of (x ∷ ws) t s e = absurd (omega arith)
+
+a_string_of : (ws : List (List ℕ)) (t : Tree) → EnumeratesTree ws t → 0 < length ws → HasAString t
+a_string_of [] t s lt = absurd (omega arith)
+a_string_of (w ∷ ws) t s lt = (w, s.1.right w (first_member w w ws refl))
+
+pub tells_empty : (ws : List (List ℕ)) (t : Tree) (n : ℕ) → EnumeratesTree ws t → n ≡ length ws → TellsEmpty (nat_eq n 0) t
+tells_empty ws t zero s e = no_string_of ws t s (sym e)
+tells_empty ws t (suc n) s e = subst (λ b. TellsEmpty b t) (sym (eqb-suc-zero n)) (a_string_of ws t s (omega (arith, e)))
+
+pub a_string_of_many : (t : Tree) → HasMany (HasExactString t) → HasAString t
+a_string_of_many t many = one_of_many (HasExactString t) many
+
+-- the concatenations of no string, and of more than twenty
+pub no_concatenation : (ws : List (List ℕ)) (t u : Tree) → ws ≡ [] → is_finite t ≡ true → is_finite u ≡ true → HasNoString t ⊎ HasNoString u → EnumeratesTree ws (cat (pair t u))
+no_concatenation ws t u e f g bare =
+    let enumeration : IsEnumeration [] (HasExactString (cat (pair t u))) = record {
+      right = λ w m. absurd (no_member w m);
+      different = refl;
+      whole = λ le w j. absurd (elim bare [ inl a ↦ a j.0 j.2 | inr b ↦ b j.1 (exact_of_one u j.1 j.3) ]);
+    } in
+    (pair_finite t u f g, subst (λ (xs : List (List ℕ)). IsEnumeration xs (HasExactString (cat (pair t u)))) (sym e) enumeration)
+
+pub many_prefixes : (t u : Tree) → HasMany (HasExactString t) → HasAString u → HasMany (HasExactString (cat (pair t u)))
+many_prefixes t u many one =
+    many_by (HasExactString t) (HasExactString (cat (pair t u))) (λ w. w ++ one.0) many
+    (λ a b e. append_cancel_right a b one.0 e)
+    (λ w h. (w, one.0, h, concatenates_one u one.0 one.1, refl))
+
+pub many_suffixes : (t u : Tree) → HasAString t → HasMany (HasExactString u) → HasMany (HasExactString (cat (pair t u)))
+many_suffixes t u one many =
+    many_by (HasExactString u) (HasExactString (cat (pair t u))) (λ w. one.0 ++ w) many
+    (λ a b e. append_cancel_left one.0 a b e)
+    (λ w h. (one.0, w, one.1, concatenates_one u w h, refl))
+
 -- one more tree before a sequence, and before the branches of an alternation
-pub exact_set_cat : (c : Exact) (t : Tree) (ts : Trees) → IsExactSetOf c (cat (pair t (cat ts))) → IsExactSetOf c (cat (more t ts))
+pub exact_set_cat : (c : ExactSet) (t : Tree) (ts : Trees) → IsExactSetOf c (cat (pair t (cat ts))) → IsExactSetOf c (cat (more t ts))
 exact_set_cat c t ts h =
     exact_set_as c (cat (pair t (cat ts))) (cat (more t ts)) h (ap (λ b. is_finite t && b) (and-true (are_finite ts)))
     (λ w j. (j.0, j.1, j.2, exact_of_one (cat ts) j.1 j.3, j.4))
     (λ w j. (j.0, j.1, j.2, concatenates_one (cat ts) j.1 j.3, j.4))
 
-pub exact_set_alt : (c : Exact) (t : Tree) (ts : Trees) → IsExactSetOf c (alt (pair t (alt ts))) → IsExactSetOf c (alt (more t ts))
+pub exact_set_alt : (c : ExactSet) (t : Tree) (ts : Trees) → IsExactSetOf c (alt (pair t (alt ts))) → IsExactSetOf c (alt (more t ts))
 exact_set_alt c t ts h =
     exact_set_as c (alt (pair t (alt ts))) (alt (more t ts)) h (ap (λ b. is_finite t && b) (and-true (are_finite ts)))
     (λ w j. elim j [ inl a ↦ inl a | inr b ↦ elim b [ inl p ↦ inr p | inr n ↦ absurd n ] ])
     (λ w j. elim j [ inl a ↦ inl a | inr b ↦ inr (inl b) ])
 
 -- one more iteration
-rep_finite : (t : Tree) (n m : ℕ) → is_finite t ≡ true → n ≤ m → is_finite (rep t n (Some m)) ≡ true
+pub rep_finite : (t : Tree) (n m : ℕ) → is_finite t ≡ true → n ≤ m → is_finite (rep t n (Some m)) ≡ true
 rep_finite t n m f le = and_from (nat_le n m) (is_finite t) (le-leb n m le) f
 
-pub exact_set_iteration : (c : Exact) (t : Tree) (n m : ℕ) → is_finite t ≡ true → n ≤ m → IsExactSetOf c (cat (pair t (rep t n (Some m)))) → IsExactSetOf c (rep t (n + 1) (Some (m + 1)))
+pub exact_set_iteration : (c : ExactSet) (t : Tree) (n m : ℕ) → is_finite t ≡ true → n ≤ m → IsExactSetOf c (cat (pair t (rep t n (Some m)))) → IsExactSetOf c (rep t (n + 1) (Some (m + 1)))
 exact_set_iteration c t n m f le h =
     exact_set_as c (cat (pair t (rep t n (Some m)))) (rep t (n + 1) (Some (m + 1))) h
     (pair_finite t (rep t n (Some m)) f (rep_finite t n m f le) ∙ sym (rep_finite t (n + 1) (m + 1) f (omega arith)))
     (λ w j. longer_iterations (HasExactString t) n m w (j.0, j.1, j.2, exact_of_one (rep t n (Some m)) j.1 j.3, j.4))
     (λ w r. let l = iterations_longer (HasExactString t) n m w r.0 r.1 r.2 r.3 in (l.0, l.1, l.2, concatenates_one (rep t n (Some m)) l.1 l.3, l.4))
 
-pub exact_set_iterations : (c : Exact) (t : Tree) (k : ℕ) → is_finite t ≡ true → IsExactSetOf c (alt (pair (cat (pair t (rep t 0 (Some k)))) empty)) → IsExactSetOf c (rep t 0 (Some (k + 1)))
+pub exact_set_iterations : (c : ExactSet) (t : Tree) (k : ℕ) → is_finite t ≡ true → IsExactSetOf c (alt (pair (cat (pair t (rep t 0 (Some k)))) empty)) → IsExactSetOf c (rep t 0 (Some (k + 1)))
 exact_set_iterations c t k f h =
     let r = rep t 0 (Some k) in
     exact_set_as c (alt (pair (cat (pair t r)) empty)) (rep t 0 (Some (k + 1))) h
@@ -109,32 +182,35 @@ exact_set_iterations c t k f h =
         let l = iterations_longer (HasExactString t) 0 k w (suc n) (omega arith) le q in
         inl (l.0, l.1, l.2, concatenates_one (rep t 0 (Some k)) l.1 l.3, l.4)
 
--- an exact set without strings, or with more than twenty
-pub exact_set_not_few : (ws : List (List ℕ)) (t : Tree) → EnumeratesTree ws t → (length ws ≤ 20 → length ws ≡ 0) → HaveFewExactStrings (more t none) → ⊥
-exact_set_not_few ws t s odd = not_few ws (more t none) (enumeration_same ws (HasExactString t) (ConcatenatesExactStrings (more t none)) s.1 (concatenates_one t) (exact_of_one t)) odd
+-- an exact set that does not have few strings
+pub exact_set_not_few : (c : ExactSet) (t : Tree) → IsExactSetOf c t → ((strings : Vec ExactString Global) → c ≡ Strings strings → length strings.items ≡ 0) → HaveFewExactStrings (more t none) → ⊥
+exact_set_not_few (Strings strings) t h bare few =
+    no_string_of strings.items t h.1 (bare strings refl) few.1.0.0 (exact_of_one t few.1.0.0 few.1.0.1)
+exact_set_not_few Many t h bare few = many_not_few t h.1 few
+exact_set_not_few Infinite t h bare few = tree_not_finite t h few
 
 -- the strings of a small exact set
-pub exact_set_strings : (ws : List (List ℕ)) (t : Tree) → EnumeratesTree ws t → 0 < length ws → length ws ≤ 20 → AreExactStrings ws t
-exact_set_strings ws t s some few = (s.0, whole_enumeration ws (HasExactString t) s.1 some few)
+pub exact_set_strings : (strings : Vec ExactString Global) (t : Tree) → IsExactSetOf (Strings strings) t → 0 < length strings.items → AreExactStrings strings.items t
+exact_set_strings strings t h some = (h.1.0, whole_enumeration strings.items (HasExactString t) h.1.1 some h.0)
 
 -- the exact sets of the parts, that of the first part last
-pub exact_set_more : (counts : List Exact) (c : Exact) (t : Tree) (ts : Trees) → IsExactSetOf c t → AreExactSetsReversed counts ts → AreExactSetsReversed (counts ++ c ∷ []) (more t ts)
-exact_set_more counts c t ts h k = subst (λ (cs : List Exact). AreExactSetsOf cs (more t ts)) (sym (reverse-append counts (c ∷ []))) (h, k)
+pub exact_set_more : (counts : List ExactSet) (c : ExactSet) (t : Tree) (ts : Trees) → IsExactSetOf c t → AreExactSetsReversed counts ts → AreExactSetsReversed (counts ++ c ∷ []) (more t ts)
+exact_set_more counts c t ts h k = subst (λ (cs : List ExactSet). AreExactSetsOf cs (more t ts)) (sym (reverse-append counts (c ∷ []))) (h, k)
 
-pub exact_set_first : (counts : List Exact) (n : ℕ) (c : Exact) (ts : Trees) → n < length counts → c ≡ get_or counts n c → AreExactSetsReversed (take (n + 1) counts) ts →
+pub exact_set_first : (counts : List ExactSet) (n : ℕ) (c : ExactSet) (ts : Trees) → n < length counts → c ≡ get_or counts n c → AreExactSetsReversed (take (n + 1) counts) ts →
     (t : Tree) × (rest : Trees) × (ts ≡ more t rest) × IsExactSetOf c t × AreExactSetsReversed (take n counts) rest
 exact_set_first counts n c ts lt is h =
     let next : n + 1 ≡ suc n = omega arith in
     let same : reverse (take (n + 1) counts) ≡ c ∷ reverse (take n counts) =
     ap (λ k. reverse (take k counts)) next ∙ ap reverse (take-suc counts n c lt)
     ∙ reverse-append (take n counts) (get_or counts n c ∷ [])
-    ∙ ap (λ (x : Exact). x ∷ reverse (take n counts)) (sym is) in
-    by ts (subst (λ (cs : List Exact). AreExactSetsOf cs ts) same h)
+    ∙ ap (λ (x : ExactSet). x ∷ reverse (take n counts)) (sym is) in
+    by ts (subst (λ (cs : List ExactSet). AreExactSetsOf cs ts) same h)
   where
     by : (us : Trees) → AreExactSetsOf (c ∷ reverse (take n counts)) us → (t : Tree) × (rest : Trees) × (us ≡ more t rest) × IsExactSetOf c t × AreExactSetsReversed (take n counts) rest
     by none k = absurd k
     by (more t rest) k = (t, rest, refl, k.0, k.1)
 
-pub exact_set_none : (counts : List Exact) (ts : Trees) → counts ≡ [] → AreExactSetsReversed counts ts → ts ≡ none
+pub exact_set_none : (counts : List ExactSet) (ts : Trees) → counts ≡ [] → AreExactSetsReversed counts ts → ts ≡ none
 exact_set_none counts none e h = refl
-exact_set_none counts (more t ts) e h = absurd (subst (λ (cs : List Exact). AreExactSetsReversed cs (more t ts)) e h)
+exact_set_none counts (more t ts) e h = absurd (subst (λ (cs : List ExactSet). AreExactSetsReversed cs (more t ts)) e h)

@@ -1,5 +1,5 @@
 -- The exact strings of repeats.
-use Rattle.std.proofs.Common.{◌≡◌, ℕ, zero, suc, ◌+◌, ◌≤◌, List, ◌++◌, arith}
+use Rattle.std.proofs.Common.{◌≡◌, ℕ, zero, suc, ◌+◌, ◌≤◌, List, [], ◌++◌, arith}
 use Rattle.cs_trigram.specs.ExactStrings.{IsRepeated}
 
 -- at least `least` iterations and at most `most`
@@ -7,6 +7,13 @@ abbrev pub SomeIterations : (List ℕ → Type 0) → ℕ → ℕ → List ℕ �
 SomeIterations P least most string = (k : ℕ) × (least ≤ k) × (k ≤ most) × IsRepeated P k string
 
 module _ (P : List ℕ → Type 0) where
+  pub no_iteration : (w : List ℕ) → SomeIterations P 0 0 w → w ≡ []
+  no_iteration w h = by h.0 h.2 h.3
+    where
+      by : (k : ℕ) → k ≤ 0 → IsRepeated P k w → w ≡ []
+      by zero le r = r
+      by (suc k) le r = absurd (omega arith)
+
   module _ (least most : ℕ) where
     abbrev pub Longer : List ℕ → Type 0
     Longer w = (u v : List ℕ) × P u × SomeIterations P least most v × (w ≡ u ++ v)

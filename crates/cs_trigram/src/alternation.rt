@@ -5,8 +5,7 @@ ghost use Rattle.cs_syntax.specs.Matching.{Tree, Trees, none, more, alt};
 ghost use Rattle.cs_trigram.specs.RegexpInfo.{IsInfoOf, IsAlternation};
 
 use crate::ends::Ends;
-use crate::exact_set::union;
-use crate::exact_string::ExactString;
+use crate::exact_set::ExactSet;
 use crate::queries::Query;
 use crate::regexp_info::RegexpInfo;
 use std::alloc::{AllocError, Global};
@@ -15,7 +14,7 @@ use std::mem;
 /// The analysis of some branches of an alternation.
 #[derive(Drop)]
 pub(crate) struct AlternationInfo {
-    exact: Option<Vec<ExactString>>,
+    exact: ExactSet,
     ends: Ends,
     /// The queries of the branches.
     members: Vec<Query>,
@@ -27,7 +26,7 @@ impl AlternationInfo {
         ensures { IsAlternation result none }
     {
         AlternationInfo {
-            exact: Some(Vec::new(alloc)),
+            exact: ExactSet::Strings(Vec::new(alloc)),
             ends: Ends::of_no_branch(alloc),
             members: Vec::new(alloc),
         }
@@ -39,7 +38,7 @@ impl AlternationInfo {
             IsAlternation self.new (more t ts)) }
     {
         let RegexpInfo { exact, ends, query } = branch;
-        self.exact = union(alloc, &exact, &self.exact)?;
+        self.exact = exact.union(alloc, &self.exact)?;
         let others = mem::replace(&mut self.ends, Ends::of_no_branch(alloc));
         self.ends = ends.or(alloc, others)?;
         self.members.push(query)?;

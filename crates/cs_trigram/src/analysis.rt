@@ -12,6 +12,7 @@ ghost use Rattle.cs_trigram.specs.MayMatch.{MentionsTrigramsOf};
 ghost use Rattle.cs_trigram.specs.RegexpInfo.{IsInfoOf};
 
 use crate::alternation::AlternationInfo;
+use crate::exact_set::ExactSet;
 use crate::expansion::{empty_string, strings_of_chars, strings_of_set};
 use crate::queries::Query;
 use crate::regexp_info::RegexpInfo;
@@ -53,10 +54,10 @@ fn analyze(alloc: Global, node: &Node) -> Result<RegexpInfo, AllocError>
         Node::Rep(x, least, most) => {
             RegexpInfo::of_repeat(alloc, analyze(alloc, x)?, *least, *most)
         },
-        Node::Set(set) => RegexpInfo::of_leaf(alloc, Some(strings_of_set(alloc, set)?)),
-        Node::Chars(set) => RegexpInfo::of_leaf(alloc, Some(strings_of_chars(alloc, set)?)),
+        Node::Set(set) => RegexpInfo::of_leaf(alloc, ExactSet::of(strings_of_set(alloc, set)?)),
+        Node::Chars(set) => RegexpInfo::of_leaf(alloc, ExactSet::of(strings_of_chars(alloc, set)?)),
         Node::Empty | Node::LineStart | Node::LineEnd | Node::WordEdge | Node::NotWordEdge => {
-            RegexpInfo::of_leaf(alloc, Some(empty_string(alloc)?))
+            RegexpInfo::of_leaf(alloc, ExactSet::of(empty_string(alloc)?))
         }
     }
 }

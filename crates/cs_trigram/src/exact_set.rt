@@ -1,73 +1,108 @@
-// Exact sets (`exact` in Go's codesearch): the exact strings of a tree, all of them if they are at most
-// twenty, otherwise twenty-one; `None` if the tree is not finite.
-ghost use Rattle.std.specs.Prelude.{◌≡◌, not, IfOk, MatchOption};
+// Exact sets (`exact` in Go's codesearch).
+ghost use Rattle.std.specs.Prelude.{◌≡◌, true, not, IfOk, MatchOption};
 ghost use Rattle.cs_syntax.specs.Matching.{Tree, cat, alt, none, more};
 ghost use Rattle.cs_trigram.specs.ExactStrings.{is_finite};
 ghost use Rattle.cs_trigram.specs.ExactQuery.{HasFewExactStrings};
-ghost use Rattle.cs_trigram.specs.Analysis.{AreExactStrings};
-ghost use Rattle.cs_trigram.specs.ExactSet.{IsExactSetOf};
+ghost use Rattle.cs_trigram.specs.Analysis.{AreExactStrings, EnumeratesTree};
+ghost use Rattle.cs_trigram.specs.ExactSet.{IsExactSetOf, TellsEmpty};
 
 use crate::exact_string::{ExactString, MAX_EXACT, add_strings, copies, cross_product};
 use std::alloc::{AllocError, Global};
 
-/// Whether the tree is not finite.
-pub(crate) fn is_infinite(exact: &Option<Vec<ExactString>>) -> bool
-    ensures { (t : Tree) → IsExactSetOf exact.now t → is_finite t ≡ not result }
-{
-    matches!(exact, None)
+/// The exact strings of a tree. More than twenty are not kept, so that those of a long sequence are
+/// not copied for each of its parts.
+#[derive(Drop)]
+pub(crate) enum ExactSet {
+    /// At most twenty.
+    Strings(Vec<ExactString>),
+    /// More than twenty, of a finite tree.
+    Many,
+    /// The tree is not finite.
+    Infinite,
 }
 
-/// The strings, if the set is *small*: it has at least one string and at most twenty.
-pub(crate) fn few_strings(exact: &Option<Vec<ExactString>>) -> Option<&[ExactString]>
-    ensures { MatchOption result ((t : Tree) → IsExactSetOf exact.now t → ¬ HasFewExactStrings t)
-        (λ strings. (t : Tree) → IsExactSetOf exact.now t → AreExactStrings strings.now t) }
-{
-    let Some(strings) = exact else {
-        return None;
-    };
-    if strings.len() == 0 {
-        return None;
+impl ExactSet {
+    /// The set of these strings, if they are at most twenty.
+    pub(crate) fn of(strings: Vec<ExactString>) -> ExactSet
+        ensures { (t : Tree) → EnumeratesTree strings.items t → IsExactSetOf result t }
+    {
+        if strings.len() > MAX_EXACT {
+            return ExactSet::Many;
+        }
+        ExactSet::Strings(strings)
     }
-    if strings.len() > MAX_EXACT {
-        return None;
+
+    /// Whether the tree is not finite.
+    pub(crate) fn is_infinite(&self) -> bool
+        ensures { (t : Tree) → IsExactSetOf self.now t → is_finite t ≡ not result }
+    {
+        matches!(self, ExactSet::Infinite)
     }
-    Some(strings.as_slice())
-}
 
-/// The cross product: each of the prefixes followed by each of the suffixes.
-pub(crate) fn concatenate(
-    alloc: Global,
-    prefixes: &Option<Vec<ExactString>>,
-    suffixes: &Option<Vec<ExactString>>,
-) -> Result<Option<Vec<ExactString>>, AllocError>
-    ensures { IfOk result (λ exact. (t u : Tree) → IsExactSetOf prefixes.now t → IsExactSetOf suffixes.now u →
-        IsExactSetOf exact (cat (more t (more u none)))) }
-{
-    let Some(prefixes) = prefixes else {
-        return Ok(None);
-    };
-    let Some(suffixes) = suffixes else {
-        return Ok(None);
-    };
-    Ok(Some(cross_product(alloc, prefixes, suffixes)?))
-}
+    /// Whether the tree is finite and has no exact string.
+    fn is_empty(&self) -> bool
+        ensures { (t : Tree) → IsExactSetOf self.now t → is_finite t ≡ true → TellsEmpty result t }
+    {
+        let ExactSet::Strings(strings) = self else {
+            return false;
+        };
+        strings.len() == 0
+    }
 
-/// The union.
-pub(crate) fn union(
-    alloc: Global,
-    strings: &Option<Vec<ExactString>>,
-    others: &Option<Vec<ExactString>>,
-) -> Result<Option<Vec<ExactString>>, AllocError>
-    ensures { IfOk result (λ exact. (t u : Tree) → IsExactSetOf strings.now t → IsExactSetOf others.now u →
-        IsExactSetOf exact (alt (more t (more u none)))) }
-{
-    let Some(strings) = strings else {
-        return Ok(None);
-    };
-    let Some(others) = others else {
-        return Ok(None);
-    };
-    let mut all = copies(alloc, others)?;
-    add_strings(alloc, &mut all, strings)?;
-    Ok(Some(all))
+    /// The strings, if they are one to twenty.
+    pub(crate) fn few_strings(&self) -> Option<&[ExactString]>
+        ensures { MatchOption result ((t : Tree) → IsExactSetOf self.now t → ¬ HasFewExactStrings t)
+            (λ strings. (t : Tree) → IsExactSetOf self.now t → AreExactStrings strings.now t) }
+    {
+        let ExactSet::Strings(strings) = self else {
+            return None;
+        };
+        if strings.len() == 0 {
+            return None;
+        }
+        Some(strings.as_slice())
+    }
+
+    /// The cross product: each of these prefixes followed by each of the suffixes.
+    pub(crate) fn concatenate(
+        &self,
+        alloc: Global,
+        suffixes: &ExactSet,
+    ) -> Result<ExactSet, AllocError>
+        ensures { IfOk result (λ exact. (t u : Tree) → IsExactSetOf self.now t → IsExactSetOf suffixes.now u →
+            IsExactSetOf exact (cat (more t (more u none)))) }
+    {
+        if self.is_infinite() || suffixes.is_infinite() {
+            return Ok(ExactSet::Infinite);
+        }
+        if self.is_empty() || suffixes.is_empty() {
+            return Ok(ExactSet::Strings(Vec::new(alloc)));
+        }
+        let ExactSet::Strings(prefixes) = self else {
+            return Ok(ExactSet::Many);
+        };
+        let ExactSet::Strings(suffixes) = suffixes else {
+            return Ok(ExactSet::Many);
+        };
+        Ok(ExactSet::of(cross_product(alloc, prefixes, suffixes)?))
+    }
+
+    /// The union.
+    pub(crate) fn union(&self, alloc: Global, others: &ExactSet) -> Result<ExactSet, AllocError>
+        ensures { IfOk result (λ exact. (t u : Tree) → IsExactSetOf self.now t → IsExactSetOf others.now u →
+            IsExactSetOf exact (alt (more t (more u none)))) }
+    {
+        if self.is_infinite() || others.is_infinite() {
+            return Ok(ExactSet::Infinite);
+        }
+        let ExactSet::Strings(strings) = self else {
+            return Ok(ExactSet::Many);
+        };
+        let ExactSet::Strings(others) = others else {
+            return Ok(ExactSet::Many);
+        };
+        let mut all = copies(alloc, others)?;
+        add_strings(alloc, &mut all, strings)?;
+        Ok(ExactSet::of(all))
+    }
 }

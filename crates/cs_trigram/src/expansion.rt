@@ -7,7 +7,7 @@ ghost use Rattle.cs_trigram.specs.CharStrings.{range_forms, with_form};
 ghost use Rattle.cs_syntax.specs.CharRanges.{IsCharRange};
 ghost use Rattle.cs_trigram.specs.ExactSet.{IsExactSetOf};
 
-use crate::exact_set::{concatenate, is_infinite, union};
+use crate::exact_set::ExactSet;
 use crate::exact_string::{ExactString, MAX_EXACT, add_string};
 use cs_syntax::{ByteSet, CharSet};
 use std::alloc::{AllocError, Global};
@@ -95,18 +95,14 @@ pub(crate) fn strings_of_chars(alloc: Global, set: &CharSet) -> Result<Vec<Exact
 }
 
 /// The exact set of at most `most` iterations of a finite tree.
-fn strings_up_to(
-    alloc: Global,
-    once: &Option<Vec<ExactString>>,
-    most: u32,
-) -> Result<Option<Vec<ExactString>>, AllocError>
+fn strings_up_to(alloc: Global, once: &ExactSet, most: u32) -> Result<ExactSet, AllocError>
     ensures { IfOk result (λ strings. (t : Tree) → IsExactSetOf once.now t → is_finite t ≡ true →
         IsExactSetOf strings (rep t 0 (Some most))) }
 {
-    let mut strings = Some(empty_string(alloc)?);
+    let mut strings = ExactSet::of(empty_string(alloc)?);
     for _iteration in 0..most {
-        let more = concatenate(alloc, once, &strings)?;
-        strings = union(alloc, &more, &Some(empty_string(alloc)?))?;
+        let more = once.concatenate(alloc, &strings)?;
+        strings = more.union(alloc, &ExactSet::of(empty_string(alloc)?))?;
     }
     Ok(strings)
 }
@@ -114,17 +110,17 @@ fn strings_up_to(
 /// The exact set of `count` more iterations of a finite tree.
 fn strings_repeated(
     alloc: Global,
-    once: &Option<Vec<ExactString>>,
+    once: &ExactSet,
     count: u32,
-    suffixes: Option<Vec<ExactString>>,
-) -> Result<Option<Vec<ExactString>>, AllocError>
+    suffixes: ExactSet,
+) -> Result<ExactSet, AllocError>
     ensures { IfOk result (λ strings. (t : Tree) (least most : ℕ) → IsExactSetOf once.now t →
         is_finite t ≡ true → least ≤ most → IsExactSetOf suffixes (rep t least (Some most)) →
         IsExactSetOf strings (rep t (least + count) (Some (most + count)))) }
 {
     let mut strings = suffixes;
     for _iteration in 0..count {
-        strings = concatenate(alloc, once, &strings)?;
+        strings = once.concatenate(alloc, &strings)?;
     }
     Ok(strings)
 }
@@ -132,18 +128,18 @@ fn strings_repeated(
 /// The exact set of a repeat.
 pub(crate) fn strings_of_repeat(
     alloc: Global,
-    once: &Option<Vec<ExactString>>,
+    once: &ExactSet,
     least: u32,
     most: Option<u32>,
-) -> Result<Option<Vec<ExactString>>, AllocError>
+) -> Result<ExactSet, AllocError>
     ensures { IfOk result (λ strings. (t : Tree) → IsExactSetOf once.now t →
         IsExactSetOf strings (rep t least most)) }
 {
     let Some(most) = most else {
-        return Ok(None);
+        return Ok(ExactSet::Infinite);
     };
-    if most < least || is_infinite(once) {
-        return Ok(None);
+    if most < least || once.is_infinite() {
+        return Ok(ExactSet::Infinite);
     }
     let beyond = strings_up_to(alloc, once, most - least)?;
     strings_repeated(alloc, once, least, beyond)

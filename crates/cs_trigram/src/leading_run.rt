@@ -6,7 +6,7 @@ ghost use Rattle.cs_trigram.specs.ExactStrings.{HaveFewExactStrings};
 ghost use Rattle.cs_trigram.specs.Analysis.{AreExactStrings, AreExactStringsOfRun, IsLongestLeadingRun};
 ghost use Rattle.cs_trigram.specs.ExactSet.{IsExactSetOf, AreExactSetsReversed};
 
-use crate::exact_set::few_strings;
+use crate::exact_set::ExactSet;
 use crate::exact_string::{ExactString, MAX_EXACT, copies, cross_product};
 use std::alloc::{AllocError, Global};
 
@@ -14,14 +14,14 @@ use std::alloc::{AllocError, Global};
 fn extended_run(
     alloc: Global,
     strings: &[ExactString],
-    next: &Option<Vec<ExactString>>,
+    next: &ExactSet,
 ) -> Result<Option<Vec<ExactString>>, AllocError>
     ensures { IfOk result (λ found. (run : Trees) (t : Tree) →
         AreExactStringsOfRun strings.now run → IsExactSetOf next.now t →
         MatchOption found (¬ HaveFewExactStrings (append run (more t none)))
         (λ longer. AreExactStringsOfRun longer.items (append run (more t none)))) }
 {
-    let Some(suffixes) = few_strings(next) else {
+    let Some(suffixes) = next.few_strings() else {
         return Ok(None);
     };
     let longer = cross_product(alloc, strings, suffixes)?;
@@ -40,7 +40,7 @@ fn extended_run(
 pub(crate) fn longest_leading_run(
     alloc: Global,
     strings: &[ExactString],
-    following: &[Option<Vec<ExactString>>],
+    following: &[ExactSet],
 ) -> Result<Vec<ExactString>, AllocError>
     ensures { IfOk result (λ leading. (t : Tree) (ts : Trees) → AreExactStrings strings.now t →
         AreExactSetsReversed following.now ts → IsLongestLeadingRun (more t ts) leading.items) }

@@ -9,8 +9,7 @@ ghost use Rattle.cs_trigram.specs.declared.queries.Query.TheVariants.{All};
 
 use crate::connectives::any_string;
 use crate::ends::Ends;
-use crate::exact_set::few_strings;
-use crate::exact_string::ExactString;
+use crate::exact_set::ExactSet;
 use crate::expansion::strings_of_repeat;
 use crate::queries::Query;
 use std::alloc::{AllocError, Global};
@@ -18,7 +17,7 @@ use std::alloc::{AllocError, Global};
 /// The result of the analysis of a tree.
 #[derive(Drop)]
 pub(crate) struct RegexpInfo {
-    pub(crate) exact: Option<Vec<ExactString>>,
+    pub(crate) exact: ExactSet,
     pub(crate) ends: Ends,
     /// The query of the tree (`match` in Go's codesearch).
     pub(crate) query: Query,
@@ -29,14 +28,14 @@ impl RegexpInfo {
     /// strings if the set is small, otherwise the given ones.
     pub(crate) fn new(
         alloc: Global,
-        exact: Option<Vec<ExactString>>,
+        exact: ExactSet,
         ends: Ends,
         query: Query,
     ) -> Result<RegexpInfo, AllocError>
         ensures { IfOk result (λ info. (t : Tree) → IsExactSetOf exact t → AreEnds ends t →
             IsMatchQuery query t → IsInfoOf info t) }
     {
-        let Some(few) = few_strings(&exact) else {
+        let Some(few) = exact.few_strings() else {
             return Ok(RegexpInfo { exact, ends, query });
         };
         let ends = Ends::of_strings(alloc, few)?;
@@ -45,10 +44,7 @@ impl RegexpInfo {
     }
 
     /// The analysis of a leaf with this exact set.
-    pub(crate) fn of_leaf(
-        alloc: Global,
-        exact: Option<Vec<ExactString>>,
-    ) -> Result<RegexpInfo, AllocError>
+    pub(crate) fn of_leaf(alloc: Global, exact: ExactSet) -> Result<RegexpInfo, AllocError>
         ensures { IfOk result (λ info. (t : Tree) → IsExactSetOf exact t → IsMatchQuery All t →
             IsInfoOf info t) }
     {

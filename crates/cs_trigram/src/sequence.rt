@@ -5,8 +5,7 @@ ghost use Rattle.cs_syntax.specs.Matching.{Tree, Trees, none, more, cat};
 ghost use Rattle.cs_trigram.specs.RegexpInfo.{IsInfoOf, IsSequence};
 
 use crate::ends::Ends;
-use crate::exact_set::concatenate;
-use crate::exact_string::ExactString;
+use crate::exact_set::ExactSet;
 use crate::expansion::empty_string;
 use crate::regexp_info::RegexpInfo;
 use crate::sequence_query::SequenceQuery;
@@ -15,7 +14,7 @@ use std::alloc::{AllocError, Global};
 /// The analysis of the last parts of a sequence.
 #[derive(Drop)]
 pub(crate) struct SequenceInfo {
-    exact: Option<Vec<ExactString>>,
+    exact: ExactSet,
     ends: Ends,
     sequence_query: SequenceQuery,
 }
@@ -25,7 +24,7 @@ impl SequenceInfo {
     pub(crate) fn new(alloc: Global) -> Result<SequenceInfo, AllocError>
         ensures { IfOk result (λ sequence. IsSequence sequence none) }
     {
-        let exact = Some(empty_string(alloc)?);
+        let exact = ExactSet::of(empty_string(alloc)?);
         let ends = Ends::of_no_part(alloc)?;
         let sequence_query = SequenceQuery::new(alloc)?;
         Ok(SequenceInfo {
@@ -41,7 +40,7 @@ impl SequenceInfo {
             IsSequence self.new (more t ts)) }
     {
         let RegexpInfo { exact, ends, query } = part;
-        self.exact = concatenate(alloc, &exact, &self.exact)?;
+        self.exact = exact.concatenate(alloc, &self.exact)?;
         self.sequence_query
             .add(alloc, query, exact, &ends.suffixes, &self.ends.prefixes)?;
         self.ends = ends.before(alloc, &self.ends)?;

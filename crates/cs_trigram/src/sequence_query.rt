@@ -12,7 +12,7 @@ ghost use Rattle.cs_trigram.specs.declared.end_strings.Side.TheVariants.{Prefix,
 use crate::connectives::{add_conjunct, any_string};
 use crate::cross_product::cross_product_query;
 use crate::end_strings::{EndString, are_empty};
-use crate::exact_set::few_strings;
+use crate::exact_set::ExactSet;
 use crate::exact_string::{ExactString, MAX_EXACT, are_longer, cross_product};
 use crate::expansion::empty_string;
 use crate::leading_run::longest_leading_run;
@@ -28,7 +28,7 @@ pub(crate) struct SequenceQuery {
     /// The other requirements.
     conjuncts: Vec<Query>,
     /// The exact set of each part, that of the first part last.
-    parts: Vec<Option<Vec<ExactString>>>,
+    parts: Vec<ExactSet>,
 }
 
 impl SequenceQuery {
@@ -80,13 +80,13 @@ impl SequenceQuery {
         &mut self,
         alloc: Global,
         match_query: Query,
-        exact: &Option<Vec<ExactString>>,
+        exact: &ExactSet,
     ) -> Result<(), AllocError>
         ensures parts { OnOk result (self.new.parts ≡ self.old.parts) }
         ensures required { OnOk result ((t : Tree) (ts : Trees) → IsExactSetOf exact.now t → IsCorrect match_query t →
             AreExactSetsReversed self.old.parts.items ts → ExtendsSequenceQuery self.old self.new t ts) }
     {
-        match few_strings(exact) {
+        match exact.few_strings() {
             Some(few) => self.prepend_few(alloc, few),
             None => self.cut(alloc, match_query),
         }
@@ -154,7 +154,7 @@ impl SequenceQuery {
         &mut self,
         alloc: Global,
         match_query: Query,
-        exact: Option<Vec<ExactString>>,
+        exact: ExactSet,
         suffixes: &[EndString],
         prefixes: &[EndString],
     ) -> Result<(), AllocError>

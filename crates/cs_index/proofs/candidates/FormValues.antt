@@ -1,15 +1,16 @@
 -- Which nodes of a form match.
-use Rattle.std.proofs.Common.{◌≡◌, ℕ, zero, suc, ◌+◌, ◌<◌, ◌≤◌, Bool, true, false, not, ◌&&◌, ◌||◌, eqb, List, [], ◌∷◌, ◌++◌, length, map, get_or, refl, sym, ap, subst, ◌∙◌, ◌⊎◌, inl, inr, arith, length-append}
+use Rattle.std.proofs.Common.{◌≡◌, ℕ, zero, suc, ◌+◌, ◌<◌, ◌≤◌, Bool, true, false, not, ◌&&◌, ◌||◌, eqb, List, [], ◌∷◌, ◌++◌, length, map, get_or, refl, sym, ap, subst, ◌∙◌, ◌⊎◌, inl, inr, Option, Some, None, arith, length-append}
 use Rattle.std.proofs.lemmas.Bool.{true≢false, cases_Bool, eqb-true, eq-eqb, ne_eqb, or_left, or_right}
 use Rattle.std.proofs.Math.ListN.{get_or-append}
 use Rattle.std.proofs.lemmas.List.{get_or-append-add}
 use Rattle.std.proofs.lemmas.List.Folds.{list_all-append, list_any-append}
+use Rattle.std.specs.Prelude.{IfSome}
 use Rattle.std.specs.List.{AllByRecursion, list_all, list_any}
 use Rattle.cs_trigram.specs.Trigram.{has, Ascends}
 use Rattle.cs_trigram.specs.Query.{matches_set}
 use Rattle.cs_trigram.specs.declared.queries.Query.{Query}
 use Rattle.cs_index.specs.declared.reading.form.Node.{Node}
-use Rattle.cs_index.specs.Form.{members_match, node_matches, joined, queries_match, matched_from, matched, number_matches, numbers, Exist, IsWithin, IsForm, Grows, Gathers}
+use Rattle.cs_index.specs.Form.{members_match, node_matches, joined, queries_match, matched_from, matched, number_matches, numbers, Exist, IsRequired, IsWithin, IsForm, Grows, Gathers}
 
 -- ---- nodes one after the other
 
@@ -48,22 +49,11 @@ exist_more lists earlier later ms more h = all_weaker (λ m. m < numbers lists e
 pub members_grown : (lists : ℕ) (earlier later : List Node) (g : Grows lists earlier later) (bits : List Bool) → length bits ≡ lists → (is_and : Bool) (ms : List ℕ) → Exist lists earlier ms → members_match is_and (matched bits later) ms ≡ members_match is_and (matched bits earlier) ms
 members_grown lists earlier later g bits len is_and ms h = members_alike is_and (matched bits later) (matched bits earlier) ms (all_weaker (λ m. m < numbers lists earlier) (λ m. get_or (matched bits later) m false ≡ get_or (matched bits earlier) m false) ms (λ m below. g.same bits len m below) h)
 
-all_append : (P : ℕ → Type 0) (xs : List ℕ) (x : ℕ) → AllByRecursion P xs → P x → AllByRecursion P (xs ++ x ∷ [])
-all_append P [] x h p = (p, tt)
-all_append P (y ∷ xs) x h p = (h.0, all_append P xs x h.1 p)
-
--- one more member
-pub members_push : (is_and : Bool) (known : List Bool) (ms : List ℕ) (m : ℕ) → members_match is_and known (ms ++ m ∷ []) ≡ joined is_and (members_match is_and known ms) (get_or known m false)
-members_push true known ms m = list_all-append (λ k. get_or known k false) ms (m ∷ []) ∙ ap (λ b. list_all (λ k. get_or known k false) ms && b) (and_true (get_or known m false))
-  where
-    and_true : (b : Bool) → (b && true) ≡ b
-    and_true true = refl
-    and_true false = refl
-members_push false known ms m = list_any-append (λ k. get_or known k false) ms (m ∷ []) ∙ ap (λ b. list_any (λ k. get_or known k false) ms || b) (or_false (get_or known m false))
-  where
-    or_false : (b : Bool) → (b || false) ≡ b
-    or_false true = refl
-    or_false false = refl
+-- the members of a node exist
+node_exists : (lists : ℕ) (ns ms : List Node) (k : ℕ) (d : Node) → AllByRecursion (λ (m : Node). Exist lists ns m.members.items) ms → k < length ms → Exist lists ns (get_or ms k d).members.items
+node_exists lists ns [] k d h below = absurd (omega (arith, below))
+node_exists lists ns (m ∷ ms) zero d h below = h.0
+node_exists lists ns (m ∷ ms) (suc k) d h below = node_exists lists ns ms k d h.1 (omega (arith, below))
 
 -- ---- a form grows
 
@@ -104,11 +94,6 @@ module _ (lists : ℕ) (ns : List Node) (form : IsForm lists ns) (n : Node) (the
   more_exist [] h = (exist_more lists ns later n.members.items (let l = length-append ns (n ∷ []) in omega (arith, l)) there, tt)
   more_exist (m ∷ ms) h = (exist_more lists ns later m.members.items (let l = length-append ns (n ∷ []) in omega (arith, l)) h.0, more_exist ms h.1)
 
-  at_index : (ms : List Node) (k : ℕ) (d : Node) → AllByRecursion (λ (m : Node). Exist lists ns m.members.items) ms → k < length ms → Exist lists ns (get_or ms k d).members.items
-  at_index [] k d h below = absurd (omega (arith, below))
-  at_index (m ∷ ms) zero d h below = h.0
-  at_index (m ∷ ms) (suc k) d h below = at_index ms k d h.1 (omega (arith, below))
-
   pub grows_push : Grows lists ns later
   grows_push =
       let l = length-append ns (n ∷ []) in
@@ -133,7 +118,7 @@ module _ (lists : ℕ) (ns : List Node) (form : IsForm lists ns) (n : Node) (the
       each : (bits : List Bool) → length bits ≡ lists → (k : ℕ) (d : Node) → k < length later → (k < length ns) ⊎ (k ≡ length ns) → number_matches bits later (2 + lists + k) ≡ node_matches (matched bits later) (get_or later k d)
       each bits len k d below (inl less) =
           before bits len (2 + lists + k) (omega (arith, less)) ∙ form.matches bits len k less d
-          ∙ sym (alike bits len (get_or ns k d) (at_index ns k d form.exist less))
+          ∙ sym (alike bits len (get_or ns k d) (node_exists lists ns ns k d form.exist less))
           ∙ ap (node_matches (matched bits later)) (sym (get_or-append ns (n ∷ []) d k less))
       each bits len k d below (inr is) =
           ap (λ j. number_matches bits later (2 + lists + j)) is ∙ pushed_matches bits len
@@ -193,15 +178,13 @@ module _ (trigrams : List ℕ) where
   }
 
   -- a number more
-  pub gathers_number : (a b : List Node) (n m : Node) (q : Query) (number : ℕ) → Grows (length trigrams) a b → Exist (length trigrams) a n.members.items → number < numbers (length trigrams) b → ((set : ℕ → Bool) → IsWithin trigrams set → number_matches (map set trigrams) b number ≡ matches_set q set) → m.is_and ≡ n.is_and → m.members.items ≡ n.members.items ++ number ∷ [] → Gathers trigrams a b n m (matches_set q)
-  gathers_number a b n m q number g there exists is kind members = record {
+  pub gathers_number : (a b : List Node) (n m : Node) (q : Query) (number : ℕ) → Grows (length trigrams) a b → ((set : ℕ → Bool) → IsWithin trigrams set → number_matches (map set trigrams) b number ≡ matches_set q set) → m.is_and ≡ n.is_and → Exist (length trigrams) b m.members.items
+      → ((bits : List Bool) → length bits ≡ length trigrams → node_matches (matched bits b) m ≡ joined n.is_and (node_matches (matched bits b) n) (number_matches bits b number)) → Gathers trigrams a b n m (matches_set q)
+  gathers_number a b n m q number g is kind exist added = record {
     grows = g;
     kind = kind;
-    exist = subst (Exist (length trigrams) b) (sym members) (all_append (λ k. k < numbers (length trigrams) b) n.members.items number (exist_more (length trigrams) a b n.members.items g.more there) exists);
-    matches = λ set within.
-        let known : List Bool = matched (map set trigrams) b in
-        (λ i. members_match (kind i) known (members i)) ∙ members_push n.is_and known n.members.items number
-        ∙ ap (joined n.is_and (node_matches known n)) (is set within);
+    exist = exist;
+    matches = λ set within. added (map set trigrams) (length_map set trigrams) ∙ ap (joined n.is_and (node_matches (matched (map set trigrams) b) n)) (is set within);
   }
 
   -- the gathered members match as the queries do
@@ -309,6 +292,31 @@ list_matches set trigrams ns k h =
     let l = length_map set trigrams in
     let two : 2 + k ≡ suc (suc k) = omega arith in
     prefix_kept (false ∷ true ∷ map set trigrams) ns (2 + k) (omega (arith, l, h)) ∙ ap (λ n. get_or (false ∷ true ∷ map set trigrams) n false) two ∙ at_map set trigrams k h
+
+pub list_bit : (bits : List Bool) (ns : List Node) (k : ℕ) → k < length bits → number_matches bits ns (2 + k) ≡ get_or bits k false
+list_bit bits ns k h = let two : 2 + k ≡ suc (suc k) = omega arith in prefix_kept (false ∷ true ∷ bits) ns (2 + k) (omega (arith, h)) ∙ ap (λ n. get_or (false ∷ true ∷ bits) n false) two
+
+-- a list that is a member of what has to match
+pub required_member : (lists : ℕ) (ns : List Node) (n at : ℕ) (members : List ℕ) → ((bits : List Bool) → length bits ≡ lists → number_matches bits ns n ≡ members_match true (matched bits ns) members)
+    → (at < lists) × (has members (2 + at) ≡ true) → IsRequired lists ns n at
+required_member lists ns n at members is there = (
+  there.0,
+  λ bits long holds.
+      sym (list_bit bits ns at (omega (arith, long, there.0)))
+      ∙ all_at (λ m. get_or (matched bits ns) m false) members (2 + at) (sym (is bits long) ∙ holds) there.1,
+)
+
+pub one_member : (bits : List Bool) (ns : List Node) (n : ℕ) → number_matches bits ns n ≡ members_match true (matched bits ns) (n ∷ [])
+one_member bits ns n = sym (joined-unit true (number_matches bits ns n))
+
+pub some_map : (o : Option ℕ) (P Q : ℕ → Type 0) → ((n : ℕ) → P n → Q n) → IfSome o P → IfSome o Q
+some_map None P Q f h = tt
+some_map (Some n) P Q f h = f n h
+
+pub has_item : (xs : List ℕ) (k d : ℕ) → k < length xs → has xs (get_or xs k d) ≡ true
+has_item [] k d h = absurd (omega (arith, h))
+has_item (x ∷ xs) zero d h = or_left (eqb x x) (has xs x) (eq-eqb x x refl)
+has_item (x ∷ xs) (suc k) d h = or_right (eqb x (get_or xs k d)) (has xs (get_or xs k d)) (has_item xs k d (omega (arith, h)))
 
 pub members_none : (is_and : Bool) (known : List Bool) (ms : List ℕ) → length ms < 1 → members_match is_and known ms ≡ is_and
 members_none true known [] h = refl

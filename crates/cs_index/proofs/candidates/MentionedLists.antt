@@ -15,13 +15,13 @@ use Rattle.cs_index.specs.Opening.{rises}
 use Rattle.cs_index.specs.OpenedParts.{Parts, ids_read, lists_in, whole_ids}
 use Rattle.cs_index.specs.Candidates.{candidates_of, name_matches}
 use Rattle.cs_index.specs.Answerable.{mentions, is_answerable}
-use Rattle.cs_index.specs.Postings.{read_for}
+use Rattle.cs_index.specs.Postings.{has_entry, read_for}
 use Rattle.cs_index.specs.declared.reading.form.Node.{Node}
 use Rattle.cs_index.specs.Form.{number_matches, IsNumberOf}
-use Rattle.cs_index.specs.Rows.{are_whole, have_id, IsLeftFrom}
+use Rattle.cs_index.specs.Rows.{are_whole, have_id, IsLeft}
 use Rattle.cs_index.specs.StoredLists.{ListState, Holds, ids_left}
 use Rattle.cs_index.proofs.candidates.FormValues.{all_at, all_from, bool_eq}
-use Rattle.cs_index.proofs.candidates.QueryMembers.{answerable_as, answerable-Tri, candidates_are, list_rises, is_mentioned-And, is_mentioned-Or, is_mentioned-Tri, matches_set-And, matches_set-Or, set_is}
+use Rattle.cs_index.proofs.candidates.QueryMembers.{answerable_as, answerable-Tri, candidates_are, list_rises, read_unlisted, is_mentioned-And, is_mentioned-Or, is_mentioned-Tri, matches_set-And, matches_set-Or, set_is}
 
 -- ---- only the trigrams that a query mentions decide
 
@@ -103,16 +103,26 @@ ids_have lists id = map (λ (list : Ids). has list.ids id) lists
 abbrev ids_whole : List Ids → Bool
 ids_whole lists = list_all (λ (list : Ids). list.whole) lists
 
-module _ (parts : Parts) (up : rises parts.entries ≡ true) (query : Query) (trigrams : List ℕ) (are : (g : ℕ) → has trigrams g ≡ mentions query g) where
+module _ (parts : Parts) (up : rises parts.entries ≡ true) (query : Query) (trigrams : List ℕ) (are : (g : ℕ) → has trigrams g ≡ (mentions query g && has_entry parts.entries g)) where
   one_list : (g : ℕ) → list_all (λ (e : ListEntry). not (eqb e.trigram g) || (ids_read parts e).whole) parts.entries ≡ (read_for parts g).whole
   one_list g = sym (answerable_as parts (Tri g) (λ h. eqb h g) (λ h. is_mentioned-Tri h g)) ∙ answerable-Tri parts up g
+
+  listed : (g : ℕ) → mentions query g ≡ true → has trigrams g ≡ has_entry parts.entries g
+  listed g there = are g ∙ ap (λ b. b && has_entry parts.entries g) there
+
+  -- a trigram that is mentioned has a whole list if all lists are whole
+  whole_at : (g : ℕ) → list_all (λ k. (read_for parts k).whole) trigrams ≡ true → mentions query g ≡ true → (read_for parts g).whole ≡ true
+  whole_at g h there = elim (cases_Bool (has_entry parts.entries g)) [
+    | inl has_one ↦ all_at (λ k. (read_for parts k).whole) trigrams g h (listed g there ∙ has_one)
+    | inr none ↦ ap (λ (ids : Ids). ids.whole) (read_unlisted parts g none)
+  ]
 
   pub lists_answer : list_all (λ g. (read_for parts g).whole) trigrams ≡ is_answerable parts query
   lists_answer =
       let entries : Bool = list_all (λ (e : ListEntry). not (mentions query e.trigram) || (ids_read parts e).whole) parts.entries in
       bool_eq (list_all (λ g. (read_for parts g).whole) trigrams) entries
-      (λ h. answer_from (mentions query) (λ e. (ids_read parts e).whole) parts.entries (λ g there. one_list g ∙ all_at (λ k. (read_for parts k).whole) trigrams g h (are g ∙ there)))
-      (λ h. all_from (λ k. (read_for parts k).whole) trigrams (λ g there. sym (one_list g) ∙ answer_at (mentions query) (λ e. (ids_read parts e).whole) parts.entries g (sym (are g) ∙ there) h))
+      (λ h. answer_from (mentions query) (λ e. (ids_read parts e).whole) parts.entries (λ g there. one_list g ∙ whole_at g h there))
+      (λ h. all_from (λ k. (read_for parts k).whole) trigrams (λ g there. sym (one_list g) ∙ answer_at (mentions query) (λ e. (ids_read parts e).whole) parts.entries g (and_parts (mentions query g) (has_entry parts.entries g) (sym (are g) ∙ there)).0 h))
       ∙ sym (answerable_as parts query (mentions query) (λ g. refl))
 
   map_alike : (f h : ℕ → Bool) (xs : List ℕ) → ((g : ℕ) → has xs g ≡ true → f g ≡ h g) → map f xs ≡ map h xs
@@ -138,7 +148,13 @@ module _ (parts : Parts) (up : rises parts.entries ≡ true) (query : Query) (tr
       λ g there. sym (ap (λ b. b && has (whole_ids (read_for parts g)) id) there ∙ ap (λ b. has (cond b (read_for parts g).ids []) id) (all_at (λ k. (read_for parts k).whole) trigrams g (sym (whole_all trigrams) ∙ whole) there)) in
       ap (λ lists. number_matches lists nodes root) (have_all id trigrams ∙ map_alike (λ g. has (read_for parts g).ids id) set trigrams each)
       ∙ number set (λ g gone. ap (λ b. b && has (whole_ids (read_for parts g)) id) gone)
-      ∙ matches_same set (λ g. has (set_at id (lists_in parts)) g) query (λ g there. ap (λ b. b && has (whole_ids (read_for parts g)) id) (are g ∙ there) ∙ sym (set_is parts up g id))
+      ∙ matches_same set (λ g. has (set_at id (lists_in parts)) g) query (λ g there.
+      ap (λ b. b && has (whole_ids (read_for parts g)) id) (listed g there)
+      ∙ entry_decides (has_entry parts.entries g) (has (whole_ids (read_for parts g)) id) (λ none. ap (λ (ids : Ids). has (whole_ids ids) id) (read_unlisted parts g none)) ∙ sym (set_is parts up g id))
+    where
+      entry_decides : (a b : Bool) → (a ≡ false → b ≡ false) → (a && b) ≡ b
+      entry_decides true b h = refl
+      entry_decides false b h = sym (h refl)
 
   pub candidates_met : (nodes : List Node) (root : ℕ) (count : ℕ) (ids : List ℕ) → count ≡ length parts.names → IsNumberOf trigrams nodes query root → ids_whole (map (read_for parts) trigrams) ≡ true → ids ≡ filter (λ id. number_matches (ids_have (map (read_for parts) trigrams) id) nodes root) (range_with_len 0 count) → ids ≡ candidates_of parts query
   candidates_met nodes root count ids names number whole is =
@@ -163,13 +179,13 @@ module _ (bytes : List ℕ) where
   whole_left [] = refl
   whole_left (l ∷ ls) = ap (λ b. (ids_left bytes l).whole && b) (whole_left ls)
 
-  both_left : (lists : List ListState) → AllByRecursion (Holds bytes) lists → AllByRecursion (λ (list : Ids). AscendWithin max_ids 0 list.ids) (map (ids_left bytes) lists) → AllByRecursion (IsLeftFrom bytes 0) lists
+  both_left : (lists : List ListState) → AllByRecursion (Holds bytes) lists → AllByRecursion (λ (list : Ids). AscendWithin max_ids 0 list.ids) (map (ids_left bytes) lists) → AllByRecursion (IsLeft bytes) lists
   both_left [] held up = tt
   both_left (l ∷ ls) held up = ((held.0, up.0), both_left ls held.1 up.1)
 
-  module _ (parts : Parts) (up : rises parts.entries ≡ true) (query : Query) (trigrams : List ℕ) (are : (g : ℕ) → has trigrams g ≡ mentions query g)
+  module _ (parts : Parts) (up : rises parts.entries ≡ true) (query : Query) (trigrams : List ℕ) (are : (g : ℕ) → has trigrams g ≡ (mentions query g && has_entry parts.entries g))
       (lists : List ListState) (is : map (ids_left bytes) lists ≡ map (read_for parts) trigrams) where
-    pub all_left : length parts.names < max_ids → AllByRecursion (Holds bytes) lists → AllByRecursion (IsLeftFrom bytes 0) lists
+    pub all_left : length parts.names < max_ids → AllByRecursion (Holds bytes) lists → AllByRecursion (IsLeft bytes) lists
     all_left few held =
         both_left lists held (subst (AllByRecursion (λ (list : Ids). AscendWithin max_ids 0 list.ids)) (sym is) (lists_ascend parts up query trigrams are few trigrams))
 

@@ -1,10 +1,11 @@
 -- Queries by their members.
 use Rattle.std.proofs.Common.{◌≡◌, ℕ, ◌+◌, Bool, true, false, not, cond, ◌&&◌, ◌||◌, eqb, List, [], ◌∷◌, length, map, Vec, Global, Option, Some, None, refl, sym, ap, ◌∙◌, inl, inr, find, take, drop}
-use Rattle.cs_index.specs.Postings.{entry_of, nothing_read, read_for}
+use Rattle.std.specs.Option.{is_some}
+use Rattle.cs_index.specs.Postings.{entry_of, has_entry, nothing_read, read_for}
 use Rattle.cs_index.specs.AscendingIds.{AscendWithin}
 use Rattle.cs_index.specs.PostingLists.{Ids, damage, read_ids, set_at}
 use Rattle.cs_trigram.specs.Trigram.{has, Ascends}
-use Rattle.std.proofs.lemmas.Bool.{cases_Bool, cond_both, eqb-true, or_left, or_parts}
+use Rattle.std.proofs.lemmas.Bool.{cases_Bool, cond_both, eqb-true, or_left, or_parts, true≢false}
 use Rattle.std.proofs.lemmas.List.Folds.{list_all-map}
 use Rattle.std.specs.Prelude.{filter, option_map, unwrap_or, bytes_eq}
 use Rattle.std.specs.List.{list_all, list_any}
@@ -191,6 +192,15 @@ module _ (parts : Parts) where
       of : (o : Option ListEntry) → AscendWithin (length parts.names) 0 (unwrap_or (option_map (ids_read parts) o) nothing_read).ids
       of None = tt
       of (Some e) = entry_rises e
+
+  -- a trigram without an entry has no ids
+  pub read_unlisted : (g : ℕ) → has_entry parts.entries g ≡ false → read_for parts g ≡ nothing_read
+  unfolding read_for
+  read_unlisted g none = of (entry_of parts.entries g) none
+    where
+      of : (o : Option ListEntry) → is_some o ≡ false → unwrap_or (option_map (ids_read parts) o) nothing_read ≡ nothing_read
+      of None h = refl
+      of (Some e) h = absurd (true≢false h)
 
   pub candidates_are : (query : Query) → candidates_of parts query ≡ ids_where parts (name_matches parts query)
   unfolding candidates_of

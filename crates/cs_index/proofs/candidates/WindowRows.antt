@@ -1,14 +1,16 @@
 -- The rows of a window of ids.
-use Rattle.std.proofs.Common.{◌≡◌, ℕ, zero, suc, ◌+◌, ◌-◌, ◌<◌, ◌≤◌, Bool, true, false, cond, ◌&&◌, ◌||◌, eqb, List, [], ◌∷◌, ◌++◌, length, take, drop, get_or, set, Vec, Global, refl, sym, ap, subst, ◌∙◌, ◌⊎◌, inl, inr, arith, length-set, replicate}
+use Rattle.std.proofs.Common.{◌≡◌, ℕ, zero, suc, ◌+◌, ◌-◌, ◌<◌, ◌≤◌, Bool, true, false, cond, ◌&&◌, ◌||◌, eqb, List, [], ◌∷◌, ◌++◌, length, take, drop, get_or, set, Vec, Global, Option, Some, None, refl, sym, ap, subst, ◌∙◌, ◌⊎◌, inl, inr, arith, length-set, replicate}
 use Rattle.std.proofs.lemmas.Bool.{true≢false, cases_Bool, eqb-true, eq-eqb, ne_eqb}
 use Rattle.std.proofs.Math.Bool.{or-false}
 use Rattle.std.proofs.lemmas.List.{append-nil, get_or-drop}
-use Rattle.std.specs.Prelude.{filter}
+use Rattle.std.specs.Prelude.{filter, IfSome}
 use Rattle.std.specs.List.{AllByRecursion, AllZip, list_all, list_any, range_with_len}
 use Rattle.cs_trigram.specs.Trigram.{has}
 use Rattle.cs_index.specs.AscendingIds.{AscendWithin, BeginsFrom, max_ids}
-use Rattle.cs_index.specs.PostingLists.{Ids}
-use Rattle.cs_index.specs.Rows.{are_whole, column, have_id, HaveWidth, IsLeftFrom, IsReadOn, IsReadTo}
+use Rattle.cs_index.specs.PostingLists.{Ids, before}
+use Rattle.cs_index.specs.Form.{IsRequired, number_matches}
+use Rattle.cs_index.specs.declared.reading.form.Node.{Node}
+use Rattle.cs_index.specs.Rows.{are_whole, column, have_id, HaveWidth, IsLeft, IsReadOn, IsReadTo, LacksId}
 use Rattle.cs_index.specs.StoredLists.{ListState, Holds, ids_left}
 use Rattle.cs_index.proofs.postings.IteratorSteps.{mark_step}
 
@@ -43,13 +45,29 @@ pub record RowSoFar (start end : ℕ) (list : Ids) (row : List Bool) (rest : Ids
   pub from : AscendWithin max_ids start rest.ids
   pub whole : rest.whole ≡ list.whole
 
-pub row_begins : (start end : ℕ) (list : Ids) (row : List Bool) → row ≡ [] → AscendWithin max_ids start list.ids → RowSoFar start end list row list
-row_begins start end list row none up = record {
+-- ids that are skipped
+skipped_same : (start id : ℕ) (xs ys : List ℕ) → AllByRecursion (λ k. k < start) xs → start ≤ id → has (xs ++ ys) id ≡ has ys id
+skipped_same start id [] ys h from = refl
+skipped_same start id (x ∷ xs) ys h from = λ j. ne_eqb x id (λ e. absurd (omega (arith, e, h.0, from))) j || skipped_same start id xs ys h.1 from j
+
+skipped_ascend : (m a : ℕ) (xs ys : List ℕ) → AscendWithin m a (xs ++ ys) → AscendWithin m 0 ys
+skipped_ascend m a [] ys up = ascend_weaker m 0 a ys (omega arith) up
+skipped_ascend m a (x ∷ xs) ys up = skipped_ascend m (x + 1) xs ys up.2
+
+pub skipped_to : (start : ℕ) (list rest : Ids) (skipped : List ℕ) → list ≡ before skipped rest → AllByRecursion (λ k. k < start) skipped → AscendWithin max_ids 0 list.ids → IsReadTo start list rest
+skipped_to start list rest skipped is below up = record {
+  same = λ id from. sym (ap (λ (r : Ids). has r.ids id) is ∙ skipped_same start id skipped rest.ids below from);
+  ascend = skipped_ascend max_ids 0 skipped rest.ids (subst (λ (r : Ids). AscendWithin max_ids 0 r.ids) is up);
+  whole = sym (ap (λ (r : Ids). r.whole) is);
+}
+
+pub row_begins : (start end : ℕ) (list rest : Ids) (row : List Bool) → start < end → row ≡ [] → IsReadTo start list rest → BeginsFrom start rest.ids → RowSoFar start end list row rest
+row_begins start end list rest row order none r begins = record {
   width = inl (ap length none);
-  flags = λ k h. ap (λ (r : List Bool). get_or r k false || has list.ids (start + k)) none;
-  same = λ id h. refl;
-  from = up;
-  whole = refl;
+  flags = λ k h. ap (λ (r : List Bool). get_or r k false || has rest.ids (start + k)) none ∙ r.same (start + k) (omega arith);
+  same = λ id h. r.same id (omega (arith, h, order));
+  from = ascend_from max_ids 0 start rest.ids r.ascend begins;
+  whole = r.whole;
 }
 
 -- one id more; the row may have got its flags just now
@@ -78,16 +96,23 @@ row_ends start end list row rest r h k below =
 pub read_to : (start end : ℕ) (list : Ids) (row : List Bool) (rest after : Ids) → RowSoFar start end list row rest → BeginsFrom end rest.ids → after.ids ≡ rest.ids → after.whole ≡ rest.whole → IsReadTo end list after
 read_to start end list row rest after r h ids whole = record {
   same = λ id above. ap (λ (is : List ℕ). has is id) ids ∙ r.same id above;
-  from = subst (AscendWithin max_ids end) (sym ids) (ascend_from max_ids start end rest.ids r.from h);
+  ascend = subst (AscendWithin max_ids 0) (sym ids) (ascend_weaker max_ids 0 start rest.ids (omega arith) r.from);
   whole = whole ∙ r.whole;
 }
+
+pub read_weaker : (a b : ℕ) (list rest : Ids) → a ≤ b → IsReadTo a list rest → IsReadTo b list rest
+read_weaker a b list rest h r = record { same = λ id above. r.same id (omega (arith, h, above)); ascend = r.ascend; whole = r.whole }
+
+-- no id is between those that were skipped and the next one
+pub none_between : (start next id : ℕ) (list rest : Ids) → IsReadTo start list rest → BeginsFrom next rest.ids → start ≤ id → id < next → has list.ids id ≡ false
+none_between start next id list rest r begins from below = sym (r.same id from) ∙ none_below max_ids next rest.ids id (ascend_from max_ids 0 next rest.ids r.ascend begins) below
 
 -- ---- lists that are read on
 
 pub read_on : (a b : ℕ) (list rest after : Ids) → a ≤ b → IsReadTo a list rest → IsReadTo b rest after → IsReadTo b list after
 read_on a b list rest after h r s = record {
   same = λ id above. s.same id above ∙ r.same id (omega (arith, h, above));
-  from = s.from;
+  ascend = s.ascend;
   whole = s.whole ∙ r.whole;
 }
 
@@ -100,13 +125,29 @@ module _ (bytes : List ℕ) where
   read_all_on a b (l ∷ ls) [] ns h r s = absurd r
   read_all_on a b (l ∷ ls) (m ∷ ms) [] h r s = absurd s
 
-  pub not_read : (lists : List ListState) → AllByRecursion (IsLeftFrom bytes 0) lists → AllZip (IsReadOn bytes 0) lists lists
-  not_read [] up = tt
-  not_read (l ∷ ls) up = ((up.0.0, record { same = λ id h. refl; from = up.0.1; whole = refl }), not_read ls up.1)
+  pub not_read : (end : ℕ) (lists : List ListState) → AllByRecursion (IsLeft bytes) lists → AllZip (IsReadOn bytes end) lists lists
+  not_read end [] up = tt
+  not_read end (l ∷ ls) up = ((up.0.0, record { same = λ id h. refl; ascend = up.0.1; whole = refl }), not_read end ls up.1)
 
-  pub all_from : (end : ℕ) (lists rests : List ListState) → AllZip (IsReadOn bytes end) lists rests → AllByRecursion (IsLeftFrom bytes end) rests
+  pub have_length : (id : ℕ) (lists : List ListState) → length (have_id bytes lists id) ≡ length lists
+  have_length id [] = refl
+  have_length id (l ∷ ls) = ap suc (have_length id ls)
+
+  -- one list is read on
+  pub one_read : (end : ℕ) (lists : List ListState) (at : ℕ) (d list : ListState) → AllByRecursion (IsLeft bytes) lists → at < length lists → IsReadOn bytes end (get_or lists at d) list → AllZip (IsReadOn bytes end) lists (set lists at list)
+  one_read end [] at d list up below read = absurd (omega (arith, below))
+  one_read end (l ∷ ls) zero d list up below read = (read, not_read end ls up.1)
+  one_read end (l ∷ ls) (suc at) d list up below read = ((up.0.0, record { same = λ id h. refl; ascend = up.0.1; whole = refl }), one_read end ls at d list up.1 (omega (arith, below)) read)
+
+  -- the flag of a list
+  pub have_at : (id : ℕ) (lists : List ListState) (at : ℕ) (d : ListState) → at < length lists → get_or (have_id bytes lists id) at false ≡ has (ids_left bytes (get_or lists at d)).ids id
+  have_at id [] at d below = absurd (omega (arith, below))
+  have_at id (l ∷ ls) zero d below = refl
+  have_at id (l ∷ ls) (suc at) d below = have_at id ls at d (omega (arith, below))
+
+  pub all_from : (end : ℕ) (lists rests : List ListState) → AllZip (IsReadOn bytes end) lists rests → AllByRecursion (IsLeft bytes) rests
   all_from end [] [] r = tt
-  all_from end (l ∷ ls) (m ∷ ms) r = ((r.0.0, r.0.1.from), all_from end ls ms r.1)
+  all_from end (l ∷ ls) (m ∷ ms) r = ((r.0.0, r.0.1.ascend), all_from end ls ms r.1)
   all_from end [] (m ∷ ms) r = absurd r
   all_from end (l ∷ ls) [] r = absurd r
 
@@ -146,10 +187,10 @@ module _ (bytes : List ℕ) where
   have-push [] list id = refl
   have-push (l ∷ ls) list id = ap (λ t. has (ids_left bytes l).ids id ∷ t) (have-push ls list id)
 
-  pub held_at : (start : ℕ) (lists : List ListState) (k : ℕ) (d : ListState) → k < length lists → AllByRecursion (IsLeftFrom bytes start) lists → IsLeftFrom bytes start (get_or lists k d)
-  held_at start [] k d below h = absurd (omega (arith, below))
-  held_at start (l ∷ ls) zero d below h = h.0
-  held_at start (l ∷ ls) (suc k) d below h = held_at start ls k d (omega (arith, below)) h.1
+  pub held_at : (lists : List ListState) (k : ℕ) (d : ListState) → k < length lists → AllByRecursion (IsLeft bytes) lists → IsLeft bytes (get_or lists k d)
+  held_at [] k d below h = absurd (omega (arith, below))
+  held_at (l ∷ ls) zero d below h = h.0
+  held_at (l ∷ ls) (suc k) d below h = held_at ls k d (omega (arith, below)) h.1
 
   pub held_parts : (lists : List ListState) (list : ListState) → AllByRecursion (Holds bytes) (lists ++ list ∷ []) → AllByRecursion (Holds bytes) lists × Holds bytes list
   held_parts [] list h = (tt, h.0)
@@ -181,6 +222,28 @@ window_more test flag start end ids new h so_far is alike =
     is ∙ (λ i. so_far i ++ filter_alike flag test start (end - start) (λ k below. alike k (omega (arith, below, h))) i)
     ∙ sym (filter-append test (range_with_len 0 start) (range_with_len start (end - start)))
     ∙ ap (filter test) (ap (λ k. range_with_len 0 start ++ range_with_len k (end - start)) (let z : start ≡ 0 + start = omega arith in z) ∙ sym (range_split 0 start (end - start)) ∙ ap (range_with_len 0) (let z : start + (end - start) ≡ end = omega (arith, h) in z))
+
+pub filter_false : (p : ℕ → Bool) (a n : ℕ) → ((k : ℕ) → a ≤ k → k < a + n → p k ≡ false) → filter p (range_with_len a n) ≡ []
+filter_false p a zero f = refl
+filter_false p a (suc n) f =
+    ap (λ b. cond b (a ∷ filter p (range_with_len (a + 1) n)) (filter p (range_with_len (a + 1) n))) (f a (omega arith) (omega arith))
+    ∙ filter_false p (a + 1) n (λ k from below. f k (omega (arith, from)) (omega (arith, below)))
+
+-- ids for which the test fails
+pub window_none : (test : ℕ → Bool) (start end : ℕ) (ids : List ℕ) → start ≤ end → ids ≡ filter test (range_with_len 0 start) → ((id : ℕ) → start ≤ id → id < end → test id ≡ false) → ids ≡ filter test (range_with_len 0 end)
+window_none test start end ids h so_far none =
+    so_far ∙ sym (append-nil (filter test (range_with_len 0 start)))
+    ∙ ap (λ t. filter test (range_with_len 0 start) ++ t) (sym (filter_false test start (end - start) (λ k from below. none k from (omega (arith, below, h)))))
+    ∙ sym (filter-append test (range_with_len 0 start) (range_with_len start (end - start)))
+    ∙ ap (filter test) (ap (λ k. range_with_len 0 start ++ range_with_len k (end - start)) (let z : start ≡ 0 + start = omega arith in z) ∙ sym (range_split 0 start (end - start)) ∙ ap (range_with_len 0) (let z : start + (end - start) ≡ end = omega (arith, h) in z))
+
+-- a required list lacks the id
+pub lacks_required : (nodes : List Node) (root : ℕ) (bits : List Bool) (rarest : Option ℕ) → IfSome rarest (IsRequired (length bits) nodes root) → LacksId bits rarest → number_matches bits nodes root ≡ false
+lacks_required nodes root bits None required lacks = absurd lacks
+lacks_required nodes root bits (Some at) required lacks = elim (cases_Bool (number_matches bits nodes root)) [
+  | inl matches ↦ absurd (true≢false (sym (required.1 bits refl matches) ∙ lacks))
+  | inr none ↦ none
+]
 
 no_flags : (start a n : ℕ) → filter (λ id. get_or [] (id - start) false) (range_with_len a n) ≡ []
 no_flags start a zero = refl

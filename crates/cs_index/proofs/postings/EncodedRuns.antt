@@ -8,7 +8,7 @@ use Rattle.std.specs.Prelude.{flat_map, fold, sum}
 use Rattle.cs_index.specs.Encoding.{varint, varint_within, deltas_from, stream_of}
 use Rattle.cs_index.specs.IdStream.{ids_in, IsStream}
 use Rattle.cs_index.specs.AscendingIds.{ids_onward, max_ids, next_after, AscendWithin}
-use Rattle.cs_index.specs.PostingLists.{Ids, read_ids, read_varint, onto, damage}
+use Rattle.cs_index.specs.PostingLists.{Ids, before, read_ids, read_varint, onto, damage}
 use Rattle.cs_index.specs.PostingsInvariant.{remaining_ids}
 use Rattle.cs_index.proofs.postings.StreamPush.{rise_length, short_varint, stream_from, stream_more}
 use Rattle.cs_index.proofs.encoding.VarintRoundtrip.{varint_read, after_delta}
@@ -59,10 +59,6 @@ onward_from limit name_count from ids up h =
 
 -- ---- the first ids of a list that is read
 
--- ids prepended to a list
-abbrev pub before : List ℕ → Ids → Ids
-before ids read = record { ids = ids ++ read.ids; whole = read.whole }
-
 read_prefix : (name_count next more : ℕ) (ids rest : List ℕ) → name_count < 2 ^ 32 → AscendWithin name_count next ids →
     read_ids name_count (length ids + more) next (flat_map varint (deltas_from next ids) ++ rest)
     ≡ before ids (read_ids name_count more (next_after next ids) rest)
@@ -101,6 +97,10 @@ all_below limit from end next [] up h = tt
 all_below limit from end next (id ∷ ids) up h =
     let long = rise_length limit (id + 1) ids up.2 in
     (omega (arith, long, h), all_below limit from end (id + 1) ids up.2 h)
+
+pub onward_below : (from end : ℕ) (ids : List ℕ) → AllByRecursion (λ id. from + id < end) ids → AllByRecursion (λ id. id < end) (ids_onward from ids)
+onward_below from end [] h = tt
+onward_below from end (id ∷ ids) h = (h.0, onward_below from end ids h.1)
 
 -- ---- one more step of a run
 

@@ -1,14 +1,16 @@
 -- Posting lists that are read in pieces.
-use Rattle.std.proofs.Common.{◌≡◌, ℕ, zero, suc, ◌+◌, ◌-◌, ◌*◌, ◌<◌, ◌≤◌, ◌^◌, Bool, true, false, cond, ◌&&◌, eqb, ltb, List, [], ◌∷◌, ◌++◌, length, take, drop, Option, Some, None, refl, sym, ap, subst, ◌∙◌, ◌⊎◌, inl, inr, arith, length-drop, length-take, length-append}
+use Rattle.std.proofs.Common.{◌≡◌, ℕ, zero, suc, ◌+◌, ◌-◌, ◌*◌, ◌<◌, ◌≤◌, ◌^◌, Bool, true, false, cond, ◌&&◌, eqb, ltb, List, [], ◌∷◌, ◌++◌, length, take, drop, Option, Some, None, refl, sym, ap, subst, ◌∙◌, ◌⊎◌, inl, inr, arith, append_assoc, length-drop, length-take, length-append}
 use Rattle.std.proofs.lemmas.Bool.{and_from, cases_lt, le-ltb, lt-ltb}
-use Rattle.std.proofs.lemmas.List.{append-nil, drop-append-le, drop-drop, drop-take, take-append-drop, take-take}
+use Rattle.std.proofs.lemmas.List.{append-nil, drop-append-le, drop-drop, drop-take, take-append-drop, take-take, take_rest}
 use Rattle.std.proofs.Math.Bool.{and-false}
 use Rattle.std.specs.Prelude.{option_map, option_and_then, IfSome, bytes_eq}
 use Rattle.cs_tree.specs.Store.{part_of}
-use Rattle.cs_index.specs.AscendingIds.{BeginsFrom}
-use Rattle.cs_index.specs.Encoding.{ListEntry, three_bytes}
-use Rattle.cs_index.specs.PostingLists.{Ids, damage, onto, read_ids, read_list, read_varint, varint_at}
-use Rattle.cs_index.specs.StoredLists.{ListState, bytes_left, ids_left, with_piece, GivesBelow, Holds, IsReady}
+use Rattle.std.specs.List.{AllByRecursion}
+use Rattle.cs_index.specs.AscendingIds.{AscendWithin, BeginsFrom, ids_onward, max_ids, next_after}
+use Rattle.cs_index.specs.Encoding.{ListEntry, stream_of, three_bytes}
+use Rattle.cs_index.specs.PostingLists.{Ids, before, damage, onto, read_ids, read_list, read_varint, varint_at}
+use Rattle.cs_index.specs.StoredLists.{ListState, bytes_left, ids_left, with_piece, GivesBelow, Holds, IsReady, SkipsBelow}
+use Rattle.cs_index.proofs.postings.EncodedRuns.{all_below, left_prefix, onward_below}
 use Rattle.cs_index.proofs.encoding.VarintRoundtrip.{after_delta, below_limit}
 
 -- ---- a varint of a piece is that of the section
@@ -91,6 +93,16 @@ module _ (bytes : List ℕ) (s : ListState) (going : s.has_ended ≡ false) (rea
   taken_left delta len read some order above within =
       now_read ∙ taken s.name_count s.left s.next delta (bytes_left bytes s) (drop len s.piece ++ ready.0) some order (varint_read ∙ ap (grow ready.0) read) above within
 
+-- ---- the bytes that are decoded
+
+pub piece_is : (items now : List ℕ) (used : ℕ) → now ≡ items → take (length now - used) (drop used now) ≡ drop used items
+piece_is items now used is = take_rest now used ∙ ap (drop used) is
+
+pub read_is : (items now : List ℕ) (used delta len : ℕ) → now ≡ items → read_varint (take (length now - used) (drop used now)) ≡ Some (delta, drop len (take (length now - used) (drop used now))) → read_varint (drop used items) ≡ Some (delta, drop len (drop used items))
+read_is items now used delta len is read =
+    let same = piece_is items now used is in
+    ap read_varint (sym same) ∙ read ∙ (λ i. Some (delta, drop len (same i)))
+
 -- ---- what a list gives
 
 -- the list as it is inside, which ends without an id
@@ -138,6 +150,96 @@ takes bytes items used start stop left next name_count ended whole end delta len
 
     rest : ListState
     rest = record { piece = drop (used + len) items; at = start + (used + len); stop = stop; left = left - 1; next = next + delta; name_count = name_count; has_ended = ended; is_whole = whole }
+
+-- ---- ids that are skipped
+
+drop_first : (xs ys : List ℕ) → drop (length xs) (xs ++ ys) ≡ ys
+drop_first [] ys = refl
+drop_first (x ∷ xs) ys = drop_first xs ys
+
+-- ids of the piece are skipped
+pub run_taken : (bytes items : List ℕ) (used start stop left next name_count : ℕ) (ended whole : Bool) (end len : ℕ) (ids more : List ℕ) (now : ListState)
+    → (let s : ListState = record { piece = drop used items; at = start + used; stop = stop; left = left; next = next; name_count = name_count; has_ended = ended; is_whole = whole } in s) ≡ now
+    → ended ≡ false → drop used items ≡ stream_of ids ++ more → len ≡ length (stream_of ids) → used ≤ length items → start + length items ≤ stop
+    → AscendWithin max_ids 0 ids → length ids ≤ left → next + next_after 0 ids ≤ name_count → next_after 0 ids ≤ end - next → name_count < max_ids → Holds bytes now
+    → SkipsBelow bytes end now (record { piece = drop (used + len) items; at = start + (used + len); stop = stop; left = left - length ids; next = next + next_after 0 ids; name_count = name_count; has_ended = ended; is_whole = whole })
+run_taken bytes items used start stop left next name_count ended whole end len ids more now is going split size used_within within up count fits below few holds =
+    subst (λ (n : ListState). Holds bytes n → SkipsBelow bytes end n rest) is
+    (λ h.
+    let l = length-drop used items in
+    let a = length-append (stream_of ids) more in
+    let parts = ap length split in
+    let inside : len ≤ length (drop used items) = omega (arith, a, parts, size) in
+    let left_bytes : bytes_left bytes s ≡ stream_of ids ++ (more ++ h.0) = h.1 ∙ ap (λ p. p ++ h.0) split ∙ append_assoc (stream_of ids) more h.0 in
+    let after : bytes_left bytes rest ≡ more ++ h.0 =
+    ap (λ at. take (stop - at) (drop at bytes)) (let z : start + (used + len) ≡ start + used + len = omega arith in z)
+    ∙ left_after bytes (start + used) stop len (omega (arith, l, inside, used_within, within))
+    ∙ ap (drop len) left_bytes ∙ ap (λ n. drop n (stream_of ids ++ (more ++ h.0))) size ∙ drop_first (stream_of ids) (more ++ h.0) in
+    let piece : drop (used + len) items ≡ more = sym (drop-drop len used items) ∙ ap (drop len) split ∙ ap (λ n. drop n (stream_of ids ++ more)) size ∙ drop_first (stream_of ids) more in (
+      (h.0, after ∙ ap (λ p. p ++ h.0) (sym piece)),
+      ids_onward next ids,
+      ap (λ e. cond e (let r : Ids = record { ids = []; whole = whole } in r) (read_ids name_count left next (bytes_left bytes s))) going
+          ∙ left_prefix name_count next left (bytes_left bytes s) (more ++ h.0) ids few up fits count left_bytes
+          ∙ ap (λ b. before (ids_onward next ids) (read_ids name_count (left - length ids) (next + next_after 0 ids) b)) (sym after)
+          ∙ ap (λ e. before (ids_onward next ids) (cond e (let r : Ids = record { ids = []; whole = whole } in r) (read_ids name_count (left - length ids) (next + next_after 0 ids) (bytes_left bytes rest)))) (sym going),
+      onward_below next end ids (all_below max_ids next end 0 ids up below),
+    )) holds
+  where
+    s : ListState
+    s = record { piece = drop used items; at = start + used; stop = stop; left = left; next = next; name_count = name_count; has_ended = ended; is_whole = whole }
+
+    rest : ListState
+    rest = record { piece = drop (used + len) items; at = start + (used + len); stop = stop; left = left - length ids; next = next + next_after 0 ids; name_count = name_count; has_ended = ended; is_whole = whole }
+
+-- no id is skipped
+pub skips_none : (bytes : List ℕ) (end : ℕ) (list : ListState) → Holds bytes list → SkipsBelow bytes end list list
+skips_none bytes end list holds = (holds, [], refl, tt)
+
+-- an id, and then others
+pub skips_on : (bytes : List ℕ) (end id : ℕ) (list one two rest : ListState) → SkipsBelow bytes end list one → GivesBelow bytes end one two (Some id) → SkipsBelow bytes end two rest → SkipsBelow bytes end list rest
+skips_on bytes end id list one two rest before_it gives after =
+    let first = before_it.1 in
+    let last = after.1 in (
+      after.0,
+      first ++ id ∷ last,
+      before_it.2 ∙ ap (before first) (gives.1 ∙ ap (onto id) after.2)
+          ∙ ap (λ (ids : List ℕ). let r : Ids = record { ids = ids; whole = (ids_left bytes rest).whole } in r) (sym (append_assoc first (id ∷ last) (ids_left bytes rest).ids)),
+      all_joined first (id ∷ last) before_it.3 (gives.2, after.3),
+    )
+  where
+    all_joined : (xs ys : List ℕ) → AllByRecursion (λ k. k < end) xs → AllByRecursion (λ k. k < end) ys → AllByRecursion (λ k. k < end) (xs ++ ys)
+    all_joined [] ys h k = k
+    all_joined (x ∷ xs) ys h k = (h.0, all_joined xs ys h.1 k)
+
+pub skips_filled : (bytes : List ℕ) (start : ℕ) (list one later : ListState) (piece : List ℕ) → later ≡ with_piece one piece → IsReady bytes later → SkipsBelow bytes start list one → SkipsBelow bytes start list later
+skips_filled bytes start list one later piece is ready skips =
+    ((ready.0, ready.1), skips.1, skips.2 ∙ ap (before skips.1) (sym (ap (ids_left bytes) is)), skips.3)
+
+-- a list without ids begins from any number
+pub begins_none : (bytes : List ℕ) (from : ℕ) (s now : ListState) → s ≡ now → (IsReady bytes s → (ids_left bytes s).ids ≡ []) → IsReady bytes now → BeginsFrom from (ids_left bytes now).ids
+begins_none bytes from s now is none ready =
+    subst (λ (l : ListState). IsReady bytes l → BeginsFrom from (ids_left bytes l).ids) is (λ r. subst (BeginsFrom from) (sym (none r)) tt) ready
+
+pub begins_next : (bytes : List ℕ) (delta len : ℕ) (s now : ListState) → s ≡ now → s.has_ended ≡ false → read_varint s.piece ≡ Some (delta, drop len s.piece) → (s.left ≡ 0 → ⊥) → s.next ≤ s.name_count → (delta ≡ 0 → ⊥) → delta ≤ s.name_count - s.next → IsReady bytes now → BeginsFrom (s.next + delta - 1) (ids_left bytes now).ids
+begins_next bytes delta len s now is going read some order above within ready =
+    subst (λ (l : ListState). IsReady bytes l → BeginsFrom (s.next + delta - 1) (ids_left bytes l).ids) is
+    (λ r. subst (λ (ids : Ids). BeginsFrom (s.next + delta - 1) ids.ids) (sym (taken_left bytes s going r delta len read some order above within)) (let same : s.next + delta - 1 ≤ s.next + delta - 1 = omega arith in same)) ready
+
+-- a list that has ended, or has no id left to read
+pub none_left : (bytes : List ℕ) (s : ListState) → (s.has_ended ≡ true) ⊎ (s.left ≡ 0) → (ids_left bytes s).ids ≡ []
+none_left bytes s (inl ended) = ap (λ e. (cond e (let r : Ids = record { ids = []; whole = s.is_whole } in r) (read_ids s.name_count s.left s.next (bytes_left bytes s))).ids) ended
+none_left bytes s (inr none) =
+    ap (λ n. (cond s.has_ended (let r : Ids = record { ids = []; whole = s.is_whole } in r) (read_ids s.name_count n s.next (bytes_left bytes s))).ids) none ∙ either s.has_ended
+  where
+    either : (e : Bool) → (cond e (let r : Ids = record { ids = []; whole = s.is_whole } in r) (read_ids s.name_count 0 s.next (bytes_left bytes s))).ids ≡ []
+    either true = refl
+    either false = refl
+
+-- none is left below the end
+pub skips_done : (bytes : List ℕ) (end : ℕ) (list one rest : ListState) (found : Option ℕ) → found ≡ None → SkipsBelow bytes end list one → GivesBelow bytes end one rest found → SkipsBelow bytes end list rest × BeginsFrom end (ids_left bytes rest).ids
+skips_done bytes end list one rest None none skips gives =
+    ((gives.0, skips.1, skips.2 ∙ ap (before skips.1) (sym gives.1), skips.3), subst (λ (ids : Ids). BeginsFrom end ids.ids) (sym gives.1) gives.2)
+skips_done bytes end list one rest (Some id) none skips gives = cc
 
 -- ---- pieces that are read
 

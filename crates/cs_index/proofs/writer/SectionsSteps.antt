@@ -16,7 +16,7 @@ use Rattle.cs_index.specs.AscendingIds.{ids_onward, max_ids, next_after, IsPosti
 use Rattle.cs_index.specs.Gathering.{trigrams_in}
 use Rattle.cs_index.specs.Written.{ids_of, with_id, Written, entries_written, last_ids, with_written_id, with_last_id, with_last_ids, AllBelow}
 use Rattle.cs_index.specs.WrittenLists.{IsWritten, with_posting}
-use Rattle.cs_index.specs.SectionsInvariant.{prefix_of, ids_at, lists_at, IsFresh, IsOpen, IsSections, current_list, bytes_at_close, lists_of_fields, last_trigram_of, written_of}
+use Rattle.cs_index.specs.SectionsInvariant.{prefix_of, ids_at, first_of, lists_at, IsFresh, IsOpen, IsSections, current_list, bytes_at_close, lists_of_fields, last_trigram_of, written_of}
 use Rattle.cs_index.proofs.postings.StreamPush.{decoded-stream_of, stream_from, written_push, next_push, rise_push, rise_length, rise_append}
 use Rattle.cs_index.proofs.postings.EncodedRuns.{onward_from, onward_last, onward_stream}
 use Rattle.cs_index.proofs.encoding.ListsReadBack.{lists_are}
@@ -771,6 +771,32 @@ ended_some s now bytes entries view is some written pushed =
 
     open_list : IsOpenAs s (closed_of s) (current_ids s)
     open_list = is.opened some
+
+-- ---- the bytes of the lists
+
+pub none_lists : (s : Inside) → s.count ≡ 0 → lists_of_fields s ≡ []
+none_lists s zero = ap (λ b. cond b [] (closed_of s ++ (s.trigram, current_ids s) ∷ [])) (eq-eqb s.count 0 zero)
+
+first_at : (at last : ℕ) (ps : List PostingList) → last ≡ at + length (concat (map posting_list_bytes ps)) →
+    first_of (list_entries at ps) last ≡ at
+first_at at last [] e = omega (arith, e)
+first_at at last (p ∷ ps) e = refl
+
+pub lists_long : (s : Inside) (first : ℕ) → IsSections s → s.count ≢ 0 → first ≡ first_of s.entries.items s.start →
+    length s.out.items + 1 ≡ first + length (concat (map posting_list_bytes (lists_of_fields s)))
+lists_long s first is some e =
+    let open_list : IsOpenAs s (closed_of s) (current_ids s) = is.opened some in
+    let prefix : List ℕ = prefix_of s.paths s.names in
+    let written : s.out.items ++ 0 ∷ [] ≡ prefix ++ concat (map posting_list_bytes (lists_of_fields s)) =
+    closed_at prefix s.out.items (closed_of s) s.trigram (current_ids s) open_list.written
+    ∙ ap (λ bs. prefix ++ bs) (sym (concat_push (closed_of s) (s.trigram, current_ids s)))
+    ∙ ap (λ ps. prefix ++ concat (map posting_list_bytes ps)) (sym (some_lists s some)) in
+    let starts : first ≡ length prefix = e ∙ ap (λ es. first_of es s.start) open_list.entries_are
+    ∙ first_at (length prefix) s.start (closed_of s) open_list.starts in
+    let long = ap length written in
+    let pushed = length_push s.out.items 0 in
+    let both = length-append prefix (concat (map posting_list_bytes (lists_of_fields s))) in
+    omega (arith, starts, long, pushed, both)
 
 -- the result
 pub short : (result : Result (Vec ℕ Global) BuildFault) (s : Inside) (now : Written) (limit : ℕ) → written_of s ≡ now →

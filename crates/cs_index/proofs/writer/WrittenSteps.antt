@@ -1,12 +1,12 @@
 -- The invariant of `Written` after each operation.
 use Rattle.std.proofs.Common.{◌≡◌, ◌≢◌, ℕ, ◌+◌, ◌*◌, ◌^◌, ◌<◌, ◌≤◌, false, cond, eqb, List, [], ◌∷◌, ◌++◌, length, map, Option, None, Some, refl, sym, subst, ◌∙◌, inl, inr, arith, append_assoc, length-append}
-use Rattle.cs_trigram.specs.Trigram.{has, Ascends}
+use Rattle.cs_trigram.specs.Trigram.{has, closing_trigram, Ascends}
 use Rattle.cs_trigram.proofs.SetLemmas.{Above, ascends_cons, ascends_tail, ascends_head}
 use Rattle.std.proofs.lemmas.Bool.{true≢false, cases_Bool, cond_both, eq-eqb}
 use Rattle.std.proofs.lemmas.List.{append-nil, length_push, length-map}
 use Rattle.std.specs.Prelude.{filter}
 use Rattle.std.specs.List.{AllByRecursion, concat}
-use Rattle.cs_index.specs.Encoding.{Entry, PostingList, IsString, encoding_of, layout, postings_of, sections_of, with_nul, starts_from, four_bytes, name_offsets}
+use Rattle.cs_index.specs.Encoding.{Entry, PostingList, IsString, encoding_of, layout, posting_list_bytes, postings_of, sections_of, with_nul, starts_from, four_bytes, name_offsets}
 use Rattle.cs_index.specs.AscendingIds.{next_after, ArePostingLists, IsPostingList}
 use Rattle.cs_index.specs.Gathering.{trigrams_in}
 use Rattle.cs_index.specs.Written.{ids_of, with_id, Written, entries_written, with_written_name, with_written_id, with_list, AllBelow}
@@ -179,6 +179,14 @@ names_within paths names lists =
     let offsets = length-fours (starts_from 0 (map with_nul names)) in
     let count = length-starts_from 0 (map with_nul names) ∙ length-map names with_nul in
     omega (arith, l.whole, l.bytes_are, parts, offsets, count)
+
+-- the posting lists are a part of the index
+pub lists_within : (paths names : List (List ℕ)) (lists : List PostingList) →
+    length (concat (map posting_list_bytes lists)) ≤ length (layout (sections_of paths names lists))
+lists_within paths names lists =
+    let l = lengths (sections_of paths names lists) in
+    let parts = length-append (concat (map posting_list_bytes lists)) (posting_list_bytes (closing_trigram, [])) in
+    omega (arith, l.whole, l.bytes_are, parts)
 
 pub names_bound : (paths names : List (List ℕ)) (lists : List PostingList) →
     length (layout (sections_of paths names lists)) < 2 ^ 32 → length names < 2 ^ 31

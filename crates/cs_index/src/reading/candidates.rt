@@ -10,16 +10,17 @@ ghost use Rattle.cs_index.specs.OpenedParts.{Parts};
 ghost use Rattle.cs_index.specs.Postings.{IsListFault, read_for};
 ghost use Rattle.cs_index.specs.Candidates.{candidates_of};
 ghost use Rattle.cs_index.specs.Answerable.{is_answerable, AreCandidates};
-ghost use Rattle.cs_index.specs.Form.{number_matches};
-ghost use Rattle.cs_index.specs.Rows.{are_whole, have_id, IsLeftFrom, IsReadOn};
+ghost use Rattle.cs_index.specs.Form.{IsForm, number_matches};
+ghost use Rattle.cs_index.specs.Rows.{are_whole, have_id, IsLeft, IsReadOn};
 ghost use Rattle.cs_index.specs.Stored.{whole_of};
 ghost use Rattle.cs_index.specs.StoredLists.{HasLists, Holds, IsSection, ids_left};
 
 use crate::fault::IndexFault;
 use crate::reading::entries::entry_offset;
-use crate::reading::form::{Form, form_of};
+use crate::reading::form::{Form, NOTHING, form_of};
 use crate::reading::index::Index;
-use crate::reading::query_trigrams::mentioned_trigrams;
+use crate::reading::query_trigrams::listed_trigrams;
+use crate::reading::rarest::{next_start, rarest_list};
 use crate::reading::rows::{Window, row_at, rows_of};
 use crate::reading::stored::StoredIndex;
 use crate::reading::stored_list::{ListSection, StoredList};
@@ -31,6 +32,8 @@ use std::alloc::{AllocError, Global};
 const FLAGS: usize = 1 << 22;
 /// But a window has at least as many ids.
 const LEAST_WINDOW: usize = 1024;
+/// And it has at most as many.
+const LONGEST_WINDOW: usize = 1 << 16;
 /// The most bytes of the pieces of all lists.
 const PIECES: usize = 1 << 20;
 /// But a piece may have at least as many bytes.
@@ -101,7 +104,7 @@ fn candidates_in<S: Store>(
     ensures size { S.size store.new ≡ S.size store.old }
     ensures failed { S.failed store.new ≡ count_after is_io_failure result (S.failed store.old) }
 {
-    let trigrams = mentioned_trigrams(alloc, query)?;
+    let trigrams = listed_trigrams(alloc, section.list_index, query)?;
     let form = form_of(alloc, &trigrams, query)?;
     let mut lists = lists_of(alloc, store, section, &trigrams)?;
     let ids = meet(alloc, store, &form, &mut lists, section.name_count)?;
@@ -123,6 +126,7 @@ fn lists_of<S: Store>(
     ensures lists { (bytes : List ℕ) → S.model store.old ≡ Some bytes → (parts : Parts) →
         HasLists bytes section.now parts → IfOk result (λ lists.
         map (ids_left bytes) lists.items ≡ map (read_for parts) trigrams.now) }
+    ensures count { IfOk result (λ lists. length lists.items ≡ length trigrams.now) }
     ensures holds { (bytes : List ℕ) → S.model store.old ≡ Some bytes →
         IfOk result (λ lists. AllByRecursion (Holds bytes) lists.items) }
     ensures keeps { S.model store.new ≡ S.model store.old }
@@ -167,7 +171,8 @@ fn trigram_list<S: Store>(
     }
 }
 
-/// The ids below `count` that match a form, window by window.
+/// The ids below `count` that match a form, window by window. A window begins at an id of the rarest list that the form
+/// requires.
 fn meet<S: Store>(
     alloc: Global,
     store: &mut S,
@@ -175,25 +180,38 @@ fn meet<S: Store>(
     lists: &mut [StoredList],
     count: u32,
 ) -> Result<Vec<u32>, IoFault>
+    requires { IsForm (length lists.old) form.now.nodes.items }
     ensures ids { (bytes : List ℕ) → S.model store.old ≡ Some bytes →
-        AllByRecursion (IsLeftFrom bytes 0) lists.old → IfOk result (λ ids. ids.items ≡
+        AllByRecursion (IsLeft bytes) lists.old → IfOk result (λ ids. ids.items ≡
         filter (λ id. number_matches (have_id bytes lists.old id) form.now.nodes.items form.now.root)
         (range_with_len 0 count)) }
     ensures lists { (bytes : List ℕ) → S.model store.old ≡ Some bytes →
-        AllByRecursion (IsLeftFrom bytes 0) lists.old →
+        AllByRecursion (IsLeft bytes) lists.old →
         IfOk result (λ _. AllZip (IsReadOn bytes count) lists.old lists.new) }
     ensures keeps { S.model store.new ≡ S.model store.old }
     ensures size { S.size store.new ≡ S.size store.old }
     ensures failed { S.failed store.new ≡ count_after is_io_failure result (S.failed store.old) }
 {
-    let width = window_width(form.nodes.len(), lists.len());
     let mut ids = Vec::new(alloc);
-    let mut start = 0;
+    if form.root == NOTHING {
+        return Ok(ids);
+    }
+    let width = window_width(form.nodes.len(), lists.len());
+    let rarest = rarest_list(form, lists);
+    let all = Window {
+        start: 0,
+        end: count,
+    };
+    let mut start = next_start(alloc, store, lists, rarest, all)?;
     'windows: while start < count {
         let end = start + width.min(count - start);
         let rows = rows_of(alloc, store, &form.nodes, lists, Window { start, end })?;
         push_ids(&mut ids, row_at(&rows, form.root), start, end)?;
-        start = end;
+        let rest = Window {
+            start: end,
+            end: count,
+        };
+        start = next_start(alloc, store, lists, rarest, rest)?;
     }
     Ok(ids)
 }
@@ -203,7 +221,7 @@ fn window_width(nodes: usize, lists: usize) -> u32
     ensures { 0 < result }
 {
     let rows = nodes.saturating_add(lists).saturating_add(1);
-    (FLAGS / rows).max(LEAST_WINDOW) as u32
+    (FLAGS / rows).clamp(LEAST_WINDOW, LONGEST_WINDOW) as u32
 }
 
 /// Appends the ids of a window that have a flag.

@@ -1,22 +1,25 @@
 // Queries as forms: hash consing makes equal parts of a query one node. Conjunctions in conjunctions and disjunctions
-// in disjunctions are flattened, and members that decide nothing are dropped.
+// in disjunctions are flattened, and a node that one member decides, or that has a single one, is no node.
 ghost use Rattle.std.specs.Prelude.{◌≡◌, ◌<◌, ◌^◌, ◌+◌, ℕ, Bool, List, length, map, slice_index_or, IfOk, OnOk, IfSome};
 ghost use Rattle.cs_trigram.specs.Trigram.{Ascends};
 ghost use Rattle.cs_trigram.specs.Query.{matches_set};
 ghost use Rattle.cs_trigram.specs.declared.queries.Query.TheVariants.{Tri};
 ghost use Rattle.cs_index.specs.declared.reading.form.Node.{Node as Node'};
-ghost use Rattle.cs_index.specs.Form.{IsForm, IsNumberOf, IsWithin, Exist, Grows, Gathers, queries_match, matched, node_matches, number_matches, numbers};
+ghost use Rattle.cs_index.specs.Form.{IsForm, IsNumberOf, IsWithin, Exist, Grows, Gathers, joined, members_match, queries_match, matched, node_matches, number_matches, numbers};
 
 use cs_trigram::Query;
 use std::alloc::{AllocError, Global};
 
-const NOTHING: usize = 0;
+pub(crate) const NOTHING: usize = 0;
 
 const ALL: usize = 1;
 
-const FIRST_LIST: usize = 2;
+pub(crate) const FIRST_LIST: usize = 2;
 
+/// The slots for each list.
 const SLOTS_PER_LIST: usize = 16;
+/// But there are at least as many.
+const LEAST_SLOTS: usize = 1 << 14;
 
 /// A conjunction or a disjunction, by the numbers of its members.
 #[derive(Drop)]
@@ -42,11 +45,13 @@ struct Folding {
 /// The form of a query, over the lists of ascending trigrams.
 pub(crate) fn form_of(alloc: Global, trigrams: &[u32], query: &Query) -> Result<Form, AllocError>
     requires { Ascends trigrams.now }
-    ensures { IfOk result (λ form. IsNumberOf trigrams.now form.nodes.items query.now form.root) }
+    ensures number { IfOk result (λ form. IsNumberOf trigrams.now form.nodes.items query.now form.root) }
+    ensures form { IfOk result (λ form. IsForm (length trigrams.now) form.nodes.items) }
 {
+    let slots = trigrams.len().saturating_mul(SLOTS_PER_LIST);
     let mut folding = Folding {
         nodes: Vec::new(alloc),
-        slots: vec![in alloc; 0usize; trigrams.len().saturating_mul(SLOTS_PER_LIST)]?,
+        slots: vec![in alloc; 0usize; slots.max(LEAST_SLOTS)]?,
     };
     let root = number_of(alloc, &mut folding, trigrams, query)?;
     Ok(Form {
@@ -124,7 +129,7 @@ fn gather_each(
     Ok(())
 }
 
-/// Adds a query to the members of a node; if it is of the kind of the node, its members.
+/// Adds a query to the members of a node; if it is or folds to one of the kind of the node, its members.
 #[cycle(fold)]
 fn gather(
     alloc: Global,
@@ -148,9 +153,55 @@ fn gather(
         }
         _ => {
             let number = number_of(alloc, folding, trigrams, query)?;
-            node.members.push(number)?;
-            Ok(())
+            add_member(folding, trigrams.len(), node, number)
         }
+    }
+}
+
+/// Adds a number to the members of a node; if it is of the kind of the node, its members.
+fn add_member(
+    folding: &Folding,
+    lists: usize,
+    node: &mut Node,
+    number: usize,
+) -> Result<(), AllocError>
+    requires short { lists < 2 ^ 62 }
+    requires form { IsForm lists folding.now.nodes.items }
+    requires exist { Exist lists folding.now.nodes.items node.old.members.items }
+    requires exists { number < numbers lists folding.now.nodes.items }
+    ensures kind { OnOk result (node.new.is_and ≡ node.old.is_and) }
+    ensures exist { OnOk result (Exist lists folding.now.nodes.items node.new.members.items) }
+    ensures matches { OnOk result ((bits : List Bool) → length bits ≡ lists →
+        node_matches (matched bits folding.now.nodes.items) node.new
+        ≡ joined node.old.is_and (node_matches (matched bits folding.now.nodes.items) node.old)
+        (number_matches bits folding.now.nodes.items number)) }
+{
+    match members_of(&folding.nodes, lists, node.is_and, number) {
+        Some(members) => node.members.extend_from_slice(members)?,
+        None => node.members.push(number)?,
+    }
+    Ok(())
+}
+
+/// The members of a number that is a node of this kind.
+pub(crate) fn members_of(
+    nodes: &[Node],
+    lists: usize,
+    is_and: bool,
+    number: usize,
+) -> Option<&[usize]>
+    requires short { lists < 2 ^ 62 }
+    requires form { IsForm lists nodes.now }
+    ensures exist { IfSome result (λ members. Exist lists nodes.now members.now) }
+    ensures matches { IfSome result (λ members. (bits : List Bool) → length bits ≡ lists →
+        number_matches bits nodes.now number ≡ members_match is_and (matched bits nodes.now) members.now) }
+{
+    let at = number.checked_sub(FIRST_LIST + lists)?;
+    let node = nodes.get(at)?;
+    if node.is_and == is_and {
+        Some(&node.members)
+    } else {
+        None
     }
 }
 
@@ -239,11 +290,11 @@ fn known(folding: &Folding, slot: usize, node: &Node) -> Option<usize>
     }
 }
 
-/// A hash of a node (FNV-1a over words).
+/// A hash of a node (FNV-1a over words). Small numbers change the bits from 40 on.
 fn hash(node: &Node) -> usize {
     let mut hash = 0xcbf2_9ce4_8422_2325u64 ^ node.is_and as u64;
     for member in &node.members {
         hash = (hash ^ *member as u64).wrapping_mul(0x0000_0100_0000_01b3);
     }
-    (hash >> 20) as usize
+    (hash >> 40) as usize
 }

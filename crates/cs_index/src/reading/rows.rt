@@ -4,7 +4,7 @@ ghost use Rattle.std.specs.List.{AllByRecursion, AllZip};
 ghost use Rattle.cs_tree.specs.FailureCount.{count_after};
 ghost use Rattle.cs_tree.specs.Transfers.{is_io_failure};
 ghost use Rattle.cs_index.specs.Form.{matched, members_match, node_matches};
-ghost use Rattle.cs_index.specs.Rows.{column, have_id, HaveWidth, IsLeftFrom, IsReadOn, IsRowOf};
+ghost use Rattle.cs_index.specs.Rows.{column, have_id, HaveWidth, IsLeft, IsReadOn, IsRowOf};
 
 use crate::reading::form::Node;
 use crate::reading::stored_list::StoredList;
@@ -28,12 +28,12 @@ pub(crate) fn rows_of<S: Store>(
 ) -> Result<Vec<Vec<bool>>, IoFault>
     requires order { window.start < window.end }
     ensures rows { (bytes : List ℕ) → S.model store.old ≡ Some bytes →
-        AllByRecursion (IsLeftFrom bytes window.start) lists.old →
+        AllByRecursion (IsLeft bytes) lists.old →
         IfOk result (λ rows. (k : ℕ) → window.start + k < window.end →
         column k rows.items ≡ matched (have_id bytes lists.old (window.start + k)) nodes.now) }
     ensures width { IfOk result (λ rows. HaveWidth (window.end - window.start) rows.items) }
     ensures lists { (bytes : List ℕ) → S.model store.old ≡ Some bytes →
-        AllByRecursion (IsLeftFrom bytes window.start) lists.old →
+        AllByRecursion (IsLeft bytes) lists.old →
         IfOk result (λ _. AllZip (IsReadOn bytes window.end) lists.old lists.new) }
     ensures keeps { S.model store.new ≡ S.model store.old }
     ensures size { S.size store.new ≡ S.size store.old }
@@ -57,12 +57,12 @@ fn list_rows<S: Store>(
 ) -> Result<Vec<Vec<bool>>, IoFault>
     requires order { window.start < window.end }
     ensures rows { (bytes : List ℕ) → S.model store.old ≡ Some bytes →
-        AllByRecursion (IsLeftFrom bytes window.start) lists.old →
+        AllByRecursion (IsLeft bytes) lists.old →
         IfOk result (λ rows. (k : ℕ) → window.start + k < window.end →
         column k rows.items ≡ false ∷ true ∷ have_id bytes lists.old (window.start + k)) }
     ensures width { IfOk result (λ rows. HaveWidth (window.end - window.start) rows.items) }
     ensures lists { (bytes : List ℕ) → S.model store.old ≡ Some bytes →
-        AllByRecursion (IsLeftFrom bytes window.start) lists.old →
+        AllByRecursion (IsLeft bytes) lists.old →
         IfOk result (λ _. AllZip (IsReadOn bytes window.end) lists.old lists.new) }
     ensures keeps { S.model store.new ≡ S.model store.old }
     ensures size { S.size store.new ≡ S.size store.old }
@@ -86,16 +86,17 @@ fn list_row<S: Store>(
     window: Window,
 ) -> Result<Vec<bool>, IoFault>
     requires order { window.start < window.end }
-    ensures row { (bytes : List ℕ) → S.model store.old ≡ Some bytes → IsLeftFrom bytes window.start list.old →
+    ensures row { (bytes : List ℕ) → S.model store.old ≡ Some bytes → IsLeft bytes list.old →
         IfOk result (λ row. IsRowOf bytes window.start window.end list.old row.items) }
     ensures width { IfOk result (λ row.
         (length row.items ≡ 0) ⊎ (length row.items ≡ window.end - window.start)) }
-    ensures list { (bytes : List ℕ) → S.model store.old ≡ Some bytes → IsLeftFrom bytes window.start list.old →
+    ensures list { (bytes : List ℕ) → S.model store.old ≡ Some bytes → IsLeft bytes list.old →
         IfOk result (λ _. IsReadOn bytes window.end list.old list.new) }
     ensures keeps { S.model store.new ≡ S.model store.old }
     ensures size { S.size store.new ≡ S.size store.old }
     ensures failed { S.failed store.new ≡ count_after is_io_failure result (S.failed store.old) }
 {
+    list.skip_below(alloc, store, window.start)?;
     let mut row = Vec::new(alloc);
     'ids: while let Some(id) = list.next_below(alloc, store, window.end)? {
         if row.is_empty() {

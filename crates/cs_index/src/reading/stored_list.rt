@@ -6,8 +6,10 @@ ghost use Rattle.cs_tree.specs.Transfers.{is_io_failure};
 ghost use Rattle.cs_index.specs.Encoding.{three_bytes};
 ghost use Rattle.cs_index.specs.Opening.{entry_at, number_at, trigram_at};
 ghost use Rattle.cs_index.specs.PostingLists.{Ids, read_list};
-ghost use Rattle.cs_index.specs.StoredLists.{GivesBelow, Holds, IsReady, IsSection, ids_left, with_piece};
+ghost use Rattle.cs_index.specs.AscendingIds.{BeginsFrom};
+ghost use Rattle.cs_index.specs.StoredLists.{GivesBelow, Holds, IsReady, SkipsBelow, IsSection, ids_left, with_piece};
 
+use crate::encoded_run::EncodedRun;
 use crate::reading::bytes::{read_number, read_trigram};
 use crate::reading::postings::decode_varint;
 use cs_tree::{IoFault, Store, read_part};
@@ -160,8 +162,91 @@ impl StoredList {
         ensures failed { S.failed store.new ≡ count_after is_io_failure result (S.failed store.old) }
     {
         let end = self.name_count;
-        'ids: while let Some(_id) = self.next_below(alloc, store, end)? {}
+        self.skip_below(alloc, store, end)?;
         Ok(self.is_whole)
+    }
+
+    /// Skips the ids that are less than `start`. No id that is left is less than the result, which is the next id if there
+    /// is one.
+    pub(crate) fn skip_to<S: Store>(
+        &mut self,
+        alloc: Global,
+        store: &mut S,
+        start: u32,
+    ) -> Result<u32, IoFault>
+        ensures skips { (bytes : List ℕ) → S.model store.old ≡ Some bytes → Holds bytes self.old →
+            IfOk result (λ next. SkipsBelow bytes start self.old self.new
+            × BeginsFrom next (ids_left bytes self.new).ids) }
+        ensures keeps { S.model store.new ≡ S.model store.old }
+        ensures size { S.size store.new ≡ S.size store.old }
+        ensures failed { S.failed store.new ≡ count_after is_io_failure result (S.failed store.old) }
+    {
+        self.skip_below(alloc, store, start)?;
+        self.fill(alloc, store)?;
+        Ok(self.first_left())
+    }
+
+    /// The next id of the piece; without one, a number past the ids.
+    fn first_left(&self) -> u32
+        ensures { (bytes : List ℕ) → IsReady bytes self.now → BeginsFrom result (ids_left bytes self.now).ids }
+    {
+        if self.has_ended {
+            return self.name_count;
+        }
+        if self.left == 0 {
+            return self.name_count;
+        }
+        let Some((delta, _)) = decode_varint(&self.piece[self.used..]) else {
+            return self.name_count;
+        };
+        if delta == 0 || delta > self.name_count - self.next {
+            return self.name_count;
+        }
+        self.next + delta - 1
+    }
+
+    /// The number of ids that are left, as the entry counts them.
+    pub(crate) fn len(&self) -> u32 {
+        self.left
+    }
+
+    /// Skips the ids that are less than `end`.
+    pub(crate) fn skip_below<S: Store>(
+        &mut self,
+        alloc: Global,
+        store: &mut S,
+        end: u32,
+    ) -> Result<(), IoFault>
+        ensures skips { (bytes : List ℕ) → S.model store.old ≡ Some bytes → Holds bytes self.old →
+            OnOk result (SkipsBelow bytes end self.old self.new × BeginsFrom end (ids_left bytes self.new).ids) }
+        ensures ended { OnOk result (self.old.name_count ≤ end → self.new.has_ended ≡ true) }
+        ensures keeps { S.model store.new ≡ S.model store.old }
+        ensures size { S.size store.new ≡ S.size store.old }
+        ensures failed { S.failed store.new ≡ count_after is_io_failure result (S.failed store.old) }
+    {
+        'ids: while let Some(_id) = self.next_below(alloc, store, end)? {
+            self.skip_short(end);
+        }
+        Ok(())
+    }
+
+    /// Skips ids of the piece that are less than `end`, eight at a time if each delta is a single byte, up to the first
+    /// delta that is longer than two bytes.
+    fn skip_short(&mut self, end: u32)
+        ensures skips { (bytes : List ℕ) → Holds bytes self.old → SkipsBelow bytes end self.old self.new }
+        ensures left { self.new.left ≤ self.old.left }
+        ensures names { self.new.name_count ≡ self.old.name_count }
+    {
+        if self.has_ended {
+            return;
+        }
+        let room = end.min(self.name_count).saturating_sub(self.next);
+        let (ids, _) = EncodedRun::prefix(&self.piece[self.used..], self.left, room);
+        let len = ids.bytes().len();
+        let (count, next) = (ids.len(), ids.next());
+        self.used += len;
+        self.left -= count;
+        self.next += next;
     }
 
     /// Reads the next piece if the one that is there may end inside a varint.

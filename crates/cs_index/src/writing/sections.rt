@@ -3,12 +3,13 @@ ghost use Rattle.std.specs.Prelude.{◌≡◌, ◌≢◌, ◌<◌, ◌≤◌, �
 ghost use Rattle.cs_trigram.specs.Trigram.{closing_trigram};
 ghost use Rattle.cs_index.specs.IdStream.{ids_in, IsStream};
 ghost use Rattle.cs_index.specs.AscendingIds.{next_after, ids_onward, max_ids};
-ghost use Rattle.std.specs.List.{AllByRecursion};
-ghost use Rattle.cs_index.specs.Encoding.{encoding_of, IsString};
+ghost use Rattle.std.specs.List.{AllByRecursion, concat};
+ghost use Rattle.cs_index.specs.Encoding.{encoding_of, posting_list_bytes, IsString};
 ghost use Rattle.cs_index.specs.Indexable.{IsIndexable};
 ghost use Rattle.cs_index.specs.Built.{are_paths, is_above, is_storable};
 ghost use Rattle.cs_index.specs.Written.{entries_written, last_ids, with_written_name, with_last_id, with_last_ids, with_list, AllBelow};
-ghost use Rattle.cs_index.specs.WrittenLists.{with_posting};
+ghost use Rattle.cs_index.specs.SectionsInvariant.{first_of};
+ghost use Rattle.cs_index.specs.WrittenLists.{with_posting, IsWritten};
 
 use crate::encoded_run::EncodedRun;
 use crate::fault::BuildFault;
@@ -152,6 +153,19 @@ impl Sections {
         Ok(())
     }
 
+    /// The number of bytes of the posting lists. The clause `written` states the invariant of the
+    /// writer, for callers that count them.
+    pub fn list_bytes(&self) -> usize
+        ensures bytes { result ≡ length (concat (map posting_list_bytes self.now.lists)) }
+        ensures written { IsWritten self.now }
+    {
+        if self.count == 0 {
+            return 0;
+        }
+        let first = first_start(&self.entries, self.start);
+        self.out.len() + 1 - first
+    }
+
     /// Begins a list with encoded ids. On error nothing changes.
     pub(crate) fn begin(
         &mut self,
@@ -275,5 +289,15 @@ impl Sections {
             start: self.start,
         });
         write_tables(self.out, &self.paths, &self.names, &self.entries, limit)
+    }
+}
+
+/// The offset of the first list; `last` is that of the list after the entries.
+fn first_start(entries: &[WrittenList], last: usize) -> usize
+    ensures { result ≡ first_of entries.now last }
+{
+    match entries.first() {
+        Some(list) => list.start,
+        None => last,
     }
 }

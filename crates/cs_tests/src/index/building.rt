@@ -200,6 +200,9 @@ const SPARSE: &[(&[u32], &[u8])] = &[
 #[test]
 fn ids_far_apart_are_encoded(rt: HostRuntime) {
     for (ids, deltas) in SPARSE {
-        assert!(rt; has_deltas(rt.alloc(), *ids, *deltas) == Ok(true), "of {ids:?}");
+        assert!(rt;
+            has_deltas(rt.alloc(), *ids, *deltas) == Ok(true),
+            "of {ids:?}"
+        );
     }
 }

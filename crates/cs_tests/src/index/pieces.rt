@@ -7,28 +7,37 @@ use std::alloc::Global;
 use std::test::Fail;
 
 /// The bytes of the longest piece after the trigram of its list.
-const PIECE: u32 = 65_533;
+const PIECE: u16 = 65_533;
 
 /// The distance of the last ids, whose varints have two bytes.
 const GAP: u32 = 300;
 
+/// Adds a name, which has `abc` if it is listed.
+fn add(builder: &mut Builder, name: &str, is_listed: bool) -> Result<(), Fail> {
+    let _id = if is_listed {
+        builder.add(name, &[0x616263])?
+    } else {
+        builder.add(name, &[])?
+    };
+    Ok(())
+}
+
 /// An index in which these names have `abc`, and two more after gaps.
-fn index_of(alloc: Global, names: u32) -> Result<Vec<u8>, Fail> {
+fn index_of(alloc: Global, names: u16) -> Result<Vec<u8>, Fail> {
+    let names = names as u32;
     let mut builder = Builder::new(alloc, &strings(alloc, &["/a"])?)?;
     for id in 0..names + 2 * GAP {
         let name = format!(in alloc; "/a/{}", 100_000 + id)?;
-        let _id = if id < names || (id + 1 - names) % GAP == 0 {
-            builder.add(&name, &[number(b"abc")])?
-        } else {
-            builder.add(&name, &[])?
-        };
+        let is_listed = id < names || (id + 1 - names) % GAP == 0;
+        add(&mut builder, &name, is_listed)?;
     }
     Ok(builder.finish()?)
 }
 
 /// Whether these are the ids with `abc`.
-fn are_found(ids: &[u32], names: u32) -> bool {
+fn are_found(ids: &[u32], names: u16) -> bool {
     let at = names as usize;
+    let names = names as u32;
     ids.len() == at + 2
         && ids.first() == Some(&0)
         && ids.get(at) == Some(&(names + GAP - 1))
@@ -36,15 +45,15 @@ fn are_found(ids: &[u32], names: u32) -> bool {
 }
 
 /// Whether a store that reads some bytes at a time finds them.
-fn finds_stored(alloc: Global, bytes: &[u8], step: usize, names: u32) -> Result<bool, Fail> {
-    let mut store = MemStore::new(bytes, step);
+fn finds_stored(alloc: Global, bytes: &[u8], step: usize, names: u16) -> Result<bool, Fail> {
+    let mut store = MemStore::new(bytes, step.max(1));
     let index = StoredIndex::open(alloc, &mut store)??;
     let ids = index.candidates(alloc, &mut store, &Query::Tri(number(b"abc")))??;
     Ok(are_found(&ids, names))
 }
 
 /// Whether an index in memory finds them.
-fn finds(alloc: Global, bytes: &[u8], names: u32) -> Result<bool, Fail> {
+fn finds(alloc: Global, bytes: &[u8], names: u16) -> Result<bool, Fail> {
     let index = Index::open(bytes)?;
     let ids = index.candidates(alloc, &Query::Tri(number(b"abc")))?;
     Ok(are_found(&ids, names))
@@ -53,7 +62,7 @@ fn finds(alloc: Global, bytes: &[u8], names: u32) -> Result<bool, Fail> {
 /// A varint of two bytes stands before, across and after the end of a piece.
 #[test]
 fn varints_across_pieces(rt: HostRuntime) -> Result<(), Fail> {
-    for names in PIECE - 4..PIECE + 3 {
+    for names in PIECE - 4..=PIECE + 2 {
         let bytes = index_of(rt.alloc(), names)?;
         assert!(rt; finds(rt.alloc(), &bytes, names)?, "{names}");
         assert!(rt;
@@ -70,7 +79,7 @@ fn varints_across_pieces(rt: HostRuntime) -> Result<(), Fail> {
 fn damage_in_the_last_piece(rt: HostRuntime) -> Result<(), Fail> {
     let mut bytes = index_of(rt.alloc(), PIECE)?;
     // The magic, the paths, the names of nine bytes and their NULs, and the list up to its last byte.
-    let at = 16 + 4 + 10 * (PIECE + 2 * GAP) as usize + 1 + 3 + PIECE as usize + 4;
+    let at = 16 + 4 + 10 * (PIECE as u32 + 2 * GAP) as usize + 1 + 3 + PIECE as usize + 4;
     assert!(rt; bytes.get(at) == Some(&0));
     bytes[at] = 1;
     let query = Query::Tri(number(b"abc"));

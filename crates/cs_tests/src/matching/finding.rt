@@ -55,6 +55,10 @@ const ROWS: &[(&str, &str, bool)] = &[
     ("a(?i)b|c", "Ab", false),
     ("\\bfoo\\b", "a foo", true),
     ("\\bfoo\\b", "foo1", false),
+    ("\\b(foo|ba|r)\\b", "a ba b", true),
+    ("\\b(foo|ba|r)\\b", "foor bafoo rr", false),
+    ("x(ab|cd|e)y", "xaey xdy xcy", false),
+    ("x(ab|cd|e)*y", "xabecdy", true),
     ("^\\B", "a", false),
     ("^[[:^digit:]]$", "x", true),
     ("^[[:^digit:]]$", "5", false),
@@ -215,7 +219,7 @@ fn finds_in(
 }
 
 /// Loops nested to the parser's depth, a pattern of nearly the largest weight, many loops that stay
-/// open, and an alternation of sequences whose position set needs more than one machine word.
+/// open, and alternations of sequences whose position set needs more than one machine word, also within a loop.
 const LARGE: &[(Repeated<'static>, Repeated<'static>, bool)] = &[
     (("(", 200, "a", ")*b"), ("a", 100, "", "b"), true),
     (("a", 9998, "", ""), ("a", 100, "", ""), false),
@@ -228,6 +232,13 @@ const LARGE: &[(Repeated<'static>, Repeated<'static>, bool)] = &[
     (("a", 64, "b|cd", ""), ("a", 63, "bcbd", ""), false),
     (("a", 64, "[b-d]|cé", ""), ("a", 3, "cé", ""), true),
     (("a", 64, "[b-d]|cé", ""), ("a", 64, "e", "c"), false),
+    (("a", 63, "(b|cd|ea)+f", ""), ("a", 63, "bcdeaf", ""), true),
+    (("a", 62, "(b|cd|ea)+f", ""), ("a", 62, "eaf", ""), true),
+    (("a", 63, "(b|cd|ea)+f", ""), ("a", 63, "bdf", ""), false),
+    (("a", 63, "(b|cd|ea)+f", ""), ("a", 63, "bcf", ""), false),
+    (("a", 63, "(b|cd|ea)+f", ""), ("a", 63, "becdf", ""), false),
+    (("a", 61, "\\b(bé|cd|)e", ""), ("a", 61, "e", ""), false),
+    (("a", 61, "(bé|cd|)e", ""), ("a", 61, "bée", ""), true),
 ];
 
 #[test]

@@ -97,6 +97,12 @@ const QUERIES_OF_REPEATS: &[Row<'static>] = &[
     ("ab{3}c", "abb bbc", false),
     ("(foo){2}", "foo oof ofo", true),
     ("(foo){2}", "foo", false),
+    ("={70}", "===", true),
+    ("={70}", "", false),
+    ("(abc){1000}", "abc bca cab", true),
+    ("(abc){1000}", "abc bca", false),
+    ("foo.*foo", "foo", true),
+    ("foo.*foo", "", false),
     ("fo+bar", "fob oba bar", true),
     ("fo+bar", "foo oob oba bar", true),
     ("fo+bar", "foo oob bar", false),
@@ -157,45 +163,6 @@ fn queries_of_patterns(rt: HostRuntime) {
     hold(&rt, false, QUERIES_OF_CLASSES);
     hold(&rt, false, QUERIES_OF_STRINGS_APART);
     hold(&rt, true, QUERIES_IN_BOTH_CASES);
-}
-
-/// The number of trigrams that the query requires, if it is a conjunction of trigrams.
-fn count_trigrams(query: &Query) -> Option<usize> {
-    let Query::And(members) = query else {
-        return None;
-    };
-    for member in members {
-        if !matches!(member, Query::Tri(_)) {
-            return None;
-        }
-    }
-    Some(members.len())
-}
-
-const COUNTS: &[(&str, Option<usize>)] = &[
-    ("hello", Some(3)),
-    ("Google.*Search", Some(8)),
-    ("={70}", Some(1)),
-    ("(abc){1000}", Some(3)),
-    ("foo.*foo", Some(1)),
-    ("abc|abd", None),
-];
-
-/// The same for a pattern.
-fn trigram_count(alloc: Global, pattern: &str) -> Option<Option<usize>> {
-    Some(count_trigrams(&query_of(alloc, pattern, false)?))
-}
-
-/// Adjacent trigrams are required together, each once. The index starts with the rarest of them and
-/// reads each list once.
-#[test]
-fn trigrams_stand_side_by_side(rt: HostRuntime) {
-    for (pattern, want) in COUNTS {
-        assert!(rt;
-            trigram_count(rt.alloc(), pattern) == Some(*want),
-            "of {pattern}"
-        );
-    }
 }
 
 /// Whether the query of a literal of the largest weight requires each of its trigrams.

@@ -1,37 +1,26 @@
-use Rattle.std.proofs.Common.{◌≡◌, ◌≤◌, ◌^◌, true, false, Ok, length, refl, sym, subst, ◌∙◌, arith}
-use Rattle.std.proofs.lemmas.Bool.{true≢false, and_from, false_from_ne_true}
-use Rattle.cs_tree.specs.Folders.{are_distinct}
-use Rattle.cs_index.specs.OpenedParts.{Parts, are_whole, are_covered}
-use Rattle.cs_merge.specs.declared.fault.MergeFault.{MergeFault}
-use Rattle.cs_merge.specs.Mergeable.{both_distinct, both_whole, merge_index}
-use Rattle.cs_merge.specs.MergeResult.{most_bytes, IsMergeFault, unsorted, uncovered, damaged, long, refused}
-use Rattle.cs_history.specs.WellFormed.{IsMergeable}
-use Rattle.cs_cindex.specs.Merges.{refusal_of, IsMergeRefusal}
+use Rattle.std.proofs.Common.{◌≡◌, ◌∙◌, true, false, sym, ap, subst}
+use Rattle.std.specs.Prelude.{IfOk, IfErr}
+use Rattle.cs_index.specs.Opening.{opening}
+use Rattle.cs_cindex.specs.Merges.{IsMergeRefusal, MergesTo}
+use Rattle.cs_cindex.proofs.ReplacedIndexLemmas.{damage_refuses, replaced_merges}
 use Rattle.cs_cindex.proofs.walked.merge_old.Goals as goal
 
-module _ (old newer : Parts) (once : are_distinct old.names ≡ true) where
-  abbrev Refuses : MergeFault → Type 0
-  Refuses fault = IsMergeRefusal old (Ok newer) (refusal_of fault)
+pub returns-then-not-replaced-clause-merged : goal.returns-then-not-replaced-clause-merged
+returns-then-not-replaced-clause-merged c =
+    subst (λ o. IfOk c.merge_both.result (λ index. MergesTo c.args.old.now o index.items)) (c.in_ok-index.ensures.opens ∙ ap opening c.deref.ensures.value) c.merge_both.ensures.merged
 
-  distinct : IsMergeable newer → both_distinct old newer ≡ true
-  distinct sound = and_from (are_distinct old.names) (are_distinct newer.names) once sound.distinct
+pub returns-then-not-replaced-clause-fault : goal.returns-then-not-replaced-clause-fault
+returns-then-not-replaced-clause-fault c =
+    subst (λ o. IfErr c.merge_both.result (IsMergeRefusal c.args.old.now o)) (c.in_ok-index.ensures.opens ∙ ap opening c.deref.ensures.value) c.merge_both.ensures.fault
 
-  covered : IsMergeable newer → are_covered newer ≡ true
-  unfolding are_covered
-  covered sound = sound.covered
+pub returns-then-not-is_whole-clause-fault : goal.returns-then-not-is_whole-clause-fault
+returns-then-not-is_whole-clause-fault c =
+    damage_refuses c.args.old.now c.args.newer.items (sym c.is_whole.ensures ∙ c.if-not-is_whole.true)
 
-  old_damaged : IsMergeable newer → both_whole old newer ≡ false → are_whole old ≡ false
-  old_damaged sound fails = false_from_ne_true (are_whole old) (λ whole. true≢false (sym (and_from (are_whole old) (are_whole newer) whole sound.whole) ∙ fails))
+pub returns-clause-merged : goal.returns-clause-merged
+returns-clause-merged c =
+    replaced_merges c.args.old.now c.in_ok-index.index c.args.newer.items c.requires.names c.requires.newer (c.in_ok-index.ensures.opens ∙ ap opening c.deref.ensures.value)
+    (sym c.in_ok-replaced.ensures ∙ c.if-not-replaced.false) (sym c.is_whole.ensures ∙ c.if-not-is_whole.false)
 
-  refusal : (fault : MergeFault) → IsMergeFault old newer most_bytes fault → IsMergeRefusal old (Ok newer) (refusal_of fault)
-  refusal fault (unsorted is fails) = subst Refuses (sym is) (λ sound. true≢false (sym (distinct sound) ∙ fails))
-  refusal fault (uncovered is holds fails) = subst Refuses (sym is) (λ sound. absurd (true≢false (sym (covered sound) ∙ fails)))
-  refusal fault (damaged is tested fails) = subst Refuses (sym is) (λ sound. (refl, old_damaged sound fails))
-  refusal fault (long is mergeable more) = subst Refuses (sym is) (mergeable, (let above : 2 ^ 32 ≤ length (merge_index old newer) = omega (arith, more) in above))
-  refusal fault (refused is tested) = subst Refuses (sym is) tt
-
-pub returns-in-Err-clause-fault : goal.returns-in-Err-clause-fault
-returns-in-Err-clause-fault c =
-    subst (λ opened. IsMergeRefusal c.args.old.now opened c.merge_refusal.result) c.in_ok-newer.ensures.opens
-    (subst (IsMergeRefusal c.args.old.now (Ok c.in_ok-newer.newer)) (sym c.merge_refusal.ensures)
-    (refusal c.args.old.now c.in_ok-newer.newer c.requires c.in-Err.fault c.in-Err.ensures))
+pub returns-clause-short : goal.returns-clause-short
+returns-clause-short c = c.requires.newer.short

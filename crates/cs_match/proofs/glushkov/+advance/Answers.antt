@@ -1,8 +1,10 @@
-use Rattle.std.proofs.Common.{◌≡◌, ◌+◌, ◌≤◌, ◌++◌, ◌∙◌, refl, ap, take, drop, length, arith}
+use Rattle.std.proofs.Common.{◌≡◌, ◌+◌, ◌≤◌, ◌∙◌, refl, ap, drop, length, arith}
+use Rattle.cs_syntax.specs.Matching.{alt}
 use Rattle.cs_match.specs.Glushkov.{position_count}
-use Rattle.cs_match.specs.Parts.{run, shape_of, shapes_of}
-use Rattle.cs_match.proofs.PartLemmas.{shape_of-Run, shape_of-LineStart, shape_of-LineEnd, shape_of-WordEdge, shape_of-NotWordEdge, shapes_from}
+use Rattle.cs_match.specs.Parts.{run, runs, shape_of, shapes_of}
+use Rattle.cs_match.proofs.PartLemmas.{shape_of-Run, shape_of-Alternation, shape_of-LineStart, shape_of-LineEnd, shape_of-WordEdge, shape_of-NotWordEdge, shapes_from}
 use Rattle.cs_match.proofs.ShapeLemmas.{position_count_run, repeats_run}
+use Rattle.cs_match.proofs.AlternationLemmas.{repeats_runs}
 use Rattle.cs_match.proofs.TraversalLemmas.{accepted_all, accepted_each, noted_others, first_noted, entered_ahead, entered_shifted, all_entered, each_entered, no_run_entered}
 use Rattle.cs_match.proofs.glushkov.+advance.Goals as goal
 
@@ -121,3 +123,33 @@ pub advance-returns-in-Run-clause-repeat : goal.advance-returns-in-Run-clause-re
 advance-returns-in-Run-clause-repeat t c =
     let e : shape_of c.args.part.now ≡ run c.in-Run.n = ap shape_of c.in-Run.is ∙ shape_of-Run c.in-Run.n in
     rw (e, repeats_run c.in-Run.n) (omega (arith, c.enter_run.ensures.repeat))
+
+pub advance-enter_sequences-requires-clause-room : goal.advance-enter_sequences-requires-clause-room
+advance-enter_sequences-requires-clause-room t c =
+    let ns = c.in-Alternation.sequences in
+    let e : shape_of c.args.part.now ≡ alt (runs ns) = ap shape_of c.in-Alternation.is ∙ shape_of-Alternation ns in
+    rw e at c.requires.room
+
+pub advance-returns-in-Alternation-clause-accepting : goal.advance-returns-in-Alternation-clause-accepting
+advance-returns-in-Alternation-clause-accepting t c =
+    let ns = c.in-Alternation.sequences in
+    let e : shape_of c.args.part.now ≡ alt (runs ns) = ap shape_of c.in-Alternation.is ∙ shape_of-Alternation ns in
+    rw e (c.enter_sequences.ensures.accepting c.args.here)
+
+pub advance-returns-in-Alternation-clause-entries : goal.advance-returns-in-Alternation-clause-entries
+advance-returns-in-Alternation-clause-entries t c =
+    let ns = c.in-Alternation.sequences in
+    let e : shape_of c.args.part.now ≡ alt (runs ns) = ap shape_of c.in-Alternation.is ∙ shape_of-Alternation ns in
+    rw e (c.enter_sequences.ensures.entries c.args.here)
+
+pub advance-returns-in-Alternation-clause-position : goal.advance-returns-in-Alternation-clause-position
+advance-returns-in-Alternation-clause-position t c =
+    let ns = c.in-Alternation.sequences in
+    let e : shape_of c.args.part.now ≡ alt (runs ns) = ap shape_of c.in-Alternation.is ∙ shape_of-Alternation ns in
+    rw e c.enter_sequences.ensures.position
+
+pub advance-returns-in-Alternation-clause-repeat : goal.advance-returns-in-Alternation-clause-repeat
+advance-returns-in-Alternation-clause-repeat t c =
+    let ns = c.in-Alternation.sequences in
+    let e : shape_of c.args.part.now ≡ alt (runs ns) = ap shape_of c.in-Alternation.is ∙ shape_of-Alternation ns in
+    rw (e, repeats_runs ns) (omega (arith, c.enter_sequences.ensures.repeat))

@@ -1,11 +1,12 @@
 use Rattle.std.proofs.Common.{◌≡◌, ◌+◌, drop, refl, sym, ◌∙◌, ap, arith}
 use Rattle.std.specs.Prelude.{None}
 use Rattle.std.proofs.Math.Bool.{and_assoc, or_assoc}
-use Rattle.cs_syntax.specs.Matching.{rep}
-use Rattle.cs_match.specs.Parts.{run, shape_of, shapes_of}
-use Rattle.cs_match.proofs.PartLemmas.{shape_of-Run, shape_of-Rep, shapes_from}
+use Rattle.cs_syntax.specs.Matching.{alt, rep}
+use Rattle.cs_match.specs.Parts.{run, runs, shape_of, shapes_of}
+use Rattle.cs_match.proofs.PartLemmas.{shape_of-Run, shape_of-Alternation, shape_of-Rep, shapes_from}
 use Rattle.cs_match.specs.Glushkov.{nullable, nullable_all, nullable_some, is_final, loop_ends}
 use Rattle.cs_match.proofs.ShapeLemmas.{position_count_run, repeats_run, loop_ends_run}
+use Rattle.cs_match.proofs.AlternationLemmas.{repeats_runs, loop_ends_runs}
 use Rattle.cs_match.proofs.TraversalLemmas.{rep_noted, accepted_all, accepted_some, noted_more}
 use Rattle.cs_match.proofs.glushkov.+find_ends.Goals as goal
 
@@ -80,3 +81,15 @@ pub find_ends-returns-in-Run-clause-repeat : goal.find_ends-returns-in-Run-claus
 find_ends-returns-in-Run-clause-repeat t c =
     let e : shape_of c.args.part.now ≡ run c.in-Run.n = ap shape_of c.in-Run.is ∙ shape_of-Run c.in-Run.n in
     rw (e, repeats_run c.in-Run.n) (omega (arith, c.end_run.ensures.repeat, c.requires.within))
+
+pub find_ends-returns-in-Alternation-clause-noted : goal.find_ends-returns-in-Alternation-clause-noted
+find_ends-returns-in-Alternation-clause-noted t c =
+    let ns = c.in-Alternation.sequences in
+    let e : shape_of c.args.part.now ≡ alt (runs ns) = ap shape_of c.in-Alternation.is ∙ shape_of-Alternation ns in
+    rw (e, loop_ends_runs ns (drop c.args.cursor.now.position c.args.positions.now) c.args.here) refl
+
+pub find_ends-returns-in-Alternation-clause-repeat : goal.find_ends-returns-in-Alternation-clause-repeat
+find_ends-returns-in-Alternation-clause-repeat t c =
+    let ns = c.in-Alternation.sequences in
+    let e : shape_of c.args.part.now ≡ alt (runs ns) = ap shape_of c.in-Alternation.is ∙ shape_of-Alternation ns in
+    rw (e, repeats_runs ns) (omega (arith, c.end_sequences.ensures.repeat, c.requires.within))

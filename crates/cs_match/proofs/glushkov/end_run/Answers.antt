@@ -1,4 +1,4 @@
-use Rattle.std.proofs.Common.{◌≡◌, ◌+◌, ◌-◌, ◌<◌, ◌∙◌, arith}
+use Rattle.std.proofs.Common.{◌∙◌, arith}
 use Rattle.cs_match.proofs.TraversalLemmas.{run_final}
 use Rattle.cs_match.proofs.glushkov.end_run.Goals as goal
 

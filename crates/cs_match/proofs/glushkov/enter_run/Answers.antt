@@ -1,4 +1,4 @@
-use Rattle.std.proofs.Common.{◌≡◌, ◌+◌, ◌-◌, ◌<◌, ◌∙◌, arith}
+use Rattle.std.proofs.Common.{◌∙◌, arith}
 use Rattle.cs_match.proofs.TraversalLemmas.{run_accepts, run_entered}
 use Rattle.cs_match.proofs.glushkov.enter_run.Goals as goal
 

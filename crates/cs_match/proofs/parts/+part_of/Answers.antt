@@ -1,4 +1,4 @@
-use Rattle.std.proofs.Common.{◌≡◌, ◌+◌, ◌≤◌, List, drop, length, ◌∙◌, sym, ap, subst, arith, drop_of_length-le}
+use Rattle.std.proofs.Common.{◌≡◌, ◌+◌, List, drop, length, ◌∙◌, sym, ap, subst, arith, drop_of_length-le}
 use Rattle.std.proofs.lemmas.Grind.{common_steps}
 use Rattle.cs_syntax.specs.Matching.{Tree, Trees, cat, alt, more, none}
 use Rattle.cs_syntax.specs.TreeList.{append}
@@ -7,9 +7,8 @@ use Rattle.cs_syntax.specs.NodeList.{trees_of}
 use Rattle.cs_syntax.specs.declared.node.Node.{Node}
 use Rattle.cs_syntax.proofs.TreeLemmas.{trees_from}
 use Rattle.cs_syntax.proofs.TreeListLemmas.{append_assoc_trees, append_none}
-use Rattle.cs_match.specs.Glushkov.{position_count_of}
-use Rattle.cs_match.specs.Parts.{run, shape_of, shapes_of, HaveSameShape}
-use Rattle.cs_match.proofs.PartLemmas.{shape_of-Run, shape_of-Cat, shape_of-Alt, shapes_last, shapes_none}
+use Rattle.cs_match.specs.Parts.{run, runs, shape_of, shapes_of, HaveSameShape}
+use Rattle.cs_match.proofs.PartLemmas.{shape_of-Run, shape_of-Alternation, shape_of-Cat, shape_of-Alt, shapes_last, shapes_none}
 use Rattle.cs_match.proofs.ShapeLemmas.{shape_trans, cat_first, cat_rest, alt_more, before_same, only_run, position_count_append, position_count_run}
 use Rattle.cs_match.proofs.parts.+part_of.Goals as goal
 
@@ -30,8 +29,19 @@ alternation_of-loop-node-preserved t c =
       total = sym (position_count_append (shapes_of c.push.new.self.items) ts) ∙ sym same.positions;
     }
 
-pub alternation_of-returns : goal.alternation_of-returns
-alternation_of-returns t c =
+pub alternation_of-returns-in_ok-sequences-in-Some : goal.alternation_of-returns-in_ok-sequences-in-Some
+alternation_of-returns-in_ok-sequences-in-Some t c =
+    let ss = shapes_of c.loop-node.parts.items in
+    let all = trees_of c.args.nodes.now in
+    let ns = c.in-Some.following.items in
+    let known : shapes_of c.deref.result.now ≡ runs ns = rw c.in-Some.is at c.in_ok-following.ensures in
+    let shapes : ss ≡ runs c.in_ok-sequences-in-Some.sequences = ap shapes_of (sym c.deref.ensures.value) ∙ known ∙ ap runs (sym c.in_ok-sequences-in-Some.ensures) in
+    let none_left : alt (append ss (trees_of (drop c.loop-node.node-index c.args.nodes.now))) ≡ alt ss =
+    ap (λ (rest : List Node). alt (append ss (trees_of rest))) (drop_of_length-le c.args.nodes.now {i = c.loop-node.node-index} (omega arith)) ∙ ap alt (append_none ss) in
+    subst (λ (u : Tree). HaveSameShape (alt all) u) (none_left ∙ ap alt shapes ∙ sym (shape_of-Alternation c.in_ok-sequences-in-Some.sequences)) c.loop-node.invariant.same
+
+pub alternation_of-returns-in-None : goal.alternation_of-returns-in-None
+alternation_of-returns-in-None t c =
     let ss = shapes_of c.loop-node.parts.items in
     let none_left : alt (append ss (trees_of (drop c.loop-node.node-index c.args.nodes.now))) ≡ alt ss =
     ap (λ (ns : List Node). alt (append ss (trees_of ns))) (drop_of_length-le c.args.nodes.now {i = c.loop-node.node-index} (omega arith)) ∙ ap alt (append_none ss) in

@@ -12,7 +12,9 @@ use Rattle.cs_index.specs.PostingLists.{entries_of}
 use Rattle.cs_merge.specs.Merge.{merge_paths}
 use Rattle.cs_merge.specs.Mergeable.{both_whole}
 use Rattle.cs_merge.specs.IdMap.{AreMappedLists}
-use Rattle.cs_merge.proofs.MergeResultLemmas.{built_says}
+use Rattle.std.proofs.lemmas.Result.{err_from_is_err_and}
+use Rattle.cs_merge.specs.ListsFault.{IsListsFault}
+use Rattle.cs_merge.proofs.MergeResultLemmas.{built_says, lists_say}
 use Rattle.cs_merge.proofs.NameMergeLemmas.{id_maps}
 use Rattle.cs_merge.proofs.MergedFilesLemmas.{AreWritten, all_covered, written_merged}
 use Rattle.cs_merge.proofs.StorableLemmas.{paths_listed}
@@ -38,7 +40,7 @@ pub returns : goal.returns
 returns c =
     let old = c.args.old.now.parts in
     let newer = c.args.newer.now.parts in
-    let both : both_whole old newer ≡ true = sym (λ i. both_whole (c.index-older.ensures i) (c.index-later.ensures i)) ∙ c.in_ok-merge_lists.ensures.fault in
+    let both : both_whole old newer ≡ true = sym (λ i. both_whole (c.index-older.ensures i) (c.index-later.ensures i)) ∙ c.in_ok-merge_lists.ensures.whole in
     let whole = and_parts (are_whole old) (are_whole newer) both in
     let written : AreWritten old newer c.merge_names.new.sections.names c.in_ok-ids.ids.older c.in_ok-ids.ids.newer c.merge_lists.new.sections.lists = record {
       named = c.in_ok-ids.ensures.ids;
@@ -53,3 +55,19 @@ returns c =
     built_says old newer c.args.most c.finish.result (encoding_of c.merge_lists.new.sections.paths (entries_written c.merge_lists.new.sections))
     ((λ i. encoding_of (paths i) (entries_of 0 (names i) c.merge_lists.new.sections.lists)) ∙ written_merged old newer c.merge_names.new.sections.names c.in_ok-ids.ids.older c.in_ok-ids.ids.newer c.merge_lists.new.sections.lists written c.requires.tested)
     c.requires.tested whole.0 whole.1 c.finish.ensures.ok c.finish.ensures.fault
+
+pub returns-in_err-merge_lists : goal.returns-in_err-merge_lists
+returns-in_err-merge_lists c =
+    let p = err_from_is_err_and c.from_residual-in_err-merge_lists.result c.from_residual-in_err-merge_lists.ensures.1 in
+    let old = c.args.old.now.parts in
+    let newer = c.args.newer.now.parts in
+    let output = c.merge_names.new.sections in
+    let fault = c.in_err-merge_lists.field-0.0 in
+    let merged : map string_bytes c.in_ok-paths.paths.items ≡ set.items (merge_paths (paths_in old) (paths_in newer)) =
+    c.in_ok-paths.ensures ∙ (λ i. set.items (merge_paths (paths_in (c.index-older.ensures i)) (paths_in (c.index-later.ensures i)))) in
+    let said : IsListsFault old newer c.in_ok-ids.ids.older c.in_ok-ids.ids.newer output c.args.most fault =
+    subst (λ (p : Parts). IsListsFault p newer c.in_ok-ids.ids.older c.in_ok-ids.ids.newer output c.args.most fault) c.index-older.ensures
+    (subst (λ (p : Parts). IsListsFault c.index-older.result.now p c.in_ok-ids.ids.older c.in_ok-ids.ids.newer output c.args.most fault) c.index-later.ensures c.in_err-merge_lists.ensures.fault) in
+    rw (p.1, p.2) (lists_say old newer c.args.most c.in_ok-ids.ids.older c.in_ok-ids.ids.newer output fault
+    (c.in_ok-ids.ensures.paths ∙ c.in_ok-sections.ensures.paths ∙ ap (map string_bytes) c.deref.ensures.value ∙ merged)
+    c.in_ok-ids.ensures.ids c.requires.tested said)

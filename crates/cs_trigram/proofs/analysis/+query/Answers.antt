@@ -37,4 +37,4 @@ analyze-returns-in_ok-strings_of_chars-in-Chars t c =
     let is : tree_of c.args.node.now ≡ leaf = ap tree_of c.in-Chars.is ∙ tree_of-Chars c.in-Chars.set in
     if_ok c.of_leaf-in-Chars.result _ _ c.of_leaf-in-Chars.ensures
     (λ info right. subst (IsInfoOf info) (sym is)
-    (right leaf (refl, c.in_ok-strings_of_chars-in-Chars.ensures) (leaf_match_query leaf (λ set. tt))))
+    (right leaf (c.of-in-Chars.ensures leaf (refl, c.in_ok-strings_of_chars-in-Chars.ensures)) (leaf_match_query leaf (λ set. tt))))

@@ -4,14 +4,15 @@ use Rattle.cs_syntax.specs.TreeList.{append}
 use Rattle.cs_syntax.specs.Matching.{Tree, Trees, none, more}
 use Rattle.cs_trigram.specs.ExactSet.{IsExactSetOf, AreExactSetsReversed}
 use Rattle.cs_trigram.specs.Analysis.{AreExactStringsOfRun, IsBlocked}
-use Rattle.cs_trigram.proofs.ExactSetLemmas.{Exact, exact_set_first, exact_set_none}
+use Rattle.cs_trigram.specs.declared.exact_set.ExactSet.{ExactSet}
+use Rattle.cs_trigram.proofs.ExactSetLemmas.{exact_set_first, exact_set_none}
 use Rattle.cs_trigram.proofs.LeadingRunLemmas.{run_is_leading, run_strings}
 use Rattle.cs_syntax.proofs.TreeListLemmas.{append_assoc_trees}
 use Rattle.cs_trigram.proofs.NodeListLemmas.{none_of, some_of}
 use Rattle.cs_trigram.proofs.leading_run.longest_leading_run.Goals as goal
 
 -- the part before an index
-before : (counts : List Exact) (index : ℕ) (c : Exact) (ts : Trees) → 0 < index → index - 1 < length counts → c ≡ get_or counts (index - 1) c →
+before : (counts : List ExactSet) (index : ℕ) (c : ExactSet) (ts : Trees) → 0 < index → index - 1 < length counts → c ≡ get_or counts (index - 1) c →
     AreExactSetsReversed (take index counts) ts → (t : Tree) × (rest : Trees) × (ts ≡ more t rest) × IsExactSetOf c t × AreExactSetsReversed (take (index - 1) counts) rest
 before counts index c ts some lt is h =
     let same : index ≡ index - 1 + 1 = omega arith in
@@ -26,7 +27,7 @@ parts-init c =
         ts,
         refl,
         subst (λ (ws : List (List ℕ)). AreExactStringsOfRun ws (more t none)) (sym c.in_ok-leading.ensures) (run_strings c.args.strings.now t strings),
-        subst (λ (cs : List Exact). AreExactSetsReversed cs ts) (sym (take-length following)) counts,
+        subst (λ (cs : List ExactSet). AreExactSetsReversed cs ts) (sym (take-length following)) counts,
       ),
     )
 

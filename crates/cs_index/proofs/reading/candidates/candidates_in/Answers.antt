@@ -1,10 +1,13 @@
-use Rattle.std.proofs.Common.{◌≡◌, ◌<◌, ◌∙◌, ◌++◌, ap, sym, subst, refl, ℕ, List, true, length, map, take, drop, arith}
+use Rattle.std.proofs.Common.{◌≡◌, ◌<◌, ◌∙◌, ◌&&◌, ◌++◌, ap, sym, subst, refl, ℕ, List, true, length, map, take, drop, arith}
 use Rattle.std.specs.List.{AllByRecursion}
 use Rattle.cs_index.specs.AscendingIds.{max_ids}
 use Rattle.cs_index.specs.Opening.{rises}
 use Rattle.cs_index.specs.OpenedParts.{Parts}
-use Rattle.cs_index.specs.Postings.{read_for}
-use Rattle.cs_index.specs.Form.{IsNumberOf}
+use Rattle.cs_trigram.specs.Trigram.{has}
+use Rattle.cs_index.specs.Answerable.{mentions}
+use Rattle.cs_index.specs.Encoding.{ListEntry}
+use Rattle.cs_index.specs.Postings.{has_entry, read_for}
+use Rattle.cs_index.specs.Form.{IsForm, IsNumberOf}
 use Rattle.cs_index.specs.Rows.{are_whole}
 use Rattle.cs_index.specs.StoredLists.{HasLists, Holds, IsSection, ListState, ids_left}
 use Rattle.cs_index.specs.declared.reading.stored_list.ListSection.{ListSection}
@@ -20,16 +23,16 @@ few_names : (bytes : List ℕ) (s : ListSection) (parts : Parts) → IsSection s
 few_names bytes s parts is has = let same = has.names in let few = is.names in omega (arith, same, few)
 
 pub returns-then-branch-clause-answers : goal.returns-then-branch-clause-answers
-returns-then-branch-clause-answers g c bytes m parts has =
+returns-then-branch-clause-answers g c bytes m parts has' =
     let s : ListSection = c.args.section.now in
     let trigrams : List ℕ = c.in_ok-trigrams.trigrams.items in
-    let up = rising bytes s parts c.requires has in
+    let up = rising bytes s parts c.requires has' in
     let lists : List ListState = c.deref_mut.result.now in
     let after : List ListState = c.meet.new.lists in
-    let are = c.in_ok-trigrams.ensures.mentioned in
-    let is : map (ids_left bytes) lists ≡ map (read_for parts) trigrams = ap (map (ids_left bytes)) c.deref_mut.ensures.value ∙ c.in_ok-lists.ensures.lists bytes m parts has ∙ ap (map (read_for parts)) c.deref-2.ensures.value in
+    let are : (g : ℕ) → has trigrams g ≡ (mentions c.args.query.now g && has_entry parts.entries g) = λ g. c.in_ok-trigrams.ensures.listed g ∙ ap (λ (es : List ListEntry). mentions c.args.query.now g && has_entry es g) (sym has'.entries) in
+    let is : map (ids_left bytes) lists ≡ map (read_for parts) trigrams = ap (map (ids_left bytes)) c.deref_mut.ensures.value ∙ c.in_ok-lists.ensures.lists bytes m parts has' ∙ ap (map (read_for parts)) c.deref-2.ensures.value in
     let held = subst (AllByRecursion (Holds bytes)) (sym c.deref_mut.ensures.value) (c.in_ok-lists.ensures.holds bytes m) in
-    let left = all_left bytes parts up c.args.query.now trigrams are lists is (few_names bytes s parts c.requires has) held in
+    let left = all_left bytes parts up c.args.query.now trigrams are lists is (few_names bytes s parts c.requires has') held in
     let modelled = c.lists_of.ensures.keeps ∙ m in
     let read = c.in_ok-ids.ensures.lists bytes modelled left in
     let kept : take c.in_ok-lists.lists.len (after ++ drop (length after) c.in_ok-lists.lists.items) ≡ after = taken_back c.in_ok-lists.lists.len after (drop (length after) c.in_ok-lists.lists.items) (sym (c.meet.auto.lists ∙ c.deref_mut.ensures.len)) in
@@ -37,22 +40,22 @@ returns-then-branch-clause-answers g c bytes m parts has =
     c.in_ok-finish_all.ensures.whole bytes (c.meet.ensures.keeps ∙ modelled) (subst (AllByRecursion (Holds bytes)) (sym kept) (all_held bytes s.name_count lists after read))
     ∙ ap (are_whole bytes) kept ∙ whole_alike bytes s.name_count lists after read in
     let all : are_whole bytes lists ≡ true = sym whole ∙ c.if-branch.true in (
-      ids_are bytes parts up c.args.query.now trigrams are lists is c.in_ok-form.form.nodes.items c.in_ok-form.form.root s.name_count c.in_ok-ids.ids.items (sym has.names)
-          (subst (λ (gs : List ℕ). IsNumberOf gs c.in_ok-form.form.nodes.items c.args.query.now c.in_ok-form.form.root) c.deref.ensures.value c.in_ok-form.ensures) all (c.in_ok-ids.ensures.ids bytes modelled left),
+      ids_are bytes parts up c.args.query.now trigrams are lists is c.in_ok-form.form.nodes.items c.in_ok-form.form.root s.name_count c.in_ok-ids.ids.items (sym has'.names)
+          (subst (λ (gs : List ℕ). IsNumberOf gs c.in_ok-form.form.nodes.items c.args.query.now c.in_ok-form.form.root) c.deref.ensures.value c.in_ok-form.ensures.number) all (c.in_ok-ids.ensures.ids bytes modelled left),
       sym (whole_answers bytes parts up c.args.query.now trigrams are lists is) ∙ all,
     )
 
 pub returns-clause-answers : goal.returns-clause-answers
-returns-clause-answers g c bytes m parts has =
+returns-clause-answers g c bytes m parts has' =
     let s : ListSection = c.args.section.now in
     let trigrams : List ℕ = c.in_ok-trigrams.trigrams.items in
-    let up = rising bytes s parts c.requires has in
+    let up = rising bytes s parts c.requires has' in
     let lists : List ListState = c.deref_mut.result.now in
     let after : List ListState = c.meet.new.lists in
-    let are = c.in_ok-trigrams.ensures.mentioned in
-    let is : map (ids_left bytes) lists ≡ map (read_for parts) trigrams = ap (map (ids_left bytes)) c.deref_mut.ensures.value ∙ c.in_ok-lists.ensures.lists bytes m parts has ∙ ap (map (read_for parts)) c.deref-2.ensures.value in
+    let are : (g : ℕ) → has trigrams g ≡ (mentions c.args.query.now g && has_entry parts.entries g) = λ g. c.in_ok-trigrams.ensures.listed g ∙ ap (λ (es : List ListEntry). mentions c.args.query.now g && has_entry es g) (sym has'.entries) in
+    let is : map (ids_left bytes) lists ≡ map (read_for parts) trigrams = ap (map (ids_left bytes)) c.deref_mut.ensures.value ∙ c.in_ok-lists.ensures.lists bytes m parts has' ∙ ap (map (read_for parts)) c.deref-2.ensures.value in
     let held = subst (AllByRecursion (Holds bytes)) (sym c.deref_mut.ensures.value) (c.in_ok-lists.ensures.holds bytes m) in
-    let left = all_left bytes parts up c.args.query.now trigrams are lists is (few_names bytes s parts c.requires has) held in
+    let left = all_left bytes parts up c.args.query.now trigrams are lists is (few_names bytes s parts c.requires has') held in
     let modelled = c.lists_of.ensures.keeps ∙ m in
     let read = c.in_ok-ids.ensures.lists bytes modelled left in
     let kept : take c.in_ok-lists.lists.len (after ++ drop (length after) c.in_ok-lists.lists.items) ≡ after = taken_back c.in_ok-lists.lists.len after (drop (length after) c.in_ok-lists.lists.items) (sym (c.meet.auto.lists ∙ c.deref_mut.ensures.len)) in
@@ -60,3 +63,11 @@ returns-clause-answers g c bytes m parts has =
     c.in_ok-finish_all.ensures.whole bytes (c.meet.ensures.keeps ∙ modelled) (subst (AllByRecursion (Holds bytes)) (sym kept) (all_held bytes s.name_count lists after read))
     ∙ ap (are_whole bytes) kept ∙ whole_alike bytes s.name_count lists after read in
     (refl, sym (whole_answers bytes parts up c.args.query.now trigrams are lists is) ∙ sym whole ∙ c.if-branch.false)
+
+pub listed_trigrams-requires : goal.listed_trigrams-requires
+listed_trigrams-requires g c = entries_rise c.args.section.now.room c.args.section.now.list_index.now c.requires.entries
+
+pub meet-requires : goal.meet-requires
+meet-requires g c =
+    subst (λ n. IsForm n c.in_ok-form.form.nodes.items)
+    (sym (ap length c.deref_mut.ensures.value ∙ c.in_ok-lists.ensures.count ∙ ap length c.deref-2.ensures.value ∙ sym (ap length c.deref.ensures.value))) c.in_ok-form.ensures.form

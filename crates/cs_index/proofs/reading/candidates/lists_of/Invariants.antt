@@ -1,4 +1,4 @@
-use Rattle.std.proofs.Common.{◌≡◌, List, ℕ, Some, map, take}
+use Rattle.std.proofs.Common.{◌≡◌, List, ℕ, Some, length, map, take}
 use Rattle.std.specs.List.{AllByRecursion}
 use Rattle.cs_index.specs.OpenedParts.{Parts}
 use Rattle.cs_index.specs.Postings.{read_for}
@@ -8,6 +8,7 @@ use Rattle.cs_index.proofs.reading.candidates.lists_of.Given as goal
 abbrev pub invariant-loop-trigram : goal.invariant-loop-trigram
 invariant-loop-trigram g l = record {
   lists : (bytes : List ℕ) → g.S.Store.model l.fn.store ≡ Some bytes → (parts : Parts) → HasLists bytes l.section parts → map (ids_left bytes) l.lists.items ≡ map (read_for parts) (take l.trigram-index l.trigrams);
+  count : length l.lists.items ≡ l.trigram-index;
   holds : (bytes : List ℕ) → g.S.Store.model l.fn.store ≡ Some bytes → AllByRecursion (Holds bytes) l.lists.items;
   keeps : g.S.Store.model l.store ≡ g.S.Store.model l.fn.store;
   size : g.S.Store.size l.store ≡ g.S.Store.size l.fn.store;

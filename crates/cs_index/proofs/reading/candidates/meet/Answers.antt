@@ -1,22 +1,43 @@
-use Rattle.std.proofs.Common.{◌≡◌, ◌≤◌, ◌+◌, ◌-◌, ◌∙◌, ap, sym, subst, refl, ℕ, Bool, List, Vec, Global, Some, false, get_or, arith}
-use Rattle.std.specs.Prelude.{filter}
-use Rattle.std.specs.List.{AllByRecursion, range_with_len}
+use Rattle.std.proofs.Common.{◌≡◌, ◌≤◌, ◌+◌, ◌-◌, ◌∙◌, ap, sym, subst, ℕ, Bool, List, Vec, Global, Option, Some, false, length, get_or, arith}
+use Rattle.std.specs.Prelude.{filter, IfSome}
+use Rattle.std.specs.List.{AllByRecursion, AllZip, range_with_len}
 use Rattle.cs_index.specs.declared.reading.form.Node.{Node}
-use Rattle.cs_index.specs.Form.{matched, number_matches}
-use Rattle.cs_index.specs.Rows.{column, have_id, HaveWidth, IsLeftFrom}
+use Rattle.cs_index.specs.Form.{IsRequired, matched, number_matches}
+use Rattle.cs_index.specs.Rows.{column, have_id, HaveWidth, IsLeft, IsReadOn, LacksId}
 use Rattle.cs_index.specs.StoredLists.{ListState}
-use Rattle.cs_index.proofs.candidates.WindowRows.{all_from, have_alike, not_read, read_all_on, window_more}
+use Rattle.cs_index.proofs.candidates.WindowRows.{all_from, filter_false, have_alike, have_length, lacks_required, not_read, read_all_on, window_more, window_none}
+use Rattle.cs_index.proofs.candidates.FormValues.{nothing_matches}
 use Rattle.cs_index.proofs.reading.candidates.meet.Goals as goal
 
+pub returns-then-form-eq-NOTHING-clause-ids : goal.returns-then-form-eq-NOTHING-clause-ids
+returns-then-form-eq-NOTHING-clause-ids g c bytes m all =
+    let nodes : List Node = c.args.form.now.nodes.items in
+    let test : ℕ → Bool = λ id. number_matches (have_id bytes c.args.lists.now id) nodes c.args.form.now.root in
+    c.new-ids.ensures.items
+    ∙ sym (filter_false test 0 c.args.count (λ id from below. ap (number_matches (have_id bytes c.args.lists.now id) nodes) c.if-form-eq-NOTHING.true ∙ nothing_matches (have_id bytes c.args.lists.now id) nodes))
+
+pub returns-then-form-eq-NOTHING-clause-lists : goal.returns-then-form-eq-NOTHING-clause-lists
+returns-then-form-eq-NOTHING-clause-lists g c bytes m all = not_read bytes c.args.count c.args.lists.now all
+
+-- an id that the rarest list does not have is no candidate
+passed : (bytes : List ℕ) (nodes : List Node) (root id : ℕ) (lists : List ListState) (rarest : Option ℕ) → IfSome rarest (IsRequired (length lists) nodes root) → LacksId (have_id bytes lists id) rarest → number_matches (have_id bytes lists id) nodes root ≡ false
+passed bytes nodes root id lists rarest required lacks =
+    lacks_required nodes root (have_id bytes lists id) rarest (subst (λ n. IfSome rarest (IsRequired n nodes root)) (sym (have_length bytes id lists)) required) lacks
+
 pub windows-init : goal.windows-init
-windows-init g c = record {
-  within = omega arith;
-  ids = λ bytes m all. c.new-ids.ensures.items;
-  lists = λ bytes m all. not_read bytes c.args.lists.now all;
-  keeps = refl;
-  size = refl;
-  failed = refl;
-}
+windows-init g c =
+    let nodes : List Node = c.args.form.now.nodes.items in
+    let root : ℕ = c.args.form.now.root in
+    let lists : List ListState = c.args.lists.now in
+    record {
+      within = c.in_ok-start.ensures.to;
+      ids = λ bytes m all. window_none (λ id. number_matches (have_id bytes lists id) nodes root) 0 c.in_ok-start.start c.new-ids.result.items (omega arith) c.new-ids.ensures.items
+          (λ id from below. passed bytes nodes root id lists c.rarest_list-rarest.result c.rarest_list-rarest.ensures (c.in_ok-start.ensures.lacks bytes m all id from below));
+      lists = λ bytes m all. c.in_ok-start.ensures.lists bytes m all;
+      keeps = c.next_start.ensures.keeps;
+      size = c.next_start.ensures.size;
+      failed = c.in_ok-start.ensures.failed;
+    }
 
 pub push_ids-requires-clause-width : goal.push_ids-requires-clause-width
 push_ids-requires-clause-width g c =
@@ -28,25 +49,34 @@ windows-preserved g c =
     let i = c.windows.invariant in
     let old : List ListState = c.args.lists.now in
     let lists : List ListState = c.windows.lists in
+    let after : List ListState = c.rows_of.new.lists in
     let nodes : List Node = c.args.form.now.nodes.items in
     let root : ℕ = c.args.form.now.root in
     let row : List Bool = c.row_at.result.now in
     let start : ℕ = c.windows.start in
     let end : ℕ = start + c.min.result in
-    let left : (bytes : List ℕ) → g.S.Store.model c.args.store.now ≡ Some bytes → AllByRecursion (IsLeftFrom bytes 0) old → AllByRecursion (IsLeftFrom bytes start) lists =
+    let next : ℕ = c.in_ok-start-2.start in
+    let left : (bytes : List ℕ) → g.S.Store.model c.args.store.now ≡ Some bytes → AllByRecursion (IsLeft bytes) old → AllByRecursion (IsLeft bytes) lists =
     λ bytes m all. all_from bytes start old lists (i.lists bytes m all) in
+    let read : (bytes : List ℕ) → g.S.Store.model c.args.store.now ≡ Some bytes → AllByRecursion (IsLeft bytes) old → AllZip (IsReadOn bytes end) old after =
+    λ bytes m all. read_all_on bytes start end old lists after (omega arith) (i.lists bytes m all) (c.in_ok-rows.ensures.lists bytes (i.keeps ∙ m) (left bytes m all)) in
     record {
-      within = omega (arith, c.min.ensures, c.windows-test.true);
-      ids = λ bytes m all. window_more (λ id. number_matches (have_id bytes old id) nodes root) (λ id. get_or row (id - start) false) start end c.windows.ids.items c.push_ids.new.ids.items (omega arith) (i.ids bytes m all) c.in_ok-push_ids.ensures (λ k below.
+      within = c.in_ok-start-2.ensures.to;
+      ids = λ bytes m all. window_none (λ id. number_matches (have_id bytes old id) nodes root) end next c.push_ids.new.ids.items c.in_ok-start-2.ensures.from
+          (window_more (λ id. number_matches (have_id bytes old id) nodes root) (λ id. get_or row (id - start) false) start end c.windows.ids.items c.push_ids.new.ids.items (omega arith) (i.ids bytes m all) c.in_ok-push_ids.ensures (λ k below.
           let at : start + k - start ≡ k = omega arith in
           let from : start ≤ start + k = omega arith in
           ap (λ n. get_or row n false) at ∙ c.row_at.ensures.row k
           ∙ ap (λ (rows : List (Vec Bool Global)). get_or (column k rows) root false) c.deref-in-windows.ensures.value
-          ∙ ap (λ (known : List Bool). get_or known root false) (c.in_ok-rows.ensures.rows bytes (i.keeps ∙ m) (left bytes m all) k below ∙ (λ j. matched (have_alike bytes start (start + k) old lists from (i.lists bytes m all) j) (c.deref.ensures.value j))));
-      lists = λ bytes m all. read_all_on bytes start end old lists c.rows_of.new.lists (omega arith) (i.lists bytes m all) (c.in_ok-rows.ensures.lists bytes (i.keeps ∙ m) (left bytes m all));
-      keeps = c.rows_of.ensures.keeps ∙ i.keeps;
-      size = c.rows_of.ensures.size ∙ i.size;
-      failed = c.in_ok-rows.ensures.failed ∙ i.failed;
+          ∙ ap (λ (known : List Bool). get_or known root false) (c.in_ok-rows.ensures.rows bytes (i.keeps ∙ m) (left bytes m all) k below ∙ (λ j. matched (have_alike bytes start (start + k) old lists from (i.lists bytes m all) j) (c.deref.ensures.value j)))))
+          (λ id from below. passed bytes nodes root id old c.rarest_list-rarest.result c.rarest_list-rarest.ensures
+          (subst (λ (bits : List Bool). LacksId bits c.rarest_list-rarest.result) (have_alike bytes end id old after from (read bytes m all))
+          (c.in_ok-start-2.ensures.lacks bytes (c.rows_of.ensures.keeps ∙ i.keeps ∙ m) (all_from bytes end old after (read bytes m all)) id from below)));
+      lists = λ bytes m all. read_all_on bytes end next old after c.next_start-in-windows.new.lists c.in_ok-start-2.ensures.from (read bytes m all)
+          (c.in_ok-start-2.ensures.lists bytes (c.rows_of.ensures.keeps ∙ i.keeps ∙ m) (all_from bytes end old after (read bytes m all)));
+      keeps = c.next_start-in-windows.ensures.keeps ∙ c.rows_of.ensures.keeps ∙ i.keeps;
+      size = c.next_start-in-windows.ensures.size ∙ c.rows_of.ensures.size ∙ i.size;
+      failed = c.in_ok-start-2.ensures.failed ∙ c.in_ok-rows.ensures.failed ∙ i.failed;
     }
 
 pub returns-clause-ids : goal.returns-clause-ids

@@ -15,6 +15,10 @@ join_ok : {T E : Type 0} (r : Result T E) (P : T → Type 0) (Q : Type 0) (R : T
 join_ok (Ok x) P Q R f p q = f x p q
 join_ok (Err e) P Q R f p q = tt
 
+on_ok_three : {T E : Type 0} (r : Result T E) (A B C D : Type 0) → (A → B → C → D) → OnOk r A → OnOk r B → OnOk r C → OnOk r D
+on_ok_three (Ok x) A B C D f a b c = f a b c
+on_ok_three (Err e) A B C D f a b c = tt
+
 pub gather-returns-in-And : goal.gather-returns-in-And
 gather-returns-in-And t c =
     on_ok_weaker c.gather_each.result (gathers_wanted _ _ _ _ _ _ _ (λ set.
@@ -25,10 +29,10 @@ gather-returns-in-Or t c =
     on_ok_weaker c.gather_each-in-Or.result (gathers_wanted _ _ _ _ _ _ _ (λ set.
     (λ i. queries_match (c.if-not-node.true i) set (c.deref-in-Or.ensures.value i)) ∙ sym (matches_set-Or set c.in-Or.members) ∙ ap (λ (q : Query). matches_set q set) (sym c.in-Or.is))) c.gather_each-in-Or.ensures
 
-pub gather-returns-in_ok-push-in_default : goal.gather-returns-in_ok-push-in_default
-gather-returns-in_ok-push-in_default t c =
-    gathers_number c.args.trigrams.now c.args.folding.now.nodes.items c.number_of.new.folding.nodes.items c.args.node.now (record { is_and = c.args.node.now.is_and; members = c.push.new.self }) c.args.query.now c.in_ok-number-in_default.number
-    c.in_ok-number-in_default.ensures.grows c.requires.exist c.in_ok-number-in_default.ensures.exists c.in_ok-number-in_default.ensures.number refl c.in_ok-push-in_default.ensures.items
+pub gather-returns-in_ok-number-in_default : goal.gather-returns-in_ok-number-in_default
+gather-returns-in_ok-number-in_default t c =
+    on_ok_three c.add_member.result _ _ _ _ (gathers_number c.args.trigrams.now c.args.folding.now.nodes.items c.number_of.new.folding.nodes.items c.args.node.now c.add_member.new.node c.args.query.now c.in_ok-number-in_default.number
+    c.in_ok-number-in_default.ensures.grows c.in_ok-number-in_default.ensures.number) c.add_member.ensures.kind c.add_member.ensures.exist c.add_member.ensures.matches
 
 pub gather_each-loop-query-preserved : goal.gather_each-loop-query-preserved
 gather_each-loop-query-preserved t c =

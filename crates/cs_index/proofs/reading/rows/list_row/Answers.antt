@@ -2,9 +2,23 @@ use Rattle.std.proofs.Common.{rules, ◌≡◌, ◌-◌, ◌∙◌, ap, sym, sub
 use Rattle.std.proofs.lemmas.Bool.{eqb-true, eq-eqb, true≢false}
 use Rattle.cs_index.specs.PostingLists.{Ids}
 use Rattle.cs_index.specs.StoredLists.{ids_left, GivesBelow}
-use Rattle.cs_index.proofs.candidates.WindowRows.{row_more, row_ends, widened, RowSoFar}
+use Rattle.cs_index.proofs.candidates.WindowRows.{row_begins, row_more, row_ends, skipped_to, widened, RowSoFar}
 use Rattle.cs_index.proofs.reading.rows.list_row.Goals as goal
 use Rattle.cs_index.proofs.reading.rows.list_row.Goals.{then-is_empty+in_ok-resize, else-is_empty}
+
+pub ids-init : goal.ids-init
+ids-init g c = record {
+  width = inl (ap length c.new-row.ensures.items);
+  so_far = λ bytes is left.
+      let skips = c.in_ok-skip_below.ensures.skips bytes is left.0 in (
+        skips.0.0,
+        row_begins c.args.window.start c.args.window.end (ids_left bytes c.args.list.now) (ids_left bytes c.skip_below.new.self) c.new-row.result.items c.requires.order c.new-row.ensures.items
+            (skipped_to c.args.window.start (ids_left bytes c.args.list.now) (ids_left bytes c.skip_below.new.self) skips.0.1 skips.0.2 skips.0.3 left.1) skips.1,
+      );
+  keeps = c.skip_below.ensures.keeps;
+  size = c.skip_below.ensures.size;
+  failed = c.in_ok-skip_below.ensures.failed;
+}
 
 pub ids-preserved : goal.ids-preserved
 ids-preserved g c =

@@ -2,7 +2,7 @@ use Rattle.std.proofs.Common.{◌≡◌, ◌<◌, ◌+◌, ◌-◌, ◌∙◌, �
 use Rattle.std.proofs.lemmas.List.{drop-drop, drop-set-lt, take_all, take_more, take_more_set}
 use Rattle.std.proofs.lemmas.Slice.Zip.{all_zipped_more}
 use Rattle.std.specs.List.{AllByRecursion, AllZip}
-use Rattle.cs_index.specs.Rows.{column, have_id, HaveWidth, IsLeftFrom, IsReadOn}
+use Rattle.cs_index.specs.Rows.{column, have_id, HaveWidth, IsLeft, IsReadOn}
 use Rattle.cs_index.specs.StoredLists.{ListState}
 use Rattle.cs_index.proofs.candidates.WindowRows.{column-push, have-push, held_at, left_at, width-push}
 use Rattle.cs_index.proofs.reading.rows.list_rows.Goals as goal
@@ -25,8 +25,8 @@ loop-at-preserved g c =
     let inside : at < length lists = omega (arith, c.loop-at-test.true, c.loop-at.auto.lists) in
     let before : take (at + 1) old ≡ take at old ++ list ∷ [] = take_more old at d below ∙ ap (λ (l : ListState). take at old ++ l ∷ []) (sym is) in
     let after : take (at + 1) (set lists at new) ≡ take at lists ++ new ∷ [] = take_more_set lists at new inside in
-    let held : (bytes : List ℕ) → AllByRecursion (IsLeftFrom bytes start) old → IsLeftFrom bytes start list =
-    λ bytes all. subst (IsLeftFrom bytes start) (sym is) (held_at bytes start old at d below all) in
+    let held : (bytes : List ℕ) → AllByRecursion (IsLeft bytes) old → IsLeft bytes list =
+    λ bytes all. subst (IsLeft bytes) (sym is) (held_at bytes old at d below all) in
     let items = c.in_ok-push-3.ensures.items in
     record {
       width = subst (HaveWidth (end - start)) (sym items) (width-push (end - start) rows row i.width c.in_ok-row.ensures.width);

@@ -1,5 +1,4 @@
-use Rattle.std.proofs.Common.{◌≤◌, length, ap, sym, subst, arith}
-use Rattle.cs_match.specs.declared.input.Input.{Input}
+use Rattle.std.proofs.Common.{◌≤◌, length, arith}
 use Rattle.cs_match.specs.Entered.{if_entered, if_previous, if_kept}
 use Rattle.cs_match.proofs.MaskLemmas.{all_put}
 use Rattle.cs_match.proofs.masks.Mask.fill.Goals as goal

@@ -1,4 +1,4 @@
-use Rattle.std.proofs.Common.{◌≡◌, ℕ, ◌+◌, ◌<◌, ◌∷◌, ◌++◌, [], false, List, length, get_or, ◌∙◌, sym, ap, subst, arith, length-append}
+use Rattle.std.proofs.Common.{◌≡◌, ℕ, ◌+◌, ◌<◌, ◌∷◌, [], false, List, length, get_or, sym, ap, subst, arith, length-append}
 use Rattle.cs_match.specs.declared.masks.Mask.{Mask}
 use Rattle.cs_match.proofs.MaskLemmas.{pushed_mask}
 use Rattle.cs_match.proofs.masks.Masks.new.Goals as goal

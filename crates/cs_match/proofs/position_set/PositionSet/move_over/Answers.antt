@@ -1,4 +1,4 @@
-use Rattle.std.proofs.Common.{◌≡◌, ℕ, ◌+◌, ◌*◌, ◌%◌, ◌/◌, ◌<◌, List, length, get_or, bit_or, false, sym, ◌∙◌, ap, subst, arith, below_more, add-one, length-set, get_or-set_same, get_or-set_other}
+use Rattle.std.proofs.Common.{◌≡◌, ℕ, ◌+◌, ◌*◌, ◌%◌, ◌/◌, ◌<◌, length, get_or, bit_or, false, sym, ◌∙◌, ap, arith, below_more, add-one, length-set, get_or-set_same, get_or-set_other}
 use Rattle.std.proofs.lemmas.List.{get_or_read}
 use Rattle.cs_match.specs.PositionSet.{positions_of, IsPositionSet, is_moved}
 use Rattle.cs_match.proofs.PositionSetLemmas.{length-positions_of, same_count, same_length}

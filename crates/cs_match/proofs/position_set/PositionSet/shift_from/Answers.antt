@@ -1,7 +1,6 @@
-use Rattle.std.proofs.Common.{◌≡◌, ℕ, ◌+◌, ◌*◌, ◌%◌, ◌/◌, ◌<◌, List, length, get_or, bit_or, false, ◌∷◌, sym, ◌∙◌, ap, arith, below_more, add-one, length-set, get_or-set_same, get_or-set_other}
+use Rattle.std.proofs.Common.{◌≡◌, ℕ, ◌+◌, ◌*◌, ◌%◌, ◌/◌, ◌<◌, List, length, get_or, bit_or, false, ◌∷◌, ◌∙◌, ap, arith, below_more, add-one, length-set, get_or-set_same, get_or-set_other}
 use Rattle.cs_match.specs.PositionSet.{positions_of}
-use Rattle.cs_match.proofs.PositionSetLemmas.{length-positions_of}
-use Rattle.cs_match.proofs.BitwiseLemmas.{carry, shifted}
+use Rattle.cs_match.proofs.BitwiseLemmas.{shifted}
 use Rattle.cs_match.proofs.MoveLemmas.{one_more, IsPositionSet-shifted, positions_of-shifted}
 use Rattle.cs_match.proofs.position_set.PositionSet.shift_from.Goals as goal
 use Rattle.cs_match.proofs.position_set.PositionSet.shift_from.Goals.{After-loop-index}

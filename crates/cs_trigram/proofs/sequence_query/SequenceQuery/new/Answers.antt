@@ -3,8 +3,8 @@ use Rattle.cs_syntax.specs.Matching.{none}
 use Rattle.cs_trigram.specs.ExactSet.{AreExactSetsReversed}
 use Rattle.cs_trigram.specs.Analysis.{IsQueryBeyondRun, all_match, some_mentions}
 use Rattle.cs_trigram.specs.MayMatch.{MayMatchSequence, HaveMembers}
-use Rattle.cs_trigram.proofs.ExactSetLemmas.{Exact}
 use Rattle.cs_trigram.specs.declared.queries.Query.{Query}
+use Rattle.cs_trigram.specs.declared.exact_set.ExactSet.{ExactSet}
 use Rattle.cs_trigram.proofs.MentionLemmas.{no_trigrams}
 use Rattle.cs_trigram.proofs.SequenceQueryLemmas.{query_of_none}
 use Rattle.cs_trigram.proofs.sequence_query.SequenceQuery.new.Goals as goal
@@ -17,4 +17,4 @@ returns-clause-required c = (
 )
 
 pub returns-clause-parts : goal.returns-clause-parts
-returns-clause-parts c = subst (λ (cs : List Exact). AreExactSetsReversed cs none) (sym c.new-2.ensures.items) tt
+returns-clause-parts c = subst (λ (cs : List ExactSet). AreExactSetsReversed cs none) (sym c.new-2.ensures.items) tt

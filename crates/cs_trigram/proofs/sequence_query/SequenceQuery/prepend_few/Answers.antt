@@ -5,7 +5,7 @@ use Rattle.cs_trigram.specs.Query.{mentions}
 use Rattle.cs_trigram.specs.MayMatch.{MayMatchSequence, HaveMembers}
 use Rattle.cs_trigram.specs.ExactSet.{AreExactSetsReversed}
 use Rattle.cs_trigram.specs.Analysis.{IsQueryBeyondRun, IsLongestLeadingRun, MentionsOnly, all_match, some_mentions, has_any, with_strings, concatenations}
-use Rattle.cs_trigram.proofs.ExactSetLemmas.{Exact}
+use Rattle.cs_trigram.specs.declared.exact_set.ExactSet.{ExactSet}
 use Rattle.cs_trigram.proofs.MentionLemmas.{trigrams_of_both}
 use Rattle.cs_trigram.proofs.SequenceMentionLemmas.{trigrams_of_run, trigrams_of_rest}
 use Rattle.cs_trigram.proofs.SequenceQueryLemmas.{query_past_few, query_past_run, few_tree}
@@ -30,7 +30,7 @@ returns-clause-required c = λ t ts strings parts sequence_query.
     let finished_run : c.deref-2.result.now ≡ leading = c.deref-2.ensures.value in
     let added : (set : ℕ → Bool) → later set ≡ (conjuncts set && has_any set leading) =
     λ set. c.in_ok-add_conjunct.ensures.required set ∙ ap (λ b. conjuncts set && b) (c.in_ok-any_string.ensures.required set ∙ ap (has_any set) finished_run) in
-    let behind : AreExactSetsReversed c.deref-3.result.now ts = subst (λ (cs : List Exact). AreExactSetsReversed cs ts) (sym c.deref-3.ensures.value) parts in
+    let behind : AreExactSetsReversed c.deref-3.result.now ts = subst (λ (cs : List ExactSet). AreExactSetsReversed cs ts) (sym c.deref-3.ensures.value) parts in
     let longest : IsLongestLeadingRun (more t ts) c.in_ok-self.field-0.items = c.in_ok-self.ensures t ts strings behind in (
       query_past_run leading conjuncts later t ts sequence_query.0 c.in_ok-self.field-0.items longest (few_tree c.args.strings.now t strings) added,
       trigrams_of_both (some_mentions c.args.self.now.conjuncts.items) (mentions query) (some_mentions c.add_conjunct.new.conjuncts.items) (HaveMembers (more t ts)) (MayMatchSequence (more t ts))

@@ -1,8 +1,8 @@
 use Rattle.std.proofs.Common.{◌≡◌, ◌+◌, ◌-◌, ap, sym, arith}
-use Rattle.cs_index.specs.PostingLists.{Ids}
+use Rattle.cs_index.specs.PostingLists.{Ids, before}
 use Rattle.cs_index.specs.PostingsInvariant.{remaining_ids}
 use Rattle.cs_index.specs.AscendingIds.{ids_onward, max_ids}
-use Rattle.cs_index.proofs.postings.EncodedRuns.{all_below, before, run_skipped}
+use Rattle.cs_index.proofs.postings.EncodedRuns.{all_below, run_skipped}
 use Rattle.cs_index.proofs.reading.postings.Postings.encoded_run.Goals as goal
 
 pub returns-clause-ids : goal.returns-clause-ids

@@ -2,18 +2,9 @@ use Rattle.std.proofs.Common.{◌≡◌, ◌+◌, ◌-◌, ◌∙◌, ap, sym, �
 use Rattle.std.proofs.lemmas.List.{take_rest}
 use Rattle.cs_index.specs.PostingLists.{read_varint}
 use Rattle.cs_index.specs.StoredLists.{ListState}
-use Rattle.cs_index.proofs.stored.ListPieces.{ends, refused_left, stays, takes, unread_left}
+use Rattle.cs_index.proofs.stored.ListPieces.{ends, piece_is, read_is, refused_left, stays, takes, unread_left}
 use Rattle.cs_index.proofs.reading.stored_list.StoredList.take_below.Goals as goal
 use Rattle.cs_index.proofs.reading.stored_list.StoredList.take_below.Goals.{then-delta-eq0-via-then-delta-eq0, then-delta-eq0-via-else-delta-eq0+then-delta-self}
-
--- the bytes that are decoded are those after the used ones
-piece_is : (items now : List ℕ) (used : ℕ) → now ≡ items → take (length now - used) (drop used now) ≡ drop used items
-piece_is items now used is = take_rest now used ∙ ap (drop used) is
-
-read_is : (items now : List ℕ) (used delta len : ℕ) → now ≡ items → read_varint (take (length now - used) (drop used now)) ≡ Some (delta, drop len (take (length now - used) (drop used now))) → read_varint (drop used items) ≡ Some (delta, drop len (drop used items))
-read_is items now used delta len is read =
-    let same = piece_is items now used is in
-    ap read_varint (sym same) ∙ read ∙ (λ i. Some (delta, drop len (same i)))
 
 pub returns-in_default-clause-gives : goal.returns-in_default-clause-gives
 returns-in_default-clause-gives c bytes =

@@ -1,0 +1,36 @@
+use Rattle.std.proofs.Common.{◌≡◌, ◌≤◌, ◌^◌, true, false, Ok, length, refl, sym, subst, ◌∙◌, arith}
+use Rattle.std.proofs.lemmas.Bool.{true≢false, and_from, false_from_ne_true}
+use Rattle.cs_tree.specs.Folders.{are_distinct}
+use Rattle.cs_index.specs.OpenedParts.{Parts, are_whole, are_covered}
+use Rattle.cs_merge.specs.declared.fault.MergeFault.{MergeFault}
+use Rattle.cs_merge.specs.Mergeable.{both_distinct, both_whole, merge_index}
+use Rattle.cs_merge.specs.MergeResult.{most_bytes, IsMergeFault, unsorted, uncovered, damaged, long, refused}
+use Rattle.cs_history.specs.WellFormed.{IsMergeable}
+use Rattle.cs_cindex.specs.Merges.{refusal_of, IsMergeRefusal}
+use Rattle.cs_cindex.proofs.walked.merge_both.Goals as goal
+
+module _ (old newer : Parts) (once : are_distinct old.names ≡ true) where
+  abbrev Refuses : MergeFault → Type 0
+  Refuses fault = IsMergeRefusal old (Ok newer) (refusal_of fault)
+
+  distinct : IsMergeable newer → both_distinct old newer ≡ true
+  distinct sound = and_from (are_distinct old.names) (are_distinct newer.names) once sound.distinct
+
+  covered : IsMergeable newer → are_covered newer ≡ true
+  unfolding are_covered
+  covered sound = sound.covered
+
+  old_damaged : IsMergeable newer → both_whole old newer ≡ false → are_whole old ≡ false
+  old_damaged sound fails = false_from_ne_true (are_whole old) (λ whole. true≢false (sym (and_from (are_whole old) (are_whole newer) whole sound.whole) ∙ fails))
+
+  refusal : (fault : MergeFault) → IsMergeFault old newer most_bytes fault → IsMergeRefusal old (Ok newer) (refusal_of fault)
+  refusal fault (unsorted is fails) = subst Refuses (sym is) (λ sound. true≢false (sym (distinct sound) ∙ fails))
+  refusal fault (uncovered is holds fails) = subst Refuses (sym is) (λ sound. absurd (true≢false (sym (covered sound) ∙ fails)))
+  refusal fault (damaged is tested fails) = subst Refuses (sym is) (λ sound. (refl, old_damaged sound fails))
+  refusal fault (long is mergeable more) = subst Refuses (sym is) (mergeable, (let above : 2 ^ 32 ≤ length (merge_index old newer) = omega (arith, more) in above))
+  refusal fault (refused is tested) = subst Refuses (sym is) tt
+
+pub returns-in-Err-clause-fault : goal.returns-in-Err-clause-fault
+returns-in-Err-clause-fault c =
+    subst (IsMergeRefusal c.args.old.now (Ok c.args.newer.now)) (sym c.merge_refusal.ensures)
+    (refusal c.args.old.now c.args.newer.now c.requires c.in-Err.fault c.in-Err.ensures)

@@ -1,0 +1,8 @@
+use Rattle.std.proofs.Common.{◌≡◌}
+use Rattle.std.specs.List.{list_all}
+use Rattle.cs_tree.specs.Cover.{is_covered}
+use Rattle.cs_tree.specs.PathSet as set
+use Rattle.cs_merge.proofs.replacing.covers_all.Given as goal
+
+abbrev pub invariant-texts : goal.invariant-texts
+invariant-texts l = list_all (is_covered (set.from_list l.cover)) l.text-iterator ≡ list_all (is_covered (set.from_list l.cover)) l.fn.texts

@@ -1,0 +1,82 @@
+// Where the merge is the newer index as a whole.
+ghost use Rattle.std.specs.Prelude.{◌≡◌, true, slice_get, IfOk};
+ghost use Rattle.std.specs.List.{list_all};
+ghost use Rattle.std.specs.Option.{option_map_or};
+ghost use Rattle.cs_tree.specs.Cover.{is_covered};
+ghost use Rattle.cs_tree.specs.PathSet as set;
+ghost use Rattle.cs_index.specs.Encoding.{ListEntry};
+ghost use Rattle.cs_index.specs.OpenedParts.{are_whole, ids_read, paths_in};
+ghost use Rattle.cs_merge.specs.ListsFault.{are_whole_from};
+ghost use Rattle.cs_merge.specs.Replacing.{is_replaced as is_replaced'};
+
+use crate::covering::Cover;
+use cs_index::{Index, Postings, Texts};
+use std::alloc::{AllocError, Global};
+
+/// Whether the newer paths cover all paths and names of the old index. Then the merge is the newer
+/// index, as `laws::what_is_covered_is_replaced` says, unless a list is damaged: see `is_whole`.
+pub fn is_replaced(alloc: Global, old: &Index<'_>, newer: &Index<'_>) -> Result<bool, AllocError>
+    ensures { IfOk result (λ replaced. replaced ≡ is_replaced' (paths_in newer.now) old.now) }
+{
+    let cover = Cover::new(alloc, newer)?;
+    if !covers_all(&cover, old.paths()) {
+        return Ok(false);
+    }
+    Ok(covers_all(&cover, old.names()))
+}
+
+/// Whether each text is covered.
+fn covers_all(cover: &Cover<'_>, texts: Texts<'_>) -> bool
+    ensures { result ≡ list_all (is_covered (set.from_list cover.now)) texts.entry }
+{
+    'texts: for text in texts {
+        if !cover.covers(text) {
+            return false;
+        }
+    }
+    true
+}
+
+/// Whether no posting list is damaged. Each list is read to its end; no id is kept.
+pub fn is_whole(index: &Index<'_>) -> bool
+    ensures { result ≡ are_whole index.now }
+{
+    is_whole_from(index, 0)
+}
+
+/// Whether the lists from a position on are whole.
+pub(crate) fn is_whole_from(index: &Index<'_>, start: u32) -> bool
+    ensures { result ≡ are_whole_from index.now start }
+{
+    'positions: for position in start..index.lists() {
+        if !is_whole_at(index, position) {
+            return false;
+        }
+    }
+    true
+}
+
+/// Whether the list at the position is whole, if there is one.
+fn is_whole_at(index: &Index<'_>, position: u32) -> bool
+    ensures { result ≡ option_map_or (λ (e : ListEntry). (ids_read index.now e).whole)
+        (slice_get index.now.entries position) true }
+{
+    match index.list_at(position) {
+        Some((_trigram, ids)) => is_whole_list(ids),
+        None => true,
+    }
+}
+
+/// Whether the list is whole. Most of it is skipped without decoding.
+fn is_whole_list(ids: Postings<'_>) -> bool
+    ensures { result ≡ ids.entry.whole }
+{
+    let mut rest = ids;
+    'ids: while let Some(answer) = rest.next() {
+        let Ok(id) = answer else {
+            return false;
+        };
+        let _skipped = rest.encoded_run(id, u32::MAX);
+    }
+    true
+}

@@ -1,7 +1,7 @@
 /* codesearch.h - search trees of source code by regular expressions, through an index of trigrams.
  *
- * The library is the part of codesearch that is proved, without its tools: patterns, lines, candidates of an index, the
- * scan of a text, and the building and merging of indexes. It opens no file, prints nothing and starts no thread.
+ * The library is the part of codesearch that is proved, without its tools: patterns, lines, reports, candidates of an index,
+ * the scan of a text, and the building and merging of indexes. It opens no file, prints nothing and starts no thread.
  *
  * Bytes    An index, a pattern, a name, a line, a block, a text are a pointer and a length, and belong to the caller.
  *          The library keeps nothing of them after a call. No pointer is null, also where the length is 0.
@@ -9,18 +9,18 @@
  *          fills a slot wants an empty one, and each other call a filled one of its kind; else the answer is CS_MISUSE and
  *          nothing changes. cs_*_free empties a slot, and does nothing to an empty one. A slot may be moved; a copy of a
  *          filled slot is not a second one, and only one of them may be used.
- * Results  0 or more: done. Below 0: a code, and what the call says is left.
+ * Results  0 or more: done. Below 0: a code. Each call says what it then leaves as it was.
  * Buffers  A call that copies says how much there is, and copies if all fits. Else the answer is CS_ROOM, and the buffer
  *          stays as it was: call again with enough room.
  * Threads  There is no state outside slots. Any number of threads may use the same index bytes at once. A slot is in one
- *          call at a time, and stays on its thread: each thread compiles a pattern of its own (some 50 us).
- * Memory   malloc, realloc and free of the process. A call after which memory is refused answers CS_MEMORY. No call may be
- *          made in a signal handler.
+ *          call at a time, and stays on its thread: each thread compiles a pattern of its own (48 us on average).
+ * Memory   malloc, realloc and free of the process. A call that is refused memory answers CS_MEMORY. No call may be made in
+ *          a signal handler.
  * Aliasing What a call writes (slots, buffers, counts) overlaps nothing else that the call is given.
  *
  * Proved   Each call that is given what it wants ends, stays within its buffers, and answers and leaves what is said at it:
- *          docs/PROMISES.md has each promise. The functions in C below are tested only. That a call is given what it wants
- *          is tested for slots alone.
+ *          docs/PROMISES.md has each promise. The functions in C below are tested only. Of what a call wants, it tests slots
+ *          alone.
  * Trusted  This header against those contracts, the static inline functions below, malloc (blocks aligned to 16), a stack
  *          of 256 KB or more, and index bytes that do not change after cs_index_check.
  */
@@ -30,7 +30,6 @@
 #include <stdbool.h>
 #include <stddef.h>
 #include <stdint.h>
-#include <stdio.h>
 #include <stdlib.h>
 #include <string.h>
 
@@ -47,7 +46,6 @@ enum {
     CS_ROOM = -3,     /* the buffer is too small: the length says how much is wanted */
     CS_NO_ENTRY = -4, /* no name, path or byte has this number */
     CS_MISUSE = -5,   /* the slot is empty, is filled, or holds something of another kind */
-    CS_TOO_LONG = -6, /* a text for cs_grep has more than 2^30 bytes */
     /* a text is no pattern: the offset says where */
     CS_P_NO_OPERAND = -20,     /* *a */
     CS_P_STACKED_REPEAT = -21, /* a** */
@@ -81,13 +79,14 @@ enum {
     CS_M_UNCOVERED = -81 /* no path of the newer index covers one of its names */
 };
 
-/* why an index leaves a text out: the answers of cs_text_scan and cs_builder_add above 0 */
+/* why an index leaves a text out, by its first byte that has a reason: the answers of cs_text_scan and cs_builder_add above 0.
+ * Some texts that are not UTF-8 pass */
 enum {
     CS_SKIP_NUL = 1,           /* a byte 0 */
-    CS_SKIP_UTF8 = 2,          /* not UTF-8 */
+    CS_SKIP_UTF8 = 2,          /* a byte that may not follow the one before it in UTF-8 (docs/FORMAT.md) */
     CS_SKIP_TOO_LONG = 3,      /* more than 2^30 bytes */
-    CS_SKIP_LONG_LINE = 4,     /* a line of more than 2000 bytes */
-    CS_SKIP_MANY_TRIGRAMS = 5 /* more than 20000 different trigrams */
+    CS_SKIP_LONG_LINE = 4,     /* a line of more than 2000 bytes with its newline */
+    CS_SKIP_MANY_TRIGRAMS = 5  /* more than 20000 different trigrams, and no other reason */
 };
 
 /* how cs_grep prints: the options of cgrep */
@@ -143,8 +142,9 @@ void cs_pattern_free(cs_pattern *slot);
 /* 1 if some part of the line matches, 0 if none does, or CS_MEMORY, CS_MISUSE. A newline is a byte like another. */
 int32_t cs_pattern_is_match(cs_pattern *slot, const uint8_t *line, size_t len);
 
-/* 1 and the first matching line of those that begin at `from`, or 0, which leaves `line`. The last line needs no newline.
- * To find all of them, call again with end + 1. CS_MEMORY, CS_MISUSE. */
+/* 1 and the first matching line of the bytes from `from` on, or 0 if none of their lines matches, which leaves `line`. A line
+ * begins at `from` and after each newline, and the last one needs no newline; from `len` on there is none. To find all of them,
+ * begin at 0, and go on at line.end + 1. CS_MEMORY and CS_MISUSE leave `line` too. */
 int32_t cs_pattern_next(cs_pattern *slot, const uint8_t *block, size_t len, size_t from, cs_line *line);
 
 /* The matching lines of a block in their order, and how many there are. CS_ROOM writes the first `room` lines of them.
@@ -154,10 +154,18 @@ int32_t cs_pattern_lines(cs_pattern *slot, const uint8_t *block, size_t len, cs_
 /* The number of matching lines of a block: faster than cs_pattern_lines. CS_MEMORY and CS_MISUSE leave the count. */
 int32_t cs_pattern_count(cs_pattern *slot, const uint8_t *block, size_t len, uint64_t *count);
 
-/* The ids of the names whose text may have a matching line, ascending, and how many there are: a text that was indexed
- * under another name has none. CS_OK, CS_ROOM; CS_I_LIST, CS_MEMORY and CS_MISUSE leave all. */
+/* The ids of the names whose text may have a matching line, ascending, and how many there are. No text that was indexed under
+ * another name has one. CS_OK, CS_ROOM; CS_I_LIST, CS_MEMORY and CS_MISUSE leave all. */
 int32_t cs_pattern_candidates(cs_pattern *slot, const uint8_t *index, size_t len, uint32_t *ids, size_t room,
                               size_t *count);
+
+/* ---- reports */
+
+/* The lines that cgrep prints for an input with this name and text, which may have any length: `style` is a sum of CS_COUNT,
+ * CS_LIST, CS_NUMBER and CS_BARE, and there are no bytes if no line matches. CS_OK, CS_ROOM; CS_NOT_UTF8 (of the name),
+ * CS_MEMORY and CS_MISUSE leave all. */
+int32_t cs_grep(cs_pattern *slot, const uint8_t *name, size_t name_len, const uint8_t *text, size_t len, uint32_t style,
+                uint8_t *out, size_t room, size_t *out_len);
 
 /* ---- texts */
 
@@ -167,8 +175,8 @@ int32_t cs_text_scan(const uint8_t *text, size_t len);
 /* ---- building
  * Names are added in ascending order of their bytes. */
 
-/* Fills an empty slot with a builder over paths, each followed by a NUL. CS_OK, or CS_NOT_UTF8, CS_B_PATHS, CS_MEMORY,
- * which leave it empty, or CS_MISUSE. */
+/* Fills an empty slot with a builder over paths, which ascend, and none of which covers another. A NUL ends each path, and the
+ * last one may lack it. CS_OK, or CS_NOT_UTF8, CS_B_PATHS, CS_MEMORY, which leave the slot empty, or CS_MISUSE. */
 int32_t cs_builder_new(const uint8_t *paths, size_t len, cs_builder *slot);
 
 /* Adds a name with the trigrams of its text. CS_OK; a reason CS_SKIP_*; or CS_NOT_UTF8 (of the name), CS_B_NAME,
@@ -212,7 +220,6 @@ static inline const char *cs_error_text(int32_t code) {
     case CS_ROOM: return "the buffer is too small";
     case CS_NO_ENTRY: return "no such entry";
     case CS_MISUSE: return "the slot is empty, filled, or of another kind";
-    case CS_TOO_LONG: return "the text is too long";
     case CS_P_NO_OPERAND: return "nothing to repeat";
     case CS_P_STACKED_REPEAT: return "a repeat of a repeat";
     case CS_P_BAD_REPEAT: return "a bad count of a repeat";
@@ -242,58 +249,6 @@ static inline const char *cs_error_text(int32_t code) {
     case CS_M_UNCOVERED: return "name outside the paths";
     default: return code < 0 ? "unknown code" : "no error";
     }
-}
-
-/* Appends bytes where there is room, and counts them. */
-static inline void cs_put(uint8_t *out, size_t room, size_t *size, const void *bytes, size_t len) {
-    if (len && *size <= room && len <= room - *size) memcpy(out + *size, bytes, len);
-    *size += len;
-}
-
-/* What cgrep prints for an input with this name and these bytes; `style` is a sum of CS_COUNT, CS_LIST, CS_NUMBER, CS_BARE.
- * CS_OK, or CS_ROOM, which may have written into the buffer. CS_TOO_LONG, CS_MEMORY and CS_MISUSE leave out_len. */
-static inline int32_t cs_grep(cs_pattern *slot, const uint8_t *name, size_t name_len, const uint8_t *text, size_t len,
-                              uint32_t style, uint8_t *out, size_t room, size_t *out_len) {
-    size_t size = 0, from = 0, at = 0, number = 1;
-    char digits[24];
-    uint64_t count = 0;
-    int32_t code = 0;
-    cs_line line = {0, 0};
-    if (len > (size_t)1 << 30) return CS_TOO_LONG;
-    if ((style & CS_COUNT) && !(style & CS_LIST)) {
-        code = cs_pattern_count(slot, text, len, &count);
-        if (code < 0) return code;
-        if (count) {
-            cs_put(out, room, &size, name, name_len);
-            cs_put(out, room, &size, digits, (size_t)snprintf(digits, sizeof digits, ": %llu\n", (unsigned long long)count));
-        }
-    } else {
-        while ((code = cs_pattern_next(slot, text, len, from, &line)) == 1) {
-            if (style & CS_LIST) {
-                cs_put(out, room, &size, name, name_len);
-                cs_put(out, room, &size, "\n", 1);
-                break;
-            }
-            if (!(style & CS_BARE)) {
-                cs_put(out, room, &size, name, name_len);
-                cs_put(out, room, &size, ":", 1);
-            }
-            if (style & CS_NUMBER) {
-                const uint8_t *newline;
-                while (at < line.start && (newline = (const uint8_t *)memchr(text + at, '\n', line.start - at))) {
-                    at = (size_t)(newline - text) + 1;
-                    number++;
-                }
-                cs_put(out, room, &size, digits, (size_t)snprintf(digits, sizeof digits, "%zu:", number));
-            }
-            cs_put(out, room, &size, text + line.start, line.end - line.start);
-            cs_put(out, room, &size, "\n", 1);
-            from = line.end + 1;
-        }
-        if (code < 0) return code;
-    }
-    *out_len = size;
-    return size > room ? CS_ROOM : CS_OK;
 }
 
 /* The caller's reading, for cs_search: 1 and the text of the name with this id, which stays valid until the next call; 0 to

@@ -1,17 +1,50 @@
 #!/bin/sh
 # Measures the library as a matcher beside RE2 and Rust's regex: the lines of a file in which each pattern matches.
 # usage: scripts/bench_library.sh FILE [PATTERNS]
+#        scripts/bench_library.sh -q INDEX FOLDER COMMAND..
 # PATTERNS has a pattern on each line. LIBRARY is the folder of the archive (out/lib), and ROUNDS the number of interleaved
 # rounds (5): the least processor time counts. A peer that is not installed is left out: libre2-dev and
 # librust-regex-dev of Debian. Each line of the table has the pattern, the number of lines, and for each matcher ms, with
 # `*` where the number is another one.
+# With -q: 1,000 queries of words of the files in FOLDER, over an index of it, through examples/server.c, and by running each
+# COMMAND (as csearch, or 'codesearch csearch') with -n for each: user and system time in s, and the number of lines.
 
 here=$(cd "$(dirname -- "$0")/.." && pwd)
-file=$(readlink -f -- "$1") && [ -f "$file" ] || { echo 'bench_library: no file' >&2; exit 2; }
-patterns=${2:-$here/scripts/bench_library/patterns}
 library=${LIBRARY:-$here/out/lib}
 fresh=$(mktemp -d) || exit 2
 trap 'rm -rf "$fresh"' EXIT
+
+# queries INDEX FOLDER COMMAND..: six words of ten, and a call, an alternative, a class and two words on one line
+queries() {
+    index=$1 folder=$2
+    shift 2
+    cc -O2 -I"$here/include" -o "$fresh/server" "$here/examples/server.c" "$library/libcodesearch.a" || exit 2
+    find "$folder" -type f | LC_ALL=C sort | awk 'NR % 50 == 0' | xargs -d '\n' cat | LC_ALL=C grep -ao '[A-Za-z_]\{5,20\}' \
+        | LC_ALL=C sort -u > "$fresh/words"
+    awk -v step=$(($(wc -l < "$fresh/words") / 1000)) '
+        NR % step { before = $0; next }
+        { kind = n++ % 10 }
+        n > 1000 { exit }
+        kind < 6 { print }
+        kind == 6 { print $0 " ?\\(" }
+        kind == 7 { print $0 "|" before }
+        kind == 8 { print "[a-z]+_" $0 }
+        kind == 9 { print substr($0, 1, 4) ".*" before }' "$fresh/words" > "$fresh/queries"
+    export CSEARCHINDEX="$index"
+    for command in server "$@"; do
+        [ "$command" = server ] && run="$fresh/server $index" || run="xargs -d '\n' -n 1 $command -n"
+        (eval "$run" < "$fresh/queries" > "$fresh/lines" 2> /dev/null; times > "$fresh/times")
+        printf '%s\t%s\t%s\n' "$command" "$(tail -1 "$fresh/times")" "$(grep -vc '^[0-9]* lines$' "$fresh/lines")"
+    done
+}
+
+if [ "$1" = -q ]; then
+    shift
+    queries "$@"
+    exit
+fi
+file=$(readlink -f -- "$1") && [ -f "$file" ] || { echo 'bench_library: no file' >&2; exit 2; }
+patterns=${2:-$here/scripts/bench_library/patterns}
 source=$here/scripts/bench_library
 
 cc -O2 -I"$here/include" -o "$fresh/codesearch" "$source/codesearch.c" "$library/libcodesearch.a" || exit 2

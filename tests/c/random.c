@@ -1,5 +1,5 @@
-/* Random patterns, by the library and by the program: the same report, or a syntax error in both.
- * usage: random PROGRAM FILE COUNT [SEED] */
+/* Random patterns, texts and styles, by the library and by the program: the same report, or a syntax error in both.
+ * usage: random PROGRAM FILE COUNT [SEED]    FILE is written, and gets each text */
 #include "check.h"
 #include <fcntl.h>
 #include <spawn.h>
@@ -14,18 +14,29 @@ static unsigned below(unsigned n) {
     return (unsigned)((state >> 33) % n);
 }
 
-static size_t random_pattern(char *out) {
-    static const char *const parts[] = {"a", "b", "ab", "err", "x", " ", ".", "[a-c]", "[^a]", "(", ")", "|", "*", "+",
-                                        "?", "{2}", "{1,3}", "^", "$", "\\b", "\\w", "\\d", "\\s", "(?i)", "(?:", "\xc3\xa9",
-                                        "\\.", "[[:alpha:]]", "\\pL", "[", "\\8", "=", "0"};
+static const char *const of_patterns[] = {"a", "b", "ab", "err", "x", " ", ".", "[a-c]", "[^a]", "(", ")", "|", "*", "+",
+                                          "?", "{2}", "{1,3}", "^", "$", "\\b", "\\w", "\\d", "\\s", "(?i)", "(?:",
+                                          "\xc3\xa9", "\\.", "[[:alpha:]]", "\\pL", "[", "\\8", "=", "0"};
+static const char *const of_texts[] = {"a", "b", "ab", "err", "x", " ", "\n", "\n", "\n", "A", "E", "0", "=", "(b)",
+                                       "\xc3\xa9", "\xff", "\t", "."};
+#define PARTS(list) list, sizeof list / sizeof *list
+
+/* a text of so many random parts */
+static size_t random_text(char *out, const char *const *parts, size_t kinds, unsigned count) {
     size_t len = 0;
-    for (unsigned n = 1 + below(9); n; n--) {
-        const char *part = parts[below(sizeof parts / sizeof *parts)];
+    for (; count; count--) {
+        const char *part = parts[below((unsigned)kinds)];
         memcpy(out + len, part, strlen(part));
         len += strlen(part);
     }
     out[len] = 0;
     return len;
+}
+
+/* a file with these bytes */
+static void write_file(const char *name, const void *bytes, size_t len) {
+    int file = open(name, O_WRONLY | O_CREAT | O_TRUNC, 0600);
+    if (file < 0 || write(file, bytes, len) != (ssize_t)len || close(file)) exit(2);
 }
 
 /* runs the program, reads what it prints, and returns its status */
@@ -50,35 +61,40 @@ static int run(char *const *words, uint8_t *out, size_t room, size_t *len) {
 }
 
 int main(int argc, char **argv) {
-    enum { ROOM = 1 << 20 };
+    enum { ROOM = 1 << 18 };
     if (argc < 4) return 2;
-    uint8_t *text = (uint8_t *)malloc(ROOM), *ours = (uint8_t *)malloc(ROOM), *theirs = (uint8_t *)malloc(ROOM);
-    int file = open(argv[2], O_RDONLY);
-    ssize_t size = read(file, text, ROOM);
-    close(file);
+    static uint8_t text[ROOM], ours[ROOM], theirs[ROOM];
     state = argc > 4 ? strtoull(argv[4], 0, 0) : 88172645463325252ull;
     long matched = 0, refused = 0;
     for (long i = 0; i < atol(argv[3]); i++) {
         char pattern[128];
-        size_t pattern_len = random_pattern(pattern), len = 0, their_len = 0, at;
+        size_t pattern_len = random_text(pattern, PARTS(of_patterns), 1 + below(9)), len = 0, their_len = 0, at;
+        size_t size = random_text((char *)text, PARTS(of_texts), below(4) ? below(200) : below(10000));
         bool fold = below(4) == 0;
+        uint32_t style = below(4) ? CS_NUMBER : below(16);
         cs_pattern slot = CS_EMPTY;
         int32_t code = cs_pattern_compile((const uint8_t *)pattern, pattern_len, fold, &slot, &at);
-        if (!code) code = cs_grep(&slot, BYTES(argv[2]), text, (size_t)size, CS_NUMBER, ours, ROOM, &len);
+        if (!code) code = cs_grep(&slot, BYTES(argv[2]), text, size, style, ours, ROOM, &len);
         if (!code) {
             uint64_t count = 0;
             cs_line line;
-            size_t from = 0, lines = 0;
-            CHECK(0, cs_pattern_count(&slot, text, (size_t)size, &count));
-            while (cs_pattern_next(&slot, text, (size_t)size, from, &line) == 1) from = line.end + 1, lines++;
+            size_t from = 0, lines = 0, reported = 0;
+            CHECK(0, cs_pattern_count(&slot, text, size, &count));
+            while (cs_pattern_next(&slot, text, size, from, &line) == 1) from = line.end + 1, lines++;
             CHECK(count, lines);
-            for (size_t k = 0; k < len; k++) lines -= ours[k] == '\n';
-            CHECK(0, lines);
+            for (size_t k = 0; k < len; k++) reported += ours[k] == '\n';
+            CHECK(style & (CS_LIST | CS_COUNT) ? lines > 0 : lines, reported);
         }
         cs_pattern_free(&slot);
-        char *folded[] = {argv[1], "cgrep", "-n", "-i", "--", pattern, argv[2], 0};
-        char *plain[] = {argv[1], "cgrep", "-n", "--", pattern, argv[2], 0};
-        int status = run(fold ? folded : plain, theirs, ROOM, &their_len);
+        static char *const options[] = {"-c", "-l", "-n", "-h"};
+        char *words[11] = {argv[1], "cgrep"};
+        int used = 2;
+        for (int k = 0; k < 4; k++)
+            if (style >> k & 1) words[used++] = options[k];
+        if (fold) words[used++] = "-i";
+        words[used++] = "--", words[used++] = pattern, words[used] = argv[2];
+        write_file(argv[2], text, size);
+        int status = run(words, theirs, ROOM, &their_len);
         long before = failures;
         if (code < 0) {
             refused++;
@@ -89,9 +105,8 @@ int main(int argc, char **argv) {
             CHECK(len, their_len);
             CHECK(0, len == their_len ? memcmp(ours, theirs, len) : 1);
         }
-        if (failures != before) printf("  the pattern: %s%s\n", fold ? "(folded) " : "", pattern);
+        if (failures != before) printf("  the pattern: %s%s, the style: %u\n", fold ? "(folded) " : "", pattern, style);
     }
     printf("%ld matched, %ld refused\n", matched, refused);
-    free(text), free(ours), free(theirs);
     return summary();
 }

@@ -303,34 +303,51 @@ static void merging(void) {
     for (size_t i = 0; i < sizeof all / sizeof *all; i++) free((void *)all[i].bytes);
 }
 
+/* a report of all styles, into a buffer of its size and of one byte less */
 static void reports(void) {
-    static const struct {
-        uint32_t style;
-        const char *wanted;
-    } rows[] = {
-        {0, "n:ab\nn:b\n"},
-        {CS_COUNT, "n: 2\n"},
-        {CS_LIST, "n\n"},
-        {CS_NUMBER, "n:1:ab\nn:3:b\n"},
-        {CS_BARE, "ab\nb\n"},
-        {CS_NUMBER | CS_BARE, "1:ab\n3:b\n"},
-        {CS_LIST | CS_COUNT, "n\n"},
-    };
+    static const char *const lines[] = {"n:ab\nn:b\n", "n:1:ab\nn:3:b\n", "ab\nb\n", "1:ab\n3:b\n"};
+    static const char *const same[] = {"ab\nx\nb", "ab\nx\nb\n"};
     cs_pattern slot = CS_EMPTY;
+    cs_builder builder = CS_EMPTY;
     size_t at, len = 99;
-    uint8_t out[64];
+    uint8_t out[64], before[64];
+    memset(before, 'x', sizeof before);
+    memset(out, 'x', sizeof out);
     CHECK(CS_MISUSE, cs_grep(&slot, BYTES("n"), BYTES("b"), 0, out, 64, &len));
+    CHECK(CS_OK, cs_builder_new(BYTES(""), &builder));
+    CHECK(CS_MISUSE, cs_grep((cs_pattern *)&builder, BYTES("n"), BYTES("b"), 0, out, 64, &len));
+    cs_builder_free(&builder);
     CHECK(CS_OK, cs_pattern_compile(BYTES("b"), false, &slot, &at));
-    for (size_t i = 0; i < sizeof rows / sizeof *rows; i++) {
-        size_t size = strlen(rows[i].wanted);
-        memset(out, 'x', sizeof out);
-        CHECK(CS_ROOM, cs_grep(&slot, BYTES("n"), BYTES("ab\nx\nb"), rows[i].style, out, size - 1, &len));
-        CHECK(size, len);
-        CHECK('x', out[size - 1]);
-        CHECK(CS_OK, cs_grep(&slot, BYTES("n"), BYTES("ab\nx\nb"), rows[i].style, out, size, &len));
-        CHECK(0, memcmp(out, rows[i].wanted, size));
-        CHECK('x', out[size]);
+    CHECK(CS_NOT_UTF8, cs_grep(&slot, BYTES("\xff"), BYTES("b"), 0, out, 64, &len));
+    CHECK(99, len);
+    CHECK(0, memcmp(out, before, 64));
+    for (uint32_t style = 0; style < 32; style++) {
+        const char *wanted = style & CS_LIST ? "n\n" : style & CS_COUNT ? "n: 2\n" : lines[style / 4 % 4];
+        size_t size = strlen(wanted);
+        for (int i = 0; i < 2; i++) {
+            memset(out, 'x', sizeof out);
+            CHECK(CS_ROOM, cs_grep(&slot, BYTES("n"), BYTES(same[i]), style, out, size - 1, &len));
+            CHECK(size, len);
+            CHECK(0, memcmp(out, before, 64));
+            CHECK(CS_OK, cs_grep(&slot, BYTES("n"), BYTES(same[i]), style, out, size, &len));
+            CHECK(size, len);
+            CHECK(0, memcmp(out, wanted, size));
+            CHECK(0, memcmp(out + size, before, 64 - size));
+        }
+        CHECK(CS_OK, cs_grep(&slot, BYTES("n"), BYTES("a\n\nc"), style, out, 0, &len));
+        CHECK(0, len);
+        len = 99;
+        CHECK(CS_OK, cs_grep(&slot, BYTES("n"), BYTES(""), style, out, 0, &len));
+        CHECK(0, len);
     }
+    CHECK(CS_OK, cs_grep(&slot, BYTES(""), (const uint8_t *)"\0b\xff", 3, 0, out, 64, &len));
+    CHECK(5, len);
+    CHECK(0, memcmp(out, ":\0b\xff\n", 5));
+    cs_pattern_free(&slot);
+    CHECK(CS_OK, cs_pattern_compile(BYTES("^$"), false, &slot, &at));
+    CHECK(CS_OK, cs_grep(&slot, BYTES("n"), BYTES("\na\n\n"), CS_NUMBER, out, 64, &len));
+    CHECK(10, len);
+    CHECK(0, memcmp(out, "n:1:\nn:3:\n", 10));
     cs_pattern_free(&slot);
 }
 

@@ -1,7 +1,7 @@
 #!/bin/sh
 # Tests the library for C and Rust: C programs under ASan and UBSan, the example of docs/USE.md, and the Rust crate.
 # usage: tests/shell/c_library.sh PROGRAM
-# RANDOM_PATTERNS is the number of random patterns that the library and the program are both asked (now 1000).
+# RANDOM_PATTERNS is the number of random patterns and texts that the library and the program are both asked (now 1000).
 
 . "$(dirname -- "$0")/library.sh"
 
@@ -27,7 +27,6 @@ cc $checked "$fresh/empty.c" -o "$fresh/empty" 2> /dev/null && "$fresh/empty" ||
 for test in rows threads random; do compiles $test tests/c/$test.c $checked; done
 holds "'$fresh/rows'"
 holds "'$fresh/threads'"
-printf 'a line\nab abc xyz = 0\n\nerr\303\251 E\n(b) a.b aab\n\tABBA 12\nab\nba=b  a\nlast' > "$fresh/text"
 holds "'$fresh/random' '$program' '$fresh/text' ${RANDOM_PATTERNS:-1000}"
 
 # ---- the shared object has the exports of the header, and nothing else -------------------------------------------------------

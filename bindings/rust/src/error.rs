@@ -9,8 +9,6 @@ pub enum Error {
     Memory,
     /// A name or a path is not UTF-8.
     NotUtf8,
-    /// A text to report on has more than 2^30 bytes.
-    TooLong,
     /// A text is no pattern; the offset in bytes says where.
     Pattern(PatternFault, usize),
     /// Bytes are no index, or a posting list is damaged.
@@ -108,7 +106,6 @@ impl Error {
         match code {
             -1 => Error::Memory,
             -2 => Error::NotUtf8,
-            -6 => Error::TooLong,
             _ => PatternFault::of(code)
                 .map(|fault| Error::Pattern(fault, offset))
                 .or_else(|| IndexFault::of(code).map(Error::Index))
@@ -124,7 +121,6 @@ impl fmt::Display for Error {
         match self {
             Error::Memory => out.write_str("out of memory"),
             Error::NotUtf8 => out.write_str("not UTF-8"),
-            Error::TooLong => out.write_str("the text is too long"),
             Error::Pattern(fault, offset) => write!(out, "bad pattern at byte {offset}: {fault}"),
             Error::Index(fault) => write!(out, "bad index: {fault}"),
             Error::Build(fault) => fault.fmt(out),

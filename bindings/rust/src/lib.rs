@@ -1,5 +1,5 @@
 //! Searches source trees by regular expressions through an index of trigrams: safe functions over `libcodesearch`, whose
-//! matcher, reader, builder and merge are proved.
+//! matcher, reports, reader, builder and merge are proved.
 //!
 //! An [`Index`] borrows its bytes and can be shared by threads. A [`Pattern`] keeps a cache that its matches change, and a
 //! [`Builder`] an index under construction: neither is `Send` or `Sync`, so that each thread makes its own. (The library
@@ -191,40 +191,13 @@ impl Pattern {
         })
     }
 
-    /// What `cgrep` prints for an input with this name and text.
+    /// The lines that `cgrep` prints for an input with this name and text.
     pub fn grep(&mut self, name: &str, text: &[u8], style: Style) -> Result<Vec<u8>, Error> {
-        let mut out = Vec::new();
-        if text.len() > 1 << 30 {
-            return Err(Error::TooLong);
-        }
-        if style.count && !style.list {
-            let count = self.count(text)?;
-            if count > 0 {
-                out.extend_from_slice(format!("{name}: {count}\n").as_bytes());
-            }
-            return Ok(out);
-        }
-        let (mut from, mut number) = (0, 1);
-        while let Some(line) = self.next_line(text, from)? {
-            if style.list {
-                out.extend_from_slice(name.as_bytes());
-                out.push(b'\n');
-                break;
-            }
-            if !style.bare {
-                out.extend_from_slice(name.as_bytes());
-                out.push(b':');
-            }
-            if style.number {
-                number += text[from..line.start].iter().filter(|byte| **byte == b'\n').count();
-                out.extend_from_slice(format!("{number}:").as_bytes());
-                number += 1;
-            }
-            out.extend_from_slice(&text[line.clone()]);
-            out.push(b'\n');
-            from = line.end + 1;
-        }
-        Ok(out)
+        let style = [style.count, style.list, style.number, style.bare].map(u32::from);
+        let style = style[0] + 2 * style[1] + 4 * style[2] + 8 * style[3];
+        grown(4096, |out, room, len| unsafe {
+            sys::cs_grep(&mut self.slot, name.as_ptr(), name.len(), text.as_ptr(), text.len(), style, out, room, len)
+        })
     }
 }
 

@@ -28,6 +28,10 @@ extern "C" {
     pub fn cs_pattern_next(slot: *mut Slot, block: *const u8, len: usize, from: usize, line: *mut Line) -> i32;
     pub fn cs_pattern_count(slot: *mut Slot, block: *const u8, len: usize, count: *mut u64) -> i32;
     pub fn cs_pattern_candidates(slot: *mut Slot, index: *const u8, len: usize, ids: *mut u32, room: usize, count: *mut usize) -> i32;
+    pub fn cs_grep(
+        slot: *mut Slot, name: *const u8, name_len: usize, text: *const u8, len: usize, style: u32, out: *mut u8, room: usize,
+        out_len: *mut usize,
+    ) -> i32;
     pub fn cs_text_scan(text: *const u8, len: usize) -> i32;
     pub fn cs_builder_new(paths: *const u8, len: usize, slot: *mut Slot) -> i32;
     pub fn cs_builder_add(slot: *mut Slot, name: *const u8, name_len: usize, text: *const u8, len: usize) -> i32;

@@ -29,9 +29,6 @@ no_entry = negsuc 3
 abbrev pub misuse : ℤ
 misuse = negsuc 4
 
-abbrev pub too_long : ℤ
-too_long = negsuc 5
-
 -- -20 and below
 abbrev pub pattern_code : PatternFault → ℤ
 pattern_code pattern.NoOperand = negsuc 19

@@ -4,5 +4,6 @@ pub mod Codes
 pub mod Copies
 pub mod MatchingLines
 pub mod Patterns
+pub mod Reports
 pub mod Building
 pub mod Merging

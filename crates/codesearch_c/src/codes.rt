@@ -19,8 +19,6 @@ pub(crate) const ROOM: i32 = -3;
 pub(crate) const NO_ENTRY: i32 = -4;
 /// The slot is empty, filled, or holds something else.
 pub(crate) const MISUSE: i32 = -5;
-/// A text to report on has more than 2^30 bytes.
-pub(crate) const TOO_LONG: i32 = -6;
 
 /// The code of a pattern's error: -20 and below, in the order of the variants.
 pub(crate) fn pattern_code(fault: PatternFault) -> i32

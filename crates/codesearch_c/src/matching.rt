@@ -43,8 +43,8 @@ pub extern "C" fn cs_pattern_compile(
             slot.fill(held);
             OK
         }
-        Err((code, place)) => {
-            *at = place;
+        Err((code, offset)) => {
+            *at = offset;
             code
         }
     }

@@ -3,11 +3,15 @@ ghost use Rattle.std.specs.Prelude.{◌≡◌, ◌↔◌, None, IfOk, IfSome, On
 ghost use Rattle.cs_syntax.specs.Matching.{HasMatch};
 ghost use Rattle.cs_match.specs.Cached.{IsCacheOf};
 ghost use Rattle.cs_match.specs.Lines.{lines};
+ghost use Rattle.cs_tree.specs.MemStreams.{sink_model};
+ghost use Rattle.cs_search.specs.InputReport.{text_report};
 ghost use Rattle.codesearch_c.specs.MatchingLines.{ForEachTest, IsFirstLine, IsListing};
 
 use crate::held::HeldPattern;
 use crate::lines::{Line, count_lines, first_line, list_lines};
 use cs_match::{Cache, Matcher, Program};
+use cs_search::{GrepFault, Printer, grep_text};
+use cs_tree::MemSink;
 use std::alloc::{AllocError, Global};
 
 /// The kept cache of a program, or a new one.
@@ -68,6 +72,27 @@ impl HeldPattern {
         let found = list_lines(&mut matcher, block, lines);
         self.cache = Some(matcher.into_cache());
         Ok(found)
+    }
+
+    /// What is printed for a text.
+    pub(crate) fn report(
+        &mut self,
+        alloc: Global,
+        printer: &Printer<'_>,
+        text: &[u8],
+    ) -> Result<MemSink, GrepFault>
+        ensures printed { IfOk result (λ sink. ForEachTest self.old.pattern (λ has_match.
+            (sink_model sink).bytes
+            ≡ (text_report printer.now.style printer.now.name.now has_match text.now).output)) }
+        ensures same { self.new ≡ self.old }
+    {
+        let cache = cache_of(alloc, &mut self.cache, &self.program)?;
+        let mut matcher = Matcher::resume(&self.program, cache);
+        let mut sink = MemSink::new(alloc, usize::MAX);
+        let answer = grep_text(printer, text, &mut matcher, &mut sink);
+        self.cache = Some(matcher.into_cache());
+        answer?;
+        Ok(sink)
     }
 
     /// The number of matching lines.

@@ -1,7 +1,7 @@
 -- What jobs print.
-use Rattle.std.proofs.Common.{◌≡◌, ◌≢◌, ◌⊎◌, ℕ, Bool, false, cond, List, [], ◌∷◌, ◌++◌, length, refl, sym, ap, subst, ◌∙◌, inl, inr, arith, append_assoc, append-nil, Option, Some, None, Result, Ok}
+use Rattle.std.proofs.Common.{◌≡◌, ◌≢◌, ◌⊎◌, ℕ, Bool, false, cond, List, [], ◌∷◌, ◌++◌, length, refl, sym, ap, subst, ◌∙◌, inl, inr, arith, append_assoc, append-nil, Option, Some, None, Result, Ok, Err}
 use Rattle.cs_tree.specs.PathSet.{Paths}
-use Rattle.std.specs.Prelude.{codes, string_bytes, option_map}
+use Rattle.std.specs.Prelude.{codes, IfErr, string_bytes, option_map}
 use Rattle.std.specs.Option.{option_or}
 use Rattle.std.proofs.lemmas.Bool.{true≢false, ne_eqb, eq-eqb}
 use Rattle.cs_tree.specs.PathSet as set
@@ -10,6 +10,8 @@ use Rattle.cs_tree.specs.Failures.{count_if}
 use Rattle.cs_tree.specs.Snapshot.{Snapshot}
 use Rattle.cs_tree.specs.Sinks.{Grows, SinkModel}
 use Rattle.cs_index.specs.Opening.{opening}
+use Rattle.cs_index.specs.Stored.{OpensAs, StoredParts}
+use Rattle.cs_index.specs.ValidSections.{read_split}
 use Rattle.cs_index.specs.OpenedParts.{Parts}
 use Rattle.cs_index.specs.declared.fault.IndexFault.{IndexFault}
 use Rattle.cs_args.specs.declared.jobs.IndexJob.{IndexJob}
@@ -20,11 +22,12 @@ use Rattle.cs_tree.specs.TakesPrefix.{TakesPrefix}
 use Rattle.cs_cindex.specs.Diagnostics.{BeginLinesIn, PrintsLines, PrintsLinesPrefix}
 use Rattle.cs_cindex.specs.Files.{IsIndexingFault}
 use Rattle.cs_history.specs.JobKinds.{JobKind, lists, clears, walks}
-use Rattle.cs_cindex.specs.Refusals.{base, early_fault_of, early_walk_fault, base_fault, EarlyOr, IsOutputFault}
+use Rattle.cs_cindex.specs.Outcomes.{AnswersFor}
+use Rattle.cs_cindex.specs.Refusals.{base, early_fault_of, early_walk_fault, base_fault, list_fault, opening_fault, EarlyOr, IsOutputFault}
 use Rattle.cs_cindex.specs.JobPaths.{AreCleanFault, AreCleaned, starts}
 use Rattle.cs_cindex.specs.Next.{opening_paths, base_paths, paths_of_job}
 use Rattle.cs_args.specs.declared.fault.CindexFault.TheVariants.{NoIndex, BadIndex, Unsorted, TooLarge, BadPath, Write, Memory}
-use Rattle.cs_cindex.specs.Output.{JobTree, Output, path_lines, AreTooMany, IsMidway, WalkPrints, WalkPrintsPrefix, WalkPrintsSome, JobPrintsBy, is_failed_write}
+use Rattle.cs_cindex.specs.Output.{JobTree, Output, index_lines, path_lines, paths_lines, AreTooMany, IsMidway, WalkPrints, WalkPrintsPrefix, WalkPrintsSome, JobPrintsBy, is_failed_write}
 use Rattle.cs_tree.proofs.PrefixLemmas.{prefix_none, prefix_left, prefix_right}
 use Rattle.cs_tree.proofs.GrowsLemmas.{Grows-same}
 use Rattle.cs_cindex.proofs.WalkedPathLemmas.{walk_as_set, count_texts}
@@ -147,3 +150,20 @@ lines_cut done text all rest later a b c e h g f =
 
 pub lines_end : (done all : List ℕ) (rest : List (List ℕ)) (a b : Option SinkModel) → rest ≡ [] → done ++ path_lines rest ≡ all → Grows a b done → Grows a b all
 lines_end done all rest a b e h g = subst (Grows a b) (sym (append-nil done) ∙ ap (λ ps. done ++ path_lines ps) (sym e) ∙ h) g
+
+-- ---- the paths of an index in a store
+
+module _ (bytes : List ℕ) (stored : StoredParts) (opens : OpensAs bytes (Ok stored)) where
+  opens_there : opening bytes ≡ Ok opens.0
+  unfolding opening
+  opens_there = ap read_split opens.1.split ∙ opens.1.read
+
+  pub stored_lines : index_lines (Some bytes) ≡ path_lines stored.paths
+  stored_lines = ap paths_lines opens_there ∙ ap path_lines (sym opens.1.paths)
+
+  pub stored_answers : {A : Type 0} (r : Result A CindexFault) → IfErr r IsOutputFault → AnswersFor r (list_fault (Some bytes)) IsOutputFault
+  stored_answers {A} r is = subst (λ (early : Option CindexFault). AnswersFor r early IsOutputFault) (sym (ap (opening_fault (λ parts. None)) opens_there)) (by_result r is)
+    where
+      by_result : (r : Result A CindexFault) → IfErr r IsOutputFault → AnswersFor r None IsOutputFault
+      by_result (Ok done) is = refl
+      by_result (Err fault) is = is

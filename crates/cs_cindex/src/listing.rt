@@ -2,7 +2,7 @@
 ghost use Rattle.std.specs.Prelude.{◌≡◌, ◌++◌, ℕ, List, Some, Err, codes, true, IfErr};
 ghost use Rattle.cs_tree.specs.FailureCount.{count_after};
 ghost use Rattle.cs_tree.specs.WritesBytes.{WritesBytes};
-ghost use Rattle.cs_index.specs.Opening.{OpensAs};
+ghost use Rattle.cs_index.specs.Stored.{OpensAs};
 ghost use Rattle.cs_args.specs.Faults.{index_refusal};
 ghost use Rattle.cs_args.specs.declared.jobs.IndexJob.{IndexJob as IndexJob'};
 ghost use Rattle.std.specs.Option.{option_copied};

@@ -1,6 +1,6 @@
 -- The index as it is read, as a function: what bytes open as, or their error.
 -- docs/FORMAT.md, "The index as it is read".
-use Rattle.std.specs.Prelude.{◌≡◌, ℕ, zero, suc, ◌+◌, ◌-◌, ◌*◌, ◌/◌, ◌%◌, Bool, true, not, ◌&&◌, ◌||◌, nat_eq, nat_le, nat_lt, List, [], ◌∷◌, ◌++◌, length, map, slice_index, slice_range, if◌then◌else◌, Result, Ok, Err, ◌^◌, bytes_eq}
+use Rattle.std.specs.Prelude.{ℕ, zero, suc, ◌+◌, ◌-◌, ◌*◌, ◌/◌, ◌%◌, Bool, true, not, ◌&&◌, ◌||◌, nat_eq, nat_le, nat_lt, List, [], ◌∷◌, ◌++◌, length, map, slice_index, slice_range, if◌then◌else◌, Result, Ok, Err, ◌^◌, bytes_eq}
 use Rattle.cs_trigram.specs.Trigram.{closing_trigram}
 use Rattle.std.specs.List.{list_all, starts_with, ends_with, before_first, concat}
 use Rattle.std.specs.Str.{is_utf8}
@@ -10,7 +10,7 @@ use Rattle.cs_index.specs.declared.fault.IndexFault.TheVariants.{BadMagic, BadTr
 use Rattle.cs_index.specs.Encoding.{with_nul, starts_from, SectionBytes, magic, trailer_magic, ListEntry}
 use Rattle.cs_index.specs.Strings.{texts_in}
 use Rattle.cs_index.specs.OpenedParts.{Parts}
-use Rattle.cs_index.specs.Stored.{StoredParts, whole_of, EndsBy}
+use Rattle.cs_index.specs.declared.reading.section_offsets.SectionOffsets.{SectionOffsets}
 
 -- ---- numbers
 
@@ -87,6 +87,16 @@ split_at_offsets bytes a b c d e trailer =
       list_index = slice_range bytes e trailer;
     }) else Err BadOffsets
 
+-- the sections at these offsets
+abbrev pub sections_at : List ℕ → SectionOffsets → SectionBytes
+sections_at bytes s = record {
+  paths = slice_range bytes s.paths s.names;
+  names = slice_range bytes s.names s.postings;
+  postings = slice_range bytes s.postings s.name_index;
+  name_index = slice_range bytes s.name_index s.list_index;
+  list_index = slice_range bytes s.list_index s.trailer;
+}
+
 -- the sections at the offsets in the trailer
 abbrev pub split_before : List ℕ → ℕ → Result SectionBytes IndexFault
 split_before bytes at = split_at_offsets bytes (number_at bytes at) (number_at bytes (at + 4)) (number_at bytes (at + 8))
@@ -126,8 +136,3 @@ read_sections s =
 -- what the bytes open as
 unfoldable pub opening : List ℕ → Result Parts IndexFault
 opening bytes = elim (split_of bytes) [ Ok s ↦ read_sections s | Err fault ↦ Err fault ]
-
--- the bytes of a store open as this index, or with this error
-abbrev pub OpensAs : List ℕ → Result StoredParts IndexFault → Type 0
-OpensAs bytes (Ok stored) = (opening bytes ≡ Ok (whole_of bytes stored)) × EndsBy stored (length bytes)
-OpensAs bytes (Err fault) = opening bytes ≡ Err fault

@@ -1,13 +1,12 @@
 -- Posting lists that are read from a store by offset, in pieces.
 -- docs/FORMAT.md, "The index as it is read".
-use Rattle.std.specs.Prelude.{◌≡◌, ◌<◌, ◌≤◌, ◌^◌, ◌⊎◌, ℕ, ◌+◌, ◌-◌, Bool, true, List, [], ◌++◌, length, Option, Some, None, if◌then◌else◌, Vec}
+use Rattle.std.specs.Prelude.{◌≡◌, ◌<◌, ◌≤◌, ◌^◌, ◌⊎◌, ℕ, ◌+◌, ◌-◌, Bool, List, [], ◌++◌, length, Option, Some, None, if◌then◌else◌, Vec}
 use Rattle.std.specs.declared.alloc.Global.{Global}
 use Rattle.std.specs.List.{AllByRecursion}
 use Rattle.cs_tree.specs.Store.{part_of}
 use Rattle.cs_index.specs.AscendingIds.{BeginsFrom, max_ids}
 use Rattle.cs_index.specs.PostingLists.{Ids, before, onto, read_ids}
 use Rattle.cs_index.specs.OpenedParts.{Parts}
-use Rattle.cs_index.specs.Opening.{entries_in, is_list_index}
 use Rattle.cs_index.specs.declared.reading.stored_list.ListSection.{ListSection}
 
 -- A list that is read in part: the offset of its next byte in the store, the end of the section, and the bytes that
@@ -73,14 +72,12 @@ pub record IsListState (piece : Vec ℕ Global) (used start stop size next name_
   pub ids : next ≤ name_count
   pub bound : name_count < max_ids
 
--- The list index is valid for its section of posting lists.
+-- The section is short, and so are its ids.
 pub record IsSection (s : ListSection) : Type 0 where
-  pub entries : is_list_index s.room s.list_index.now ≡ true
   pub short : s.start + s.room < 2 ^ 63
   pub names : s.name_count < max_ids
 
--- The parts have the lists of this section of the bytes.
+-- The parts have the posting lists of this section of the bytes.
 pub record HasLists (bytes : List ℕ) (s : ListSection) (parts : Parts) : Type 0 where
-  pub entries : parts.entries ≡ entries_in s.list_index.now
   pub postings : parts.postings ≡ part_of bytes s.start s.room
   pub names : length parts.names ≡ s.name_count

@@ -1,22 +1,11 @@
 -- The steps of opening a stored index: section offsets, then sections.
-use Rattle.std.specs.Prelude.{◌≡◌, ◌≤◌, ◌<◌, ◌^◌, ◌&&◌, nat_eq, nat_le, nat_lt, ℕ, Bool, true, false, List, length, slice_range, Result, Ok, Err}
+use Rattle.std.specs.Prelude.{◌≡◌, ◌≤◌, ◌<◌, ◌^◌, ◌&&◌, nat_eq, nat_le, nat_lt, ℕ, Bool, true, false, List, length, Result, Ok, Err}
 use Rattle.cs_index.specs.declared.fault.IndexFault.{IndexFault}
 use Rattle.cs_index.specs.declared.fault.IndexFault.TheVariants.{BadOffsets}
 use Rattle.cs_index.specs.declared.reading.section_offsets.SectionOffsets.{SectionOffsets}
 use Rattle.std.specs.List.{ends_with}
 use Rattle.cs_index.specs.Encoding.{SectionBytes, trailer_magic}
-use Rattle.cs_index.specs.Opening.{are_section_offsets, split_of, number_at, read_sections}
-use Rattle.cs_index.specs.Stored.{StoredParts, whole_of}
-
--- the sections at these offsets
-abbrev pub sections_at : List ℕ → SectionOffsets → SectionBytes
-sections_at bytes s = record {
-  paths = slice_range bytes s.paths s.names;
-  names = slice_range bytes s.names s.postings;
-  postings = slice_range bytes s.postings s.name_index;
-  name_index = slice_range bytes s.name_index s.list_index;
-  list_index = slice_range bytes s.list_index s.trailer;
-}
+use Rattle.cs_index.specs.Opening.{are_section_offsets, split_of, number_at, sections_at}
 
 -- the last bytes of `len` bytes are a trailer
 abbrev pub is_tail : List ℕ → ℕ → Bool
@@ -50,8 +39,3 @@ IsSplitAt bytes (Err fault) = split_of bytes ≡ Err fault
 -- the sections with these posting lists
 abbrev pub with_lists : List ℕ → List ℕ → List ℕ → List ℕ → List ℕ → SectionBytes
 with_lists paths names name_index list_index postings = record { paths = paths; names = names; postings = postings; name_index = name_index; list_index = list_index }
-
--- the sections open as this index, or with this error
-abbrev pub SectionsOpenAs : List ℕ → SectionBytes → Result StoredParts IndexFault → Type 0
-SectionsOpenAs bytes sections (Ok stored) = read_sections sections ≡ Ok (whole_of bytes stored)
-SectionsOpenAs bytes sections (Err fault) = read_sections sections ≡ Err fault

@@ -13,5 +13,4 @@ mod strings;
 mod varint;
 
 pub use builder::Builder;
-pub(crate) use numbers::write_entry;
 pub use sections::Sections;

@@ -3,14 +3,16 @@ use Rattle.std.proofs.Common.{◌≡◌, true, false, [], ◌∷◌, refl, ap, a
 use Rattle.std.specs.Prelude.{None}
 use mathlib.Core.Bool.{xor}
 use Rattle.std.proofs.lemmas.Bool.{both_ways}
-use Rattle.cs_syntax.specs.Matching.{Tree, one_of, one_char, cat, rep, none, more, word_edge, line_end}
+use Rattle.cs_syntax.specs.Matching.{Tree, empty, one_of, one_char, cat, alt, rep, none, more, word_edge, line_end}
+use Rattle.cs_syntax.specs.ByteSet.{union}
+use Rattle.cs_match.specs.Expansion.{expansion, optional}
 use Rattle.cs_match.specs.declared.look_around.LookAround.{LookAround}
 use Rattle.cs_match.specs.Lines.{lines, terminated_lines}
 use Rattle.cs_match.specs.PositionSet.{positions_of, intersect}
-use Rattle.cs_match.specs.Glushkov.{repeats, loop_ends}
+use Rattle.cs_match.specs.Glushkov.{repeats, loop_ends, accepts}
 use Rattle.cs_match.specs.Sequences.{firsts_of, lasts_of}
 use Rattle.cs_match.specs.Entered.{entered, entered_each, position_list, moved}
-use Rattle.cs_match.specs.Parts.{run, runs}
+use Rattle.cs_match.specs.Parts.{run, runs, optional_run}
 use Rattle.cs_match.specs.declared.position.Position.TheVariants.{Bytes, Begun, Taken}
 use Rattle.cs_syntax.specs.declared.char_step.CharStep.TheVariants.{Begins}
 use Rattle.cs_match.specs.Skipping.{AreWholeLines}
@@ -136,6 +138,18 @@ no_state_is_forgotten_where_there_is_room h = omega (arith, h.kept (omega arith)
 -- of a run the first position is entered with it, and each other one after the position before it
 entries_of_a_run : entered (run 3) true (true ∷ false ∷ true ∷ []) (record { first = false; last = false; edge = false }) ≡ true ∷ true ∷ false ∷ []
 entries_of_a_run = refl
+
+-- an optional run accepts where it can begin, with no position in the set
+optional_run_is_left : accepts (optional_run 2) true (false ∷ false ∷ []) (record { first = false; last = false; edge = false }) ≡ true
+optional_run_is_left = refl
+
+-- `(a|b)` is one set; `(a|)` has a branch that is none
+sets_are_joined : expansion (alt (more (one_of (true ∷ [])) (more (one_of (false ∷ true ∷ [])) none))) ≡ one_of (true ∷ true ∷ [])
+unfolding union
+sets_are_joined = refl
+
+set_or_nothing : expansion (optional (one_of (true ∷ []))) ≡ alt (more (one_of (true ∷ [])) (more empty none))
+set_or_nothing = refl
 
 -- a set of bytes and a set of characters
 three_positions : position_list (cat (more (one_of []) (more (one_char []) none))) ≡ Bytes [] ∷ Begun ∷ Taken [] ∷ []

@@ -1,10 +1,13 @@
 -- The expansion matches the same spans, and is expanded.
-use Rattle.std.proofs.Common.{◌≡◌, ℕ, zero, suc, ◌+◌, ◌-◌, ◌≤◌, inl, inr, Bool, true, false, List, refl, sym, subst, arith}
-use Rattle.std.specs.Prelude.{Option, Some, None, nat_le, ◌↔◌, if◌then◌else◌}
-use Rattle.std.proofs.lemmas.Bool.{le-leb, leb-true}
-use Rattle.cs_syntax.specs.Matching.{Tree, Trees, empty, one_of, one_char, cat, alt, rep, line_start, line_end, word_edge, not_word_edge, none, more, Chain, MatchesSpan, MatchesSequence, MatchesBranch, HasMatch}
+use Rattle.std.proofs.Common.{◌≡◌, ℕ, zero, suc, ◌+◌, ◌-◌, ◌≤◌, ◌⊎◌, inl, inr, Bool, true, false, List, refl, sym, ◌∙◌, subst, arith}
+use Rattle.std.specs.Prelude.{Option, Some, None, IfSome, nat_le, slice_index, ◌↔◌, if◌then◌else◌}
+use Rattle.std.specs.Option.{option_map_or}
+use Rattle.std.proofs.lemmas.Bool.{le-leb, leb-true, or_cases, or_left, or_right}
+use Rattle.cs_syntax.specs.Matching.{Tree, Trees, empty, one_of, one_char, cat, alt, rep, line_start, line_end, word_edge, not_word_edge, none, more, Chain, MatchesSpan, MatchesSequence, MatchesBranch, HasMatch, member}
+use Rattle.cs_syntax.specs.ByteSet.{union}
+use Rattle.cs_syntax.proofs.ByteSetLemmas.{member_union}
 use Rattle.cs_match.specs.Glushkov.{IsExpanded, AreExpanded}
-use Rattle.cs_match.specs.Expansion.{copies, optional, never, repeat_expansion, expansion, expansions}
+use Rattle.cs_match.specs.Expansion.{copies, optional, never, repeat_expansion, union_with, union_of, alternation, expansion, expansions}
 
 chain_map : (R S : ℕ → ℕ → Type 0) → ((i j : ℕ) → R i j → S i j) → (k i j : ℕ) → Chain R k i j → Chain S k i j
 chain_map R S f zero i j h = h
@@ -27,6 +30,10 @@ chain_join R zero d k i l j e h r =
     subst P same (subst Q (sym h) r)
 chain_join R (suc n) d zero i l j e h r = absurd (omega arith)
 chain_join R (suc n) d (suc k) i l j e h r = (h.0, h.1, chain_join R n d k h.0 l j (omega arith) h.2 r)
+
+if_some : {A : Type 0} {P Q : A → Type 0} (o : Option A) → ((x : A) → P x → Q x) → IfSome o P → IfSome o Q
+if_some None f h = tt
+if_some (Some x) f h = f x h
 
 module _ (s : List ℕ) where
   copies_in : (x : Tree) (rest : Trees) (n i l j : ℕ) → Chain (MatchesSpan s x) n i l → MatchesSequence s rest l j → MatchesSequence s (copies n x rest) i j
@@ -84,13 +91,55 @@ module _ (s : List ℕ) where
       (n + loop.0, omega (arith, loop.1), tt, chain_join (MatchesSpan s x) n loop.0 (n + loop.0) i r.0 j refl r.1 (subst P r.2.2 loop.3))
   counted_out x n (Some m) i j h = chosen_out x n m (nat_le n m) i j refl h
 
+  in_union : (set other : List Bool) (i j : ℕ) → MatchesSpan s (one_of set) i j ⊎ MatchesSpan s (one_of other) i j → MatchesSpan s (one_of (union set other)) i j
+  in_union set other i j h =
+      let b = slice_index s i in
+      elim h [
+        | inl p ↦ (p.0, member_union set other b ∙ or_left (member set b) (member other b) p.1, p.2)
+        | inr p ↦ (p.0, member_union set other b ∙ or_right (member set b) (member other b) p.1, p.2)
+      ]
+
+  of_union : (set other : List Bool) (i j : ℕ) → MatchesSpan s (one_of (union set other)) i j → MatchesSpan s (one_of set) i j ⊎ MatchesSpan s (one_of other) i j
+  of_union set other i j h =
+      let b = slice_index s i in
+      elim (or_cases (member set b) (member other b) (sym (member_union set other b) ∙ h.1)) [
+        | inl p ↦ inl (h.0, p, h.2)
+        | inr p ↦ inr (h.0, p, h.2)
+      ]
+
+  union_matches : (set : List Bool) (ts : Trees) (i j : ℕ) →
+      IfSome (union_with set ts) (λ all. MatchesSpan s (one_of all) i j ↔ (MatchesSpan s (one_of set) i j ⊎ MatchesBranch s ts i j))
+  union_matches set none i j = (λ h. inl h, λ h. elim h [ inl p ↦ p | inr p ↦ absurd p ])
+  union_matches set (more (one_of other) ts) i j =
+      if_some (union_with (union set other) ts) (λ all h. (
+        λ m. elim (h.0 m) [
+          | inl p ↦ elim (of_union set other i j p) [ inl q ↦ inl q | inr q ↦ inr (inl q) ]
+          | inr p ↦ inr (inr p)
+        ],
+        λ m. h.1 (elim m [
+          | inl p ↦ inl (in_union set other i j (inl p))
+          | inr p ↦ elim p [ inl q ↦ inl (in_union set other i j (inr q)) | inr q ↦ inr q ]
+        ]),
+      )) (union_matches (union set other) ts i j)
+  union_matches set (more t ts) i j = tt
+
+  chosen_matches : (o : Option (List Bool)) (t : Tree) (R : Type 0) (i j : ℕ) → IfSome o (λ all. MatchesSpan s (one_of all) i j ↔ R) →
+      (MatchesSpan s t i j ↔ R) → MatchesSpan s (option_map_or one_of o t) i j ↔ R
+  chosen_matches None t R i j h other = other
+  chosen_matches (Some all) t R i j h other = h
+
+  alternation_matches : (ts : Trees) (i j : ℕ) → MatchesSpan s (alternation ts) i j ↔ MatchesBranch s ts i j
+  alternation_matches (more (one_of set) ts) i j =
+      chosen_matches (union_with set ts) (alt (more (one_of set) ts)) _ i j (union_matches set ts i j) (λ h. h, λ h. h)
+  alternation_matches ts i j = (λ h. h, λ h. h)
+
   mutual
     pub matches_expansion : (t : Tree) (i j : ℕ) → MatchesSpan s t i j → MatchesSpan s (expansion t) i j
     matches_expansion empty i j h = h
     matches_expansion (one_of set) i j h = h
     matches_expansion (one_char ranges) i j h = h
     matches_expansion (cat ts) i j h = matches_all_expansions ts i j h
-    matches_expansion (alt ts) i j h = matches_some_expansions ts i j h
+    matches_expansion (alt ts) i j h = (alternation_matches (expansions ts) i j).1 (matches_some_expansions ts i j h)
     matches_expansion (rep x n m) i j h =
         counted_in (expansion x) n m i j (h.0, h.1, h.2, chain_map (MatchesSpan s x) (MatchesSpan s (expansion x)) (matches_expansion x) h.0 i j h.3)
     matches_expansion line_start i j h = h
@@ -112,7 +161,7 @@ module _ (s : List ℕ) where
     matches_as_read (one_of set) i j h = h
     matches_as_read (one_char ranges) i j h = h
     matches_as_read (cat ts) i j h = matches_all_as_read ts i j h
-    matches_as_read (alt ts) i j h = matches_some_as_read ts i j h
+    matches_as_read (alt ts) i j h = matches_some_as_read ts i j ((alternation_matches (expansions ts) i j).0 h)
     matches_as_read (rep x n m) i j h =
         let r = counted_out (expansion x) n m i j h in
         (r.0, r.1, r.2, chain_map (MatchesSpan s (expansion x)) (MatchesSpan s x) (matches_as_read x) r.0 i j r.3)
@@ -148,13 +197,21 @@ repeat_expanded t n (Some m) h =
     chosen_expanded (nat_le n m) _
     (copies_expanded t n (copies (m - n) (optional t) none) h (copies_expanded (optional t) (m - n) none (h, (tt, tt)) tt))
 
+-- what is so for the alternation and for each set
+pub alternation_is : (P : Tree → Type 0) (ts : Trees) → P (alt ts) → ((set : List Bool) → P (one_of set)) → P (alternation ts)
+alternation_is P ts other h = chosen (union_of ts)
+  where
+    chosen : (o : Option (List Bool)) → P (option_map_or one_of o (alt ts))
+    chosen None = other
+    chosen (Some set) = h set
+
 mutual
   pub is_expanded : (t : Tree) → IsExpanded (expansion t)
   is_expanded empty = tt
   is_expanded (one_of set) = tt
   is_expanded (one_char ranges) = tt
   is_expanded (cat ts) = are_expanded ts
-  is_expanded (alt ts) = are_expanded ts
+  is_expanded (alt ts) = alternation_is IsExpanded (expansions ts) (are_expanded ts) (λ set. tt)
   is_expanded (rep x n m) = repeat_expanded (expansion x) n m (is_expanded x)
   is_expanded line_start = tt
   is_expanded line_end = tt

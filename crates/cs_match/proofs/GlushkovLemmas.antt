@@ -431,7 +431,3 @@ match_where_accepted t s expanded =
 pub no_positions : (ms : List Bool) → length ms ≡ 0 → ms ≡ []
 no_positions [] h = refl
 no_positions (m ∷ ms) h = absurd (omega arith)
-
-pub one_position : (ms : List Bool) (b : Bool) → length ms ≡ 1 → set ms 0 b ≡ b ∷ []
-one_position [] b h = absurd (omega arith)
-one_position (m ∷ ms) b h = rw (no_positions ms (omega arith)) refl

@@ -1,8 +1,8 @@
 -- Masks are filled position by position.
-use Rattle.std.proofs.Common.{◌≡◌, ℕ, ◌+◌, ◌<◌, ◌≤◌, Bool, false, List, [], ◌∷◌, ◌++◌, take, drop, length, map, get_or, set, sym, ◌∙◌, ap, subst, inl, inr, arith, below_more, add-one, length-set, get_or-set_same, get_or-set_other, ext_get_or}
+use Rattle.std.proofs.Common.{◌≡◌, ℕ, ◌+◌, ◌<◌, ◌≤◌, Bool, false, List, [], ◌∷◌, ◌++◌, length, map, get_or, sym, ◌∙◌, ap, subst, inl, inr, arith, ext_get_or}
 use Rattle.std.proofs.Math.Seq.{get_or-append_seam}
 use Rattle.std.proofs.lemmas.Bool.{cases_lt}
-use Rattle.std.proofs.lemmas.List.{set_split, length-map, get_or-map, get_or_append_left}
+use Rattle.std.proofs.lemmas.List.{length-map, get_or_append_left}
 use Rattle.cs_syntax.specs.Matching.{Tree}
 use Rattle.cs_match.specs.declared.input.Input.{Input}
 use Rattle.cs_match.specs.declared.masks.Mask.{Mask}
@@ -11,24 +11,6 @@ use Rattle.cs_match.specs.Glushkov.{position_count}
 use Rattle.cs_match.specs.Entered.{position_list, if_entered, if_previous, if_kept}
 use Rattle.cs_match.specs.Masks.{IsMask}
 use Rattle.cs_match.proofs.EnteredLemmas.{length-position_list}
-
--- one more position is put
-module _ (old new : List Bool) (at : ℕ) (on : Bool) (h : at < length old) (is : new ≡ take at old ++ on ∷ drop (at + 1) old) where
-  as_set : new ≡ set old at on
-  as_set = is ∙ ap (λ k. take at old ++ on ∷ drop k old) (add-one at) ∙ sym (set_split old at on h)
-
-  pub length-put : length new ≡ length old
-  length-put = ap length as_set ∙ length-set old at on
-
-  pub put_next : (flags : List Bool) → on ≡ get_or flags at false → ((k : ℕ) → k < at → get_or old k false ≡ get_or flags k false) →
-      (k : ℕ) → k < at + 1 → get_or new k false ≡ get_or flags k false
-  put_next flags e before = below_more _ _
-      (λ k lt. ap (λ xs. get_or xs k false) as_set ∙ get_or-set_other old at k on false (λ same. omega (arith, lt, same)) ∙ before k lt)
-      (ap (λ xs. get_or xs at false) as_set ∙ get_or-set_same old at on false h ∙ e)
-
--- what the position at an index does
-pub at_position : (f : Position → Bool) (ps : List Position) (k : ℕ) (p : Position) → k < length ps → p ≡ get_or ps k p → f p ≡ get_or (map f ps) k false
-at_position f ps k p h e = sym (get_or-map f ps k p false h ∙ ap f (sym e))
 
 pub all_put : (f : Position → Bool) (ps : List Position) (new : List Bool) (n : ℕ) → length new ≡ length ps → length ps ≤ n →
     ((k : ℕ) → k < n → get_or new k false ≡ get_or (map f ps) k false) → new ≡ map f ps

@@ -105,3 +105,28 @@ module _ (new old es ins befores keeps : List ℕ) (count : ℕ) (old-are : IsPo
       before : (k : ℕ) → k < count → previous es k ≡ get_or (false ∷ positions_of es (count + 1)) k false
       before zero h = refl
       before (suc k) h = sym (get_or-positions_of es (count + 1) k (omega (arith, h)))
+
+-- the words of the entered positions of a mask
+module _ (new es ins : List ℕ) (count : ℕ) (es-are : IsPositionSet es (count + 1)) (ins-are : IsPositionSet ins count)
+    (size : length new ≡ length ins) (each : (k : ℕ) → k < length ins → get_or new k 0 ≡ bit_and (get_or es k 0) (get_or ins k 0)) where
+  entered-at : (k : ℕ) → k / 64 < length ins → has_bit new k ≡ (has_bit es k && has_bit ins k)
+  entered-at k h = ap (λ x. eqb (bit_at x (k % 64)) 1) (each (k / 64) h) ∙ bit-and (get_or es (k / 64) 0) (get_or ins (k / 64) 0) (k % 64)
+
+  pub IsPositionSet-entered : IsPositionSet new count
+  IsPositionSet-entered = record {
+    enough = size ∙ ins-are.enough;
+    fit = All-from_get_or (λ word. word < 2 ^ 64) new 0 (λ k h.
+        let within : k < length ins = omega (arith, h, size) in
+        let e-fits : get_or es k 0 < 18446744073709551616 = es-are.fit k 0 (omega (arith, within, ins-are.enough, es-are.enough)) in
+        omega (arith, e-fits, each k within, and_le_l (get_or es k 0) (get_or ins k 0)));
+    no_other = λ k past. elim (cases_lt (k / 64) (length ins)) [
+      | inl within ↦ entered-at k within ∙ ap (λ x. has_bit es k && x) (ins-are.no_other k past) ∙ and-false (has_bit es k)
+      | inr beyond ↦ past_words new k (omega (arith, size, beyond))
+    ];
+  }
+
+  pub get_or-entered_words : (k : ℕ) → k < count →
+      get_or (positions_of new count) k false ≡ (get_or (positions_of es (count + 1)) k false && get_or (positions_of ins count) k false)
+  get_or-entered_words k h =
+      get_or-positions_of new count k h ∙ entered-at k (omega (arith, h, ins-are.enough))
+      ∙ sym (ap₂ (λ x y. x && y) (get_or-positions_of es (count + 1) k (omega (arith, h))) (get_or-positions_of ins count k h))

@@ -3,9 +3,9 @@ use Rattle.std.proofs.Common.{◌≡◌, ℕ, suc, ◌+◌, ◌<◌, List, [], �
 use Rattle.std.specs.Prelude.{None}
 use Rattle.cs_syntax.specs.Matching.{cat, alt, rep, line_start, line_end, word_edge, not_word_edge, none, more}
 use Rattle.cs_syntax.specs.TreeList.{append}
-use Rattle.cs_match.specs.Parts.{run, runs, shape_of, shape_step, shapes_of}
+use Rattle.cs_match.specs.Parts.{run, runs, optional_run, shape_of, shape_step, shapes_of}
 use Rattle.cs_match.specs.declared.parts.Part.{Part, Part-F, fold-roll-Part}
-use Rattle.cs_match.specs.declared.parts.Part.TheVariants.{Run, Alternation, Cat, Alt, Rep, LineStart, LineEnd, WordEdge, NotWordEdge, rolls-Run, rolls-Alternation, rolls-Cat, rolls-Alt, rolls-Rep, rolls-LineStart, rolls-LineEnd, rolls-WordEdge, rolls-NotWordEdge}
+use Rattle.cs_match.specs.declared.parts.Part.TheVariants.{Run, Alternation, Optional, Cat, Alt, Rep, LineStart, LineEnd, WordEdge, NotWordEdge, rolls-Run, rolls-Alternation, rolls-Optional, rolls-Cat, rolls-Alt, rolls-Rep, rolls-LineStart, rolls-LineEnd, rolls-WordEdge, rolls-NotWordEdge}
 use Rattle.cs_syntax.specs.Matching.{Tree}
 
 pub shape_of-Run : (n : ℕ) → shape_of (Run n) ≡ run n
@@ -13,6 +13,9 @@ shape_of-Run n = ap shape_of (sym (rolls-Run n)) ∙ fold-roll-Part Tree shape_s
 
 pub shape_of-Alternation : (ns : List ℕ) → shape_of (Alternation ns) ≡ alt (runs ns)
 shape_of-Alternation ns = ap shape_of (sym (rolls-Alternation ns)) ∙ fold-roll-Part Tree shape_step (Part-F.Alternation ns)
+
+pub shape_of-Optional : (n : ℕ) → shape_of (Optional n) ≡ optional_run n
+shape_of-Optional n = ap shape_of (sym (rolls-Optional n)) ∙ fold-roll-Part Tree shape_step (Part-F.Optional n)
 
 pub shape_of-Cat : (parts : Vec Part Global) → shape_of (Cat parts) ≡ cat (shapes_of parts.items)
 shape_of-Cat parts = ap shape_of (sym (rolls-Cat parts)) ∙ fold-roll-Part Tree shape_step (Part-F.Cat parts)
@@ -47,7 +50,7 @@ pub shapes_last : (xs : List Part) (x : Part) → shapes_of (xs ++ x ∷ []) ≡
 shapes_last [] x = refl
 shapes_last (y ∷ xs) x = ap (more (shape_of y)) (shapes_last xs x)
 
-pub ruleset part_rules = (shape_of-Run, shape_of-Cat, shape_of-Alt, shape_of-Rep, shape_of-LineStart, shape_of-LineEnd, shape_of-WordEdge, shape_of-NotWordEdge)
+pub ruleset part_rules = (shape_of-Run, shape_of-Optional, shape_of-Cat, shape_of-Alt, shape_of-Rep, shape_of-LineStart, shape_of-LineEnd, shape_of-WordEdge, shape_of-NotWordEdge)
 
 pub shapes_none : (xs : List Part) → length xs ≡ 0 → shapes_of xs ≡ none
 shapes_none [] h = refl

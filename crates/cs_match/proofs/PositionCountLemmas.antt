@@ -6,6 +6,7 @@ use Rattle.cs_syntax.specs.Weight.{weight, weights, times}
 use Rattle.cs_match.specs.Glushkov.{position_count, position_count_of, repeats, repeats_of}
 use Rattle.cs_match.specs.Expansion.{copies, optional, never, repeat_expansion, expansion, expansions}
 use Rattle.std.proofs.lemmas.Bool.{leb-true}
+use Rattle.cs_match.proofs.ExpansionLemmas.{alternation_is}
 
 mul_both : (k p t w : ℕ) → k ≤ t → p ≤ w → k * p ≤ t * w
 mul_both k p t w h g = grind arith
@@ -44,7 +45,8 @@ mutual
   positions_light (one_of set) = omega arith
   positions_light (one_char ranges) = omega arith
   positions_light (cat ts) = omega (arith, all_light ts)
-  positions_light (alt ts) = omega (arith, all_light ts)
+  positions_light (alt ts) =
+      alternation_is (λ t. position_count t ≤ 2 * weight (alt ts)) (expansions ts) (omega (arith, all_light ts)) (λ set. omega arith)
   positions_light (rep x n m) =
       omega (arith, repeat_light (expansion x) n m (2 * weight x) (positions_light x), each_round (times n m) (weight x))
   positions_light line_start = omega arith
@@ -83,7 +85,8 @@ mutual
   repeats_light (one_of set) = omega arith
   repeats_light (one_char ranges) = omega arith
   repeats_light (cat ts) = omega (arith, all_repeats_light ts)
-  repeats_light (alt ts) = omega (arith, all_repeats_light ts)
+  repeats_light (alt ts) =
+      alternation_is (λ t. repeats t ≤ weight (alt ts)) (expansions ts) (omega (arith, all_repeats_light ts)) (λ set. omega arith)
   repeats_light (rep x n m) = repeat_few (expansion x) n m (weight x) (repeats_light x)
   repeats_light line_start = omega arith
   repeats_light line_end = omega arith

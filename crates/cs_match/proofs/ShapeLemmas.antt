@@ -1,11 +1,10 @@
 -- Trees of the same shape. The shape is that of each part, whatever the sets are, and a concatenation may be grouped
 -- in any way.
-use Rattle.std.proofs.Common.{◌≡◌, ℕ, zero, suc, ◌+◌, ◌≤◌, Bool, true, false, ◌&&◌, ◌||◌, List, [], ◌∷◌, ◌++◌, take, drop, length, get_or, refl, sym, ◌∙◌, ap, ap₂, subst, arith, append_assoc}
-use Rattle.std.specs.Prelude.{Option, nat_eq}
+use Rattle.std.proofs.Common.{◌≡◌, ℕ, zero, suc, ◌+◌, ◌≤◌, Bool, true, false, ◌&&◌, ◌||◌, List, [], ◌∷◌, ◌++◌, take, drop, length, get_or, refl, sym, ◌∙◌, ap, subst, arith, append_assoc}
 use Rattle.std.proofs.Math.Bool.{and-false, and_assoc}
 use Rattle.std.proofs.Math.Seq.{take-take}
 use Rattle.std.proofs.lemmas.List.{drop-drop, drop-take}
-use Rattle.cs_syntax.specs.Matching.{Tree, Trees, empty, one_of, one_char, cat, alt, rep, none, more}
+use Rattle.cs_syntax.specs.Matching.{Tree, Trees, one_of, cat, alt, none, more}
 use Rattle.cs_syntax.specs.TreeList.{append}
 use Rattle.cs_syntax.proofs.TreeListLemmas.{append_assoc_trees, append_none}
 use Rattle.cs_match.specs.declared.look_around.LookAround.{LookAround}
@@ -85,16 +84,6 @@ alt_rest t ts ss h = record {
 pub alt_more : (us : Trees) (t s : Tree) (ts : Trees) → HaveSameShape t s → HaveSameShape (alt (append us (more t ts))) (alt (append us (more s ts)))
 alt_more none t s ts h = alt_first t s ts h
 alt_more (more u us) t s ts h = alt_rest u _ _ (alt_more us t s ts h)
-
-pub rep_body : (t s : Tree) (n : ℕ) (m k : Option ℕ) → HaveSameShape t s → HaveSameShape (rep t n m) (rep s n k)
-rep_body t s n m k h = record {
-  positions = h.positions;
-  repeats = ap suc h.repeats;
-  nullable = λ a. ap (λ x. nat_eq n 0 || x) (h.nullable a);
-  final = h.final;
-  ends = λ ms a. ap₂ (λ x xs. x ∷ xs) (h.final ms a) (h.ends ms a);
-  entered = λ enter ms a. rw (h.final ms a) (h.entered (enter || is_final s ms a) ms a);
-}
 
 -- a concatenation may be grouped in any way
 final_bools : (x n y m z : Bool) → (((x && n) || y) && m) || z ≡ (x && (n && m)) || ((y && m) || z)
@@ -226,28 +215,6 @@ only_run m = subst (λ ws. HaveSameShape (cat (more (run m) none)) (cat ws)) (ap
 -- an empty run is left out
 pub no_run : (us : Trees) → HaveSameShape (cat (append us (more (run 0) none))) (cat us)
 no_run us = subst (λ ws. HaveSameShape (cat (append us (more (run 0) none))) (cat ws)) (append_none us) (before_same us _ _ (grouped none none))
-
--- the sets and the empty tree are runs
-pub empty_run : HaveSameShape empty (run 0)
-empty_run = record { positions = refl; repeats = refl; nullable = λ a. refl; final = λ ms a. refl; ends = λ ms a. refl; entered = λ enter ms a. refl }
-
-pub set_run : (set : List Bool) → HaveSameShape (one_of set) (run 1)
-set_run set = record { positions = refl; repeats = refl; nullable = λ a. refl; final = λ ms a. sym (is_final_run 0 ms a); ends = λ ms a. refl; entered = λ enter ms a. refl }
-
-pub chars_run : (ranges : List (ℕ × ℕ)) → HaveSameShape (one_char ranges) (run 2)
-chars_run ranges = record {
-  positions = refl;
-  repeats = refl;
-  nullable = λ a. refl;
-  final = λ ms a. sym (is_final_run 1 ms a);
-  ends = λ ms a. refl;
-  entered = λ enter ms a. by enter ms;
-}
-  where
-    by : (enter : Bool) (ms : List Bool) → enter ∷ get_or ms 0 false ∷ [] ≡ enter ∷ (get_or (take 1 ms) 0 false || (enter && false)) ∷ []
-    by enter [] = rw (and-false enter) refl
-    by enter (true ∷ ms) = refl
-    by enter (false ∷ ms) = rw (and-false enter) refl
 
 -- the number of positions of parts in a concatenation
 pub position_count_append : (us vs : Trees) → position_count_of (append us vs) ≡ position_count_of us + position_count_of vs

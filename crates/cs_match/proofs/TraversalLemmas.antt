@@ -1,8 +1,8 @@
 -- The two traversals of the parts: what a part needs of the position set and of the loop flags, and what one more
 -- part adds.
-use Rattle.std.proofs.Common.{◌≡◌, ℕ, zero, suc, ◌+◌, ◌-◌, ◌≤◌, inl, inr, ◌<◌, ◌++◌, ◌||◌, ◌&&◌, List, [], ◌∷◌, Bool, false, take, drop, set, length, get_or, min, refl, sym, ◌∙◌, ap, arith, append_assoc, length-append, length-drop}
+use Rattle.std.proofs.Common.{◌≡◌, ℕ, zero, suc, ◌+◌, ◌-◌, ◌≤◌, inl, inr, ◌<◌, ◌++◌, ◌||◌, ◌&&◌, List, [], ◌∷◌, Bool, true, false, take, drop, set, length, get_or, min, refl, sym, ◌∙◌, ap, arith, append_assoc, length-append, length-drop}
 use Rattle.std.proofs.lemmas.Bool.{cases_lt}
-use Rattle.std.proofs.Math.Bool.{and-false, or-false, or_assoc}
+use Rattle.std.proofs.Math.Bool.{and-false, or-false, or-true, or_assoc}
 use Rattle.std.proofs.Math.ListN.{drop_of_length-le}
 use Rattle.std.proofs.Math.Seq.{sets, sets-eq, length-sets, set_out, set_comm, take-take, get_or-take}
 use Rattle.std.proofs.lemmas.List.{append-nil, take-append-drop, drop-drop, drop-take, length-take, get_or-drop, take_at, drop_at}
@@ -10,10 +10,10 @@ use Rattle.cs_syntax.specs.Matching.{Tree, Trees, empty, one_of, one_char, cat, 
 use Rattle.cs_match.specs.declared.look_around.LookAround.{LookAround}
 use Rattle.cs_match.specs.Glushkov.{position_count, position_count_of, repeats, repeats_of, nullable, nullable_all, nullable_some, is_final, is_final_all, is_final_some, accepts, loop_ends, loop_ends_of}
 use Rattle.cs_match.specs.Entered.{entered, entered_all, entered_each, AreShifted}
-use Rattle.cs_match.specs.Parts.{run}
+use Rattle.cs_match.specs.Parts.{run, optional_run}
 use Rattle.cs_match.proofs.GlushkovLemmas.{cat_bools, alt_bools}
 use Rattle.cs_match.proofs.EnteredLemmas.{length-entered}
-use Rattle.cs_match.proofs.ShapeLemmas.{entered_run, is_final_run}
+use Rattle.cs_match.proofs.ShapeLemmas.{entered_run, is_final_run, position_count_run, repeats_run, loop_ends_run}
 
 -- the elements with an index from p up to n
 prefix_drop : (p n : ℕ) (ms : List Bool) → p ≤ n → drop p (take n ms) ≡ take (n - p) (drop p ms)
@@ -313,3 +313,30 @@ run_final (suc n) p ms a some =
 pub run_accepts : (n p : ℕ) (enter : Bool) (ms : List Bool) (a : LookAround) → 0 < n → get_or ms (p + n - 1) false ≡ accepts (run n) enter (drop p ms) a
 run_accepts zero p enter ms a some = absurd (omega (arith, some))
 run_accepts (suc n) p enter ms a some = run_final (suc n) p ms a some ∙ sym (rw (and-false enter) (or-false (is_final (run (suc n)) (drop p ms) a)))
+
+-- a run, or nothing
+pub position_count_optional : (n : ℕ) → position_count (optional_run n) ≡ n
+position_count_optional n = omega (arith, position_count_run n)
+
+pub repeats_optional : (n : ℕ) → repeats (optional_run n) ≡ 0
+repeats_optional n = omega (arith, repeats_run n)
+
+pub loop_ends_optional : (n : ℕ) (ms : List Bool) (a : LookAround) → loop_ends (optional_run n) ms a ≡ []
+loop_ends_optional n ms a = rw (loop_ends_run n ms a) refl
+
+pub nullable_optional : (n : ℕ) (a : LookAround) → nullable (optional_run n) a ≡ true
+nullable_optional n a = or-true (nullable (run n) a)
+
+pub is_final_optional : (n : ℕ) (ms : List Bool) (a : LookAround) → is_final (optional_run n) ms a ≡ is_final (run n) ms a
+is_final_optional n ms a = or-false _ ∙ is_final-prefix (run n) ms a
+
+pub accepts_optional : (n : ℕ) (enter : Bool) (ms : List Bool) (a : LookAround) → accepts (optional_run n) enter ms a ≡ (accepts (run n) enter ms a || enter)
+accepts_optional n enter ms a = rw (is_final_optional n ms a, nullable_optional n a) (by (is_final (run n) ms a) enter (nullable (run n) a))
+  where
+    by : (f e n : Bool) → (f || (e && true)) ≡ ((f || (e && n)) || e)
+    by true e n = refl
+    by false true n = sym (or-true n)
+    by false false n = refl
+
+pub entered_optional : (n : ℕ) (enter : Bool) (ms : List Bool) (a : LookAround) → entered (optional_run n) enter ms a ≡ entered (run n) enter ms a
+entered_optional n enter ms a = append-nil _ ∙ entered-prefix (run n) enter ms a

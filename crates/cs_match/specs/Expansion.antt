@@ -1,6 +1,8 @@
 -- The expansion of a tree: counted repeats are written out as copies, so that each repeat is a loop of at
--- least 0 or 1 iterations. docs/PATTERNS.md, "Matching".
-use Rattle.std.specs.Prelude.{ℕ, zero, suc, ◌-◌, Option, Some, None, nat_le, if◌then◌else◌}
+-- least 0 or 1 iterations, and an alternation of sets of bytes is one set. docs/PATTERNS.md, "Matching".
+use Rattle.std.specs.Prelude.{ℕ, zero, suc, ◌-◌, Bool, List, Option, Some, None, nat_le, if◌then◌else◌}
+use Rattle.std.specs.Option.{option_map_or}
+use Rattle.cs_syntax.specs.ByteSet.{union}
 use Rattle.cs_syntax.specs.Matching.{Tree, Trees, empty, one_of, one_char, cat, alt, rep, line_start, line_end, word_edge, not_word_edge, none, more}
 use Rattle.cs_syntax.specs.TreeList.{append}
 
@@ -28,6 +30,20 @@ repeat_expansion t (suc n) None = cat (copies n t (more (rep t 1 None) none))
 repeat_expansion t n (Some m) =
     if nat_le n m then cat (copies n t (copies (m - n) (optional t) none)) else never
 
+-- the bytes of the set and of the trees, if these are sets of bytes
+abbrev pub union_with : List Bool → Trees → Option (List Bool)
+union_with set none = Some set
+union_with set (more (one_of other) ts) = union_with (union set other) ts
+union_with set ts = None
+
+abbrev pub union_of : Trees → Option (List Bool)
+union_of (more (one_of set) ts) = union_with set ts
+union_of ts = None
+
+-- the alternation of the trees; if they are sets of bytes, their union
+abbrev pub alternation : Trees → Tree
+alternation ts = option_map_or one_of (union_of ts) (alt ts)
+
 -- the expansion of each subtree
 abbrev mutual
   pub expansion : Tree → Tree
@@ -35,7 +51,7 @@ abbrev mutual
   expansion (one_of set) = one_of set
   expansion (one_char ranges) = one_char ranges
   expansion (cat ts) = cat (expansions ts)
-  expansion (alt ts) = alt (expansions ts)
+  expansion (alt ts) = alternation (expansions ts)
   expansion (rep x n m) = repeat_expansion (expansion x) n m
   expansion line_start = line_start
   expansion line_end = line_end

@@ -19,10 +19,15 @@ abbrev pub runs : List ℕ → Trees
 runs [] = none
 runs (n ∷ ns) = more (run (suc n)) (runs ns)
 
+-- a sequence of n sets of bytes, or nothing
+abbrev pub optional_run : ℕ → Tree
+optional_run n = alt (more (run n) (more (run 0) none))
+
 -- the shape of a part: a tree with such sets
 abbrev pub shape_step : Part-F Tree → Tree
 shape_step (Part-F.Run n) = run n
 shape_step (Part-F.Alternation ns) = alt (runs ns)
+shape_step (Part-F.Optional n) = optional_run n
 shape_step (Part-F.Cat parts) = cat (trees parts.items)
 shape_step (Part-F.Alt parts) = alt (trees parts.items)
 shape_step (Part-F.Rep x n) = rep x.value n None

@@ -1,14 +1,14 @@
-// Expansion of counted repeats (RE2's simplification).
+// Expansion of counted repeats, and of alternations of single bytes to sets (RE2's simplification).
 ghost use Rattle.std.specs.Prelude.{◌≡◌, IfOk, OnOk, None};
 ghost use Rattle.cs_syntax.specs.Matching.{rep};
 ghost use Rattle.cs_syntax.specs.Node.{tree_of};
 ghost use Rattle.cs_syntax.specs.NodeList.{trees_of};
-ghost use Rattle.cs_match.specs.Expansion.{expansion, expansions, with_copies, optional, repeat_expansion};
+ghost use Rattle.cs_match.specs.Expansion.{expansion, expansions, with_copies, optional, repeat_expansion, union_of, alternation};
 
-use cs_syntax::Node;
+use cs_syntax::{ByteSet, Node};
 use std::alloc::{AllocError, Global};
 
-/// The expansion of the tree: counted repeats become copies.
+/// The expansion of the tree: counted repeats become copies, and an alternation of sets of bytes becomes one set.
 #[cycle(expand)]
 pub(crate) fn expand(alloc: Global, node: &Node) -> Result<Node, AllocError>
     ensures { IfOk result (λ n. tree_of n ≡ expansion (tree_of node.now)) }
@@ -26,7 +26,7 @@ pub(crate) fn expand(alloc: Global, node: &Node) -> Result<Node, AllocError>
         }
         Node::Alt(parts) => {
             let parts = expand_all(alloc, parts)?;
-            Ok(Node::Alt(parts))
+            Ok(alternation(parts))
         }
         Node::Rep(x, least, most) => expand_repeat(alloc, x, *least, *most),
         Node::LineStart => Ok(Node::LineStart),
@@ -80,6 +80,33 @@ fn expand_all(alloc: Global, parts: &[Node]) -> Result<Vec<Node>, AllocError>
         all.push(written)?;
     }
     Ok(all)
+}
+
+/// The alternation of the branches. If all are sets of bytes, it is their union.
+fn alternation(branches: Vec<Node>) -> Node
+    ensures { tree_of result ≡ alternation (trees_of branches.items) }
+{
+    match union_of(&branches) {
+        Some(set) => Node::Set(set),
+        None => Node::Alt(branches),
+    }
+}
+
+/// The union of the nodes, if all are sets of bytes and there is one.
+fn union_of(nodes: &[Node]) -> Option<ByteSet>
+    ensures { result ≡ union_of (trees_of nodes.now) }
+{
+    let [Node::Set(first), others @ ..] = nodes else {
+        return None;
+    };
+    let mut union = *first;
+    for node in others {
+        match node {
+            Node::Set(set) => union = union.union(set),
+            _ => return None,
+        }
+    }
+    Some(union)
 }
 
 #[cycle(expand)]

@@ -195,8 +195,7 @@ pub(crate) fn step_over(
 {
     let accepting = enter(program, positions, scratch, here);
     let slot = scratch.masks.find(program.positions(), input);
-    let mask = &scratch.masks.slots[slot];
-    positions.move_over(&scratch.entries, &mask.entered, &mask.previous, &mask.kept);
+    scratch.masks.slots[slot].move_over(&scratch.entries, positions);
     accepting
 }
 
@@ -266,6 +265,7 @@ fn find_ends(
     match part {
         Part::Run(n) => end_run(*n, positions, cursor),
         Part::Alternation(sequences) => end_sequences(sequences, positions, cursor),
+        Part::Optional(n) => end_run(*n, positions, cursor).or(Ends::within(true)),
         Part::Cat(parts) => find_ends_all(parts, positions, loops, here, cursor),
         Part::Alt(parts) => find_ends_some(parts, positions, loops, here, cursor),
         Part::Rep(x, least) => {
@@ -489,6 +489,7 @@ fn advance(
         Part::Alternation(sequences) => {
             enter_sequences(sequences, enter, positions, entries, cursor)
         }
+        Part::Optional(n) => enter_run(*n, enter, positions, entries, cursor) | enter,
         Part::Cat(parts) => advance_all(parts, enter, positions, entries, loops, here, cursor),
         Part::Alt(parts) => advance_each(parts, enter, positions, entries, loops, here, cursor),
         Part::Rep(x, least) => {

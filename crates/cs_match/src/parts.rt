@@ -6,7 +6,7 @@ ghost use Rattle.cs_syntax.specs.TreeList.{append};
 ghost use Rattle.cs_syntax.specs.Node.{tree_of};
 ghost use Rattle.cs_syntax.specs.NodeList.{trees_of};
 ghost use Rattle.cs_match.specs.Glushkov.{position_count, position_count_of};
-ghost use Rattle.cs_match.specs.Parts.{run, runs, shape_of, shapes_of, HaveSameShape};
+ghost use Rattle.cs_match.specs.Parts.{run, runs, optional_run, shape_of, shapes_of, HaveSameShape};
 
 use crate::sequences::Sequences;
 use cs_syntax::Node;
@@ -19,6 +19,8 @@ pub(crate) enum Part {
     Run(usize),
     /// An alternation of such sequences.
     Alternation(Sequences),
+    /// Such a sequence, or nothing.
+    Optional(usize),
     /// A concatenation.
     Cat(Vec<Part>),
     /// An alternation.
@@ -117,7 +119,29 @@ fn alternation_of(alloc: Global, nodes: &[Node]) -> Result<Part, AllocError>
             let sequences = Sequences::new(alloc, following)?;
             Ok(Part::Alternation(sequences))
         }
-        None => Ok(Part::Alt(parts)),
+        None => Ok(alternation(parts)),
+    }
+}
+
+/// The alternation of the parts. If they are a run and the empty run, it is one part.
+#[tactic(auto, using(crate::proofs::PartLemmas::part_rules))]
+fn alternation(parts: Vec<Part>) -> Part
+    ensures { shape_of result ≡ alt (shapes_of parts.items) }
+{
+    match optional_run(&parts) {
+        Some(n) => Part::Optional(n),
+        None => Part::Alt(parts),
+    }
+}
+
+/// The number of positions of the run, if the parts are a run and the empty run.
+#[tactic(auto, using(crate::proofs::PartLemmas::part_rules))]
+fn optional_run(parts: &[Part]) -> Option<usize>
+    ensures { IfSome result (λ n. alt (shapes_of parts.now) ≡ optional_run n) }
+{
+    match parts {
+        [Part::Run(n), Part::Run(0)] => Some(*n),
+        _ => None,
     }
 }
 

@@ -12,7 +12,7 @@ use Rattle.cs_tree.specs.TakesPrefix.{EndsAfter}
 use Rattle.cs_tree.specs.StreamModels.{SourceModel}
 use Rattle.cs_tree.specs.Sinks.{SinkModel, GrowsFlushed}
 use Rattle.cs_tree.specs.Snapshot.{Snapshot}
-use Rattle.cs_tree.proofs.GrowsLemmas.{GrowsFlushed-chain}
+use Rattle.cs_tree.proofs.GrowsLemmas.{Grows-same, GrowsFlushed-chain}
 use Rattle.cs_args.specs.declared.jobs.Tool.{Tool}
 use Rattle.cs_args.specs.declared.jobs.Tool.TheVariants.{Cgrep}
 use Rattle.cs_args.specs.declared.jobs.GrepJob.{GrepJob}
@@ -96,8 +96,8 @@ pub PrintsFaultsOf-nothing : {A E : Type 0} (r : Result A E) (fault : E) (job : 
 PrintsFaultsOf-nothing r fault job tree input err is = by_standard job.standard refl
   where
     by_standard : (b : Bool) → job.standard ≡ b → PrintsFaultsOf job tree tree input input (λ lines. EndsAfter lines err err r)
-    by_standard true e = PrintsFaultsOf-standard job tree tree input input (λ lines. EndsAfter lines err err r) e refl (PrintsFaults-no Cgrep r fault (standard_name ∷ []) input err is)
-    by_standard false e = PrintsFaultsOf-files job tree tree input input (λ lines. EndsAfter lines err err r) e refl (PrintsFaults-no Cgrep r fault (map string_bytes job.files.items) tree err is)
+    by_standard true e = PrintsFaultsOf-standard job tree tree input input (λ lines. EndsAfter lines err err r) e refl (PrintsFaults-no Cgrep r fault (standard_name ∷ []) input input err err is refl (Grows-same err))
+    by_standard false e = PrintsFaultsOf-files job tree tree input input (λ lines. EndsAfter lines err err r) e refl (PrintsFaults-no Cgrep r fault (map string_bytes job.files.items) tree tree err err is refl (Grows-same err))
 
 -- a text parses as one tree
 pub read_once : (text : List ℕ) (fold : Bool) (t u : Tree) → ParsesAs text fold t → ParsesAs text fold u → t ≡ u

@@ -1,14 +1,12 @@
 -- The clauses of csearch, from those of the functions that it calls.
-use Rattle.std.proofs.Common.{◌≡◌, ℕ, ◌+◌, ◌<◌, Bool, true, false, cond, List, [], ◌∷◌, ◌++◌, length, map, take, drop, get_or, refl, sym, ap, subst, ◌∙◌, append_assoc, length-append, Option, Some, None, Result, Ok, Err, inl, inr}
+use Rattle.std.proofs.Common.{◌≡◌, ℕ, ◌+◌, Bool, true, false, cond, List, [], ◌∷◌, ◌++◌, length, map, refl, sym, ap, subst, ◌∙◌, append_assoc, length-append, Option, Some, None, Result, Ok, Err, inl, inr}
 use Rattle.cs_tree.specs.Sinks.{SinkModel}
-use Rattle.cs_tree.proofs.GrowsLemmas.{Grows-same}
 use Rattle.cs_index.specs.Postings.{IsListFault}
 use Rattle.cs_index.specs.PostingLists.{set_at, entries_of}
 use Rattle.cs_trigram.specs.Trigram.{has}
 use Rattle.std.specs.Prelude.{filter, slice_get, option_map, string_bytes, IfSome}
 use Rattle.std.specs.List.{filter_map, range_with_len, cons_option}
-use Rattle.std.proofs.lemmas.List.{take_more, take-append-drop}
-use Rattle.std.proofs.lemmas.List.Elements.{filter-append, filter_map-append}
+use Rattle.std.proofs.lemmas.List.{map-id}
 use Rattle.cs_syntax.specs.Matching.{Tree}
 use Rattle.cs_syntax.specs.Parsing.{ParsesAs}
 use Rattle.cs_syntax.specs.ParseErrors.{IsParseError}
@@ -23,7 +21,7 @@ use Rattle.cs_args.specs.declared.jobs.Tool.TheVariants.{Csearch}
 use Rattle.cs_args.specs.declared.jobs.SearchJob.{SearchJob}
 use Rattle.cs_args.specs.declared.jobs.Style.{Style}
 use Rattle.cs_args.specs.declared.fault.ToolFault.{ToolFault}
-use Rattle.cs_args.specs.declared.fault.ToolFault.TheVariants.{FilePattern, NoIndex, BadIndex, Write, Memory}
+use Rattle.cs_args.specs.declared.fault.ToolFault.TheVariants.{FilePattern, BadIndex, Write, Memory}
 use Rattle.cs_args.specs.Faults.{pattern_fault, pattern_fault_at, index_fault}
 use Rattle.cs_trigram.specs.Query.{matches_set}
 use Rattle.cs_trigram.specs.declared.queries.Query.{Query}
@@ -38,7 +36,7 @@ use Rattle.cs_match.specs.Deciding.{Decides}
 use Rattle.cs_search.specs.StoredSearch.{IsUnopened}
 use Rattle.cs_search.specs.Refusals.{IsAccepted, SilentOnError, has_write_failed}
 use Rattle.cs_search.specs.GrepFaults.{IsSearchFault}
-use Rattle.cs_search.specs.Searcher.{Prints, IsPrinted, PrintsAllFaults, PrintsPrefix}
+use Rattle.cs_search.specs.Searcher.{PrintsAllFaults}
 use Rattle.cs_history.specs.MatchingFiles.{names_matching}
 use Rattle.cs_search.specs.Csearch.{IsQueryOf, IndexQuery, file_text, Keeps, csearch_printed, AreAccepted, OpensWhole, RefusedInOrder}
 use Rattle.cs_search.specs.Plans.{IsPlan, RefusesPlan}
@@ -46,9 +44,8 @@ use Rattle.cs_search.specs.declared.plan.Plan.{Plan}
 use Rattle.cs_search.specs.declared.status.Status.{Status}
 use Rattle.cs_args.proofs.ArgSplitLemmas.{slice_get-prefix}
 use Rattle.cs_search.proofs.CgrepLemmas.{read_once, decides_program}
-use Rattle.cs_search.specs.IndexSearch.{FileRefused, OpenRefused, file_fault_at, file_pattern_fault, names_at, IsCompiled, DecidesNames}
-use Rattle.cs_search.specs.Printed.{Printed, NamedFault, AreFaultsOf, file_printed, all_printed, both_printed}
-use Rattle.cs_search.proofs.PrintedInputLemmas.{none_printed, all_append, both_printed-nothing}
+use Rattle.cs_search.specs.IndexSearch.{FileRefused, file_fault_at, file_pattern_fault, names_at, IsCompiled, DecidesNames}
+use Rattle.cs_search.specs.Printed.{Printed, NamedFault, AreFaultsOf, file_printed, all_printed}
 
 -- ---- errors of the `-f` pattern
 
@@ -58,64 +55,6 @@ file_refused_at text error fault is refused = (refused, λ memory. cc)
 
 pub file_refused : (text : List ℕ) (error : PatternError) → IsParseError text false error → FileRefused (Some text) (file_pattern_fault error)
 file_refused text error refused = file_refused_at text error error.fault refl refused
-
--- ---- names, one after the other
-
-module _ (names : List (List ℕ)) where
-  pub names_at_more : (ids : List ℕ) (at : ℕ) → at < length ids → names_at names (take (at + 1) ids) ≡ names_at names (take at ids) ++ names_at names (get_or ids at 0 ∷ [])
-  unfolding names_at
-  names_at_more ids at low = ap (filter_map (slice_get names)) (take_more ids at 0 low) ∙ filter_map-append (slice_get names) (take at ids) (get_or ids at 0 ∷ [])
-
-  names_at_split : (ids : List ℕ) (n : ℕ) → names_at names ids ≡ names_at names (take n ids) ++ names_at names (drop n ids)
-  unfolding names_at
-  names_at_split ids n = ap (filter_map (slice_get names)) (sym (take-append-drop n ids)) ∙ filter_map-append (slice_get names) (take n ids) (drop n ids)
-
-  -- followed by the names of the remaining ids
-  pub names_at_rest : (ids : List ℕ) (at : ℕ) → at < length ids → names_at names ids ≡ (names_at names (take at ids) ++ names_at names (get_or ids at 0 ∷ [])) ++ names_at names (drop (at + 1) ids)
-  names_at_rest ids at low = names_at_split ids (at + 1) ∙ ap (λ l. l ++ names_at names (drop (at + 1) ids)) (names_at_more ids at low)
-
-  pub name_at : (id : ℕ) (name : List ℕ) → slice_get names id ≡ Some name → names_at names (id ∷ []) ≡ name ∷ []
-  unfolding names_at
-  name_at id name there = ap (λ (o : Option (List ℕ)). cons_option o []) there
-
-module _ (printed : List ℕ → Printed) (keeps : List ℕ → Bool) (names : List (List ℕ)) where
-  pub chosen_more : (ids : List ℕ) (at : ℕ) → at < length ids →
-      all_printed printed (filter keeps (names_at names (take (at + 1) ids)))
-      ≡ both_printed (all_printed printed (filter keeps (names_at names (take at ids)))) (all_printed printed (filter keeps (names_at names (get_or ids at 0 ∷ []))))
-  chosen_more ids at low =
-      ap (λ (l : List (List ℕ)). all_printed printed (filter keeps l)) (names_at_more names ids at low)
-      ∙ ap (all_printed printed) (filter-append keeps (names_at names (take at ids)) (names_at names (get_or ids at 0 ∷ [])))
-      ∙ all_append printed (filter keeps (names_at names (take at ids))) (filter keeps (names_at names (get_or ids at 0 ∷ [])))
-
-  -- followed by the remaining ids
-  pub chosen_rest : (ids : List ℕ) (at : ℕ) → at < length ids →
-      all_printed printed (filter keeps (names_at names ids))
-      ≡ both_printed (both_printed (all_printed printed (filter keeps (names_at names (take at ids)))) (all_printed printed (filter keeps (names_at names (get_or ids at 0 ∷ []))))) (all_printed printed (filter keeps (names_at names (drop (at + 1) ids))))
-  chosen_rest ids at low =
-      let first = names_at names (take at ids) ++ names_at names (get_or ids at 0 ∷ []) in
-      let rest = names_at names (drop (at + 1) ids) in
-      let chosen_first : all_printed printed (filter keeps first) ≡ both_printed (all_printed printed (filter keeps (names_at names (take at ids)))) (all_printed printed (filter keeps (names_at names (get_or ids at 0 ∷ [])))) = ap (λ l. all_printed printed (filter keeps l)) (sym (names_at_more names ids at low)) ∙ chosen_more ids at low in
-      ap (λ (l : List (List ℕ)). all_printed printed (filter keeps l)) (names_at_rest names ids at low)
-      ∙ ap (all_printed printed) (filter-append keeps first rest)
-      ∙ all_append printed (filter keeps first) (filter keeps rest)
-      ∙ ap (λ (p : Printed). both_printed p (all_printed printed (filter keeps rest))) chosen_first
-
-  pub none_at : (id : ℕ) → slice_get names id ≡ None → all_printed printed (filter keeps (names_at names (id ∷ []))) ≡ none_printed
-  unfolding names_at all_printed
-  none_at id e = ap (λ (o : Option (List ℕ)). all_printed printed (filter keeps (cons_option o []))) e
-
-  module _ (id : ℕ) (name : List ℕ) (there : slice_get names id ≡ Some name) where
-    one_at : all_printed printed (filter keeps (names_at names (id ∷ []))) ≡ all_printed printed (filter keeps (name ∷ []))
-    unfolding names_at
-    one_at = ap (λ (o : Option (List ℕ)). all_printed printed (filter keeps (cons_option o []))) there
-
-    pub left_out_at : keeps name ≡ false → all_printed printed (filter keeps (names_at names (id ∷ []))) ≡ none_printed
-    unfolding all_printed
-    left_out_at e = one_at ∙ ap (λ t. all_printed printed (cond t (name ∷ []) [])) e
-
-    pub kept_at : keeps name ≡ true → all_printed printed (filter keeps (names_at names (id ∷ []))) ≡ printed name
-    unfolding all_printed
-    kept_at e = one_at ∙ ap (λ t. all_printed printed (cond t (name ∷ []) [])) e ∙ both_printed-nothing (printed name)
 
 -- ---- the names of the candidates
 
@@ -180,16 +119,6 @@ module _ (job : SearchJob) (index : Option (List ℕ)) where
   file_second Memory accepted refused = (All, tt, refl)
   file_second fault accepted refused = absurd refused
 
-  pub open_third : (fault : ToolFault) → AreAccepted job → OpenRefused index fault → RefusesPlan job index fault
-  open_third fault accepted refused = by_index index fault accepted refused
-    where
-      by_index : (index : Option (List ℕ)) (fault : ToolFault) → AreAccepted job → OpenRefused index fault → RefusesPlan job index fault
-      by_index None NoIndex accepted refused = (All, (accepted, refl), refl)
-      by_index None fault accepted refused = absurd refused
-      by_index (Some bytes) (BadIndex fault) accepted refused = (All, (accepted, inl refused), refl)
-      by_index (Some bytes) Memory accepted refused = (All, tt, refl)
-      by_index (Some bytes) fault accepted refused = absurd refused
-
   pub bad_index : (bytes : List ℕ) (fault : IndexFault) → AreAccepted job → Fails bytes fault → RefusesPlan job (Some bytes) (index_fault fault)
   bad_index bytes IndexMemory accepted is = (All, tt, refl)
   bad_index bytes fault accepted is = (All, (accepted, inl is), refl)
@@ -238,40 +167,24 @@ names_decided (Some text) (Some program) keeps is names =
 names_decided None (Some program) keeps is names = absurd is
 names_decided (Some text) None keeps is names = absurd is
 
-pub chosen : (limit : ℕ) (style : Style) (has_match keeps : List ℕ → Bool) (parts : Parts) (query : Query) (tree : Option Snapshot) (ids : List ℕ) → ids ≡ candidates_of parts query →
-    option_map (λ (s : Snapshot). all_printed (file_printed limit Csearch style has_match s) (filter keeps (names_at parts.names ids))) tree ≡ csearch_printed limit style has_match keeps parts query tree
+pub chosen : (limit : ℕ) (style : Style) (has_match keeps : List ℕ → Bool) (parts : Parts) (query : Query) (tree : Option Snapshot) (names : List (List ℕ)) → names ≡ filter keeps (names_at parts.names (candidates_of parts query)) →
+    option_map (λ (s : Snapshot). all_printed (file_printed limit Csearch style has_match s) names) tree ≡ csearch_printed limit style has_match keeps parts query tree
 unfolding csearch_printed
-chosen limit style has_match keeps parts query tree ids is =
-    ap (λ (names : List (List ℕ)). option_map (λ (s : Snapshot). all_printed (file_printed limit Csearch style has_match s) (filter keeps names)) tree)
-    (ap (names_at parts.names) is ∙ candidates_named parts query)
+chosen limit style has_match keeps parts query tree names are =
+    ap (λ (names : List (List ℕ)). option_map (λ (s : Snapshot). all_printed (file_printed limit Csearch style has_match s) names) tree)
+    (are ∙ ap (filter keeps) (candidates_named parts query))
 
--- what a searcher with this tool, style and program prints for the names with these ids
+-- what a searcher with this tool, style and program prints for these names
 module _ (Claim : Option Printed → Type 0) (tree : Option Snapshot) (names : List (List ℕ)) where
-  abbrev By : Tool → Style → List ℕ → (List ℕ → Bool) → (List ℕ → Bool) → Type 0
-  By tool style ids has_match keeps = Claim (option_map (λ (s : Snapshot). all_printed (file_printed max_searched tool style has_match s) (filter keeps (names_at names ids))) tree)
+  abbrev By : Tool → Style → (List ℕ → Bool) → Type 0
+  By tool style has_match = Claim (option_map (λ (s : Snapshot). all_printed (file_printed max_searched tool style has_match s) names) tree)
 
-  pub by_csearch : (tool : Tool) (style wanted : Style) (matcher program : Tree) (kept file : Option Tree) (ids plan : List ℕ) → tool ≡ Csearch → style ≡ wanted → matcher ≡ program → kept ≡ file → ids ≡ plan →
-      ((has_match keeps : List ℕ → Bool) → Decides has_match matcher → DecidesNames keeps kept → By tool style ids has_match keeps) →
-      (has_match keeps : List ℕ → Bool) → Decides has_match program → DecidesNames keeps file → By Csearch wanted plan has_match keeps
-  by_csearch tool style wanted matcher program kept file ids plan is_tool is_style is_matcher named same prints has_match keeps decides decides_names =
-      subst (λ t. By t wanted plan has_match keeps) is_tool
-      (subst (λ t. By tool t plan has_match keeps) is_style
-      (subst (λ l. By tool style l has_match keeps) same
-      (prints has_match keeps (subst (Decides has_match) (sym is_matcher) decides) (subst (DecidesNames keeps) (sym named) decides_names))))
-
--- ---- what was printed for a name
-
-pub Prints-nothing : (tree : Option Snapshot) (printed : Snapshot → Printed) (out err : Option SinkModel) → ((s : Snapshot) → printed s ≡ none_printed) → Prints (option_map printed tree) out out err err false
-Prints-nothing None printed out err is = tt
-Prints-nothing (Some s) printed out err is = subst (λ (p : Printed). IsPrinted p out out err err false) (sym (is s)) (Grows-same out, Grows-same err, refl)
-
-pub Prints-as : (tree : Option Snapshot) (printed wanted : Snapshot → Printed) (out out' err err' : Option SinkModel) (matched : Bool) → ((s : Snapshot) → wanted s ≡ printed s) → Prints (option_map printed tree) out out' err err' matched → Prints (option_map wanted tree) out out' err err' matched
-Prints-as None printed wanted out out' err err' matched is p = tt
-Prints-as (Some s) printed wanted out out' err err' matched is p = subst (λ (x : Printed). IsPrinted x out out' err err' matched) (sym (is s)) p
-
-pub PrintsPrefix-as : (tree : Option Snapshot) (printed wanted : Snapshot → Printed) (out out' err err' : Option SinkModel) → ((s : Snapshot) → wanted s ≡ printed s) → PrintsPrefix (option_map printed tree) out out' err err' → PrintsPrefix (option_map wanted tree) out out' err err'
-PrintsPrefix-as None printed wanted out out' err err' is p = tt
-PrintsPrefix-as (Some s) printed wanted out out' err err' is p = subst (λ (x : Printed). PrintsPrefix (Some x) out out' err err') (sym (is s)) p
+  pub by_csearch : (tool : Tool) (style wanted : Style) (matcher program : Tree) → tool ≡ Csearch → style ≡ wanted → matcher ≡ program →
+      ((has_match : List ℕ → Bool) → Decides has_match matcher → By tool style has_match) → (has_match : List ℕ → Bool) → Decides has_match program → By Csearch wanted has_match
+  by_csearch tool style wanted matcher program is_tool is_style is_matcher prints has_match decides =
+      subst (λ t. By t wanted has_match) is_tool
+      (subst (λ t. By tool t has_match) is_style
+      (prints has_match (subst (Decides has_match) (sym is_matcher) decides)))
 
 -- ---- faults of the selected names
 
@@ -284,13 +197,24 @@ faults_kept : {X : Type 0} (f : X → List ℕ) (test : X → Bool) (xs : List X
 faults_kept f test [] faults are = are
 faults_kept f test (x ∷ xs) faults are = faults_past f (test x) x (filter test xs) xs (faults_kept f test xs) faults are
 
-faults_chosen : (parts : Parts) (query : Query) (ids : List ℕ) (faults : List NamedFault) → ids ≡ candidates_of parts query → AreFaultsOf (names_at parts.names ids) faults → AreFaultsOf parts.names faults
+faults_of_kept : (keeps : List ℕ → Bool) (names : List (List ℕ)) (faults : List NamedFault) → AreFaultsOf (filter keeps names) faults → AreFaultsOf names faults
+faults_of_kept keeps names faults are =
+    subst (λ (l : List (List ℕ)). AreFaultsOf l faults) (map-id names)
+    (faults_kept (λ (name : List ℕ). name) keeps names faults (subst (λ (l : List (List ℕ)). AreFaultsOf l faults) (sym (map-id (filter keeps names))) are))
+
+faults_chosen : (parts : Parts) (query : Query) (faults : List NamedFault) → AreFaultsOf (names_at parts.names (candidates_of parts query)) faults → AreFaultsOf parts.names faults
 unfolding names_matching
-faults_chosen parts query ids faults is are =
+faults_chosen parts query faults are =
     subst (λ (l : List (List ℕ)). AreFaultsOf l faults) (names_of_files 0 parts.names (lists_in parts))
     (faults_kept (λ (e : Entry). e.0) (λ (e : Entry). matches_set query (has e.1)) (files_read parts) faults
-    (subst (λ (l : List (List ℕ)). AreFaultsOf l faults) (ap (names_at parts.names) is ∙ candidates_named parts query) are))
+    (subst (λ (l : List (List ℕ)). AreFaultsOf l faults) (candidates_named parts query) are))
 
--- faults of candidates are faults of indexed files
-pub PrintsAllFaults-chosen : {A E : Type 0} (r : Result A E) (tool : Tool) (parts : Parts) (query : Query) (ids : List ℕ) (failed failed' : ℕ) (err err' : Option SinkModel) → ids ≡ candidates_of parts query → PrintsAllFaults tool (names_at parts.names ids) failed failed' err err' r → PrintsAllFaults tool parts.names failed failed' err err' r
-PrintsAllFaults-chosen r tool parts query ids failed failed' err err' is faults = (faults.0, faults_chosen parts query ids faults.0 is faults.1, faults.2, faults.3)
+-- faults of selected names are faults of indexed files
+pub PrintsAllFaults-chosen : {A E : Type 0} (r : Result A E) (tool : Tool) (parts : Parts) (query : Query) (keeps : List ℕ → Bool) (names : List (List ℕ)) (failed failed' : ℕ) (err err' : Option SinkModel) → names ≡ filter keeps (names_at parts.names (candidates_of parts query)) →
+    PrintsAllFaults tool names failed failed' err err' r → PrintsAllFaults tool parts.names failed failed' err err' r
+PrintsAllFaults-chosen r tool parts query keeps names failed failed' err err' are faults = (
+  faults.0,
+  faults_chosen parts query faults.0 (faults_of_kept keeps (names_at parts.names (candidates_of parts query)) faults.0 (subst (λ (l : List (List ℕ)). AreFaultsOf l faults.0) are faults.1)),
+  faults.2,
+  faults.3,
+)

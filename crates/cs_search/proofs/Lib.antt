@@ -16,4 +16,5 @@ mod MatchListLemmas
 mod InputReportLemmas
 mod SearchExamples
 mod SearchLemmas
+mod SelectionLemmas
 mod LineTestLemmas

@@ -2,10 +2,12 @@
 use Rattle.std.proofs.Common.{◌≡◌, ℕ, ◌<◌, ◌^◌, List, length, refl, sym, ap, subst, ◌∙◌, Bool, true, false, Option, Some, None, Result}
 use Rattle.cs_tree.specs.Sinks.{SinkModel}
 use Rattle.cs_index.specs.Roundtrip.{parts_written, IsIndexWith}
-use Rattle.std.specs.Prelude.{filter, option_map, string_bytes}
+use Rattle.std.specs.Prelude.{filter, map, option_map, String, string_bytes}
+use Rattle.std.specs.declared.alloc.Global.{Global}
 use Rattle.std.specs.FinMap as map'
 use Rattle.cs_tree.specs.PathSet as set
 use Rattle.cs_syntax.specs.Matching.{Tree}
+use Rattle.cs_match.specs.Decidability.{MatchingIsDecidable}
 use Rattle.cs_match.specs.Deciding.{Decides}
 use Rattle.cs_tree.specs.Snapshot.{Snapshot}
 use Rattle.cs_trigram.specs.declared.queries.Query.{Query, Query-F, fold-roll-Query}
@@ -32,8 +34,6 @@ use Rattle.cs_search.specs.InputReport.{max_searched}
 use Rattle.cs_search.specs.SearchHeadline.{SearchPremises, SearchesLikeGrep}
 use Rattle.cs_search.specs.SameSearch.{PrintsLikeCgrep}
 use Rattle.cs_search.specs.Printed.{searched_by_cgrep, Printed, all_printed, file_printed}
-use Rattle.cs_search.specs.IndexSearch.{names_at, DecidesNames}
-use Rattle.cs_index.specs.Candidates.{candidates_of}
 use Rattle.cs_index.specs.Answerable.{is_answerable}
 use Rattle.cs_index.specs.Postings.{IsListFault}
 use Rattle.cs_index.specs.declared.fault.IndexFault.{IndexFault}
@@ -43,6 +43,7 @@ use Rattle.cs_search.specs.declared.plan.Plan.{Plan}
 use Rattle.cs_search.specs.Csearch.{file_text, OpensWith, IsQueryOf, IndexQuery, DecidesSearch, csearch_printed, AreAccepted, OpensWhole, PrintsCandidates}
 use Rattle.cs_search.proofs.SkippedFileLemmas.{search_alike}
 use Rattle.cs_search.proofs.CgrepLemmas.{decides_program}
+use Rattle.cs_search.proofs.SelectionLemmas.{decided}
 use Rattle.cs_search.proofs.CsearchLemmas.{names_of_files, names_decided, accepted_plan, lists_fourth, chosen, PrintsAllFaults-chosen}
 
 -- `-brute` loses no line either
@@ -68,8 +69,8 @@ pub lists_refused : (job : SearchJob) (index : Option (List ℕ)) (plan : Plan) 
 lists_refused job index plan is parts opens fault refused =
     lists_fourth job index plan.query fault (accepted_plan job plan is) (record { parts = parts; opens = opens; is_right = is.query }) refused
 
--- a plan, and the candidates of its query
-module _ (job : SearchJob) (index : Option (List ℕ)) (plan : Plan) (is : IsPlan job plan) (indexed : List (List ℕ)) (ids : List ℕ) (selected : AreSelected plan.query index indexed ids) where
+-- a plan, and the names that it selects
+module _ (job : SearchJob) (index : Option (List ℕ)) (plan : Plan) (is : IsPlan job plan) (texts : List (String Global)) (selected : AreSelected plan index texts) where
   abbrev index_query : IndexQuery job index plan.query
   index_query = record { parts = selected.parts; opens = selected.opens; is_right = is.query }
 
@@ -77,29 +78,26 @@ module _ (job : SearchJob) (index : Option (List ℕ)) (plan : Plan) (is : IsPla
   pub ready : AreAccepted job × OpensWhole job index plan.query true
   ready = (accepted_plan job plan is, (index_query, selected.whole))
 
-  -- what is printed for the candidates
-  module _ (tree : Option Snapshot) (Prints : Option Printed → Type 0) where
-    abbrev Chosen : (List ℕ → Bool) → (List ℕ → Bool) → List (List ℕ) → Option Printed
-    Chosen has_match keeps names = option_map (λ (s : Snapshot). all_printed (file_printed max_searched Csearch job.style has_match s) (filter keeps (names_at names ids))) tree
+  -- what is printed for them
+  pub searched : (tree : Option Snapshot) (Prints : Option Printed → Type 0) →
+      ((has_match : List ℕ → Bool) → Decides has_match plan.program → Prints (option_map (λ (s : Snapshot). all_printed (file_printed max_searched Csearch job.style has_match s) (map string_bytes texts)) tree)) →
+      PrintsCandidates job index plan.query tree Prints
+  searched tree Prints prints = (
+    index_query,
+    selected.whole,
+    λ has_match keeps decides_search.
+        let decides = decides_program (string_bytes job.pattern) job.fold plan.program decides_search.pattern has_match is.program decides_search.reads decides_search.decides in
+        let kept = names_decided (file_text job) plan.file keeps is.file decides_search.names in
+        subst Prints (chosen max_searched job.style has_match keeps selected.parts plan.query tree (map string_bytes texts) (selected.kept keeps kept)) (prints has_match decides),
+  )
 
-    pub searched : ((has_match keeps : List ℕ → Bool) → Decides has_match plan.program → DecidesNames keeps plan.file → Prints (Chosen has_match keeps indexed)) → PrintsCandidates job index plan.query tree Prints
-    searched prints = (
-      index_query,
-      selected.whole,
-      λ has_match keeps decides_search.
-          let decides = decides_program (string_bytes job.pattern) job.fold plan.program decides_search.pattern has_match is.program decides_search.reads decides_search.decides in
-          let kept = names_decided (file_text job) plan.file keeps is.file decides_search.names in
-          subst Prints (ap (Chosen has_match keeps) selected.named ∙ chosen max_searched job.style has_match keeps selected.parts plan.query tree ids selected.candidates)
-          (prints has_match keeps decides kept),
-    )
-
-  -- faults of candidates are faults of indexed names
-  pub faults_chosen : {A E : Type 0} (r : Result A E) (opened : Parts) (failed failed' : ℕ) (err err' : Option SinkModel) → OpensWith index opened →
-      PrintsAllFaults Csearch (names_at indexed ids) failed failed' err err' r → PrintsAllFaults Csearch opened.names failed failed' err err' r
-  faults_chosen r opened failed failed' err err' opens faults =
+  -- faults of the selected names are faults of indexed names
+  pub faults_chosen : MatchingIsDecidable → {A E : Type 0} (r : Result A E) (opened : Parts) (failed failed' : ℕ) (err err' : Option SinkModel) → OpensWith index opened →
+      PrintsAllFaults Csearch (map string_bytes texts) failed failed' err err' r → PrintsAllFaults Csearch opened.names failed failed' err err' r
+  faults_chosen decidable r opened failed failed' err err' opens faults =
+      let test = decided decidable plan.file in
       subst (λ (p : Parts). PrintsAllFaults Csearch p.names failed failed' err err' r) (opens_once index selected.parts opened selected.opens opens)
-      (PrintsAllFaults-chosen r Csearch selected.parts plan.query ids failed failed' err err' selected.candidates
-      (subst (λ (names : List (List ℕ)). PrintsAllFaults Csearch (names_at names ids) failed failed' err err' r) selected.named faults))
+      (PrintsAllFaults-chosen r Csearch selected.parts plan.query test.0 (map string_bytes texts) failed failed' err err' (selected.kept test.0 test.1) faults)
 
 module _ (job : SearchJob) (index : Option (List ℕ)) (query : Query) (tree : Option Snapshot) (Prints : Option Printed → Type 0) (by_index : PrintsCandidates job index query tree Prints) where
   -- what is printed over a tree with a snapshot

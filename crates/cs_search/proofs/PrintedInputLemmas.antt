@@ -32,7 +32,7 @@ use Rattle.cs_search.specs.Printed.{Printed, both_printed, all_printed, input_pr
 use Rattle.cs_search.specs.Searcher.{Prints, IsPrinted, PrintsAllFaults, PrintsPrefix}
 use Rattle.cs_tree.proofs.GrowsLemmas.{Grows-chain, Grows-same}
 use Rattle.cs_tree.proofs.NameLemmas.{mapped_more}
-use Rattle.cs_tree.proofs.PrefixLemmas.{prefix_none, prefix_all, prefix_written, prefix_left, prefix_right, prefix_after, ends_failed, ends_after, may_end_after}
+use Rattle.cs_tree.proofs.PrefixLemmas.{prefix_none, prefix_all, prefix_written, prefix_left, prefix_right, prefix_after, ends_after, may_end_after}
 
 abbrev pub none_printed : Printed
 none_printed = record { output = []; errors = []; matched = false }
@@ -277,8 +277,8 @@ module _ (tool : Tool) where
   abbrev Ends : {A E : Type 0} → List (List ℕ) → ℕ → ℕ → Option SinkModel → Option SinkModel → Result A E → Type 0
   Ends names failed failed' err err' r = PrintsFaults tool names failed failed' (λ lines. EndsAfter lines err err' r)
 
-  pub PrintsFaults-no : {A E : Type 0} (r : Result A E) (fault : E) (names : List (List ℕ)) (failed : ℕ) (err : Option SinkModel) → r ≡ Err fault → Ends names failed failed err err r
-  PrintsFaults-no r fault names failed err is = ([], faults_none names, refl, ends_failed err r fault is)
+  pub PrintsFaults-no : {A E : Type 0} (r : Result A E) (fault : E) (names : List (List ℕ)) (failed failed' : ℕ) (err err' : Option SinkModel) → r ≡ Err fault → failed' ≡ failed → Grows err err' [] → Ends names failed failed' err err' r
+  PrintsFaults-no r fault names failed failed' err err' is same nothing = rw is ([], faults_none names, same, prefix_written [] err err' 0 nothing)
 
   -- an error before the outputs are flushed
   pub PrintsFaults-cut : {A E : Type 0} (r : Result A E) (fault : E) (names : List (List ℕ)) (failed failed' : ℕ) (err err' : Option SinkModel) → r ≡ Err fault → PrintsAllFaults tool names failed failed' err err' undone → Ends names failed failed' err err' r

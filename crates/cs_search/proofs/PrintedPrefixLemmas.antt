@@ -17,7 +17,7 @@ use Rattle.cs_match.proofs.LinesLemmas.{lines-split, terminated_lines-append}
 use Rattle.cs_search.specs.Report.{MatchingLine, matches_from, any_match, match_line, matches_output, tested_lines, report}
 use Rattle.cs_tree.specs.TakesPrefix.{TakesPrefix}
 use Rattle.cs_search.specs.GrepReports.{ReportsPrefix}
-use Rattle.cs_search.specs.InputReport.{input_report, fault_within}
+use Rattle.cs_search.specs.InputReport.{input_report, text_report, fault_within}
 use Rattle.cs_search.specs.TestedLines.{SameNumber, match_output, total, Tests, TestsPrefix}
 use Rattle.cs_search.specs.Progress.{HasReadInput, HasTested, Stops, TestsInput, TestsInputPrefix}
 use Rattle.cs_tree.proofs.PrefixLemmas.{prefix_left, prefix_right, prefix_all}
@@ -140,10 +140,36 @@ module _ (style : Style) (name : List ℕ) (has_match : List ℕ → Bool) (text
   unfolding report
   report_prefix fault prefix = lines_tested (is_none fault) prefix
 
-module _ (style : Style) (name : List ℕ) (has_match : List ℕ → Bool) (before : Tally) (no_lines : before.lines ≡ 0) (no_matches : before.matches ≡ 0) (sink : Option SinkModel) (limit : ℕ) where
+module _ (style : Style) (name : List ℕ) (has_match : List ℕ → Bool) (before : Tally) (no_lines : before.lines ≡ 0) (no_matches : before.matches ≡ 0) (sink : Option SinkModel) (text : List ℕ) where
   from_one : (ls : List (List ℕ)) → matches_from (before.lines + 1) has_match ls ≡ matches_from 1 has_match ls
   from_one ls = ap (λ n. matches_from (n + 1) has_match ls) no_lines
 
+  all_lines : (rest : List ℕ) → rest ≡ last_part text → terminated_lines text ++ last_line rest ≡ lines text
+  all_lines rest is = ap (λ r. terminated_lines text ++ last_line r) is ∙ sym (lines-split text)
+
+  -- at the end of the text, in the unfinished line
+  pub report_prefix-rest : (mid : Tally) (now : Option SinkModel) (rest : List ℕ) (out : Option SinkModel) → rest ≡ last_part text → SameNumber style mid.lines (length (terminated_lines text)) → (style.list ≡ true → mid.matches ≡ 0) → Tests style name has_match (terminated_lines text) before mid sink now → TestsPrefix style name has_match (last_line rest) (mid.lines + 1) now out → TakesPrefix (text_report style name has_match text).output sink out
+  unfolding report
+  report_prefix-rest mid now rest out is counted none tests prefix =
+      let tested_all = TestsPrefix-after style name has_match (terminated_lines text) (last_line rest) before mid sink now out none (λ shown. omega (arith, counted shown, no_lines)) tests prefix in
+      let matches = matches_from 1 has_match (lines text) in
+      subst (λ (hs : List MatchingLine). TakesPrefix (matches_output style name true hs) sink out) (append-nil matches)
+      (prefix_printed style name true matches [] sink out
+      (subst (λ ls. TakesPrefix (matches_output style name false ls) sink out) (ap (λ ls. matches_from (before.lines + 1) has_match ls) (all_lines rest is) ∙ from_one (lines text)) tested_all))
+
+  -- in the count
+  pub report_prefix-total : (mid after : Tally) (now later : Option SinkModel) (rest : List ℕ) (out : Option SinkModel) → rest ≡ last_part text → SameNumber style mid.lines (length (terminated_lines text)) → (style.list ≡ true → mid.matches ≡ 0) → Tests style name has_match (terminated_lines text) before mid sink now → Tests style name has_match (last_line rest) mid after now later → TakesPrefix (total style name after.matches) later out → TakesPrefix (text_report style name has_match text).output sink out
+  unfolding report
+  report_prefix-total mid after now later rest out is counted none tests last prefix =
+      let whole = subst (λ ls. Tests style name has_match ls before after sink later) (all_lines rest is) (Tests-more style name has_match (terminated_lines text) (last_line rest) before mid after sink now later (λ shown. omega (arith, counted shown, no_lines)) tests last) in
+      let matches = matches_from 1 has_match (lines text) in
+      let count : after.matches ≡ length matches = omega (arith, whole.matches, no_matches, ap (λ (hs : List MatchingLine). length hs) (from_one (lines text))) in
+      let bound = λ (e : style.list ≡ true). (let h = none e in let k : length matches ≤ 1 = omega (arith, h, last.matches, few_last style name has_match (mid.lines + 1) rest, count) in k) in
+      subst (λ bytes. TakesPrefix bytes sink out) (ap (λ n. flat_map (match_output style name) matches ++ total style name n) count ∙ printed_end style name matches bound)
+      (prefix_right _ _ sink later out (subst (λ (hs : List MatchingLine). Grows sink later (flat_map (match_output style name) hs)) (from_one (lines text)) whole.written) prefix)
+
+-- of an input that is searched up to a limit
+module _ (style : Style) (name : List ℕ) (has_match : List ℕ → Bool) (before : Tally) (no_lines : before.lines ≡ 0) (no_matches : before.matches ≡ 0) (sink : Option SinkModel) (limit : ℕ) where
   pub ReportsPrefix-read : (model : Option SourceModel) (out : Option SinkModel) → TestsInputPrefix style name has_match (before.lines + 1) sink out limit model → ReportsPrefix model (input_report limit style name has_match) sink out
   unfolding input_report
   ReportsPrefix-read None out prefix = tt
@@ -151,31 +177,16 @@ module _ (style : Style) (name : List ℕ) (has_match : List ℕ → Bool) (befo
       report_prefix style name has_match (take limit model.bytes) sink out (fault_within limit model)
       (subst (λ n. TestsPrefix style name has_match (terminated_lines (take limit model.bytes)) (n + 1) sink out) no_lines prefix)
 
-  -- at the end of the input, in the unfinished line
   pub ReportsPrefix-rest : (model : Option SourceModel) (mid : Tally) (now : Option SinkModel) (rest : List ℕ) (out : Option SinkModel) → Stops style limit End model rest mid.lines → (style.list ≡ true → mid.matches ≡ 0) → TestsInput style name has_match before mid sink now limit End model → TestsPrefix style name has_match (last_line rest) (mid.lines + 1) now out → ReportsPrefix model (input_report limit style name has_match) sink out
-  unfolding input_report report
+  unfolding input_report
   ReportsPrefix-rest None mid now rest out stops none tests prefix = tt
   ReportsPrefix-rest (Some model) mid now rest out stops none tests prefix =
-      let text = take limit model.bytes in
-      let all : terminated_lines text ++ last_line rest ≡ lines text = ap (λ r. terminated_lines text ++ last_line r) stops.1 ∙ sym (lines-split text) in
-      let tested_all = TestsPrefix-after style name has_match (terminated_lines text) (last_line rest) before mid sink now out none (λ shown. omega (arith, stops.2 shown, no_lines)) tests prefix in
-      let matches = matches_from 1 has_match (lines text) in
-      subst (λ (fault : Option ReadFault). TakesPrefix (report style name has_match text fault).output sink out) (sym stops.0)
-      (subst (λ (hs : List MatchingLine). TakesPrefix (matches_output style name true hs) sink out) (append-nil matches)
-      (prefix_printed style name true matches [] sink out
-      (subst (λ ls. TakesPrefix (matches_output style name false ls) sink out) (ap (λ ls. matches_from (before.lines + 1) has_match ls) all ∙ from_one (lines text)) tested_all)))
+      subst (λ (fault : Option ReadFault). TakesPrefix (report style name has_match (take limit model.bytes) fault).output sink out) (sym stops.0)
+      (report_prefix-rest style name has_match before no_lines no_matches sink (take limit model.bytes) mid now rest out stops.1 stops.2 none tests prefix)
 
-  -- in the count
   pub ReportsPrefix-total : (model : Option SourceModel) (mid after : Tally) (now later : Option SinkModel) (rest : List ℕ) (out : Option SinkModel) → Stops style limit End model rest mid.lines → (style.list ≡ true → mid.matches ≡ 0) → TestsInput style name has_match before mid sink now limit End model → Tests style name has_match (last_line rest) mid after now later → TakesPrefix (total style name after.matches) later out → ReportsPrefix model (input_report limit style name has_match) sink out
-  unfolding input_report report
+  unfolding input_report
   ReportsPrefix-total None mid after now later rest out stops none tests last prefix = tt
   ReportsPrefix-total (Some model) mid after now later rest out stops none tests last prefix =
-      let text = take limit model.bytes in
-      let all : terminated_lines text ++ last_line rest ≡ lines text = ap (λ r. terminated_lines text ++ last_line r) stops.1 ∙ sym (lines-split text) in
-      let whole = subst (λ ls. Tests style name has_match ls before after sink later) all (Tests-more style name has_match (terminated_lines text) (last_line rest) before mid after sink now later (λ shown. omega (arith, stops.2 shown, no_lines)) tests last) in
-      let matches = matches_from 1 has_match (lines text) in
-      let count : after.matches ≡ length matches = omega (arith, whole.matches, no_matches, ap (λ (hs : List MatchingLine). length hs) (from_one (lines text))) in
-      let bound = λ (e : style.list ≡ true). (let h = none e in let k : length matches ≤ 1 = omega (arith, h, last.matches, few_last style name has_match (mid.lines + 1) rest, count) in k) in
-      subst (λ (fault : Option ReadFault). TakesPrefix (report style name has_match text fault).output sink out) (sym stops.0)
-      (subst (λ bytes. TakesPrefix bytes sink out) (ap (λ n. flat_map (match_output style name) matches ++ total style name n) count ∙ printed_end style name matches bound)
-      (prefix_right _ _ sink later out (subst (λ (hs : List MatchingLine). Grows sink later (flat_map (match_output style name) hs)) (from_one (lines text)) whole.written) prefix))
+      subst (λ (fault : Option ReadFault). TakesPrefix (report style name has_match (take limit model.bytes) fault).output sink out) (sym stops.0)
+      (report_prefix-total style name has_match before no_lines no_matches sink (take limit model.bytes) mid after now later rest out stops.1 stops.2 none tests last prefix)

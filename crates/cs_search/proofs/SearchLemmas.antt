@@ -1,10 +1,10 @@
 -- The clauses of a search by an index, for each way in which it ends.
-use Rattle.std.proofs.Common.{◌≡◌, ℕ, true, List, ap, Option, Some, None, Result, Ok, Err, refl, inl, inr, ◌⊎◌}
-use Rattle.std.specs.Prelude.{filter, IfOk, IfErr, OnErr}
+use Rattle.std.proofs.Common.{◌≡◌, ℕ, true, List, ap, subst, Option, Some, None, Result, Ok, Err, refl, inl, inr, ◌⊎◌}
+use Rattle.std.specs.Prelude.{filter, IfOk, IfErr, IfSome, OnErr}
 use Rattle.cs_tree.specs.TakesPrefix.{EndsAfter}
-use Rattle.cs_tree.proofs.GrowsLemmas.{Grows-same}
 use Rattle.cs_tree.specs.Snapshot.{Snapshot}
 use Rattle.cs_trigram.specs.declared.queries.Query.{Query}
+use Rattle.cs_trigram.specs.declared.queries.Query.TheVariants.{All}
 use Rattle.cs_index.specs.OpenedParts.{Parts}
 use Rattle.cs_index.specs.Stored.{StoredParts}
 use Rattle.cs_index.specs.declared.fault.IndexFault.{IndexFault}
@@ -27,15 +27,18 @@ use Rattle.cs_search.proofs.MainPromiseLemmas.{like_cgrep, as_promised}
 
 module _ (job : SearchJob) (index : Option (List ℕ)) (tree : Option Snapshot) where
   -- an error before anything is searched
-  pub refused_first : (failed : ℕ) (old : SearchOutputs) (fault : ToolFault) → RefusesPlan job index fault → IsSearch job index tree failed failed old old (Err fault)
-  refused_first failed old fault refused = record {
+  pub refused_first : (failed failed' : ℕ) (old new : SearchOutputs) (fault : ToolFault) → PrintsNothing old.out new.out old.err new.err → failed' ≡ failed → RefusesPlan job index fault → IsSearch job index tree failed failed' old new (Err fault)
+  refused_first failed failed' old new fault nothing same refused = record {
     query = refused.0;
     prints = tt;
     promised = tt;
-    prefix = inl (Grows-same old.out, Grows-same old.err);
+    prefix = inl nothing;
     refused = refused.1;
-    faults = λ parts opens. PrintsFaults-no Csearch {A = Status} (Err fault) fault parts.names failed old.err refl;
+    faults = λ parts opens. PrintsFaults-no Csearch {A = Status} (Err fault) fault parts.names failed failed' old.err new.err refl same nothing.1;
   }
+
+  pub out_of_memory : (failed failed' : ℕ) (old new : SearchOutputs) → PrintsNothing old.out new.out old.err new.err → failed' ≡ failed → IsSearch job index tree failed failed' old new (Err Memory)
+  out_of_memory failed failed' old new nothing same = refused_first failed failed' old new Memory nothing same (All, tt, refl)
 
   module _ (failed failed' : ℕ) (old new : SearchOutputs) (query : Query) (ready : AreAccepted job × OpensWhole job index query true) where
     -- an error while files are searched, or in a flush
@@ -62,6 +65,15 @@ module _ (job : SearchJob) (index : Option (List ℕ)) (tree : Option Snapshot) 
       refused = ready;
       faults = faults;
     }
+
+-- ---- a store that has a model
+
+pub if_modelled : (model : Option (List ℕ)) (P : List ℕ → Type 0) → ((bytes : List ℕ) → model ≡ Some bytes → P bytes) → IfSome model P
+if_modelled None P holds = tt
+if_modelled (Some bytes) P holds = holds bytes refl
+
+pub of_model : (model : Option (List ℕ)) (P : List ℕ → Type 0) (bytes : List ℕ) → model ≡ Some bytes → IfSome model P → P bytes
+of_model model P bytes is holds = subst (λ (m : Option (List ℕ)). IfSome m P) is holds
 
 -- ---- the same by cgrep, if each file reads as it was indexed
 

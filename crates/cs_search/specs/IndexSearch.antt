@@ -1,14 +1,14 @@
--- Inside a search of an index: which names are selected, and the errors of the `-f` pattern and of opening.
-use Rattle.std.specs.Prelude.{ℕ, ◌≡◌, Bool, true, false, List, filter_map, Option, Some, None, option_map, slice_get, IsSomeAnd}
+-- Inside a search of an index: which names are selected, and the errors of the `-f` pattern.
+use Rattle.std.specs.Prelude.{ℕ, ◌≡◌, Bool, true, false, List, filter, filter_map, map, Option, Some, None, option_map, slice_get, IsSomeAnd, String, string_bytes}
+use Rattle.std.specs.declared.alloc.Global.{Global}
 use Rattle.cs_syntax.specs.Matching.{Tree}
 use Rattle.cs_syntax.specs.declared.fault.PatternFault.{PatternFault}
 use Rattle.cs_syntax.specs.declared.fault.PatternFault.TheVariants as pattern
 use Rattle.cs_syntax.specs.declared.fault.PatternError.{PatternError}
 use Rattle.cs_match.specs.Automaton.{Automaton}
 use Rattle.cs_match.specs.Deciding.{Decides}
-use Rattle.cs_index.specs.Failing.{Fails}
 use Rattle.cs_args.specs.declared.fault.ToolFault.{ToolFault}
-use Rattle.cs_args.specs.declared.fault.ToolFault.TheVariants.{FilePattern, NoIndex, BadIndex, Memory}
+use Rattle.cs_args.specs.declared.fault.ToolFault.TheVariants.{FilePattern, Memory}
 use Rattle.cs_search.specs.Refusals.{IsPatternRefused}
 use Rattle.cs_search.specs.Programs.{IsProgramOf}
 
@@ -20,6 +20,11 @@ names_at names ids = filter_map (slice_get names) ids
 abbrev pub DecidesNames : (List ℕ → Bool) → Option Tree → Type 0
 DecidesNames keeps None = (name : List ℕ) → keeps name ≡ true
 DecidesNames keeps (Some program) = Decides keeps program
+
+-- the texts are the names with these ids that the program keeps
+abbrev pub AreKept : Option Tree → List (List ℕ) → List ℕ → List (String Global) → Type 0
+AreKept file names ids texts =
+    (keeps : List ℕ → Bool) → DecidesNames keeps file → map string_bytes texts ≡ filter keeps (names_at names ids)
 
 -- the tree of a matcher, if there is one
 abbrev pub matcher_tree : Option Automaton → Option Tree
@@ -43,10 +48,3 @@ abbrev pub FileRefused : Option (List ℕ) → ToolFault → Type 0
 FileRefused text (FilePattern error) = IsSomeAnd text (λ text. IsPatternRefused text false error)
 FileRefused text Memory = Unit {0}
 FileRefused text fault = ⊥
-
--- There is no index, or its bytes do not open.
-abbrev pub OpenRefused : Option (List ℕ) → ToolFault → Type 0
-OpenRefused None NoIndex = Unit {0}
-OpenRefused (Some bytes) (BadIndex fault) = Fails bytes fault
-OpenRefused (Some bytes) Memory = Unit {0}
-OpenRefused index fault = ⊥

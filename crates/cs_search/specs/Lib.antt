@@ -47,4 +47,5 @@ pub mod Progress
 pub mod Searcher
 pub mod Programs
 pub mod IndexSearch
+pub mod Selections
 pub mod Plans

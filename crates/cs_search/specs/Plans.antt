@@ -1,5 +1,6 @@
 -- The plan of a search by an index: its contents, its errors, and the index that answers its query.
-use Rattle.std.specs.Prelude.{ℕ, ◌≡◌, true, false, List, Option, string_bytes, Err}
+use Rattle.std.specs.Prelude.{ℕ, ◌≡◌, true, false, List, Option, String, string_bytes, Err}
+use Rattle.std.specs.declared.alloc.Global.{Global}
 use Rattle.cs_syntax.specs.Matching.{Tree}
 use Rattle.cs_syntax.specs.Parsing.{ParsesAs}
 use Rattle.cs_trigram.specs.declared.queries.Query.{Query}
@@ -12,7 +13,7 @@ use Rattle.cs_search.specs.declared.plan.Plan.{Plan}
 use Rattle.cs_search.specs.declared.status.Status.{Status}
 use Rattle.cs_search.specs.Refusals.{has_write_failed}
 use Rattle.cs_search.specs.Csearch.{file_text, IsQueryOf, OpensWith, RefusedInOrder}
-use Rattle.cs_search.specs.IndexSearch.{IsCompiled}
+use Rattle.cs_search.specs.IndexSearch.{IsCompiled, AreKept}
 use Rattle.cs_search.specs.Programs.{IsProgramOf}
 
 -- A plan has a query for the pattern, and programs that match what both patterns match.
@@ -28,10 +29,10 @@ RefusesPlan job index fault =
     (query : Query) × RefusedInOrder {A = Status} job index query (Err fault)
     × (has_write_failed {A = Status} (Err fault) ≡ false)
 
--- The ids are the candidates of the index in the bytes, which has these names, and whose required lists are whole.
-pub record AreSelected (query : Query) (index : Option (List ℕ)) (names : List (List ℕ)) (ids : List ℕ) : Type 0 where
+-- The texts are the names that the plan selects from the index in the bytes: those of the candidates that `-f` keeps. Each
+-- list that the query mentions is whole.
+pub record AreSelected (plan : Plan) (index : Option (List ℕ)) (texts : List (String Global)) : Type 0 where
   pub parts : Parts
   pub opens : OpensWith index parts
-  pub named : names ≡ parts.names
-  pub candidates : ids ≡ candidates_of parts query
-  pub whole : is_answerable parts query ≡ true
+  pub whole : is_answerable parts plan.query ≡ true
+  pub kept : AreKept plan.file parts.names (candidates_of parts plan.query) texts

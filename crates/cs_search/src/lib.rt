@@ -1,6 +1,6 @@
 //! Searches inputs line by line and prints the matching lines (`grep`, `cgrep`, `csearch`). Read `specs/Report.antt`
 //! first, which says what a search of one input prints, then `specs/Printed.antt`. `grep_within` takes a limit and a
-//! buffer from the caller.
+//! buffer from the caller, and `grep_text` searches a text in memory.
 #![tactic(auto)]
 
 mod buffer;
@@ -16,10 +16,12 @@ mod printer;
 mod report;
 mod searcher;
 mod searching;
+mod selection;
 mod status;
 mod stop;
 mod stored;
 mod tally;
+mod texts;
 
 pub use buffer::LineBuffer;
 pub use csearching::csearch;
@@ -30,3 +32,4 @@ pub use report::{MAX_SEARCHED, grep, grep_within};
 pub use searching::cgrep;
 pub use status::Status;
 pub use stored::csearch_stored;
+pub use texts::grep_text;

@@ -1,24 +1,21 @@
 // The plan of a csearch job, compiled before the index or a file is read.
-ghost use Rattle.std.specs.Prelude.{◌≡◌, ◌+◌, ℕ, Bool, List, Option, IfOk, IfErr, OnErr, option_map, filter};
-ghost use Rattle.cs_tree.specs.Sinks.{CountsOne};
+ghost use Rattle.std.specs.Prelude.{◌≡◌, ◌+◌, ℕ, List, Option, IfOk, IfErr, OnOk};
+ghost use Rattle.cs_tree.specs.Sinks.{CountsOne, HasFlushed};
 ghost use Rattle.cs_tree.specs.ReadCounts.{ReadsWithin};
-ghost use Rattle.cs_match.specs.Deciding.{Decides};
-ghost use Rattle.cs_args.specs.declared.jobs.Tool.TheVariants.{Csearch};
 ghost use Rattle.cs_search.specs.InputReport.{max_searched};
 ghost use Rattle.cs_search.specs.Csearch.{IsQueryOf};
-ghost use Rattle.cs_search.specs.IndexSearch.{names_at, DecidesNames};
-ghost use Rattle.cs_search.specs.Plans.{IsPlan, RefusesPlan};
-ghost use Rattle.cs_search.specs.Printed.{all_printed, file_printed};
-ghost use Rattle.cs_search.specs.Refusals.{has_write_failed};
-ghost use Rattle.cs_search.specs.GrepFaults.{IsSearchFault};
-ghost use Rattle.cs_search.specs.Searcher.{Prints, PrintsPrefix, PrintsAllFaults};
+ghost use Rattle.cs_search.specs.Plans.{IsPlan, AreSelected, RefusesPlan};
+ghost use Rattle.cs_search.specs.Printed.{PrintsNothing};
+ghost use Rattle.cs_search.specs.Refusals.{has_write_failed, SilentOnError};
+ghost use Rattle.cs_search.specs.Searched.{IsSearch, search_outputs};
 
-use crate::csearching::search_ids;
-use crate::name_filter::{NameFilter, compile_file};
+use crate::name_filter::compile_file;
 use crate::searcher::Searcher;
-use cs_args::{SearchJob, Style, Tool, ToolFault};
-use cs_index::NameTable;
+use crate::searching::finish;
+use crate::status::Status;
+use cs_args::{SearchJob, Tool, ToolFault};
 use cs_match::Program;
+use cs_match::laws::matching_is_decidable;
 use cs_syntax::{Pattern, parse};
 use cs_tree::{Sink, Tree};
 use cs_trigram::{Query, query};
@@ -29,7 +26,7 @@ use std::alloc::{AllocError, Global};
 pub(crate) struct Plan {
     pub(crate) query: Query,
     program: Program,
-    file: Option<Program>,
+    pub(crate) file: Option<Program>,
 }
 
 impl Plan {
@@ -50,43 +47,38 @@ impl Plan {
         })
     }
 
-    /// Searches the files with these ids, if their names are kept. Returns whether some line of some
-    /// file matched.
+    /// Searches the files with these names, which the plan selects.
     pub(crate) fn search<T: Tree, O: Sink, E: Sink>(
         &self,
         alloc: Global,
-        style: Style,
-        names: &NameTable<'_>,
-        ids: &[u32],
+        job: &SearchJob,
+        names: &[String],
         tree: &mut T,
         out: &mut O,
         err: &mut E,
-    ) -> Result<bool, ToolFault>
-        ensures prints { IfOk result (λ matched. (has_match keeps : List ℕ → Bool) →
-            Decides has_match self.now.program → DecidesNames keeps self.now.file →
-            Prints (option_map (λ tree. all_printed
-            (file_printed max_searched Csearch style has_match tree)
-            (filter keeps (names_at names.now ids.now))) (T.snapshot tree.old))
-            (O.model out.old) (O.model out.new) (E.model err.old) (E.model err.new) matched) }
-        ensures prefix { OnErr result ((has_match keeps : List ℕ → Bool) →
-            Decides has_match self.now.program → DecidesNames keeps self.now.file →
-            PrintsPrefix (option_map (λ tree. all_printed
-            (file_printed max_searched Csearch style has_match tree)
-            (filter keeps (names_at names.now ids.now))) (T.snapshot tree.old))
-            (O.model out.old) (O.model out.new) (E.model err.old) (E.model err.new)) }
+    ) -> Result<Status, ToolFault>
+        requires { IsPlan job.now self.now }
+        ensures searches { (bytes : Option (List ℕ)) → AreSelected self.now bytes names.now →
+            IsSearch job.now bytes (T.snapshot tree.old) (T.failed tree.old) (T.failed tree.new)
+            (search_outputs O.model E.model out.old err.old)
+            (search_outputs O.model E.model out.new err.new) result }
+        ensures silent { SilentOnError result
+            (PrintsNothing (O.model out.old) (O.model out.new) (E.model err.old) (E.model err.new)
+            × (T.failed tree.new ≡ T.failed tree.old)
+            × (T.longest_requested tree.new ≡ T.longest_requested tree.old)) }
         ensures reads { ReadsWithin (max_searched + 1)
             (T.read_counts tree.old) (T.read_counts tree.new) }
-        ensures faults { PrintsAllFaults Csearch (names_at names.now ids.now)
-            (T.failed tree.old) (T.failed tree.new) (E.model err.old) (E.model err.new) result }
+        ensures flushed { OnOk result (HasFlushed (O.model out.new) × HasFlushed (E.model err.new)) }
         ensures writes { CountsOne (has_write_failed result)
             (O.failed out.old) (O.failed out.new) (E.failed err.old) (E.failed err.new) }
-        ensures only { IsSearchFault result }
         ensures keeps { T.snapshot tree.new ≡ T.snapshot tree.old }
     {
-        let mut searcher = Searcher::new(alloc, Tool::Csearch, style, &self.program)?;
-        let mut kept = NameFilter::new(alloc, self.file.as_ref())?;
-        let matched = search_ids(&mut searcher, &mut kept, names, ids, tree, out, err)?;
-        Ok(matched)
+        // The names are those that some test keeps.
+        matching_is_decidable();
+        let mut searcher = Searcher::new(alloc, Tool::Csearch, job.style, &self.program)?;
+        let matched = searcher.search_files(tree, names, out, err)?;
+        let status = finish(matched, out, err)?;
+        Ok(status)
     }
 }
 

@@ -119,7 +119,7 @@ pub fn grep_within<R: Source, O: Sink>(
 }
 
 /// Tests the bytes after the last newline as a line, if there are any.
-fn search_rest<O: Sink>(
+pub(crate) fn search_rest<O: Sink>(
     printer: &Printer<'_>,
     tally: &mut Tally,
     rest: &[u8],

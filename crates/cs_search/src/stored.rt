@@ -12,8 +12,8 @@ ghost use Rattle.cs_search.specs.Searched.{IsSearch, search_outputs};
 ghost use Rattle.cs_search.specs.InputReport.{max_searched};
 ghost use Rattle.cs_search.specs.StoredSearch.{IsOpened, IfRead, IsUnopened, has_output_failed};
 
-use crate::csearching::search_by;
 use crate::plan::Plan;
+use crate::selection::selected_names;
 use crate::status::Status;
 use cs_args::{SearchJob, ToolFault};
 use cs_index::{IndexFault, StoredIndex};
@@ -21,7 +21,7 @@ use cs_tree::{IoFault, Sink, Store, Tree};
 use std::alloc::Global;
 
 /// `csearch` over the bytes of a store; `opened` is what `StoredIndex::open` returned for it. Only the posting lists
-/// that the query requires are read.
+/// that the query requires and the names of the candidates are read, before anything is printed.
 ///
 /// # Errors
 ///
@@ -63,25 +63,25 @@ pub fn csearch_stored<S: Store, T: Tree, O: Sink, E: Sink>(
 {
     let ready = select(alloc, job, opened, store)?;
     match ready {
-        Ok((plan, index, ids)) => {
-            let answer = search_by(alloc, job, &plan, &index.name_table(), &ids, tree, out, err);
+        Ok((plan, names)) => {
+            let answer = plan.search(alloc, job, &names, tree, out, err);
             Ok(answer)
         }
         Err(fault) => Ok(Err(fault)),
     }
 }
 
-/// The plan of the job, the index, and the ids of the candidates.
+/// The plan of the job, and the names that it selects.
 fn select<S: Store>(
     alloc: Global,
     job: &SearchJob,
     opened: Result<StoredIndex, IndexFault>,
     store: &mut S,
-) -> Result<Result<(Plan, StoredIndex, Vec<u32>), ToolFault>, IoFault>
+) -> Result<Result<(Plan, Vec<String>), ToolFault>, IoFault>
     requires { IsOpened (S.model store.old) opened }
     ensures plan { IfOk result (λ answer. IfOk answer (λ ready. IsPlan job.now ready.0)) }
     ensures selected { IfRead (S.model store.old) result (λ index answer.
-        IfOk answer (λ ready. AreSelected ready.0.query index ready.1.names ready.2.items)) }
+        IfOk answer (λ ready. AreSelected ready.0 index ready.1.items)) }
     ensures refused { IfRead (S.model store.old) result (λ index answer.
         IfErr answer (RefusesPlan job.now index)) }
     ensures unopened { IfErr opened (λ fault. IsUnopened job.now fault result) }
@@ -99,8 +99,8 @@ fn select<S: Store>(
         Ok(index) => index,
         Err(fault) => return Ok(Err(ToolFault::from(fault))),
     };
-    match index.candidates(alloc, store, &plan.query)? {
-        Ok(ids) => Ok(Ok((plan, index, ids))),
+    match selected_names(alloc, &plan, &index, store)? {
+        Ok(names) => Ok(Ok((plan, names))),
         Err(fault) => Ok(Err(ToolFault::from(fault))),
     }
 }

@@ -1,11 +1,14 @@
 -- Sets of bytes, as lists of membership values.
-use Rattle.std.proofs.Common.{◌≡◌, ℕ, zero, suc, ◌+◌, ◌<◌, Bool, true, false, true≢false, cond, List, [], ◌∷◌, map, length, get_or, refl, sym, ◌∙◌, ap, arith, zero-add}
-use Rattle.std.proofs.lemmas.Bool.{false_from_ne_true}
+use Rattle.std.proofs.Common.{◌≡◌, ℕ, zero, suc, ◌+◌, ◌<◌, ◌||◌, Bool, true, false, true≢false, cond, List, [], ◌∷◌, map, max, length, get_or, refl, sym, ◌∙◌, ap, inl, inr, arith, zero-add}
+use Rattle.std.proofs.Math.Nat.{le-max_left, le-max_right}
+use Rattle.std.proofs.lemmas.List.{get_or_past}
+use Rattle.std.proofs.lemmas.List.FromFn.{get_or-map-range_with_len, length-map-range_with_len}
+use Rattle.std.proofs.lemmas.Bool.{false_from_ne_true, cases_lt}
 use Rattle.std.proofs.lemmas.List.Sums.{sum_by-cons}
 use Rattle.std.specs.List.{range_with_len}
 use Rattle.cs_syntax.specs.Members.{count, IsOnly}
 use Rattle.cs_syntax.specs.Matching.{member}
-use Rattle.cs_syntax.specs.ByteSet.{set_of}
+use Rattle.cs_syntax.specs.ByteSet.{set_of, union}
 
 -- the values of f at from, from + 1, .., n values in all
 abbrev answers : (ℕ → Bool) → ℕ → ℕ → List Bool
@@ -110,3 +113,23 @@ one_is_only set e b m = (m, λ k n. same set e k b n m)
     same (false ∷ set) e zero b m n = absurd (true≢false (sym m))
     same (false ∷ set) e (suc a) zero m n = absurd (true≢false (sym n))
     same (false ∷ set) e (suc a) (suc b) m n = ap suc (same set (sym (counts_out set) ∙ e) a b m n)
+
+-- the set of what both sets of 256 bytes have
+pub union_of_bytes : (s t : List Bool) → length s ≡ 256 → length t ≡ 256 → set_of (λ b. member s b || member t b) ≡ union s t
+unfolding set_of union
+union_of_bytes s t long wide =
+    let most : 256 ≡ max (length s) (length t) = rw (long, wide) refl in
+    ap (λ n. map (λ b. member s b || member t b) (range_with_len 0 n)) most
+
+pub member_union : (s t : List Bool) (b : ℕ) → member (union s t) b ≡ (member s b || member t b)
+unfolding union
+member_union s t b =
+    let f : ℕ → Bool = λ b. member s b || member t b in
+    let n = max (length s) (length t) in
+    elim (cases_lt b n) [
+      | inl lt ↦ get_or-map-range_with_len f 0 n b b false lt (omega arith)
+      | inr past ↦
+          get_or_past (map f (range_with_len 0 n)) b false (omega (arith, length-map-range_with_len f 0 n))
+          ∙ sym (ap (λ x. x || member t b) (get_or_past s b false (omega (arith, le-max_left (length s) (length t))))
+          ∙ get_or_past t b false (omega (arith, le-max_right (length s) (length t))))
+    ]

@@ -4,7 +4,7 @@ ghost use Rattle.std.specs.Char.{is_ascii_alphabetic};
 ghost use Rattle.std.specs.Int.{bit_at};
 ghost use Rattle.cs_syntax.specs.Members.{count, IsOnly};
 ghost use Rattle.cs_syntax.specs.Matching.{member};
-ghost use Rattle.cs_syntax.specs.ByteSet.{set_of, all_bytes, other_case, is_in_folded, char_set};
+ghost use Rattle.cs_syntax.specs.ByteSet.{set_of, all_bytes, other_case, is_in_folded, char_set, union};
 ghost use Rattle.cs_syntax.specs.SetWords.{TestsAs};
 ghost use Rattle.cs_syntax.specs.Ranges.{is_in_ranges};
 
@@ -79,6 +79,15 @@ impl ByteSet {
             }
         }
         None
+    }
+
+    /// The bytes that are members of either set.
+    pub fn union(&self, other: &ByteSet) -> ByteSet
+        ensures { result ≡ union self.now other.now }
+    {
+        // By their invariants, both have 256 values.
+        let (_, _) = (&self.words, &other.words);
+        ByteSet::of(|b| self.contains(b as u8) || other.contains(b as u8))
     }
 
     fn has_one(&self) -> bool

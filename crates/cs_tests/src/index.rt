@@ -1,6 +1,8 @@
 // The index: written, read, and queried.
 mod building;
 mod candidates;
+mod names;
 mod pieces;
 mod reading;
+mod sections;
 mod windows;

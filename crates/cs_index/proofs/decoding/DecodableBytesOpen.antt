@@ -305,14 +305,14 @@ split_from bytes s small h =
 -- ---- sections that pass the tests decode
 
 -- The sections pass every test.
-record Pass (s : SectionBytes) (parts : Parts) : Type 0 where
-  paths : is_section (0 ∷ []) s.paths ≡ true
-  names : (is_section (0 ∷ []) s.names || is_section [] s.names) ≡ true
-  name_index : is_name_index s.name_index (texts_of s.names) ≡ true
-  list_index : is_list_index (length s.postings) s.list_index ≡ true
-  are : parts_of s ≡ parts
+pub record Pass (s : SectionBytes) (parts : Parts) : Type 0 where
+  pub paths : is_section (0 ∷ []) s.paths ≡ true
+  pub names : (is_section (0 ∷ []) s.names || is_section [] s.names) ≡ true
+  pub name_index : is_name_index s.name_index (texts_of s.names) ≡ true
+  pub list_index : is_list_index (length s.postings) s.list_index ≡ true
+  pub are : parts_of s ≡ parts
 
-pass_from : (s : SectionBytes) (parts : Parts) → read_sections s ≡ Ok parts → Pass s parts
+pub pass_from : (s : SectionBytes) (parts : Parts) → read_sections s ≡ Ok parts → Pass s parts
 pass_from s parts h =
     let one = test_passed (is_section (0 ∷ []) s.paths) BadPaths _ parts h in
     let two = test_passed (is_section (0 ∷ []) s.names || is_section [] s.names) BadNames _ parts one.1 in

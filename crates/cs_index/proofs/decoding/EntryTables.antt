@@ -43,14 +43,8 @@ offsets_end bytes at offset within =
 pub one_entry : (long at : ℕ) → 11 ≤ long - at → (long - at) / 11 ≡ suc ((long - (at + 11)) / 11)
 one_entry long at h = omega (arith, h)
 
-pub two_entries : (long at : ℕ) → 22 ≤ long - at → (long - at) / 11 ≡ suc (suc ((long - (at + 11 + 11)) / 11))
-two_entries long at h = omega (arith, h)
-
 pub no_entry : (long at : ℕ) → long - at < 11 → (long - at) / 11 ≡ 0
 no_entry long at h = omega (arith, h)
-
-pub last_entry : (long at : ℕ) → 11 ≤ long - at → long - at < 22 → (long - at) / 11 ≡ 1
-last_entry long at h g = omega (arith, h, g)
 
 -- ---- ascending trigrams
 
@@ -114,13 +108,34 @@ pub entry_none : (bytes : List ℕ) (g : ℕ) → ((k : ℕ) → k < length byte
 unfolding entries_in
 entry_none bytes g apart = none_from bytes g 0 (length bytes / 11) (λ k l. subst (λ m. trigram_at bytes m ≢ g) (let z : 11 * k ≡ 0 + 11 * k = omega arith in z) (apart k l))
 
+-- the entries before one with a lower trigram, and from one on with a higher one
+pub lower_before : (bytes : List ℕ) (n middle g k : ℕ) → n ≡ length bytes / 11 → rises (entries_in bytes) ≡ true → middle < n → trigram_at bytes (11 * middle) < g → k < middle + 1 → trigram_at bytes (11 * k) < g
+unfolding entries_in
+lower_before bytes n middle g k at up h less l =
+    let order = rise_to bytes (length bytes / 11) k middle up (omega (arith, l)) (omega (arith, h, at)) in
+    omega (arith, order, less)
+
+pub higher_from : (bytes : List ℕ) (n middle g k : ℕ) → n ≡ length bytes / 11 → rises (entries_in bytes) ≡ true → g ≤ trigram_at bytes (11 * middle) → middle ≤ k → k < n → g ≤ trigram_at bytes (11 * k)
+unfolding entries_in
+higher_from bytes n middle g k at up more l h =
+    let order = rise_to bytes (length bytes / 11) middle k up l (omega (arith, h, at)) in
+    omega (arith, order, more)
+
+-- a trigram that is not at its index in the ascending entries has no entry
+pub not_elsewhere : (bytes : List ℕ) (g position k : ℕ) → rises (entries_in bytes) ≡ true → position < length bytes / 11 → ((j : ℕ) → j < position → trigram_at bytes (11 * j) < g) → g ≤ trigram_at bytes (11 * position) → trigram_at bytes (11 * position) ≢ g → k < length bytes / 11 → trigram_at bytes (11 * k) ≢ g
+unfolding entries_in
+not_elsewhere bytes g position k up within below above other l e =
+    elim (cases_order k position) [
+      | inl is ↦ other (ap (λ j. trigram_at bytes (11 * j)) (sym is) ∙ e)
+      | inr order ↦ elim order [
+        | inl before ↦ let less = below k before in omega (arith, e, less)
+        | inr behind ↦ let far = rise_to bytes (length bytes / 11) position k up (omega (arith, behind)) l in omega (arith, e, far, above, other)
+      ]
+    ]
+
 pub in_from : (bytes : List ℕ) → entries_in bytes ≡ entries_from bytes 0 ((length bytes - 0) / 11)
 unfolding entries_in
 in_from bytes = ap (entries_from bytes 0) (let z : length bytes / 11 ≡ (length bytes - 0) / 11 = omega arith in z)
-
-pub rises_in : (bytes : List ℕ) → rises (entries_in bytes) ≡ true → rises (entries_from bytes 0 (length bytes / 11)) ≡ true
-unfolding entries_in
-rises_in bytes h = h
 
 length-from : (bytes : List ℕ) (at n : ℕ) → length (entries_from bytes at n) ≡ n
 length-from bytes at zero = refl

@@ -1,6 +1,6 @@
 -- The offset of a name.
-use Rattle.std.specs.Prelude.{bytes_eq}
-use Rattle.std.proofs.Common.{◌≡◌, ℕ, zero, suc, ◌+◌, ◌*◌, ◌<◌, ◌≤◌, true, eqb, List, [], ◌∷◌, ◌++◌, length, map, drop, get_or, refl, sym, ap, subst, ◌∙◌, arith, inl, inr, ◌⊎◌, length-drop, Option, Some, None, Bor, slice_get}
+use Rattle.std.specs.Prelude.{bytes_eq, unwrap_or}
+use Rattle.std.proofs.Common.{◌≡◌, ℕ, zero, suc, ◌+◌, ◌*◌, ◌<◌, ◌≤◌, true, eqb, List, [], ◌∷◌, ◌++◌, length, map, drop, get_or, refl, sym, ap, subst, ◌∙◌, arith, append_assoc, inl, inr, ◌⊎◌, length-drop, Option, Some, None, Bor, slice_get}
 use Rattle.std.proofs.lemmas.Bool.{or_cases, and_parts}
 use Rattle.std.specs.List.{AllByRecursion, concat}
 use Rattle.std.specs.Option.{option_copied}
@@ -53,6 +53,37 @@ name_begins names name_index id is index h =
       | inl closed ↦ begin_at (0 ∷ []) names (number_at name_index (4 * id)) id (inr refl) (section_read (0 ∷ []) names closed) offset h
       | inr bare ↦ begin_at [] names (number_at name_index (4 * id)) id (inl refl) (section_read [] names bare) offset h
     ]
+
+-- The name with an id stands at the offset.
+pub record NameStands (names : List ℕ) (offset : ℕ) (name : List ℕ) : Type 0 where
+  pub more : List ℕ
+  pub there : drop offset names ≡ with_nul name ++ more
+  pub string : IsString name
+  pub within : offset ≤ length names
+
+drop_get : (texts : List (List ℕ)) (id : ℕ) (name : List ℕ) → slice_get texts id ≡ Some name → drop id texts ≡ name ∷ drop (suc id) texts
+drop_get [] zero name h = cc
+drop_get [] (suc id) name h = cc
+drop_get (text ∷ texts) zero name h = ap (λ n. n ∷ texts) (ap (λ (o : Option (List ℕ)). unwrap_or o text) h)
+drop_get (text ∷ texts) (suc id) name h = drop_get texts id name h
+
+pub name_stands : (names name_index : List ℕ) (id : ℕ) (name : List ℕ) → is_names_section names ≡ true → is_name_index name_index (texts_of names) ≡ true → id < length (texts_of names) → slice_get (texts_of names) id ≡ Some name → NameStands names (number_at name_index (4 * id)) name
+name_stands names name_index id name is index h named =
+    let begins = name_begins names name_index id is index h in
+    let rest : List ℕ = drop (number_at name_index (4 * id)) names in
+    let texts : texts_of rest ≡ name ∷ drop (suc id) (texts_of names) = begins.texts ∙ drop_get (texts_of names) id name named in
+    elim (or_cases (is_section (0 ∷ []) rest) (is_section [] rest) begins.formed) [
+      | inl closed ↦ stands_first (0 ∷ []) rest texts (section_read (0 ∷ []) rest closed) begins.within refl
+      | inr bare ↦ stands_first [] rest texts (section_read [] rest bare) begins.within refl
+    ]
+  where
+    stands_first : (closing rest : List ℕ) → texts_of rest ≡ name ∷ drop (suc id) (texts_of names) → AreStrings closing (texts_of rest) rest → number_at name_index (4 * id) ≤ length names → rest ≡ drop (number_at name_index (4 * id)) names → NameStands names (number_at name_index (4 * id)) name
+    stands_first closing rest texts read within same = record {
+      more = concat (map with_nul (drop (suc id) (texts_of names))) ++ closing;
+      there = sym same ∙ read.1 ∙ ap (λ (ts : List (List ℕ)). concat (map with_nul ts) ++ closing) texts ∙ append_assoc (with_nul name) (concat (map with_nul (drop (suc id) (texts_of names)))) closing;
+      string = (subst (AllByRecursion IsString) texts read.0).0;
+      within = within;
+    }
 
 slice_drop : (texts : List (List ℕ)) (id : ℕ) → slice_get texts id ≡ slice_get (drop id texts) 0
 slice_drop [] zero = refl

@@ -1,9 +1,9 @@
 -- Reading the posting list of an entry.
 use Rattle.std.specs.Prelude.{bytes_eq}
-use Rattle.std.proofs.Common.{◌≡◌, ◌≢◌, ℕ, zero, suc, ◌+◌, ◌<◌, ◌≤◌, ◌^◌, cond, eqb, List, [], ◌∷◌, length, take, drop, get_or, refl, sym, ap, subst, ◌∙◌, inl, inr, arith, drop-cons, length-drop, length-take}
+use Rattle.std.proofs.Common.{◌≡◌, ◌≢◌, ℕ, zero, suc, ◌+◌, ◌<◌, ◌≤◌, ◌^◌, cond, List, [], ◌∷◌, length, take, drop, get_or, refl, sym, ap, subst, ◌∙◌, inl, inr, arith, drop-cons, length-drop, length-take}
 use Rattle.cs_index.specs.PostingLists.{damage, read_ids, read_list}
 use Rattle.cs_tree.specs.ByteList.{AreBytes}
-use Rattle.std.proofs.lemmas.Bool.{cases_Bool, cases_lt, eqb-false, eqb-true, false_from_ne_true}
+use Rattle.std.proofs.lemmas.Bool.{cases_lt, false_from_ne_true}
 use Rattle.std.proofs.lemmas.Nat.{be_bytes_4}
 use Rattle.std.proofs.lemmas.List.{get_or_past}
 use Rattle.std.proofs.lemmas.List.Elements.{All-get_or}
@@ -47,9 +47,8 @@ pub trigram_small : (bytes : List ℕ) (at : ℕ) → Small bytes → trigram_at
 unfolding trigram_at
 trigram_small bytes at small = let a = small at in let b = small (at + 1) in let d = small (at + 2) in omega (arith, a, b, d)
 
-pub list_short : (postings list_index : List ℕ) (at name_count : ℕ) → length postings < number_at list_index (at + 7) + 3 → damage ≡ read_list postings name_count (entry_at list_index at)
-list_short postings list_index at name_count h =
-    let e : ListEntry = entry_at list_index at in
+pub list_short : (postings : List ℕ) (name_count : ℕ) (e : ListEntry) → length postings < e.offset + 3 → damage ≡ read_list postings name_count e
+list_short postings name_count e h =
     let slices : length (take 3 (drop e.offset postings)) < 3 = let l = length-drop e.offset postings in let m = length-take 3 (drop e.offset postings) in omega (arith, h, l, m) in
     sym (ap (λ b. cond b (read_ids name_count e.count 0 (drop (e.offset + 3) postings)) damage) (false_from_ne_true (bytes_eq (take 3 (drop e.offset postings)) (three_bytes e.trigram)) (λ t. let long = not_longer (take 3 (drop e.offset postings)) (three_bytes e.trigram) t in omega (arith, slices, long))))
 
@@ -63,12 +62,3 @@ pub list_there : (postings list_index : List ℕ) (at name_count : ℕ) → numb
 list_there postings list_index at name_count h small is =
     let e : ListEntry = entry_at list_index at in
     sym (ap (λ b. cond b (read_ids name_count e.count 0 (drop (e.offset + 3) postings)) damage) ((bytes_decides (take 3 (drop e.offset postings)) (three_bytes e.trigram)).1 (sym (three_of postings e.offset h small) ∙ ap three_bytes is)))
-
--- a list begins with a trigram if it has its three bytes
-pub is_named : (piece list_index : List ℕ) (at : ℕ) → 3 ≤ length piece → Small piece → Small list_index → eqb (trigram_at piece 0) (trigram_at list_index at) ≡ bytes_eq (take 3 piece) (three_bytes (trigram_at list_index at))
-is_named piece list_index at h small small' = elim (cases_Bool (eqb (trigram_at piece 0) (trigram_at list_index at))) [
-  | inl here ↦ here ∙ sym ((bytes_decides (take 3 piece) (three_bytes (trigram_at list_index at))).1 (sym (three_of piece 0 h small) ∙ ap three_bytes (eqb-true (trigram_at piece 0) (trigram_at list_index at) here)))
-  | inr apart ↦ apart ∙ sym (false_from_ne_true (bytes_eq (take 3 piece) (three_bytes (trigram_at list_index at))) (λ t.
-      eqb-false (trigram_at piece 0) (trigram_at list_index at) apart
-      (three_once (trigram_at piece 0) (trigram_at list_index at) (trigram_small piece 0 small) (trigram_small list_index at small') (three_of piece 0 h small ∙ (bytes_decides (take 3 piece) (three_bytes (trigram_at list_index at))).0 t))))
-]

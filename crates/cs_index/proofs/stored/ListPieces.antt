@@ -10,6 +10,7 @@ use Rattle.cs_index.specs.AscendingIds.{AscendWithin, BeginsFrom, ids_onward, ma
 use Rattle.cs_index.specs.Encoding.{ListEntry, stream_of, three_bytes}
 use Rattle.cs_index.specs.PostingLists.{Ids, before, damage, onto, read_ids, read_list, read_varint, varint_at}
 use Rattle.cs_index.specs.StoredLists.{ListState, bytes_left, ids_left, with_piece, GivesBelow, Holds, IsReady, SkipsBelow}
+use Rattle.cs_index.proofs.postings.ListAtEntry.{list_short}
 use Rattle.cs_index.proofs.postings.EncodedRuns.{all_below, left_prefix, onward_below}
 use Rattle.cs_index.proofs.encoding.VarintRoundtrip.{after_delta, below_limit}
 
@@ -337,6 +338,30 @@ module _ (bytes piece : List ℕ) (start room offset len : ℕ) (is : piece ≡ 
 
     pub open_read : bytes_eq (take 3 piece) (three_bytes e.trigram) ≡ true → read_ids name_count e.count 0 (part_of bytes (start + offset + 3) (start + room - (start + offset + 3))) ≡ read_list (part_of bytes start room) name_count e
     open_read same = sym (read_named ∙ ap (λ b. cond b (read_ids name_count e.count 0 (part_of bytes (start + offset + 3) (start + room - (start + offset + 3)))) damage) same)
+
+-- the section ends before the list
+pub open_short : (bytes : List ℕ) (start room name_count : ℕ) (e : ListEntry) → room < e.offset + 4 → damage ≡ read_list (part_of bytes start room) name_count e
+open_short bytes start room name_count e h =
+    let postings : List ℕ = part_of bytes start room in
+    let l = length-take room (drop start bytes) in
+    elim (cases_lt (length postings) (e.offset + 3)) [
+      | inl less ↦ list_short postings name_count e less
+      | inr more ↦
+          let d = length-drop (e.offset + 3) postings in
+          let none : drop (e.offset + 3) postings ≡ [] = no_items (drop (e.offset + 3) postings) (omega (arith, h, l, d)) in
+          sym (ap (λ ids. cond (named postings) ids damage) (ap (read_ids name_count e.count 0) none ∙ unread name_count e.count 0 [] refl) ∙ both (named postings))
+    ]
+  where
+    named : List ℕ → Bool
+    named postings = bytes_eq (take 3 (drop e.offset postings)) (three_bytes e.trigram)
+
+    both : (b : Bool) → cond b damage damage ≡ damage
+    both true = refl
+    both false = refl
+
+    no_items : (xs : List ℕ) → length xs ≡ 0 → xs ≡ []
+    no_items [] e = refl
+    no_items (x ∷ xs) e = absurd (omega (arith, e))
 
 -- ---- lists with other pieces
 

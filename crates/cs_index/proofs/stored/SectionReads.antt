@@ -1,19 +1,26 @@
 -- The sections of an index that are read from a store.
-use Rattle.std.proofs.Common.{◌≡◌, ℕ, ◌-◌, ◌≤◌, true, not, cond, List, length, drop, Option, Some, None, Result, Ok, Err, sym, ap, subst, ◌∙◌, arith, length-drop}
+use Rattle.std.proofs.Common.{◌≡◌, ℕ, ◌-◌, ◌≤◌, true, false, not, Vec, Global, [], ◌∷◌, cond, List, length, drop, Option, Some, None, Result, Ok, Err, refl, sym, ap, subst, ◌∙◌, arith, length-drop}
 use Rattle.std.proofs.lemmas.List.{length-take-le}
 use Rattle.std.specs.Prelude.{IfSome, IfOk, slice_range}
-use Rattle.cs_tree.specs.Store.{part_of}
 use Rattle.cs_tree.specs.ByteList.{AreBytes}
 use Rattle.cs_tree.specs.declared.fault.IoFault.{IoFault}
 use Rattle.cs_index.specs.declared.fault.IndexFault.{IndexFault}
 use Rattle.cs_index.specs.declared.fault.IndexFault.TheVariants.{BadPaths, BadNames, BadNameIndex, BadListIndex}
 use Rattle.cs_index.specs.declared.reading.section_offsets.SectionOffsets.{SectionOffsets}
-use Rattle.cs_index.specs.Opening.{split_of, entries_in, is_list_index, opening, parts_of, read_sections, texts_of, OpensAs}
+use Rattle.cs_index.specs.Encoding.{SectionBytes}
+use Rattle.cs_index.specs.OpenedParts.{Parts}
+use Rattle.cs_index.specs.Opening.{is_list_index, is_name_index, is_names_section, is_section, opening, parts_of, read_sections, sections_at, split_of, texts_of}
 use Rattle.cs_index.specs.ValidSections.{AreValidSections, read_split}
-use Rattle.cs_index.specs.StoredOpening.{AreAscendingOffsets, sections_at, with_lists, SectionsOpenAs}
-use Rattle.cs_index.specs.Stored.{StoredParts, EndsBy, whole_of, DecodesOrFails}
+use Rattle.cs_index.specs.StoredOpening.{AreAscendingOffsets, with_lists}
+use Rattle.cs_index.specs.Stored.{StoredParts, DecodesOrFails, OpensAs}
+use Rattle.cs_index.specs.SectionPieces.{ArePathsRead}
 use Rattle.cs_index.proofs.decoding.DecodableBytesOpen.{rise_from, opened_decodes}
 use Rattle.cs_index.proofs.decoding.FirstFailure.{fails_so}
+
+-- what holds of the bytes of a modelled store
+pub if_modelled : (model : Option (List ℕ)) (P : List ℕ → Type 0) → ((bytes : List ℕ) → model ≡ Some bytes → P bytes) → IfSome model P
+if_modelled None P so = tt
+if_modelled (Some bytes) P so = so bytes refl
 
 -- ---- facts about a store whose model does not change
 
@@ -28,10 +35,6 @@ pub if_some_map : (A B : List ℕ → Type 0) (t : Option (List ℕ)) → ((b : 
 if_some_map A B None so a = tt
 if_some_map A B (Some bytes) so a = so bytes a
 
-pub if_some_any : (t : Option (List ℕ)) → IfSome t (λ _. Unit {0})
-if_some_any None = tt
-if_some_any (Some bytes) = tt
-
 -- ---- the sections
 
 -- valid sections open as their parts
@@ -40,51 +43,52 @@ tested p n i l lists room long is =
     let entries : is_list_index (length lists) l ≡ true = ap (λ k. is_list_index k l) long ∙ is.entries in
     λ t. cond (not (is.each_path t)) (Err BadPaths) (cond (not (is.each_name t)) (Err BadNames) (cond (not (is.offsets t)) (Err BadNameIndex) (cond (not (entries t)) (Err BadListIndex) (Ok (parts_of (with_lists p n i l lists))))))
 
--- All sections except the posting lists are those of the bytes.
-pub record Were (s : SectionOffsets) (p n i l bytes : List ℕ) : Type 0 where
-  pub paths : p ≡ part_of bytes s.paths (s.names - s.paths)
-  pub names : n ≡ part_of bytes s.names (s.postings - s.names)
-  pub name_index : i ≡ part_of bytes s.name_index (s.list_index - s.name_index)
-  pub list_index : l ≡ part_of bytes s.list_index (s.trailer - s.list_index)
+module _ (s : SectionBytes) where
+  abbrev parts : Result Parts IndexFault
+  parts = Ok (parts_of s)
 
-module _ (s : SectionOffsets) (order : AreAscendingOffsets s) (p n i l bytes : List ℕ) (within : s.trailer ≤ length bytes) (were : Were s p n i l bytes) where
-  abbrev lists : List ℕ
-  lists = slice_range bytes s.postings s.name_index
+  abbrev last_test : Result Parts IndexFault
+  last_test = cond (not (is_list_index (length s.postings) s.list_index)) (Err BadListIndex) parts
 
-  sections_are : with_lists p n i l lists ≡ sections_at bytes s
-  sections_are = λ t. with_lists (were.paths t) (were.names t) (were.name_index t) (were.list_index t) lists
+  abbrev offsets_test : Result Parts IndexFault
+  offsets_test = cond (not (is_name_index s.name_index (texts_of s.names))) (Err BadNameIndex) last_test
 
-  lists_long : length lists ≡ s.name_index - s.postings
-  lists_long =
-      let rise = rise_from s.paths s.names s.postings s.name_index s.list_index s.trailer order.order in
-      let l = length-drop s.postings bytes in
-      length-take-le (s.name_index - s.postings) (drop s.postings bytes) (omega (arith, rise.de, rise.ea, within, l))
+  abbrev names_test : Result Parts IndexFault
+  names_test = cond (not (is_names_section s.names)) (Err BadNames) offsets_test
 
-  pub fault_read : (fault : IndexFault) → ((postings : List ℕ) → length postings ≡ s.name_index - s.postings → read_sections (with_lists p n i l postings) ≡ Err fault) → read_sections (sections_at bytes s) ≡ Err fault
-  fault_read fault so = ap read_sections (sym sections_are) ∙ so lists lists_long
+  pub bad_paths : is_section (0 ∷ []) s.paths ≡ false → read_sections s ≡ Err BadPaths
+  bad_paths h = ap (λ b. cond (not b) (Err BadPaths) names_test) h
 
-  abbrev stored : StoredParts
-  stored = record { paths = texts_of p; names = texts_of n; entries = entries_in l; start = s.postings; room = s.name_index - s.postings }
+  module _ (paths : is_section (0 ∷ []) s.paths ≡ true) where
+    pub bad_names : is_names_section s.names ≡ false → read_sections s ≡ Err BadNames
+    bad_names h = λ t. cond (not (paths t)) (Err BadPaths) (cond (not (h t)) (Err BadNames) offsets_test)
 
-  pub stored_read : AreValidSections p n i l (s.name_index - s.postings) → read_sections (sections_at bytes s) ≡ Ok (whole_of bytes stored)
-  stored_read is = ap read_sections (sym sections_are) ∙ tested p n i l lists (s.name_index - s.postings) lists_long is
+    module _ (names : is_names_section s.names ≡ true) where
+      pub bad_name_index : is_name_index s.name_index (texts_of s.names) ≡ false → read_sections s ≡ Err BadNameIndex
+      bad_name_index h = λ t. cond (not (paths t)) (Err BadPaths) (cond (not (names t)) (Err BadNames) (cond (not (h t)) (Err BadNameIndex) last_test))
 
--- ---- the four sections
+      pub bad_list_index : is_name_index s.name_index (texts_of s.names) ≡ true → is_list_index (length s.postings) s.list_index ≡ false → read_sections s ≡ Err BadListIndex
+      bad_list_index offsets h = λ t. cond (not (paths t)) (Err BadPaths) (cond (not (names t)) (Err BadNames) (cond (not (offsets t)) (Err BadNameIndex) (cond (not (h t)) (Err BadListIndex) parts)))
 
-pub were_modelled : (s : SectionOffsets) (p n i l : List ℕ) (t1 t2 t3 t4 : Option (List ℕ)) → t2 ≡ t1 → t3 ≡ t2 → t4 ≡ t3
-    → IfSome t1 (λ b. p ≡ part_of b s.paths (s.names - s.paths)) → IfSome t2 (λ b. n ≡ part_of b s.names (s.postings - s.names))
-    → IfSome t3 (λ b. i ≡ part_of b s.name_index (s.list_index - s.name_index)) → IfSome t4 (λ b. l ≡ part_of b s.list_index (s.trailer - s.list_index))
-    → IfSome t1 (Were s p n i l)
-were_modelled s p n i l t1 t2 t3 t4 e2 e3 e4 a b c d =
-    if_some_map _ (Were s p n i l) t1 (λ bytes all. record { paths = all.0; names = all.1.0; name_index = all.1.1.0; list_index = all.1.1.1 })
-    (if_some_both _ _ t1 t2 e2 a (if_some_both _ _ t2 t3 e3 b (if_some_both _ _ t3 t4 e4 c d)))
+-- ---- the sections of a store
+
+-- paths that were kept are valid
+pub closed_paths : (section : List ℕ) (found : Option (Vec ℕ Global)) (paths : Vec ℕ Global) → found ≡ Some paths → ArePathsRead section found → IfSome found (λ paths. is_section (0 ∷ []) paths.items ≡ true) → (paths.items ≡ section) × (is_section (0 ∷ []) section ≡ true)
+closed_paths section found paths is read closed =
+    let same : paths.items ≡ section = subst (ArePathsRead section) is read in
+    (same, sym (ap (is_section (0 ∷ [])) same) ∙ subst (λ (f : Option (Vec ℕ Global)). IfSome f (λ paths. is_section (0 ∷ []) paths.items ≡ true)) is closed)
+
+pub lists_long : (bytes : List ℕ) (s : SectionOffsets) → AreAscendingOffsets s → s.trailer ≤ length bytes → length (slice_range bytes s.postings s.name_index) ≡ s.name_index - s.postings
+lists_long bytes s order within =
+    let rise = rise_from s.paths s.names s.postings s.name_index s.list_index s.trailer order.order in
+    let l = length-drop s.postings bytes in
+    length-take-le (s.name_index - s.postings) (drop s.postings bytes) (omega (arith, rise.de, rise.ea, within, l))
 
 -- ---- the whole index
 
-pub opened : (bytes : List ℕ) (s : SectionOffsets) (answer : Result StoredParts IndexFault) → split_of bytes ≡ Ok (sections_at bytes s) → s.trailer ≤ length bytes → SectionsOpenAs bytes (sections_at bytes s) answer → IfOk answer (λ stored. EndsBy stored s.trailer) → OpensAs bytes answer
+pub opened : (bytes : List ℕ) (s : SectionBytes) (answer : Result Parts IndexFault) → split_of bytes ≡ Ok s → read_sections s ≡ answer → opening bytes ≡ answer
 unfolding opening
-opened bytes s (Ok stored) slices within read before = (ap read_split slices ∙ read, omega (arith, within, before))
-opened bytes s (Err fault) slices within read before = ap read_split slices ∙ read
+opened bytes s answer split read = ap read_split split ∙ read
 
 pub not_opened : (bytes : List ℕ) (fault : IndexFault) → split_of bytes ≡ Err fault → opening bytes ≡ Err fault
 unfolding opening
@@ -93,7 +97,7 @@ not_opened bytes fault slices = ap read_split slices
 -- ---- what opens decodes
 
 decodes_or_fails : (bytes : List ℕ) (answer : Result StoredParts IndexFault) → AreBytes bytes → OpensAs bytes answer → DecodesOrFails bytes answer
-decodes_or_fails bytes (Ok stored) are opens = (opened_decodes bytes (whole_of bytes stored) are opens.0, opens.1)
+decodes_or_fails bytes (Ok stored) are (parts, stands) = (parts, opened_decodes bytes parts are (opened bytes (sections_at bytes stored.starts) (Ok parts) stands.split stands.read), stands)
 decodes_or_fails bytes (Err fault) are closed = fails_so bytes fault are closed
 
 pub model_decodes : (model : Option (List ℕ)) (result : Result (Result StoredParts IndexFault) IoFault) → IfSome model AreBytes

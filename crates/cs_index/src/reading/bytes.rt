@@ -2,6 +2,7 @@
 ghost use Rattle.std.specs.Prelude.{◌≡◌, ◌≢◌, ◌≤◌, ◌<◌, ◌+◌, ◌++◌, [], ◌∷◌, ℕ, List, Option, length, IfSome, IfNone, slice_get, true, false, ◌||◌, bytes_eq};
 ghost use Rattle.cs_tree.specs.NamesAscending.{are_ascending};
 ghost use Rattle.cs_index.specs.ValidSections.{HasNoText};
+ghost use Rattle.cs_index.specs.SectionPieces.{IsNoSection, IsTextRun};
 ghost use Rattle.std.specs.List.{AllByRecursion};
 ghost use Rattle.std.specs.Option.{option_copied};
 ghost use Rattle.cs_index.specs.Encoding.{with_nul};
@@ -42,30 +43,43 @@ pub(crate) fn first_text(section: &[u8]) -> Option<(&[u8], &[u8])>
     Some((&section[..end], &section[end + 1..]))
 }
 
-/// The bytes after the last string of a section, if each string is UTF-8.
-pub(crate) fn after_texts(section: &[u8]) -> Option<&[u8]>
-    ensures some { IfSome result
-        (λ rest. (is_section (0 ∷ []) section.now ≡ bytes_eq rest.now (0 ∷ [])) ×
-        (is_section [] section.now ≡ bytes_eq rest.now [])) }
-    ensures none { IfNone result
-        ((is_section (0 ∷ []) section.now ≡ false) × (is_section [] section.now ≡ false)) }
+/// The strings at the start of bytes: their length in bytes, each with its NUL, and their number.
+#[derive(Clone, Copy, Drop)]
+pub(crate) struct TextRun {
+    pub(crate) len: usize,
+    pub(crate) count: usize,
+}
+
+/// The strings at the start of a section, by its first bytes; `None` if the section is not valid.
+pub(crate) fn first_texts(piece: &[u8]) -> Option<TextRun>
+    ensures run { IfSome result (IsTextRun piece.now) }
+    ensures none { IfNone result ((more : List ℕ) → IsNoSection (piece.now ++ more)) }
 {
-    let mut rest = section;
+    let mut rest = piece;
+    let mut count = 0;
     'texts: while let Some((text, next)) = first_text(rest) {
         if std::str::from_utf8(text).is_err() {
             return None;
         }
         rest = next;
+        count += 1;
     }
-    Some(rest)
+    // A NUL without a string ends the section.
+    if rest.len() > 1 && rest[0] == 0 {
+        return None;
+    }
+    Some(TextRun {
+        len: piece.len() - rest.len(),
+        count,
+    })
 }
 
 /// Whether a section is strings and one final NUL.
 pub(crate) fn is_closed(section: &[u8]) -> bool
     ensures { result ≡ is_section (0 ∷ []) section.now }
 {
-    match after_texts(section) {
-        Some(rest) => rest == b"\0".as_slice(),
+    match first_texts(section) {
+        Some(run) => &section[run.len..] == b"\0".as_slice(),
         None => false,
     }
 }
@@ -74,10 +88,17 @@ pub(crate) fn is_closed(section: &[u8]) -> bool
 pub(crate) fn is_complete(section: &[u8]) -> bool
     ensures { result ≡ is_names_section section.now }
 {
-    match after_texts(section) {
-        Some(rest) => rest == b"\0".as_slice() || rest.is_empty(),
+    match first_texts(section) {
+        Some(run) => is_ending(&section[run.len..]),
         None => false,
     }
+}
+
+/// Whether the bytes are at most one NUL.
+pub(crate) fn is_ending(bytes: &[u8]) -> bool
+    ensures { result ≡ (bytes_eq bytes.now (0 ∷ []) || bytes_eq bytes.now []) }
+{
+    bytes == b"\0".as_slice() || bytes.is_empty()
 }
 
 /// Whether the strings of a section are strictly ascending.

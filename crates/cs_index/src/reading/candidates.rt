@@ -2,27 +2,31 @@
 // evaluated over windows of ids, so that each posting list is read once.
 ghost use Rattle.std.specs.Prelude.{◌≡◌, ◌<◌, ◌≤◌, ◌+◌, ◌-◌, ◌⊎◌, ◌^◌, ◌++◌, ℕ, List, Some, map, true, false, filter, length, slice_index_or, IfOk, IfErr, OnOk, IfSome};
 ghost use Rattle.std.specs.List.{AllByRecursion, AllZip, list_all, range_with_len};
+ghost use Rattle.cs_tree.specs.Store.{part_of};
 ghost use Rattle.cs_tree.specs.FailureCount.{count_after};
 ghost use Rattle.cs_tree.specs.Transfers.{is_io_failure};
 ghost use Rattle.cs_trigram.specs.Trigram.{has, Ascends};
 ghost use Rattle.cs_index.specs.Opening.{rises};
 ghost use Rattle.cs_index.specs.OpenedParts.{Parts};
-ghost use Rattle.cs_index.specs.Postings.{IsListFault, read_for};
+ghost use Rattle.cs_index.specs.PostingLists.{read_list};
+ghost use Rattle.cs_index.specs.Postings.{IsListFault};
 ghost use Rattle.cs_index.specs.Candidates.{candidates_of};
 ghost use Rattle.cs_index.specs.Answerable.{is_answerable, AreCandidates};
 ghost use Rattle.cs_index.specs.Form.{IsForm, number_matches};
 ghost use Rattle.cs_index.specs.Rows.{are_whole, have_id, IsLeft, IsReadOn};
-ghost use Rattle.cs_index.specs.Stored.{whole_of};
+ghost use Rattle.cs_index.specs.Stored.{StandsIn};
+ghost use Rattle.cs_index.specs.StoredEntries.{AreListed, entry_read, trigrams_listed};
 ghost use Rattle.cs_index.specs.StoredLists.{HasLists, Holds, IsSection, ids_left};
 
 use crate::fault::IndexFault;
-use crate::reading::entries::entry_offset;
+use crate::reading::entries::ENTRY_LEN;
 use crate::reading::form::{Form, NOTHING, form_of};
 use crate::reading::index::Index;
-use crate::reading::query_trigrams::listed_trigrams;
+use crate::reading::query_trigrams::listed_entries;
 use crate::reading::rarest::{next_start, rarest_list};
 use crate::reading::rows::{Window, row_at, rows_of};
 use crate::reading::stored::StoredIndex;
+use crate::reading::stored_entries::{Entry, StoredEntries};
 use crate::reading::stored_list::{ListSection, StoredList};
 use cs_tree::{IoFault, MemStore, Store};
 use cs_trigram::Query;
@@ -49,16 +53,23 @@ impl<'a> Index<'a> {
         ensures whole { IfOk result (λ _. is_answerable self.now query.now ≡ true) }
         ensures fault { IfErr result (IsListFault (is_answerable self.now query.now)) }
     {
-        let mut store = MemStore::new(self.slices.postings, usize::MAX);
+        let mut list_index = MemStore::new(self.slices.list_index, usize::MAX);
+        let entries = StoredEntries {
+            start: 0,
+            count: self.slices.list_index.len() / ENTRY_LEN,
+        };
+        let mut postings = MemStore::new(self.slices.postings, usize::MAX);
         let section = ListSection {
-            list_index: self.slices.list_index,
             start: 0,
             room: self.slices.postings.len(),
             name_count: self.len(),
         };
-        match candidates_in(alloc, &mut store, &section, query) {
+        // No read of bytes in memory fails.
+        let Ok(listed) = listed_entries(alloc, &mut list_index, &entries, query) else {
+            return Err(IndexFault::Memory);
+        };
+        match candidates_in(alloc, &mut postings, &section, &listed, query) {
             Ok(answer) => answer,
-            // No read of bytes in memory fails.
             Err(_) => Err(IndexFault::Memory),
         }
     }
@@ -73,40 +84,48 @@ impl StoredIndex {
         store: &mut S,
         query: &Query,
     ) -> Result<Result<Vec<u32>, IndexFault>, IoFault>
-        ensures answers { IfSome (S.model store.old) (λ bytes.
-            IfOk result (AreCandidates query.now (whole_of bytes self.now))) }
+        ensures answers { (bytes : List ℕ) → S.model store.old ≡ Some bytes → (parts : Parts) →
+            StandsIn bytes self.now parts → IfOk result (AreCandidates query.now parts) }
         ensures keeps { S.model store.new ≡ S.model store.old }
         ensures size { S.size store.new ≡ S.size store.old }
         ensures failed { S.failed store.new
             ≡ count_after is_io_failure result (S.failed store.old) }
     {
-        let section = ListSection {
-            list_index: &self.list_index,
-            start: self.start,
-            room: self.room,
-            name_count: self.name_table().len(),
+        let starts = &self.starts;
+        let entries = StoredEntries {
+            start: starts.list_index,
+            count: (starts.trailer - starts.list_index) / ENTRY_LEN,
         };
-        candidates_in(alloc, store, &section, query)
+        let section = ListSection {
+            start: starts.postings,
+            room: starts.name_index - starts.postings,
+            name_count: self.name_count,
+        };
+        let listed = listed_entries(alloc, store, &entries, query)?;
+        candidates_in(alloc, store, &section, &listed, query)
     }
 }
 
-/// The ids of the names whose trigrams match the query, by the lists of a section of the store.
+/// The ids of the names whose trigrams match the query, by the lists of its entries in a section of the store.
 fn candidates_in<S: Store>(
     alloc: Global,
     store: &mut S,
-    section: &ListSection<'_>,
+    section: &ListSection,
+    listed: &[Entry],
     query: &Query,
 ) -> Result<Result<Vec<u32>, IndexFault>, IoFault>
-    requires { IsSection section.now }
+    requires section { IsSection section.now }
+    requires ascend { Ascends (trigrams_listed listed.now) }
     ensures answers { (bytes : List ℕ) → S.model store.old ≡ Some bytes → (parts : Parts) →
-        HasLists bytes section.now parts → IfOk result (AreCandidates query.now parts) }
+        HasLists bytes section.now parts → rises parts.entries ≡ true →
+        AreListed query.now parts.entries listed.now → IfOk result (AreCandidates query.now parts) }
     ensures keeps { S.model store.new ≡ S.model store.old }
     ensures size { S.size store.new ≡ S.size store.old }
     ensures failed { S.failed store.new ≡ count_after is_io_failure result (S.failed store.old) }
 {
-    let trigrams = listed_trigrams(alloc, section.list_index, query)?;
+    let trigrams = trigrams_of(alloc, listed)?;
     let form = form_of(alloc, &trigrams, query)?;
-    let mut lists = lists_of(alloc, store, section, &trigrams)?;
+    let mut lists = lists_of(alloc, store, section, listed)?;
     let ids = meet(alloc, store, &form, &mut lists, section.name_count)?;
     if finish_all(alloc, store, lists)? {
         Ok(Ok(ids))
@@ -115,28 +134,39 @@ fn candidates_in<S: Store>(
     }
 }
 
-/// The posting list of each trigram.
+/// The trigrams of entries.
+fn trigrams_of(alloc: Global, entries: &[Entry]) -> Result<Vec<u32>, AllocError>
+    ensures { IfOk result (λ trigrams. trigrams.items ≡ trigrams_listed entries.now) }
+{
+    let mut trigrams = Vec::with_capacity(alloc, entries.len())?;
+    for entry in entries {
+        trigrams.push(entry.trigram)?;
+    }
+    Ok(trigrams)
+}
+
+/// The posting list of each entry.
 fn lists_of<S: Store>(
     alloc: Global,
     store: &mut S,
-    section: &ListSection<'_>,
-    trigrams: &[u32],
+    section: &ListSection,
+    entries: &[Entry],
 ) -> Result<Vec<StoredList>, IoFault>
     requires { IsSection section.now }
-    ensures lists { (bytes : List ℕ) → S.model store.old ≡ Some bytes → (parts : Parts) →
-        HasLists bytes section.now parts → IfOk result (λ lists.
-        map (ids_left bytes) lists.items ≡ map (read_for parts) trigrams.now) }
-    ensures count { IfOk result (λ lists. length lists.items ≡ length trigrams.now) }
+    ensures lists { (bytes : List ℕ) → S.model store.old ≡ Some bytes → IfOk result (λ lists.
+        map (ids_left bytes) lists.items ≡ map (λ e. read_list (part_of bytes section.now.start section.now.room)
+        section.now.name_count (entry_read e)) entries.now) }
+    ensures count { IfOk result (λ lists. length lists.items ≡ length entries.now) }
     ensures holds { (bytes : List ℕ) → S.model store.old ≡ Some bytes →
         IfOk result (λ lists. AllByRecursion (Holds bytes) lists.items) }
     ensures keeps { S.model store.new ≡ S.model store.old }
     ensures size { S.size store.new ≡ S.size store.old }
     ensures failed { S.failed store.new ≡ count_after is_io_failure result (S.failed store.old) }
 {
-    let size = piece_size(trigrams.len());
-    let mut lists = Vec::with_capacity(alloc, trigrams.len())?;
-    for trigram in trigrams {
-        lists.push(trigram_list(alloc, store, section, *trigram, size)?)?;
+    let size = piece_size(entries.len());
+    let mut lists = Vec::with_capacity(alloc, entries.len())?;
+    for entry in entries {
+        lists.push(StoredList::open(alloc, store, section, entry, size)?)?;
     }
     Ok(lists)
 }
@@ -146,29 +176,6 @@ fn piece_size(lists: usize) -> usize
     ensures { 8 ≤ result }
 {
     (PIECES / lists.saturating_add(1)).clamp(LEAST_PIECE, LONGEST_PIECE)
-}
-
-/// The posting list of a trigram; empty if the trigram has no entry.
-fn trigram_list<S: Store>(
-    alloc: Global,
-    store: &mut S,
-    section: &ListSection<'_>,
-    trigram: u32,
-    size: usize,
-) -> Result<StoredList, IoFault>
-    requires section { IsSection section.now }
-    requires longest { 8 ≤ size }
-    ensures ids { (bytes : List ℕ) → S.model store.old ≡ Some bytes → (parts : Parts) →
-        HasLists bytes section.now parts → IfOk result (λ list. ids_left bytes list ≡ read_for parts trigram) }
-    ensures holds { (bytes : List ℕ) → S.model store.old ≡ Some bytes → IfOk result (Holds bytes) }
-    ensures keeps { S.model store.new ≡ S.model store.old }
-    ensures size { S.size store.new ≡ S.size store.old }
-    ensures failed { S.failed store.new ≡ count_after is_io_failure result (S.failed store.old) }
-{
-    match entry_offset(section.list_index, trigram) {
-        Some(at) => StoredList::open(alloc, store, section, at, size),
-        None => Ok(StoredList::ended(alloc, true)),
-    }
 }
 
 /// The ids below `count` that match a form, window by window. A window begins at an id of the rarest list that the form

@@ -1,8 +1,9 @@
 // The name index and the list index.
-ghost use Rattle.std.specs.Prelude.{◌≡◌, ◌≤◌, ◌<◌, ◌+◌, ◌*◌, ◌/◌, ◌^◌, ◌∷◌, [], ◌||◌, ℕ, None, true, length, Some, IfSome, IfNone};
+ghost use Rattle.std.specs.Prelude.{◌≡◌, ◌≤◌, ◌<◌, ◌+◌, ◌*◌, ◌/◌, ◌^◌, ◌∷◌, ◌++◌, [], ◌||◌, ℕ, List, None, true, false, length, Some, IfSome, IfNone};
 ghost use Rattle.cs_index.specs.Postings.{entry_of};
 ghost use Rattle.cs_index.specs.PostingLists.{read_list};
-ghost use Rattle.std.specs.List.{list_all};
+ghost use Rattle.cs_index.specs.SectionPieces.{are_entries};
+ghost use Rattle.cs_index.specs.ValidSections.{has_starts};
 ghost use Rattle.cs_index.specs.Encoding.{ListEntry};
 ghost use Rattle.cs_index.specs.Opening.{entries_in, entry_at, trigram_at, is_entry, is_list_index, is_name_index, is_names_section, rises, texts_of};
 ghost use Rattle.cs_index.specs.AscendingIds.{max_ids};
@@ -10,70 +11,57 @@ ghost use Rattle.cs_index.specs.AscendingIds.{max_ids};
 use crate::reading::bytes::{first_text, read_number, read_trigram};
 use crate::reading::postings::Postings;
 
-const ENTRY_LEN: usize = 11;
+pub(crate) const ENTRY_LEN: usize = 11;
 
-/// Whether the name index is the offset of each name, and one more number.
-pub(crate) fn has_offsets(name_index: &[u8], names: &[u8]) -> bool
-    requires { is_names_section names.now ≡ true }
-    ensures { result ≡ is_name_index name_index.now (texts_of names.now) }
+/// Whether the numbers are the offset of each name, the first at `start`, and one more number.
+pub(crate) fn has_offsets(numbers: &[u8], names: &[u8], start: usize) -> bool
+    requires names { is_names_section names.now ≡ true }
+    requires fits { start + length names.now < 2 ^ 64 }
+    ensures { result ≡ has_starts numbers.now 0 start (texts_of names.now) }
 {
     let mut rest = names;
-    let mut offset = 0;
+    let mut offset = start;
     let mut at = 0;
     'names: while let Some((name, next)) = first_text(rest) {
-        if name_index.len() - at < 8 {
+        if numbers.len() - at < 8 {
             return false;
         }
-        if read_number(name_index, at) as usize != offset {
+        if read_number(numbers, at) as usize != offset {
             return false;
         }
         offset += name.len() + 1;
         at += 4;
         rest = next;
     }
-    name_index.len() - at == 4
+    numbers.len() - at == 4
 }
 
 /// Whether the list index is entries of ascending trigrams that fit a section of `room` bytes.
-#[tactic(auto, unfolding(crate::specs::Opening::is_list_index))]
 pub(crate) fn has_entries(list_index: &[u8], room: usize) -> bool
     ensures { result ≡ is_list_index room list_index.now }
 {
-    if list_index.len() % ENTRY_LEN != 0 {
-        return false;
-    }
-    if !trigrams_rise(list_index) {
-        return false;
-    }
-    entries_fit(list_index, room)
+    list_index.len() % ENTRY_LEN == 0 && test_entries(list_index, 0, room).is_some()
 }
 
-/// Whether the trigrams of the entries are strictly ascending.
-fn trigrams_rise(list_index: &[u8]) -> bool
-    ensures { result ≡ rises (entries_in list_index.now) }
+/// The least trigram after some entries, if their trigrams are strictly ascending from `least` on and each entry fits a
+/// section of `room` bytes.
+pub(crate) fn test_entries(entries: &[u8], least: usize, room: usize) -> Option<usize>
+    ensures some { IfSome result (λ next. (more : List ListEntry) →
+        are_entries room least (entries_in entries.now ++ more) ≡ are_entries room next more) }
+    ensures none { IfNone result ((more : List ListEntry) →
+        are_entries room least (entries_in entries.now ++ more) ≡ false) }
 {
+    let mut next = least;
     let mut at = 0;
-    'entries: while list_index.len() - at >= 2 * ENTRY_LEN {
-        if read_trigram(list_index, at) >= read_trigram(list_index, at + ENTRY_LEN) {
-            return false;
+    'entries: while entries.len() - at >= ENTRY_LEN {
+        let trigram = read_trigram(entries, at) as usize;
+        if trigram < next || !entry_fits(entries, at, room) {
+            return None;
         }
+        next = trigram + 1;
         at += ENTRY_LEN;
     }
-    true
-}
-
-/// Whether every entry fits a section of `room` bytes.
-fn entries_fit(list_index: &[u8], room: usize) -> bool
-    ensures { result ≡ list_all (is_entry room) (entries_in list_index.now) }
-{
-    let mut at = 0;
-    'entries: while list_index.len() - at >= ENTRY_LEN {
-        if !entry_fits(list_index, at, room) {
-            return false;
-        }
-        at += ENTRY_LEN;
-    }
-    true
+    Some(next)
 }
 
 /// Whether the entry fits a section of `room` bytes.

@@ -207,7 +207,7 @@ pub(crate) fn test_sections(
     if !is_complete(names) {
         return Err(IndexFault::BadNames);
     }
-    if !has_offsets(name_index, names) {
+    if !has_offsets(name_index, names, 0) {
         return Err(IndexFault::BadNameIndex);
     }
     if !has_entries(list_index, room) {

@@ -1,31 +1,53 @@
 // The trigrams of a query.
-ghost use Rattle.std.specs.Prelude.{◌≡◌, ◌&&◌, ◌||◌, ℕ, true, IfOk, OnOk};
+ghost use Rattle.std.specs.Prelude.{◌≡◌, ◌<◌, ◌+◌, ◌*◌, ◌^◌, ◌||◌, ℕ, List, Some, IfOk, OnOk};
 ghost use Rattle.std.specs.List.{list_any};
+ghost use Rattle.cs_tree.specs.FailureCount.{count_after};
+ghost use Rattle.cs_tree.specs.Transfers.{is_io_failure};
 ghost use Rattle.cs_trigram.specs.Trigram.{has, Ascends};
 ghost use Rattle.cs_index.specs.Answerable.{mentions};
-ghost use Rattle.cs_index.specs.Opening.{entries_in, rises};
-ghost use Rattle.cs_index.specs.Postings.{has_entry};
+ghost use Rattle.cs_index.specs.Opening.{entries_in};
+ghost use Rattle.cs_index.specs.StoredEntries.{AreListed, HasEntries, trigrams_listed};
 
-use crate::reading::entries::entry_offset;
+use crate::reading::stored_entries::{Entry, StoredEntries};
+use cs_tree::{IoFault, Store};
 use cs_trigram::Query;
 use std::alloc::{AllocError, Global};
 
-/// The trigrams that a query mentions and that have an entry, ascending.
-pub(crate) fn listed_trigrams(
+/// The entries of the trigrams that a query mentions, ascending. A trigram without an entry has none.
+pub(crate) fn listed_entries<S: Store>(
     alloc: Global,
-    list_index: &[u8],
+    store: &mut S,
+    entries: &StoredEntries,
     query: &Query,
-) -> Result<Vec<u32>, AllocError>
-    requires { rises (entries_in list_index.now) ≡ true }
-    ensures listed { IfOk result (λ trigrams. (g : ℕ) →
-        has trigrams.items g ≡ (mentions query.now g && has_entry (entries_in list_index.now) g)) }
+) -> Result<Vec<Entry>, IoFault>
+    requires { entries.now.start + 11 * entries.now.count < 2 ^ 63 }
+    ensures listed { (bytes : List ℕ) → S.model store.old ≡ Some bytes → (list_index : List ℕ) →
+        HasEntries bytes entries.now list_index →
+        IfOk result (λ listed. AreListed query.now (entries_in list_index) listed.items) }
+    ensures ascend { IfOk result (λ listed. Ascends (trigrams_listed listed.items)) }
+    ensures keeps { S.model store.new ≡ S.model store.old }
+    ensures size { S.size store.new ≡ S.size store.old }
+    ensures failed { S.failed store.new ≡ count_after is_io_failure result (S.failed store.old) }
+{
+    let trigrams = mentioned_trigrams(alloc, query)?;
+    let mut listed = Vec::new(alloc);
+    for trigram in &trigrams {
+        if let Some(entry) = entries.find(store, *trigram)? {
+            listed.push(entry)?;
+        }
+    }
+    Ok(listed)
+}
+
+/// The trigrams that a query mentions, ascending.
+fn mentioned_trigrams(alloc: Global, query: &Query) -> Result<Vec<u32>, AllocError>
+    ensures mentioned { IfOk result (λ trigrams. (g : ℕ) → has trigrams.items g ≡ mentions query.now g) }
     ensures ascend { IfOk result (λ trigrams. Ascends trigrams.items) }
 {
     let mut trigrams = Vec::new(alloc);
     gather(&mut trigrams, query)?;
     trigrams.sort_unstable();
     trigrams.dedup();
-    trigrams.retain(|trigram| entry_offset(list_index, *trigram).is_some());
     Ok(trigrams)
 }
 

@@ -1,29 +1,28 @@
-// An index in a store: its names and tables are in memory, its posting lists stay in the store.
-ghost use Rattle.std.specs.Prelude.{◌≡◌, ◌≤◌, ◌<◌, ◌^◌, length, IfOk, IfSome};
+// An index in a store. It is tested in pieces when it is opened, and read by position.
+ghost use Rattle.std.specs.Prelude.{◌≡◌, ◌≤◌, ◌<◌, ◌^◌, length, Ok, IfOk, IfSome, List, ℕ};
 ghost use Rattle.cs_tree.specs.FailureCount.{count_after};
 ghost use Rattle.cs_tree.specs.Transfers.{is_io_failure};
-ghost use Rattle.cs_index.specs.StoredOpening.{AreAscendingOffsets, sections_at, SectionsOpenAs};
-ghost use Rattle.cs_index.specs.Stored.{EndsBy, DecodesOrFails};
-ghost use Rattle.cs_index.specs.Opening.{OpensAs};
+ghost use Rattle.cs_index.specs.OpenedParts.{Parts};
+ghost use Rattle.cs_index.specs.Opening.{sections_at, split_of};
+ghost use Rattle.cs_index.specs.StoredOpening.{AreAscendingOffsets};
+ghost use Rattle.cs_index.specs.Stored.{OpensAs, DecodesOrFails, StandsIn};
+ghost use Rattle.cs_index.specs.NameReading.{ReadsNames};
 
 use crate::fault::IndexFault;
-use crate::reading::index::test_sections;
-use crate::reading::name_table::NameTable;
+use crate::reading::name_reader::NameReader;
 use crate::reading::section_offsets::{SectionOffsets, find_offsets};
+use crate::reading::stored_sections::{has_stored_entries, read_paths, test_names};
 use crate::reading::texts::Texts;
-use cs_tree::{IoFault, Store, read_part};
+use cs_tree::{IoFault, Store};
 use std::alloc::Global;
 use std::marker::Model;
 
-/// An index in a store. Its paths, names and both tables are in memory; its posting lists are not.
+/// An index in a store. Its paths are in memory; its names, its tables and its posting lists are not.
 #[derive(Drop)]
 pub struct StoredIndex {
     pub(crate) paths: Vec<u8>,
-    pub(crate) names: Vec<u8>,
-    pub(crate) name_index: Vec<u8>,
-    pub(crate) list_index: Vec<u8>,
-    pub(crate) start: usize,
-    pub(crate) room: usize,
+    pub(crate) name_count: u32,
+    pub(crate) starts: SectionOffsets,
 }
 
 impl Model for StoredIndex {
@@ -31,21 +30,20 @@ impl Model for StoredIndex {
 
     ghost Value = { StoredParts };
 
-    ghost use Rattle.std.specs.Prelude.{◌<◌, ◌^◌, ◌+◌};
-    ghost use Rattle.cs_index.specs.Opening.{entries_in, texts_of};
-    ghost use Rattle.cs_index.specs.ValidSections.{AreBoundedSections};
+    ghost use Rattle.std.specs.Prelude.{◌≡◌, ◌<◌, ◌^◌, ◌||◌, ◌∷◌, [], true};
+    ghost use Rattle.cs_index.specs.Opening.{texts_of, is_names_section};
+    ghost use Rattle.cs_index.specs.AscendingIds.{max_ids};
+    ghost use Rattle.cs_index.specs.StoredOpening.{AreAscendingOffsets};
 
     ghost view = { λ s. record {
       paths = texts_of s.paths.items;
-      names = texts_of s.names.items;
-      entries = entries_in s.list_index.items;
-      start = s.start;
-      room = s.room;
+      name_count = s.name_count;
+      starts = s.starts;
     } };
 
-    ghost invariant = { λ s.
-        AreBoundedSections s.paths.items s.names.items s.name_index.items s.list_index.items s.room
-        × (s.start + s.room < 2 ^ 32) };
+    ghost invariant = { λ s. (is_names_section s.paths.items ≡ true)
+        × AreAscendingOffsets s.starts
+        × (s.name_count < max_ids) };
 }
 
 impl StoredIndex {
@@ -75,51 +73,42 @@ impl StoredIndex {
         Texts::new(&self.paths)
     }
 
-    /// The names by their ids.
-    pub fn name_table(&self) -> NameTable<'_>
-        ensures { result ≡ self.now.names }
+    /// A reader of its names by their ids.
+    pub fn name_reader(&self, alloc: Global) -> NameReader
+        ensures { (bytes : List ℕ) (parts : Parts) → StandsIn bytes self.now parts → ReadsNames bytes parts result }
     {
-        NameTable::new(&self.names, &self.name_index)
+        NameReader::new(alloc, self.starts, self.name_count)
     }
 }
 
-/// Reads all sections except the posting lists, and tests them.
+/// Tests all sections except the posting lists, in the order of the variants of `IndexFault`, and keeps the paths.
 fn read_stored<S: Store>(
     alloc: Global,
     store: &mut S,
     starts: SectionOffsets,
 ) -> Result<Result<StoredIndex, IndexFault>, IoFault>
     requires { AreAscendingOffsets starts }
-    ensures opens { IfSome (S.model store.old)
-        (λ bytes. starts.trailer ≤ length bytes →
-        IfOk result (SectionsOpenAs bytes (sections_at bytes starts))) }
-    ensures within { IfOk result (λ answer. IfOk answer (λ stored. EndsBy stored starts.trailer)) }
+    ensures opens { IfSome (S.model store.old) (λ bytes. starts.trailer ≤ length bytes →
+        split_of bytes ≡ Ok (sections_at bytes starts) → IfOk result (OpensAs bytes)) }
     ensures keeps { S.model store.new ≡ S.model store.old }
     ensures size { S.size store.new ≡ S.size store.old }
     ensures failed { S.failed store.new ≡ count_after is_io_failure result (S.failed store.old) }
 {
-    let SectionOffsets {
-        paths,
-        names,
-        postings,
-        name_index,
-        list_index,
-        trailer,
-    } = starts;
-    let room = name_index - postings;
-    let path_bytes = read_part(alloc, store, paths, names - paths)?;
-    let name_bytes = read_part(alloc, store, names, postings - names)?;
-    let name_index = read_part(alloc, store, name_index, list_index - name_index)?;
-    let list_index = read_part(alloc, store, list_index, trailer - list_index)?;
-    if let Err(fault) = test_sections(&path_bytes, &name_bytes, &name_index, &list_index, room) {
-        return Ok(Err(fault));
+    let Some(paths) = read_paths(alloc, store, &starts)? else {
+        return Ok(Err(IndexFault::BadPaths));
+    };
+    let Some(names) = test_names(alloc, store, &starts)? else {
+        return Ok(Err(IndexFault::BadNames));
+    };
+    if !names.have_offsets {
+        return Ok(Err(IndexFault::BadNameIndex));
+    }
+    if !has_stored_entries(alloc, store, &starts)? {
+        return Ok(Err(IndexFault::BadListIndex));
     }
     Ok(Ok(StoredIndex {
-        paths: path_bytes,
-        names: name_bytes,
-        name_index,
-        list_index,
-        start: postings,
-        room,
+        paths,
+        name_count: names.count as u32,
+        starts,
     }))
 }

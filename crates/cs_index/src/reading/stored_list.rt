@@ -4,14 +4,14 @@ ghost use Rattle.cs_tree.specs.Store.{part_of};
 ghost use Rattle.cs_tree.specs.FailureCount.{count_after};
 ghost use Rattle.cs_tree.specs.Transfers.{is_io_failure};
 ghost use Rattle.cs_index.specs.Encoding.{three_bytes};
-ghost use Rattle.cs_index.specs.Opening.{entry_at, number_at, trigram_at};
 ghost use Rattle.cs_index.specs.PostingLists.{Ids, read_list};
 ghost use Rattle.cs_index.specs.AscendingIds.{BeginsFrom};
+ghost use Rattle.cs_index.specs.StoredEntries.{entry_read};
 ghost use Rattle.cs_index.specs.StoredLists.{GivesBelow, Holds, IsReady, SkipsBelow, IsSection, ids_left, with_piece};
 
 use crate::encoded_run::EncodedRun;
-use crate::reading::bytes::{read_number, read_trigram};
 use crate::reading::postings::decode_varint;
+use crate::reading::stored_entries::Entry;
 use cs_tree::{IoFault, Store, read_part};
 use std::alloc::Global;
 use std::marker::Model;
@@ -21,10 +21,9 @@ const TRIGRAM_LEN: usize = 3;
 /// The most bytes of a varint.
 const VARINT_LEN: usize = 5;
 
-/// The list index, and where the section of posting lists stands in a store.
+/// Where the section of posting lists stands in a store.
 #[derive(Drop)]
-pub(crate) struct ListSection<'a> {
-    pub(crate) list_index: &'a [u8],
+pub(crate) struct ListSection {
     pub(crate) start: usize,
     pub(crate) room: usize,
     pub(crate) name_count: u32,
@@ -48,6 +47,7 @@ pub(crate) struct StoredList {
 
 impl Model for StoredList {
     ghost use Rattle.std.specs.Prelude.{◌+◌, drop};
+    ghost use Rattle.cs_index.specs.StoredEntries.{entry_read};
     ghost use Rattle.cs_index.specs.StoredLists.{ListState, IsListState};
 
     ghost Value = { ListState };
@@ -67,33 +67,33 @@ impl Model for StoredList {
 }
 
 impl StoredList {
-    /// The posting list of the entry at an offset of the list index. Pieces have at most `size` bytes.
+    /// The posting list of an entry. Pieces have at most `size` bytes.
     pub(crate) fn open<S: Store>(
         alloc: Global,
         store: &mut S,
-        section: &ListSection<'_>,
-        at: usize,
+        section: &ListSection,
+        entry: &Entry,
         size: usize,
     ) -> Result<StoredList, IoFault>
         requires section { IsSection section.now }
-        requires entry { at + 11 ≤ length section.now.list_index.now }
-        requires fits { number_at section.now.list_index.now (at + 7) + 4 ≤ section.now.room }
         requires longest { 8 ≤ size }
         ensures holds { (bytes : List ℕ) → S.model store.old ≡ Some bytes → IfOk result (Holds bytes) }
         ensures ids { (bytes : List ℕ) → S.model store.old ≡ Some bytes → IfOk result (λ list. ids_left bytes list
             ≡ read_list (part_of bytes section.now.start section.now.room) section.now.name_count
-            (entry_at section.now.list_index.now at)) }
+            (entry_read entry.now)) }
         ensures keeps { S.model store.new ≡ S.model store.old }
         ensures size { S.size store.new ≡ S.size store.old }
         ensures failed { S.failed store.new ≡ count_after is_io_failure result (S.failed store.old) }
     {
-        let count = read_number(section.list_index, at + 3);
-        let offset = read_number(section.list_index, at + 7) as usize;
+        let offset = entry.offset as usize;
+        if section.room < offset + TRIGRAM_LEN + 1 {
+            return Ok(StoredList::ended(alloc, false));
+        }
         let start = section.start + offset;
-        let most = TRIGRAM_LEN + VARINT_LEN * (count as usize + 1);
+        let most = TRIGRAM_LEN + VARINT_LEN * (entry.count as usize + 1);
         let len = (section.room - offset).min(size).min(most);
         let piece = read_part(alloc, store, start, len)?;
-        if !is_list_of(&piece, section.list_index, at) {
+        if !is_list_of(&piece, entry.trigram) {
             return Ok(StoredList::ended(alloc, false));
         }
         Ok(StoredList {
@@ -102,7 +102,7 @@ impl StoredList {
             start,
             stop: section.start + section.room,
             size,
-            left: count,
+            left: entry.count,
             next: 0,
             name_count: section.name_count,
             has_ended: false,
@@ -307,14 +307,13 @@ impl StoredList {
     }
 }
 
-/// Whether a piece begins with the trigram of the entry at an offset of the list index.
-fn is_list_of(piece: &[u8], list_index: &[u8], at: usize) -> bool
-    requires { at + TRIGRAM_LEN ≤ length list_index.now }
-    ensures named { result ≡ bytes_eq (take TRIGRAM_LEN piece.now) (three_bytes (trigram_at list_index.now at)) }
+/// Whether a piece begins with a trigram.
+fn is_list_of(piece: &[u8], trigram: u32) -> bool
+    ensures named { result ≡ bytes_eq (take TRIGRAM_LEN piece.now) (three_bytes trigram) }
     ensures long { result ≡ true → TRIGRAM_LEN ≤ length piece.now }
 {
     if piece.len() < TRIGRAM_LEN {
         return false;
     }
-    read_trigram(piece, 0) == read_trigram(list_index, at)
+    piece[..TRIGRAM_LEN] == trigram.to_be_bytes()[1..]
 }

@@ -14,7 +14,7 @@ fn list_by(alloc: Global, store: &mut Changing<'_>, out: &mut MemSink) -> Result
 }
 
 /// The number of reads of a listing of `ONE_FILE`; no posting list is read.
-const READS: usize = 6;
+const READS: usize = 9;
 
 /// Whether a listing whose reads fail after this number gives this reply, this output and this
 /// number of failures.

@@ -8,7 +8,7 @@ use Rattle.cs_syntax.specs.declared.node.Node.{Node}
 use Rattle.cs_syntax.proofs.TreeLemmas.{trees_from}
 use Rattle.cs_syntax.proofs.TreeListLemmas.{append_assoc_trees, append_none}
 use Rattle.cs_match.specs.Parts.{run, runs, shape_of, shapes_of, HaveSameShape}
-use Rattle.cs_match.proofs.PartLemmas.{shape_of-Run, shape_of-Alternation, shape_of-Cat, shape_of-Alt, shapes_last, shapes_none}
+use Rattle.cs_match.proofs.PartLemmas.{shape_of-Run, shape_of-Alternation, shape_of-Cat, shapes_last, shapes_none}
 use Rattle.cs_match.proofs.ShapeLemmas.{shape_trans, cat_first, cat_rest, alt_more, before_same, only_run, position_count_append, position_count_run}
 use Rattle.cs_match.proofs.parts.+part_of.Goals as goal
 
@@ -45,7 +45,7 @@ alternation_of-returns-in-None t c =
     let ss = shapes_of c.loop-node.parts.items in
     let none_left : alt (append ss (trees_of (drop c.loop-node.node-index c.args.nodes.now))) ≡ alt ss =
     ap (λ (ns : List Node). alt (append ss (trees_of ns))) (drop_of_length-le c.args.nodes.now {i = c.loop-node.node-index} (omega arith)) ∙ ap alt (append_none ss) in
-    subst (λ (u : Tree). HaveSameShape (alt (trees_of c.args.nodes.now)) u) (none_left ∙ sym (shape_of-Alt c.loop-node.parts)) c.loop-node.invariant.same
+    subst (λ (u : Tree). HaveSameShape (alt (trees_of c.args.nodes.now)) u) (none_left ∙ sym c.alternation.ensures) c.loop-node.invariant.same
 
 pub sequence_of-loop-node-preserved : goal.sequence_of-loop-node-preserved
 sequence_of-loop-node-preserved t c =

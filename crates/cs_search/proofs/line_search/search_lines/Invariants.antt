@@ -1,4 +1,4 @@
-use Rattle.std.proofs.Common.{◌≡◌, ◌≤◌, ◌+◌, ◌-◌, true, Bool, List, ℕ, length, take}
+use Rattle.std.proofs.Common.{◌≡◌, ◌≤◌, ◌-◌, true, Bool, List, ℕ, length, take}
 use Rattle.cs_match.specs.Deciding.{Decides}
 use Rattle.cs_match.specs.Lines.{terminated_lines}
 use Rattle.cs_match.specs.Skipping.{AreWholeLines}

@@ -1,30 +1,32 @@
-use Rattle.std.proofs.Common.{Some, sym, subst, List, ℕ}
-use Rattle.cs_index.proofs.stored.SectionReads.{if_some_map}
-use Rattle.cs_search.specs.Plans.{AreSelected}
+use Rattle.std.proofs.Common.{Some, sym, subst, List, ℕ, refl, Option}
+use Rattle.cs_tree.proofs.GrowsLemmas.{Grows-same}
+use Rattle.cs_search.specs.Plans.{AreSelected, RefusesPlan}
+use Rattle.cs_search.specs.Searched.{SearchOutputs}
 use Rattle.cs_search.specs.declared.status.Status.{Status}
-use Rattle.cs_search.proofs.SearchLemmas.{refused_first, unopened_unready, unopened_as}
+use Rattle.cs_search.proofs.SearchLemmas.{if_modelled, of_model, refused_first, unopened_unready, unopened_as}
 use Rattle.cs_search.proofs.stored.csearch_stored.Goals as goal
 
--- a search of the candidates
+-- a search of the selected names
 pub returns-in-Ok-clause-searches : goal.returns-in-Ok-clause-searches
 returns-in-Ok-clause-searches g c =
-    if_some_map _ _ (g.S.Store.model c.args.store.now)
-    (λ bytes selected. c.search_by-answer.ensures.searches (Some bytes)
-    (subst (λ (names : List (List ℕ)). AreSelected c.in-Ok.plan.query (Some bytes) names c.deref.result.now) (sym c.name_table.ensures)
-    (subst (AreSelected c.in-Ok.plan.query (Some bytes) c.in-Ok.index.names) (sym c.deref.ensures.value) selected)))
-    (rw c.in-Ok.is at c.in_ok-ready.ensures.selected)
+    let model : Option (List ℕ) = g.S.Store.model c.args.store.now in
+    if_modelled model _ (λ bytes is. c.search-answer.ensures.searches (Some bytes)
+    (subst (AreSelected c.in-Ok.plan (Some bytes)) (sym c.deref.ensures.value)
+    (of_model model (λ bytes. AreSelected c.in-Ok.plan (Some bytes) c.in-Ok.names.items) bytes is (rw c.in-Ok.is at c.in_ok-ready.ensures.selected))))
 
 -- a job with an error
 pub returns-in-Err-clause-searches : goal.returns-in-Err-clause-searches
 returns-in-Err-clause-searches g c =
-    if_some_map _ _ (g.S.Store.model c.args.store.now)
-    (λ bytes refused. refused_first c.args.job.now (Some bytes) (g.T.Tree.snapshot c.args.tree.now) (g.T.Tree.failed c.args.tree.now) (record { out = g.O.Sink.model c.args.out.now; err = g.E.Sink.model c.args.err.now }) c.in-Err.fault refused)
-    (rw c.in-Err.is at c.in_ok-ready.ensures.refused)
+    let model : Option (List ℕ) = g.S.Store.model c.args.store.now in
+    let failed = g.T.Tree.failed c.args.tree.now in
+    let outputs : SearchOutputs = record { out = g.O.Sink.model c.args.out.now; err = g.E.Sink.model c.args.err.now } in
+    if_modelled model _ (λ bytes is. refused_first c.args.job.now (Some bytes) (g.T.Tree.snapshot c.args.tree.now) failed failed outputs outputs c.in-Err.fault (Grows-same outputs.out, Grows-same outputs.err) refl
+    (of_model model (λ bytes. RefusesPlan c.args.job.now (Some bytes) c.in-Err.fault) bytes is (rw c.in-Err.is at c.in_ok-ready.ensures.refused)))
 
 -- ---- an index that does not open
 
 pub returns-in-Ok-clause-unopened : goal.returns-in-Ok-clause-unopened
-returns-in-Ok-clause-unopened g c = unopened_unready _ Status c.args.job.now c.args.opened _ c.search_by-answer.result (rw c.in-Ok.is at c.in_ok-ready.ensures.unopened)
+returns-in-Ok-clause-unopened g c = unopened_unready _ Status c.args.job.now c.args.opened _ c.search-answer.result (rw c.in-Ok.is at c.in_ok-ready.ensures.unopened)
 
 pub returns-in-Err-clause-unopened : goal.returns-in-Err-clause-unopened
 returns-in-Err-clause-unopened g c = unopened_as _ Status c.args.job.now c.args.opened c.in-Err.fault (rw c.in-Err.is at c.in_ok-ready.ensures.unopened)

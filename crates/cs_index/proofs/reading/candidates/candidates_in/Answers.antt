@@ -1,38 +1,34 @@
 use Rattle.std.proofs.Common.{◌≡◌, ◌<◌, ◌∙◌, ◌&&◌, ◌++◌, ap, sym, subst, refl, ℕ, List, true, length, map, take, drop, arith}
+use Rattle.std.proofs.lemmas.List.{length-map}
 use Rattle.std.specs.List.{AllByRecursion}
 use Rattle.cs_index.specs.AscendingIds.{max_ids}
-use Rattle.cs_index.specs.Opening.{rises}
 use Rattle.cs_index.specs.OpenedParts.{Parts}
-use Rattle.cs_trigram.specs.Trigram.{has}
+use Rattle.cs_trigram.specs.Trigram.{has, Ascends}
 use Rattle.cs_index.specs.Answerable.{mentions}
-use Rattle.cs_index.specs.Encoding.{ListEntry}
 use Rattle.cs_index.specs.Postings.{has_entry, read_for}
 use Rattle.cs_index.specs.Form.{IsForm, IsNumberOf}
 use Rattle.cs_index.specs.Rows.{are_whole}
 use Rattle.cs_index.specs.StoredLists.{HasLists, Holds, IsSection, ListState, ids_left}
+use Rattle.cs_index.specs.declared.reading.stored_entries.Entry.{Entry}
 use Rattle.cs_index.specs.declared.reading.stored_list.ListSection.{ListSection}
-use Rattle.cs_index.proofs.decoding.IndexFields.{entries_rise}
 use Rattle.cs_index.proofs.candidates.MentionedLists.{all_left, ids_are, whole_answers}
 use Rattle.cs_index.proofs.candidates.WindowRows.{all_held, taken_back, whole_alike}
+use Rattle.cs_index.proofs.stored.ListSections.{listed_read}
 use Rattle.cs_index.proofs.reading.candidates.candidates_in.Goals as goal
-
-rising : (bytes : List ℕ) (s : ListSection) (parts : Parts) → IsSection s → HasLists bytes s parts → rises parts.entries ≡ true
-rising bytes s parts is has = ap rises has.entries ∙ entries_rise s.room s.list_index.now is.entries
 
 few_names : (bytes : List ℕ) (s : ListSection) (parts : Parts) → IsSection s → HasLists bytes s parts → length parts.names < max_ids
 few_names bytes s parts is has = let same = has.names in let few = is.names in omega (arith, same, few)
 
 pub returns-then-branch-clause-answers : goal.returns-then-branch-clause-answers
-returns-then-branch-clause-answers g c bytes m parts has' =
+returns-then-branch-clause-answers g c bytes m parts has' up listed =
     let s : ListSection = c.args.section.now in
     let trigrams : List ℕ = c.in_ok-trigrams.trigrams.items in
-    let up = rising bytes s parts c.requires has' in
     let lists : List ListState = c.deref_mut.result.now in
     let after : List ListState = c.meet.new.lists in
-    let are : (g : ℕ) → has trigrams g ≡ (mentions c.args.query.now g && has_entry parts.entries g) = λ g. c.in_ok-trigrams.ensures.listed g ∙ ap (λ (es : List ListEntry). mentions c.args.query.now g && has_entry es g) (sym has'.entries) in
-    let is : map (ids_left bytes) lists ≡ map (read_for parts) trigrams = ap (map (ids_left bytes)) c.deref_mut.ensures.value ∙ c.in_ok-lists.ensures.lists bytes m parts has' ∙ ap (map (read_for parts)) c.deref-2.ensures.value in
+    let are : (g : ℕ) → has trigrams g ≡ (mentions c.args.query.now g && has_entry parts.entries g) = λ g. ap (λ (xs : List ℕ). has xs g) c.in_ok-trigrams.ensures ∙ listed.all g in
+    let is : map (ids_left bytes) lists ≡ map (read_for parts) trigrams = ap (map (ids_left bytes)) c.deref_mut.ensures.value ∙ c.in_ok-lists.ensures.lists bytes m ∙ listed_read bytes s parts has' c.args.listed.now listed.each ∙ ap (map (read_for parts)) (sym c.in_ok-trigrams.ensures) in
     let held = subst (AllByRecursion (Holds bytes)) (sym c.deref_mut.ensures.value) (c.in_ok-lists.ensures.holds bytes m) in
-    let left = all_left bytes parts up c.args.query.now trigrams are lists is (few_names bytes s parts c.requires has') held in
+    let left = all_left bytes parts up c.args.query.now trigrams are lists is (few_names bytes s parts c.requires.section has') held in
     let modelled = c.lists_of.ensures.keeps ∙ m in
     let read = c.in_ok-ids.ensures.lists bytes modelled left in
     let kept : take c.in_ok-lists.lists.len (after ++ drop (length after) c.in_ok-lists.lists.items) ≡ after = taken_back c.in_ok-lists.lists.len after (drop (length after) c.in_ok-lists.lists.items) (sym (c.meet.auto.lists ∙ c.deref_mut.ensures.len)) in
@@ -46,16 +42,15 @@ returns-then-branch-clause-answers g c bytes m parts has' =
     )
 
 pub returns-clause-answers : goal.returns-clause-answers
-returns-clause-answers g c bytes m parts has' =
+returns-clause-answers g c bytes m parts has' up listed =
     let s : ListSection = c.args.section.now in
     let trigrams : List ℕ = c.in_ok-trigrams.trigrams.items in
-    let up = rising bytes s parts c.requires has' in
     let lists : List ListState = c.deref_mut.result.now in
     let after : List ListState = c.meet.new.lists in
-    let are : (g : ℕ) → has trigrams g ≡ (mentions c.args.query.now g && has_entry parts.entries g) = λ g. c.in_ok-trigrams.ensures.listed g ∙ ap (λ (es : List ListEntry). mentions c.args.query.now g && has_entry es g) (sym has'.entries) in
-    let is : map (ids_left bytes) lists ≡ map (read_for parts) trigrams = ap (map (ids_left bytes)) c.deref_mut.ensures.value ∙ c.in_ok-lists.ensures.lists bytes m parts has' ∙ ap (map (read_for parts)) c.deref-2.ensures.value in
+    let are : (g : ℕ) → has trigrams g ≡ (mentions c.args.query.now g && has_entry parts.entries g) = λ g. ap (λ (xs : List ℕ). has xs g) c.in_ok-trigrams.ensures ∙ listed.all g in
+    let is : map (ids_left bytes) lists ≡ map (read_for parts) trigrams = ap (map (ids_left bytes)) c.deref_mut.ensures.value ∙ c.in_ok-lists.ensures.lists bytes m ∙ listed_read bytes s parts has' c.args.listed.now listed.each ∙ ap (map (read_for parts)) (sym c.in_ok-trigrams.ensures) in
     let held = subst (AllByRecursion (Holds bytes)) (sym c.deref_mut.ensures.value) (c.in_ok-lists.ensures.holds bytes m) in
-    let left = all_left bytes parts up c.args.query.now trigrams are lists is (few_names bytes s parts c.requires has') held in
+    let left = all_left bytes parts up c.args.query.now trigrams are lists is (few_names bytes s parts c.requires.section has') held in
     let modelled = c.lists_of.ensures.keeps ∙ m in
     let read = c.in_ok-ids.ensures.lists bytes modelled left in
     let kept : take c.in_ok-lists.lists.len (after ++ drop (length after) c.in_ok-lists.lists.items) ≡ after = taken_back c.in_ok-lists.lists.len after (drop (length after) c.in_ok-lists.lists.items) (sym (c.meet.auto.lists ∙ c.deref_mut.ensures.len)) in
@@ -64,10 +59,10 @@ returns-clause-answers g c bytes m parts has' =
     ∙ ap (are_whole bytes) kept ∙ whole_alike bytes s.name_count lists after read in
     (refl, sym (whole_answers bytes parts up c.args.query.now trigrams are lists is) ∙ sym whole ∙ c.if-branch.false)
 
-pub listed_trigrams-requires : goal.listed_trigrams-requires
-listed_trigrams-requires g c = entries_rise c.args.section.now.room c.args.section.now.list_index.now c.requires.entries
+pub form_of-requires : goal.form_of-requires
+form_of-requires g c = subst Ascends (sym (c.deref.ensures.value ∙ c.in_ok-trigrams.ensures)) c.requires.ascend
 
 pub meet-requires : goal.meet-requires
 meet-requires g c =
     subst (λ n. IsForm n c.in_ok-form.form.nodes.items)
-    (sym (ap length c.deref_mut.ensures.value ∙ c.in_ok-lists.ensures.count ∙ ap length c.deref-2.ensures.value ∙ sym (ap length c.deref.ensures.value))) c.in_ok-form.ensures.form
+    (sym (ap length c.deref_mut.ensures.value ∙ c.in_ok-lists.ensures.count ∙ sym (length-map c.args.listed.now (λ (e : Entry). e.trigram)) ∙ sym (ap length (c.deref.ensures.value ∙ c.in_ok-trigrams.ensures)))) c.in_ok-form.ensures.form

@@ -1,13 +1,13 @@
 use Rattle.std.proofs.Common.{◌≡◌, ◌≤◌, ◌<◌, ◌+◌, ◌∙◌, ap, sym, subst, length, drop, arith}
 use Rattle.cs_index.specs.PostingLists.{read_ids}
 use Rattle.std.proofs.lemmas.List.{take_rest}
-use Rattle.cs_index.specs.Opening.{number_at, trigram_at}
+use Rattle.cs_index.specs.Opening.{entry_at, number_at, trigram_at}
 use Rattle.cs_index.proofs.postings.ListAtEntry.{list_short, list_other, list_there}
 use Rattle.cs_index.proofs.reading.entries.entry_postings.Goals as goal
 
 pub returns-then-postings-offset : goal.returns-then-postings-offset
 returns-then-postings-offset c =
-    c.damage.ensures ∙ list_short c.args.postings.now c.args.list_index.now c.args.at c.args.name_count (subst (λ n. length c.args.postings.now < n + 3) c.read_number-offset.ensures c.if-postings-offset.true)
+    c.damage.ensures ∙ list_short c.args.postings.now c.args.name_count (entry_at c.args.list_index.now c.args.at) (subst (λ n. length c.args.postings.now < n + 3) c.read_number-offset.ensures c.if-postings-offset.true)
 
 pub returns-then-read_trigram : goal.returns-then-read_trigram
 returns-then-read_trigram c =

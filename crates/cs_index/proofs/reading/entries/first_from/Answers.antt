@@ -1,18 +1,7 @@
-use Rattle.std.proofs.Common.{◌≡◌, ◌≤◌, ◌<◌, ◌+◌, ◌-◌, ◌*◌, ◌/◌, subst, true, ℕ, List, length, arith}
-use Rattle.cs_index.specs.Opening.{entries_from, rises, trigram_at}
-use Rattle.cs_index.proofs.decoding.EntryTables.{rise_to, rises_in}
+use Rattle.std.proofs.Common.{◌≤◌, ◌<◌, ◌+◌, ◌-◌, ◌*◌, ◌/◌, subst, ℕ, arith}
+use Rattle.cs_index.specs.Opening.{trigram_at}
+use Rattle.cs_index.proofs.decoding.EntryTables.{higher_from, lower_before}
 use Rattle.cs_index.proofs.reading.entries.first_from.Goals as goal
-
--- the entries before a lower trigram, and after a higher one
-before : (bytes : List ℕ) (n middle g k : ℕ) → n ≡ length bytes / 11 → rises (entries_from bytes 0 (length bytes / 11)) ≡ true → middle < n → trigram_at bytes (11 * middle) < g → k < middle + 1 → trigram_at bytes (11 * k) < g
-before bytes n middle g k at up h less l =
-    let order = rise_to bytes (length bytes / 11) k middle up (omega (arith, l)) (omega (arith, h, at)) in
-    omega (arith, order, less)
-
-behind : (bytes : List ℕ) (n middle g k : ℕ) → n ≡ length bytes / 11 → rises (entries_from bytes 0 (length bytes / 11)) ≡ true → g ≤ trigram_at bytes (11 * middle) → middle ≤ k → k < n → g ≤ trigram_at bytes (11 * k)
-behind bytes n middle g k at up more l h =
-    let order = rise_to bytes (length bytes / 11) middle k up l (omega (arith, h, at)) in
-    omega (arith, order, more)
 
 pub halves-preserved-then-read_trigram-trigram : goal.halves-preserved-then-read_trigram-trigram
 halves-preserved-then-read_trigram-trigram c =
@@ -22,7 +11,7 @@ halves-preserved-then-read_trigram-trigram c =
     record {
       order = omega arith;
       within = c.halves.invariant.within;
-      below = λ k l. before c.args.list_index.now c.args.count middle c.args.trigram k c.requires.count (rises_in c.args.list_index.now c.requires.rise) (omega (arith, within, c.halves.invariant.within)) less l;
+      below = λ k l. lower_before c.args.list_index.now c.args.count middle c.args.trigram k c.requires.count c.requires.rise (omega (arith, within, c.halves.invariant.within)) less l;
       above = c.halves.invariant.above;
     }
 
@@ -35,5 +24,5 @@ halves-preserved c =
       order = omega arith;
       within = omega (arith, within, c.halves.invariant.within);
       below = c.halves.invariant.below;
-      above = λ k l h. behind c.args.list_index.now c.args.count middle c.args.trigram k c.requires.count (rises_in c.args.list_index.now c.requires.rise) more l h;
+      above = λ k l h. higher_from c.args.list_index.now c.args.count middle c.args.trigram k c.requires.count c.requires.rise more l h;
     }

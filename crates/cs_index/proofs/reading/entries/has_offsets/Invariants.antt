@@ -1,14 +1,14 @@
 use Rattle.std.proofs.Common.{◌≡◌, ◌≤◌, ◌+◌, ◌||◌, ◌∷◌, [], true, length}
-use Rattle.cs_index.specs.Opening.{is_name_index, is_section, texts_of}
+use Rattle.cs_index.specs.Opening.{is_section, texts_of}
 use Rattle.cs_index.specs.ValidSections.{has_starts}
 use Rattle.cs_index.proofs.reading.entries.has_offsets.Given as goal
 
 abbrev pub invariant-names : goal.invariant-names
 invariant-names l = record {
   formed : (is_section (0 ∷ []) l.rest || is_section [] l.rest) ≡ true;
-  within : l.at ≤ length l.name_index;
-  offset : l.offset + length l.rest ≡ length l.names;
-  left : is_name_index l.name_index (texts_of l.names) ≡ has_starts l.name_index l.at l.offset (texts_of l.rest);
+  within : l.at ≤ length l.numbers;
+  offset : l.offset + length l.rest ≡ l.start + length l.names;
+  left : has_starts l.numbers 0 l.start (texts_of l.names) ≡ has_starts l.numbers l.at l.offset (texts_of l.rest);
 }
 
 abbrev pub decreases-names : goal.decreases-names

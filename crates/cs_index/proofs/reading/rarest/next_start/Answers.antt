@@ -1,6 +1,5 @@
-use Rattle.std.proofs.Common.{◌≡◌, ◌<◌, ◌∙◌, sym, subst, ℕ, List, Option, length, get_or, arith}
+use Rattle.std.proofs.Common.{◌<◌, ◌∙◌, sym, subst, ℕ, List, Option, length, get_or, arith}
 use Rattle.std.specs.Prelude.{IfSome}
-use Rattle.std.specs.List.{AllByRecursion}
 use Rattle.cs_index.specs.Rows.{have_id, IsLeft, IsReadTo, LacksId}
 use Rattle.cs_index.specs.StoredLists.{ListState, ids_left}
 use Rattle.cs_index.proofs.candidates.WindowRows.{have_at, held_at, none_between, not_read, one_read, read_weaker, skipped_to}

@@ -1,4 +1,4 @@
-use Rattle.std.proofs.Common.{◌≡◌, ◌+◌, ◌∙◌, ◌⊎◌, ap, sym, subst, ℕ, List, true, length, Option, Some, None, inl, inr, get_or}
+use Rattle.std.proofs.Common.{◌≡◌, ◌+◌, ◌∙◌, ◌⊎◌, ap, sym, subst, ℕ, List, true, Option, Some, inl, inr, get_or}
 use Rattle.std.specs.Prelude.{IfSome}
 use Rattle.cs_trigram.specs.Trigram.{has}
 use Rattle.cs_index.proofs.candidates.FormValues.{has_item, some_map}

@@ -1,24 +1,61 @@
-use Rattle.std.proofs.Common.{rules, ◌∙◌, sym}
-use Rattle.cs_index.specs.Opening.{read_sections}
-use Rattle.cs_index.specs.StoredOpening.{with_lists}
-use Rattle.cs_index.proofs.stored.SectionReads.{fault_read, stored_read, if_some_map, were_modelled}
+use Rattle.std.proofs.Common.{◌≡◌, ◌-◌, ◌∙◌, ap, sym, subst, true, ℕ}
+use Rattle.cs_index.specs.Encoding.{SectionBytes}
+use Rattle.cs_index.specs.Opening.{is_list_index, parts_of, sections_at, texts_of}
+use Rattle.cs_index.specs.SectionPieces.{AreNamesTested, ArePathsRead}
+use Rattle.cs_index.proofs.stored.SectionReads.{bad_list_index, bad_name_index, bad_names, bad_paths, closed_paths, if_modelled, lists_long, opened, tested}
 use Rattle.cs_index.proofs.reading.stored.read_stored.Goals as goal
 
-pub returns-in-Err-clause-opens : goal.returns-in-Err-clause-opens
-returns-in-Err-clause-opens g c =
-    if_some_map _ _ (g.S.Store.model c.args.store.now)
-    (λ bytes were within.
-    fault_read c.args.starts c.requires c.in_ok-path_bytes.path_bytes.items c.in_ok-name_bytes.name_bytes.items c.in_ok-name_index.name_index.items c.in_ok-list_index.list_index.items bytes within were c.in-Err.fault
-    (λ postings long.
-    (λ i. read_sections (with_lists (sym c.deref.ensures.value i) (sym c.deref-2.ensures.value i) (sym c.deref-3.ensures.value i) (sym c.deref-4.ensures.value i) postings)) ∙ c.in-Err.ensures.fault postings long))
-    (were_modelled c.args.starts _ _ _ _ _ _ _ _ c.in_ok-path_bytes.ensures.keeps c.in_ok-name_bytes.ensures.keeps c.in_ok-name_index.ensures.keeps
-    c.in_ok-path_bytes.ensures.bytes c.in_ok-name_bytes.ensures.bytes c.in_ok-name_index.ensures.bytes c.in_ok-list_index.ensures.bytes)
+pub returns-in_default-clause-opens : goal.returns-in_default-clause-opens
+returns-in_default-clause-opens g c =
+    if_modelled (g.S.Store.model c.args.store.now) _
+    (λ bytes m within split.
+    let s : SectionBytes = sections_at bytes c.args.starts in
+    opened bytes s _ split (bad_paths s (subst (ArePathsRead s.paths) c.in_default.is (c.in_ok-paths.ensures.paths bytes m within))))
+
+pub returns-in_default-2-clause-opens : goal.returns-in_default-2-clause-opens
+returns-in_default-2-clause-opens g c =
+    if_modelled (g.S.Store.model c.args.store.now) _
+    (λ bytes m within split.
+    let s : SectionBytes = sections_at bytes c.args.starts in
+    let paths = closed_paths s.paths c.in_ok-paths.field-0 c.in-Some.paths c.in-Some.is (c.in_ok-paths.ensures.paths bytes m within) c.in_ok-paths.ensures.closed in
+    opened bytes s _ split (bad_names s paths.1 (subst (AreNamesTested s.names s.name_index) c.in_default-2.is (c.in_ok-names.ensures.names bytes (c.read_paths.ensures.keeps ∙ m) within))))
+
+pub returns-then-not-names-clause-opens : goal.returns-then-not-names-clause-opens
+returns-then-not-names-clause-opens g c =
+    if_modelled (g.S.Store.model c.args.store.now) _
+    (λ bytes m within split.
+    let s : SectionBytes = sections_at bytes c.args.starts in
+    let paths = closed_paths s.paths c.in_ok-paths.field-0 c.in-Some.paths c.in-Some.is (c.in_ok-paths.ensures.paths bytes m within) c.in_ok-paths.ensures.closed in
+    let names = subst (AreNamesTested s.names s.name_index) c.in-Some-2.is (c.in_ok-names.ensures.names bytes (c.read_paths.ensures.keeps ∙ m) within) in
+    opened bytes s _ split (bad_name_index s paths.1 names.valid (sym names.offsets ∙ c.if-not-names.true)))
+
+pub returns-then-not-branch-clause-opens : goal.returns-then-not-branch-clause-opens
+returns-then-not-branch-clause-opens g c =
+    if_modelled (g.S.Store.model c.args.store.now) _
+    (λ bytes m within split.
+    let s : SectionBytes = sections_at bytes c.args.starts in
+    let paths = closed_paths s.paths c.in_ok-paths.field-0 c.in-Some.paths c.in-Some.is (c.in_ok-paths.ensures.paths bytes m within) c.in_ok-paths.ensures.closed in
+    let names = subst (AreNamesTested s.names s.name_index) c.in-Some-2.is (c.in_ok-names.ensures.names bytes (c.read_paths.ensures.keeps ∙ m) within) in
+    let long = lists_long bytes c.args.starts c.requires within in
+    opened bytes s _ split (bad_list_index s paths.1 names.valid (sym names.offsets ∙ c.if-not-names.false)
+    (ap (λ n. is_list_index n s.list_index) long ∙ sym (c.in_ok-has_stored_entries.ensures.entries bytes (c.test_names.ensures.keeps ∙ c.read_paths.ensures.keeps ∙ m) within) ∙ c.if-not-branch.true)))
 
 pub returns-clause-opens : goal.returns-clause-opens
 returns-clause-opens g c =
-    if_some_map _ _ (g.S.Store.model c.args.store.now)
-    (λ bytes were within.
-    stored_read c.args.starts c.requires c.in_ok-path_bytes.path_bytes.items c.in_ok-name_bytes.name_bytes.items c.in_ok-name_index.name_index.items c.in_ok-list_index.list_index.items bytes within were
-    (search rules))
-    (were_modelled c.args.starts _ _ _ _ _ _ _ _ c.in_ok-path_bytes.ensures.keeps c.in_ok-name_bytes.ensures.keeps c.in_ok-name_index.ensures.keeps
-    c.in_ok-path_bytes.ensures.bytes c.in_ok-name_bytes.ensures.bytes c.in_ok-name_index.ensures.bytes c.in_ok-list_index.ensures.bytes)
+    if_modelled (g.S.Store.model c.args.store.now) _
+    (λ bytes m within split.
+    let s : SectionBytes = sections_at bytes c.args.starts in
+    let paths = closed_paths s.paths c.in_ok-paths.field-0 c.in-Some.paths c.in-Some.is (c.in_ok-paths.ensures.paths bytes m within) c.in_ok-paths.ensures.closed in
+    let names = subst (AreNamesTested s.names s.name_index) c.in-Some-2.is (c.in_ok-names.ensures.names bytes (c.read_paths.ensures.keeps ∙ m) within) in
+    let long = lists_long bytes c.args.starts c.requires within in
+    let room : ℕ = c.args.starts.name_index - c.args.starts.postings in
+    let entries : is_list_index room s.list_index ≡ true = sym (c.in_ok-has_stored_entries.ensures.entries bytes (c.test_names.ensures.keeps ∙ c.read_paths.ensures.keeps ∙ m) within) ∙ c.if-not-branch.false in (
+      parts_of s,
+      record {
+        split = split;
+        within = within;
+        read = tested s.paths s.names s.name_index s.list_index s.postings room long (record { each_path = paths.1; each_name = names.valid; offsets = sym names.offsets ∙ c.if-not-names.false; entries = entries });
+        paths = ap texts_of paths.0;
+        names = names.count;
+      },
+    ))

@@ -1,27 +1,31 @@
-use Rattle.std.proofs.Common.{◌∙◌, ap, sym, length, arith}
-use Rattle.cs_tree.specs.Store.{part_of}
-use Rattle.cs_index.specs.Opening.{entries_in, is_list_index, texts_of}
-use Rattle.cs_index.specs.Stored.{StoredParts, whole_of}
-use Rattle.cs_index.proofs.decoding.IndexFields.{offsets_long}
-use Rattle.cs_index.proofs.stored.ListSections.{if_modelled}
+use Rattle.std.proofs.Common.{◌≡◌, ◌∙◌, sym, subst, true, List, arith}
+use Rattle.cs_index.specs.Opening.{rises}
+use Rattle.cs_index.specs.Encoding.{ListEntry}
+use Rattle.cs_index.specs.Stored.{StandsIn, StoredParts}
+use Rattle.cs_index.specs.StoredEntries.{AreListed}
+use Rattle.cs_index.specs.StoredOpening.{AreAscendingOffsets}
+use Rattle.cs_index.specs.declared.reading.section_offsets.SectionOffsets.{SectionOffsets}
+use Rattle.cs_index.specs.declared.reading.stored_entries.Entry.{Entry}
+use Rattle.cs_index.proofs.decoding.DecodableBytesOpen.{rise_from, Rise}
+use Rattle.cs_index.proofs.stored.ListSections.{entries_are, list_index, stored_entries, stored_lists, stored_rise}
 use Rattle.cs_index.proofs.reading.stored.StoredIndex.candidates.Goals as goal
 
-pub candidates_in-requires : goal.candidates_in-requires
-candidates_in-requires g c =
-    let s = c.self.inside in
-    let long = offsets_long s.name_index.items (texts_of s.names.items) c.self.invariant.0.read.offsets in
-    let counted = c.len.ensures ∙ ap length (c.name_table.ensures ∙ sym (ap (λ (p : StoredParts). p.names) c.self.view_is)) in
-    record {
-      entries = ap (is_list_index s.room) c.deref.ensures.value ∙ c.self.invariant.0.read.entries;
-      short = omega (arith, c.self.invariant.1);
-      names = omega (arith, long, counted, c.self.invariant.0.names_bound);
-    }
+rise : (s : SectionOffsets) → AreAscendingOffsets s → Rise s.paths s.names s.postings s.name_index s.list_index s.trailer
+rise s order = rise_from s.paths s.names s.postings s.name_index s.list_index s.trailer order.order
+
+pub candidates_in-requires-clause-section : goal.candidates_in-requires-clause-section
+candidates_in-requires-clause-section g c =
+    let order = c.self.invariant.1 in
+    let up = rise c.self.inside.starts order in
+    record { short = omega (arith, up.cd, up.de, up.ea, order.short); names = c.self.invariant.2 }
 
 pub returns-clause-answers : goal.returns-clause-answers
-returns-clause-answers g c =
-    if_modelled (g.S.Store.model c.args.store.now) _
-    (λ bytes m. c.candidates_in.ensures.answers bytes m (whole_of bytes c.args.self.now) (record {
-      entries = sym (ap (λ (p : StoredParts). p.entries) c.self.view_is) ∙ ap entries_in (sym c.deref.ensures.value);
-      postings = sym (ap (λ (p : StoredParts). part_of bytes p.start p.room) c.self.view_is);
-      names = sym (c.len.ensures ∙ ap length c.name_table.ensures);
-    }))
+returns-clause-answers g c bytes m parts stands' =
+    let stands = subst (λ (p : StoredParts). StandsIn bytes p parts) (sym c.self.view_is) stands' in
+    let order = c.self.invariant.1 in
+    let listed = c.in_ok-listed.ensures.listed bytes m (list_index bytes _ parts stands order) (stored_entries bytes _ parts stands order) in
+    c.candidates_in.ensures.answers bytes (c.listed_entries.ensures.keeps ∙ m) parts
+    (stored_lists bytes _ parts stands order)
+    (subst (λ (es : List ListEntry). rises es ≡ true) (entries_are bytes _ parts stands order) (stored_rise bytes _ parts stands order))
+    (subst (λ (ls : List Entry). AreListed c.args.query.now parts.entries ls) (sym c.deref.ensures.value)
+    (subst (λ (es : List ListEntry). AreListed c.args.query.now es c.in_ok-listed.listed.items) (entries_are bytes _ parts stands order) listed))

@@ -1,15 +1,12 @@
 use Rattle.std.proofs.Common.{Ok, Err, subst}
 use Rattle.cs_index.specs.StoredOpening.{IsSplitAt}
-use Rattle.cs_index.proofs.common.ResultClauses.{both_ok}
-use Rattle.cs_index.proofs.stored.SectionReads.{not_opened, opened, if_some_map, model_decodes, if_some_both}
+use Rattle.cs_index.proofs.stored.SectionReads.{not_opened, if_some_map, model_decodes, if_some_both}
 use Rattle.cs_index.proofs.reading.stored.StoredIndex.open.Goals as goal
 
 pub returns-in-Ok-clause-opens : goal.returns-in-Ok-clause-opens
 returns-in-Ok-clause-opens g c =
     if_some_map _ _ (g.S.Store.model c.args.store.now)
-    (λ bytes both.
-    let slices = subst (IsSplitAt bytes) c.in-Ok.is both.0 in
-    both_ok c.read_stored.result _ _ _ (λ answer read before. opened bytes c.in-Ok.starts answer slices.0 slices.1 read before) (both.1 slices.1) c.read_stored.ensures.within)
+    (λ bytes both. let slices = subst (IsSplitAt bytes) c.in-Ok.is both.0 in both.1 slices.1 slices.0)
     (if_some_both _ _ (g.S.Store.model c.args.store.now) _ c.in_ok-starts.ensures.keeps c.in_ok-starts.ensures.slices c.read_stored.ensures.opens)
 
 pub returns-in-Err-clause-opens : goal.returns-in-Err-clause-opens
@@ -22,9 +19,7 @@ pub returns-in-Ok-clause-decodes : goal.returns-in-Ok-clause-decodes
 returns-in-Ok-clause-decodes g c =
     model_decodes (g.S.Store.model c.args.store.now) c.read_stored.result c.in_ok-starts.ensures.bytes
     (if_some_map _ _ (g.S.Store.model c.args.store.now)
-    (λ bytes both.
-    let slices = subst (IsSplitAt bytes) c.in-Ok.is both.0 in
-    both_ok c.read_stored.result _ _ _ (λ answer read before. opened bytes c.in-Ok.starts answer slices.0 slices.1 read before) (both.1 slices.1) c.read_stored.ensures.within)
+    (λ bytes both. let slices = subst (IsSplitAt bytes) c.in-Ok.is both.0 in both.1 slices.1 slices.0)
     (if_some_both _ _ (g.S.Store.model c.args.store.now) _ c.in_ok-starts.ensures.keeps c.in_ok-starts.ensures.slices c.read_stored.ensures.opens))
 
 pub returns-in-Err-clause-decodes : goal.returns-in-Err-clause-decodes

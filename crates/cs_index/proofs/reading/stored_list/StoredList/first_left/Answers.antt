@@ -1,4 +1,4 @@
-use Rattle.std.proofs.Common.{◌≡◌, ◌+◌, ◌∙◌, ap, sym, ℕ, List, drop, inl, inr}
+use Rattle.std.proofs.Common.{◌+◌, ◌∙◌, ap, sym, drop, inl, inr}
 use Rattle.cs_index.specs.PostingLists.{Ids, read_varint}
 use Rattle.cs_index.specs.StoredLists.{ListState}
 use Rattle.cs_index.proofs.stored.ListPieces.{begins_next, begins_none, none_left, piece_is, read_is, refused_left, unread_left}

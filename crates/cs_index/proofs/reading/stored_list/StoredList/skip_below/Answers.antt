@@ -1,6 +1,6 @@
 use Rattle.std.proofs.Common.{◌∙◌, subst}
 use Rattle.cs_index.specs.StoredLists.{GivesBelow}
-use Rattle.cs_index.proofs.stored.ListPieces.{skips_done, skips_none, skips_on}
+use Rattle.cs_index.proofs.stored.ListPieces.{skips_on}
 use Rattle.cs_index.proofs.reading.stored_list.StoredList.skip_below.Goals as goal
 
 pub ids-preserved : goal.ids-preserved

@@ -1,5 +1,4 @@
-use Rattle.std.proofs.Common.{◌≡◌, ◌+◌, ◌-◌, ◌∙◌, ap, sym, subst, ℕ, List, length, drop, arith}
-use Rattle.cs_index.specs.AscendingIds.{next_after}
+use Rattle.std.proofs.Common.{◌+◌, ◌-◌, ◌∙◌, ap, sym, subst, ℕ, List, length, drop, arith}
 use Rattle.cs_index.specs.StoredLists.{ListState, SkipsBelow}
 use Rattle.cs_index.proofs.stored.ListPieces.{piece_is, run_taken}
 use Rattle.cs_index.proofs.reading.stored_list.StoredList.skip_short.Goals as goal

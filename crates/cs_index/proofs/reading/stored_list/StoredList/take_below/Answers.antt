@@ -1,5 +1,4 @@
-use Rattle.std.proofs.Common.{◌≡◌, ◌+◌, ◌-◌, ◌∙◌, ap, sym, ℕ, List, false, length, take, drop, inl, inr, arith, Some}
-use Rattle.std.proofs.lemmas.List.{take_rest}
+use Rattle.std.proofs.Common.{◌+◌, ◌∙◌, ap, sym, false, length, drop, inl, inr, arith}
 use Rattle.cs_index.specs.PostingLists.{read_varint}
 use Rattle.cs_index.specs.StoredLists.{ListState}
 use Rattle.cs_index.proofs.stored.ListPieces.{ends, piece_is, read_is, refused_left, stays, takes, unread_left}

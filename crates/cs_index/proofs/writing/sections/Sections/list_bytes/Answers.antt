@@ -1,7 +1,7 @@
-use Rattle.std.proofs.Common.{◌≡◌, ◌∙◌, ◌+◌, List, ap, length, map, subst, sym, arith}
+use Rattle.std.proofs.Common.{◌∙◌, List, ap, length, map, subst, sym, arith}
 use Rattle.std.specs.List.{concat}
 use Rattle.cs_index.specs.Encoding.{PostingList, posting_list_bytes}
-use Rattle.cs_index.specs.SectionsInvariant.{first_of, lists_of_fields}
+use Rattle.cs_index.specs.SectionsInvariant.{first_of}
 use Rattle.cs_index.specs.Written.{Written}
 use Rattle.cs_index.specs.WrittenLists.{IsWritten}
 use Rattle.cs_index.proofs.writer.SectionsSteps.{lists_long, none_lists}

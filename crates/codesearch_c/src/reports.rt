@@ -1,0 +1,80 @@
+// The export that prints what cgrep prints for a text.
+ghost use Rattle.std.specs.Prelude.{◌≡◌};
+ghost use Rattle.codesearch_c.specs.Patterns.{IsMisuse, Keeps};
+ghost use Rattle.codesearch_c.specs.Reports.{style_of, IsReportCode};
+ghost use Rattle.codesearch_c.specs.Slots.{OnPattern};
+
+use crate::codes::{MEMORY, MISUSE, NOT_UTF8};
+use crate::copying::copy_items;
+use crate::held::{Held, HeldPattern};
+use crate::slot::Slot;
+use cs_args::Style;
+use cs_search::Printer;
+use std::alloc::Global;
+use std::str::from_utf8;
+
+/// What cgrep prints for an input with this name and text.
+#[unsafe(no_mangle)]
+pub extern "C" fn cs_grep(
+    alloc: Global,
+    slot: &mut Slot,
+    name: &[u8],
+    text: &[u8],
+    style: u32,
+    out: &mut [u8],
+    len: &mut usize,
+) -> i32
+    ensures { OnPattern slot.old.handle.value
+        (IsMisuse slot.old.handle.value slot.new.handle.value result
+        × (out.new ≡ out.old) × (len.new ≡ len.old))
+        (λ held. IsReportCode held.pattern name.now text.now style out.old out.new len.old len.new
+        result × Keeps held slot.new.handle.value) }
+{
+    let Some(mut held) = slot.take(alloc) else {
+        return MISUSE;
+    };
+    let code = match &mut *held {
+        Held::Pattern(pattern) => report_code(pattern, alloc, name, text, style, out, len),
+        _ => MISUSE,
+    };
+    slot.fill(held);
+    code
+}
+
+fn report_code(
+    pattern: &mut HeldPattern,
+    alloc: Global,
+    name: &[u8],
+    text: &[u8],
+    style: u32,
+    out: &mut [u8],
+    len: &mut usize,
+) -> i32
+    ensures code { IsReportCode pattern.old.pattern name.now text.now style out.old out.new len.old len.new
+        result }
+    ensures same { pattern.new ≡ pattern.old }
+{
+    let Ok(name) = from_utf8(name) else {
+        return NOT_UTF8;
+    };
+    let printer = Printer {
+        name,
+        style: style_of(style),
+    };
+    match pattern.report(alloc, &printer, text) {
+        Ok(report) => copy_items(report.bytes(), out, len),
+        Err(_) => MEMORY,
+    }
+}
+
+/// The options of cgrep: 1 for `-c`, 2 for `-l`, 4 for `-n` and 8 for `-h`.
+fn style_of(flags: u32) -> Style
+    ensures { result ≡ style_of flags }
+{
+    Style {
+        count: flags % 2 == 1,
+        list: flags / 2 % 2 == 1,
+        number: flags / 4 % 2 == 1,
+        bare: flags / 8 % 2 == 1,
+    }
+}

@@ -1,0 +1,82 @@
+use Rattle.std.proofs.Common.{◌≡◌, ◌≤◌, ◌+◌, ◌-◌, ◌%◌, ◌∙◌, ◌++◌, ap, sym, arith, ℕ, List, length}
+use Rattle.cs_tree.specs.Store.{part_of}
+use Rattle.cs_index.specs.Opening.{entries_in}
+use Rattle.cs_index.specs.SectionPieces.{are_entries}
+use Rattle.cs_index.proofs.decoding.DecodableBytesOpen.{rise_from}
+use Rattle.cs_index.proofs.stored.EntryPieces.{entries_joined, list_index_tested, list_index_uneven, no_entries}
+use Rattle.cs_index.proofs.stored.ListPieces.{part_split, shown}
+use Rattle.cs_index.proofs.stored.SectionPieces.{part_long}
+use Rattle.cs_index.proofs.reading.stored_sections.has_stored_entries.Goals as goal
+
+pub returns-then-starts-at-ne0-clause-entries : goal.returns-then-starts-at-ne0-clause-entries
+returns-then-starts-at-ne0-clause-entries g c bytes m within =
+    let s = c.args.starts.now in
+    let order = rise_from s.paths s.names s.postings s.name_index s.list_index s.trailer c.requires.order in
+    let long = part_long bytes s.list_index s.trailer order.ea within in
+    sym (list_index_uneven (s.name_index - s.postings) (part_of bytes s.list_index (s.trailer - s.list_index)) (λ e. c.if-starts-at-ne0.true (ap (λ n. n % 11) (sym long) ∙ e)))
+
+-- the test of the rest, after a piece
+module _ (bytes piece : List ℕ) (at trailer len : ℕ) (is : piece ≡ part_of bytes at len) (fits : length piece ≡ len) (within : len ≤ trailer - at) (whole : len % 11 ≡ 0) where
+  abbrev after : List ℕ
+  after = part_of bytes (at + len) (trailer - (at + len))
+
+  joined : entries_in (part_of bytes at (trailer - at)) ≡ entries_in piece ++ entries_in after
+  joined =
+      ap entries_in (part_split bytes at len (trailer - at) within ∙ (λ i. sym is i ++ part_of bytes (at + len) ((let z : trailer - at - len ≡ trailer - (at + len) = omega arith in z) i)))
+      ∙ entries_joined piece after (ap (λ n. n % 11) fits ∙ whole)
+
+pub returns-in_default-clause-entries : goal.returns-in_default-clause-entries
+returns-in_default-clause-entries g c bytes m within =
+    let s = c.args.starts.now in
+    let i = c.pieces.invariant in
+    let room : ℕ = s.name_index - s.postings in
+    let section : List ℕ = part_of bytes s.list_index (s.trailer - s.list_index) in
+    let order = rise_from s.paths s.names s.postings s.name_index s.list_index s.trailer c.requires.order in
+    let long = part_long bytes s.list_index s.trailer order.ea within in
+    let len : ℕ = c.min-len.result in
+    let piece : List ℕ = c.in_ok-piece.piece.items in
+    let left = i.whole in
+    let read = shown (λ b. piece ≡ part_of b c.pieces.at len) (g.S.Store.model c.pieces.store) bytes (i.keeps ∙ m) c.in_ok-piece.ensures.bytes in
+    sym (list_index_tested room section (ap (λ n. n % 11) long ∙ c.if-starts-at-ne0.false)
+    ∙ i.left bytes m within
+    ∙ ap (are_entries room c.pieces.least) (joined bytes piece c.pieces.at s.trailer len read (omega (arith, c.if-len.false, c.in_ok-piece.ensures.bound)) (omega (arith, c.min-len.ensures)) (omega (arith, c.min-len.ensures, left))
+    ∙ ap (λ p. entries_in p ++ entries_in (after bytes piece c.pieces.at s.trailer len read (omega (arith, c.if-len.false, c.in_ok-piece.ensures.bound)) (omega (arith, c.min-len.ensures)) (omega (arith, c.min-len.ensures, left)))) (sym c.deref.ensures.value))
+    ∙ c.in_default.ensures.none (entries_in (part_of bytes (c.pieces.at + len) (s.trailer - (c.pieces.at + len)))))
+
+pub pieces-preserved : goal.pieces-preserved
+pieces-preserved g c =
+    let s = c.args.starts.now in
+    let i = c.pieces.invariant in
+    let room : ℕ = s.name_index - s.postings in
+    let len : ℕ = c.min-len.result in
+    let piece : List ℕ = c.in_ok-piece.piece.items in
+    let left = i.whole in
+    let begun = i.begun in
+    record {
+      begun = omega (arith, begun);
+      within = omega (arith, c.min-len.ensures);
+      whole = omega (arith, c.min-len.ensures, left);
+      left = λ bytes m within.
+          let read = shown (λ b. piece ≡ part_of b c.pieces.at len) (g.S.Store.model c.pieces.store) bytes (i.keeps ∙ m) c.in_ok-piece.ensures.bytes in
+          i.left bytes m within
+          ∙ ap (are_entries room c.pieces.least) (joined bytes piece c.pieces.at s.trailer len read (omega (arith, c.if-len.false, c.in_ok-piece.ensures.bound)) (omega (arith, c.min-len.ensures)) (omega (arith, c.min-len.ensures, left))
+          ∙ ap (λ p. entries_in p ++ entries_in (part_of bytes (c.pieces.at + len) (s.trailer - (c.pieces.at + len)))) (sym c.deref.ensures.value))
+          ∙ c.in-Some.ensures.some (entries_in (part_of bytes (c.pieces.at + len) (s.trailer - (c.pieces.at + len))));
+      keeps = c.read_part.ensures.keeps ∙ i.keeps;
+      size = c.read_part.ensures.size ∙ i.size;
+      failed = c.in_ok-piece.ensures.failed ∙ i.failed;
+    }
+
+pub returns-clause-entries : goal.returns-clause-entries
+returns-clause-entries g c bytes m within =
+    let s = c.args.starts.now in
+    let i = c.pieces.invariant in
+    let room : ℕ = s.name_index - s.postings in
+    let section : List ℕ = part_of bytes s.list_index (s.trailer - s.list_index) in
+    let order = rise_from s.paths s.names s.postings s.name_index s.list_index s.trailer c.requires.order in
+    let long = part_long bytes s.list_index s.trailer order.ea within in
+    let end = i.within in
+    sym (list_index_tested room section (ap (λ n. n % 11) long ∙ c.if-starts-at-ne0.false)
+    ∙ i.left bytes m within
+    ∙ ap (λ n. are_entries room c.pieces.least (entries_in (part_of bytes c.pieces.at n))) (let z : s.trailer - c.pieces.at ≡ 0 = omega (arith, end, c.pieces-test.false) in z)
+    ∙ ap (are_entries room c.pieces.least) no_entries)

@@ -1,0 +1,70 @@
+// The names of an index in a store, by their ids.
+ghost use Rattle.std.specs.Prelude.{◌≡◌, ℕ, List, Some, IfOk, slice_get};
+ghost use Rattle.cs_tree.specs.FailureCount.{count_after};
+ghost use Rattle.cs_tree.specs.Transfers.{is_io_failure};
+ghost use Rattle.cs_index.specs.OpenedParts.{Parts};
+ghost use Rattle.cs_index.specs.NameReading.{ReadsNames};
+ghost use Rattle.cs_index.specs.Stored.{IsName, StandsIn};
+ghost use Rattle.cs_index.specs.StoredOpening.{AreAscendingOffsets};
+
+use crate::fault::IndexFault;
+use crate::reading::piece::Piece;
+use crate::reading::section_offsets::SectionOffsets;
+use cs_tree::{IoFault, Store};
+use std::alloc::Global;
+
+/// Reads the names of an index in a store. Where ids ascend, each byte of the names is read once, except those of
+/// the last name of a piece.
+#[derive(Drop)]
+pub struct NameReader {
+    start: u32,
+    end: u32,
+    name_index: u32,
+    name_count: u32,
+    offsets: Piece,
+    names: Piece,
+}
+
+impl NameReader {
+    /// A reader of the names of the sections at these offsets.
+    pub(crate) fn new(alloc: Global, starts: SectionOffsets, name_count: u32) -> NameReader
+        requires { AreAscendingOffsets starts }
+        ensures { (bytes : List ℕ) (parts : Parts) (paths : List (List ℕ)) →
+            StandsIn bytes (record { paths = paths; name_count = name_count; starts = starts }) parts →
+            ReadsNames bytes parts result }
+    {
+        NameReader {
+            start: starts.names as u32,
+            end: starts.postings as u32,
+            name_index: starts.name_index as u32,
+            name_count,
+            offsets: Piece::empty(alloc),
+            names: Piece::empty(alloc),
+        }
+    }
+
+    /// The name with an id. Without one, or where the store changes while it is read, the answer may be an
+    /// error.
+    pub fn read<S: Store>(
+        &mut self,
+        alloc: Global,
+        store: &mut S,
+        id: u32,
+    ) -> Result<Result<String, IndexFault>, IoFault>
+        ensures name { (bytes : List ℕ) → S.model store.old ≡ Some bytes → (parts : Parts) →
+            ReadsNames bytes parts self.old →
+            IfOk result (λ answer. IsName (slice_get parts.names id) answer × ReadsNames bytes parts self.new) }
+        ensures keeps { S.model store.new ≡ S.model store.old }
+        ensures size { S.size store.new ≡ S.size store.old }
+        ensures failed { S.failed store.new ≡ count_after is_io_failure result (S.failed store.old) }
+    {
+        if id >= self.name_count {
+            return Ok(Err(IndexFault::BadNames));
+        }
+        let at = self.name_index as usize + 4 * id as usize;
+        let offset = self.offsets.number(alloc, store, at)?;
+        let at = self.start as usize + offset as usize;
+        let name = self.names.text(alloc, store, at, self.end as usize)?;
+        Ok(name)
+    }
+}

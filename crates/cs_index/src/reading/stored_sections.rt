@@ -1,0 +1,161 @@
+// The sections of an index in a store, which are tested piece by piece.
+ghost use Rattle.std.specs.Prelude.{◌≡◌, ◌≤◌, ◌<◌, ◌^◌, ◌+◌, ◌*◌, ◌-◌, ◌∷◌, [], ℕ, List, Some, length, IfOk, IfSome, true};
+ghost use Rattle.cs_tree.specs.FailureCount.{count_after};
+ghost use Rattle.cs_tree.specs.Store.{part_of};
+ghost use Rattle.cs_tree.specs.Transfers.{is_io_failure};
+ghost use Rattle.cs_index.specs.Opening.{is_list_index, is_section};
+ghost use Rattle.cs_index.specs.SectionPieces.{AreNamesTested, ArePathsRead};
+ghost use Rattle.cs_index.specs.StoredOpening.{AreAscendingOffsets};
+
+use crate::reading::bytes::{first_texts, is_closed, is_ending};
+use crate::reading::entries::{ENTRY_LEN, has_offsets, test_entries};
+use crate::reading::section_offsets::SectionOffsets;
+use crate::reading::section_window::Window;
+use cs_tree::{IoFault, Store, read_part};
+use std::alloc::Global;
+
+/// The most bytes of a piece of the list index: as many as entries of 64 KiB have.
+const ENTRIES_LEN: usize = 5957 * ENTRY_LEN;
+
+/// What the test of names found: their number, and whether the name index has their offsets.
+#[derive(Clone, Copy, Drop)]
+pub(crate) struct NameTest {
+    pub(crate) count: usize,
+    pub(crate) have_offsets: bool,
+}
+
+/// The section of paths; each piece is kept after its test. `None` if the section is not valid.
+pub(crate) fn read_paths<S: Store>(
+    alloc: Global,
+    store: &mut S,
+    starts: &SectionOffsets,
+) -> Result<Option<Vec<u8>>, IoFault>
+    requires { AreAscendingOffsets starts.now }
+    ensures paths { (bytes : List ℕ) → S.model store.old ≡ Some bytes → starts.now.trailer ≤ length bytes →
+        IfOk result (ArePathsRead (part_of bytes starts.now.paths (starts.now.names - starts.now.paths))) }
+    ensures closed { IfOk result (λ found. IfSome found (λ paths. is_section (0 ∷ []) paths.items ≡ true)) }
+    ensures keeps { S.model store.new ≡ S.model store.old }
+    ensures size { S.size store.new ≡ S.size store.old }
+    ensures failed { S.failed store.new ≡ count_after is_io_failure result (S.failed store.old) }
+{
+    let mut paths = Vec::new(alloc);
+    let mut window = Window::new(alloc, starts.paths, starts.names);
+    let mut used = 0;
+    'pieces: while window.read_on(alloc, store, used)? {
+        let Some(run) = first_texts(&window.piece) else {
+            return Ok(None);
+        };
+        paths.extend_from_slice(&window.piece[..run.len])?;
+        used = run.len;
+    }
+    if !is_closed(&window.piece) {
+        return Ok(None);
+    }
+    paths.extend_from_slice(&window.piece)?;
+    Ok(Some(paths))
+}
+
+/// Tests the names, and whether the name index has the offset of each; `None` if the names are not valid.
+pub(crate) fn test_names<S: Store>(
+    alloc: Global,
+    store: &mut S,
+    starts: &SectionOffsets,
+) -> Result<Option<NameTest>, IoFault>
+    requires { AreAscendingOffsets starts.now }
+    ensures names { (bytes : List ℕ) → S.model store.old ≡ Some bytes → starts.now.trailer ≤ length bytes →
+        IfOk result (AreNamesTested (part_of bytes starts.now.names (starts.now.postings - starts.now.names))
+        (part_of bytes starts.now.name_index (starts.now.list_index - starts.now.name_index))) }
+    ensures few { IfOk result (λ found. IfSome found (λ test. test.have_offsets ≡ true →
+        starts.now.list_index - starts.now.name_index ≡ 4 * (test.count + 1))) }
+    ensures keeps { S.model store.new ≡ S.model store.old }
+    ensures size { S.size store.new ≡ S.size store.old }
+    ensures failed { S.failed store.new ≡ count_after is_io_failure result (S.failed store.old) }
+{
+    let mut window = Window::new(alloc, starts.names, starts.postings);
+    let mut used = 0;
+    let mut count = 0;
+    let mut have_offsets = true;
+    let mut more = true;
+    'pieces: while more {
+        more = window.read_on(alloc, store, used)?;
+        let Some(run) = first_texts(&window.piece) else {
+            return Ok(None);
+        };
+        let numbers = read_numbers(alloc, store, starts, count, run.count)?;
+        let start = window.start - starts.names;
+        let have = has_offsets(&numbers, &window.piece[..run.len], start);
+        have_offsets = have_offsets && have;
+        count += run.count;
+        used = run.len;
+    }
+    if !is_ending(&window.piece[used..]) {
+        return Ok(None);
+    }
+    have_offsets = have_offsets && starts.list_index - starts.name_index == 4 * (count + 1);
+    Ok(Some(NameTest {
+        count,
+        have_offsets,
+    }))
+}
+
+/// The offsets of `count` names after the first `done`, and one more number, as far as the name index has them.
+fn read_numbers<S: Store>(
+    alloc: Global,
+    store: &mut S,
+    starts: &SectionOffsets,
+    done: usize,
+    count: usize,
+) -> Result<Vec<u8>, IoFault>
+    requires order { AreAscendingOffsets starts.now }
+    requires fits { done + count < 2 ^ 33 }
+    ensures numbers { (bytes : List ℕ) → S.model store.old ≡ Some bytes →
+        IfOk result (λ numbers. numbers.items ≡ part_of
+        (part_of bytes starts.now.name_index (starts.now.list_index - starts.now.name_index)) (4 * done) (4 * (count + 1))) }
+    ensures keeps { S.model store.new ≡ S.model store.old }
+    ensures size { S.size store.new ≡ S.size store.old }
+    ensures failed { S.failed store.new ≡ count_after is_io_failure result (S.failed store.old) }
+{
+    let room = (starts.list_index - starts.name_index).saturating_sub(4 * done);
+    read_part(
+        alloc,
+        store,
+        starts.name_index + 4 * done,
+        room.min(4 * (count + 1)),
+    )
+}
+
+/// Whether the list index is entries of ascending trigrams that fit the section of posting lists.
+pub(crate) fn has_stored_entries<S: Store>(
+    alloc: Global,
+    store: &mut S,
+    starts: &SectionOffsets,
+) -> Result<bool, IoFault>
+    requires { AreAscendingOffsets starts.now }
+    ensures entries { (bytes : List ℕ) → S.model store.old ≡ Some bytes → starts.now.trailer ≤ length bytes →
+        IfOk result (λ has. has ≡ is_list_index (starts.now.name_index - starts.now.postings)
+        (part_of bytes starts.now.list_index (starts.now.trailer - starts.now.list_index))) }
+    ensures keeps { S.model store.new ≡ S.model store.old }
+    ensures size { S.size store.new ≡ S.size store.old }
+    ensures failed { S.failed store.new ≡ count_after is_io_failure result (S.failed store.old) }
+{
+    let room = starts.name_index - starts.postings;
+    let mut at = starts.list_index;
+    let mut least = 0;
+    if (starts.trailer - at) % ENTRY_LEN != 0 {
+        return Ok(false);
+    }
+    'pieces: while at < starts.trailer {
+        let len = (starts.trailer - at).min(ENTRIES_LEN);
+        let piece = read_part(alloc, store, at, len)?;
+        // (A store that has changed may end here.)
+        if piece.len() < len {
+            return Ok(false);
+        }
+        let Some(next) = test_entries(&piece, least, room) else {
+            return Ok(false);
+        };
+        least = next;
+        at += len;
+    }
+    Ok(true)
+}

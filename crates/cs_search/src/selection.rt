@@ -1,0 +1,103 @@
+// The names of an index in a store that a search selects.
+ghost use Rattle.std.specs.Prelude.{◌≡◌, ◌<◌, ◌++◌, ◌∷◌, [], ℕ, List, Some, All, IfOk, length};
+ghost use Rattle.std.specs.Option.{option_copied};
+ghost use Rattle.std.specs.Result.{IsOkAnd};
+ghost use Rattle.cs_tree.specs.FailureCount.{count_after};
+ghost use Rattle.cs_tree.specs.Transfers.{is_io_failure};
+ghost use Rattle.cs_index.specs.OpenedParts.{Parts};
+ghost use Rattle.cs_index.specs.Stored.{StandsIn};
+ghost use Rattle.cs_search.specs.IndexSearch.{AreKept};
+ghost use Rattle.cs_search.specs.Selections.{HasRead, Selects};
+
+use crate::name_filter::NameFilter;
+use crate::plan::Plan;
+use cs_index::{IndexFault, NameReader, StoredIndex};
+use cs_match::Program;
+use cs_tree::{IoFault, Store};
+use std::alloc::Global;
+
+/// The names that were read and that `-f` keeps.
+#[derive(Drop)]
+pub(crate) struct Selection<'p> {
+    reader: NameReader,
+    filter: NameFilter<'p>,
+    names: Vec<String>,
+}
+
+/// The names of the plan's candidates that `-f` keeps, or `BadList`.
+pub(crate) fn selected_names<S: Store>(
+    alloc: Global,
+    plan: &Plan,
+    index: &StoredIndex,
+    store: &mut S,
+) -> Result<Result<Vec<String>, IndexFault>, IoFault>
+    ensures answers { (bytes : List ℕ) (parts : Parts) → S.model store.old ≡ Some bytes →
+        StandsIn bytes index.now parts → IfOk result (Selects plan.now parts) }
+    ensures keeps { S.model store.new ≡ S.model store.old }
+    ensures size { S.size store.new ≡ S.size store.old }
+    ensures failed { S.failed store.new ≡ count_after is_io_failure result (S.failed store.old) }
+{
+    match index.candidates(alloc, store, &plan.query)? {
+        Ok(ids) => kept_names(alloc, plan.file.as_ref(), index, &ids, store),
+        Err(fault) => Ok(Err(fault)),
+    }
+}
+
+/// The names with these ids that `-f` keeps, whose program is `file`.
+fn kept_names<S: Store>(
+    alloc: Global,
+    file: Option<&Program>,
+    index: &StoredIndex,
+    ids: &[u32],
+    store: &mut S,
+) -> Result<Result<Vec<String>, IndexFault>, IoFault>
+    ensures kept { (bytes : List ℕ) (parts : Parts) → S.model store.old ≡ Some bytes →
+        StandsIn bytes index.now parts → All (λ id. id < length parts.names) ids.now →
+        IfOk result (λ answer. IsOkAnd answer
+        (λ names. AreKept (option_copied file.entry) parts.names ids.now names.items)) }
+    ensures keeps { S.model store.new ≡ S.model store.old }
+    ensures size { S.size store.new ≡ S.size store.old }
+    ensures failed { S.failed store.new ≡ count_after is_io_failure result (S.failed store.old) }
+{
+    let mut selection = Selection {
+        reader: index.name_reader(alloc),
+        filter: NameFilter::new(alloc, file)?,
+        names: Vec::new(alloc),
+    };
+    'ids: for id in ids {
+        if let Err(fault) = selection.read(alloc, store, *id)? {
+            return Ok(Err(fault));
+        }
+    }
+    Ok(Ok(selection.names))
+}
+
+impl<'p> Selection<'p> {
+    ghost use Rattle.cs_search.specs.IndexSearch.{matcher_tree};
+
+    /// Reads the name with this id, and pushes it if it is kept.
+    fn read<S: Store>(
+        &mut self,
+        alloc: Global,
+        store: &mut S,
+        id: u32,
+    ) -> Result<Result<(), IndexFault>, IoFault>
+        ensures read { (bytes : List ℕ) (parts : Parts) (ids : List ℕ) → S.model store.old ≡ Some bytes →
+            HasRead bytes parts ids self.old → id < length parts.names →
+            IfOk result (λ answer. IsOkAnd answer (λ _. HasRead bytes parts (ids ++ id ∷ []) self.new)) }
+        ensures same { matcher_tree self.new.filter.matcher ≡ matcher_tree self.old.filter.matcher }
+        ensures keeps { S.model store.new ≡ S.model store.old }
+        ensures size { S.size store.new ≡ S.size store.old }
+        ensures failed { S.failed store.new ≡ count_after is_io_failure result (S.failed store.old) }
+    {
+        match self.reader.read(alloc, store, id)? {
+            Ok(name) => {
+                if self.filter.keeps(name.as_str()) {
+                    self.names.push(name)?;
+                }
+                Ok(Ok(()))
+            }
+            Err(fault) => Ok(Err(fault)),
+        }
+    }
+}

@@ -1,0 +1,52 @@
+// Searches of texts in memory.
+ghost use Rattle.std.specs.Prelude.{◌≡◌, ℕ, Bool, List, IfOk, OnErr};
+ghost use Rattle.cs_tree.specs.FailureCount.{count_after};
+ghost use Rattle.cs_tree.specs.TakesPrefix.{TakesPrefix};
+ghost use Rattle.cs_match.specs.Deciding.{Decides};
+ghost use Rattle.cs_search.specs.GrepFaults.{is_grep_failure};
+ghost use Rattle.cs_search.specs.GrepReports.{IsReported};
+ghost use Rattle.cs_search.specs.InputReport.{text_report};
+
+use crate::grep_fault::GrepFault;
+use crate::grepped::Grepped;
+use crate::line_search::search_block;
+use crate::printer::Printer;
+use crate::report::search_rest;
+use crate::tally::Tally;
+use cs_match::Matcher;
+use cs_tree::Sink;
+
+/// `grep` of a text in memory, which is neither copied nor limited. The answer has no fault.
+pub fn grep_text<O: Sink>(
+    printer: &Printer<'_>,
+    text: &[u8],
+    matcher: &mut Matcher<'_>,
+    out: &mut O,
+) -> Result<Grepped, GrepFault>
+    ensures report { IfOk result (λ answer. (has_match : List ℕ → Bool) →
+        Decides has_match matcher.old.tree →
+        IsReported (text_report printer.now.style printer.now.name.now has_match text.now)
+        (O.model out.old) (O.model out.new) answer) }
+    ensures prefix { OnErr result ((has_match : List ℕ → Bool) →
+        Decides has_match matcher.old.tree →
+        TakesPrefix (text_report printer.now.style printer.now.name.now has_match text.now).output
+        (O.model out.old) (O.model out.new)) }
+    ensures failed { O.failed out.new ≡ count_after is_grep_failure result (O.failed out.old) }
+    ensures same { matcher.new.tree ≡ matcher.old.tree }
+{
+    let mut tally = Tally::new();
+    match search_block(printer, &mut tally, text, 0, matcher, out)? {
+        None => Ok(Grepped {
+            matched: true,
+            fault: None,
+        }),
+        Some(start) => {
+            search_rest(printer, &mut tally, &text[start..], matcher, out)?;
+            printer.print_total(tally.matches, out)?;
+            Ok(Grepped {
+                matched: tally.matches > 0,
+                fault: None,
+            })
+        }
+    }
+}

@@ -260,6 +260,43 @@ def is_joined(paths, sets, joined):
     return names[0] == paths and names[1] == sorted(wanted) and trigrams(*names[1:]) == (wanted, set())
 
 
+def made(paths, names, lists, entries):
+    """An index of these paths and names, and of these bytes of posting lists, each found by a trigram, a count and an offset."""
+    offsets = [0]
+    for name in names:
+        offsets.append(offsets[-1] + len(name) + 1)
+    sections = [
+        b"".join(path + b"\0" for path in paths) + b"\0",
+        b"".join(name + b"\0" for name in names) + b"\0",
+        lists,
+        b"".join(at.to_bytes(4, "big") for at in offsets),
+        b"".join(trigram + count.to_bytes(4, "big") + at.to_bytes(4, "big") for trigram, count, at in entries),
+    ]
+    starts = [16]
+    for section in sections[:4]:
+        starts.append(starts[-1] + len(section))
+    return MAGIC + b"".join(sections) + b"".join(at.to_bytes(4, "big") for at in starts) + TRAILER
+
+
+def overlaps():
+    """Two posting lists. One is the end of the other: the deltas of the first have the trigram of the second."""
+    names = [b"/a/%03d" % number for number in range(700)]
+    lists = b"bonone\1\1\0\xff\xff\xff\0"
+    return made([b"/a"], names, lists, [(b"bon", 5, 0), (b"one", 2, 3)])
+
+
+def large():
+    """A million paths are listed, and ten million names are searched in 16 MB."""
+    paths = [b"/a/%06d" % number for number in range(1000000)]
+    leave(made(paths, [], b"\xff\xff\xff\0", []))
+    if run(["cindex", "-list"]) != (0, b"".join(path + b"\n" for path in paths), b""):
+        complain("cindex -list of a million paths", "another answer")
+    leave(made([b"/a"], [b"x"] * 10000000, b"\xff\xff\xff\0", []))
+    came = run(["csearch", "one"], space=1 << 24)
+    if came != (1, b"", b""):
+        complain("csearch over ten million names", came)
+
+
 def main():
     global FRESH
     resource.setrlimit(resource.RLIMIT_AS, (2 * GIGABYTE, 2 * GIGABYTE))
@@ -277,6 +314,9 @@ def main():
     for _ in range(INDEXES):
         outcome = judge(shapes(chance, whole))
         counts[outcome] = counts.get(outcome, 0) + 1
+    if judge(overlaps()) != "open, cindex done":
+        complain("overlapping lists", "they are not read")
+    large()
     if "-v" in sys.argv:
         for outcome, count in sorted(counts.items()):
             print(f"{count:6} {outcome}")

@@ -41,9 +41,9 @@ def leave(index):
         write("index", index)
 
 
-def run(args, given=b"", environment={}, seconds=60):
+def run(args, given=b"", environment={}, seconds=60, space=None):
     """The status (a signal as a negative number), the output and the lines on standard error. The run is killed after so many
-    seconds of processor time."""
+    seconds of processor time. It may have so many bytes of address space."""
     write("given", given)
     streams = [
         (os.POSIX_SPAWN_OPEN, 0, "given", os.O_RDONLY, 0),
@@ -53,6 +53,8 @@ def run(args, given=b"", environment={}, seconds=60):
     variables = {"CSEARCHINDEX": home + "/index", **environment}
     child = os.posix_spawn(program, [program] + args, variables, file_actions=streams)
     resource.prlimit(child, resource.RLIMIT_CPU, (seconds, seconds))
+    if space:
+        resource.prlimit(child, resource.RLIMIT_AS, (space, space))
     ended = os.waitpid(child, 0)[1]
     status = -(ended & 127) if ended & 127 else ended >> 8
     return status, read("out"), read("err")

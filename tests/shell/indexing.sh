@@ -29,6 +29,18 @@ try 0 "$home/trees/a\n" '' "cindex -list trees/none"
 try 0 '' "cindex: $home/-list: no such file\n" "cindex trees/a -list"
 try 0 "$home/-list\n$home/trees/a\n" '' "cindex -list"
 
+# A file of 2^30 bytes is indexed, and one with a byte more is not.
+if [ "$(df -Pk . | awk 'NR == 2 { print $4 }')" -gt 2000000 ]; then
+    mkdir trees/long
+    yes '' | head -c 1073741824 > trees/long/lines
+    try 0 '' '' "cindex -reset -logskip trees/long"
+    echo >> trees/long/lines
+    try 0 '' "cindex: $home/trees/long/lines: not indexed: file too long\n" "cindex -reset -logskip trees/long"
+    rm -r trees/long
+else
+    echo "indexing.sh: a file of 2^30 bytes is not tried: too little space"
+fi
+
 # ---- excluded and skipped files ---------------------------------------------------------------------------------------
 mkdir trees/odd trees/odd/.git trees/odd/folder~
 for name in .hidden '#lock' '~draft' 'backup~' plain .git/config 'folder~/inside' 'a b' 'new

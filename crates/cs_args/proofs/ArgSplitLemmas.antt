@@ -14,9 +14,6 @@ use Rattle.cs_args.specs.declared.jobs.Tool.{Tool}
 abbrev pub Leaves : List (List ℕ) → List OptionItem → Type 0
 Leaves args read = flat_map args_of read ++ drop (sum_by arg_count read) args ≡ args
 
-leaves-none : (args : List (List ℕ)) → Leaves args []
-leaves-none args = refl
-
 -- the rest after an option and all later ones
 left-cons : (arg : List ℕ) (arg_index : ℕ) (next : Option (List ℕ)) (later : List OptionItem) (behind : List (List ℕ))
     → drop (sum_by arg_count (item arg arg_index next ∷ later)) (args_of (item arg arg_index next) ++ behind) ≡ drop (sum_by arg_count later) behind

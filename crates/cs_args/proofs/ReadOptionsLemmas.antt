@@ -1,6 +1,6 @@
 -- One more option: what it sets, and how many arguments it takes.
-use Rattle.std.proofs.Common.{add-zero, add_assoc, Bor, zero-add, length-drop, ◌≡◌, ℕ, ◌+◌, ◌-◌, ◌<◌, ◌≤◌, Bool, true, false, cond, List, [], ◌∷◌, ◌++◌, length, take, drop, map, get_or, reverse, Option, Some, None, sym, ◌∙◌, ap, refl, subst, arith}
-use Rattle.std.specs.Prelude.{codes, find, sum_by, unwrap_or, option_map, option_and_then, option_copied, bytes_eq, not, is_none, ◌==◌, Result, Ok, Err, IfOk, IsOk, ◌≢◌, ◌↔◌}
+use Rattle.std.proofs.Common.{add-zero, add_assoc, Bor, length-drop, ◌≡◌, ℕ, ◌+◌, ◌-◌, ◌<◌, ◌≤◌, Bool, true, false, cond, List, [], ◌∷◌, ◌++◌, length, take, drop, map, get_or, reverse, Option, Some, None, sym, ◌∙◌, ap, refl, subst, arith}
+use Rattle.std.specs.Prelude.{codes, find, sum_by, unwrap_or, option_map, option_copied, bytes_eq, not, is_none, ◌==◌, Result, Ok, Err, IfOk, IsOk, ◌≢◌, ◌↔◌}
 use Rattle.std.specs.Option.{option_or}
 use Rattle.std.specs.List.{drop-map}
 use Rattle.std.proofs.Math.Seq.{take-length}
@@ -69,14 +69,6 @@ value_after-cons get_value before name first items =
 abbrev pub is_switched_on : OptionItem → Bool
 is_switched_on item = unwrap_or (bool_in item) false
 
-is_on-after : (last : Option OptionItem) → unwrap_or (option_and_then bool_in last) false ≡ unwrap_or (option_map is_switched_on last) false
-is_on-after None = refl
-is_on-after (Some last) = refl
-
-value_for-after : (last : Option OptionItem) → option_and_then value_in last ≡ unwrap_or (option_map value_in last) None
-value_for-after None = refl
-value_for-after (Some last) = refl
-
 -- an option takes its own argument, and possibly the next one
 pub option_items_from-option : (tool : Tool) (arg_index : ℕ) (arg : List ℕ) (behind : List (List ℕ)) → is_option arg ≡ true
     → option_items_from tool arg_index (arg ∷ behind)
@@ -136,21 +128,6 @@ pub record IsReadTo (tool : Tool) (args : List (List ℕ)) (arg_index : ℕ) (se
       ≡ value_after is_switched_on (is_set switch settings) (switch_name switch) (option_items_from tool arg_index (drop arg_index args))
   pub file : value_for (codes "f") (option_items tool args)
       ≡ value_after value_in (option_copied settings.file) (codes "f") (option_items_from tool arg_index (drop arg_index args))
-
--- the default settings
-abbrev pub IsDefault : Settings → Type 0
-IsDefault settings = ((switch : Switch) → is_set switch settings ≡ false) × (settings.file ≡ None)
-
-pub read_default : (tool : Tool) (args : List (List ℕ)) (settings : Settings) → IsDefault settings → IsReadTo tool args 0 settings
-read_default tool args settings none = record {
-  within = omega arith;
-  taken = sym (zero-add (sum_by arg_count (option_items tool args)));
-  sound = refl;
-  switches = λ switch. is_on-after (last_of (switch_name switch) (option_items tool args))
-      ∙ ap (λ before. value_after is_switched_on before (switch_name switch) (option_items tool args)) (sym (none.0 switch));
-  file = value_for-after (last_of (codes "f") (option_items tool args))
-      ∙ ap (λ before. value_after value_in (option_copied before) (codes "f") (option_items tool args)) (sym none.1);
-}
 
 -- what one more option sets
 set_switch : (switch : Switch) (first : OptionItem) (setting : Setting) (settings : Settings) → Sets first setting

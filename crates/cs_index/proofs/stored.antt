@@ -1,4 +1,5 @@
 pub mod EntryPieces
+pub mod ListBuffers
 pub mod ListPieces
 pub mod ListSections
 pub mod NamePieces
@@ -6,3 +7,5 @@ pub mod SectionOffsets
 pub mod SectionPieces
 pub mod SectionReads
 pub mod StoredEntries
+pub mod TextRuns
+pub mod StoredTables

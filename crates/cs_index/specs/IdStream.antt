@@ -1,6 +1,7 @@
 -- A stream: the ids of a posting list as varint deltas.
-use Rattle.std.specs.Prelude.{◌≡◌, ℕ, List, [], ◌∷◌, ◌++◌, length}
-use Rattle.cs_index.specs.AscendingIds.{AscendWithin, max_ids, next_after}
+use Rattle.std.specs.Prelude.{◌≡◌, ℕ, ◌+◌, ◌-◌, Bool, false, ◌||◌, List, [], ◌∷◌, ◌++◌, length, slice_index_or}
+use Rattle.cs_trigram.specs.Trigram.{has}
+use Rattle.cs_index.specs.AscendingIds.{AscendWithin, ids_onward, max_ids, next_after}
 use Rattle.cs_index.specs.PostingLists.{read_ids}
 use Rattle.cs_index.specs.Encoding.{stream_of}
 
@@ -13,3 +14,13 @@ pub record IsStream (stream : List ℕ) (count next : ℕ) : Type 0 where
   pub counted : count ≡ length (ids_in stream count)
   pub rise : AscendWithin max_ids 0 (ids_in stream count)
   pub follows : next ≡ next_after 0 (ids_in stream count)
+
+-- the ids that deltas encode; `next` is one more than the id before
+abbrev pub ids_from : ℕ → List ℕ → List ℕ
+ids_from next [] = []
+ids_from next (delta ∷ deltas) = (next + delta - 1) ∷ ids_from (next + delta) deltas
+
+-- The row with a flag for each of the ids, where the id 0 has the flag `at`.
+pub record IsMarked (at : ℕ) (ids : List ℕ) (row marked : List Bool) : Type 0 where
+  pub width : length marked ≡ length row
+  pub flags : (k : ℕ) → slice_index_or marked k false ≡ (slice_index_or row k false || has (ids_onward at ids) k)

@@ -1,5 +1,5 @@
 -- Rows: the ids of a window that match each node of a form, as a flag for each id. A row without flags has no id.
-use Rattle.std.specs.Prelude.{◌≡◌, ◌<◌, ◌≤◌, ◌+◌, ◌⊎◌, ℕ, Bool, false, List, length, map, slice_index_or, Vec, Option, None, Some}
+use Rattle.std.specs.Prelude.{◌≡◌, ◌<◌, ◌≤◌, ◌+◌, ◌-◌, ◌⊎◌, ◌||◌, ℕ, Bool, false, List, length, map, slice_index_or, Vec, Option, None, Some}
 use Rattle.std.specs.declared.alloc.Global.{Global}
 use Rattle.std.specs.List.{AllByRecursion, list_all}
 use Rattle.cs_trigram.specs.Trigram.{has}
@@ -33,6 +33,14 @@ IsReadOn bytes end list rest = Holds bytes rest × IsReadTo end (ids_left bytes 
 abbrev pub IsRowOf : List ℕ → ℕ → ℕ → ListState → List Bool → Type 0
 IsRowOf bytes start end list row =
     (k : ℕ) → start + k < end → slice_index_or row k false ≡ has (ids_left bytes list).ids (start + k)
+
+-- The row has the flags of the ids that were read of a list, and the rest of the list has the others.
+pub record RowSoFar (start end : ℕ) (list : Ids) (row : List Bool) (rest : Ids) : Type 0 where
+  pub width : (length row ≡ 0) ⊎ (length row ≡ end - start)
+  pub flags : (k : ℕ) → start + k < end → (slice_index_or row k false || has rest.ids (start + k)) ≡ has list.ids (start + k)
+  pub same : (id : ℕ) → end ≤ id → has rest.ids id ≡ has list.ids id
+  pub from : AscendWithin max_ids start rest.ids
+  pub whole : rest.whole ≡ list.whole
 
 -- whether each list has the id
 abbrev pub have_id : List ℕ → List ListState → ℕ → List Bool

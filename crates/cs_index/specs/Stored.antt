@@ -1,8 +1,6 @@
 -- An index in a store: what is in memory, and the whole index in the bytes of the store.
 -- docs/FORMAT.md, "The index as it is read".
-use Rattle.std.specs.Prelude.{◌≡◌, ◌≤◌, ℕ, List, length, Option, Some, None, string_bytes, String, Result, Ok, Err}
-use Rattle.std.specs.Result.{IsOkAnd}
-use Rattle.std.specs.declared.alloc.Global.{Global}
+use Rattle.std.specs.Prelude.{◌≡◌, ◌≤◌, ℕ, List, length, Result, Ok, Err}
 use Rattle.cs_index.specs.declared.fault.IndexFault.{IndexFault}
 use Rattle.cs_index.specs.declared.reading.section_offsets.SectionOffsets.{SectionOffsets}
 use Rattle.cs_index.specs.Decoding.{DecodesAs}
@@ -33,8 +31,3 @@ OpensAs bytes (Err fault) = opening bytes ≡ Err fault
 abbrev pub DecodesOrFails : List ℕ → Result StoredParts IndexFault → Type 0
 DecodesOrFails bytes (Ok stored) = (parts : Parts) × DecodesAs bytes parts × StandsIn bytes stored parts
 DecodesOrFails bytes (Err fault) = Fails bytes fault
-
--- the text is this name, if there is one
-abbrev pub IsName : Option (List ℕ) → Result (String Global) IndexFault → Type 0
-IsName None answer = Unit {0}
-IsName (Some name) answer = IsOkAnd answer (λ text. string_bytes text ≡ name)

@@ -3,7 +3,7 @@ ghost use Rattle.std.specs.Prelude.{◌≡◌, ◌<◌, ◌≤◌, ◌+◌, ◌+
 ghost use Rattle.std.specs.List.{AllByRecursion};
 ghost use Rattle.cs_index.specs.Encoding.{varint, stream_of};
 ghost use Rattle.cs_index.specs.AscendingIds.{max_ids, next_after, AscendWithin};
-ghost use Rattle.cs_index.specs.IdStream.{IsStream};
+ghost use Rattle.cs_index.specs.IdStream.{ids_from, ids_in, IsMarked, IsStream};
 
 use std::marker::Model;
 
@@ -123,6 +123,83 @@ fn part(bytes: &[u8], limit: u32, room: u32) -> (usize, u32, u32)
         return (0, 0, 0);
     }
     (size, 1, delta)
+}
+
+/// Does what `extent` does, and sets the flag of each id in a row, where the id 0 has the flag `at`.
+pub(crate) fn mark_extent(
+    bytes: &[u8],
+    limit: u32,
+    room: u32,
+    row: &mut [bool],
+    at: usize,
+) -> (usize, u32, u32)
+    requires bound { room ≤ max_ids }
+    requires within { at + room ≤ length row.old }
+    ensures stream { IsStream (take result.0 bytes.now) result.1 result.2 }
+    ensures within { result.0 ≤ length bytes.now }
+    ensures bound { result.1 ≤ limit }
+    ensures below { result.2 ≤ room }
+    ensures marks { IsMarked at (ids_in (take result.0 bytes.now) result.1) row.old row.new }
+{
+    let mut len = 0;
+    let mut count = 0;
+    let mut next = 0;
+    'ids: while count < limit {
+        let (size, ids, end) = mark_part(
+            &bytes[len..],
+            limit - count,
+            room - next,
+            row,
+            at + next as usize,
+        );
+        if ids == 0 {
+            return (len, count, next);
+        }
+        len += size;
+        count += ids;
+        next += end;
+    }
+    (len, count, next)
+}
+
+/// One step of `mark_extent`: eight ids if each delta is a single byte, else one id.
+#[inline]
+fn mark_part(bytes: &[u8], limit: u32, room: u32, row: &mut [bool], at: usize) -> (usize, u32, u32)
+    requires bound { room ≤ max_ids }
+    requires within { at + room ≤ length row.old }
+    ensures stream { IsStream (take result.0 bytes.now) result.1 result.2 }
+    ensures within { result.0 ≤ length bytes.now }
+    ensures bound { result.1 ≤ limit }
+    ensures below { result.2 ≤ room }
+    ensures marks { IsMarked at (ids_in (take result.0 bytes.now) result.1) row.old row.new }
+{
+    if bytes.len() >= 8 && limit >= 8 {
+        let sum = sum_of_short(&bytes[..8]);
+        if sum > 0 && sum <= room {
+            mark_deltas(&bytes[..8], row, at);
+            return (8, 8, sum);
+        }
+    }
+    let (delta, size) = short_delta(bytes);
+    if delta == 0 || delta > room || limit == 0 {
+        return (0, 0, 0);
+    }
+    row[at + delta as usize - 1] = true;
+    (size, 1, delta)
+}
+
+/// Sets the flag of each id in a row, where the id 0 has the flag `at`.
+#[inline]
+fn mark_deltas(deltas: &[u8], row: &mut [bool], at: usize)
+    requires short { AllByRecursion (λ delta. (0 < delta) × (delta < 128)) deltas.now }
+    requires within { at + sum deltas.now ≤ length row.old }
+    ensures { IsMarked at (ids_from 0 deltas.now) row.old row.new }
+{
+    let mut next = at;
+    'deltas: for delta in deltas {
+        next += *delta as usize;
+        row[next - 1] = true;
+    }
 }
 
 /// The sum of the deltas, or 0 if one of them is 0 or longer than a byte.

@@ -1,7 +1,10 @@
 -- The bytes of a class are alike.
-use Rattle.std.proofs.Common.{◌≡◌, ℕ, zero, suc, ◌+◌, ◌-◌, ◌<◌, ◌≤◌, ◌⊎◌, inl, inr, Bool, true, false, ◌&&◌, ◌||◌, List, [], ◌∷◌, take, drop, refl, sym, ◌∙◌, ap, subst, arith}
+use Rattle.std.proofs.Common.{◌≡◌, ℕ, zero, suc, ◌+◌, ◌-◌, ◌<◌, ◌≤◌, ◌⊎◌, inl, inr, Bool, true, false, ◌&&◌, ◌||◌, List, [], ◌∷◌, take, drop, get_or, refl, sym, ◌∙◌, ap, subst, arith}
 use Rattle.std.specs.Prelude.{nat_eq}
-use Rattle.std.proofs.lemmas.Bool.{cases_lt, lt-ltb, ne_eqb}
+use Rattle.std.proofs.lemmas.Bool.{cases_lt, lt-ltb, ne_eqb, false_from_ne_true}
+use Rattle.std.proofs.lemmas.List.{get_or-drop}
+use Rattle.std.proofs.Math.Seq.{get_or-take}
+use Rattle.memchr.specs.Find.{Passes, is_byte}
 use Rattle.cs_syntax.specs.Matching.{Tree, Trees, empty, one_of, one_char, cat, alt, rep, line_start, line_end, word_edge, not_word_edge, none, more, is_word}
 use Rattle.cs_syntax.specs.CharSteps.{unfinished_after}
 use Rattle.cs_syntax.specs.declared.char_step.CharStep.TheVariants.{Single}
@@ -96,7 +99,7 @@ module _ (t : Tree) (state : State) (low high byte : ℕ) (from : low ≤ byte) 
   class_alike b le lt = alike_on byte low b (alike_back low byte (alike_low byte from to)) (alike_low b le lt)
 
 -- one byte more is marked, if it is unlike the byte before it
-pub marks_on : (test : ℕ → Bool) (old new : List Bool) (byte : ℕ) →
+pub marks_on : (test : ℕ → Bool) (old new : List ℕ) (byte : ℕ) →
     ((b : ℕ) → b < byte → begins_at old (suc b) ≡ false → test b ≡ test (suc b)) →
     ((b : ℕ) → begins_at new b ≡ false → begins_at old b ≡ false) →
     (begins_at new (byte + 1) ≡ false → test byte ≡ test (byte + 1)) →
@@ -111,19 +114,29 @@ marks_on test old new byte before kept here b lt e =
     ]
 
 -- the newline is a class of its own
-newlines : (new : List Bool) (b : ℕ) → (begins_at new 10 ≡ false → ⊥) → (begins_at new 11 ≡ false → ⊥) → begins_at new (suc b) ≡ false → nat_eq b 10 ≡ nat_eq (suc b) 10
+newlines : (new : List ℕ) (b : ℕ) → (begins_at new 10 ≡ false → ⊥) → (begins_at new 11 ≡ false → ⊥) → begins_at new (suc b) ≡ false → nat_eq b 10 ≡ nat_eq (suc b) 10
 newlines new b ten eleven e =
     let here = λ (h : b ≡ 10). eleven (subst (λ k. begins_at new k ≡ false) (ap suc h) e) in
     let next = λ (h : suc b ≡ 10). ten (subst (λ k. begins_at new k ≡ false) h e) in
     ne_eqb b 10 here ∙ sym (ne_eqb (suc b) 10 next)
 
 -- what a marked list says of its classes
-pub classes_by : (t : Tree) (bits : LookBehind) (first words new : List Bool) → bits ≡ look_behind t → (begins_at first 10 ≡ false → ⊥) → (begins_at first 11 ≡ false → ⊥) →
+pub classes_by : (t : Tree) (bits : LookBehind) (first words new : List ℕ) → bits ≡ look_behind t → (begins_at first 10 ≡ false → ⊥) → (begins_at first 11 ≡ false → ⊥) →
     AddsMarks (λ b c. (is_word b && bits.word) ≡ (is_word c && bits.word)) first words → AddsMarks (HaveBoth t) words new → AreClasses t new
 classes_by t bits first words new is ten eleven both marks b lt e =
     let kept = marks.kept (suc b) e in
     let words_alike = subst (λ (x : LookBehind). (is_word b && x.word) ≡ (is_word (suc b) && x.word)) is (both.alike b lt kept) in
     record { newline = newlines first b ten eleven (both.kept (suc b) kept); word = words_alike; sets = marks.alike b lt e }
+
+-- no class begins at a byte that a search for a flag has passed
+pub clear_before : (begins : List ℕ) (n k : ℕ) → k < n → ¬ Passes (is_byte 1) (take n begins) k → begins_at begins k ≡ false
+clear_before begins n k lt h = false_from_ne_true _ (λ e. h (ap (λ x. nat_eq x 1) (get_or-take n begins k 0 lt) ∙ e))
+
+pub clear_after : (begins : List ℕ) (m n k : ℕ) → m ≤ k → k - m < n → ¬ Passes (is_byte 1) (take n (drop m begins)) (k - m) → begins_at begins k ≡ false
+clear_after begins m n k le lt h =
+    let index : m + (k - m) ≡ k = omega arith in
+    let there = get_or-drop m begins (k - m) 0 ∙ ap (λ (i : ℕ). get_or begins i 0) index in
+    false_from_ne_true _ (λ e. h (ap (λ x. nat_eq x 1) (get_or-take n (drop m begins) (k - m) 0 lt ∙ there) ∙ e))
 
 -- a class grows by a byte
 pub together_down : (t : Tree) (at : Unfinished) (low top : ℕ) → StepTogether t at low (suc low) → ((b : ℕ) → low + 1 ≤ b → b < top → StepTogether t at b (suc b)) →

@@ -23,6 +23,8 @@ use Rattle.cs_match.specs.ByteClasses.{AreAlike}
 use Rattle.cs_match.specs.LazyDfa.{blank_transition}
 use Rattle.cs_match.specs.Scan.{state_after}
 use Rattle.cs_match.specs.Automaton.{GrowsOver}
+use Rattle.cs_match.specs.Size.{nodes}
+use Rattle.cs_match.specs.Work.{words, byte_work}
 
 lines_of_two : lines (codes "ab\ncd\n") ≡ codes "ab" ∷ codes "cd" ∷ []
 unfolding lines
@@ -158,3 +160,13 @@ three_positions = refl
 -- a lead byte begins a set of characters that was entered, and ends what was taken
 lead_byte_begins : moved false (Begun ∷ Taken [] ∷ []) (record { byte = 195; char = Begins finished }) (true ∷ false ∷ []) (false ∷ true ∷ []) ≡ true ∷ false ∷ []
 lead_byte_begins = refl
+
+-- a set, and a loop over a set
+four_nodes : nodes (cat (more (one_of []) (more (rep (one_of []) 0 None) none))) ≡ 4
+four_nodes = refl
+
+second_word : words 65 ≡ 2
+second_word = refl
+
+byte_of_one_position : byte_work (one_of []) ≡ 1292
+byte_of_one_position = refl

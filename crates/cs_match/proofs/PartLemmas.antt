@@ -1,12 +1,16 @@
 -- The shapes of parts: the equations of `shape_of`, one for each variant, and the shapes of lists of parts.
-use Rattle.std.proofs.Common.{◌≡◌, ℕ, suc, ◌+◌, ◌<◌, List, [], ◌∷◌, ◌++◌, Vec, Box, Global, drop, length, get_or, refl, sym, ap, ◌∙◌, arith, drop-cons}
-use Rattle.std.specs.Prelude.{None}
-use Rattle.cs_syntax.specs.Matching.{cat, alt, rep, line_start, line_end, word_edge, not_word_edge, none, more}
+use Rattle.std.proofs.Common.{◌≡◌, ℕ, suc, ◌+◌, ◌*◌, ◌<◌, ◌≤◌, List, [], ◌∷◌, ◌++◌, Vec, Box, Global, drop, length, get_or, refl, sym, ap, ◌∙◌, arith, drop-cons}
+use Rattle.std.specs.Prelude.{None, map}
+use Rattle.std.proofs.lemmas.List.Sums.{sum_by-cons}
+use Rattle.cs_syntax.specs.Matching.{empty, one_of, one_char, cat, alt, rep, line_start, line_end, word_edge, not_word_edge, none, more}
 use Rattle.cs_syntax.specs.TreeList.{append}
-use Rattle.cs_match.specs.Parts.{run, runs, optional_run, shape_of, shape_step, shapes_of}
+use Rattle.cs_match.specs.Parts.{run, runs, optional_run, shape_of, shape_step, shapes_of, size_of, size_step, sizes_of}
+use Rattle.cs_match.specs.Work.{words}
+use Rattle.cs_match.specs.Size.{nodes, nodes_of}
+use Rattle.cs_match.specs.Glushkov.{position_count, position_count_of}
 use Rattle.cs_match.specs.declared.parts.Part.{Part, Part-F, fold-roll-Part}
 use Rattle.cs_match.specs.declared.parts.Part.TheVariants.{Run, Alternation, Optional, Cat, Alt, Rep, LineStart, LineEnd, WordEdge, NotWordEdge, rolls-Run, rolls-Alternation, rolls-Optional, rolls-Cat, rolls-Alt, rolls-Rep, rolls-LineStart, rolls-LineEnd, rolls-WordEdge, rolls-NotWordEdge}
-use Rattle.cs_syntax.specs.Matching.{Tree}
+use Rattle.cs_syntax.specs.Matching.{Tree, Trees}
 
 pub shape_of-Run : (n : ℕ) → shape_of (Run n) ≡ run n
 shape_of-Run n = ap shape_of (sym (rolls-Run n)) ∙ fold-roll-Part Tree shape_step (Part-F.Run n)
@@ -60,3 +64,72 @@ shapes_none (x ∷ xs) h = absurd (omega (arith, h))
 pub runs_last : (ns : List ℕ) (n : ℕ) → runs (ns ++ n ∷ []) ≡ append (runs ns) (more (run (suc n)) none)
 runs_last [] n = refl
 runs_last (m ∷ ns) n = ap (more (run (suc m))) (runs_last ns n)
+
+pub size_of-Run : (n : ℕ) → size_of (Run n) ≡ 1
+size_of-Run n = ap size_of (sym (rolls-Run n)) ∙ fold-roll-Part ℕ size_step (Part-F.Run n)
+
+pub size_of-Alternation : (ns : List ℕ) → size_of (Alternation ns) ≡ 1 + words (position_count_of (runs ns))
+size_of-Alternation ns = ap size_of (sym (rolls-Alternation ns)) ∙ fold-roll-Part ℕ size_step (Part-F.Alternation ns)
+
+pub size_of-Optional : (n : ℕ) → size_of (Optional n) ≡ 1
+size_of-Optional n = ap size_of (sym (rolls-Optional n)) ∙ fold-roll-Part ℕ size_step (Part-F.Optional n)
+
+pub size_of-Cat : (parts : Vec Part Global) → size_of (Cat parts) ≡ 1 + sizes_of parts.items
+size_of-Cat parts = ap size_of (sym (rolls-Cat parts)) ∙ fold-roll-Part ℕ size_step (Part-F.Cat parts)
+
+pub size_of-Alt : (parts : Vec Part Global) → size_of (Alt parts) ≡ 1 + sizes_of parts.items
+size_of-Alt parts = ap size_of (sym (rolls-Alt parts)) ∙ fold-roll-Part ℕ size_step (Part-F.Alt parts)
+
+pub size_of-Rep : (x : Box Part Global) (n : ℕ) → size_of (Rep x n) ≡ 1 + size_of x.value
+size_of-Rep x n = ap size_of (sym (rolls-Rep x n)) ∙ fold-roll-Part ℕ size_step (Part-F.Rep x n)
+
+pub size_of-LineStart : size_of LineStart ≡ 1
+size_of-LineStart = ap size_of (sym rolls-LineStart) ∙ fold-roll-Part ℕ size_step Part-F.LineStart
+
+pub size_of-LineEnd : size_of LineEnd ≡ 1
+size_of-LineEnd = ap size_of (sym rolls-LineEnd) ∙ fold-roll-Part ℕ size_step Part-F.LineEnd
+
+pub size_of-WordEdge : size_of WordEdge ≡ 1
+size_of-WordEdge = ap size_of (sym rolls-WordEdge) ∙ fold-roll-Part ℕ size_step Part-F.WordEdge
+
+pub size_of-NotWordEdge : size_of NotWordEdge ≡ 1
+size_of-NotWordEdge = ap size_of (sym rolls-NotWordEdge) ∙ fold-roll-Part ℕ size_step Part-F.NotWordEdge
+
+pub sizes_cons : (x : Part) (xs : List Part) → sizes_of (x ∷ xs) ≡ size_of x + sizes_of xs
+sizes_cons x xs = sum_by-cons (λ n. n) (size_of x) (map size_of xs)
+
+-- the sizes from an index on
+pub sizes_from : (parts : List Part) (i : ℕ) (part : Part) → i < length parts → part ≡ get_or parts i part →
+    sizes_of (drop i parts) ≡ size_of part + sizes_of (drop (i + 1) parts)
+sizes_from parts i part lt is =
+    let next : suc i ≡ i + 1 = omega arith in
+    ap sizes_of (drop-cons parts i part lt ∙ ap (λ x. x ∷ drop (suc i) parts) (sym is) ∙ ap (λ n. part ∷ drop n parts) next)
+    ∙ sizes_cons part (drop (i + 1) parts)
+
+-- a part is pushed
+pub sizes_last : (xs : List Part) (x : Part) → sizes_of (xs ++ x ∷ []) ≡ sizes_of xs + size_of x
+sizes_last [] x = omega (arith, sizes_cons x [])
+sizes_last (y ∷ xs) x = sizes_cons y (xs ++ x ∷ []) ∙ omega (arith, sizes_last xs x, sizes_cons y xs)
+
+pub ruleset size_rules = (size_of-Run, size_of-Alternation, size_of-Optional, size_of-Cat, size_of-Alt, size_of-Rep, size_of-LineStart, size_of-LineEnd, size_of-WordEdge, size_of-NotWordEdge)
+
+-- a node has at most two positions
+mutual
+  few_positions : (t : Tree) → position_count t ≤ 2 * nodes t
+  few_positions empty = omega arith
+  few_positions (one_of set) = omega arith
+  few_positions (one_char ranges) = omega arith
+  few_positions (cat ts) = omega (arith, few_positions_of ts)
+  few_positions (alt ts) = omega (arith, few_positions_of ts)
+  few_positions (rep x n m) = omega (arith, few_positions x)
+  few_positions line_start = omega arith
+  few_positions line_end = omega arith
+  few_positions word_edge = omega arith
+  few_positions not_word_edge = omega arith
+
+  few_positions_of : (ts : Trees) → position_count_of ts ≤ 2 * nodes_of ts
+  few_positions_of none = omega arith
+  few_positions_of (more t ts) = omega (arith, few_positions t, few_positions_of ts)
+
+pub words_few : (ts : Trees) (n : ℕ) → n ≤ position_count_of ts → words n ≤ nodes_of ts
+words_few ts n le = omega (arith, few_positions_of ts)

@@ -1,5 +1,5 @@
 -- Byte classes (RE2's byte map): ranges of bytes that a tree does not tell apart.
-use Rattle.std.specs.Prelude.{ℕ, suc, ◌≡◌, ◌<◌, ◌⊎◌, Bool, false, List, length, nat_eq, slice_index_or}
+use Rattle.std.specs.Prelude.{ℕ, suc, ◌≡◌, ◌<◌, ◌⊎◌, Bool, false, List, length, nat_eq, slice_index}
 use Rattle.cs_syntax.specs.Matching.{Tree, Trees, empty, one_of, one_char, cat, alt, rep, line_start, line_end, word_edge, not_word_edge, none, more, member}
 use Rattle.cs_syntax.specs.Characters.{has_char}
 use Rattle.cs_syntax.specs.declared.char_step.Unfinished.{Unfinished}
@@ -40,11 +40,11 @@ pub record AreTogether (t : Tree) (b c : ℕ) : Type 0 where
   pub sets : HaveBoth t b c
 
 -- a class begins at the byte
-abbrev pub begins_at : List Bool → ℕ → Bool
-begins_at begins b = slice_index_or begins b false
+abbrev pub begins_at : List ℕ → ℕ → Bool
+begins_at begins b = nat_eq (slice_index begins b) 1
 
 -- neighbouring bytes are together, except where a class begins
-abbrev pub AreClasses : Tree → List Bool → Type 0
+abbrev pub AreClasses : Tree → List ℕ → Type 0
 AreClasses t begins = (b : ℕ) → suc b < 256 → begins_at begins (suc b) ≡ false → AreTogether t b (suc b)
 
 -- the bytes are together, and do the same to the unfinished character, except that both may be characters themselves
@@ -53,7 +53,7 @@ pub record StepTogether (t : Tree) (at : Unfinished) (b c : ℕ) : Type 0 where
   pub step : (c < 128) ⊎ (char_step_of t at b ≡ char_step_of t at c)
 
 -- marks are added, and then neighbouring bytes satisfy the relation, except where a class begins
-pub record AddsMarks (Alike : ℕ → ℕ → Type 0) (old new : List Bool) : Type 0 where
+pub record AddsMarks (Alike : ℕ → ℕ → Type 0) (old new : List ℕ) : Type 0 where
   pub bytes : length new ≡ length old
   pub kept : (b : ℕ) → begins_at new b ≡ false → begins_at old b ≡ false
   pub alike : (b : ℕ) → suc b < 256 → begins_at new (suc b) ≡ false → Alike b (suc b)

@@ -1,14 +1,15 @@
 -- The parts of a program: its tree without the sets. A run of positions is one part.
-use Rattle.std.specs.Prelude.{ℕ, suc, ◌≡◌, Bool, List, [], ◌∷◌, map, None}
+use Rattle.std.specs.Prelude.{ℕ, suc, ◌≡◌, ◌+◌, sum, Bool, List, [], ◌∷◌, map, None}
 use Rattle.cs_syntax.specs.Matching.{Tree, Trees, one_of, cat, alt, rep, line_start, line_end, word_edge, not_word_edge, none, more}
 use Rattle.cs_syntax.specs.Node.{trees}
 use Rattle.cs_match.specs.declared.look_around.LookAround.{LookAround}
 use Rattle.cs_match.specs.declared.parts.Part.{Part}
 use Rattle.cs_match.specs.declared.parts.Part.TheOpen.{Part-F}
 use Rattle.cs_match.specs.declared.parts.Part.TheFolds.{fold-Part}
-use Rattle.cs_match.specs.Glushkov.{position_count, repeats, nullable, is_final, loop_ends}
+use Rattle.cs_match.specs.Glushkov.{position_count, position_count_of, repeats, nullable, is_final, loop_ends}
 use Rattle.cs_match.specs.Expansion.{copies}
 use Rattle.cs_match.specs.Entered.{entered}
+use Rattle.cs_match.specs.Work.{words}
 
 -- a sequence of n sets of bytes; where positions are entered it does not matter which sets they are
 abbrev pub run : ℕ → Tree
@@ -41,6 +42,25 @@ shape_of = fold-Part Tree shape_step
 
 abbrev pub shapes_of : List Part → Trees
 shapes_of ps = trees (map shape_of ps)
+
+-- the steps of a traversal: it visits each part once, and of an alternation of sequences each word of its positions
+abbrev pub size_step : Part-F ℕ → ℕ
+size_step (Part-F.Run n) = 1
+size_step (Part-F.Alternation ns) = 1 + words (position_count_of (runs ns))
+size_step (Part-F.Optional n) = 1
+size_step (Part-F.Cat parts) = 1 + sum parts.items
+size_step (Part-F.Alt parts) = 1 + sum parts.items
+size_step (Part-F.Rep x n) = 1 + x.value
+size_step Part-F.LineStart = 1
+size_step Part-F.LineEnd = 1
+size_step Part-F.WordEdge = 1
+size_step Part-F.NotWordEdge = 1
+
+abbrev pub size_of : Part → ℕ
+size_of = fold-Part ℕ size_step
+
+abbrev pub sizes_of : List Part → ℕ
+sizes_of ps = sum (map size_of ps)
 
 -- trees whose position sets enter and end alike, whatever their sets are
 pub record HaveSameShape (t s : Tree) : Type 0 where

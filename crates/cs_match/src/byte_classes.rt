@@ -12,22 +12,23 @@ ghost use Rattle.cs_match.specs.ByteClasses.{AreClasses, StepTogether, begins_at
 use crate::look_around::LookBehind;
 use crate::program::Program;
 use cs_syntax::{ByteSet, CharSet, CharStep, Node, Unfinished};
+use memchr::{memchr, memrchr};
 
-/// Whether a class begins at each byte, for a tree with these look-behind bits.
-pub(crate) fn byte_classes(root: &Node, bits: LookBehind) -> [bool; 256]
+/// The flags of the bytes at which a class begins, for a tree with these look-behind bits.
+pub(crate) fn byte_classes(root: &Node, bits: LookBehind) -> [u8; 256]
     requires { bits ≡ look_behind (tree_of root.now) }
     ensures { AreClasses (tree_of root.now) result }
 {
-    let mut begins = [false; 256];
-    begins[b'\n' as usize] = true;
-    begins[b'\n' as usize + 1] = true;
+    let mut begins = [0; 256];
+    begins[b'\n' as usize] = 1;
+    begins[b'\n' as usize + 1] = 1;
     mark_words(&mut begins, bits);
     mark_sets(root, &mut begins);
     begins
 }
 
 /// Marks where word bytes begin and end, if the bits have one for them.
-fn mark_words(begins: &mut [bool], bits: LookBehind)
+fn mark_words(begins: &mut [u8], bits: LookBehind)
     requires { length begins.old ≡ 256 }
     ensures { AddsMarks (λ b c. (is_word b && bits.word) ≡ (is_word c && bits.word))
         begins.old begins.new }
@@ -41,7 +42,7 @@ fn mark_words(begins: &mut [bool], bits: LookBehind)
 
 /// Marks where the members of each set of the tree begin and end.
 #[cycle(mark_sets)]
-fn mark_sets(node: &Node, begins: &mut [bool])
+fn mark_sets(node: &Node, begins: &mut [u8])
     requires { length begins.old ≡ 256 }
     ensures { AddsMarks (HaveBoth (tree_of node.now)) begins.old begins.new }
 {
@@ -56,7 +57,7 @@ fn mark_sets(node: &Node, begins: &mut [bool])
 }
 
 #[cycle(mark_sets)]
-fn mark_all_sets(parts: &[Node], begins: &mut [bool])
+fn mark_all_sets(parts: &[Node], begins: &mut [u8])
     requires { length begins.old ≡ 256 }
     ensures { AddsMarks (AllHaveBoth (trees_of parts.now)) begins.old begins.new }
 {
@@ -66,7 +67,7 @@ fn mark_all_sets(parts: &[Node], begins: &mut [bool])
 }
 
 /// Marks where the members of the set begin and end.
-fn mark_set(set: &ByteSet, begins: &mut [bool])
+fn mark_set(set: &ByteSet, begins: &mut [u8])
     requires { length begins.old ≡ 256 }
     ensures { AddsMarks (λ b c. member set.now b ≡ member set.now c) begins.old begins.new }
 {
@@ -76,7 +77,7 @@ fn mark_set(set: &ByteSet, begins: &mut [bool])
 }
 
 /// Marks where the members of the set begin and end, among the numbers below 256.
-fn mark_chars(set: &CharSet, begins: &mut [bool])
+fn mark_chars(set: &CharSet, begins: &mut [u8])
     requires { length begins.old ≡ 256 }
     ensures { AddsMarks (λ b c. has_char set.now b ≡ has_char set.now c) begins.old begins.new }
 {
@@ -88,14 +89,14 @@ fn mark_chars(set: &CharSet, begins: &mut [bool])
 }
 
 /// Marks the byte if it is in a set and the byte before it is not, or the other way round.
-fn mark(begins: &mut [bool], byte: u8, before: bool, here: bool)
+fn mark(begins: &mut [u8], byte: u8, before: bool, here: bool)
     requires { length begins.old ≡ 256 }
     ensures bytes { length begins.new ≡ length begins.old }
     ensures kept { (b : ℕ) → begins_at begins.new b ≡ false → begins_at begins.old b ≡ false }
     ensures marked { begins_at begins.new byte ≡ false → before ≡ here }
 {
     if before != here {
-        begins[byte as usize] = true;
+        begins[byte as usize] = 1;
     }
 }
 
@@ -106,6 +107,13 @@ pub(crate) fn class_of(program: &Program, at: Unfinished, byte: u8) -> (usize, u
     ensures bytes { result.1 ≤ 256 }
     ensures together { (b : ℕ) → result.0 ≤ b → suc b < result.1 → StepTogether program.now at b (suc b) }
 {
+    if byte < 128 {
+        let begins = program.byte_classes();
+        return (
+            class_start(begins, byte as usize),
+            class_end(begins, byte as usize),
+        );
+    }
     let mut low = byte as usize;
     'down: while low > 0 && are_together(program, at, low - 1) {
         low -= 1;
@@ -115,6 +123,31 @@ pub(crate) fn class_of(program: &Program, at: Unfinished, byte: u8) -> (usize, u
         high += 1;
     }
     (low, high)
+}
+
+/// The first byte of the class of a byte.
+fn class_start(begins: &[u8; 256], byte: usize) -> usize
+    requires { byte < 128 }
+    ensures low { result ≤ byte }
+    ensures none { (b : ℕ) → result < b → b ≤ byte → begins_at begins.now b ≡ false }
+{
+    match memrchr(1, &begins[..byte + 1]) {
+        Some(start) => start,
+        None => 0,
+    }
+}
+
+/// The byte after the last byte of the class of an ASCII byte.
+fn class_end(begins: &[u8; 256], byte: usize) -> usize
+    requires { byte < 128 }
+    ensures low { byte < result }
+    ensures high { result ≤ 128 }
+    ensures none { (b : ℕ) → byte < b → b < result → begins_at begins.now b ≡ false }
+{
+    match memchr(1, &begins[byte + 1..128]) {
+        Some(offset) => byte + 1 + offset,
+        None => 128,
+    }
 }
 
 /// Whether the byte and the next one are in one class.
@@ -129,11 +162,11 @@ fn are_together(program: &Program, at: Unfinished, byte: usize) -> bool
 }
 
 /// Whether a class begins at the byte.
-fn is_begin(begins: &[bool; 256], byte: usize) -> bool
+fn is_begin(begins: &[u8; 256], byte: usize) -> bool
     requires { byte < 256 }
     ensures { result ≡ begins_at begins.now byte }
 {
-    begins[byte]
+    begins[byte] == 1
 }
 
 /// Whether the byte and the next one do the same to the unfinished character.

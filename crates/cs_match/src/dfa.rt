@@ -3,6 +3,7 @@
 ghost use Rattle.std.specs.Prelude.{◌≡◌, ◌≢◌, ◌↔◌, ◌+◌, ◌<◌, ◌≤◌, ◌*◌, ◌/◌, ℕ, IfOk, IsTrue, MatchOption, EachIndex, length, vec_len, replicate, slice_index, slice_index_or, slice_set, true, false};
 ghost use Rattle.cs_syntax.specs.Matching.{HasMatch};
 ghost use Rattle.cs_match.specs.Automaton.{GrowsOver};
+ghost use Rattle.cs_match.specs.Work.{words, step_work, state_work, byte_work, line_work};
 ghost use Rattle.cs_match.specs.FirstMatch.{AcceptsFirst, AreScanned, HasScanned};
 ghost use Rattle.cs_match.specs.Lines.{newline};
 ghost use Rattle.cs_match.specs.Glushkov.{position_count, IsExpanded};
@@ -17,8 +18,12 @@ use crate::glushkov::Scratch;
 use crate::interleaved_scan::{FIRST_SPECIAL, MATCH};
 use crate::program::Program;
 use crate::state::State;
+use crate::steps::Steps;
 use cs_syntax::Unfinished;
+use memchr::memchr_iter;
 use std::alloc::{AllocError, Global};
+use std::marker::Brand;
+use std::sync::ledger::{Blank, Ledger};
 
 /// The number of the unknown state: the transition is not computed yet. No cached state has this number or that of
 /// `MATCH`.
@@ -41,8 +46,8 @@ pub(crate) struct LazyDfa<'a> {
     pub(crate) transitions: Vec<u16>,
     /// The cached states. The first is the start state.
     pub(crate) cached: Vec<State>,
-    /// The hashes of the cached states, compared before the states.
-    pub(crate) hashes: [u32; 256],
+    /// A byte of hash for each cached state, compared before the states.
+    pub(crate) hashes: [u8; 256],
     /// The number of cached states.
     pub(crate) used: usize,
     /// The state under construction.
@@ -65,13 +70,13 @@ fn start_states(alloc: Global, program: &Program) -> Result<Vec<State>, AllocErr
 
 /// Makes every transition unknown, except those of the match state.
 fn reset(transitions: &mut [u16])
+    requires { length transitions.old ≡ 65536 }
     ensures length { length transitions.new ≡ length transitions.old }
     ensures blank { EachIndex transitions.new (λ k. slice_index transitions.new k
         ≡ blank_transition k) }
 {
-    for i in 0..transitions.len() {
-        transitions[i] = if i >> 8 == 254 { MATCH } else { UNKNOWN };
-    }
+    transitions.fill(UNKNOWN);
+    put_range(transitions, MATCH, 0, 256, MATCH);
 }
 
 /// A transition table in which no transition is known.
@@ -84,21 +89,22 @@ fn blank(alloc: Global) -> Result<Vec<u16>, AllocError>
     Ok(transitions)
 }
 
-/// The index of a cached state that equals this one, if there is one.
-fn find(
+/// The index of a cached state that equals this one and has its hash, if there is one.
+fn find<L: Ledger>(
     cached: &[State],
-    used: usize,
-    hashes: &[u32; 256],
-    hash: u32,
+    hashes: &[u8],
+    hash: u8,
     state: &State,
+    steps: &mut Steps<L>,
 ) -> Option<usize>
-    requires bound { used ≤ 254 }
-    requires all { length cached.now ≡ 254 }
-    ensures { MatchOption result (Unit {0})
-        (λ slot. (slot < used) × (slice_index_or cached.now slot state.now ≡ state.now)) }
+    requires { length hashes.now ≤ length cached.now }
+    ensures found { MatchOption result (Unit {0})
+        (λ slot. (slot < length hashes.now) × (slice_index_or cached.now slot state.now ≡ state.now)) }
+    ensures cost { steps.new ≤ steps.old + length hashes.now * (words (length state.now.positions) + 1) }
 {
-    for slot in 0..used {
-        if hashes[slot] == hash && cached[slot].is_same(state) {
+    steps.add(hashes.len());
+    for slot in memchr_iter(hash, hashes) {
+        if cached[slot].is_same(state, steps) {
             return Some(slot);
         }
     }
@@ -121,22 +127,24 @@ fn put_range(transitions: &mut [u16], from: u16, low: usize, high: usize, next: 
 }
 
 /// Copies a state into the cache.
-fn put_state(cached: &mut [State], slot: usize, state: &State)
+fn put_state<L: Ledger>(cached: &mut [State], slot: usize, state: &State, steps: &mut Steps<L>)
     requires within { slot < length cached.old }
     requires positions { length (slice_index_or cached.old slot state.now).positions
         ≡ length state.now.positions }
-    ensures { cached.new ≡ slice_set cached.old slot state.now }
+    ensures put { cached.new ≡ slice_set cached.old slot state.now }
+    ensures cost { steps.new ≡ steps.old + words (length state.now.positions) }
 {
-    cached[slot].copy_from(state);
+    cached[slot].copy_from(state, steps);
 }
 
 /// Computes the successor of a state over a byte, and returns whether the state accepts before the byte.
-fn step_from(
+fn step_from<L: Ledger>(
     program: &Program,
     from: &State,
     next: &mut State,
     memory: &mut Scratch,
     byte: u8,
+    steps: &mut Steps<L>,
 ) -> bool
     requires positions { length from.now.positions ≡ position_count program.now }
     requires room { length next.old.positions ≡ position_count program.now }
@@ -144,9 +152,10 @@ fn step_from(
     ensures accepting { result ≡ accepts_before program.now from.now byte }
     ensures moved { next.new ≡ successor program.now from.now byte }
     ensures memory { IsScratch program.now memory.new }
+    ensures cost { steps.new ≤ steps.old + (words (position_count program.now) + step_work program.now) }
 {
-    next.copy_from(from);
-    next.step_over(program, memory, byte)
+    next.copy_from(from, steps);
+    next.step_over(program, memory, byte, steps)
 }
 
 impl<'a> LazyDfa<'a> {
@@ -172,9 +181,9 @@ impl<'a> LazyDfa<'a> {
         })
     }
 
-    /// The transition of a state over a byte, computed first if it is unknown. A newline is the end of the line.
+    /// The transition of a state over a byte, whose steps nobody counts.
     #[inline(always)]
-    pub(crate) fn next(&mut self, from: u16, byte: u8) -> u16
+    fn next(&mut self, from: u16, byte: u8) -> u16
         requires right { IsConsistent self.old }
         requires number { HasState self.old from (state_in self.old from) }
         ensures leads { LeadsIn self.new (state_in self.old from) byte result }
@@ -182,9 +191,41 @@ impl<'a> LazyDfa<'a> {
         ensures same { tree_in self.new ≡ tree_in self.old }
         ensures states { GrowsOver 1 self.old.used self.new.used }
     {
+        self.next_from_blank::<Brand>(from, byte, Blank::new(1))
+    }
+
+    #[inline(always)]
+    fn next_from_blank<L: Ledger>(&mut self, from: u16, byte: u8, blank: Blank) -> u16
+        requires right { IsConsistent self.old }
+        requires number { HasState self.old from (state_in self.old from) }
+        requires name { blank.name ≡ L.name }
+        requires parts { blank.parts ≡ L.parts }
+        requires some { 0 < blank.parts }
+        ensures leads { LeadsIn self.new (state_in self.old from) byte result }
+        ensures right { IsConsistent self.new }
+        ensures same { tree_in self.new ≡ tree_in self.old }
+        ensures states { GrowsOver 1 self.old.used self.new.used }
+    {
+        let mut steps = Steps::<L>::new(blank);
+        self.next_counted(from, byte, &mut steps)
+    }
+
+    /// The transition of a state over a byte, computed first if it is unknown. A newline is the end of the line.
+    #[inline(always)]
+    fn next_counted<L: Ledger>(&mut self, from: u16, byte: u8, steps: &mut Steps<L>) -> u16
+        requires right { IsConsistent self.old }
+        requires number { HasState self.old from (state_in self.old from) }
+        ensures leads { LeadsIn self.new (state_in self.old from) byte result }
+        ensures right { IsConsistent self.new }
+        ensures same { tree_in self.new ≡ tree_in self.old }
+        ensures states { GrowsOver 1 self.old.used self.new.used }
+        ensures work { steps.new + state_work * self.new.used
+            ≤ steps.old + state_work * self.old.used + byte_work (tree_in self.old) }
+    {
+        steps.add(1);
         let next = self.transitions[(from | u16::from(byte)) as usize];
         if next == UNKNOWN {
-            self.fill(from, byte)
+            self.fill(from, byte, steps)
         } else {
             next
         }
@@ -193,36 +234,40 @@ impl<'a> LazyDfa<'a> {
     /// Whether the line has a match, simulated byte by byte without the cache.
     #[cold]
     #[inline(never)]
-    fn search(&mut self, line: &[u8]) -> bool
+    fn search<L: Ledger>(&mut self, line: &[u8], steps: &mut Steps<L>) -> bool
         requires right { IsConsistent self.old }
         ensures found { IsTrue result ↔ HasMatch (tree_in self.old) line.now }
         ensures right { IsConsistent self.new }
         ensures same { tree_in self.new ≡ tree_in self.old }
         ensures states { self.new.used ≡ self.old.used }
+        ensures work { steps.new ≤ steps.old + (length line.now + 1) * step_work (tree_in self.old) }
     {
-        self.scratch.search(self.program, &mut self.memory, line)
+        self.scratch
+            .search(self.program, &mut self.memory, line, steps)
     }
 
     /// Whether the line has a match. If the scan reaches a newline within the line, the whole line is simulated.
-    pub(crate) fn is_match(&mut self, line: &[u8]) -> bool
+    pub(crate) fn is_match<L: Ledger>(&mut self, line: &[u8], steps: &mut Steps<L>) -> bool
         requires right { IsConsistent self.old }
         ensures found { IsTrue result ↔ HasMatch (tree_in self.old) line.now }
         ensures right { IsConsistent self.new }
         ensures same { tree_in self.new ≡ tree_in self.old }
         ensures states { GrowsOver (length line.now + 1) self.old.used self.new.used }
+        ensures work { steps.new + state_work * self.new.used
+            ≤ steps.old + state_work * self.old.used + line_work (tree_in self.old) (length line.now) }
     {
         let mut number = 0;
         for b in line {
             // The transition table reads a newline as the end of the line.
             if *b == b'\n' {
-                return self.search(line);
+                return self.search(line, steps);
             }
-            number = self.next(number, *b);
+            number = self.next_counted(number, *b, steps);
             if number == MATCH {
                 return true;
             }
         }
-        self.next(number, b'\n') == MATCH
+        self.next_counted(number, b'\n', steps) == MATCH
     }
 
     /// The offset of the byte before which the automaton accepts first, in a scan over the lines of a text.
@@ -279,13 +324,15 @@ impl<'a> LazyDfa<'a> {
     /// Computes an unknown transition and stores it.
     #[cold]
     #[inline(never)]
-    fn fill(&mut self, from: u16, byte: u8) -> u16
+    fn fill<L: Ledger>(&mut self, from: u16, byte: u8, steps: &mut Steps<L>) -> u16
         requires right { IsConsistent self.old }
         requires number { HasState self.old from (state_in self.old from) }
         ensures leads { LeadsIn self.new (state_in self.old from) byte result }
         ensures right { IsConsistent self.new }
         ensures same { tree_in self.new ≡ tree_in self.old }
         ensures states { GrowsOver 1 self.old.used self.new.used }
+        ensures work { steps.new + state_work * self.new.used + 1
+            ≤ steps.old + state_work * self.old.used + byte_work (tree_in self.old) }
     {
         if step_from(
             self.program,
@@ -293,20 +340,21 @@ impl<'a> LazyDfa<'a> {
             &mut self.scratch,
             &mut self.memory,
             byte,
+            steps,
         ) {
-            self.put(from, byte, MATCH);
+            self.put(from, byte, MATCH, steps);
             return MATCH;
         }
         if byte == b'\n' {
-            self.put(from, byte, 0);
+            self.put(from, byte, 0, steps);
             return 0;
         }
-        self.next_number(from, byte)
+        self.next_number(from, byte, steps)
     }
 
     /// The number of the state under construction, which is cached if it is new. It is the successor of `from` over a
     /// byte of the line, and `from` does not accept before the byte.
-    fn next_number(&mut self, from: u16, byte: u8) -> u16
+    fn next_number<L: Ledger>(&mut self, from: u16, byte: u8, steps: &mut Steps<L>) -> u16
         requires right { IsConsistent self.old }
         requires number { HasState self.old from (state_in self.old from) }
         requires within { byte ≢ newline }
@@ -316,20 +364,29 @@ impl<'a> LazyDfa<'a> {
         ensures right { IsConsistent self.new }
         ensures same { tree_in self.new ≡ tree_in self.old }
         ensures states { GrowsOver 1 self.old.used self.new.used }
+        ensures work { steps.new + state_work * self.new.used ≤ steps.old + state_work * self.old.used
+            + (256 * words (position_count (tree_in self.old)) + 1026) }
     {
         let hash = self.scratch.hash();
-        if let Some(slot) = find(&self.cached, self.used, &self.hashes, hash, &self.scratch) {
+        steps.add(self.scratch.positions.len().div_ceil(64));
+        if let Some(slot) = find(
+            &self.cached,
+            &self.hashes[..self.used],
+            hash,
+            &self.scratch,
+            steps,
+        ) {
             let next = slot as u16 * 256;
-            self.put(from, byte, next);
+            self.put(from, byte, next, steps);
             return next;
         }
         if self.used == MOST_STATES {
             // `from` is no longer cached, so its transition is not stored.
-            self.empty();
-            return self.add(hash);
+            self.empty(steps);
+            return self.add(hash, steps);
         }
-        let next = self.add(hash);
-        self.put(from, byte, next);
+        let next = self.add(hash, steps);
+        self.put(from, byte, next, steps);
         next
     }
 
@@ -343,7 +400,7 @@ impl<'a> LazyDfa<'a> {
     }
 
     /// Stores a transition for all bytes of the class.
-    fn put(&mut self, from: u16, byte: u8, next: u16)
+    fn put<L: Ledger>(&mut self, from: u16, byte: u8, next: u16, steps: &mut Steps<L>)
         requires right { IsConsistent self.old }
         requires number { HasState self.old from (state_in self.old from) }
         requires leads { LeadsIn self.old (state_in self.old from) byte next }
@@ -351,14 +408,16 @@ impl<'a> LazyDfa<'a> {
         ensures right { IsConsistent self.new }
         ensures same { tree_in self.new ≡ tree_in self.old }
         ensures states { self.new.used ≡ self.old.used }
+        ensures work { steps.new ≤ steps.old + 512 }
     {
         let unfinished = self.unfinished_of(from);
         let class = class_of(self.program, unfinished, byte);
+        steps.add(2 * (class.1 - class.0));
         put_range(&mut self.transitions, from, class.0, class.1, next);
     }
 
     /// Caches the state under construction, and returns its number.
-    fn add(&mut self, hash: u32) -> u16
+    fn add<L: Ledger>(&mut self, hash: u8, steps: &mut Steps<L>) -> u16
         requires right { IsConsistent self.old }
         requires room { self.old.used < 254 }
         ensures number { HasState self.new result self.old.scratch }
@@ -367,22 +426,25 @@ impl<'a> LazyDfa<'a> {
         ensures right { IsConsistent self.new }
         ensures same { tree_in self.new ≡ tree_in self.old }
         ensures states { self.new.used ≡ self.old.used + 1 }
+        ensures work { steps.new ≡ steps.old + words (position_count (tree_in self.old)) }
     {
         let slot = self.used;
-        put_state(&mut self.cached, slot, &self.scratch);
+        put_state(&mut self.cached, slot, &self.scratch, steps);
         self.hashes[slot] = hash;
         self.used = slot + 1;
         slot as u16 * 256
     }
 
     /// Clears the cache except for the start state.
-    fn empty(&mut self)
+    fn empty<L: Ledger>(&mut self, steps: &mut Steps<L>)
         requires right { IsConsistent self.old }
         ensures one { self.new.used ≡ 1 }
         ensures scratch { self.new.scratch ≡ self.old.scratch }
         ensures right { IsConsistent self.new }
         ensures same { tree_in self.new ≡ tree_in self.old }
+        ensures work { steps.new ≡ steps.old + 65536 }
     {
+        steps.add(self.transitions.len());
         reset(&mut self.transitions);
         self.used = 1;
     }

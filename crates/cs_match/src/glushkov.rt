@@ -2,14 +2,16 @@
 // once: the first, bottom-up, computes for each repeat whether its body is final; the second, top-down, finds which
 // positions are entered. Then all positions are moved over the byte at once. Cursors count the positions and repeats
 // that were visited.
-ghost use Rattle.std.specs.Prelude.{◌≡◌, ℕ, ◌+◌, ◌<◌, ◌≤◌, ◌^◌, ◌&&◌, ◌||◌, IfOk, length, take, drop, min, true, false, nat_eq, ◌++◌, slice_set};
+ghost use Rattle.std.specs.Prelude.{◌≡◌, ℕ, ◌+◌, ◌*◌, ◌<◌, ◌≤◌, ◌^◌, ◌&&◌, ◌||◌, IfOk, length, take, drop, min, true, false, nat_eq, ◌++◌, slice_set};
 ghost use Rattle.std.proofs.Math.Seq.{sets};
 ghost use Rattle.cs_syntax.specs.Node.{tree_of};
 ghost use Rattle.cs_syntax.specs.NodeList.{trees_of};
 ghost use Rattle.cs_syntax.specs.Matching.{cat, alt};
 ghost use Rattle.cs_match.specs.Glushkov.{position_count, position_count_of, repeats, repeats_of, nullable, nullable_all, nullable_some, is_final, is_final_all, is_final_some, accepts, loop_ends, loop_ends_of, step, IsExpanded};
 ghost use Rattle.cs_match.specs.Entered.{entered, entered_all, entered_each, AreShifted};
-ghost use Rattle.cs_match.specs.Parts.{run, runs, shape_of, shapes_of};
+ghost use Rattle.cs_match.specs.Parts.{run, runs, shape_of, shapes_of, size_of, sizes_of};
+ghost use Rattle.cs_match.specs.Size.{nodes};
+ghost use Rattle.cs_match.specs.Work.{words, step_work};
 ghost use Rattle.cs_match.specs.Masks.{IsScratch};
 ghost use Rattle.cs_match.specs.declared.look_around.LookAround.{LookAround};
 
@@ -20,8 +22,10 @@ use crate::parts::Part;
 use crate::position_set::PositionSet;
 use crate::program::Program;
 use crate::sequences::Sequences;
+use crate::steps::Steps;
 use cs_syntax::Node;
 use std::alloc::{AllocError, Global};
+use std::sync::ledger::Ledger;
 
 /// The number of positions of the tree.
 #[cycle(count)]
@@ -169,42 +173,59 @@ impl Scratch {
     }
 }
 
+/// What holds at an offset: the position set, for each repeat whether its body is final, and the look-around.
+#[derive(Clone, Copy)]
+struct Configuration<'a> {
+    positions: &'a PositionSet,
+    loops: &'a [bool],
+    here: LookAround,
+}
+
 /// Whether the position set accepts here.
-pub(crate) fn is_accepting(program: &Program, positions: &PositionSet, here: LookAround) -> bool
+pub(crate) fn is_accepting<L: Ledger>(
+    program: &Program,
+    positions: &PositionSet,
+    here: LookAround,
+    steps: &mut Steps<L>,
+) -> bool
     requires { length positions.now ≡ position_count program.now }
-    ensures { result ≡ accepts program.now true positions.now here }
+    ensures accepting { result ≡ accepts program.now true positions.now here }
+    ensures cost { steps.new ≤ steps.old + nodes program.now }
 {
     let mut cursor = START;
-    let ends = find_ends(program.part(), positions, &mut [], here, &mut cursor);
+    let ends = find_ends(program.part(), positions, &mut [], here, &mut cursor, steps);
     ends.accepting || ends.nullable
 }
 
 /// Moves the position set over a byte, and returns whether it accepts before the byte.
-pub(crate) fn step_over(
+pub(crate) fn step_over<L: Ledger>(
     program: &Program,
     positions: &mut PositionSet,
     scratch: &mut Scratch,
     here: LookAround,
     input: Input,
+    steps: &mut Steps<L>,
 ) -> bool
     requires one_each { length positions.old ≡ position_count program.now }
     requires scratch { IsScratch program.now scratch.old }
     ensures accepting { result ≡ accepts program.now true positions.old here }
     ensures positions { positions.new ≡ step program.now true positions.old here input }
     ensures scratch { IsScratch program.now scratch.new }
+    ensures cost { steps.new ≤ steps.old + step_work program.now }
 {
-    let accepting = enter(program, positions, scratch, here);
-    let slot = scratch.masks.find(program.positions(), input);
-    scratch.masks.slots[slot].move_over(&scratch.entries, positions);
+    let accepting = enter(program, positions, scratch, here, steps);
+    let slot = scratch.masks.find(program.positions(), input, steps);
+    scratch.masks.slots[slot].move_over(&scratch.entries, positions, steps);
     accepting
 }
 
 /// Finds which positions are entered, and returns whether the position set accepts.
-fn enter(
+fn enter<L: Ledger>(
     program: &Program,
     positions: &PositionSet,
     scratch: &mut Scratch,
     here: LookAround,
+    steps: &mut Steps<L>,
 ) -> bool
     requires one_each { length positions.now ≡ position_count program.now }
     requires scratch { IsScratch program.now scratch.old }
@@ -212,43 +233,49 @@ fn enter(
     ensures entries { take (position_count program.now) scratch.new.entries
         ≡ entered program.now true positions.now here }
     ensures scratch { IsScratch program.now scratch.new }
+    ensures cost { steps.new ≤ steps.old + (2 * nodes program.now + words (position_count program.now + 1)) }
 {
     let part = program.part();
-    note_loops(part, positions, &mut scratch.loops, here);
-    scratch.entries.shift_from(positions);
+    note_loops(part, positions, &mut scratch.loops, here, steps);
+    scratch.entries.shift_from(positions, steps);
     let mut cursor = START;
-    advance(
-        part,
-        true,
+    let at = Configuration {
         positions,
-        &mut scratch.entries,
-        &scratch.loops,
+        loops: &scratch.loops,
         here,
-        &mut cursor,
-    )
+    };
+    advance(part, true, &at, &mut scratch.entries, &mut cursor, steps)
 }
 
 /// Stores for each repeat whether its body is final here.
-fn note_loops(root: &Part, positions: &PositionSet, loops: &mut [bool], here: LookAround)
+fn note_loops<L: Ledger>(
+    root: &Part,
+    positions: &PositionSet,
+    loops: &mut [bool],
+    here: LookAround,
+    steps: &mut Steps<L>,
+)
     requires one_each { length positions.now ≡ position_count (shape_of root.now) }
     requires loops { length loops.old ≡ repeats (shape_of root.now) }
-    ensures { loops.new ≡ loop_ends (shape_of root.now) positions.now here }
+    ensures noted { loops.new ≡ loop_ends (shape_of root.now) positions.now here }
+    ensures cost { steps.new ≤ steps.old + size_of root.now }
 {
     if !loops.is_empty() {
         let mut cursor = START;
-        find_ends(root, positions, loops, here, &mut cursor);
+        find_ends(root, positions, loops, here, &mut cursor, steps);
     }
 }
 
 /// The ends of the tree at the current offset. For each repeat it also stores whether the body is final, as far as
 /// `loops` has entries.
 #[cycle(find_ends)]
-fn find_ends(
+fn find_ends<L: Ledger>(
     part: &Part,
     positions: &PositionSet,
     loops: &mut [bool],
     here: LookAround,
     cursor: &mut Cursor,
+    steps: &mut Steps<L>,
 ) -> Ends
     requires room { cursor.old.position + position_count (shape_of part.now) ≤ length positions.now }
     requires within { cursor.old.repeat ≤ length loops.old }
@@ -261,16 +288,18 @@ fn find_ends(
         ≡ cursor.old.position + position_count (shape_of part.now) }
     ensures repeat { cursor.new.repeat
         ≡ min (length loops.old) (cursor.old.repeat + repeats (shape_of part.now)) }
+    ensures cost { steps.new ≡ steps.old + size_of part.now }
 {
+    steps.add(1);
     match part {
         Part::Run(n) => end_run(*n, positions, cursor),
-        Part::Alternation(sequences) => end_sequences(sequences, positions, cursor),
+        Part::Alternation(sequences) => end_sequences(sequences, positions, cursor, steps),
         Part::Optional(n) => end_run(*n, positions, cursor).or(Ends::within(true)),
-        Part::Cat(parts) => find_ends_all(parts, positions, loops, here, cursor),
-        Part::Alt(parts) => find_ends_some(parts, positions, loops, here, cursor),
+        Part::Cat(parts) => find_ends_all(parts, positions, loops, here, cursor, steps),
+        Part::Alt(parts) => find_ends_some(parts, positions, loops, here, cursor, steps),
         Part::Rep(x, least) => {
             let own = next_repeat(loops.len(), cursor);
-            let ends = find_ends(x, positions, loops, here, cursor);
+            let ends = find_ends(x, positions, loops, here, cursor, steps);
             note_loop(loops, own, ends.accepting);
             ends.repeated(*least)
         }
@@ -331,7 +360,12 @@ fn enter_run(
 }
 
 /// The ends of an alternation of sequences: their last positions.
-fn end_sequences(sequences: &Sequences, positions: &PositionSet, cursor: &mut Cursor) -> Ends
+fn end_sequences<L: Ledger>(
+    sequences: &Sequences,
+    positions: &PositionSet,
+    cursor: &mut Cursor,
+    steps: &mut Steps<L>,
+) -> Ends
     requires { cursor.old.position + position_count_of (runs sequences.now) ≤ length positions.now }
     ensures accepting { (here : LookAround) → result.accepting
         ≡ is_final_some (runs sequences.now) (drop cursor.old.position positions.now) here }
@@ -339,9 +373,11 @@ fn end_sequences(sequences: &Sequences, positions: &PositionSet, cursor: &mut Cu
     ensures position { cursor.new.position
         ≡ cursor.old.position + position_count_of (runs sequences.now) }
     ensures repeat { cursor.new.repeat ≡ cursor.old.repeat }
+    ensures cost { steps.new ≡ steps.old + words (position_count_of (runs sequences.now)) }
 {
     let from = cursor.position;
     let n = sequences.lasts().len();
+    steps.add(n.div_ceil(64));
     prove!(n <= positions.len() - from);
     cursor.position += n;
     Ends {
@@ -351,12 +387,13 @@ fn end_sequences(sequences: &Sequences, positions: &PositionSet, cursor: &mut Cu
 }
 
 /// Sets or clears the first position of each sequence, and returns whether one of them accepts.
-fn enter_sequences(
+fn enter_sequences<L: Ledger>(
     sequences: &Sequences,
     enter: bool,
     positions: &PositionSet,
     entries: &mut PositionSet,
     cursor: &mut Cursor,
+    steps: &mut Steps<L>,
 ) -> bool
     requires room { cursor.old.position + position_count_of (runs sequences.now) ≤ length positions.now }
     requires shifted { AreShifted cursor.old.position positions.now entries.old }
@@ -368,9 +405,11 @@ fn enter_sequences(
     ensures position { cursor.new.position
         ≡ cursor.old.position + position_count_of (runs sequences.now) }
     ensures repeat { cursor.new.repeat ≡ cursor.old.repeat }
+    ensures cost { steps.new ≡ steps.old + words (position_count_of (runs sequences.now)) }
 {
     let from = cursor.position;
     let n = sequences.lasts().len();
+    steps.add(n.div_ceil(64));
     prove!(n <= positions.len() - from);
     cursor.position += n;
     entries.put_all(from, sequences.firsts(), enter);
@@ -401,12 +440,13 @@ fn note_loop(loops: &mut [bool], index: usize, accepting: bool)
 }
 
 #[cycle(find_ends)]
-fn find_ends_all(
+fn find_ends_all<L: Ledger>(
     parts: &[Part],
     positions: &PositionSet,
     loops: &mut [bool],
     here: LookAround,
     cursor: &mut Cursor,
+    steps: &mut Steps<L>,
 ) -> Ends
     requires room { cursor.old.position + position_count_of (shapes_of parts.now)
         ≤ length positions.now }
@@ -420,22 +460,24 @@ fn find_ends_all(
         ≡ cursor.old.position + position_count_of (shapes_of parts.now) }
     ensures repeat { cursor.new.repeat
         ≡ min (length loops.old) (cursor.old.repeat + repeats_of (shapes_of parts.now)) }
+    ensures cost { steps.new ≡ steps.old + sizes_of parts.now }
 {
     let mut all = Ends::within(true);
     for part in parts {
-        let ends = find_ends(part, positions, loops, here, cursor);
+        let ends = find_ends(part, positions, loops, here, cursor, steps);
         all = all.then(ends);
     }
     all
 }
 
 #[cycle(find_ends)]
-fn find_ends_some(
+fn find_ends_some<L: Ledger>(
     parts: &[Part],
     positions: &PositionSet,
     loops: &mut [bool],
     here: LookAround,
     cursor: &mut Cursor,
+    steps: &mut Steps<L>,
 ) -> Ends
     requires room { cursor.old.position + position_count_of (shapes_of parts.now)
         ≤ length positions.now }
@@ -449,10 +491,11 @@ fn find_ends_some(
         ≡ cursor.old.position + position_count_of (shapes_of parts.now) }
     ensures repeat { cursor.new.repeat
         ≡ min (length loops.old) (cursor.old.repeat + repeats_of (shapes_of parts.now)) }
+    ensures cost { steps.new ≡ steps.old + sizes_of parts.now }
 {
     let mut some = Ends::within(false);
     for part in parts {
-        let ends = find_ends(part, positions, loops, here, cursor);
+        let ends = find_ends(part, positions, loops, here, cursor, steps);
         some = some.or(ends);
     }
     some
@@ -462,108 +505,111 @@ fn find_ends_some(
 /// can begin here.
 #[cycle(advance)]
 #[tactic(auto, using(crate::proofs::PartLemmas::part_rules))]
-fn advance(
+fn advance<L: Ledger>(
     part: &Part,
     enter: bool,
-    positions: &PositionSet,
+    at: &Configuration<'_>,
     entries: &mut PositionSet,
-    loops: &[bool],
-    here: LookAround,
     cursor: &mut Cursor,
+    steps: &mut Steps<L>,
 ) -> bool
-    requires room { cursor.old.position + position_count (shape_of part.now) ≤ length positions.now }
-    requires shifted { AreShifted cursor.old.position positions.now entries.old }
-    requires noted { take (repeats (shape_of part.now)) (drop cursor.old.repeat loops.now)
-        ≡ loop_ends (shape_of part.now) (drop cursor.old.position positions.now) here }
+    requires room { cursor.old.position + position_count (shape_of part.now) ≤ length at.now.positions.now }
+    requires shifted { AreShifted cursor.old.position at.now.positions.now entries.old }
+    requires noted { take (repeats (shape_of part.now)) (drop cursor.old.repeat at.now.loops.now)
+        ≡ loop_ends (shape_of part.now) (drop cursor.old.position at.now.positions.now) at.now.here }
     ensures accepting { result ≡ accepts (shape_of part.now) enter
-        (drop cursor.old.position positions.now) here }
+        (drop cursor.old.position at.now.positions.now) at.now.here }
     ensures entries { entries.new ≡ take cursor.old.position entries.old
-        ++ (entered (shape_of part.now) enter (drop cursor.old.position positions.now) here
+        ++ (entered (shape_of part.now) enter (drop cursor.old.position at.now.positions.now) at.now.here
         ++ drop (cursor.old.position + position_count (shape_of part.now)) entries.old) }
     ensures position { cursor.new.position
         ≡ cursor.old.position + position_count (shape_of part.now) }
     ensures repeat { cursor.new.repeat ≡ cursor.old.repeat + repeats (shape_of part.now) }
+    ensures cost { steps.new ≡ steps.old + size_of part.now }
 {
+    steps.add(1);
     match part {
-        Part::Run(n) => enter_run(*n, enter, positions, entries, cursor),
+        Part::Run(n) => enter_run(*n, enter, at.positions, entries, cursor),
         Part::Alternation(sequences) => {
-            enter_sequences(sequences, enter, positions, entries, cursor)
+            enter_sequences(sequences, enter, at.positions, entries, cursor, steps)
         }
-        Part::Optional(n) => enter_run(*n, enter, positions, entries, cursor) | enter,
-        Part::Cat(parts) => advance_all(parts, enter, positions, entries, loops, here, cursor),
-        Part::Alt(parts) => advance_each(parts, enter, positions, entries, loops, here, cursor),
+        Part::Optional(n) => enter_run(*n, enter, at.positions, entries, cursor) | enter,
+        Part::Cat(parts) => advance_all(parts, enter, at, entries, cursor, steps),
+        Part::Alt(parts) => advance_each(parts, enter, at, entries, cursor, steps),
         Part::Rep(x, least) => {
-            let again = loops[cursor.repeat];
+            let again = at.loops[cursor.repeat];
             cursor.repeat += 1;
-            let accepting = advance(x, enter || again, positions, entries, loops, here, cursor);
+            let accepting = advance(x, enter || again, at, entries, cursor, steps);
             accepting || (*least == 0 && enter)
         }
         // The operator `&` makes no branch. Each branch would have all clauses to prove.
-        Part::LineStart => enter & here.first,
-        Part::LineEnd => enter & here.last,
-        Part::WordEdge => enter & here.edge,
-        Part::NotWordEdge => enter & !here.edge,
+        Part::LineStart => enter & at.here.first,
+        Part::LineEnd => enter & at.here.last,
+        Part::WordEdge => enter & at.here.edge,
+        Part::NotWordEdge => enter & !at.here.edge,
     }
 }
 
 #[cycle(advance)]
-fn advance_all(
+fn advance_all<L: Ledger>(
     parts: &[Part],
     enter: bool,
-    positions: &PositionSet,
+    at: &Configuration<'_>,
     entries: &mut PositionSet,
-    loops: &[bool],
-    here: LookAround,
     cursor: &mut Cursor,
+    steps: &mut Steps<L>,
 ) -> bool
     requires room { cursor.old.position + position_count_of (shapes_of parts.now)
-        ≤ length positions.now }
-    requires shifted { AreShifted cursor.old.position positions.now entries.old }
-    requires noted { take (repeats_of (shapes_of parts.now)) (drop cursor.old.repeat loops.now)
-        ≡ loop_ends_of (shapes_of parts.now) (drop cursor.old.position positions.now) here }
-    ensures accepting { result
-        ≡ accepts (cat (shapes_of parts.now)) enter (drop cursor.old.position positions.now) here }
+        ≤ length at.now.positions.now }
+    requires shifted { AreShifted cursor.old.position at.now.positions.now entries.old }
+    requires noted { take (repeats_of (shapes_of parts.now)) (drop cursor.old.repeat at.now.loops.now)
+        ≡ loop_ends_of (shapes_of parts.now) (drop cursor.old.position at.now.positions.now) at.now.here }
+    ensures accepting { result ≡ accepts (cat (shapes_of parts.now)) enter
+        (drop cursor.old.position at.now.positions.now) at.now.here }
     ensures entries { entries.new ≡ take cursor.old.position entries.old
-        ++ (entered_all (shapes_of parts.now) enter (drop cursor.old.position positions.now) here
+        ++ (entered_all (shapes_of parts.now) enter
+        (drop cursor.old.position at.now.positions.now) at.now.here
         ++ drop (cursor.old.position + position_count_of (shapes_of parts.now)) entries.old) }
     ensures position { cursor.new.position
         ≡ cursor.old.position + position_count_of (shapes_of parts.now) }
     ensures repeat { cursor.new.repeat ≡ cursor.old.repeat + repeats_of (shapes_of parts.now) }
+    ensures cost { steps.new ≡ steps.old + sizes_of parts.now }
 {
     let mut accepting = enter;
     for part in parts {
-        accepting = advance(part, accepting, positions, entries, loops, here, cursor);
+        accepting = advance(part, accepting, at, entries, cursor, steps);
     }
     accepting
 }
 
 #[cycle(advance)]
-fn advance_each(
+fn advance_each<L: Ledger>(
     parts: &[Part],
     enter: bool,
-    positions: &PositionSet,
+    at: &Configuration<'_>,
     entries: &mut PositionSet,
-    loops: &[bool],
-    here: LookAround,
     cursor: &mut Cursor,
+    steps: &mut Steps<L>,
 ) -> bool
     requires room { cursor.old.position + position_count_of (shapes_of parts.now)
-        ≤ length positions.now }
-    requires shifted { AreShifted cursor.old.position positions.now entries.old }
-    requires noted { take (repeats_of (shapes_of parts.now)) (drop cursor.old.repeat loops.now)
-        ≡ loop_ends_of (shapes_of parts.now) (drop cursor.old.position positions.now) here }
-    ensures accepting { result
-        ≡ accepts (alt (shapes_of parts.now)) enter (drop cursor.old.position positions.now) here }
+        ≤ length at.now.positions.now }
+    requires shifted { AreShifted cursor.old.position at.now.positions.now entries.old }
+    requires noted { take (repeats_of (shapes_of parts.now)) (drop cursor.old.repeat at.now.loops.now)
+        ≡ loop_ends_of (shapes_of parts.now) (drop cursor.old.position at.now.positions.now) at.now.here }
+    ensures accepting { result ≡ accepts (alt (shapes_of parts.now)) enter
+        (drop cursor.old.position at.now.positions.now) at.now.here }
     ensures entries { entries.new ≡ take cursor.old.position entries.old
-        ++ (entered_each (shapes_of parts.now) enter (drop cursor.old.position positions.now) here
+        ++ (entered_each (shapes_of parts.now) enter
+        (drop cursor.old.position at.now.positions.now) at.now.here
         ++ drop (cursor.old.position + position_count_of (shapes_of parts.now)) entries.old) }
     ensures position { cursor.new.position
         ≡ cursor.old.position + position_count_of (shapes_of parts.now) }
     ensures repeat { cursor.new.repeat ≡ cursor.old.repeat + repeats_of (shapes_of parts.now) }
+    ensures cost { steps.new ≡ steps.old + sizes_of parts.now }
 {
     let mut out = false;
     for part in parts {
-        let accepting = advance(part, enter, positions, entries, loops, here, cursor);
+        let accepting = advance(part, enter, at, entries, cursor, steps);
         out |= accepting;
     }
     out

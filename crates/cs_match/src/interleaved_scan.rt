@@ -1,7 +1,7 @@
 // Interleaved scan: six lanes scan chunks of a block by the transition table, and chunks without a match are skipped.
 // The two special states absorb, so that a lane has no branch for a byte. The scan knows nothing of patterns;
 // `specs/Scan.antt` says what it returns and what the table has to guarantee.
-ghost use Rattle.std.specs.Prelude.{◌≡◌, ◌≤◌, ◌<◌, ◌+◌, ◌∷◌, ℕ, [], map, true, length, slice_range, slice_index, drop};
+ghost use Rattle.std.specs.Prelude.{◌≡◌, ◌≤◌, ◌<◌, ◌+◌, ◌∷◌, ℕ, [], map, true, bit_or, length, slice_range, slice_index, drop};
 ghost use Rattle.cs_match.specs.Lines.{newline};
 ghost use Rattle.cs_match.specs.NoNewline.{HasNoNewline};
 ghost use Rattle.cs_match.specs.Skipped.{AreSkipped};
@@ -22,6 +22,15 @@ const CHUNK: usize = 512;
 /// The least size of a batch of six chunks in bytes.
 pub(crate) const BATCH: usize = 3072;
 
+/// The state after one more byte.
+#[inline(always)]
+fn next(transitions: &[u16], state: u16, byte: u8) -> u16
+    requires { length transitions.now ≡ 65536 }
+    ensures { result ≡ slice_index transitions.now (bit_or state byte) }
+{
+    transitions[(state | u16::from(byte)) as usize]
+}
+
 /// The state after the text.
 #[tactic(auto, using(crate::proofs::ScanLemmas::after_more, crate::proofs::ScanLemmas::after_all), unfolding(crate::specs::Scan::state_after))]
 fn scan(transitions: &[u16], from: u16, text: &[u8]) -> u16
@@ -30,7 +39,7 @@ fn scan(transitions: &[u16], from: u16, text: &[u8]) -> u16
 {
     let mut state = from;
     for byte in text {
-        state = transitions[(state | u16::from(*byte)) as usize];
+        state = next(transitions, state, *byte);
     }
     state
 }
@@ -67,20 +76,25 @@ pub(crate) fn cut(block: &[u8], from: usize) -> usize
     line_end(block, from + CHUNK) + 1
 }
 
-/// The states after six texts, scanned in interleaved lanes from the start state.
-fn six_lanes(
-    transitions: &[u16],
-    a: &[u8],
-    b: &[u8],
-    c: &[u8],
-    d: &[u8],
-    e: &[u8],
-    f: &[u8],
-) -> [u16; 6]
+/// Six chunks of a block.
+#[derive(Clone, Copy)]
+struct Chunks<'a> {
+    a: &'a [u8],
+    b: &'a [u8],
+    c: &'a [u8],
+    d: &'a [u8],
+    e: &'a [u8],
+    f: &'a [u8],
+}
+
+/// The states after six chunks, scanned in interleaved lanes from the start state.
+fn six_lanes(transitions: &[u16], chunks: Chunks) -> [u16; 6]
     requires { length transitions.now ≡ 65536 }
     ensures { result ≡ map (state_after transitions.now 0)
-        (a.now ∷ b.now ∷ c.now ∷ d.now ∷ e.now ∷ f.now ∷ []) }
+        (chunks.entry.a.now ∷ chunks.entry.b.now ∷ chunks.entry.c.now
+        ∷ chunks.entry.d.now ∷ chunks.entry.e.now ∷ chunks.entry.f.now ∷ []) }
 {
+    let Chunks { a, b, c, d, e, f } = chunks;
     let n = a
         .len()
         .min(b.len())
@@ -95,12 +109,12 @@ fn six_lanes(
     let mut w = 0u16;
     let mut x = 0u16;
     for i in 0..n {
-        s = transitions[(s | u16::from(a[i])) as usize];
-        t = transitions[(t | u16::from(b[i])) as usize];
-        u = transitions[(u | u16::from(c[i])) as usize];
-        v = transitions[(v | u16::from(d[i])) as usize];
-        w = transitions[(w | u16::from(e[i])) as usize];
-        x = transitions[(x | u16::from(f[i])) as usize];
+        s = next(transitions, s, a[i]);
+        t = next(transitions, t, b[i]);
+        u = next(transitions, u, c[i]);
+        v = next(transitions, v, d[i]);
+        w = next(transitions, w, e[i]);
+        x = next(transitions, x, f[i]);
     }
     s = scan(transitions, s, &a[n..]);
     t = scan(transitions, t, &b[n..]);
@@ -148,12 +162,14 @@ fn skip_batch(transitions: &[u16], block: &[u8], from: usize) -> Skipped
     let f = cut(block, e);
     let states = six_lanes(
         transitions,
-        &block[from..a],
-        &block[a..b],
-        &block[b..c],
-        &block[c..d],
-        &block[d..e],
-        &block[e..f],
+        Chunks {
+            a: &block[from..a],
+            b: &block[a..b],
+            c: &block[b..c],
+            d: &block[c..d],
+            e: &block[d..e],
+            f: &block[e..f],
+        },
     );
     let ordinary = ordinary_prefix(&states);
     let ends = [from, a, b, c, d, e, f];

@@ -1,5 +1,8 @@
 // Laws of the definitions.
 ghost use Rattle.std.specs.Prelude.{◌≡◌, ◌∷◌, ◌++◌, [], ℕ, List};
+ghost use Rattle.cs_syntax.specs.Matching.{Tree};
+ghost use Rattle.cs_match.specs.Expansion.{expansion};
+ghost use Rattle.cs_match.specs.Size.{FitsWeight};
 ghost use Rattle.cs_match.specs.Decidability.{MatchingIsDecidable};
 ghost use Rattle.cs_match.specs.Lines.{newline, lines, terminated_lines};
 ghost use Rattle.cs_match.specs.NoNewline.{HasNoNewline};
@@ -23,4 +26,9 @@ pub fn terminated_lines_are_parts()
     ensures cut { (part more : List ℕ) → HasNoNewline part →
         terminated_lines (part ++ newline ∷ more) ≡ part ∷ terminated_lines more }
     ensures last { (part : List ℕ) → HasNoNewline part → terminated_lines part ≡ [] }
+{}
+
+/// The expansion of a tree has at most two positions and three nodes for each unit of the tree's weight.
+pub fn programs_are_small()
+    ensures { (tree : Tree) → FitsWeight (expansion tree) tree }
 {}

@@ -1,9 +1,8 @@
 //! Matches lines against a pattern. A `Program` is a compiled pattern, and a `Matcher` runs it by a lazy DFA, line by
 //! line or over many lines at once. What a tree matches is defined in `specs/Matching.antt` of `cs_syntax`. Read
-//! `specs/Deciding.antt` first, then `specs/Lines.antt`, `specs/Skipping.antt`, `specs/Automaton.antt` (what
-//! contracts see of a matcher) and `specs/Size.antt`. The internals are defined in `specs/Glushkov.antt`,
-//! `specs/Entered.antt`, `specs/Parts.antt`, `specs/Sequences.antt`, `specs/Masks.antt`, `specs/LookBehind.antt`, `specs/States.antt`,
-//! `specs/ByteClasses.antt`, `specs/LazyDfa.antt`, `specs/FirstMatch.antt`, `specs/Scan.antt` and `specs/Expansion.antt`.
+//! `specs/Deciding.antt` first, then `specs/Lines.antt`, `specs/Skipping.antt`, `specs/Automaton.antt` (what contracts
+//! see of a matcher), `specs/Size.antt` and `specs/Work.antt` (what a step is). The second group of `specs/Lib.antt` has
+//! the definitions of the internals.
 #![tactic(auto)]
 
 mod backoff;
@@ -25,7 +24,9 @@ mod program;
 mod sequences;
 mod skipping;
 mod state;
+mod steps;
 
 pub use matcher::{Cache, Line, Matcher};
 pub use program::Program;
 pub use skipping::whole_lines_len;
+pub use steps::Steps;

@@ -1,13 +1,16 @@
 // Masks: what each position does over an input, one bit each. They are computed when an input is seen first.
-ghost use Rattle.std.specs.Prelude.{◌≡◌, ℕ, ◌+◌, ◌<◌, IfOk, length, true, false, slice_index_or};
+ghost use Rattle.std.specs.Prelude.{◌≡◌, ℕ, ◌+◌, ◌<◌, ◌≤◌, IfOk, length, true, false, slice_index_or};
 ghost use Rattle.cs_match.specs.Masks.{IsMask, IsOneMask, HasRoom, AreMasks};
 ghost use Rattle.cs_match.specs.PositionSet.{is_moved};
+ghost use Rattle.cs_match.specs.Work.{words};
 
 use crate::input::Input;
 use crate::position::Position;
 use crate::position_set::PositionSet;
+use crate::steps::Steps;
 use cs_syntax::CharStep;
 use std::alloc::{AllocError, Global};
+use std::sync::ledger::Ledger;
 
 /// The number of masks: one for each byte, and 64 for the last bytes of characters.
 const MOST: usize = 320;
@@ -57,16 +60,18 @@ impl Mask {
     }
 
     /// Computes the mask of the input.
-    fn fill(&mut self, positions: &[Position], input: Input)
+    fn fill<L: Ledger>(&mut self, positions: &[Position], input: Input, steps: &mut Steps<L>)
         requires { HasRoom (length positions.now) self.old }
         ensures room { HasRoom (length positions.now) self.new }
         ensures mask { IsMask positions.now self.new }
         ensures input { self.new.input ≡ input }
+        ensures cost { steps.new ≡ steps.old + length positions.now }
     {
         self.input = input;
         self.is_known = true;
         self.is_one_mask = true;
         for (index, position) in positions.iter().enumerate() {
+            steps.add(1);
             let previous = position.if_previous(input);
             let kept = position.if_kept(input);
             self.entered.put(index, position.if_entered(input));
@@ -77,18 +82,24 @@ impl Mask {
     }
 
     /// Moves a position set over the input of the mask.
-    pub(crate) fn move_over(&self, entries: &PositionSet, positions: &mut PositionSet)
+    pub(crate) fn move_over<L: Ledger>(
+        &self,
+        entries: &PositionSet,
+        positions: &mut PositionSet,
+        steps: &mut Steps<L>,
+    )
         requires entries { length entries.now ≡ length positions.old + 1 }
         requires room { HasRoom (length positions.old) self.now }
         requires one_mask { self.now.is_one_mask ≡ true → IsOneMask self.now }
         ensures length { length positions.new ≡ length positions.old }
         ensures each { (k : ℕ) → k < length positions.old → slice_index_or positions.new k false
             ≡ is_moved entries.now self.now.entered self.now.previous self.now.kept positions.old k }
+        ensures cost { steps.new ≡ steps.old + words (length positions.old) }
     {
         if self.is_one_mask {
-            positions.move_entered(entries, &self.entered);
+            positions.move_entered(entries, &self.entered, steps);
         } else {
-            positions.move_over(entries, &self.entered, &self.previous, &self.kept);
+            positions.move_over(entries, &self.entered, &self.previous, &self.kept, steps);
         }
     }
 }
@@ -113,16 +124,22 @@ impl Masks {
     }
 
     /// The index of the mask of an input, computed first if it is not there.
-    pub(crate) fn find(&mut self, positions: &[Position], input: Input) -> usize
+    pub(crate) fn find<L: Ledger>(
+        &mut self,
+        positions: &[Position],
+        input: Input,
+        steps: &mut Steps<L>,
+    ) -> usize
         requires { AreMasks positions.now self.old }
         ensures masks { AreMasks positions.now self.new }
         ensures within { result < 320 }
         ensures mask { (other : Mask) → IsMask positions.now (slice_index_or self.new.slots.items result other) }
         ensures input { (other : Mask) → (slice_index_or self.new.slots.items result other).input ≡ input }
+        ensures cost { steps.new ≤ steps.old + length positions.now }
     {
         let slot = slot_of(input);
         if !self.slots[slot].is_of(input) {
-            self.slots[slot].fill(positions, input);
+            self.slots[slot].fill(positions, input, steps);
         }
         slot
     }

@@ -1,11 +1,12 @@
 // Matchers: a lazy DFA (RE2) with the prefilters of its program, and the counters that choose between them.
-ghost use Rattle.std.specs.Prelude.{◌≡◌, ◌≤◌, ◌<◌, ◌+◌, ◌-◌, ◌↔◌, ℕ, Bool, List, IsTrue, IfOk, IfSome, MatchOption, length, slice_range, drop, count_by};
+ghost use Rattle.std.specs.Prelude.{◌≡◌, ◌≤◌, ◌<◌, ◌+◌, ◌*◌, ◌-◌, ◌↔◌, ℕ, Bool, List, IsTrue, IfOk, IfSome, MatchOption, length, slice_range, drop, count_by};
 ghost use Rattle.cs_syntax.specs.Matching.{HasMatch};
 ghost use Rattle.cs_match.specs.Automaton.{GrowsOver, most_states};
 ghost use Rattle.cs_match.specs.Deciding.{Decides};
 ghost use Rattle.cs_match.specs.FirstMatch.{IsFirstMatch, IsSearched};
 ghost use Rattle.cs_match.specs.Lines.{terminated_lines};
 ghost use Rattle.cs_match.specs.Skipped.{AreSkipped};
+ghost use Rattle.cs_match.specs.Work.{state_work, line_work};
 ghost use Rattle.cs_match.specs.Skipping.{AreWholeLines, IsLineAfter, NoneMatch};
 
 mod cache;
@@ -15,10 +16,12 @@ use crate::interleaved_scan::{cut, line_end, skip_interleaved};
 use crate::pacing::{Method, Pacing};
 use crate::program::Program;
 use crate::skipping::{next_candidate, whole_lines_len};
+use crate::steps::Steps;
 pub use cache::Cache;
 use cs_prefilter::Prefilter;
 use std::alloc::{AllocError, Global};
-use std::marker::Model;
+use std::marker::{Brand, Model};
+use std::sync::ledger::{Blank, Ledger};
 
 /// A line of a block. Its bytes, without the newline, are those from `start` to `end`.
 #[derive(Clone, Copy, Drop)]
@@ -90,7 +93,31 @@ impl<'a> Matcher<'a> {
         ensures same { self.new.tree ≡ self.old.tree }
         ensures states { GrowsOver (length line.now + 1) self.old.states self.new.states }
     {
-        self.dfa.is_match(line)
+        self.is_match_from_blank::<Brand>(line, Blank::new(1))
+    }
+
+    fn is_match_from_blank<L: Ledger>(&mut self, line: &[u8], blank: Blank) -> bool
+        requires name { blank.name ≡ L.name }
+        requires parts { blank.parts ≡ L.parts }
+        requires some { 0 < blank.parts }
+        ensures found { IsTrue result ↔ HasMatch self.old.tree line.now }
+        ensures same { self.new.tree ≡ self.old.tree }
+        ensures states { GrowsOver (length line.now + 1) self.old.states self.new.states }
+    {
+        let mut steps = Steps::<L>::new(blank);
+        self.is_match_counted(line, &mut steps)
+    }
+
+    /// The same, with the steps counted. Lines of so many bytes together take at most `line_work` for each, and at
+    /// most `state_work` for each state that was cached before the first.
+    pub fn is_match_counted<L: Ledger>(&mut self, line: &[u8], steps: &mut Steps<L>) -> bool
+        ensures found { IsTrue result ↔ HasMatch self.old.tree line.now }
+        ensures same { self.new.tree ≡ self.old.tree }
+        ensures states { GrowsOver (length line.now + 1) self.old.states self.new.states }
+        ensures work { steps.new + state_work * self.new.states
+            ≤ steps.old + state_work * self.old.states + line_work self.old.tree (length line.now) }
+    {
+        self.dfa.is_match(line, steps)
     }
 
     /// The first line at or after `from` that has a match. The block is whole lines from there on.

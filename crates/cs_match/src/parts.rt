@@ -1,12 +1,13 @@
 // The parts of a program: its tree without the sets. A run of positions is one part, and so is an alternation of runs,
 // so that a traversal visits it once.
-ghost use Rattle.std.specs.Prelude.{◌≡◌, ◌+◌, ◌<◌, ◌^◌, IfOk, IfSome, OnOk};
+ghost use Rattle.std.specs.Prelude.{◌≡◌, ◌+◌, ◌<◌, ◌≤◌, ◌^◌, min, IfOk, IfSome, OnOk};
 ghost use Rattle.cs_syntax.specs.Matching.{Trees, cat, alt, more, none};
 ghost use Rattle.cs_syntax.specs.TreeList.{append};
 ghost use Rattle.cs_syntax.specs.Node.{tree_of};
 ghost use Rattle.cs_syntax.specs.NodeList.{trees_of};
 ghost use Rattle.cs_match.specs.Glushkov.{position_count, position_count_of};
-ghost use Rattle.cs_match.specs.Parts.{run, runs, optional_run, shape_of, shapes_of, HaveSameShape};
+ghost use Rattle.cs_match.specs.Parts.{run, runs, optional_run, shape_of, shapes_of, size_of, sizes_of, HaveSameShape};
+ghost use Rattle.cs_match.specs.Size.{nodes, nodes_of};
 
 use crate::sequences::Sequences;
 use cs_syntax::Node;
@@ -37,7 +38,8 @@ pub(crate) enum Part {
 #[cycle(part_of)]
 pub(crate) fn part_of(alloc: Global, node: &Node) -> Result<Part, AllocError>
     requires { position_count (tree_of node.now) < 2 ^ 64 }
-    ensures { IfOk result (λ part. HaveSameShape (tree_of node.now) (shape_of part)) }
+    ensures shape { IfOk result (λ part. HaveSameShape (tree_of node.now) (shape_of part)) }
+    ensures size { IfOk result (λ part. size_of part ≤ nodes (tree_of node.now)) }
 {
     match node {
         Node::Empty => Ok(Part::Run(0)),
@@ -60,7 +62,8 @@ pub(crate) fn part_of(alloc: Global, node: &Node) -> Result<Part, AllocError>
 #[cycle(part_of)]
 fn sequence_of(alloc: Global, nodes: &[Node]) -> Result<Part, AllocError>
     requires { position_count_of (trees_of nodes.now) < 2 ^ 64 }
-    ensures { IfOk result (λ part. HaveSameShape (cat (trees_of nodes.now)) (shape_of part)) }
+    ensures shape { IfOk result (λ part. HaveSameShape (cat (trees_of nodes.now)) (shape_of part)) }
+    ensures size { IfOk result (λ part. size_of part ≤ 1 + nodes_of (trees_of nodes.now)) }
 {
     let mut parts = Vec::new(alloc);
     let mut positions = 0;
@@ -79,9 +82,11 @@ fn sequence_of(alloc: Global, nodes: &[Node]) -> Result<Part, AllocError>
 /// yet.
 fn add_part(parts: &mut Vec<Part>, positions: usize, part: Part) -> Result<usize, AllocError>
     requires { positions + position_count (shape_of part) < 2 ^ 64 }
-    ensures { IfOk result (λ more_positions. (ts : Trees) →
+    ensures shape { IfOk result (λ more_positions. (ts : Trees) →
         HaveSameShape (cat (append (shapes_of parts.old.items) (more (run positions) (more (shape_of part) ts))))
         (cat (append (shapes_of parts.new.items) (more (run more_positions) ts)))) }
+    ensures size { IfOk result (λ more_positions. sizes_of parts.new.items + min 1 more_positions
+        ≤ sizes_of parts.old.items + min 1 positions + size_of part) }
 {
     match part {
         Part::Run(more) => Ok(positions + more),
@@ -95,8 +100,9 @@ fn add_part(parts: &mut Vec<Part>, positions: usize, part: Part) -> Result<usize
 
 /// Adds a run, unless it has no positions.
 fn add_run(parts: &mut Vec<Part>, positions: usize) -> Result<(), AllocError>
-    ensures { OnOk result (HaveSameShape (cat (append (shapes_of parts.old.items) (more (run positions) none)))
+    ensures shape { OnOk result (HaveSameShape (cat (append (shapes_of parts.old.items) (more (run positions) none)))
         (cat (shapes_of parts.new.items))) }
+    ensures size { OnOk result (sizes_of parts.new.items ≤ sizes_of parts.old.items + min 1 positions) }
 {
     if positions > 0 {
         parts.push(Part::Run(positions))?;
@@ -107,7 +113,8 @@ fn add_run(parts: &mut Vec<Part>, positions: usize) -> Result<(), AllocError>
 #[cycle(part_of)]
 fn alternation_of(alloc: Global, nodes: &[Node]) -> Result<Part, AllocError>
     requires { position_count_of (trees_of nodes.now) < 2 ^ 64 }
-    ensures { IfOk result (λ part. HaveSameShape (alt (trees_of nodes.now)) (shape_of part)) }
+    ensures shape { IfOk result (λ part. HaveSameShape (alt (trees_of nodes.now)) (shape_of part)) }
+    ensures size { IfOk result (λ part. size_of part ≤ 1 + nodes_of (trees_of nodes.now)) }
 {
     let mut parts = Vec::new(alloc);
     for node in nodes {
@@ -124,9 +131,10 @@ fn alternation_of(alloc: Global, nodes: &[Node]) -> Result<Part, AllocError>
 }
 
 /// The alternation of the parts. If they are a run and the empty run, it is one part.
-#[tactic(auto, using(crate::proofs::PartLemmas::part_rules))]
+#[tactic(auto, using(crate::proofs::PartLemmas::part_rules, crate::proofs::PartLemmas::size_rules))]
 fn alternation(parts: Vec<Part>) -> Part
-    ensures { shape_of result ≡ alt (shapes_of parts.items) }
+    ensures shape { shape_of result ≡ alt (shapes_of parts.items) }
+    ensures size { size_of result ≤ 1 + sizes_of parts.items }
 {
     match optional_run(&parts) {
         Some(n) => Part::Optional(n),

@@ -2,9 +2,12 @@
 ghost use Rattle.std.specs.Prelude.{◌≡◌, ◌≢◌, ◌↔◌, ℕ, ◌+◌, ◌*◌, ◌<◌, ◌≤◌, ◌∷◌, ◌++◌, ◌==◌, ◌&&◌, false, IsTrue, IfOk, length, take, drop, replicate, slice_index_or, if◌then◌else◌};
 ghost use Rattle.std.specs.Int.{bit_at};
 ghost use Rattle.cs_match.specs.PositionSet.{has_from, has_bit_from, intersect, is_moved};
+ghost use Rattle.cs_match.specs.Work.{words};
 
+use crate::steps::Steps;
 use std::alloc::{AllocError, Global};
 use std::marker::Model;
+use std::sync::ledger::Ledger;
 
 /// A set of positions, one bit each. Contracts see a list of truth values.
 #[derive(Drop)]
@@ -122,12 +125,14 @@ impl PositionSet {
     }
 
     /// Makes this the set in which each position is moved to the next one. It has room for one position more.
-    pub(crate) fn shift_from(&mut self, from: &PositionSet)
+    pub(crate) fn shift_from<L: Ledger>(&mut self, from: &PositionSet, steps: &mut Steps<L>)
         requires { length self.old ≡ length from.now + 1 }
-        ensures { self.new ≡ false ∷ from.now }
+        ensures shifted { self.new ≡ false ∷ from.now }
+        ensures cost { steps.new ≡ steps.old + words (length self.old) }
     {
         let mut carried = 0;
         for index in 0..self.words.len() {
+            steps.add(1);
             let word = word_at(&from.words, index);
             self.words[index] = word << 1 | carried;
             carried = word >> 63;
@@ -136,12 +141,13 @@ impl PositionSet {
 
     /// Moves the set over an input: a position is in it afterwards by one of three masks, if it was entered, if the one
     /// before it was entered, or if it was in the set.
-    pub(crate) fn move_over(
+    pub(crate) fn move_over<L: Ledger>(
         &mut self,
         entries: &PositionSet,
         if_entered: &PositionSet,
         if_previous: &PositionSet,
         if_kept: &PositionSet,
+        steps: &mut Steps<L>,
     )
         requires entries { length entries.now ≡ length self.old + 1 }
         requires if_entered { length if_entered.now ≡ length self.old }
@@ -150,9 +156,11 @@ impl PositionSet {
         ensures length { length self.new ≡ length self.old }
         ensures each { (k : ℕ) → k < length self.old → slice_index_or self.new k false
             ≡ is_moved entries.now if_entered.now if_previous.now if_kept.now self.old k }
+        ensures cost { steps.new ≡ steps.old + words (length self.old) }
     {
         let mut carried = 0;
         for index in 0..self.words.len() {
+            steps.add(1);
             let entry = entries.words[index];
             let previous = entry << 1 | carried;
             self.words[index] = entry & if_entered.words[index]
@@ -163,28 +171,35 @@ impl PositionSet {
     }
 
     /// Moves the set over an input after which only those of the entered positions are in it that the mask has.
-    pub(crate) fn move_entered(&mut self, entries: &PositionSet, if_entered: &PositionSet)
+    pub(crate) fn move_entered<L: Ledger>(
+        &mut self,
+        entries: &PositionSet,
+        if_entered: &PositionSet,
+        steps: &mut Steps<L>,
+    )
         requires entries { length entries.now ≡ length self.old + 1 }
         requires if_entered { length if_entered.now ≡ length self.old }
         ensures length { length self.new ≡ length self.old }
         ensures each { (k : ℕ) → k < length self.old → slice_index_or self.new k false
             ≡ (slice_index_or entries.now k false && slice_index_or if_entered.now k false) }
+        ensures cost { steps.new ≡ steps.old + words (length self.old) }
     {
         for index in 0..self.words.len() {
+            steps.add(1);
             self.words[index] = entries.words[index] & if_entered.words[index];
         }
     }
 
-    /// A hash of the set. The low bits depend on all positions.
-    pub(crate) fn hash(&self) -> u32 {
-        let mut mixed = 0u64;
+    /// A hash of the set and of the seed.
+    pub(crate) fn hash(&self, seed: u64) -> u8 {
+        let mut mixed = seed;
         for word in &self.words {
             // The high bits of a product depend on all bits of its factors, so they become the low ones.
             mixed = (mixed ^ *word)
                 .wrapping_mul(0x9e37_79b9_7f4a_7c15)
                 .swap_bytes();
         }
-        (mixed & 0xffff_ffff) as u32
+        (mixed & 0xff) as u8
     }
 }
 

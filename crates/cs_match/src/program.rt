@@ -1,14 +1,14 @@
 // Programs: compiled patterns.
-ghost use Rattle.std.specs.Prelude.{◌≡◌, IfOk, IfSome};
+ghost use Rattle.std.specs.Prelude.{◌≡◌, ◌≤◌, IfOk, IfSome};
 ghost use Rattle.cs_syntax.specs.Node.{tree_of};
 ghost use Rattle.cs_match.specs.SameLines.{MatchSameLines};
 ghost use Rattle.cs_match.specs.Glushkov.{position_count, repeats, char_step_of, IsExpanded};
 ghost use Rattle.cs_prefilter.specs.WordAt.{IsPrefilterOf};
 ghost use Rattle.cs_match.specs.LookBehind.{look_behind};
 ghost use Rattle.cs_match.specs.ByteClasses.{AreClasses};
-ghost use Rattle.cs_match.specs.Parts.{HaveSameShape, shape_of};
+ghost use Rattle.cs_match.specs.Parts.{HaveSameShape, shape_of, size_of};
 ghost use Rattle.cs_match.specs.Entered.{position_list};
-ghost use Rattle.cs_match.specs.Size.{FitsWeight};
+ghost use Rattle.cs_match.specs.Size.{nodes, FitsWeight};
 
 use crate::byte_classes::byte_classes;
 use crate::expand::expand;
@@ -36,8 +36,8 @@ pub struct Program {
     repeats: usize,
     /// The look-behind bits that the tree reads.
     look_behind: LookBehind,
-    /// Whether a byte class begins at each byte.
-    byte_classes: [bool; 256],
+    /// The flags of the bytes at which a class begins.
+    byte_classes: [u8; 256],
     /// The cuts of the sets of characters.
     cuts: Cuts,
     /// The prefilter, if the tree has rare words.
@@ -45,7 +45,7 @@ pub struct Program {
 }
 
 impl Model for Program {
-    ghost use Rattle.std.specs.Prelude.{◌≡◌, IfSome};
+    ghost use Rattle.std.specs.Prelude.{◌≡◌, ◌≤◌, IfSome};
     ghost use Rattle.cs_syntax.specs.Matching.{Tree};
     ghost use Rattle.cs_syntax.specs.TreeCode.{tree_code};
 
@@ -58,7 +58,8 @@ impl Model for Program {
     ghost use Rattle.cs_match.specs.ByteClasses.{AreClasses};
     ghost use Rattle.cs_syntax.specs.Cuts.{AreCutsOf};
     ghost use Rattle.cs_prefilter.specs.WordAt.{IsPrefilterOf};
-    ghost use Rattle.cs_match.specs.Parts.{HaveSameShape, shape_of};
+    ghost use Rattle.cs_match.specs.Parts.{HaveSameShape, shape_of, size_of};
+    ghost use Rattle.cs_match.specs.Size.{nodes};
     ghost use Rattle.cs_match.specs.Entered.{position_list};
 
     ghost view = { λ program. tree_of program.root };
@@ -66,6 +67,7 @@ impl Model for Program {
     ghost invariant = { λ program. IsProgram (tree_of program.root) program.count program.repeats program.look_behind
         × IfSome program.prefilter (IsPrefilterOf (tree_of program.root))
         × HaveSameShape (tree_of program.root) (shape_of program.part)
+        × (size_of program.part ≤ nodes (tree_of program.root))
         × (program.positions.items ≡ position_list (tree_of program.root))
         × AreClasses (tree_of program.root) program.byte_classes
         × AreCutsOf (tree_of program.root) program.cuts };
@@ -73,7 +75,7 @@ impl Model for Program {
 
 impl Program {
     /// Compiles a pattern: expands its counted repeats. The program has a match in the same lines, and at most two
-    /// positions for each unit of the pattern's weight.
+    /// positions and three nodes for each unit of the pattern's weight.
     pub fn compile(alloc: Global, pattern: &Pattern) -> Result<Program, AllocError>
         ensures alike { IfOk result (λ program. MatchSameLines program pattern.now) }
         ensures small { IfOk result (λ program. FitsWeight program pattern.now) }
@@ -110,7 +112,8 @@ impl Program {
 
     /// The tree without its sets.
     pub(crate) fn part(&self) -> &Part
-        ensures { HaveSameShape self.now (shape_of result.now) }
+        ensures shape { HaveSameShape self.now (shape_of result.now) }
+        ensures size { size_of result.now ≤ nodes self.now }
     {
         &self.part
     }
@@ -144,8 +147,8 @@ impl Program {
         self.look_behind
     }
 
-    /// Whether a byte class begins at each byte.
-    pub(crate) fn byte_classes(&self) -> &[bool; 256]
+    /// The flags of the bytes at which a class begins.
+    pub(crate) fn byte_classes(&self) -> &[u8; 256]
         ensures { AreClasses self.now result.now }
     {
         &self.byte_classes

@@ -1,9 +1,11 @@
 // States of the DFA.
-ghost use Rattle.std.specs.Prelude.{◌≡◌, ◌↔◌, IfOk, IsTrue, length, true, false};
+ghost use Rattle.std.specs.Prelude.{◌≡◌, ◌+◌, ◌*◌, ◌≤◌, ◌↔◌, IfOk, IsTrue, length, true, false};
 ghost use Rattle.std.specs.Bool.{xor};
 ghost use Rattle.cs_syntax.specs.Matching.{HasMatch};
 ghost use Rattle.cs_match.specs.Glushkov.{position_count, accepts, IsExpanded};
 ghost use Rattle.cs_match.specs.Masks.{IsScratch};
+ghost use Rattle.cs_match.specs.Size.{nodes};
+ghost use Rattle.cs_match.specs.Work.{words, step_work};
 ghost use Rattle.cs_match.specs.States.{start, ahead, look_at_end, next_state, successor, accepts_before};
 
 use crate::glushkov::{Scratch, is_accepting, step_over};
@@ -11,8 +13,10 @@ use crate::input::Input;
 use crate::look_around::LookAround;
 use crate::position_set::PositionSet;
 use crate::program::Program;
+use crate::steps::Steps;
 use cs_syntax::Unfinished;
 use std::alloc::{AllocError, Global};
+use std::sync::ledger::Ledger;
 
 /// A DFA state is a set of positions, two look-behind bits and the unfinished character.
 #[derive(Drop)]
@@ -42,10 +46,12 @@ impl State {
     }
 
     /// Makes this the start state.
-    fn begin(&mut self, program: &Program)
+    fn begin<L: Ledger>(&mut self, program: &Program, steps: &mut Steps<L>)
         requires { length self.old.positions ≡ position_count program.now }
-        ensures { self.new ≡ start program.now }
+        ensures start { self.new ≡ start program.now }
+        ensures cost { steps.new ≡ steps.old + words (position_count program.now) }
     {
+        steps.add(self.positions.len().div_ceil(64));
         self.positions.clear();
         self.first = program.look_behind().first;
         self.word = false;
@@ -53,10 +59,12 @@ impl State {
     }
 
     /// Copies a state of the same tree.
-    pub(crate) fn copy_from(&mut self, from: &State)
+    pub(crate) fn copy_from<L: Ledger>(&mut self, from: &State, steps: &mut Steps<L>)
         requires { length from.now.positions ≡ length self.old.positions }
-        ensures { self.new ≡ from.now }
+        ensures same { self.new ≡ from.now }
+        ensures cost { steps.new ≡ steps.old + words (length from.now.positions) }
     {
+        steps.add(from.positions.len().div_ceil(64));
         self.positions.copy_from(&from.positions);
         self.first = from.first;
         self.word = from.word;
@@ -64,9 +72,11 @@ impl State {
     }
 
     /// Whether both states are equal.
-    pub(crate) fn is_same(&self, other: &State) -> bool
-        ensures { IsTrue result ↔ self.now ≡ other.now }
+    pub(crate) fn is_same<L: Ledger>(&self, other: &State, steps: &mut Steps<L>) -> bool
+        ensures same { IsTrue result ↔ self.now ≡ other.now }
+        ensures cost { steps.new ≡ steps.old + words (length other.now.positions) }
     {
+        steps.add(other.positions.len().div_ceil(64));
         self.first == other.first
             && self.word == other.word
             && self.unfinished == other.unfinished
@@ -74,57 +84,74 @@ impl State {
     }
 
     /// A hash of the state.
-    pub(crate) fn hash(&self) -> u32 {
-        let hash = self.positions.hash();
-        let bits = u32::from(self.first) * 2 + u32::from(self.word);
-        let char = self
-            .unfinished
-            .low
-            .wrapping_add(u32::from(self.unfinished.needed));
-        hash.wrapping_mul(4).wrapping_add(bits).wrapping_add(char)
+    pub(crate) fn hash(&self) -> u8 {
+        let bits = u64::from(self.first) << 1 | u64::from(self.word);
+        let char = u64::from(self.unfinished.low) << 2 | u64::from(self.unfinished.needed);
+        self.positions.hash(char << 2 | bits)
     }
 
     /// Whether the line has a match, simulated byte by byte.
-    pub(crate) fn search(&mut self, program: &Program, scratch: &mut Scratch, line: &[u8]) -> bool
+    pub(crate) fn search<L: Ledger>(
+        &mut self,
+        program: &Program,
+        scratch: &mut Scratch,
+        line: &[u8],
+        steps: &mut Steps<L>,
+    ) -> bool
         requires one_each { length self.old.positions ≡ position_count program.now }
         requires scratch { IsScratch program.now scratch.old }
         requires expanded { IsExpanded program.now }
         ensures found { IsTrue result ↔ HasMatch program.now line.now }
         ensures one_each { length self.new.positions ≡ position_count program.now }
         ensures scratch { IsScratch program.now scratch.new }
+        ensures cost { steps.new ≤ steps.old + (length line.now + 1) * step_work program.now }
     {
-        self.begin(program);
+        self.begin(program, steps);
         for b in line {
-            if self.step_in_line(program, scratch, *b) {
+            if self.step_in_line(program, scratch, *b, steps) {
                 return true;
             }
         }
-        self.end(program)
+        self.end(program, steps)
     }
 
     /// Moves over a byte, and returns whether the state accepts before it. A newline is the end of the line.
-    pub(crate) fn step_over(&mut self, program: &Program, scratch: &mut Scratch, byte: u8) -> bool
+    pub(crate) fn step_over<L: Ledger>(
+        &mut self,
+        program: &Program,
+        scratch: &mut Scratch,
+        byte: u8,
+        steps: &mut Steps<L>,
+    ) -> bool
         requires one_each { length self.old.positions ≡ position_count program.now }
         requires scratch { IsScratch program.now scratch.old }
         ensures accepting { result ≡ accepts_before program.now self.old byte }
         ensures moved { self.new ≡ successor program.now self.old byte }
         ensures scratch { IsScratch program.now scratch.new }
+        ensures cost { steps.new ≤ steps.old + step_work program.now }
     {
         if byte == b'\n' {
-            self.end(program)
+            self.end(program, steps)
         } else {
-            self.step_in_line(program, scratch, byte)
+            self.step_in_line(program, scratch, byte, steps)
         }
     }
 
     /// Moves over a byte of the line, and returns whether the state accepts before it.
-    fn step_in_line(&mut self, program: &Program, scratch: &mut Scratch, byte: u8) -> bool
+    fn step_in_line<L: Ledger>(
+        &mut self,
+        program: &Program,
+        scratch: &mut Scratch,
+        byte: u8,
+        steps: &mut Steps<L>,
+    ) -> bool
         requires one_each { length self.old.positions ≡ position_count program.now }
         requires scratch { IsScratch program.now scratch.old }
         ensures accepting { result
             ≡ accepts program.now true self.old.positions (ahead program.now self.old byte) }
         ensures moved { self.new ≡ next_state program.now self.old byte }
         ensures scratch { IsScratch program.now scratch.new }
+        ensures cost { steps.new ≤ steps.old + step_work program.now }
     {
         let bits = program.look_behind();
         let is_word = bits.is_word(byte);
@@ -135,7 +162,7 @@ impl State {
         };
         let char = program.char_step(self.unfinished, byte);
         let input = Input { byte, char };
-        let accepting = step_over(program, &mut self.positions, scratch, here, input);
+        let accepting = step_over(program, &mut self.positions, scratch, here, input, steps);
         self.first = false;
         self.word = is_word;
         self.unfinished = char.unfinished();
@@ -143,19 +170,20 @@ impl State {
     }
 
     /// Moves over the end of the line to the start state, and returns whether the state accepts before it.
-    fn end(&mut self, program: &Program) -> bool
+    fn end<L: Ledger>(&mut self, program: &Program, steps: &mut Steps<L>) -> bool
         requires one_each { length self.old.positions ≡ position_count program.now }
         ensures accepting { result
             ≡ accepts program.now true self.old.positions (look_at_end self.old) }
         ensures moved { self.new ≡ start program.now }
+        ensures cost { steps.new ≤ steps.old + (nodes program.now + words (position_count program.now)) }
     {
         let here = LookAround {
             first: self.first,
             last: true,
             edge: self.word,
         };
-        let accepting = is_accepting(program, &self.positions, here);
-        self.begin(program);
+        let accepting = is_accepting(program, &self.positions, here, steps);
+        self.begin(program, steps);
         accepting
     }
 

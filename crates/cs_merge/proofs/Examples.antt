@@ -3,7 +3,7 @@ use Rattle.std.proofs.Common.{◌≡◌, ℕ, true, false, List, [], ◌∷◌, 
 use Rattle.std.specs.Prelude.{codes}
 use Rattle.cs_tree.specs.Folders.{are_distinct}
 use Rattle.cs_tree.specs.NamesAscending.{are_ascending}
-use Rattle.cs_merge.specs.SortedIndex.{names_in_order}
+use Rattle.cs_merge.specs.SortedNames.{names_in_order}
 use Rattle.cs_merge.specs.IdMap.{NewIds, new_ids_of}
 
 -- the names of an index in the order of a walk

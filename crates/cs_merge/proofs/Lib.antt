@@ -3,7 +3,7 @@ pub mod DecodedContentLemmas
 pub mod MergeLemmas
 pub mod ReplacedLemmas
 pub mod OpeningLemmas
-pub mod SortedIndexLemmas
+pub mod SortedNamesLemmas
 pub mod StorableLemmas
 mod TrigramSetLemmas
 mod CoverLemmas

@@ -22,7 +22,7 @@ use Rattle.cs_merge.specs.Mergeable.{merge_index, AreTested}
 use Rattle.cs_merge.specs.IdMap.{NewIds, AreMappedLists, IsOfEither, new, kept, AreMergedNames}
 use Rattle.cs_merge.proofs.FileOrderLemmas.{sorted_up, up_named}
 use Rattle.cs_merge.proofs.MergeLemmas.{get-merge_files}
-use Rattle.cs_merge.proofs.SortedIndexLemmas.{AreDistinctNames, ascending_once, distinct_once, once_rest}
+use Rattle.cs_merge.proofs.SortedNamesLemmas.{AreDistinctNames, ascending_once, distinct_once, once_rest}
 use Rattle.cs_index.proofs.encoding.FileMapEncoding.{true_T}
 
 -- ---- the file at a name

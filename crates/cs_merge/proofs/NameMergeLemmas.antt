@@ -11,7 +11,7 @@ use Rattle.cs_index.specs.Built.{is_above}
 use Rattle.cs_index.proofs.writer.BuilderAdd.{ascends_push}
 use Rattle.cs_merge.specs.IdMap.{NewIds, AreDisjoint, AreMergedNames, AreIdMaps, IsOfEither, new, kept, AreNamesSoFar}
 use Rattle.cs_merge.proofs.FileOrderLemmas.{turned}
-use Rattle.cs_merge.proofs.SortedIndexLemmas.{distinct_once}
+use Rattle.cs_merge.proofs.SortedNamesLemmas.{distinct_once}
 use Rattle.cs_merge.proofs.IdMapLemmas.{get_pushed, get_push, are_mapped_more, mapped_push, kept_at, ascends_at, injective, stay_below}
 use Rattle.cs_tree.proofs.NameOrderLemmas.{before_trans}
 

@@ -3,11 +3,9 @@
 use Rattle.std.specs.Prelude.{◌≡◌, ℕ, ◌+◌, ◌-◌, ◌<◌, ◌≤◌, Bool, true, false, List, [], ◌∷◌, Option, Some, None, slice_get, slice_index, length, option_and_then, option_map}
 use Rattle.std.specs.List.{filter_map}
 use Rattle.cs_tree.specs.NamesAscending.{are_ascending}
-use Rattle.cs_tree.specs.Cover.{is_covered}
 use Rattle.cs_index.specs.Built.{is_above}
 use Rattle.cs_index.specs.Written.{Written}
-use Rattle.cs_index.specs.OpenedParts.{paths_in}
-use Rattle.cs_merge.specs.SortedIndex.{SortedIndex, id_of_rank, sorted_names}
+use Rattle.cs_merge.specs.SortedNames.{SortedNames, id_of_rank, sorted_names}
 use Rattle.cs_index.specs.Encoding.{PostingList}
 use Rattle.cs_index.specs.PostingLists.{Ids, set_at}
 
@@ -93,6 +91,10 @@ AreMapped is_dropped own names new_ids =
     (id : ℕ) (name : List ℕ) (new : Option ℕ) → slice_get own id ≡ Some name → slice_get new_ids id ≡ Some new →
     IsMapped is_dropped names name new
 
+-- all old names like these are dropped
+abbrev pub AreDropped : (List ℕ → Bool) → List (List ℕ) → Type 0
+AreDropped is_dropped names = (id : ℕ) (name : List ℕ) → slice_get names id ≡ Some name → is_dropped name ≡ true
+
 -- ---- posting lists
 
 -- each file that is kept has, by its new id, the trigrams that it had
@@ -132,9 +134,9 @@ abbrev pub AreScattered : List ℕ → NewIds → ℕ → NewIds → Type 0
 AreScattered ids ranks count new_ids = (position : ℕ) → position < count → slice_get new_ids (slice_index ids position) ≡ slice_get ranks position
 
 -- A map of ids that agrees with a map of ranks.
-pub record AreByRank (sorted_index : SortedIndex) (ranks new_ids : NewIds) : Type 0 where
+pub record AreByRank (ordered : SortedNames) (ranks new_ids : NewIds) : Type 0 where
   pub long : length new_ids ≡ length ranks
-  pub at : (position id : ℕ) → id_of_rank sorted_index position ≡ Some id → position < length ranks →
+  pub at : (position id : ℕ) → id_of_rank ordered position ≡ Some id → position < length ranks →
       slice_get new_ids id ≡ slice_get ranks position
 
 -- All names of both are merged, and the maps cover all ids.
@@ -145,7 +147,7 @@ pub record AreMergedNames (is_dropped : List ℕ →
   pub newer_long : length newer_ids ≡ length newer
 
 -- The names of both are written so far, by rank, and no list is written yet.
-pub record IsMergingNames (older newer : SortedIndex) (before now : Written) (older_ranks newer_ranks : NewIds) : Type 0 where
-  pub named : AreNamesSoFar (is_covered (paths_in newer.parts)) (sorted_names older) (sorted_names newer) now.names older_ranks newer_ranks
+pub record IsMergingNames (is_dropped : List ℕ → Bool) (older newer : SortedNames) (before now : Written) (older_ranks newer_ranks : NewIds) : Type 0 where
+  pub named : AreNamesSoFar is_dropped (sorted_names older) (sorted_names newer) now.names older_ranks newer_ranks
   pub paths : now.paths ≡ before.paths
   pub unlisted : now.lists ≡ []

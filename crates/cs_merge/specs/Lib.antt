@@ -16,7 +16,7 @@ pub mod Replacing
 pub mod ListFault
 -- Definitions that private contracts cite.
 pub mod SomePaths
-pub mod SortedIndex
+pub mod SortedNames
 pub mod IdMap
 pub mod ListMerge
 pub mod ListsFault

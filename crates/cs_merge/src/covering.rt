@@ -3,7 +3,7 @@ ghost use Rattle.std.specs.Prelude.{◌≡◌, ◌∷◌, [], is_some, IfOk, IfS
 ghost use Rattle.std.specs.List.{list_any};
 ghost use Rattle.cs_tree.specs.Cover.{covers as covers', is_covered as is_covered'};
 ghost use Rattle.cs_tree.specs.PathSet as set;
-ghost use Rattle.cs_index.specs.OpenedParts.{paths_in, are_covered};
+ghost use Rattle.cs_index.specs.OpenedParts.{are_covered};
 ghost use Rattle.cs_merge.specs.SomePaths.{AreAmong};
 
 use cs_index::{Index, Texts};
@@ -31,11 +31,11 @@ impl<'a> Model for Cover<'a> {
 
 impl<'a> Cover<'a> {
     /// Sorts the paths of an index.
-    pub(crate) fn new(alloc: Global, index: &Index<'a>) -> Result<Cover<'a>, AllocError>
-        ensures { IfOk result (λ cover. set.from_list cover ≡ paths_in index.now) }
+    pub(crate) fn new(alloc: Global, texts: Texts<'a>) -> Result<Cover<'a>, AllocError>
+        ensures { IfOk result (λ cover. set.from_list cover ≡ set.from_list texts.entry) }
     {
         let mut paths = Vec::new(alloc);
-        'paths: for path in index.paths() {
+        'paths: for path in texts {
             paths.push(path)?;
         }
         paths.sort_unstable();

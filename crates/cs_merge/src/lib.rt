@@ -16,7 +16,7 @@ mod merging;
 mod merging_lists;
 mod merging_names;
 mod replacing;
-mod sorted_index;
+mod sorted_names;
 
 pub use fault::MergeFault;
 pub use merging::{merge, merge_within};

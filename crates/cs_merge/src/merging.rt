@@ -2,17 +2,17 @@
 ghost use Rattle.std.specs.Prelude.{◌≡◌, ◌++◌, Err, map, string_bytes, IfOk, OnOk, MatchResult};
 ghost use Rattle.cs_tree.specs.PathSet as set;
 ghost use Rattle.cs_index.specs.OpenedParts.{paths_in};
+ghost use Rattle.cs_index.specs.ValidParts.{AreValidParts};
 ghost use Rattle.cs_merge.specs.Merge.{merge_paths};
-ghost use Rattle.cs_merge.specs.Mergeable.{AreTested};
 ghost use Rattle.cs_merge.specs.MergeResult.{most_bytes, IsMerged, IsMergeFault};
-ghost use Rattle.cs_merge.specs.SortedIndex.{IsSortedIndex};
+ghost use Rattle.cs_merge.specs.SortedNames.{AreTestedNames};
 
 use crate::building::{begin, finish};
-use crate::covering::is_under;
+use crate::covering::{Cover, is_under};
 use crate::fault::MergeFault;
 use crate::merging_lists::merge_lists;
 use crate::merging_names::merge_names;
-use crate::sorted_index::SortedIndex;
+use crate::sorted_names::SortedNames;
 use cs_index::{Index, Texts};
 use cs_tree::reduce;
 use std::alloc::{AllocError, Global};
@@ -42,37 +42,50 @@ pub fn merge_within(
     ensures { MatchResult result (λ index. IsMerged old.now newer.now most index.items)
         (λ fault. IsMergeFault old.now newer.now most fault) }
 {
-    let Some(old) = SortedIndex::of(alloc, old)? else {
+    old.are_valid();
+    newer.are_valid();
+    let Some(old_names) = SortedNames::of(alloc, old.name_table())? else {
         return Err(MergeFault::Unsorted);
     };
-    let Some(newer) = SortedIndex::of(alloc, newer)? else {
+    let Some(newer_names) = SortedNames::of(alloc, newer.name_table())? else {
         return Err(MergeFault::Unsorted);
     };
-    if !is_under(newer.index()) {
+    if !is_under(newer) {
         return Err(MergeFault::Uncovered);
     }
-    merge_sorted(alloc, most, &old, &newer)
+    let names = BothNames {
+        old: old_names,
+        newer: newer_names,
+    };
+    merge_sorted(alloc, most, old, newer, &names)
+}
+
+/// The names of both indexes in ascending order.
+#[derive(Drop)]
+struct BothNames<'a, 'b> {
+    old: SortedNames<'a>,
+    newer: SortedNames<'b>,
 }
 
 /// Merges two indexes in the order of their names. The newer paths cover the newer names.
 fn merge_sorted(
     alloc: Global,
     most: u32,
-    old: &SortedIndex<'_, '_>,
-    newer: &SortedIndex<'_, '_>,
+    old: &Index<'_>,
+    newer: &Index<'_>,
+    names: &BothNames<'_, '_>,
 ) -> Result<Vec<u8>, MergeFault>
-    requires old_sorted { IsSortedIndex old.now }
-    requires newer_sorted { IsSortedIndex newer.now }
-    requires tested { AreTested old.now.parts newer.now.parts }
-    ensures { MatchResult result (λ index. IsMerged old.now.parts newer.now.parts most index.items)
-        (λ fault. IsMergeFault old.now.parts newer.now.parts most fault) }
+    requires old_parts { AreValidParts old.now }
+    requires newer_parts { AreValidParts newer.now }
+    requires tested { AreTestedNames old.now.names newer.now names.now.old names.now.newer }
+    ensures { MatchResult result (λ index. IsMerged old.now newer.now most index.items)
+        (λ fault. IsMergeFault old.now newer.now most fault) }
 {
-    let older = old.index();
-    let later = newer.index();
-    let paths = merged_paths(alloc, older, later)?;
+    let paths = merged_paths(alloc, old, newer)?;
     let mut sections = begin(alloc, &paths)?;
-    let ids = merge_names(alloc, &mut sections, old, newer)?;
-    merge_lists(alloc, &mut sections, most, older, later, &ids)?;
+    let cover = Cover::new(alloc, newer.paths())?;
+    let ids = merge_names(alloc, &mut sections, &names.old, &names.newer, &cover)?;
+    merge_lists(alloc, &mut sections, most, old, newer, &ids)?;
     finish(sections, most)
 }
 

@@ -1,4 +1,4 @@
-// The merge of the names: a two-way merge of both indexes in the order of their names.
+// The merge of the names of both indexes: a two-way merge in ascending order.
 ghost use Rattle.std.specs.Prelude.{◌≡◌, ◌<◌, ◌≤◌, ◌+◌, ◌^◌, ◌∷◌, ◌++◌, [], true, false, Some, length, IfOk, OnOk};
 ghost use Rattle.std.specs.Option.{option_copied, option_map_or};
 ghost use Rattle.std.specs.Ordering.{is_lt};
@@ -7,42 +7,40 @@ ghost use Rattle.cs_tree.specs.PathSet as set;
 ghost use Rattle.cs_index.specs.Built.{is_above, is_storable};
 ghost use Rattle.cs_index.specs.Written.{with_written_name};
 ghost use Rattle.cs_tree.specs.Cover.{is_covered};
-ghost use Rattle.cs_index.specs.OpenedParts.{paths_in};
-ghost use Rattle.cs_merge.specs.Mergeable.{AreTested};
-ghost use Rattle.cs_merge.specs.SortedIndex.{sorted_names, IsSortedIndex};
-ghost use Rattle.cs_merge.specs.IdMap.{AreMergedNames, IsMergingNames};
+ghost use Rattle.cs_merge.specs.SortedNames.{sorted_names, AreSortedNames};
+ghost use Rattle.cs_merge.specs.IdMap.{AreDropped, AreMergedNames, IsMergingNames};
 ghost use Rattle.cs_index.specs.AscendingIds.{max_ids};
 
 use crate::covering::Cover;
 use crate::id_map::{IdMap, IdMaps};
-use crate::sorted_index::SortedIndex;
+use crate::sorted_names::SortedNames;
 use cs_index::Sections;
 use std::alloc::{AllocError, Global};
 
-/// Writes the merged names in order, and returns the new id of each old id. Old names that a newer
-/// path covers are dropped.
+/// Writes the merged names in order, and returns the new id of each old id. Old names that a path of
+/// the cover, which are the newer paths, covers are dropped.
 pub(crate) fn merge_names(
     alloc: Global,
     sections: &mut Sections,
-    old: &SortedIndex<'_, '_>,
-    newer: &SortedIndex<'_, '_>,
+    old: &SortedNames<'_>,
+    newer: &SortedNames<'_>,
+    cover: &Cover<'_>,
 ) -> Result<IdMaps, AllocError>
-    requires old_sorted { IsSortedIndex old.now }
-    requires newer_sorted { IsSortedIndex newer.now }
-    requires tested { AreTested old.now.parts newer.now.parts }
+    requires old_sorted { AreSortedNames old.now }
+    requires newer_sorted { AreSortedNames newer.now }
+    requires covered { AreDropped (is_covered (set.from_list cover.now)) newer.now.names }
     requires unnamed { sections.old.names ≡ [] }
     requires unlisted { sections.old.lists ≡ [] }
     ensures paths { OnOk result (sections.new.paths ≡ sections.old.paths) }
     ensures unlisted { OnOk result (sections.new.lists ≡ []) }
-    ensures ids { IfOk result (λ ids. AreMergedNames (is_covered (paths_in newer.now.parts))
-        old.now.parts.names newer.now.parts.names sections.new.names ids.older ids.newer) }
+    ensures ids { IfOk result (λ ids. AreMergedNames (is_covered (set.from_list cover.now))
+        old.now.names newer.now.names sections.new.names ids.older ids.newer) }
 {
-    let cover = Cover::new(alloc, newer.index())?;
     let mut ranks = IdMaps {
         older: IdMap::new(alloc),
         newer: IdMap::new(alloc),
     };
-    'names: while merge_next_name(sections, old, newer, &cover, &mut ranks)? {}
+    'names: while merge_next_name(sections, old, newer, cover, &mut ranks)? {}
     Ok(IdMaps {
         older: old.by_id(alloc, ranks.older)?,
         newer: newer.by_id(alloc, ranks.newer)?,
@@ -52,19 +50,18 @@ pub(crate) fn merge_names(
 /// Writes or drops the lowest remaining name. False if none remains.
 fn merge_next_name(
     sections: &mut Sections,
-    old: &SortedIndex<'_, '_>,
-    newer: &SortedIndex<'_, '_>,
+    old: &SortedNames<'_>,
+    newer: &SortedNames<'_>,
     cover: &Cover<'_>,
     ranks: &mut IdMaps,
 ) -> Result<bool, AllocError>
-    requires old_sorted { IsSortedIndex old.now }
-    requires newer_sorted { IsSortedIndex newer.now }
-    requires tested { AreTested old.now.parts newer.now.parts }
-    requires cover { set.from_list cover.now ≡ paths_in newer.now.parts }
-    requires so_far { IsMergingNames old.now newer.now sections.old sections.old
-        ranks.old.older ranks.old.newer }
-    ensures so_far { OnOk result (IsMergingNames old.now newer.now sections.old sections.new
-        ranks.new.older ranks.new.newer) }
+    requires old_sorted { AreSortedNames old.now }
+    requires newer_sorted { AreSortedNames newer.now }
+    requires covered { AreDropped (is_covered (set.from_list cover.now)) newer.now.names }
+    requires so_far { IsMergingNames (is_covered (set.from_list cover.now)) old.now newer.now
+        sections.old sections.old ranks.old.older ranks.old.newer }
+    ensures so_far { OnOk result (IsMergingNames (is_covered (set.from_list cover.now))
+        old.now newer.now sections.old sections.new ranks.new.older ranks.new.newer) }
     ensures more { IfOk result (λ more. more ≡ true →
         length ranks.new.older + length ranks.new.newer
         ≡ length ranks.old.older + length ranks.old.newer + 1) }

@@ -18,7 +18,7 @@ use std::alloc::{AllocError, Global};
 pub fn is_replaced(alloc: Global, old: &Index<'_>, newer: &Index<'_>) -> Result<bool, AllocError>
     ensures { IfOk result (λ replaced. replaced ≡ is_replaced' (paths_in newer.now) old.now) }
 {
-    let cover = Cover::new(alloc, newer)?;
+    let cover = Cover::new(alloc, newer.paths())?;
     if !covers_all(&cover, old.paths()) {
         return Ok(false);
     }

@@ -16,7 +16,8 @@ use Rattle.cs_index.specs.declared.fault.IndexFault.{IndexFault}
 use Rattle.cs_index.specs.OpenedParts.{Parts}
 use Rattle.cs_index.specs.Answerable.{is_answerable}
 use Rattle.cs_index.specs.Candidates.{candidates_of, name_matches}
-use Rattle.cs_index.specs.Stored.{IsName}
+use Rattle.cs_index.specs.NameReading.{HasName, IsName}
+use Rattle.cs_index.specs.declared.reading.name_reader.NameReader.{NameReader}
 use Rattle.cs_search.specs.declared.plan.Plan.{Plan}
 use Rattle.cs_search.specs.IndexSearch.{names_at, AreKept, DecidesNames}
 use Rattle.cs_search.specs.Selections.{Selects}
@@ -38,38 +39,38 @@ decided decidable None = (λ name. true, λ name. refl)
 decided decidable (Some tree) = decidable tree
 
 -- an id of a name is read as that name
-pub name_read : (names : List (List ℕ)) (id : ℕ) (answer : Result (String Global) IndexFault) → id < length names → IsName (slice_get names id) answer →
-    IsOkAnd answer (λ text. slice_get names id ≡ Some (string_bytes text))
-name_read names id answer low is = as_text answer (subst (λ (name : Option (List ℕ)). IsName name answer) (slice_get-get_or names id [] low) is)
-  where
-    as_text : (answer : Result (String Global) IndexFault) → IsName (Some (get_or names id [])) answer → IsOkAnd answer (λ text. slice_get names id ≡ Some (string_bytes text))
-    as_text (Ok text) same = slice_get-get_or names id [] low ∙ ap (λ (name : List ℕ). Some name) (sym same)
-    as_text (Err fault) same = same
+pub name_read : (names : List (List ℕ)) (id : ℕ) (answer : Result (Unit {0}) IndexFault) (reader : NameReader) → id < length names → IsName (slice_get names id) answer reader →
+    IsOkAnd answer (λ _. HasName reader (get_or names id []))
+name_read names id answer reader low is = subst (λ (name : Option (List ℕ)). IsName name answer reader) (slice_get-get_or names id [] low) is
 
 pub kept_none : (file : Option Tree) (names : List (List ℕ)) → AreKept file names [] []
 unfolding names_at
 kept_none file names = λ keeps decides. refl
 
-module _ (file : Option Tree) (names : List (List ℕ)) (ids : List ℕ) (id : ℕ) (texts : List (String Global)) (text : String Global) (there : slice_get names id ≡ Some (string_bytes text)) (kept : AreKept file names ids texts) where
-  one_more : (keeps : List ℕ → Bool) → filter keeps (names_at names (ids ++ id ∷ [])) ≡ filter keeps (names_at names ids) ++ cond (keeps (string_bytes text)) (string_bytes text ∷ []) []
+module _ (file : Option Tree) (names : List (List ℕ)) (ids : List ℕ) (id : ℕ) (texts : List (String Global)) (low : id < length names) (kept : AreKept file names ids texts) where
+  abbrev name : List ℕ
+  name = get_or names id []
+
+  one_more : (keeps : List ℕ → Bool) → filter keeps (names_at names (ids ++ id ∷ [])) ≡ filter keeps (names_at names ids) ++ cond (keeps name) (name ∷ []) []
   unfolding names_at
   one_more keeps =
-      ap (filter keeps) (filter_map-append (slice_get names) ids (id ∷ []) ∙ ap (λ (o : Option (List ℕ)). names_at names ids ++ cons_option o []) there)
-      ∙ filter-append keeps (names_at names ids) (string_bytes text ∷ [])
+      ap (filter keeps) (filter_map-append (slice_get names) ids (id ∷ []) ∙ ap (λ (o : Option (List ℕ)). names_at names ids ++ cons_option o []) (slice_get-get_or names id [] low))
+      ∙ filter-append keeps (names_at names ids) (name ∷ [])
 
-  module _ (passes : Bool) (tested : (keeps : List ℕ → Bool) → DecidesNames keeps file → passes ≡ keeps (string_bytes text)) where
-    after : (keeps : List ℕ → Bool) → DecidesNames keeps file → filter keeps (names_at names (ids ++ id ∷ [])) ≡ map string_bytes texts ++ cond passes (string_bytes text ∷ []) []
-    after keeps decides = one_more keeps ∙ sym (λ i. kept keeps decides i ++ cond (tested keeps decides i) (string_bytes text ∷ []) [])
+  module _ (passes : Bool) (tested : (keeps : List ℕ → Bool) → DecidesNames keeps file → passes ≡ keeps name) where
+    after : (keeps : List ℕ → Bool) → DecidesNames keeps file → filter keeps (names_at names (ids ++ id ∷ [])) ≡ map string_bytes texts ++ cond passes (name ∷ []) []
+    after keeps decides = one_more keeps ∙ sym (λ i. kept keeps decides i ++ cond (tested keeps decides i) (name ∷ []) [])
 
     -- the name is kept
-    pub kept_more : passes ≡ true → AreKept file names (ids ++ id ∷ []) (texts ++ text ∷ [])
-    kept_more is = λ keeps decides.
-        map-append string_bytes texts (text ∷ []) ∙ sym (after keeps decides ∙ ap (λ t. map string_bytes texts ++ cond t (string_bytes text ∷ []) []) is)
+    pub kept_more : (text : String Global) → string_bytes text ≡ name → passes ≡ true → AreKept file names (ids ++ id ∷ []) (texts ++ text ∷ [])
+    kept_more text same is = λ keeps decides.
+        map-append string_bytes texts (text ∷ []) ∙ ap (λ (t : List ℕ). map string_bytes texts ++ t ∷ []) same
+        ∙ sym (after keeps decides ∙ ap (λ t. map string_bytes texts ++ cond t (name ∷ []) []) is)
 
     -- the name is not kept
     pub kept_same : passes ≡ false → AreKept file names (ids ++ id ∷ []) texts
     kept_same is = λ keeps decides.
-        sym (after keeps decides ∙ ap (λ t. map string_bytes texts ++ cond t (string_bytes text ∷ []) []) is ∙ append-nil (map string_bytes texts))
+        sym (after keeps decides ∙ ap (λ t. map string_bytes texts ++ cond t (name ∷ []) []) is ∙ append-nil (map string_bytes texts))
 
 -- the kept names of the candidates are selected
 pub selects : (plan : Plan) (parts : Parts) (file : Option Tree) (ids : List ℕ) (result : Result (Result (Vec (String Global) Global) IndexFault) IoFault) → file ≡ plan.file → ids ≡ candidates_of parts plan.query → is_answerable parts plan.query ≡ true →

@@ -90,10 +90,13 @@ impl<'p> Selection<'p> {
         ensures size { S.size store.new ≡ S.size store.old }
         ensures failed { S.failed store.new ≡ count_after is_io_failure result (S.failed store.old) }
     {
-        match self.reader.read(alloc, store, id)? {
+        if let Err(fault) = self.reader.read(alloc, store, id)? {
+            return Ok(Err(fault));
+        }
+        match self.reader.name() {
             Ok(name) => {
-                if self.filter.keeps(name.as_str()) {
-                    self.names.push(name)?;
+                if self.filter.keeps(name) {
+                    self.names.push(String::from_str(alloc, name)?)?;
                 }
                 Ok(Ok(()))
             }

@@ -61,15 +61,6 @@ length-set_of f = ap length (ranged f 0 256) ∙ length-answers f 0 256
 pub set_of-agree : (f g : ℕ → Bool) → ((b : ℕ) → b < 256 → f b ≡ g b) → set_of f ≡ set_of g
 set_of-agree f g h = set_from g (set_of f) (length-set_of f) (λ b lt. set_of_at f b lt ∙ h b lt)
 
-answers-same : (f g : ℕ → Bool) (from n : ℕ) → ((k : ℕ) → f k ≡ g k) → answers f from n ≡ answers g from n
-answers-same f g from zero h = refl
-answers-same f g from (suc n) h = let e = h from in let r = answers-same f g (suc from) n h in cc
-
--- predicates that agree on all numbers have the same set
-pub set_of-same : (f g : ℕ → Bool) → ((k : ℕ) → f k ≡ g k) → set_of f ≡ set_of g
-unfolding set_of
-set_of-same f g h = ranged f 0 256 ∙ answers-same f g 0 256 h ∙ sym (ranged g 0 256)
-
 -- ---- the number of members, and the only member
 
 counts_in : (set : List Bool) → count (true ∷ set) ≡ 1 + count set

@@ -89,9 +89,6 @@ none_left set long = ap count (drop_of_length-le set {i = 256} (omega (arith, lo
 -- ---- properties of a bitmap
 
 module _ (words : List ℕ) (own : set_words (set_of_bits words) ≡ words) where
-  pub four_words : length words ≡ 4
-  four_words = sym (ap length own) ∙ length-set_words (set_of_bits words)
-
   own_word : (k : ℕ) → k < 4 → word_of (set_of_bits words) k ≡ get_or words k 0
   own_word k h = sym (get_or-set_words (set_of_bits words) k h) ∙ ap (λ (ws : List ℕ). get_or ws k 0) own
 

@@ -1,5 +1,5 @@
 -- The canonical ranges of a predicate, and the ranges of class items.
-use Rattle.std.proofs.Common.{cond, ◌≡◌, ℕ, zero, suc, ◌+◌, ◌-◌, ◌<◌, ◌≤◌, inl, inr, Bool, true, false, ◌&&◌, ◌||◌, not, List, [], ◌∷◌, ◌++◌, length, take, get_or, min, max, refl, sym, ap, ap₂, subst, true≢false, ◌∙◌, arith}
+use Rattle.std.proofs.Common.{cond, ◌≡◌, ℕ, zero, suc, ◌+◌, ◌<◌, ◌≤◌, inl, inr, Bool, true, false, ◌&&◌, ◌||◌, not, List, [], ◌∷◌, ◌++◌, length, take, get_or, refl, sym, ap, ap₂, subst, true≢false, ◌∙◌, arith}
 use Rattle.std.specs.Prelude.{nat_eq, nat_le, nat_lt, if◌then◌else◌, Result, Ok, Err, IfOk}
 use mathlib.Core.Bool.{xor}
 use Rattle.std.specs.Char.{scalar_index, is_ascii_alphabetic}
@@ -182,12 +182,6 @@ newline_char c = grind (arith, nat_tests)
 
 pub ranges_push : (xs : List (ℕ × ℕ)) (r : ℕ × ℕ) (c : ℕ) → is_in_ranges (xs ++ r ∷ []) c ≡ (is_in_ranges xs c || is_in r c)
 ranges_push xs r c = list_any-append (λ r. nat_le r.0 c && nat_le c r.1) xs (r ∷ []) ∙ ap (λ b. is_in_ranges xs c || b) (or-false (is_in r c))
-
-pub letters_in : (a b from to c : ℕ) → max a from ≤ min b (from + 25) → is_in (max a from - from + to, min b (from + 25) - from + to) c ≡ is_other_case (a, b) from to c
-letters_in a b from to c some = grind (arith, nat_tests)
-
-pub no_letters : (a b from to c : ℕ) → min b (from + 25) < max a from → is_other_case (a, b) from to c ≡ false
-no_letters a b from to c none = grind (arith, nat_tests)
 
 one_folded : (r : ℕ × ℕ) (c : ℕ) → is_in_folded true (r ∷ []) c ≡ ((is_in r c || is_other_case r 97 65 c) || is_other_case r 65 97 c)
 one_folded r c = grind (arith, nat_tests)

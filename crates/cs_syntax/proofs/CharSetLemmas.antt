@@ -27,9 +27,6 @@ scalar_cases c = grind (arith, nat_tests)
 abbrev pub is_in : ℕ × ℕ → ℕ → Bool
 is_in r c = nat_le r.0 c && nat_le c r.1
 
-pub is_in_cases : (low high c : ℕ) → ((is_in (low, high) c ≡ true) × (low ≤ c) × (c ≤ high)) ⊎ ((is_in (low, high) c ≡ false) × ((c < low) ⊎ (high < c)))
-is_in_cases low high c = grind (arith, nat_tests)
-
 pub has_char-cons : (r : ℕ × ℕ) (rs : List (ℕ × ℕ)) (c : ℕ) → has_char (r ∷ rs) c ≡ ((is_scalar c && is_in r c) || has_char rs c)
 has_char-cons r rs c = and-or_distrib_left (is_scalar c) (is_in r c) (is_in_ranges rs c)
 

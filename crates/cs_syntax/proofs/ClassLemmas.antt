@@ -97,10 +97,6 @@ pub class_parsed : (fold negated : Bool) (rest : List ℕ) (is : List ClassItem)
 class_parsed fold negated rest is len set f e s =
     class_is fold negated rest f ∙ ap (class_of fold negated) e ∙ ap (λ t. item (atom t) len) (class_canonical fold negated is set s)
 
-pub class_failed : (fold negated : Bool) (rest : List ℕ) (k : PatternFault) (distance : ℕ) → starts_with_byte 94 rest ≡ negated →
-    items_from 0 (opening negated) true (inside negated rest) ≡ fault k distance → class fold rest ≡ fault k distance
-class_failed fold negated rest k distance f e = class_is fold negated rest f ∙ ap (class_of fold negated) e
-
 -- ---- decoding of non-ASCII characters
 
 first_char : (c : ℕ) (bs : List ℕ) → slice_index (chars_after 0 c bs) 0 ≡ c

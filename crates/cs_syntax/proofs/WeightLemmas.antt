@@ -17,6 +17,3 @@ weight_pos not_word_edge = omega arith
 
 pub heavy : (k w : ℕ) → max_weight ≤ k → 1 ≤ w → max_weight < 1 + k * w
 heavy k w many some = grind arith
-
-pub heavy_inside : (k w : ℕ) → 1 ≤ k → max_weight < w → max_weight < 1 + k * w
-heavy_inside k w some many = grind arith

@@ -1,5 +1,5 @@
 // Sets of characters, as canonical lists of ranges (as in Rust's `regex-syntax`).
-ghost use Rattle.std.specs.Prelude.{◌≡◌, ◌+◌, ◌<◌, ◌≤◌, ◌&&◌, ◌||◌, ℕ, Bool, not, List, All, IfOk};
+ghost use Rattle.std.specs.Prelude.{◌≡◌, ◌+◌, ◌<◌, ◌≤◌, ◌&&◌, ℕ, Bool, not, List, All, IfOk};
 ghost use Rattle.std.specs.Bool.{xor};
 ghost use Rattle.std.specs.Char.{scalar_index};
 ghost use Rattle.std.specs.List.Sorted.{IsNonDecreasingBy};
@@ -92,16 +92,6 @@ impl CharSet {
     {
         let ranges = complement_ranges(alloc, &self.ranges)?;
         Ok(CharSet { ranges })
-    }
-
-    /// The members of either set.
-    pub fn union(&self, alloc: Global, other: &CharSet) -> Result<CharSet, AllocError>
-        ensures { IfOk result
-            (λ set. (c : ℕ) → has_char set c ≡ (has_char self.now c || has_char other.now c)) }
-    {
-        let mut both = Vec::from_slice(alloc, &self.ranges)?;
-        both.extend_from_slice(&other.ranges)?;
-        CharSet::from_ranges(alloc, &both)
     }
 
     /// The characters of the ranges, or with `negated` all others.

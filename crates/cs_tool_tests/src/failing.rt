@@ -7,7 +7,6 @@ use cs_cindex::cindex;
 use cs_match::Program;
 use cs_search::{GrepFault, ReadFault};
 use cs_tree::{IoFault, Item, MemSink, MemTree, PutFault, Source};
-use cs_trigram::{BoundedScanner, Limits, Reason, Scan, ScanFault};
 use std::alloc::Global;
 use std::test::Fail;
 
@@ -74,26 +73,6 @@ impl Source for Endless {
     fn failures(&self) -> u64 {
         0
     }
-}
-
-/// Whether endless lines are skipped for their length.
-fn are_left(alloc: Global) -> Result<bool, ScanFault> {
-    let limits = Limits {
-        bytes: 10,
-        line: 5,
-        trigrams: 3,
-    };
-    let mut scanner = BoundedScanner::new(alloc, limits)?;
-    let mut lines = Endless {
-        next: b'\n',
-        then: b'\n',
-    };
-    Ok(scanner.scan(&mut lines)? == Scan::Skip(Reason::TooLong))
-}
-
-#[test]
-fn a_scan_without_an_end(rt: HostRuntime) {
-    assert!(rt; are_left(rt.alloc()) == Ok(true));
 }
 
 /// Whether a search of the first ten bytes of endless lines prints this and reports that the input

@@ -177,7 +177,7 @@ const CALLS: &[(Tool, u64)] = &[(Tool::Cindex, 14), (Tool::Csearch, 8), (Tool::C
 fn each_call_fails(rt: HostRuntime) -> Result<(), Fail> {
     for (tool, count) in CALLS {
         let came = calls(rt.alloc(), *tool)?;
-        assert!(rt; came == Ok(*count), "{tool:?}: {came:?}");
+        assert!(rt; came == Ok(*count), "{count} calls: {came:?}");
     }
     Ok(())
 }

@@ -12,7 +12,7 @@ mod sources;
 mod tools;
 
 /// The outcome of a call.
-#[derive(Clone, Copy, Debug, PartialEq, Eq, Drop)]
+#[derive(Clone, Copy, Drop)]
 enum Outcome {
     Usual,
     OutOfMemory,
@@ -49,7 +49,7 @@ fn at_most_one_fails(rt: &impl Abort, calls: &[Outcome]) -> Result<(), Fail> {
             Outcome::Wrong => wrong = wrong.saturating_add(1),
         }
     }
-    assert!(rt; wrong == 0 && failed < 2, "{calls:?}");
+    assert!(rt; wrong == 0 && failed < 2, "{wrong} wrong, {failed} failed");
     if failed > 0 {
         return Err(Fail::new("Memory"));
     }

@@ -14,7 +14,7 @@ use std::test::Fail;
 
 /// The call: the arguments of a search by `cgrep` or by `csearch`, or those of a job over
 /// `ONE_FILE`.
-#[derive(Clone, Copy, Debug, Drop)]
+#[derive(Clone, Copy, Drop)]
 enum Call<'a> {
     Grep(&'a str),
     Search(&'a str),
@@ -124,12 +124,12 @@ fn fills(
 
 #[test]
 fn each_room_is_filled(rt: HostRuntime) -> Result<(), Fail> {
-    for (call, are_faults, whole) in ROWS {
-        let whole = whole.as_bytes();
+    for (call, are_faults, printed) in ROWS {
+        let whole = printed.as_bytes();
         for room in 0..=whole.len() {
             assert!(rt;
                 fills(rt.alloc(), *call, *are_faults, whole, room)?,
-                "{call:?} with room for {room} bytes"
+                "{printed} with room for {room} bytes"
             );
         }
     }

@@ -1,5 +1,5 @@
 -- The model of a sink with a buffer: moving the bytes of the buffer to the inner sink, and adding to them.
-use Rattle.std.proofs.Common.{◌≡◌, ℕ, ◌+◌, ◌-◌, ◌≤◌, List, [], ◌++◌, sym, ap, ◌∙◌, take, drop, length, Option, Some, None, option_map, arith, refl, append_assoc, append-nil}
+use Rattle.std.proofs.Common.{◌≡◌, ℕ, ◌+◌, ◌-◌, ◌≤◌, List, [], ◌++◌, sym, ap, ◌∙◌, take, drop, length, Option, Some, None, option_map, arith, append_assoc, append-nil}
 use Rattle.std.proofs.Math.Seq.{take-append_seam, take-append-add}
 use Rattle.std.proofs.lemmas.List.{take-append-drop, drop-take, drop-drop, length-take-le, drop-append-le, take-take}
 use Rattle.cs_tree.specs.Sinks.{SinkModel, with_bytes, Grows}
@@ -7,10 +7,6 @@ use Rattle.cs_tree.specs.Sinks.{SinkModel, with_bytes, Grows}
 -- what an inner sink has, and then these bytes
 abbrev pub with_held : Option SinkModel → List ℕ → Option SinkModel
 with_held inner held = option_map (λ sink. with_bytes sink held) inner
-
-pub with_none_held : (a : Option SinkModel) → with_held a [] ≡ a
-with_none_held None = refl
-with_none_held (Some a) = ap (λ bytes. Some (record a { bytes = bytes })) (append-nil a.bytes)
 
 -- the inner sink gets the first of the bytes
 pub moves_held : (a b : Option SinkModel) (piece rest held : List ℕ) → held ≡ piece ++ rest → Grows a b piece → Grows (with_held a held) (with_held b rest) []

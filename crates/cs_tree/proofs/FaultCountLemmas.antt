@@ -4,18 +4,16 @@ use Rattle.std.proofs.Common.{◌≡◌, ℕ, zero, suc, ◌+◌, ◌<◌, ◌�
 use Rattle.std.proofs.lemmas.Bool.{true≢false, cases_Bool, both_ways, false_from_ne_true, true_from_ne_false, and_parts, and_from, or_cases, or_left, or_right, not-true, not_from_false}
 use Rattle.std.proofs.lemmas.List.Elements.{filter-append}
 use Rattle.std.proofs.lemmas.List.Sorted.{sum_by-IsPermutation, IsPermutation-map}
-use Rattle.std.proofs.lemmas.List.Sums.{count_by-le-length, length-filter}
+use Rattle.std.proofs.lemmas.List.Sums.{length-filter}
 use Rattle.std.specs.Prelude.{IsPermutation, bytes_eq, filter}
 use Rattle.std.specs.Path.{slash}
 use Rattle.std.specs.Cmp.Lexicographic.{bytes_decides}
 use Rattle.std.specs.List.{list_any, list_all, dedup, dedup_from}
 use Rattle.cs_tree.specs.Covering.{Covers, itself, below, root}
-use Rattle.cs_tree.specs.Cover.{covers, is_alone, is_among, least}
+use Rattle.cs_tree.specs.Cover.{covers, is_alone, is_among}
 use Rattle.cs_tree.specs.Failures.{count_if, next_count}
 use Rattle.cs_tree.specs.Folders.{child, is_element, are_distinct, are_elements}
 use Rattle.cs_tree.specs.NamesAscending.{are_ascending}
-use Rattle.cs_tree.specs.PathSet.{Paths}
-use Rattle.cs_tree.specs.PathSet as set
 use Rattle.cs_tree.specs.Walks.{FaultEntry, are_alone, failures_walked, faults_walked, is_failed_call}
 use Rattle.cs_tree.specs.WalkSteps.{AreFaultsDistinct, AddsFewFaults, children, fault_seen, is_walked, fault_if, names_seen, times_covered, fault_count}
 use Rattle.cs_tree.specs.declared.walking.Walked.{Walked}
@@ -24,10 +22,8 @@ use Rattle.cs_tree.specs.declared.walking.PathStatus.{PathStatus}
 use Rattle.cs_tree.proofs.DescentLemmas.{child_longer, under_child}
 use Rattle.cs_tree.proofs.CoverLemmas.{covers_says, covers_from, covers_trans, covers_longer}
 use Rattle.cs_tree.proofs.SortLemmas.{once_seen, same_key}
-use Rattle.cs_tree.proofs.LeastLemmas.{covered-least, least_is_unique}
 use Rattle.cs_tree.proofs.ListingLemmas.{ascending_distinct}
 use Rattle.cs_tree.proofs.NameLemmas.{folder_covers_child}
-use Rattle.cs_tree.proofs.ReduceLemmas.{filter-least, items_ascend}
 
 -- ---- the number of items that satisfy a test
 
@@ -40,14 +36,6 @@ module _ {X : Type 0} (test : X → Bool) where
 
   count-append : (xs ys : List X) → length (filter test (xs ++ ys)) ≡ length (filter test xs) + length (filter test ys)
   count-append xs ys = ap length (filter-append test xs ys) ∙ length-append (filter test xs) (filter test ys)
-
-  all_stay : (xs : List X) → length (filter test xs) ≡ length xs → list_all test xs ≡ true
-  all_stay [] e = refl
-  all_stay (x ∷ xs) e =
-      elim (cases_Bool (test x)) [
-        | inl here ↦ and_from (test x) _ here (all_stay xs (omega (arith, count-cons x xs, ap one_if here, e)))
-        | inr apart ↦ absurd (omega (arith, count-cons x xs, ap one_if apart, e, length-filter test xs, count_by-le-length test xs))
-      ]
 
   count_moved : (xs ys : List X) → IsPermutation xs ys → length (filter test ys) ≡ length (filter test xs)
   count_moved xs ys moved = length-filter test ys ∙ sum_by-IsPermutation (λ x. cond (test x) 1 0) xs ys moved ∙ sym (length-filter test xs)
@@ -161,14 +149,6 @@ alone_once paths q h =
 -- ascending paths are distinct, so it is enough that no other path covers any of them
 pub ascending_alone : (paths : List (List ℕ)) → are_ascending paths ≡ true → list_all (is_alone paths) paths ≡ true → are_alone paths ≡ true
 ascending_alone paths up alone = and_from (list_all (is_alone paths) paths) _ alone (ascending_distinct paths up)
-
--- no least path covers another one
-pub least_alone : (paths : Paths) → are_alone (set.items (least paths)) ≡ true
-least_alone paths =
-    let low = least paths in
-    let items = set.items low in
-    ascending_alone items (items_ascend low)
-    (all_stay (is_alone items) items (ap length (filter-least low items refl ∙ ap set.items (least_is_unique low paths (covered-least paths)))))
 
 -- ---- the children of a folder
 

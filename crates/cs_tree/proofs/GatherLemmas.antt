@@ -13,13 +13,13 @@ use Rattle.cs_tree.specs.Clean.{longest_path}
 use Rattle.cs_tree.specs.Snapshot.{Snapshot, item_at}
 use Rattle.cs_tree.specs.Reachability.{is_excluded, reaches, descends, elements_under}
 use Rattle.cs_tree.specs.Walks.{FaultEntry, path_fault, is_short_file, is_among, fault_paths, names_walked, faults_walked, failures_walked, is_failed_call, AreWithinPathLimit}
-use Rattle.cs_tree.specs.WalkSteps.{descends_to, has_fault, Gains, AreFaultsIn, Gathers, GathersIn, KeepsCount, is_file_seen, fault_seen, names_seen, IsStatusOf, IsStatusIn, IsEntered, CountsStatus, children, is_walked, named_if, fault_if}
+use Rattle.cs_tree.specs.WalkSteps.{descends_to, has_fault, Gains, AreFaultsIn, Gathers, GathersIn, KeepsCount, is_file_seen, fault_seen, names_seen, IsStatusOf, IsEntered, CountsStatus, children, is_walked, named_if, fault_if}
 use Rattle.cs_tree.specs.declared.walking.Walked.{Walked}
 use Rattle.cs_tree.specs.declared.walking.WalkFault.{WalkFault}
 use Rattle.cs_tree.specs.declared.walking.WalkFault.TheVariants as fault
 use Rattle.cs_tree.specs.declared.walking.PathStatus.{PathStatus}
 use Rattle.cs_tree.specs.declared.walking.PathStatus.TheVariants as status
-use Rattle.cs_tree.proofs.DescentLemmas.{descends_by, descends_unfolds, child_longer}
+use Rattle.cs_tree.proofs.DescentLemmas.{child_longer}
 
 -- ---- names
 
@@ -145,17 +145,6 @@ same_in (Some tree) a b old new is h = λ good. gathers_same tree (is tree) (h g
 pub none_in : (model : Option Snapshot) (walked : Walked) → GathersIn model none walked walked
 none_in None walked = tt
 none_in (Some tree) walked = λ good. gathers_none tree walked
-
--- a path and its children
-pub path_in : (model later : Option Snapshot) (path : List ℕ) (seen : PathStatus) (deeper : List (List ℕ)) (old mid new : Walked) → later ≡ model → IsStatusIn model path seen → names_walked mid ≡ names_walked old ++ named_if (is_file_seen seen) path → faults_walked mid ≡ faults_walked old ++ fault_if (fault_seen seen) path → deeper ≡ children path (names_seen seen) → GathersIn later (λ tree. descends_by tree deeper) mid new → GathersIn model (λ tree. descends_to tree path) old new
-path_in model later path seen deeper old mid new e shows names faults onwards h = by_model model shows (subst (λ o. GathersIn o (λ tree. descends_by tree deeper) mid new) e h)
-  where
-    by_model : (o : Option Snapshot) → IsStatusIn o path seen → GathersIn o (λ tree. descends_by tree deeper) mid new → GathersIn o (λ tree. descends_to tree path) old new
-    by_model None shows later = tt
-    by_model (Some tree) shows later = λ good.
-        gathers_same tree
-        (λ q. ap (λ paths. bytes_eq path q || descends_by tree paths q) (onwards ∙ ap (children path) shows.names) ∙ sym (descends_unfolds tree path q good))
-        (gathers_trans tree (gathers_one tree path seen old mid shows names faults) (later good))
 
 -- one more path
 module _ (reach : Snapshot → List ℕ → List ℕ → Bool) where

@@ -1,6 +1,6 @@
 -- Sorted names are distinct, so that a folder may list them.
 use Rattle.std.specs.Prelude.{bytes_eq}
-use Rattle.std.proofs.Common.{◌≡◌, ℕ, Bool, true, false, not, ◌||◌, List, [], ◌∷◌, ◌++◌, refl, sym, ap, subst, ◌∙◌, inl, inr}
+use Rattle.std.proofs.Common.{◌≡◌, ℕ, Bool, true, false, not, ◌||◌, List, [], ◌∷◌, refl, sym, ap, subst, ◌∙◌, inl, inr}
 use Rattle.cs_tree.specs.NameOrder.{bytes_cmp}
 use Rattle.cs_tree.specs.NamesAscending.{are_ascending}
 use Rattle.std.proofs.lemmas.Bool.{true≢false, false_from_ne_true, and_parts, and_from, or_cases, or_left, or_right}
@@ -8,7 +8,6 @@ use Rattle.std.specs.Cmp.Lexicographic.{bytes_decides, nat_list_cmp_total}
 use Rattle.std.specs.List.{list_all}
 use Rattle.std.specs.Ordering.{is_lt}
 use Rattle.std.specs.Cmp.{tied_itself}
-use Rattle.std.proofs.lemmas.List.Folds.{list_all-append}
 use Rattle.cs_tree.specs.Cover.{is_among}
 use Rattle.cs_tree.specs.Folders.{is_element, are_distinct, are_elements}
 use Rattle.cs_tree.proofs.NameOrderLemmas.{before_trans}
@@ -53,7 +52,3 @@ names_in_order old new good up alike =
     and_from (list_all is_element new) _
     (satisfies_all is_element new (λ name there. satisfies_one is_element old name good (sym (alike name) ∙ there)))
     (ascending_distinct new up)
-
--- one more name
-pub name_pushed : (names : List (List ℕ)) (name : List ℕ) → list_all is_element names ≡ true → is_element name ≡ true → list_all is_element (names ++ name ∷ []) ≡ true
-name_pushed names name good one = list_all-append is_element names (name ∷ []) ∙ and_from (list_all is_element names) _ good (and_from (is_element name) true one refl)

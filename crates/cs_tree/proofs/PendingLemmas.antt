@@ -2,6 +2,7 @@
 use Rattle.std.specs.Prelude.{bytes_eq}
 use Rattle.std.proofs.Common.{◌≡◌, ℕ, ◌+◌, ◌-◌, ◌*◌, ◌^◌, ◌<◌, ◌≤◌, Bool, true, false, ◌||◌, List, [], ◌∷◌, ◌++◌, length, refl, sym, ap, subst, ◌∙◌, arith, Option, Some, None, pow_pos, pow_mono, pow-add}
 use Rattle.std.proofs.Math.Nat.{mul-lt-mul_of_pos_right}
+use Rattle.std.proofs.Math.Bool.{or-false}
 use Rattle.std.proofs.lemmas.List.Folds.{list_any-append}
 use Rattle.std.specs.List.{AllByRecursion}
 use Rattle.cs_tree.specs.Cover.{covers}
@@ -13,7 +14,7 @@ use Rattle.cs_tree.specs.declared.walking.Walked.{Walked}
 use Rattle.cs_tree.specs.declared.walking.PathStatus.{PathStatus}
 use Rattle.cs_tree.proofs.DescentLemmas.{descends_by, descends_unfolds}
 use Rattle.cs_tree.proofs.CoverLemmas.{covers_trans}
-use Rattle.cs_tree.proofs.GatherLemmas.{AreDeeper, gathers_trans, gathers_none, gathers_one, gathers_same}
+use Rattle.cs_tree.proofs.GatherLemmas.{AreDeeper, gathers_same, gathers_trans, gathers_none, gathers_one}
 use Rattle.cs_tree.proofs.UnderLemmas.{AreBelow, below_children, keeps_deeper, keeps_path}
 
 -- ---- names and faults
@@ -71,11 +72,7 @@ goes_on_in model later start path status rest pending old mid new e shows names 
 
 pub ends_in : (model : Option Snapshot) (start : List ℕ) (old new : Walked) → UnderwayIn model start [] old new → GathersIn model (λ tree. descends_to tree start) old new
 ends_in None start old new h = tt
-ends_in (Some tree) start old new h = λ good. let all = h good in gathers_same tree (λ q. sym (all.rest q ∙ right_false (all.seen q))) all.gathered
-  where
-    right_false : (b : Bool) → (b || false) ≡ b
-    right_false true = refl
-    right_false false = refl
+ends_in (Some tree) start old new h = λ good. let all = h good in gathers_same tree (λ q. sym (all.rest q ∙ or-false (all.seen q))) all.gathered
 
 -- ---- below the start
 

@@ -16,9 +16,6 @@ pub reads_nothing : (limit : ℕ) (a : Option ReadCounts) → ReadsWithin limit 
 reads_nothing limit None = tt
 reads_nothing limit (Some a) = omega arith
 
-pub reads_kept : (limit : ℕ) (a b : Option ReadCounts) → b ≡ a → ReadsWithin limit a b
-reads_kept limit a b same = subst (ReadsWithin limit a) (sym same) (reads_nothing limit a)
-
 pub reads_on : (limit : ℕ) (a b c : Option ReadCounts) → ReadsWithin limit a b → ReadsWithin limit b c → ReadsWithin limit a c
 reads_on limit None b c first next = tt
 reads_on limit (Some a) None c first next = absurd first
@@ -26,10 +23,6 @@ reads_on limit (Some a) (Some b) None first next = absurd next
 reads_on limit (Some a) (Some b) (Some c) first next = omega (arith, first, next)
 
 -- ---- a call of `open`, which may return an error
-
-pub reads_opened : (limit : ℕ) (a b : Option ReadCounts) → b ≡ option_map after_open a → ReadsWithin limit a b
-reads_opened limit None b opens = tt
-reads_opened limit (Some a) b opens = subst (ReadsWithin limit (Some a)) (sym opens) (omega arith)
 
 -- ---- and then reads, with an upper bound
 

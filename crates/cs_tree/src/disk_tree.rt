@@ -24,19 +24,12 @@ use std::{fs, io};
 #[derive(Drop)]
 pub struct DiskTree<R: Files + Drop> {
     rt: R,
-    opens: Opens,
+    /// Whether `open` accepts only regular files. Otherwise it accepts anything except folders, and
+    /// to open or read a pipe or a terminal may block.
+    only_files: bool,
     output: Option<FileId>,
     opened: Option<R::File>,
     failed: u64,
-}
-
-/// What `open` accepts.
-#[derive(Clone, Copy, PartialEq, Eq)]
-enum Opens {
-    /// Anything except folders. To open or read a pipe or a terminal may block.
-    Anything,
-    /// Only regular files.
-    Files,
 }
 
 /// The identity of a file, its device and inode: names with the same identity are links to one
@@ -65,7 +58,7 @@ impl<R: Files + AllocGlobal + Clone + Drop> DiskTree<R> {
     pub fn new(rt: R) -> DiskTree<R>
         ensures { ⟦<DiskTree<R> as Tree>⟧.failed result ≡ 0 }
     {
-        DiskTree::of_kind(rt, Opens::Anything)
+        DiskTree::of_kind(rt, false)
     }
 
     /// The disk. `open` accepts regular files and links to them. Everything else is `Failed`, and a
@@ -73,15 +66,15 @@ impl<R: Files + AllocGlobal + Clone + Drop> DiskTree<R> {
     pub fn of_files(rt: R) -> DiskTree<R>
         ensures { ⟦<DiskTree<R> as Tree>⟧.failed result ≡ 0 }
     {
-        DiskTree::of_kind(rt, Opens::Files)
+        DiskTree::of_kind(rt, true)
     }
 
-    fn of_kind(rt: R, opens: Opens) -> DiskTree<R>
+    fn of_kind(rt: R, only_files: bool) -> DiskTree<R>
         ensures { ⟦<DiskTree<R> as Tree>⟧.failed result ≡ 0 }
     {
         DiskTree {
             rt,
-            opens,
+            only_files,
             output: None,
             opened: None,
             failed: 0,
@@ -128,7 +121,7 @@ impl<R: Files + AllocGlobal + Clone + Drop> Tree for DiskTree<R> {
     /// Follows symbolic links.
     fn open(&mut self, path: &str) -> Result<(), TreeFault> {
         self.opened = None;
-        match open_file(&self.rt, self.opens, self.output, path) {
+        match open_file(&self.rt, self.only_files, self.output, path) {
             Ok(file) => {
                 self.opened = Some(file);
                 Ok(())
@@ -249,26 +242,26 @@ fn list_entry<R: Files + AllocGlobal + Clone + Drop>(
     Ok(())
 }
 
-/// Opens a path, unless it is the output or a folder. With `Opens::Files` it opens only regular
+/// Opens a path, unless it is the output or a folder. With `only_files` it opens only regular
 /// files, and looks the path up before it opens it, so that a pipe does not block. If the file
 /// becomes a folder in between, the open succeeds and the reads fail. A file of length 0 reads as
 /// empty: in /proc such a file may have content, and its read may wait for ever.
 fn open_file<R: Files + Drop>(
     rt: &R,
-    opens: Opens,
+    only_files: bool,
     output: Option<FileId>,
     path: &str,
 ) -> Result<R::File, TreeFault> {
     let mut is_empty = false;
-    if opens == Opens::Files {
-        is_empty = opened_len(fs::metadata(rt, path), opens, output)? == 0;
+    if only_files {
+        is_empty = opened_len(fs::metadata(rt, path), true, output)? == 0;
     }
     let file = match fs::open(rt, path) {
         Ok(file) => file,
         Err(error) => return Err(fault_of(&error)),
     };
-    if opens == Opens::Anything {
-        opened_len(file.metadata(), opens, output)?;
+    if !only_files {
+        opened_len(file.metadata(), false, output)?;
     }
     if is_empty && let Ok(empty) = fs::open(rt, EMPTY) {
         return Ok(empty);
@@ -279,13 +272,13 @@ fn open_file<R: Files + Drop>(
 /// The length of a file that may be opened, and an error for any other.
 fn opened_len(
     metadata: io::Result<Metadata>,
-    opens: Opens,
+    only_files: bool,
     output: Option<FileId>,
 ) -> Result<u64, TreeFault> {
     match metadata {
         Ok(metadata) if output == Some(id_of(&metadata)) => Err(TreeFault::Output),
         Ok(metadata) if metadata.is_file() => Ok(metadata.len()),
-        Ok(metadata) if opens == Opens::Anything && !metadata.is_dir() => Ok(metadata.len()),
+        Ok(metadata) if !only_files && !metadata.is_dir() => Ok(metadata.len()),
         Ok(_) => Err(TreeFault::Failed),
         Err(error) => Err(fault_of(&error)),
     }

@@ -1,8 +1,7 @@
 -- End strings of concatenations and of trees.
-use Rattle.std.proofs.Common.{◌≡◌, ℕ, zero, suc, ◌+◌, ◌-◌, ◌<◌, ◌≤◌, ◌⊎◌, inl, inr, not, true, false, List, [], ◌∷◌, ◌++◌, take, drop, length, get_or, refl, sym, ◌∙◌, ap, subst, arith, append_assoc, drop-cons, drop_of_length-le, length-drop, length-take}
+use Rattle.std.proofs.Common.{◌≡◌, ℕ, zero, suc, ◌+◌, ◌-◌, ◌<◌, ◌≤◌, ◌⊎◌, inl, inr, true, false, List, [], ◌∷◌, ◌++◌, take, drop, length, get_or, refl, sym, ◌∙◌, ap, subst, arith, append_assoc, drop-cons, drop_of_length-le, length-drop, length-take}
 use Rattle.std.specs.Prelude.{None, slice_range}
-use Rattle.std.specs.List.{list_all}
-use Rattle.std.proofs.lemmas.Bool.{and_parts, not-true, false≢true}
+use Rattle.std.proofs.lemmas.Bool.{false≢true}
 use Rattle.std.proofs.lemmas.List.{append-nil, take-append-drop}
 use Rattle.cs_syntax.specs.Matching.{Tree, Trees, empty, one_of, one_char, cat, alt, rep, line_start, line_end, word_edge, not_word_edge, none, more, Chain, MatchesSpan, MatchesSequence, MatchesBranch}
 use Rattle.cs_trigram.specs.EndStrings.{concatenation, near_part, HasEndString, HasSomeEndString, IsEndStringOfText}
@@ -22,24 +21,6 @@ concatenation-none Suffix a = refl
 pub none_concatenation : (side : Side) (a : List ℕ) → concatenation side [] a ≡ a
 none_concatenation Prefix a = refl
 none_concatenation Suffix a = append-nil a
-
-pub fits_open : (side : Side) (near end_string : EndString) → end_string.string ≡ near.string → end_string.whole ≡ false →
-    (u v : List ℕ) → HasEndString side near u → HasEndString side end_string (concatenation side u v)
-fits_open side near end_string string loose u v a = (
-  concatenation side a.0 v,
-  ap (λ (x : List ℕ). concatenation side x v) a.1 ∙ concatenation-assoc side near.string a.0 v ∙ ap (λ (x : List ℕ). concatenation side x (concatenation side a.0 v)) (sym string),
-  λ e. let odd : false ≡ true = sym loose ∙ e in (cc),
-)
-
--- the near end strings suffice if none is whole
-pub fits_all_open : (side : Side) (end_strings : List EndString) (u v : List ℕ) → list_all (λ (end_string : EndString). not end_string.whole) end_strings ≡ true →
-    HasSomeEndString side end_strings u → HasSomeEndString side end_strings (concatenation side u v)
-fits_all_open side [] u v loose h = h
-fits_all_open side (e ∷ end_strings) u v loose h =
-    elim h [
-      | inl a ↦ inl (fits_open side e e refl (not-true e.whole (and_parts (not e.whole) (list_all (λ (x : EndString). not x.whole) end_strings) loose).0) u v a)
-      | inr b ↦ inr (fits_all_open side end_strings u v (and_parts (not e.whole) (list_all (λ (x : EndString). not x.whole) end_strings) loose).1 b)
-    ]
 
 -- one more end string
 pub fits_push : (side : Side) (end_strings : List EndString) (end_string : EndString) (text : List ℕ) → HasEndString side end_string text ⊎ HasSomeEndString side end_strings text → HasSomeEndString side (end_strings ++ end_string ∷ []) text

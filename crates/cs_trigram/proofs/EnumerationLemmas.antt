@@ -1,13 +1,14 @@
 -- Enumerations: strings added one by one, and cross products.
-use Rattle.std.proofs.Common.{◌≡◌, ℕ, zero, suc, ◌+◌, ◌<◌, ◌≤◌, ◌⊎◌, ◌&&◌, inl, inr, not, Bool, true, false, List, [], ◌∷◌, ◌++◌, drop, length, map, get_or, refl, sym, ◌∙◌, ap, subst, arith, drop-cons}
+use Rattle.std.proofs.Common.{◌≡◌, ℕ, zero, suc, ◌+◌, ◌<◌, ◌≤◌, ◌⊎◌, ◌&&◌, inl, inr, not, Bool, true, false, List, [], ◌∷◌, ◌++◌, drop, length, map, get_or, refl, sym, ◌∙◌, ap, subst, arith, drop-cons, append_assoc, length-append}
 use Rattle.std.specs.Prelude.{nat_le, if◌then◌else◌}
 use Rattle.std.proofs.lemmas.Bool.{leb-true, le-leb, both_ways, cases_lt}
-use Rattle.std.proofs.lemmas.List.{append_cancel_left, append_cancel_right, length-map}
+use Rattle.std.proofs.lemmas.List.{append-nil, append_cancel_left, append_cancel_right, length-map}
 use Rattle.cs_syntax.specs.Matching.{one_of, member}
 use Rattle.cs_tree.specs.Cover.{is_among}
+use Rattle.cs_tree.specs.Folders.{are_distinct}
 use Rattle.cs_trigram.specs.ExactStrings.{HasExactString}
 use Rattle.cs_trigram.specs.Analysis.{with_string, with_strings, concatenations, IsEnumeration}
-use Rattle.cs_trigram.proofs.MemberLemmas.{different_push, member_append, member_left, member_right, member_map, map_member, different_within, different_map, no_member, first_member, later_member, member_cases, only_member}
+use Rattle.cs_trigram.proofs.MemberLemmas.{different_push, member_append, member_left, member_right, member_map, map_member, different_within, different_map, no_member, first_member, later_member, member_cases, only_member, distinct_head, distinct_tail}
 
 -- the one-byte strings of the members of a set below n
 abbrev pub IsByteBelow : List Bool → ℕ → List ℕ → Type 0
@@ -28,6 +29,38 @@ with_strings_full strings (v ∷ vs) lt = ap (λ (ws : List (List ℕ)). with_st
 
     same : with_string strings v ≡ strings
     same = full (nat_le (length strings) 20) (is_among strings v) refl
+
+-- distinct strings, at most twenty in all, are added one after another
+pub with_strings_distinct : (us vs : List (List ℕ)) → length us + length vs ≤ 20 → are_distinct (us ++ vs) ≡ true → with_strings us vs ≡ us ++ vs
+with_strings_distinct us [] le d = sym (append-nil us)
+with_strings_distinct us (v ∷ vs) le d =
+    ap (λ (ws : List (List ℕ)). with_strings ws vs) (added (nat_le (length us) 20) (is_among us v) refl refl)
+    ∙ with_strings_distinct (us ++ v ∷ []) vs (omega (arith, le, length-append us (v ∷ []))) (ap are_distinct (append_assoc us (v ∷ []) vs) ∙ d)
+    ∙ append_assoc us (v ∷ []) vs
+  where
+    new : (us : List (List ℕ)) → are_distinct (us ++ v ∷ vs) ≡ true → is_among us v ≡ true → ⊥
+    new [] d m = no_member v m
+    new (u ∷ us) d m =
+        elim (member_cases v u us m) [
+          | inl e ↦ distinct_head u (us ++ v ∷ vs) d (member_right u us (v ∷ vs) (first_member u v vs (sym e)))
+          | inr n ↦ new us (distinct_tail u (us ++ v ∷ vs) d) n
+        ]
+
+    added : (room there : Bool) → nat_le (length us) 20 ≡ room → is_among us v ≡ there → (if room && not there then us ++ v ∷ [] else us) ≡ us ++ v ∷ []
+    added true true r t = absurd (new us d t)
+    added true false r t = refl
+    added false there r t = absurd (both_ways (nat_le (length us) 20) r (le-leb (length us) 20 (omega (arith, le))))
+
+-- a single prefix
+pub single_prefix : (us vs : List (List ℕ)) (u : List ℕ) → length us ≡ 1 → u ≡ get_or us 0 u → are_distinct vs ≡ true → length vs ≤ 20 →
+    map (λ v. u ++ v) vs ≡ with_strings [] (concatenations us vs)
+single_prefix [] vs u e is d le = absurd (omega (arith, e))
+single_prefix (x ∷ []) vs u e is d le =
+    let all = map (λ v. x ++ v) vs in
+    let distinct = different_map (λ v. x ++ v) (λ a b h. append_cancel_left x a b h) vs d in
+    ap (λ w. map (λ v. w ++ v) vs) is
+    ∙ sym (ap (with_strings []) (append-nil all) ∙ with_strings_distinct [] all (omega (arith, le, length-map vs (λ (v : List ℕ). x ++ v))) distinct)
+single_prefix (x ∷ y ∷ us) vs u e is d le = absurd (omega (arith, e))
 
 pub strings_from : (strings : List (List ℕ)) (i : ℕ) (string : List ℕ) → i < length strings → string ≡ get_or strings i string →
     drop i strings ≡ string ∷ drop (i + 1) strings

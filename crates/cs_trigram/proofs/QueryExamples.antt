@@ -93,10 +93,10 @@ exact_runs_of_hello set = (
 
 -- ---- `(ab|cd)ef`: a query that requires nothing is not selective
 
-abbrev alternation : Trees
-alternation = more (alt (more (cat (letters (codes "ab"))) (more (cat (letters (codes "cd"))) none))) (letters (codes "ef"))
+abbrev ab_or_cd_then_ef : Trees
+ab_or_cd_then_ef = more (alt (more (cat (letters (codes "ab"))) (more (cat (letters (codes "cd"))) none))) (letters (codes "ef"))
 
-alternation_concatenates : (string : List ℕ) → ConcatenatesExactStrings alternation string → is_among (codes "abef" ∷ codes "cdef" ∷ []) string ≡ true
+alternation_concatenates : (string : List ℕ) → ConcatenatesExactStrings ab_or_cd_then_ef string → is_among (codes "abef" ∷ codes "cdef" ∷ []) string ≡ true
 alternation_concatenates string j =
     let suffix = concatenates_no_other (codes "ef") j.1 j.3 in
     elim j.2 [
@@ -107,7 +107,7 @@ alternation_concatenates string j =
       ]
     ]
 
-alternation_is_a_run : HaveFewExactStrings alternation
+alternation_is_a_run : HaveFewExactStrings ab_or_cd_then_ef
 alternation_is_a_run = (
   refl,
   (
@@ -116,9 +116,9 @@ alternation_is_a_run = (
   ),
 )
 
-requiring_nothing_is_not_selective : IsSelective All (cat alternation) → ⊥
+requiring_nothing_is_not_selective : IsSelective All (cat ab_or_cd_then_ef) → ⊥
 requiring_nothing_is_not_selective selective =
-    let has_runs = (selective (λ n. false) (matches_set-All (λ n. false))).1.0 none alternation none refl alternation_is_a_run in
+    let has_runs = (selective (λ n. false) (matches_set-All (λ n. false))).1.0 none ab_or_cd_then_ef none refl alternation_is_a_run in
     elim (member_cases has_runs.0 (codes "abef") (codes "cdef" ∷ []) (alternation_concatenates has_runs.0 has_runs.1)) [
       | inl first ↦ true≢false (sym (subst (HasTrigrams (λ n. false)) first has_runs.2))
       | inr rest ↦ true≢false (sym (subst (HasTrigrams (λ n. false)) (only_member has_runs.0 (codes "cdef") rest) has_runs.2))

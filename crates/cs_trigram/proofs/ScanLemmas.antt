@@ -26,7 +26,7 @@ use Rattle.cs_trigram.proofs.SplitTrigramLemmas.{sequence-append, Carries-same}
 
 -- The bytes read so far break no rule, the position is the one after them, their trigrams are collected, and
 -- the buffer has the last two of them.
-pub record HasScanned (most : Limits) (model later : Option SourceModel) (position : Position) (found : SeenTrigrams) (buffer : List ℕ) : Type 0 where
+pub record HasReadText (most : Limits) (model later : Option SourceModel) (position : Position) (found : SeenTrigrams) (buffer : List ℕ) : Type 0 where
   pub prefix : List ℕ
   pub unbroken : first_broken most [] prefix ≡ None
   pub lost : Consumes model later prefix
@@ -41,14 +41,14 @@ Consumes-chain (Some a) (Some b) None xs ys h k = absurd k
 Consumes-chain (Some a) (Some b) (Some c) xs ys h k = (h.0 ∙ ap (λ rest. xs ++ rest) k.0 ∙ sym (append_assoc xs ys c.bytes), h.1 ∙ k.1)
 
 -- one more block that breaks no rule; its bytes follow the last two before it
-pub HasScanned-more : (most : Limits) (model mid later : Option SourceModel) (position next : Position) (found more : SeenTrigrams) (buffer filled carried block bytes : List ℕ) →
-    HasScanned most model mid position found buffer → Consumes mid later block → take 2 filled ≡ take 2 buffer →
+pub HasReadText-more : (most : Limits) (model mid later : Option SourceModel) (position next : Position) (found more : SeenTrigrams) (buffer filled carried block bytes : List ℕ) →
+    HasReadText most model mid position found buffer → Consumes mid later block → take 2 filled ≡ take 2 buffer →
     ((prefix : List ℕ) → IsPositionAfter position prefix → Validates most prefix block (Ok next)) →
     ((prefix : List ℕ) → position.count ≡ length prefix → Carries filled prefix → bytes ≡ last_two prefix ++ block) →
     SeesMore found more (trigram_sequence bytes) →
     ((prefix : List ℕ) → Carries filled prefix → Carries carried (prefix ++ block)) →
-    HasScanned most model later next more carried
-HasScanned-more most model mid later position next found more buffer filled carried block bytes reads lost same passes is keeps carries =
+    HasReadText most model later next more carried
+HasReadText-more most model mid later position next found more buffer filled carried block bytes reads lost same passes is keeps carries =
     let prefix = reads.prefix in
     let validated : Validates most prefix block (Ok next) = passes prefix reads.is_after in
     let whole : Validates most [] (prefix ++ block) (Ok next) = Validates-append most [] prefix block (Ok next) reads.unbroken validated in
@@ -70,7 +70,7 @@ skipped_for-broken most bytes fails reason broken = sym (ap (λ r. skipped_or r 
 
 -- a block that breaks a rule
 pub IsScanOf-broken : (most : Limits) (model mid later : Option SourceModel) (position : Position) (found : SeenTrigrams) (buffer numbers block : List ℕ) (reason : Reason) →
-    HasScanned most model mid position found buffer → Consumes mid later block →
+    HasReadText most model mid position found buffer → Consumes mid later block →
     ((prefix : List ℕ) → IsPositionAfter position prefix → Validates most prefix block (Err reason)) →
     IsOutcomeOf most numbers model (Ok (answer.Skip reason))
 IsScanOf-broken most None mid later position found buffer numbers block reason reads lost breaks = tt
@@ -84,13 +84,13 @@ IsScanOf-broken most (Some model) (Some mid) (Some later) position found buffer 
 
 -- a scan that stops at a block has consumed at most one byte more than the limit
 pub ConsumesAtMost-more : (most : Limits) (model mid later : Option SourceModel) (position : Position) (found : SeenTrigrams) (buffer numbers block : List ℕ) →
-    HasScanned most model mid position found buffer → Consumes mid later block → position.count + length block ≤ most.bytes + 1 → ConsumesAtMost (most.bytes + 1) model later
+    HasReadText most model mid position found buffer → Consumes mid later block → position.count + length block ≤ most.bytes + 1 → ConsumesAtMost (most.bytes + 1) model later
 ConsumesAtMost-more most model mid later position found buffer numbers block reads lost short =
     Consumes_few model later (reads.prefix ++ block) (most.bytes + 1) (Consumes-chain model mid later reads.prefix block reads.lost lost) (omega (arith, length-append reads.prefix block, reads.is_after.count, short))
 
 -- a failed read
 pub IsScanOf-read_failed : (most : Limits) (model mid later : Option SourceModel) (position : Position) (found : SeenTrigrams) (buffer numbers : List ℕ) →
-    HasScanned most model mid position found buffer → Consumes mid later [] → IsAt fails later → IsOutcomeOf most numbers model (Err fault.Read)
+    HasReadText most model mid position found buffer → Consumes mid later [] → IsAt fails later → IsOutcomeOf most numbers model (Err fault.Read)
 IsScanOf-read_failed most None mid later position found buffer numbers reads lost end = tt
 IsScanOf-read_failed most (Some model) None later position found buffer numbers reads lost end = absurd reads.lost
 IsScanOf-read_failed most (Some model) (Some mid) None position found buffer numbers reads lost end = absurd lost
@@ -101,7 +101,7 @@ IsScanOf-read_failed most (Some model) (Some mid) (Some later) position found bu
 
 -- the end of the file
 pub IsScanOf-outcome : (most : Limits) (model mid later : Option SourceModel) (position : Position) (found : SeenTrigrams) (buffer numbers : List ℕ) (answer : Result Outcome ScanFault) →
-    HasScanned most model mid position found buffer → Consumes mid later [] → IsAt ends later →
+    HasReadText most model mid position found buffer → Consumes mid later [] → IsAt ends later →
     ((prefix : List ℕ) → HasSeenBytes most.trigrams found prefix → first_broken most [] prefix ≡ None → position.count ≡ length prefix → ReportsOutcome numbers answer (scan_outcome_of most prefix ends)) →
     IsOutcomeOf most numbers model answer
 IsScanOf-outcome most None mid later position found buffer numbers answer reads lost end reports = tt

@@ -23,17 +23,17 @@ module _ (set : ℕ → Bool) where
       swap false true z = refl
       swap false false z = refl
 
-  all_with_number : (n : ℕ) (ms : List ℕ) → list_all set (with_number n ms) ≡ (set n && list_all set ms)
-  all_with_number n [] = refl
-  all_with_number n (m ∷ ms) = placed_by n m ms (nat_lt n m) (nat_eq n m) refl (all_with_number n ms)
-
-  all_set : (ns : List ℕ) → list_all set (set_of_numbers ns) ≡ list_all set ns
-  all_set [] = refl
-  all_set (n ∷ ns) = all_with_number n (set_of_numbers ns) ∙ ap (λ b. set n && b) (all_set ns)
+  all_with_one : (n : ℕ) (ms : List ℕ) → list_all set (with_number n ms) ≡ (set n && list_all set ms)
+  all_with_one n [] = refl
+  all_with_one n (m ∷ ms) = placed_by n m ms (nat_lt n m) (nat_eq n m) refl (all_with_one n ms)
 
   -- a set has the trigrams of a text exactly if it has each trigram of their sequence
   pub all_trigrams_tri : (text : List ℕ) → list_all set (tri text) ≡ list_all set (trigram_sequence text)
-  all_trigrams_tri text = all_set (trigram_sequence text)
+  all_trigrams_tri text = all_numbers (trigram_sequence text)
+    where
+      all_numbers : (ns : List ℕ) → list_all set (set_of_numbers ns) ≡ list_all set ns
+      all_numbers [] = refl
+      all_numbers (n ∷ ns) = all_with_one n (set_of_numbers ns) ∙ ap (λ b. set n && b) (all_numbers ns)
 
   trigrams_tail : (b : ℕ) (text : List ℕ) → list_all set (trigram_sequence (b ∷ text)) ≡ true → list_all set (trigram_sequence text) ≡ true
   trigrams_tail b [] h = refl

@@ -1,22 +1,17 @@
 -- Which end strings the members of truncated lists and of cross products come from.
-use Rattle.std.proofs.Common.{◌≡◌, ℕ, ◌<◌, ◌≤◌, ◌⊎◌, true, false, not, List, [], ◌∷◌, ◌++◌, length, get_or, refl, sym, subst, inl, inr, arith}
+use Rattle.std.proofs.Common.{◌≡◌, ℕ, ◌<◌, ◌≤◌, List, [], ◌∷◌, ◌++◌, length, get_or, refl, sym, subst, inl, inr, arith}
 use Rattle.std.specs.Prelude.{Contains}
-use Rattle.std.specs.List.{list_all}
-use Rattle.std.proofs.lemmas.Bool.{and_parts, not-true, false≢true}
-use Rattle.std.proofs.lemmas.List.Elements.{Contains-get_or, Contains-push, Contains-push_cases, Contains-append_left, Contains-append_right, Contains-append_cases}
+use Rattle.std.proofs.lemmas.List.Elements.{Contains-get_or, Contains-push_cases, Contains-append_right}
 use Rattle.cs_trigram.specs.EndStrings.{concatenation, HasEndString, HasSomeEndString, Subsumes, EachSubsumes, AreCoarser, AddsOnly, IsEndStringOfTwo, IsConcatenation, AreConcatenations, any_end}
 use Rattle.cs_trigram.specs.declared.end_strings.Side.{Side}
 use Rattle.cs_trigram.specs.declared.end_strings.EndString.{EndString}
-use Rattle.cs_trigram.proofs.EndStringLemmas.{fits_open, fits_any}
+use Rattle.cs_trigram.proofs.EndStringLemmas.{fits_any}
 
 pub none_contained : (x : EndString) → Contains [] x → ⊥
 none_contained x m = let lt : m.0 < 0 = m.1 in omega arith
 
 pub only_contained : (e x : EndString) → Contains (e ∷ []) x → e ≡ x
 only_contained e x m = elim (Contains-push_cases [] e x m) [ inl n ↦ absurd (none_contained x n) | inr same ↦ same ]
-
-head_cases : (e : EndString) (es : List EndString) (x : EndString) → Contains (e ∷ es) x → (e ≡ x) ⊎ Contains es x
-head_cases e es x m = elim (Contains-append_cases (e ∷ []) es x m) [ inl one ↦ inl (only_contained e x one) | inr later ↦ inr later ]
 
 pub any_has : (side : Side) (x : EndString) (text : List ℕ) → any_end ≡ x → HasEndString side x text
 any_has side x text same =
@@ -64,33 +59,11 @@ module _ (side : Side) (near : EndString) where
   pub far_concatenation : (fars : List EndString) (far e x : EndString) → Contains fars far → e ≡ x → IsEndStringOfTwo side near far e → length e.string ≤ 3 → IsConcatenation side near fars x
   far_concatenation fars far e x there same two short = subst (λ (z : EndString). IsConcatenation side near fars z) same (inr (far, there, two, short))
 
--- no end string of the list is whole
-not_whole : (end_strings : List EndString) (x : EndString) → list_all (λ (e : EndString). not e.whole) end_strings ≡ true → Contains end_strings x → x.whole ≡ false
-not_whole [] x loose m = absurd (none_contained x m)
-not_whole (e ∷ es) x loose m =
-    let p = and_parts (not e.whole) (list_all (λ (y : EndString). not y.whole) es) loose in
-    elim (head_cases e es x m) [
-      | inl same ↦ subst (λ (y : EndString). y.whole ≡ false) same (not-true e.whole p.0)
-      | inr later ↦ not_whole es x p.1 later
-    ]
-
-pub open_concatenations : (side : Side) (nears fars end_strings : List EndString) → end_strings ≡ nears → list_all (λ (e : EndString). not e.whole) nears ≡ true →
-    (x : EndString) → Contains end_strings x → (near : EndString) × Contains nears near × IsConcatenation side near fars x
-open_concatenations side nears fars end_strings same loose x m =
-    let there = subst (λ (es : List EndString). Contains es x) same m in
-    (x, there, inl (λ u v a. fits_open side x x refl (not_whole nears x loose there) u v a))
-
--- a list in which some end string is whole has a member
-some_end_string : (end_strings : List EndString) → list_all (λ (e : EndString). not e.whole) end_strings ≡ false → (x : EndString) × Contains end_strings x
-some_end_string [] odd = absurd (false≢true (sym odd))
-some_end_string (e ∷ es) odd = (e, Contains-append_left (e ∷ []) es e (Contains-push [] e))
-
-pub any_concatenations : (side : Side) (nears fars end_strings : List EndString) → end_strings ≡ any_end ∷ [] → list_all (λ (e : EndString). not e.whole) nears ≡ false → AreConcatenations side nears fars end_strings
-any_concatenations side nears fars end_strings is odd = record {
+-- the end string of every text
+pub any_concatenations : (side : Side) (nears fars end_strings : List EndString) → end_strings ≡ any_end ∷ [] → (near : EndString) → Contains nears near → AreConcatenations side nears fars end_strings
+any_concatenations side nears fars end_strings is near there = record {
   all = λ u v a b. subst (λ (es : List EndString). HasSomeEndString side es (concatenation side u v)) (sym is) (fits_any side any_end (concatenation side u v) refl refl);
-  each = λ x m.
-      let near = some_end_string nears odd in
-      (near.0, near.1, inl (λ u v a. any_has side x (concatenation side u v) (only_contained any_end x (subst (λ (es : List EndString). Contains es x) is m))));
+  each = λ x m. (near, there, inl (λ u v a. any_has side x (concatenation side u v) (only_contained any_end x (subst (λ (es : List EndString). Contains es x) is m))));
 }
 
 -- the end strings of two lists

@@ -112,8 +112,8 @@ abbrev pub EnumeratesAlternation : List (List ℕ) → Trees → Type 0
 EnumeratesAlternation strings ts = (are_finite ts ≡ true) × IsEnumeration strings (SomeHasExactString ts)
 
 -- adds the string of the byte, if the set has the byte
-abbrev pub with_byte : List (List ℕ) → List Bool → ℕ → List (List ℕ)
-with_byte strings set byte = if member set byte then with_string strings (byte ∷ []) else strings
+abbrev pub with_byte_string : List (List ℕ) → List Bool → ℕ → List (List ℕ)
+with_byte_string strings set byte = if member set byte then with_string strings (byte ∷ []) else strings
 
 -- the strings are the exact strings of a finite tree or of a run, which are few
 abbrev pub AreExactStrings : List (List ℕ) → Tree → Type 0
@@ -139,8 +139,10 @@ RequiresSomeString query strings = (set : ℕ → Bool) → matches_set query se
 
 -- The requirements of a sequence other than its longest leading run. Each set with the trigrams of a matching
 -- line satisfies them. If a set satisfies them and has a string of that run, it has all runs within the sequence.
-pub record IsQueryBeyondRun (leading : List (List ℕ)) (conjuncts : (ℕ → Bool) → Bool) (ts : Trees) : Type 0 where
+pub record IsQueryBeyondRun (leading : List (List ℕ)) (conjuncts : (ℕ → Bool) → Bool)
+    (ts : Trees) : Type 0 where
   pub run : IsLongestLeadingRun ts leading
   pub matching : (s : List ℕ) (set : ℕ → Bool) (i j : ℕ) → MatchesSequence s ts i j → HasTrigrams set s →
       conjuncts set ≡ true
-  pub selective : (set : ℕ → Bool) → conjuncts set ≡ true → has_any set leading ≡ true → HasRunsWithin set (cat ts)
+  pub selective : (set : ℕ → Bool) → conjuncts set ≡ true → has_any set leading ≡ true →
+      HasRunsWithin set (cat ts)

@@ -25,20 +25,24 @@ are_all_empty end_strings = list_all (λ end_string. nat_eq (length end_string.s
 -- the text begins or ends with the string, and is the string if the end string is whole
 abbrev pub HasEndString : Side → EndString → List ℕ → Type 0
 HasEndString side end_string text =
-    (rest : List ℕ) × (text ≡ concatenation side end_string.string rest) × (end_string.whole ≡ true → rest ≡ [])
+    (rest : List ℕ) × (text ≡ concatenation side end_string.string rest)
+    × (end_string.whole ≡ true → rest ≡ [])
 
 -- the text has one of the end strings
 abbrev pub HasSomeEndString : Side → List EndString → List ℕ → Type 0
 HasSomeEndString side [] text = ⊥
-HasSomeEndString side (end_string ∷ end_strings) text = HasEndString side end_string text ⊎ HasSomeEndString side end_strings text
+HasSomeEndString side (end_string ∷ end_strings) text =
+    HasEndString side end_string text ⊎ HasSomeEndString side end_strings text
 
 -- each text with the other end string has this one
 abbrev pub Subsumes : Side → EndString → EndString → Type 0
-Subsumes side end_string other = (text : List ℕ) → HasEndString side other text → HasEndString side end_string text
+Subsumes side end_string other =
+    (text : List ℕ) → HasEndString side other text → HasEndString side end_string text
 
 -- each text with the end string has one of these
 abbrev pub SomeSubsumes : Side → List EndString → EndString → Type 0
-SomeSubsumes side end_strings end_string = (text : List ℕ) → HasEndString side end_string text → HasSomeEndString side end_strings text
+SomeSubsumes side end_strings end_string =
+    (text : List ℕ) → HasEndString side end_string text → HasSomeEndString side end_strings text
 
 -- each text with one of the others has one of these
 abbrev pub SubsumeAll : Side → List EndString → List EndString → Type 0
@@ -53,7 +57,8 @@ IsEndStringOfText side text whole end_string =
 -- the concatenation of a near text with the first end string and a far text with the second has this one
 abbrev pub IsEndStringOfTwo : Side → EndString → EndString → EndString → Type 0
 IsEndStringOfTwo side near far end_string =
-    (u v : List ℕ) → HasEndString side near u → HasEndString side far v → HasEndString side end_string (concatenation side u v)
+    (u v : List ℕ) → HasEndString side near u → HasEndString side far v →
+    HasEndString side end_string (concatenation side u v)
 
 abbrev pub AreEndStringsOfTwo : Side → List EndString → List EndString → List EndString → Type 0
 AreEndStringsOfTwo side nears fars end_strings =
@@ -79,7 +84,8 @@ AddsOnly old end_strings P = (x : EndString) → Contains end_strings x → Cont
 abbrev pub IsConcatenation : Side → EndString → List EndString → EndString → Type 0
 IsConcatenation side near fars end_string =
     ((u v : List ℕ) → HasEndString side near u → HasEndString side end_string (concatenation side u v))
-    ⊎ ((far : EndString) × Contains fars far × IsEndStringOfTwo side near far end_string × (length end_string.string ≤ 3))
+    ⊎ ((far : EndString) × Contains fars far × IsEndStringOfTwo side near far end_string
+    × (length end_string.string ≤ 3))
 
 -- the end strings are those of a near text with one of the first and a far text with one of the others
 pub record AreConcatenations (side : Side) (nears fars end_strings : List EndString) : Type 0 where
@@ -95,17 +101,18 @@ abbrev pub empty_end : EndString
 empty_end = record { string = []; whole = true }
 
 -- A text with the property begins or ends with the near text, and is equal to it if it has less than three bytes.
-abbrev pub Reaches : Side → (List ℕ → Type 0) → List ℕ → Type 0
-Reaches side P near = (rest : List ℕ) × P (concatenation side near rest) × (length near < 3 → rest ≡ [])
+abbrev pub IsNearPart : Side → (List ℕ → Type 0) → List ℕ → Type 0
+IsNearPart side P near = (rest : List ℕ) × P (concatenation side near rest) × (length near < 3 → rest ≡ [])
 
 -- the end string is one of a near text of a text with the property
 abbrev pub IsEndStringOf : Side → (List ℕ → Type 0) → EndString → Type 0
-IsEndStringOf side P end_string = (near : List ℕ) × Reaches side P near × HasEndString side end_string near
+IsEndStringOf side P end_string = (near : List ℕ) × IsNearPart side P near × HasEndString side end_string near
 
 -- Each match has one of the end strings. If A holds, each end string is one of a text with the property.
 pub record AreEndStringsOf (side : Side) (end_strings : List EndString) (Matches : List ℕ → ℕ → ℕ → Type 0)
     (A : Type 0) (P : List ℕ → Type 0) : Type 0 where
-  pub matching : (s : List ℕ) (i j : ℕ) → Matches s i j → HasSomeEndString side end_strings (slice_range s i j)
+  pub matching : (s : List ℕ) (i j : ℕ) → Matches s i j →
+      HasSomeEndString side end_strings (slice_range s i j)
   pub each : A → (x : EndString) → Contains end_strings x → IsEndStringOf side P x
 
 -- the end strings are those of the tree, of the sequence and of the alternation
@@ -123,7 +130,8 @@ AreEndStringsOfSome side end_strings ts =
 
 -- the same for at least `least` iterations of the tree
 abbrev pub AreEndStringsOfRepeat : Side → List EndString → Tree → ℕ → Type 0
-AreEndStringsOfRepeat side end_strings t least = (most : Option ℕ) → AreEndStrings side end_strings (rep t least most)
+AreEndStringsOfRepeat side end_strings t least =
+    (most : Option ℕ) → AreEndStrings side end_strings (rep t least most)
 
 -- the string occurs in the text
 abbrev pub OccursIn : List ℕ → List ℕ → Type 0

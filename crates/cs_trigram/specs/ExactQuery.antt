@@ -13,4 +13,5 @@ HasFewExactStrings t = HaveFewExactStrings (more t none)
 
 -- the query requires exactly the trigrams of an exact string of the tree
 abbrev pub RequiresExactString : Query → Tree → Type 0
-RequiresExactString query tree = (set : ℕ → Bool) → IsTrue (matches_set query set) ↔ HasRun set (more tree none)
+RequiresExactString query tree =
+    (set : ℕ → Bool) → IsTrue (matches_set query set) ↔ HasRun set (more tree none)

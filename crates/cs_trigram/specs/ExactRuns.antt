@@ -14,7 +14,9 @@ HasRun set ts = (string : List ℕ) × ConcatenatesExactStrings ts string × Has
 
 -- the set has each run of neighbouring parts that has few exact strings
 abbrev pub HasEachRun : (ℕ → Bool) → Trees → Type 0
-HasEachRun set ts = (before run after : Trees) → ts ≡ append before (append run after) → HaveFewExactStrings run → HasRun set run
+HasEachRun set ts =
+    (before run after : Trees) → ts ≡ append before (append run after) → HaveFewExactStrings run →
+    HasRun set run
 
 -- the set has the tree itself as a run, if its exact strings are few
 abbrev pub HasWhole : (ℕ → Bool) → Tree → Type 0

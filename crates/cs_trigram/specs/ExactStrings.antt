@@ -21,7 +21,8 @@ abbrev mutual
 -- the string is a concatenation of k strings with the property
 abbrev pub IsRepeated : (List ℕ → Type 0) → ℕ → List ℕ → Type 0
 IsRepeated P zero string = string ≡ []
-IsRepeated P (suc k) string = (prefix suffix : List ℕ) × P prefix × IsRepeated P k suffix × (string ≡ prefix ++ suffix)
+IsRepeated P (suc k) string =
+    (prefix suffix : List ℕ) × P prefix × IsRepeated P k suffix × (string ≡ prefix ++ suffix)
 
 -- The string is one of the finite tree. A character has its UTF-8 encoding, an assertion the empty string.
 abbrev mutual
@@ -31,14 +32,16 @@ abbrev mutual
   HasExactString (cat ts) string = ConcatenatesExactStrings ts string
   HasExactString (alt ts) string = SomeHasExactString ts string
   HasExactString (rep x n None) string = ⊥
-  HasExactString (rep x n (Some m)) string = (k : ℕ) × (n ≤ k) × (k ≤ m) × IsRepeated (HasExactString x) k string
+  HasExactString (rep x n (Some m)) string =
+      (k : ℕ) × (n ≤ k) × (k ≤ m) × IsRepeated (HasExactString x) k string
   HasExactString part string = string ≡ []
 
   -- the string is a concatenation of a string of each tree, in order
   pub ConcatenatesExactStrings : Trees → List ℕ → Type 0
   ConcatenatesExactStrings none string = string ≡ []
   ConcatenatesExactStrings (more t ts) string =
-      (prefix suffix : List ℕ) × HasExactString t prefix × ConcatenatesExactStrings ts suffix × (string ≡ prefix ++ suffix)
+      (prefix suffix : List ℕ) × HasExactString t prefix × ConcatenatesExactStrings ts suffix
+      × (string ≡ prefix ++ suffix)
 
   pub SomeHasExactString : Trees → List ℕ → Type 0
   SomeHasExactString none string = ⊥
@@ -49,4 +52,5 @@ abbrev pub HaveFewExactStrings : Trees → Type 0
 HaveFewExactStrings ts =
     (are_finite ts ≡ true)
     × (((string : List ℕ) × ConcatenatesExactStrings ts string)
-    × ((strings : List (List ℕ)) × (length strings ≤ 20) × ((string : List ℕ) → ConcatenatesExactStrings ts string → IsTrue (is_among strings string))))
+    × ((strings : List (List ℕ)) × (length strings ≤ 20)
+    × ((string : List ℕ) → ConcatenatesExactStrings ts string → IsTrue (is_among strings string))))

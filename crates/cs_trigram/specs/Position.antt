@@ -6,7 +6,7 @@ use Rattle.cs_trigram.specs.declared.scan.Reason.{Reason}
 use Rattle.cs_trigram.specs.Text.{last_byte, line_so_far, first_broken}
 
 -- one more byte is within the limits of bytes and columns
-pub record IsWithin (most : Limits) (position : Position) : Type 0 where
+pub record IsWithinLimits (most : Limits) (position : Position) : Type 0 where
   pub count : position.count < most.bytes
   pub column : position.column < most.line
 
@@ -24,9 +24,11 @@ IsAdvancedBy most position n next = (next.count ≡ position.count + n) × (next
 -- first broken rule
 abbrev pub Validates : Limits → List ℕ → List ℕ → Result Position Reason → Type 0
 Validates most prefix bytes answer =
-    MatchResult answer (λ next. (first_broken most prefix bytes ≡ None) × IsPositionAfter next (prefix ++ bytes))
+    MatchResult answer
+    (λ next. (first_broken most prefix bytes ≡ None) × IsPositionAfter next (prefix ++ bytes))
     (λ reason. first_broken most prefix bytes ≡ Some reason)
 
 -- the same for each prefix that ends at the position
 abbrev pub ValidatesFrom : Limits → Position → List ℕ → Result Position Reason → Type 0
-ValidatesFrom most position bytes answer = (prefix : List ℕ) → IsPositionAfter position prefix → Validates most prefix bytes answer
+ValidatesFrom most position bytes answer =
+    (prefix : List ℕ) → IsPositionAfter position prefix → Validates most prefix bytes answer

@@ -38,4 +38,6 @@ HasTrigrams set text = IsTrue (list_all set (tri text))
 
 -- The query loses no line: it matches each set that has the trigrams of a line with a match.
 abbrev pub LosesNoLine : Query → Tree → Type 0
-LosesNoLine query tree = (line : List ℕ) (set : ℕ → Bool) → HasMatch tree line → HasTrigrams set line → IsTrue (matches_set query set)
+LosesNoLine query tree =
+    (line : List ℕ) (set : ℕ → Bool) → HasMatch tree line → HasTrigrams set line →
+    IsTrue (matches_set query set)

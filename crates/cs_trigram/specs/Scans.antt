@@ -34,16 +34,16 @@ abbrev pub scan_outcome : Limits → SourceModel → ScanOutcome
 scan_outcome most model = scan_outcome_of most model.bytes model.ending
 
 -- the answer is this result; an answer `Memory` is always allowed
-abbrev pub Reports : Result Scan ScanFault → ScanOutcome → Type 0
-Reports (Ok (answer.Text trigrams bytes)) found = text trigrams.items bytes ≡ found
-Reports (Ok (answer.Skip reason)) found = skipped_for reason ≡ found
-Reports (Err fault.Read) found = read_failed ≡ found
-Reports (Err fault.Memory) found = Unit {0}
+abbrev pub ReportsScan : Result Scan ScanFault → ScanOutcome → Type 0
+ReportsScan (Ok (answer.Text trigrams bytes)) found = text trigrams.items bytes ≡ found
+ReportsScan (Ok (answer.Skip reason)) found = skipped_for reason ≡ found
+ReportsScan (Err fault.Read) found = read_failed ≡ found
+ReportsScan (Err fault.Memory) found = Unit {0}
 
 -- the answer is the result for the source, if the source is modelled
 abbrev pub IsScanOf : Limits → Option SourceModel → Result Scan ScanFault → Type 0
 IsScanOf most None answer = Unit {0}
-IsScanOf most (Some model) answer = Reports answer (scan_outcome most model)
+IsScanOf most (Some model) answer = ReportsScan answer (scan_outcome most model)
 
 -- the trigrams ascend and none is ff ff ff, for any source
 abbrev pub HasTrigramSet : Scan → Type 0
@@ -54,7 +54,7 @@ HasTrigramSet (answer.Skip reason) = Unit {0}
 abbrev pub AreDistinctTrigrams : List ℕ → Type 0
 AreDistinctTrigrams numbers = IsTrigramSet (set_of_numbers numbers) × AreDistinct numbers
 
--- the same as `Reports` for a result with borrowed trigrams, which may be in any order
+-- the same as `ReportsScan` for a result with borrowed trigrams, which may be in any order
 abbrev pub ReportsUnordered : Result Gathered ScanFault → ScanOutcome → Type 0
 ReportsUnordered (Ok (gathered.Text trigrams bytes)) found = text (set_of_numbers trigrams.now) bytes ≡ found
 ReportsUnordered (Ok (gathered.Skip reason)) found = skipped_for reason ≡ found

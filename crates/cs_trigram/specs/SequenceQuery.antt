@@ -26,19 +26,21 @@ goes_two_past leading suffix =
 abbrev pub has_cross_trigrams : SequenceQuery → List EndString → List EndString → Bool
 has_cross_trigrams sequence_query suffixes prefixes =
     are_all_empty suffixes
-    || (are_all_empty prefixes || list_all (λ suffix. goes_two_past sequence_query.leading.items suffix) suffixes)
+    || (are_all_empty prefixes
+    || list_all (λ suffix. goes_two_past sequence_query.leading.items suffix) suffixes)
 
 -- The query matches each set that has the trigrams of two adjacent texts, the first with one of the suffixes
 -- and the second with one of the prefixes.
 abbrev pub MatchesAcross : Query → List EndString → List EndString → Type 0
 MatchesAcross query suffixes prefixes =
-    (set : ℕ → Bool) (u v : List ℕ) → HasSomeEndString Suffix suffixes u → HasSomeEndString Prefix prefixes v →
-    HasTrigrams set (u ++ v) → matches_set query set ≡ true
+    (set : ℕ → Bool) (u v : List ℕ) → HasSomeEndString Suffix suffixes u →
+    HasSomeEndString Prefix prefixes v → HasTrigrams set (u ++ v) → matches_set query set ≡ true
 
 -- each suffix followed by each prefix
 abbrev pub pairs : List EndString → List EndString → List (List ℕ)
 pairs [] prefixes = []
-pairs (suffix ∷ suffixes) prefixes = map (λ prefix. suffix.string ++ prefix.string) prefixes ++ pairs suffixes prefixes
+pairs (suffix ∷ suffixes) prefixes =
+    map (λ prefix. suffix.string ++ prefix.string) prefixes ++ pairs suffixes prefixes
 
 -- the text is one of the suffixes followed by one of the prefixes
 abbrev pub IsAcross : List EndString → List EndString → List ℕ → Type 0
@@ -48,4 +50,5 @@ IsAcross suffixes prefixes text =
 
 -- the new query is that of the sequence with one more part at the start
 abbrev pub ExtendsSequenceQuery : SequenceQuery → SequenceQuery → Tree → Trees → Type 0
-ExtendsSequenceQuery old sequence_query t ts = IsSequenceQueryOf old ts → IsSequenceQueryOf sequence_query (more t ts)
+ExtendsSequenceQuery old sequence_query t ts =
+    IsSequenceQueryOf old ts → IsSequenceQueryOf sequence_query (more t ts)

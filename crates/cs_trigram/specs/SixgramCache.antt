@@ -6,7 +6,9 @@ use Rattle.cs_trigram.specs.Sixgrams.{CachesOnly, HasNoLaterFile, AreMisses}
 
 -- the cache has no 6-gram of this file or a later one
 abbrev pub IsEmptyCache : SixgramCache → Type 0
-IsEmptyCache sixgrams = CachesOnly sixgrams.file sixgrams.tags.items [] × HasNoLaterFile sixgrams.file sixgrams.tags.items
+IsEmptyCache sixgrams =
+    CachesOnly sixgrams.file sixgrams.tags.items []
+    × HasNoLaterFile sixgrams.file sixgrams.tags.items
 
 -- the bytes before the offset are covered by cached 6-grams and by these misses
 abbrev pub IsSplitOf : SixgramCache → SixgramCache → List ℕ → Split → Type 0
@@ -17,4 +19,5 @@ IsSplitOf old sixgrams bytes split =
 -- the cache is for the same file as before, and has no 6-gram of a later one if it had none
 abbrev pub KeepsNoLaterFile : SixgramCache → SixgramCache → Type 0
 KeepsNoLaterFile old sixgrams =
-    (sixgrams.file ≡ old.file) × (HasNoLaterFile old.file old.tags.items → HasNoLaterFile old.file sixgrams.tags.items)
+    (sixgrams.file ≡ old.file)
+    × (HasNoLaterFile old.file old.tags.items → HasNoLaterFile old.file sixgrams.tags.items)

@@ -36,5 +36,6 @@ HasNoLaterFile file tags = (i : ℕ) → i < length tags → file_of (slice_inde
 -- before them.
 pub record AreMisses (file : ℕ) (earlier tags bytes : List ℕ) (offset : ℕ) (sixgrams : List ℕ) : Type 0 where
   pub caches_only : CachesOnly file tags (earlier ++ trigrams_of_sixgrams sixgrams)
-  pub covers : AreMembers (trigram_sequence (take (offset + 2) bytes)) (earlier ++ trigrams_of_sixgrams sixgrams)
+  pub covers :
+      AreMembers (trigram_sequence (take (offset + 2) bytes)) (earlier ++ trigrams_of_sixgrams sixgrams)
   pub inside : AreMembers (trigrams_of_sixgrams sixgrams) (trigram_sequence bytes)

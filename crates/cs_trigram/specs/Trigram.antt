@@ -22,7 +22,8 @@ Ascends few = Unit {0}
 -- a set with a number inserted
 abbrev pub with_number : ℕ → List ℕ → List ℕ
 with_number n [] = n ∷ []
-with_number n (m ∷ ms) = if nat_lt n m then n ∷ m ∷ ms else (if nat_eq n m then m ∷ ms else m ∷ with_number n ms)
+with_number n (m ∷ ms) =
+    if nat_lt n m then n ∷ m ∷ ms else (if nat_eq n m then m ∷ ms else m ∷ with_number n ms)
 
 -- the set of the numbers of a list
 abbrev pub set_of_numbers : List ℕ → List ℕ

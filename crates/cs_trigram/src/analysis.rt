@@ -11,12 +11,10 @@ ghost use Rattle.cs_trigram.specs.ExactRuns.{IsSelective};
 ghost use Rattle.cs_trigram.specs.MayMatch.{MentionsTrigramsOf};
 ghost use Rattle.cs_trigram.specs.RegexpInfo.{IsInfoOf};
 
-use crate::alternation::AlternationInfo;
 use crate::exact_set::ExactSet;
 use crate::expansion::{empty_string, strings_of_chars, strings_of_set};
 use crate::queries::Query;
-use crate::regexp_info::RegexpInfo;
-use crate::sequence::SequenceInfo;
+use crate::regexp_info::{AlternationInfo, RegexpInfo, SequenceInfo};
 use cs_syntax::{Node, Pattern};
 use std::alloc::{AllocError, Global};
 
@@ -37,7 +35,8 @@ use std::alloc::{AllocError, Global};
 pub fn query(alloc: Global, pattern: &Pattern) -> Result<Query, AllocError>
     ensures sound { IfOk result (λ query. LosesNoLine query pattern.now) }
     ensures selective { IfOk result (λ query. IsSelective query pattern.now) }
-    ensures exact { IfOk result (λ query. HasFewExactStrings pattern.now → RequiresExactString query pattern.now) }
+    ensures exact { IfOk result (λ query.
+        HasFewExactStrings pattern.now → RequiresExactString query pattern.now) }
     ensures mentioned { IfOk result (λ query. MentionsTrigramsOf query pattern.now) }
     ensures numbers { IfOk result (λ query. (g : ℕ) → mentions query g ≡ true → g < trigram_count) }
 {

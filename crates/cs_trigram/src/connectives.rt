@@ -1,5 +1,5 @@
 // Conjunctions of queries, and queries for strings (`and` and `andTrigrams` in Go's codesearch).
-ghost use Rattle.std.specs.Prelude.{◌≡◌, ◌<◌, ℕ, Bool, IsTrue, IfOk, OnOk};
+ghost use Rattle.std.specs.Prelude.{◌≡◌, ◌<◌, ℕ, Bool, length, IsTrue, IfOk, OnOk};
 ghost use Rattle.cs_trigram.specs.Trigram.{trigram};
 ghost use Rattle.cs_trigram.specs.TrigramSets.{trigram_count};
 ghost use Rattle.cs_tree.specs.Cover.{is_among};
@@ -32,11 +32,23 @@ pub(crate) fn add_conjunct(conjuncts: &mut Vec<Query>, query: Query) -> Result<(
     }
 }
 
-/// The conjunction of the trigrams of a text.
+/// The trigram of a text of three bytes.
+fn only_trigram(text: &[u8]) -> Query
+    requires { length text.now ≡ 3 }
+    ensures required { RequiresText result text.now }
+    ensures mentioned { MentionsOnly result (λ part. part ≡ text.now) }
+{
+    Query::Tri(trigram(text[0], text[1], text[2]))
+}
+
+/// The conjunction of the trigrams of a text. A single one is not wrapped.
 fn all_trigrams(alloc: Global, text: &[u8]) -> Result<Query, AllocError>
     ensures required { IfOk result (λ query. RequiresText query text.now) }
     ensures mentioned { IfOk result (λ query. MentionsOnly query (λ part. part ≡ text.now)) }
 {
+    if text.len() == 3 {
+        return Ok(only_trigram(text));
+    }
     let mut members = Vec::with_capacity(alloc, text.len().saturating_sub(2))?;
     let mut offset = 0;
     while text.len() - offset > 2 {

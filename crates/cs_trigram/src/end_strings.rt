@@ -2,11 +2,11 @@
 // truncation (`cross`, `union` and `simplifySet` in Go's codesearch). An end string is a prefix or
 // a suffix, depending on the side. Of two adjacent strings, the *near* one is at that side of both:
 // the first one for prefixes, the last one for suffixes.
-ghost use Rattle.std.specs.Prelude.{not, ◌≡◌, ◌<◌, ◌≤◌, ◌⊎◌, ◌++◌, [], ◌∷◌, ℕ, true, List, length, IfOk, IfSome, OnOk};
-ghost use Rattle.std.specs.List.{list_all};
+ghost use Rattle.std.specs.Prelude.{Contains, ◌≡◌, ◌<◌, ◌≤◌, ◌⊎◌, ◌++◌, [], ◌∷◌, ℕ, true, List, length, IfOk, MatchOption, OnOk};
 ghost use Rattle.cs_syntax.specs.Matching.{Tree};
 ghost use Rattle.cs_trigram.specs.Analysis.{AreExactStrings};
-ghost use Rattle.cs_trigram.specs.EndStrings.{concatenation, near_part, are_all_empty, HasEndString, HasSomeEndString, Subsumes, SomeSubsumes, SubsumeAll, EachSubsumes, AreCoarser, AddsOnly, IsConcatenation, AreConcatenations, IsEndStringOfTwo, IsEndStringOfText, AreEndStrings, any_end, empty_end};
+ghost use Rattle.cs_trigram.specs.declared.end_strings.EndString.{EndString};
+ghost use Rattle.cs_trigram.specs.EndStrings.{AreEndStringsOfRepeat, concatenation, near_part, are_all_empty, HasEndString, HasSomeEndString, Subsumes, SomeSubsumes, SubsumeAll, EachSubsumes, AreCoarser, AddsOnly, IsConcatenation, AreConcatenations, IsEndStringOfTwo, IsEndStringOfText, AreEndStrings};
 
 use crate::exact_string::ExactString;
 use std::alloc::{AllocError, Global};
@@ -16,6 +16,9 @@ const MAX_SET: usize = 20;
 
 /// The most bytes of an end string.
 const MAX_LEN: usize = 3;
+
+/// The most iterations that a repeat is unrolled to: an end string has at most three bytes.
+const MAX_ITERATIONS: u32 = 3;
 
 /// Whether end strings are prefixes or suffixes.
 #[derive(Clone, Copy)]
@@ -94,8 +97,8 @@ fn string_of_two(
     }
 }
 
-/// The end string of the concatenation of two texts with these end strings, truncated to `longest`
-/// bytes.
+/// The end string of the concatenation of two texts with these end strings, the near one whole,
+/// truncated to `longest` bytes.
 fn end_string_of_two(
     alloc: Global,
     side: Side,
@@ -103,14 +106,12 @@ fn end_string_of_two(
     far: &EndString,
     longest: usize,
 ) -> Result<EndString, AllocError>
+    requires { near.now.whole ≡ true }
     ensures two { IfOk result (IsEndStringOfTwo side near.now far.now) }
     ensures short { IfOk result (λ end_string. length end_string.string ≤ longest) }
 {
-    if near.whole {
-        let string = string_of_two(alloc, side, &near.string, &far.string)?;
-        return end_string_of_text(alloc, side, string.bytes(), far.whole, longest);
-    }
-    end_string_of_text(alloc, side, near.string.bytes(), false, longest)
+    let string = string_of_two(alloc, side, &near.string, &far.string)?;
+    end_string_of_text(alloc, side, string.bytes(), far.whole, longest)
 }
 
 /// Whether each text with the other end string certainly has this one: the strings are equal, and
@@ -181,7 +182,7 @@ fn simplify_set(
 }
 
 /// Adds the concatenations of an end string with each of the far ones, truncated to `longest`
-/// bytes, until there are more than `MAX_SET`.
+/// bytes, until there are more than `MAX_SET`. If it is not whole, the far ones make no difference.
 fn add_concatenations(
     alloc: Global,
     side: Side,
@@ -198,6 +199,11 @@ fn add_concatenations(
     ensures each { OnOk result (
         AddsOnly end_strings.old.items end_strings.new.items (IsConcatenation side near.now fars.now)) }
 {
+    if !near.whole {
+        let alone = end_string_of_text(alloc, side, near.string.bytes(), false, longest)?;
+        add_end_string(end_strings, alone)?;
+        return Ok(());
+    }
     for far in fars {
         if end_strings.len() > MAX_SET {
             return Ok(());
@@ -217,8 +223,8 @@ fn few_concatenations(
     longest: usize,
 ) -> Result<Option<Vec<EndString>>, AllocError>
     requires { longest ≤ 3 }
-    ensures { IfOk result (λ found. IfSome found (λ end_strings.
-        AreConcatenations side nears.now fars.now end_strings.items)) }
+    ensures { IfOk result (λ found. MatchOption found ((x : EndString) × Contains nears.now x)
+        (λ end_strings. AreConcatenations side nears.now fars.now end_strings.items)) }
 {
     let mut end_strings = Vec::with_capacity(alloc, MAX_SET + 1)?;
     for near in nears {
@@ -230,13 +236,6 @@ fn few_concatenations(
     Ok(Some(end_strings))
 }
 
-/// Whether no end string is whole, so that the far strings make no difference.
-fn are_inexact(end_strings: &[EndString]) -> bool
-    ensures { result ≡ list_all (λ end_string. not end_string.whole) end_strings.now }
-{
-    end_strings.iter().all(|end_string| !end_string.whole)
-}
-
 /// The cross product, truncated to the greatest length that leaves at most `MAX_SET` members.
 pub(crate) fn concatenate_end_strings(
     alloc: Global,
@@ -246,9 +245,6 @@ pub(crate) fn concatenate_end_strings(
 ) -> Result<Vec<EndString>, AllocError>
     ensures { IfOk result (λ end_strings. AreConcatenations side nears.now fars.now end_strings.items) }
 {
-    if are_inexact(nears) {
-        return copies(alloc, nears);
-    }
     let mut longest = MAX_LEN;
     'cut: while longest > 0 {
         if let Some(end_strings) = few_concatenations(alloc, side, nears, fars, longest)? {
@@ -256,18 +252,7 @@ pub(crate) fn concatenate_end_strings(
         }
         longest -= 1;
     }
-    any_end_string(alloc)
-}
-
-/// A copy of the list.
-fn copies(alloc: Global, end_strings: &[EndString]) -> Result<Vec<EndString>, AllocError>
-    ensures { IfOk result (λ copies. copies.items ≡ end_strings.now) }
-{
-    let mut copies = Vec::with_capacity(alloc, end_strings.len())?;
-    for end_string in end_strings {
-        copies.push(end_string.copy(alloc)?)?;
-    }
-    Ok(copies)
+    bare_end_string(alloc, false)
 }
 
 /// The union of the two sets, truncated to at most `MAX_SET` members.
@@ -290,27 +275,13 @@ pub(crate) fn union_of_end_strings(
 }
 
 /// The end string without bytes: if it is not whole, every text has it, otherwise the empty text.
-fn bare_end_string(alloc: Global, whole: bool) -> Result<Vec<EndString>, AllocError>
+pub(crate) fn bare_end_string(alloc: Global, whole: bool) -> Result<Vec<EndString>, AllocError>
     ensures { IfOk result (λ end_strings. end_strings.items ≡ (record { string = []; whole = whole }) ∷ []) }
 {
     let string = ExactString::of(alloc, &[])?;
     let mut end_strings = Vec::new(alloc);
     end_strings.push(EndString { string, whole })?;
     Ok(end_strings)
-}
-
-/// The end string that every text has: no bytes, not whole.
-pub(crate) fn any_end_string(alloc: Global) -> Result<Vec<EndString>, AllocError>
-    ensures { IfOk result (λ any. any.items ≡ any_end ∷ []) }
-{
-    bare_end_string(alloc, false)
-}
-
-/// The end string of the empty text: no bytes, whole.
-pub(crate) fn empty_end_string(alloc: Global) -> Result<Vec<EndString>, AllocError>
-    ensures { IfOk result (λ end_strings. end_strings.items ≡ empty_end ∷ []) }
-{
-    bare_end_string(alloc, true)
 }
 
 /// The end strings of exact strings.
@@ -326,6 +297,24 @@ pub(crate) fn end_strings_of(
     for string in strings {
         let end_string = end_string_of_text(alloc, side, string.bytes(), true, MAX_LEN)?;
         add_end_string(&mut end_strings, end_string)?;
+    }
+    Ok(end_strings)
+}
+
+/// The end strings of at least `least` iterations.
+pub(crate) fn end_strings_of_repeat(
+    alloc: Global,
+    side: Side,
+    once: &[EndString],
+    least: u32,
+) -> Result<Vec<EndString>, AllocError>
+    ensures { IfOk result (λ end_strings. (t : Tree) → AreEndStrings side once.now t →
+        AreEndStringsOfRepeat side end_strings.items t least) }
+{
+    let begun = concatenate_end_strings(alloc, side, once, &bare_end_string(alloc, false)?)?;
+    let mut end_strings = union_of_end_strings(alloc, side, begun, &bare_end_string(alloc, true)?)?;
+    for _iteration in 0..least.min(MAX_ITERATIONS) {
+        end_strings = concatenate_end_strings(alloc, side, once, &end_strings)?;
     }
     Ok(end_strings)
 }

@@ -1,7 +1,8 @@
 // Exact strings, and bounded lists of distinct ones.
-ghost use Rattle.std.specs.Prelude.{nat_lt, ◌≡◌, ◌++◌, [], IfOk, OnOk, length, map};
+ghost use Rattle.std.specs.Prelude.{nat_lt, ◌≡◌, ◌≤◌, ◌++◌, IsTrue, [], IfOk, OnOk, length, map};
 ghost use Rattle.std.specs.List.{list_all};
 ghost use Rattle.cs_tree.specs.Cover.{is_among};
+ghost use Rattle.cs_tree.specs.Folders.{are_distinct};
 ghost use Rattle.cs_trigram.specs.Analysis.{with_string, with_strings, concatenations};
 
 use std::alloc::{AllocError, Global};
@@ -127,16 +128,35 @@ fn add_concatenations(
     Ok(())
 }
 
-/// The cross product of the two lists, up to 21 strings.
+/// The prefix followed by each of the suffixes.
+fn prepended(
+    alloc: Global,
+    prefix: &ExactString,
+    suffixes: &[ExactString],
+) -> Result<Vec<ExactString>, AllocError>
+    ensures { IfOk result (λ strings. strings.items ≡ map (λ v. prefix.now ++ v) suffixes.now) }
+{
+    let mut strings = Vec::with_capacity(alloc, suffixes.len())?;
+    for suffix in suffixes {
+        strings.push(ExactString::concatenation(alloc, prefix.bytes(), suffix.bytes())?)?;
+    }
+    Ok(strings)
+}
+
+/// The cross product of the two lists, up to 21 strings. After a single prefix, the strings are not
+/// compared: they are as distinct as the suffixes.
 #[tactic(auto, using(crate::proofs::EnumerationLemmas::with_strings_append))]
 pub(crate) fn cross_product(
     alloc: Global,
     prefixes: &[ExactString],
     suffixes: &[ExactString],
 ) -> Result<Vec<ExactString>, AllocError>
-    ensures { IfOk result (λ strings. strings.items ≡
-        with_strings [] (concatenations prefixes.now suffixes.now)) }
+    ensures { IfOk result (λ strings. IsTrue (are_distinct suffixes.now) → length suffixes.now ≤ 20 →
+        strings.items ≡ with_strings [] (concatenations prefixes.now suffixes.now)) }
 {
+    if prefixes.len() == 1 {
+        return prepended(alloc, &prefixes[0], suffixes);
+    }
     let mut strings = Vec::new(alloc);
     for prefix in prefixes {
         if strings.len() > MAX_EXACT {

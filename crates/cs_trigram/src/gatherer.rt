@@ -3,7 +3,7 @@ ghost use Rattle.std.specs.Prelude.{◌≡◌, ◌+◌, ◌<◌, ◌≤◌, ◌^
 ghost use Rattle.cs_tree.specs.ConsumesAtMost.{ConsumesAtMost};
 ghost use Rattle.cs_tree.specs.FailureCount.{count_after};
 ghost use Rattle.cs_tree.specs.StreamModels.{ends};
-ghost use Rattle.cs_trigram.specs.Scans.{ScanOutcome, scan_outcome_of, is_scan_failure, ReportsUnordered, HasDistinctTrigrams, IsScanOf, HasTrigramSet};
+ghost use Rattle.cs_trigram.specs.Scans.{scan_outcome_of, is_scan_failure};
 ghost use Rattle.cs_trigram.specs.Text.{first_broken};
 ghost use Rattle.cs_trigram.specs.Trigram.{set_of_numbers};
 ghost use Rattle.cs_trigram.specs.TrigramSets.{AreDistinct};
@@ -16,7 +16,7 @@ use crate::blocks::{block, carry, read_block, with_two_before};
 use crate::fast_path::validate;
 use crate::limits::Limits;
 use crate::position::Position;
-use crate::scan::{Gathered, Reason, Scan, ScanFault};
+use crate::scan::{Reason, ScanFault};
 use crate::seen_trigrams::{BLOCK, SeenTrigrams};
 use cs_tree::{IoFault, Source};
 use std::alloc::{AllocError, Global};
@@ -85,7 +85,7 @@ fn read_to_end<R: Source>(
 }
 
 /// Sorts distinct numbers.
-pub(crate) fn sort_distinct(numbers: &mut [u32])
+fn sort_distinct(numbers: &mut [u32])
     requires { AreDistinct numbers.old }
     ensures { numbers.new ≡ set_of_numbers numbers.old }
 {
@@ -93,7 +93,7 @@ pub(crate) fn sort_distinct(numbers: &mut [u32])
 }
 
 /// The sorted set of distinct numbers.
-fn set_of(alloc: Global, numbers: &[u32]) -> Result<Vec<u32>, AllocError>
+pub(crate) fn set_of(alloc: Global, numbers: &[u32]) -> Result<Vec<u32>, AllocError>
     requires { AreDistinct numbers.now }
     ensures { IfOk result (λ set. set.items ≡ set_of_numbers numbers.now) }
 {
@@ -142,43 +142,10 @@ impl Gatherer {
         read_to_end(&self.limits, &mut self.buffer, &mut self.found, source)
     }
 
-    /// The outcome of the last file, with its trigrams in the order of their first occurrence.
-    pub(crate) fn gathering(&self, outcome: Outcome) -> Gathered<'_>
-        ensures reports { (scan_outcome : ScanOutcome) → ReportsOutcome (numbers_of self.now.found) (Ok outcome) scan_outcome →
-            ReportsUnordered (Ok result) scan_outcome }
-        ensures trigrams { HasTrigramNumbers (numbers_of self.now.found) outcome → HasDistinctTrigrams result }
+    /// The trigrams of the last file, in the order of their first occurrence.
+    pub(crate) fn numbers(&self) -> &[u32]
+        ensures { result.now ≡ numbers_of self.now.found }
     {
-        match outcome {
-            Outcome::Text(bytes) => Gathered::Text {
-                trigrams: self.found.numbers(),
-                bytes,
-            },
-            Outcome::Skip(reason) => Gathered::Skip(reason),
-        }
-    }
-
-    /// Reads a file, and sorts its trigrams.
-    pub(crate) fn scan<R: Source>(
-        &mut self,
-        alloc: Global,
-        source: &mut R,
-    ) -> Result<Scan, ScanFault>
-        requires { IsPrepared self.old }
-        ensures model { IsScanOf self.old.limits (R.model source.old) result }
-        ensures trigrams { IfOk result HasTrigramSet }
-        ensures failed { R.failed source.new ≡
-            count_after is_scan_failure result (R.failed source.old) }
-        ensures bounded { ConsumesAtMost (self.old.limits.bytes + 1)
-            (R.model source.old) (R.model source.new) }
-        ensures keeps { R.Keeps source.old source.new }
-        ensures ready { IsPreparedFor self.old.limits self.new }
-    {
-        match self.read(source)? {
-            Outcome::Text(bytes) => {
-                let trigrams = set_of(alloc, self.found.numbers())?;
-                Ok(Scan::Text { trigrams, bytes })
-            }
-            Outcome::Skip(reason) => Ok(Scan::Skip(reason)),
-        }
+        self.found.numbers()
     }
 }

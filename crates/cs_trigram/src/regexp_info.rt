@@ -1,46 +1,70 @@
-// The result of the analysis of a tree (`regexpInfo` in Go's codesearch).
-ghost use Rattle.std.specs.Prelude.{IfOk};
-ghost use Rattle.cs_syntax.specs.Matching.{Tree, rep};
+// The result of the analysis of a tree (`regexpInfo` in Go's codesearch), and those of the last
+// parts of a sequence and of the last branches of an alternation, which grow part by part from the
+// last to the first (`concat` and `alternate`).
+ghost use Rattle.std.specs.Prelude.{IfOk, OnOk};
+ghost use Rattle.cs_syntax.specs.Matching.{Tree, rep, Trees, none, more, cat, alt};
 ghost use Rattle.cs_trigram.specs.ExactSet.{IsExactSetOf};
-ghost use Rattle.cs_trigram.specs.Ends.{AreEnds};
-ghost use Rattle.cs_trigram.specs.RegexpInfo.{IsInfoOf};
+ghost use Rattle.cs_trigram.specs.EndStrings.{AreEndStrings};
+ghost use Rattle.cs_trigram.specs.RegexpInfo.{IsInfoOf, IsSequence, IsAlternation};
 ghost use Rattle.cs_trigram.specs.Analysis.{IsMatchQuery};
 ghost use Rattle.cs_trigram.specs.declared.queries.Query.TheVariants.{All};
+ghost use Rattle.cs_trigram.specs.declared.end_strings.Side.TheVariants.{Prefix, Suffix};
 
 use crate::connectives::any_string;
-use crate::ends::Ends;
+use crate::end_strings::{
+    EndString, Side, bare_end_string, concatenate_end_strings, end_strings_of,
+    end_strings_of_repeat, union_of_end_strings,
+};
 use crate::exact_set::ExactSet;
-use crate::expansion::strings_of_repeat;
+use crate::expansion::{empty_string, strings_of_repeat};
 use crate::queries::Query;
+use crate::sequence_query::SequenceQuery;
 use std::alloc::{AllocError, Global};
+use std::mem;
 
 /// The result of the analysis of a tree.
 #[derive(Drop)]
 pub(crate) struct RegexpInfo {
     pub(crate) exact: ExactSet,
-    pub(crate) ends: Ends,
+    /// The prefixes of its matches.
+    pub(crate) prefix: Vec<EndString>,
+    /// The suffixes of its matches.
+    pub(crate) suffix: Vec<EndString>,
     /// The query of the tree (`match` in Go's codesearch).
     pub(crate) query: Query,
 }
 
 impl RegexpInfo {
-    /// The analysis of a tree with this exact set. The ends and the query are those of the exact
-    /// strings if the set is small, otherwise the given ones.
+    /// The analysis of a tree with this exact set. The prefixes, the suffixes and the query are
+    /// those of the exact strings if the set is small, otherwise the given ones.
     pub(crate) fn new(
         alloc: Global,
         exact: ExactSet,
-        ends: Ends,
+        prefix: Vec<EndString>,
+        suffix: Vec<EndString>,
         query: Query,
     ) -> Result<RegexpInfo, AllocError>
-        ensures { IfOk result (λ info. (t : Tree) → IsExactSetOf exact t → AreEnds ends t →
+        ensures { IfOk result (λ info. (t : Tree) → IsExactSetOf exact t →
+            AreEndStrings Prefix prefix.items t → AreEndStrings Suffix suffix.items t →
             IsMatchQuery query t → IsInfoOf info t) }
     {
         let Some(few) = exact.few_strings() else {
-            return Ok(RegexpInfo { exact, ends, query });
+            return Ok(RegexpInfo {
+                exact,
+                prefix,
+                suffix,
+                query,
+            });
         };
-        let ends = Ends::of_strings(alloc, few)?;
+        let prefix = end_strings_of(alloc, Side::Prefix, few)?;
+        let suffix = end_strings_of(alloc, Side::Suffix, few)?;
         let query = any_string(alloc, few)?;
-        Ok(RegexpInfo { exact, ends, query })
+        Ok(RegexpInfo {
+            exact,
+            prefix,
+            suffix,
+            query,
+        })
     }
 
     /// The analysis of a leaf with this exact set.
@@ -48,7 +72,9 @@ impl RegexpInfo {
         ensures { IfOk result (λ info. (t : Tree) → IsExactSetOf exact t → IsMatchQuery All t →
             IsInfoOf info t) }
     {
-        RegexpInfo::new(alloc, exact, Ends::of_any(alloc)?, Query::All)
+        let prefix = bare_end_string(alloc, false)?;
+        let suffix = bare_end_string(alloc, false)?;
+        RegexpInfo::new(alloc, exact, prefix, suffix, Query::All)
     }
 
     /// The analysis of a repeat of a tree.
@@ -60,12 +86,136 @@ impl RegexpInfo {
     ) -> Result<RegexpInfo, AllocError>
         ensures { IfOk result (λ info. (t : Tree) → IsInfoOf once t → IsInfoOf info (rep t least most)) }
     {
-        let RegexpInfo { exact, ends, query } = once;
+        let RegexpInfo {
+            exact,
+            prefix,
+            suffix,
+            query,
+        } = once;
         let exact = strings_of_repeat(alloc, &exact, least, most)?;
-        let ends = ends.of_repeat(alloc, least)?;
+        let prefix = end_strings_of_repeat(alloc, Side::Prefix, &prefix, least)?;
+        let suffix = end_strings_of_repeat(alloc, Side::Suffix, &suffix, least)?;
         if least == 0 {
-            return RegexpInfo::new(alloc, exact, ends, Query::All);
+            return RegexpInfo::new(alloc, exact, prefix, suffix, Query::All);
         }
-        RegexpInfo::new(alloc, exact, ends, query)
+        RegexpInfo::new(alloc, exact, prefix, suffix, query)
+    }
+}
+
+/// The analysis of the last parts of a sequence.
+#[derive(Drop)]
+pub(crate) struct SequenceInfo {
+    exact: ExactSet,
+    prefix: Vec<EndString>,
+    suffix: Vec<EndString>,
+    sequence_query: SequenceQuery,
+}
+
+impl SequenceInfo {
+    /// The analysis of no parts.
+    pub(crate) fn new(alloc: Global) -> Result<SequenceInfo, AllocError>
+        ensures { IfOk result (λ sequence. IsSequence sequence none) }
+    {
+        let exact = ExactSet::of(empty_string(alloc)?);
+        let prefix = bare_end_string(alloc, true)?;
+        let suffix = bare_end_string(alloc, true)?;
+        let sequence_query = SequenceQuery::new(alloc)?;
+        Ok(SequenceInfo {
+            exact,
+            prefix,
+            suffix,
+            sequence_query,
+        })
+    }
+
+    /// Prepends a part.
+    pub(crate) fn add(&mut self, alloc: Global, part: RegexpInfo) -> Result<(), AllocError>
+        ensures { OnOk result ((t : Tree) (ts : Trees) → IsInfoOf part t → IsSequence self.old ts →
+            IsSequence self.new (more t ts)) }
+    {
+        let RegexpInfo {
+            exact,
+            prefix,
+            suffix,
+            query,
+        } = part;
+        self.exact = exact.concatenate(alloc, &self.exact)?;
+        self.sequence_query
+            .add(alloc, query, exact, &suffix, &self.prefix)?;
+        self.prefix = concatenate_end_strings(alloc, Side::Prefix, &prefix, &self.prefix)?;
+        self.suffix = concatenate_end_strings(alloc, Side::Suffix, &self.suffix, &suffix)?;
+        Ok(())
+    }
+
+    /// The analysis of the whole sequence.
+    pub(crate) fn finish(self, alloc: Global) -> Result<RegexpInfo, AllocError>
+        ensures { IfOk result (λ info. (ts : Trees) → IsSequence self ts →
+            IsInfoOf info (cat ts)) }
+    {
+        let SequenceInfo {
+            exact,
+            prefix,
+            suffix,
+            sequence_query,
+        } = self;
+        let query = sequence_query.finish(alloc)?;
+        RegexpInfo::new(alloc, exact, prefix, suffix, query)
+    }
+}
+
+/// The analysis of some branches of an alternation.
+#[derive(Drop)]
+pub(crate) struct AlternationInfo {
+    exact: ExactSet,
+    prefix: Vec<EndString>,
+    suffix: Vec<EndString>,
+    /// The queries of the branches.
+    members: Vec<Query>,
+}
+
+impl AlternationInfo {
+    /// The analysis of no branches.
+    pub(crate) fn new(alloc: Global) -> AlternationInfo
+        ensures { IsAlternation result none }
+    {
+        AlternationInfo {
+            exact: ExactSet::Strings(Vec::new(alloc)),
+            prefix: Vec::new(alloc),
+            suffix: Vec::new(alloc),
+            members: Vec::new(alloc),
+        }
+    }
+
+    /// Prepends a branch.
+    pub(crate) fn add(&mut self, alloc: Global, branch: RegexpInfo) -> Result<(), AllocError>
+        ensures { OnOk result ((t : Tree) (ts : Trees) → IsInfoOf branch t → IsAlternation self.old ts →
+            IsAlternation self.new (more t ts)) }
+    {
+        let RegexpInfo {
+            exact,
+            prefix,
+            suffix,
+            query,
+        } = branch;
+        self.exact = exact.union(alloc, &self.exact)?;
+        let prefixes = mem::replace(&mut self.prefix, Vec::new(alloc));
+        self.prefix = union_of_end_strings(alloc, Side::Prefix, prefixes, &prefix)?;
+        let suffixes = mem::replace(&mut self.suffix, Vec::new(alloc));
+        self.suffix = union_of_end_strings(alloc, Side::Suffix, suffixes, &suffix)?;
+        self.members.push(query)?;
+        Ok(())
+    }
+
+    /// The analysis of the whole alternation.
+    pub(crate) fn finish(self, alloc: Global) -> Result<RegexpInfo, AllocError>
+        ensures { IfOk result (λ info. (ts : Trees) → IsAlternation self ts → IsInfoOf info (alt ts)) }
+    {
+        let AlternationInfo {
+            exact,
+            prefix,
+            suffix,
+            members,
+        } = self;
+        RegexpInfo::new(alloc, exact, prefix, suffix, Query::Or(members))
     }
 }

@@ -5,7 +5,7 @@ ghost use Rattle.cs_trigram.specs.Scans.{IsScanOf, HasTrigramSet, IsGatheringOf,
 ghost use Rattle.cs_tree.specs.FailureCount.{count_after};
 ghost use Rattle.cs_trigram.specs.Text.{limits};
 
-use crate::gatherer::Gatherer;
+use crate::gatherer::{Gatherer, Outcome, set_of};
 use crate::limits::LIMITS;
 use crate::scan::{Gathered, Scan, ScanFault};
 use cs_tree::Source;
@@ -54,7 +54,13 @@ impl Scanner {
         ensures bounded { ConsumesAtMost (limits.bytes + 1) (R.model source.old) (R.model source.new) }
         ensures keeps { R.Keeps source.old source.new }
     {
-        self.gatherer.scan(self.alloc, source)
+        match self.gatherer.read(source)? {
+            Outcome::Text(bytes) => {
+                let trigrams = set_of(self.alloc, self.gatherer.numbers())?;
+                Ok(Scan::Text { trigrams, bytes })
+            }
+            Outcome::Skip(reason) => Ok(Scan::Skip(reason)),
+        }
     }
 
     /// Scans a file as `scan` does. The trigrams of the result are borrowed from the scanner, in
@@ -71,7 +77,12 @@ impl Scanner {
         ensures bounded { ConsumesAtMost (limits.bytes + 1) (R.model source.old) (R.model source.new) }
         ensures keeps { R.Keeps source.old source.new }
     {
-        let outcome = self.gatherer.read(source)?;
-        Ok(self.gatherer.gathering(outcome))
+        Ok(match self.gatherer.read(source)? {
+            Outcome::Text(bytes) => Gathered::Text {
+                trigrams: self.gatherer.numbers(),
+                bytes,
+            },
+            Outcome::Skip(reason) => Gathered::Skip(reason),
+        })
     }
 }

@@ -1,21 +1,22 @@
 // The query of a sequence, part by part from the last to the first: a string of each exact run, and
 // what the other parts require.
-ghost use Rattle.std.specs.Prelude.{◌≡◌, List, IfOk, OnOk};
+ghost use Rattle.std.specs.Prelude.{◌≡◌, List, IfOk, OnOk, MatchOption};
 ghost use Rattle.std.specs.List.{list_all};
 ghost use Rattle.cs_syntax.specs.Matching.{Tree, Trees, none, more, cat};
 ghost use Rattle.cs_trigram.specs.ExactQuery.{HasFewExactStrings};
 ghost use Rattle.cs_trigram.specs.EndStrings.{AreEndStrings, AreEndStringsOfAll};
 ghost use Rattle.cs_trigram.specs.ExactSet.{IsExactSetOf, AreExactSetsReversed};
-ghost use Rattle.cs_trigram.specs.Analysis.{IsCorrect, IsMatchQuery, MentionsOnly, AreExactStrings};
+ghost use Rattle.cs_trigram.specs.Analysis.{IsCorrect, IsMatchQuery, AreExactStrings, AreExactStringsOfRun, IsLongestLeadingRun};
 ghost use Rattle.cs_trigram.specs.declared.end_strings.Side.TheVariants.{Prefix, Suffix};
+ghost use Rattle.cs_syntax.specs.TreeList.{append};
+ghost use Rattle.cs_trigram.specs.ExactStrings.{HaveFewExactStrings};
 
 use crate::connectives::{add_conjunct, any_string};
 use crate::cross_product::cross_product_query;
 use crate::end_strings::{EndString, are_empty};
 use crate::exact_set::ExactSet;
-use crate::exact_string::{ExactString, MAX_EXACT, are_longer, cross_product};
+use crate::exact_string::{ExactString, MAX_EXACT, are_longer, copies, cross_product};
 use crate::expansion::empty_string;
-use crate::leading_run::longest_leading_run;
 use crate::queries::Query;
 use std::alloc::{AllocError, Global};
 
@@ -32,7 +33,7 @@ pub(crate) struct SequenceQuery {
 }
 
 impl SequenceQuery {
-    ghost use Rattle.cs_trigram.specs.SequenceQuery.{IsSequenceQueryOf, ExtendsSequenceQuery, MatchesAcross, IsAcross, goes_two_past, has_cross_trigrams};
+    ghost use Rattle.cs_trigram.specs.SequenceQuery.{IsSequenceQueryOf, ExtendsSequenceQuery, goes_two_past, has_cross_trigrams};
 
     /// The query of no parts.
     pub(crate) fn new(alloc: Global) -> Result<SequenceQuery, AllocError>
@@ -50,8 +51,8 @@ impl SequenceQuery {
     /// Ends the leading run at a part without a small exact set, which has this query.
     fn cut(&mut self, alloc: Global, match_query: Query) -> Result<(), AllocError>
         ensures parts { OnOk result (self.new.parts ≡ self.old.parts) }
-        ensures required { OnOk result ((t : Tree) (ts : Trees) → ¬ HasFewExactStrings t → IsCorrect match_query t →
-            ExtendsSequenceQuery self.old self.new t ts) }
+        ensures required { OnOk result ((t : Tree) (ts : Trees) → ¬ HasFewExactStrings t →
+            IsCorrect match_query t → ExtendsSequenceQuery self.old self.new t ts) }
     {
         add_conjunct(&mut self.conjuncts, any_string(alloc, &self.leading)?)?;
         add_conjunct(&mut self.conjuncts, match_query)?;
@@ -83,8 +84,8 @@ impl SequenceQuery {
         exact: &ExactSet,
     ) -> Result<(), AllocError>
         ensures parts { OnOk result (self.new.parts ≡ self.old.parts) }
-        ensures required { OnOk result ((t : Tree) (ts : Trees) → IsExactSetOf exact.now t → IsCorrect match_query t →
-            AreExactSetsReversed self.old.parts.items ts → ExtendsSequenceQuery self.old self.new t ts) }
+        ensures required { OnOk result ((t : Tree) (ts : Trees) → IsExactSetOf exact.now t →
+            IsCorrect match_query t → AreExactSetsReversed self.old.parts.items ts → ExtendsSequenceQuery self.old self.new t ts) }
     {
         match exact.few_strings() {
             Some(few) => self.prepend_few(alloc, few),
@@ -115,23 +116,7 @@ impl SequenceQuery {
         are_empty(suffixes) || are_empty(prefixes) || self.extend_past_all(suffixes)
     }
 
-    /// The trigrams across the end of the first part that the leading run does not have.
-    fn cross_query(
-        &self,
-        alloc: Global,
-        suffixes: &[EndString],
-        prefixes: &[EndString],
-    ) -> Result<Query, AllocError>
-        ensures required { IfOk result (λ q. MatchesAcross q suffixes.now prefixes.now) }
-        ensures mentioned { IfOk result (λ q. MentionsOnly q (IsAcross suffixes.now prefixes.now)) }
-    {
-        if self.covers_cross(suffixes, prefixes) {
-            return Ok(Query::All);
-        }
-        cross_product_query(alloc, suffixes, prefixes)
-    }
-
-    /// Requires the trigrams across the end of the first part.
+    /// Requires the trigrams across the end of the first part, unless the leading run has them.
     fn add_cross(
         &mut self,
         alloc: Global,
@@ -143,7 +128,10 @@ impl SequenceQuery {
             AreEndStringsOfAll Prefix prefixes.now ts →
             IsSequenceQueryOf self.old (more t ts) → IsSequenceQueryOf self.new (more t ts)) }
     {
-        let cross_query = self.cross_query(alloc, suffixes, prefixes)?;
+        if self.covers_cross(suffixes, prefixes) {
+            return Ok(());
+        }
+        let cross_query = cross_product_query(alloc, suffixes, prefixes)?;
         add_conjunct(&mut self.conjuncts, cross_query)?;
         Ok(())
     }
@@ -159,9 +147,10 @@ impl SequenceQuery {
         prefixes: &[EndString],
     ) -> Result<(), AllocError>
         ensures parts { OnOk result ((t : Tree) (ts : Trees) → IsExactSetOf exact t →
-            AreExactSetsReversed self.old.parts.items ts → AreExactSetsReversed self.new.parts.items (more t ts)) }
-        ensures required { OnOk result ((t : Tree) (ts : Trees) → IsExactSetOf exact t → IsCorrect match_query t →
-            AreEndStrings Suffix suffixes.now t → AreEndStringsOfAll Prefix prefixes.now ts →
+            AreExactSetsReversed self.old.parts.items ts →
+            AreExactSetsReversed self.new.parts.items (more t ts)) }
+        ensures required { OnOk result ((t : Tree) (ts : Trees) → IsExactSetOf exact t →
+            IsCorrect match_query t → AreEndStrings Suffix suffixes.now t → AreEndStringsOfAll Prefix prefixes.now ts →
             AreExactSetsReversed self.old.parts.items ts → ExtendsSequenceQuery self.old self.new t ts) }
     {
         self.prepend(alloc, match_query, &exact)?;
@@ -172,7 +161,8 @@ impl SequenceQuery {
 
     /// The query of the whole sequence.
     pub(crate) fn finish(self, alloc: Global) -> Result<Query, AllocError>
-        ensures { IfOk result (λ query. (ts : Trees) → IsSequenceQueryOf self ts → IsMatchQuery query (cat ts)) }
+        ensures { IfOk result (λ query.
+            (ts : Trees) → IsSequenceQueryOf self ts → IsMatchQuery query (cat ts)) }
     {
         let SequenceQuery {
             leading,
@@ -183,4 +173,51 @@ impl SequenceQuery {
         add_conjunct(&mut conjuncts, last)?;
         Ok(Query::And(conjuncts))
     }
+}
+
+/// The exact strings of a run extended by the part after it, if there are one to twenty.
+fn extended_run(
+    alloc: Global,
+    strings: &[ExactString],
+    next: &ExactSet,
+) -> Result<Option<Vec<ExactString>>, AllocError>
+    ensures { IfOk result (λ found. (run : Trees) (t : Tree) →
+        AreExactStringsOfRun strings.now run → IsExactSetOf next.now t →
+        MatchOption found (¬ HaveFewExactStrings (append run (more t none)))
+        (λ longer. AreExactStringsOfRun longer.items (append run (more t none)))) }
+{
+    let Some(suffixes) = next.few_strings() else {
+        return Ok(None);
+    };
+    let longer = cross_product(alloc, strings, suffixes)?;
+    if longer.len() == 0 {
+        return Ok(None);
+    }
+    if longer.len() > MAX_EXACT {
+        return Ok(None);
+    }
+    Ok(Some(longer))
+}
+
+/// The exact strings of the longest leading run that has one to twenty. The first part of the
+/// sequence has the given strings, and `following` has the exact sets of the other parts, that of
+/// the second part last.
+pub(crate) fn longest_leading_run(
+    alloc: Global,
+    strings: &[ExactString],
+    following: &[ExactSet],
+) -> Result<Vec<ExactString>, AllocError>
+    ensures { IfOk result (λ leading. (t : Tree) (ts : Trees) → AreExactStrings strings.now t →
+        AreExactSetsReversed following.now ts → IsLongestLeadingRun (more t ts) leading.items) }
+{
+    let mut leading = copies(alloc, strings)?;
+    let mut index = following.len();
+    'parts: while index > 0 {
+        index -= 1;
+        let Some(longer) = extended_run(alloc, &leading, &following[index])? else {
+            return Ok(leading);
+        };
+        leading = longer;
+    }
+    Ok(leading)
 }

@@ -6,11 +6,12 @@ use Rattle.std.proofs.lemmas.List.{append-nil, get_or-drop}
 use Rattle.std.specs.Prelude.{filter, IfSome}
 use Rattle.std.specs.List.{AllByRecursion, AllZip, list_all, list_any, range_with_len}
 use Rattle.cs_trigram.specs.Trigram.{has}
-use Rattle.cs_index.specs.AscendingIds.{AscendWithin, BeginsFrom, max_ids}
+use Rattle.cs_index.specs.AscendingIds.{AscendWithin, BeginsFrom, ids_onward, max_ids}
 use Rattle.cs_index.specs.PostingLists.{Ids, before}
+use Rattle.cs_index.specs.IdStream.{IsMarked}
 use Rattle.cs_index.specs.Form.{IsRequired, number_matches}
 use Rattle.cs_index.specs.declared.reading.form.Node.{Node}
-use Rattle.cs_index.specs.Rows.{are_whole, column, have_id, HaveWidth, IsLeft, IsReadOn, IsReadTo, LacksId}
+use Rattle.cs_index.specs.Rows.{are_whole, column, have_id, HaveWidth, IsLeft, IsReadOn, IsReadTo, LacksId, RowSoFar}
 use Rattle.cs_index.specs.StoredLists.{ListState, Holds, ids_left}
 use Rattle.cs_index.proofs.postings.IteratorSteps.{mark_step}
 
@@ -36,14 +37,6 @@ shifted start id k h = elim (cases_Bool (eqb (id - start) k)) [
     | inr gone ↦ apart ∙ sym gone
   ]
 ]
-
--- The row of a list that is read in part.
-pub record RowSoFar (start end : ℕ) (list : Ids) (row : List Bool) (rest : Ids) : Type 0 where
-  pub width : (length row ≡ 0) ⊎ (length row ≡ end - start)
-  pub flags : (k : ℕ) → start + k < end → (get_or row k false || has rest.ids (start + k)) ≡ has list.ids (start + k)
-  pub same : (id : ℕ) → end ≤ id → has rest.ids id ≡ has list.ids id
-  pub from : AscendWithin max_ids start rest.ids
-  pub whole : rest.whole ≡ list.whole
 
 -- ids that are skipped
 skipped_same : (start id : ℕ) (xs ys : List ℕ) → AllByRecursion (λ k. k < start) xs → start ≤ id → has (xs ++ ys) id ≡ has ys id
@@ -85,6 +78,45 @@ row_more start end list row wide rest rest' id r first whole below long alike =
           ∙ ap (λ (ids : List ℕ). has ids k) (sym first) ∙ r.same k h;
       from = ascend_weaker max_ids start (id + 1) rest'.ids (omega (arith, up.0)) up.2;
       whole = whole ∙ r.whole;
+    }
+
+-- ---- ids that are taken at once
+
+-- one of the ids has this flag of a window
+onward_shifted : (start next k : ℕ) (ids : List ℕ) → start ≤ next → has (ids_onward (next - start) ids) k ≡ has (ids_onward next ids) (start + k)
+onward_shifted start next k [] h = refl
+onward_shifted start next k (id ∷ ids) h =
+    let at : next - start + id ≡ next + id - start = omega (arith, h) in
+    let first : eqb (next - start + id) k ≡ eqb (next + id) (start + k) = ap (λ n. eqb n k) at ∙ shifted start (next + id) k (omega (arith, h)) in
+    λ i. first i || onward_shifted start next k ids h i
+
+or_assoc : (a b c : Bool) → ((a || b) || c) ≡ (a || (b || c))
+or_assoc true b c = refl
+or_assoc false b c = refl
+
+pub has-append : (xs ys : List ℕ) (k : ℕ) → has (xs ++ ys) k ≡ (has xs k || has ys k)
+has-append [] ys k = refl
+has-append (x ∷ xs) ys k = ap (λ b. eqb x k || b) (has-append xs ys k) ∙ sym (or_assoc (eqb x k) (has xs k) (has ys k))
+
+taken_ascend : (m a : ℕ) (xs ys : List ℕ) → AscendWithin m a (xs ++ ys) → AscendWithin m a ys
+taken_ascend m a [] ys up = up
+taken_ascend m a (x ∷ xs) ys up = ascend_weaker m a (x + 1) ys (omega (arith, up.0)) (taken_ascend m (x + 1) xs ys up.2)
+
+-- several ids more, whose flags are set
+pub row_taken : (start end next : ℕ) (list rest rest' : Ids) (row marked : List Bool) (ids : List ℕ) → start ≤ next → RowSoFar start end list row rest → rest ≡ before (ids_onward next ids) rest' → AllByRecursion (λ id. id < end) (ids_onward next ids) → IsMarked (next - start) ids row marked → RowSoFar start end list marked rest'
+row_taken start end next list rest rest' row marked ids order r is below m =
+    let taken : List ℕ = ids_onward next ids in
+    let all : rest.ids ≡ taken ++ rest'.ids = ap (λ (t : Ids). t.ids) is in
+    record {
+      width = subst (λ n. (n ≡ 0) ⊎ (n ≡ end - start)) (sym m.width) r.width;
+      flags = λ k h.
+          ap (λ b. b || has rest'.ids (start + k)) (m.flags k ∙ ap (λ b. get_or row k false || b) (onward_shifted start next k ids order))
+          ∙ or_assoc (get_or row k false) (has taken (start + k)) (has rest'.ids (start + k))
+          ∙ ap (λ b. get_or row k false || b) (sym (has-append taken rest'.ids (start + k)) ∙ ap (λ (t : List ℕ). has t (start + k)) (sym all))
+          ∙ r.flags k h;
+      same = λ id h. sym (skipped_same end id taken rest'.ids below h) ∙ ap (λ (t : List ℕ). has t id) (sym all) ∙ r.same id h;
+      from = taken_ascend max_ids start taken rest'.ids (subst (AscendWithin max_ids start) all r.from);
+      whole = sym (ap (λ (t : Ids). t.whole) is) ∙ r.whole;
     }
 
 pub row_ends : (start end : ℕ) (list : Ids) (row : List Bool) (rest : Ids) → RowSoFar start end list row rest → BeginsFrom end rest.ids → (k : ℕ) → start + k < end → get_or row k false ≡ has list.ids (start + k)
@@ -351,9 +383,9 @@ left_at xs ys k d same =
     sym (get_or-drop k xs 0 d ∙ ap (λ n. get_or xs n d) at) ∙ ap (λ (zs : List ListState). get_or zs 0 d) same ∙ get_or-drop k ys 0 d ∙ ap (λ n. get_or ys n d) at
 
 -- what is written back to a Vec
-pub taken_back : (n : ℕ) (xs ys : List ListState) → n ≡ length xs → take n (xs ++ ys) ≡ xs
-taken_back n xs ys is = ap (λ k. take k (xs ++ ys)) is ∙ of xs
+pub taken_back : {X : Type 0} (n : ℕ) (xs ys : List X) → n ≡ length xs → take n (xs ++ ys) ≡ xs
+taken_back {X} n xs ys is = ap (λ k. take k (xs ++ ys)) is ∙ of xs
   where
-    of : (zs : List ListState) → take (length zs) (zs ++ ys) ≡ zs
+    of : (zs : List X) → take (length zs) (zs ++ ys) ≡ zs
     of [] = refl
-    of (z ∷ zs) = ap (λ (t : List ListState). z ∷ t) (of zs)
+    of (z ∷ zs) = ap (λ (t : List X). z ∷ t) (of zs)

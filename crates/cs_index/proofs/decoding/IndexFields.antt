@@ -40,7 +40,7 @@ unfolding is_list_index
 entries_rise room bytes h =
     (and_parts (rises (entries_in bytes)) (list_all (is_entry room) (entries_in bytes)) (and_parts (eqb (length bytes % 11) 0) (rises (entries_in bytes) && list_all (is_entry room) (entries_in bytes)) h).1).0
 
-pub few_read : (s : SectionBytes) → AreOpenedSections s → length (texts_of s.names) < 2 ^ 31
+pub few_read : {bytes : List ℕ} (s : SectionBytes) → AreOpenedSections bytes s → length (texts_of s.names) < 2 ^ 31
 few_read s is = let long = offsets_long s.name_index (texts_of s.names) is.read.offsets in omega (arith, long, is.names_bound)
 
 pub list_given : (s : SectionBytes) (now : Parts) (position name_count g : ℕ) → parts_of s ≡ now → position < length s.list_index / 11 → name_count ≡ length now.names → g ≡ trigram_at s.list_index (11 * position) → ◌≡◌ {A = Option (ℕ × Ids)} (Some (g, read_list s.postings name_count (entry_at s.list_index (11 * position)))) (option_map (λ (e : ListEntry). (e.trigram, ids_read now e)) (slice_get now.entries position))

@@ -14,7 +14,7 @@ unfolding is_list_index
 entries_fit room bytes h =
     (and_parts (rises (entries_in bytes)) (list_all (is_entry room) (entries_in bytes)) (and_parts (eqb (length bytes % 11) 0) (rises (entries_in bytes) && list_all (is_entry room) (entries_in bytes)) h).1).1
 
-pub parts_read : (s : SectionBytes) → AreOpenedSections s → AreValidParts (parts_of s)
+pub parts_read : {bytes : List ℕ} (s : SectionBytes) → AreOpenedSections bytes s → AreValidParts (parts_of s)
 parts_read s is = record {
   each_path = (section_read (0 ∷ []) s.paths is.read.each_path).0;
   each_name = elim (or_cases (is_section (0 ∷ []) s.names) (is_section [] s.names) is.read.each_name) [

@@ -1,17 +1,20 @@
 -- Encoded runs: ids that are copied as varint deltas.
-use Rattle.std.proofs.Common.{◌≡◌, ℕ, suc, ◌+◌, ◌-◌, ◌*◌, ◌/◌, ◌%◌, ◌^◌, ◌<◌, ◌≤◌, Bool, false, cond, ltb, List, [], ◌∷◌, ◌++◌, length, get_or, take, drop, refl, sym, ap, subst, ◌∙◌, arith, append_assoc}
+use Rattle.std.proofs.Common.{◌≡◌, ℕ, suc, ◌+◌, ◌-◌, ◌*◌, ◌/◌, ◌%◌, ◌^◌, ◌<◌, ◌≤◌, Bool, true, false, cond, ◌||◌, eqb, ltb, List, [], ◌∷◌, ◌++◌, length, length-set, get_or, set, take, drop, refl, sym, ap, subst, ◌∙◌, arith, append_assoc}
 use Rattle.std.proofs.lemmas.Bool.{lt-ltb, le-ltb, and_from}
 use Rattle.std.proofs.lemmas.List.{append-nil, length-map}
+use Rattle.std.proofs.Math.Bool.{or-false}
 use Rattle.std.proofs.Math.Seq.{take-add}
 use Rattle.std.specs.List.{AllByRecursion}
 use Rattle.std.specs.Prelude.{flat_map, fold, sum}
 use Rattle.cs_index.specs.Encoding.{varint, varint_within, deltas_from, stream_of}
-use Rattle.cs_index.specs.IdStream.{ids_in, IsStream}
+use Rattle.cs_trigram.specs.Trigram.{has}
+use Rattle.cs_index.specs.IdStream.{ids_from, ids_in, IsMarked, IsStream}
 use Rattle.cs_index.specs.AscendingIds.{ids_onward, max_ids, next_after, AscendWithin}
 use Rattle.cs_index.specs.PostingLists.{Ids, before, read_ids, read_varint, onto, damage}
 use Rattle.cs_index.specs.PostingsInvariant.{remaining_ids}
-use Rattle.cs_index.proofs.postings.StreamPush.{rise_length, short_varint, stream_from, stream_more}
+use Rattle.cs_index.proofs.postings.StreamPush.{decoded-stream_of, rise_length, short_varint, stream_from, stream_more}
 use Rattle.cs_index.proofs.encoding.VarintRoundtrip.{varint_read, after_delta}
+use Rattle.cs_index.proofs.postings.IteratorSteps.{mark_step}
 
 -- ---- relative ids
 
@@ -121,6 +124,19 @@ joined bytes len count next size ids end is more fits =
     (subst (λ n. IsStream (take (len + size) bytes) n (next_after next (ids_onward next some))) many
     (subst (λ s. IsStream s (count + length (ids_onward next some)) (next_after next (ids_onward next some))) all push.is))
 
+-- and its ids
+pub joined_ids : (bytes : List ℕ) (len count next size ids end : ℕ) → IsStream (take len bytes) count next →
+    IsStream (take size (drop len bytes)) ids end → next + end ≤ max_ids →
+    ids_in (take (len + size) bytes) (count + ids) ≡ ids_in (take len bytes) count ++ ids_onward next (ids_in (take size (drop len bytes)) ids)
+joined_ids bytes len count next size ids end is more fits =
+    let some : List ℕ = ids_in (take size (drop len bytes)) ids in
+    let rise : AscendWithin max_ids next (ids_onward next some) =
+    onward_from max_ids max_ids next some more.rise (omega (arith, fits, more.follows)) in
+    let all : take len bytes ++ flat_map varint (deltas_from next (ids_onward next some)) ≡ take (len + size) bytes =
+    ap (λ s. take len bytes ++ s) (onward_stream next some ∙ sym more.written) ∙ sym (take-add len size bytes) in
+    let many : count + length (ids_onward next some) ≡ count + ids = ap (λ n. count + n) (length-map some (λ id. next + id) ∙ sym more.counted) in
+    (λ i. ids_in (sym all i) (sym many i)) ∙ (stream_more (take len bytes) count next (ids_onward next some) is rise).ids
+
 -- the stream of one id
 pub one_stream : (bytes : List ℕ) (size delta : ℕ) → 0 < delta → delta ≤ max_ids → take size bytes ≡ varint delta →
     IsStream (take size bytes) 1 delta
@@ -132,6 +148,14 @@ one_stream bytes size delta some bound written =
     ∙ ap varint same ∙ sym written in
     subst (IsStream (take size bytes) 1) back (subst (λ s. IsStream s 1 (delta - 1 + 1)) bytes_are is)
 
+pub one_id : (bytes : List ℕ) (size delta : ℕ) → 0 < delta → delta ≤ max_ids → take size bytes ≡ varint delta →
+    ids_in (take size bytes) 1 ≡ (delta - 1) ∷ []
+one_id bytes size delta some bound written =
+    let same : delta - 1 + 1 - 0 ≡ delta = omega (arith, some) in
+    let bytes_are : stream_of ((delta - 1) ∷ []) ≡ take size bytes = append-nil (varint (delta - 1 + 1 - 0))
+    ∙ ap varint same ∙ sym written in
+    ap (λ s. ids_in s 1) (sym bytes_are) ∙ decoded-stream_of ((delta - 1) ∷ []) (omega arith, omega (arith, some, bound), tt)
+
 -- ---- deltas of one byte each
 
 fold_more : (n : ℕ) (ns : List ℕ) → fold (λ a b. a + b) n ns ≡ n + sum ns
@@ -139,13 +163,8 @@ fold_more n [] = (let z : n ≡ n + 0 = omega arith in z)
 fold_more n (m ∷ ns) = fold_more (n + m) ns ∙ (let z : n + m + sum ns ≡ n + (m + sum ns) = omega arith in z)
     ∙ ap (λ s. n + s) (sym (fold_more (0 + m) ns ∙ (let z : 0 + m + sum ns ≡ m + sum ns = omega arith in z)))
 
-sum_more : (m : ℕ) (ns : List ℕ) → sum (m ∷ ns) ≡ m + sum ns
+pub sum_more : (m : ℕ) (ns : List ℕ) → sum (m ∷ ns) ≡ m + sum ns
 sum_more m ns = fold_more (0 + m) ns ∙ (let z : 0 + m + sum ns ≡ m + sum ns = omega arith in z)
-
--- the ids that deltas encode
-abbrev ids_from : ℕ → List ℕ → List ℕ
-ids_from next [] = []
-ids_from next (delta ∷ deltas) = (next + delta - 1) ∷ ids_from (next + delta) deltas
 
 ids_written : (next : ℕ) (deltas : List ℕ) → AllByRecursion (λ delta. (0 < delta) × (delta < 128)) deltas →
     flat_map varint (deltas_from next (ids_from next deltas)) ≡ deltas
@@ -189,6 +208,13 @@ deltas_stream deltas short fits =
     (subst (λ n. IsStream deltas n (next_after 0 (ids_from 0 deltas))) (ids_counted 0 deltas)
     (subst (λ s. IsStream s (length (ids_from 0 deltas)) (next_after 0 (ids_from 0 deltas))) (ids_written 0 deltas short) is))
 
+-- the ids of such a stream
+pub deltas_ids : (deltas : List ℕ) → AllByRecursion (λ delta. (0 < delta) × (delta < 128)) deltas →
+    sum deltas ≤ max_ids → ids_in deltas (length deltas) ≡ ids_from 0 deltas
+deltas_ids deltas short fits =
+    (λ i. ids_in (sym (ids_written 0 deltas short) i) (sym (ids_counted 0 deltas) i))
+    ∙ decoded-stream_of (ids_from 0 deltas) (ids_rising 0 deltas short (omega (arith, fits)))
+
 pub two_bytes : (first second : ℕ) → 128 ≤ first → first < 256 → 0 < second → second < 128 →
     first ∷ second ∷ [] ≡ varint (first - 128 + 128 * second)
 unfolding varint
@@ -224,3 +250,51 @@ run_skipped ended name_count left next last len on bytes rest ids now view off a
     ∙ ap (λ b. remaining_ids b name_count left next bytes) off
     ∙ left_prefix name_count next left bytes rest ids bound up (omega (arith, within, go)) (omega (arith, fits, count)) is
     ∙ (λ i. before (ids_onward (at i) ids) (remaining_ids (sym off i) name_count (left - sym count i) (next + sym go i) rest))
+
+-- ---- flags of ids
+
+-- ids that are counted from another one
+pub from_onward : (at next : ℕ) (deltas : List ℕ) → AllByRecursion (λ delta. (0 < delta) × (delta < 128)) deltas → ids_from (at + next) deltas ≡ ids_onward at (ids_from next deltas)
+from_onward at next [] short = refl
+from_onward at next (delta ∷ deltas) short =
+    let first : at + next + delta - 1 ≡ at + (next + delta - 1) = omega (arith, short.0.0) in
+    let on : at + next + delta ≡ at + (next + delta) = omega arith in
+    λ i. first i ∷ (ap (λ n. ids_from n deltas) on ∙ from_onward at (next + delta) deltas short.1) i
+
+pub marked_none : (at : ℕ) (row : List Bool) → IsMarked at [] row row
+marked_none at row = record { width = refl; flags = λ k. sym (or-false (get_or row k false)) }
+
+-- the empty stream has no ids
+pub none_in : ids_in [] 0 ≡ []
+unfolding ids_in
+none_in = refl
+
+pub marked_one : (at delta : ℕ) (row : List Bool) → 0 < delta → at + delta ≤ length row → IsMarked at ((delta - 1) ∷ []) row (set row (at + delta - 1) true)
+marked_one at delta row some within = record {
+  width = length-set row (at + delta - 1) true;
+  flags = λ k.
+      sym (or-false (get_or (set row (at + delta - 1) true) k false))
+      ∙ mark_step row (at + delta - 1) k false (omega (arith, some, within))
+      ∙ ap (λ n. get_or row k false || (eqb n k || false)) (let same : at + delta - 1 ≡ at + (delta - 1) = omega (arith, some) in same);
+}
+
+pub marked_more : (at next : ℕ) (xs ys all : List ℕ) (row one two : List Bool) → all ≡ xs ++ ids_onward next ys → IsMarked at xs row one → IsMarked (at + next) ys one two → IsMarked at all row two
+marked_more at next xs ys all row one two is m n = record {
+  width = n.width ∙ m.width;
+  flags = λ k.
+      n.flags k ∙ ap (λ b. b || has (ids_onward (at + next) ys) k) (m.flags k)
+      ∙ assoc (get_or row k false) (has (ids_onward at xs) k) (has (ids_onward (at + next) ys) k)
+      ∙ ap (λ b. get_or row k false || b) (sym (both k xs) ∙ ap (λ (ids : List ℕ). has (ids_onward at ids) k) (sym is));
+}
+  where
+    assoc : (a b c : Bool) → ((a || b) || c) ≡ (a || (b || c))
+    assoc true b c = refl
+    assoc false b c = refl
+
+    twice : (k : ℕ) (zs : List ℕ) → has (ids_onward at (ids_onward next zs)) k ≡ has (ids_onward (at + next) zs) k
+    twice k [] = refl
+    twice k (z ∷ zs) = let same : at + (next + z) ≡ at + next + z = omega arith in λ i. eqb (same i) k || twice k zs i
+
+    both : (k : ℕ) (zs : List ℕ) → has (ids_onward at (zs ++ ids_onward next ys)) k ≡ (has (ids_onward at zs) k || has (ids_onward (at + next) ys) k)
+    both k [] = twice k ys
+    both k (z ∷ zs) = ap (λ b. eqb (at + z) k || b) (both k zs) ∙ sym (assoc (eqb (at + z) k) (has (ids_onward at zs) k) (has (ids_onward (at + next) ys) k))

@@ -16,7 +16,7 @@ use Rattle.cs_index.proofs.encoding.VarintRoundtrip.{after_delta, below_limit}
 
 -- ---- a varint of a piece is that of the section
 
-abbrev grow : List ℕ → Option (ℕ × List ℕ) → Option (ℕ × List ℕ)
+abbrev pub grow : List ℕ → Option (ℕ × List ℕ) → Option (ℕ × List ℕ)
 grow more found = option_map (λ (n : ℕ × List ℕ). (n.0, n.1 ++ more)) found
 
 varint_grows : (room : ℕ) (bytes more : List ℕ) → room ≤ length bytes → varint_at room (bytes ++ more) ≡ grow more (varint_at room bytes)
@@ -32,7 +32,7 @@ varint_grows (suc room) (b ∷ bytes) more h =
     swap None = refl
     swap (Some found) = refl
 
-read_ready : (bytes more : List ℕ) → (5 ≤ length bytes) ⊎ (more ≡ []) → read_varint (bytes ++ more) ≡ grow more (read_varint bytes)
+pub read_ready : (bytes more : List ℕ) → (5 ≤ length bytes) ⊎ (more ≡ []) → read_varint (bytes ++ more) ≡ grow more (read_varint bytes)
 read_ready bytes more (inl long) = ap (option_and_then below_limit) (varint_grows 5 bytes more long) ∙ limited (varint_at 5 bytes)
   where
     limited : (o : Option (ℕ × List ℕ)) → option_and_then below_limit (grow more o) ≡ grow more (option_and_then below_limit o)
@@ -158,14 +158,24 @@ drop_first : (xs ys : List ℕ) → drop (length xs) (xs ++ ys) ≡ ys
 drop_first [] ys = refl
 drop_first (x ∷ xs) ys = drop_first xs ys
 
--- ids of the piece are skipped
+-- The list without its first ids, each less than `end`.
+pub record TakesIds (bytes : List ℕ) (end : ℕ) (ids : List ℕ) (list rest : ListState) : Type 0 where
+  pub holds : Holds bytes rest
+  pub left : ids_left bytes list ≡ before ids (ids_left bytes rest)
+  pub below : AllByRecursion (λ id. id < end) ids
+
+-- these ids are skipped
+pub ids_skipped : (bytes : List ℕ) (end : ℕ) (ids : List ℕ) (list rest : ListState) → TakesIds bytes end ids list rest → SkipsBelow bytes end list rest
+ids_skipped bytes end ids list rest t = (t.holds, ids, t.left, t.below)
+
+-- ids of the piece are taken
 pub run_taken : (bytes items : List ℕ) (used start stop left next name_count : ℕ) (ended whole : Bool) (end len : ℕ) (ids more : List ℕ) (now : ListState)
     → (let s : ListState = record { piece = drop used items; at = start + used; stop = stop; left = left; next = next; name_count = name_count; has_ended = ended; is_whole = whole } in s) ≡ now
     → ended ≡ false → drop used items ≡ stream_of ids ++ more → len ≡ length (stream_of ids) → used ≤ length items → start + length items ≤ stop
     → AscendWithin max_ids 0 ids → length ids ≤ left → next + next_after 0 ids ≤ name_count → next_after 0 ids ≤ end - next → name_count < max_ids → Holds bytes now
-    → SkipsBelow bytes end now (record { piece = drop (used + len) items; at = start + (used + len); stop = stop; left = left - length ids; next = next + next_after 0 ids; name_count = name_count; has_ended = ended; is_whole = whole })
+    → TakesIds bytes end (ids_onward next ids) now (record { piece = drop (used + len) items; at = start + (used + len); stop = stop; left = left - length ids; next = next + next_after 0 ids; name_count = name_count; has_ended = ended; is_whole = whole })
 run_taken bytes items used start stop left next name_count ended whole end len ids more now is going split size used_within within up count fits below few holds =
-    subst (λ (n : ListState). Holds bytes n → SkipsBelow bytes end n rest) is
+    subst (λ (n : ListState). Holds bytes n → TakesIds bytes end (ids_onward next ids) n rest) is
     (λ h.
     let l = length-drop used items in
     let a = length-append (stream_of ids) more in
@@ -176,15 +186,15 @@ run_taken bytes items used start stop left next name_count ended whole end len i
     ap (λ at. take (stop - at) (drop at bytes)) (let z : start + (used + len) ≡ start + used + len = omega arith in z)
     ∙ left_after bytes (start + used) stop len (omega (arith, l, inside, used_within, within))
     ∙ ap (drop len) left_bytes ∙ ap (λ n. drop n (stream_of ids ++ (more ++ h.0))) size ∙ drop_first (stream_of ids) (more ++ h.0) in
-    let piece : drop (used + len) items ≡ more = sym (drop-drop len used items) ∙ ap (drop len) split ∙ ap (λ n. drop n (stream_of ids ++ more)) size ∙ drop_first (stream_of ids) more in (
-      (h.0, after ∙ ap (λ p. p ++ h.0) (sym piece)),
-      ids_onward next ids,
-      ap (λ e. cond e (let r : Ids = record { ids = []; whole = whole } in r) (read_ids name_count left next (bytes_left bytes s))) going
+    let piece : drop (used + len) items ≡ more = sym (drop-drop len used items) ∙ ap (drop len) split ∙ ap (λ n. drop n (stream_of ids ++ more)) size ∙ drop_first (stream_of ids) more in
+    record {
+      holds = (h.0, after ∙ ap (λ p. p ++ h.0) (sym piece));
+      left = ap (λ e. cond e (let r : Ids = record { ids = []; whole = whole } in r) (read_ids name_count left next (bytes_left bytes s))) going
           ∙ left_prefix name_count next left (bytes_left bytes s) (more ++ h.0) ids few up fits count left_bytes
           ∙ ap (λ b. before (ids_onward next ids) (read_ids name_count (left - length ids) (next + next_after 0 ids) b)) (sym after)
-          ∙ ap (λ e. before (ids_onward next ids) (cond e (let r : Ids = record { ids = []; whole = whole } in r) (read_ids name_count (left - length ids) (next + next_after 0 ids) (bytes_left bytes rest)))) (sym going),
-      onward_below next end ids (all_below max_ids next end 0 ids up below),
-    )) holds
+          ∙ ap (λ e. before (ids_onward next ids) (cond e (let r : Ids = record { ids = []; whole = whole } in r) (read_ids name_count (left - length ids) (next + next_after 0 ids) (bytes_left bytes rest)))) (sym going);
+      below = onward_below next end ids (all_below max_ids next end 0 ids up below);
+    }) holds
   where
     s : ListState
     s = record { piece = drop used items; at = start + used; stop = stop; left = left; next = next; name_count = name_count; has_ended = ended; is_whole = whole }

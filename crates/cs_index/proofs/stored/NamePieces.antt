@@ -1,16 +1,15 @@
 -- Pieces of a store's bytes, and the strings in them.
-use Rattle.std.proofs.Common.{◌≡◌, ℕ, ◌+◌, ◌-◌, ◌*◌, ◌<◌, ◌≤◌, List, [], ◌∷◌, ◌++◌, length, take, drop, Option, None, Some, Result, String, Global, refl, sym, ap, subst, ◌∙◌, arith, append_assoc, length-append, length-drop, length-take, slice_get}
+use Rattle.std.proofs.Common.{◌≡◌, ℕ, ◌+◌, ◌-◌, ◌*◌, ◌<◌, ◌≤◌, List, [], ◌∷◌, ◌++◌, length, take, drop, Option, None, Some, Result, refl, sym, ap, subst, ◌∙◌, arith, append_assoc, length-append, length-drop, length-take, slice_get}
 use Rattle.std.proofs.lemmas.List.{drop-append-le, drop-drop, take-append-drop}
 use Rattle.std.specs.Option.{IfNone}
-use Rattle.std.specs.Prelude.{string_bytes}
 use Rattle.std.specs.Result.{IsOkAnd}
 use Rattle.cs_tree.specs.Store.{part_of}
 use Rattle.cs_index.specs.Encoding.{with_nul}
-use Rattle.cs_index.specs.NameReading.{name_section, ReadsNames}
+use Rattle.cs_index.specs.NameReading.{name_section, HasName, IsName, ReadsNames}
 use Rattle.cs_index.specs.OpenedParts.{Parts}
 use Rattle.cs_index.specs.Opening.{is_name_index, number_at, sections_at, texts_of}
 use Rattle.cs_index.specs.Pieces.{IsPiece, StandsAt}
-use Rattle.cs_index.specs.Stored.{IsName, StandsIn, StoredParts}
+use Rattle.cs_index.specs.Stored.{StandsIn, StoredParts}
 use Rattle.cs_index.specs.StoredOpening.{AreAscendingOffsets}
 use Rattle.cs_index.specs.declared.fault.IndexFault.{IndexFault}
 use Rattle.cs_index.specs.declared.reading.name_reader.NameReader.{NameReader}
@@ -41,9 +40,9 @@ if_none None not p = p
 if_none (Some x) not p = absurd (not x refl)
 
 -- what is said of a name, if there is one
-pub named : (found : Option (List ℕ)) (answer : Result (String Global) IndexFault) → ((name : List ℕ) → found ≡ Some name → IsOkAnd answer (λ text. string_bytes text ≡ name)) → IsName found answer
-named None answer so = tt
-named (Some name) answer so = so name refl
+pub named : (found : Option (List ℕ)) (answer : Result (Unit {0}) IndexFault) (reader : NameReader) → ((name : List ℕ) → found ≡ Some name → IsOkAnd answer (λ _. HasName reader name)) → IsName found answer reader
+named None answer reader so = tt
+named (Some name) answer reader so = so name refl
 
 -- ---- the names of a reader
 
@@ -92,9 +91,9 @@ module _ (bytes : List ℕ) (parts : Parts) (reader : NameReader) (reads : Reads
           }
 
 -- the reader of a stored index
-pub reads_names : (bytes : List ℕ) (parts : Parts) (stored : StoredParts) (offsets names : Piece) → AreAscendingOffsets stored.starts → StandsIn bytes stored parts → IsPiece bytes offsets → IsPiece bytes names
-    → ReadsNames bytes parts (record { start = stored.starts.names; end = stored.starts.postings; name_index = stored.starts.name_index; name_count = stored.name_count; offsets = offsets; names = names })
-reads_names bytes parts stored offsets names order stands one two =
+pub reads_names : (bytes : List ℕ) (parts : Parts) (stored : StoredParts) (offsets names : Piece) (at len : ℕ) → AreAscendingOffsets stored.starts → StandsIn bytes stored parts → IsPiece bytes offsets → IsPiece bytes names
+    → ReadsNames bytes parts (record { start = stored.starts.names; end = stored.starts.postings; name_index = stored.starts.name_index; name_count = stored.name_count; offsets = offsets; names = names; at = at; len = len })
+reads_names bytes parts stored offsets names at len order stands one two =
     let s : SectionOffsets = stored.starts in
     let passed = pass_from (sections_at bytes s) parts stands.read in
     let rise = rise_from s.paths s.names s.postings s.name_index s.list_index s.trailer order.order in

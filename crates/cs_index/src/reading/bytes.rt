@@ -57,21 +57,20 @@ pub(crate) fn first_texts(piece: &[u8]) -> Option<TextRun>
 {
     let mut rest = piece;
     let mut count = 0;
-    'texts: while let Some((text, next)) = first_text(rest) {
-        if std::str::from_utf8(text).is_err() {
-            return None;
-        }
+    'texts: while let Some((_text, next)) = first_text(rest) {
         rest = next;
         count += 1;
+    }
+    // A NUL is a character, so the strings are UTF-8 if all these bytes are.
+    let len = piece.len() - rest.len();
+    if std::str::from_utf8(&piece[..len]).is_err() {
+        return None;
     }
     // A NUL without a string ends the section.
     if rest.len() > 1 && rest[0] == 0 {
         return None;
     }
-    Some(TextRun {
-        len: piece.len() - rest.len(),
-        count,
-    })
+    Some(TextRun { len, count })
 }
 
 /// Whether a section is strings and one final NUL.

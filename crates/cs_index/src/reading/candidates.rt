@@ -33,7 +33,7 @@ use cs_trigram::Query;
 use std::alloc::{AllocError, Global};
 
 /// The most flags of all rows of a window.
-const FLAGS: usize = 1 << 22;
+const FLAGS: usize = 1 << 20;
 /// But a window has at least as many ids.
 const LEAST_WINDOW: usize = 1024;
 /// And it has at most as many.

@@ -1,5 +1,6 @@
-// Queries as forms: hash consing makes equal parts of a query one node. Conjunctions in conjunctions and disjunctions
-// in disjunctions are flattened, and a node that one member decides, or that has a single one, is no node.
+// Queries as forms: most equal parts of a query are one node. Conjunctions in conjunctions and disjunctions in
+// disjunctions are flattened, and a node that one member decides, or that has a single one, is no node. This is hash
+// consing in a table of fixed size: a slot keeps the last node with its hash, so an equal node may be made anew.
 ghost use Rattle.std.specs.Prelude.{◌≡◌, ◌<◌, ◌^◌, ◌+◌, ℕ, Bool, List, length, map, slice_index_or, IfOk, OnOk, IfSome};
 ghost use Rattle.cs_trigram.specs.Trigram.{Ascends};
 ghost use Rattle.cs_trigram.specs.Query.{matches_set};

@@ -1,30 +1,33 @@
 // An index that is read in place.
-ghost use Rattle.std.specs.Prelude.{◌≡◌, ◌==◌, ◌<◌, ◌^◌, ℕ, List, Err, IsOk, IfOk, IfErr, length, slice_get, option_map};
+ghost use Rattle.std.specs.Prelude.{◌≡◌, ◌==◌, ◌<◌, ◌^◌, ℕ, List, Ok, Err, IsOk, IfOk, IfErr, length, slice_get, option_map};
 ghost use Rattle.cs_index.specs.Postings.{entry_of};
 ghost use Rattle.cs_tree.specs.NamesAscending.{are_ascending};
 ghost use Rattle.cs_index.specs.ValidSections.{AreValidSections, AreOpenedSections};
 ghost use Rattle.std.specs.Option.{option_copied, option_map_or};
 ghost use Rattle.cs_index.specs.Encoding.{ListEntry};
-ghost use Rattle.cs_index.specs.Opening.{opening, read_sections};
+ghost use Rattle.cs_index.specs.Opening.{opening, read_sections, split_of};
 ghost use Rattle.cs_index.specs.Decoding.{DecodesAs};
 ghost use Rattle.cs_index.specs.Failing.{Fails};
 ghost use Rattle.cs_index.specs.OpenedParts.{ids_read};
 ghost use Rattle.cs_index.specs.SectionSlices.{borrowed_sections};
 ghost use Rattle.cs_index.specs.ValidParts.{AreValidParts};
 ghost use Rattle.cs_index.specs.StoredOpening.{with_lists};
+ghost use Rattle.cs_index.specs.Order.{IsOrderOf};
 
 use crate::fault::IndexFault;
-use crate::reading::bytes::{ascend, is_closed, is_complete, read_number, read_trigram};
+use crate::reading::bytes::{is_closed, is_complete, read_number, read_trigram};
 use crate::reading::entries::{entry_offset, entry_postings, has_entries, has_offsets};
 use crate::reading::name_table::NameTable;
 use crate::reading::postings::Postings;
 use crate::reading::section_slices::{SectionSlices, split};
 use crate::reading::texts::Texts;
+use std::alloc::{AllocError, Global};
 use std::marker::Model;
 
 /// An index that borrows its bytes. No method allocates, except those with an allocator.
 #[derive(Drop)]
 pub struct Index<'a> {
+    bytes: &'a [u8],
     pub(crate) slices: SectionSlices<'a>,
 }
 
@@ -39,7 +42,7 @@ impl<'a> Model for Index<'a> {
 
     ghost view = { λ s. parts_of (borrowed_sections s.slices) };
 
-    ghost invariant = { λ s. AreOpenedSections (borrowed_sections s.slices) };
+    ghost invariant = { λ s. AreOpenedSections s.bytes.now (borrowed_sections s.slices) };
 }
 
 impl<'a> Index<'a> {
@@ -50,7 +53,7 @@ impl<'a> Index<'a> {
         ensures fails { IfErr result (Fails bytes.now) }
     {
         match split(bytes) {
-            Ok(slices) => read(slices),
+            Ok(slices) => read(bytes, slices),
             Err(fault) => Err(fault),
         }
     }
@@ -61,9 +64,23 @@ impl<'a> Index<'a> {
         ensures { result ≡ opening bytes.now }
     {
         match split(bytes) {
-            Ok(slices) => Ok(Index { slices }),
+            Ok(slices) => Ok(Index { bytes, slices }),
             Err(error) => Err(error),
         }
+    }
+
+    /// The bytes that were opened.
+    pub fn bytes(&self) -> &'a [u8]
+        ensures { opening result.now ≡ Ok self.now }
+    {
+        self.bytes
+    }
+
+    /// States the invariant of every opened index, for callers that use its names and lists.
+    pub fn are_valid(&self)
+        ensures { AreValidParts self.now }
+    {
+        let _slices = &self.slices;
     }
 
     /// The number of names.
@@ -115,13 +132,21 @@ impl<'a> Index<'a> {
         Texts::new(self.slices.names)
     }
 
-    /// Whether the names are strictly ascending. The clause `parts` states the invariant of every
-    /// opened index, for callers that use its names and lists.
+    /// Whether the names are strictly ascending. The clause `parts` is that of `are_valid`.
     pub fn in_order(&self) -> bool
         ensures order { result ≡ are_ascending self.now.names }
         ensures parts { AreValidParts self.now }
     {
-        ascend(self.slices.names)
+        self.are_valid();
+        self.name_table().in_order()
+    }
+
+    /// The ids in ascending order of their names, or `None` if two names are equal.
+    pub fn order(&self, alloc: Global) -> Result<Option<Vec<u32>>, AllocError>
+        ensures { IfOk result (λ order.
+            IsOrderOf self.now.names (option_map (λ ids. ids.items) order)) }
+    {
+        self.name_table().order(alloc)
     }
 
     /// The number of posting lists.
@@ -168,7 +193,8 @@ impl<'a> Index<'a> {
 }
 
 /// Tests the sections and makes them an index.
-fn read<'a>(slices: SectionSlices<'a>) -> Result<Index<'a>, IndexFault>
+fn read<'a>(bytes: &'a [u8], slices: SectionSlices<'a>) -> Result<Index<'a>, IndexFault>
+    requires split { split_of bytes.now ≡ Ok (borrowed_sections slices) }
     requires names { length slices.name_index.now < 2 ^ 32 }
     requires lists { length slices.list_index.now < 2 ^ 32 }
     ensures { result ≡ read_sections (borrowed_sections slices.entry) }
@@ -183,7 +209,7 @@ fn read<'a>(slices: SectionSlices<'a>) -> Result<Index<'a>, IndexFault>
     ) {
         return Err(fault);
     }
-    Ok(Index { slices })
+    Ok(Index { bytes, slices })
 }
 
 /// Tests the sections, in the order of the variants of `IndexFault`. The posting lists are not

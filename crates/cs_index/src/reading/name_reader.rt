@@ -3,8 +3,9 @@ ghost use Rattle.std.specs.Prelude.{◌≡◌, ℕ, List, Some, IfOk, slice_get}
 ghost use Rattle.cs_tree.specs.FailureCount.{count_after};
 ghost use Rattle.cs_tree.specs.Transfers.{is_io_failure};
 ghost use Rattle.cs_index.specs.OpenedParts.{Parts};
-ghost use Rattle.cs_index.specs.NameReading.{ReadsNames};
-ghost use Rattle.cs_index.specs.Stored.{IsName, StandsIn};
+ghost use Rattle.cs_index.specs.NameReading.{HasName, IsName, ReadsNames};
+ghost use Rattle.cs_index.specs.Stored.{StandsIn};
+ghost use Rattle.std.specs.Result.{IsOkAnd};
 ghost use Rattle.cs_index.specs.StoredOpening.{AreAscendingOffsets};
 
 use crate::fault::IndexFault;
@@ -14,7 +15,7 @@ use cs_tree::{IoFault, Store};
 use std::alloc::Global;
 
 /// Reads the names of an index in a store. Where ids ascend, each byte of the names is read once, except those of
-/// the last name of a piece.
+/// the last name of a piece. The name that was read last has `len` bytes at the offset `at` of the store.
 #[derive(Drop)]
 pub struct NameReader {
     start: u32,
@@ -23,6 +24,8 @@ pub struct NameReader {
     name_count: u32,
     offsets: Piece,
     names: Piece,
+    at: usize,
+    len: usize,
 }
 
 impl NameReader {
@@ -40,20 +43,23 @@ impl NameReader {
             name_count,
             offsets: Piece::empty(alloc),
             names: Piece::empty(alloc),
+            at: 0,
+            len: 0,
         }
     }
 
-    /// The name with an id. Without one, or where the store changes while it is read, the answer may be an
-    /// error.
+    /// Reads the name with an id, which is `name` until the next call. Without one, or where the store changes while it
+    /// is read, the answer may be an error.
     pub fn read<S: Store>(
         &mut self,
         alloc: Global,
         store: &mut S,
         id: u32,
-    ) -> Result<Result<String, IndexFault>, IoFault>
+    ) -> Result<Result<(), IndexFault>, IoFault>
         ensures name { (bytes : List ℕ) → S.model store.old ≡ Some bytes → (parts : Parts) →
             ReadsNames bytes parts self.old →
-            IfOk result (λ answer. IsName (slice_get parts.names id) answer × ReadsNames bytes parts self.new) }
+            IfOk result (λ answer. IsName (slice_get parts.names id) answer self.new
+            × ReadsNames bytes parts self.new) }
         ensures keeps { S.model store.new ≡ S.model store.old }
         ensures size { S.size store.new ≡ S.size store.old }
         ensures failed { S.failed store.new ≡ count_after is_io_failure result (S.failed store.old) }
@@ -64,7 +70,18 @@ impl NameReader {
         let at = self.name_index as usize + 4 * id as usize;
         let offset = self.offsets.number(alloc, store, at)?;
         let at = self.start as usize + offset as usize;
-        let name = self.names.text(alloc, store, at, self.end as usize)?;
-        Ok(name)
+        let Some(len) = self.names.find_text(alloc, store, at, self.end as usize)? else {
+            return Ok(Err(IndexFault::BadNames));
+        };
+        self.at = at;
+        self.len = len;
+        Ok(Ok(()))
+    }
+
+    /// The name that was read last.
+    pub fn name(&self) -> Result<&str, IndexFault>
+        ensures { (name : List ℕ) → HasName self.now name → IsOkAnd result (λ text. text.now ≡ name) }
+    {
+        self.names.text(self.at, self.len)
     }
 }

@@ -1,10 +1,11 @@
 // The names of an index, by their ids.
 ghost use Rattle.std.specs.Prelude.{◌≡◌, length, slice_get};
 ghost use Rattle.std.specs.Option.{option_copied};
+ghost use Rattle.cs_tree.specs.NamesAscending.{are_ascending};
 ghost use Rattle.cs_index.specs.Opening.{texts_of};
 ghost use Rattle.cs_index.specs.ValidSections.{IsNameTable};
 
-use crate::reading::bytes::read_number;
+use crate::reading::bytes::{ascend, read_number};
 use crate::reading::texts::Texts;
 use std::marker::Model;
 
@@ -37,8 +38,22 @@ impl<'a> NameTable<'a> {
         NameTable { names, offsets }
     }
 
+    /// The names, in the order of their ids.
+    pub(crate) fn names(&self) -> Texts<'a>
+        ensures { result ≡ self.now }
+    {
+        Texts::new(self.names)
+    }
+
+    /// Whether the names are strictly ascending.
+    pub fn in_order(&self) -> bool
+        ensures { result ≡ are_ascending self.now }
+    {
+        ascend(self.names)
+    }
+
     /// The number of names.
-    pub(crate) fn len(&self) -> u32
+    pub fn len(&self) -> u32
         ensures { result ≡ length self.now }
     {
         (self.offsets.len() / 4 - 1) as u32

@@ -1,17 +1,16 @@
-// The ids of an index sorted by name.
+// The ids of names, sorted by name.
 ghost use Rattle.std.specs.Prelude.{◌≡◌, IfOk, List, ℕ, option_map, map};
 ghost use Rattle.cs_tree.specs.NamesAscending.{are_ascending};
 ghost use Rattle.cs_index.specs.Order.{IsOrderOf, with_ids, name_in, id_in};
 ghost use Rattle.cs_index.specs.BorrowedNames.{borrowed_names};
 
-use crate::reading::index::Index;
+use crate::reading::name_table::NameTable;
 use std::alloc::{AllocError, Global};
 
-impl<'a> Index<'a> {
+impl<'a> NameTable<'a> {
     /// The ids in ascending order of their names, or `None` if two names are equal.
     pub fn order(&self, alloc: Global) -> Result<Option<Vec<u32>>, AllocError>
-        ensures { IfOk result (λ order.
-            IsOrderOf self.now.names (option_map (λ ids. ids.items) order)) }
+        ensures { IfOk result (λ order. IsOrderOf self.now (option_map (λ ids. ids.items) order)) }
     {
         let mut named = self.names_with_ids(alloc)?;
         named.sort_unstable_by(|a, b| a.0.cmp(b.0));
@@ -24,7 +23,7 @@ impl<'a> Index<'a> {
 
     /// The names with their ids.
     fn names_with_ids(&self, alloc: Global) -> Result<Vec<(&'a str, u32)>, AllocError>
-        ensures { IfOk result (λ named. borrowed_names named.items ≡ with_ids self.now.names) }
+        ensures { IfOk result (λ named. borrowed_names named.items ≡ with_ids self.now) }
     {
         let count = self.len();
         let mut named = Vec::with_capacity(alloc, count as usize)?;

@@ -1,18 +1,18 @@
 // A piece of the bytes of a store, which is read further as it is needed.
-ghost use Rattle.std.specs.Prelude.{◌≡◌, ◌≤◌, ◌<◌, ◌+◌, ◌-◌, ◌++◌, ◌^◌, ℕ, List, Some, drop, take, length, string_bytes, IfSome, IfNone, IfOk, OnOk, IsUtf8};
+ghost use Rattle.std.specs.Prelude.{◌≡◌, ◌≤◌, ◌<◌, ◌+◌, ◌-◌, ◌++◌, ◌^◌, ℕ, List, Some, drop, take, length, IfSome, IfNone, IfOk, OnOk};
 ghost use Rattle.std.specs.List.{AllByRecursion};
 ghost use Rattle.std.specs.Result.{IsOkAnd};
 ghost use Rattle.cs_tree.specs.FailureCount.{count_after};
 ghost use Rattle.cs_tree.specs.Transfers.{is_io_failure};
 ghost use Rattle.cs_index.specs.Encoding.{with_nul};
 ghost use Rattle.cs_index.specs.Opening.{number_at};
-ghost use Rattle.cs_index.specs.Pieces.{IsPiece, StandsAt};
+ghost use Rattle.cs_index.specs.Pieces.{HasText, IsPiece, StandsAt};
 
 use crate::fault::IndexFault;
 use crate::reading::bytes::read_number;
 use cs_tree::{IoFault, Store, read_part};
 use memchr::memchr;
-use std::alloc::{AllocError, Global};
+use std::alloc::Global;
 
 /// A piece has at least as many bytes, unless the store ends first.
 const PIECE_LEN: usize = 1 << 13;
@@ -59,18 +59,17 @@ impl Piece {
         Ok(read_number(part, 0))
     }
 
-    /// The text from an offset to the next NUL, which stands before `end`.
-    pub(crate) fn text<S: Store>(
+    /// Reads up to the first NUL from an offset on, which stands before `end`: the length of the text before it.
+    pub(crate) fn find_text<S: Store>(
         &mut self,
         alloc: Global,
         store: &mut S,
         at: usize,
         end: usize,
-    ) -> Result<Result<String, IndexFault>, IoFault>
+    ) -> Result<Option<usize>, IoFault>
         requires { end < 2 ^ 62 }
         ensures text { (bytes : List ℕ) → S.model store.old ≡ Some bytes → IsPiece bytes self.old →
-            (text : List ℕ) → StandsAt bytes at end text →
-            IfOk result (λ answer. IsOkAnd answer (λ found. string_bytes found ≡ text)) }
+            (text : List ℕ) → StandsAt bytes at end text → IfOk result (HasText self.new at text) }
         ensures piece { (bytes : List ℕ) → S.model store.old ≡ Some bytes → IsPiece bytes self.old →
             IfOk result (λ _. IsPiece bytes self.new) }
         ensures keeps { S.model store.new ≡ S.model store.old }
@@ -84,14 +83,31 @@ impl Piece {
             self.reach(alloc, store, at, len)?;
             let part = self.part(at);
             if let Some(text) = before_nul(part) {
-                return Ok(text_of(alloc, text)?);
+                return Ok(Some(text.len()));
             }
             if part.len() < len {
-                return Ok(Err(IndexFault::BadNames));
+                return Ok(None);
             }
             searched = part.len();
         }
-        Ok(Err(IndexFault::BadNames))
+        Ok(None)
+    }
+
+    /// The text of `len` bytes at an offset, if the piece has it.
+    pub(crate) fn text(&self, at: usize, len: usize) -> Result<&str, IndexFault>
+        ensures { (text : List ℕ) → HasText self.now at text (Some len) →
+            IsOkAnd result (λ found. found.now ≡ text) }
+    {
+        let Some(start) = at.checked_sub(self.start) else {
+            return Err(IndexFault::BadNames);
+        };
+        if start > self.bytes.len() || len > self.bytes.len() - start {
+            return Err(IndexFault::BadNames);
+        }
+        match std::str::from_utf8(&self.bytes[start..start + len]) {
+            Ok(text) => Ok(text),
+            Err(_) => Err(IndexFault::BadNames),
+        }
     }
 
     /// Reads the piece at an offset, unless it has `len` bytes from there on.
@@ -137,18 +153,9 @@ fn before_nul(bytes: &[u8]) -> Option<&[u8]>
         bytes.now ≡ take n (with_nul text ++ more) → IfSome result (λ found. found.now ≡ text) }
     ensures none { (text more : List ℕ) (n : ℕ) → AllByRecursion (λ b. 0 < b) text →
         bytes.now ≡ take n (with_nul text ++ more) → IfNone result (length bytes.now ≤ length text) }
+    ensures within { IfSome result (λ found. length found.now ≤ length bytes.now) }
+    ensures prefix { IfSome result (λ found. take (length found.now) bytes.now ≡ found.now) }
 {
     let end = memchr(0, bytes)?;
     Some(&bytes[..end])
-}
-
-/// The bytes as text.
-fn text_of(alloc: Global, bytes: &[u8]) -> Result<Result<String, IndexFault>, AllocError>
-    ensures { IsUtf8 bytes.now →
-        IfOk result (λ answer. IsOkAnd answer (λ text. string_bytes text ≡ bytes.now)) }
-{
-    match std::str::from_utf8(bytes) {
-        Ok(text) => Ok(Ok(String::from_str(alloc, text)?)),
-        Err(_) => Ok(Err(IndexFault::BadNames)),
-    }
 }

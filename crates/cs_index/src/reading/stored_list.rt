@@ -7,19 +7,21 @@ ghost use Rattle.cs_index.specs.Encoding.{three_bytes};
 ghost use Rattle.cs_index.specs.PostingLists.{Ids, read_list};
 ghost use Rattle.cs_index.specs.AscendingIds.{BeginsFrom};
 ghost use Rattle.cs_index.specs.StoredEntries.{entry_read};
+ghost use Rattle.cs_index.specs.Rows.{RowSoFar};
 ghost use Rattle.cs_index.specs.StoredLists.{GivesBelow, Holds, IsReady, SkipsBelow, IsSection, ids_left, with_piece};
 
-use crate::encoded_run::EncodedRun;
+use crate::encoded_run::{EncodedRun, mark_extent};
 use crate::reading::postings::decode_varint;
 use crate::reading::stored_entries::Entry;
 use cs_tree::{IoFault, Store, read_part};
 use std::alloc::Global;
 use std::marker::Model;
 
-const TRIGRAM_LEN: usize = 3;
+/// The bytes of a trigram.
+pub(crate) const TRIGRAM_LEN: usize = 3;
 
 /// The most bytes of a varint.
-const VARINT_LEN: usize = 5;
+pub(crate) const VARINT_LEN: usize = 5;
 
 /// Where the section of posting lists stands in a store.
 #[derive(Drop)]
@@ -249,6 +251,36 @@ impl StoredList {
         self.next += next;
     }
 
+    /// Takes ids of the piece and sets their flags in the row of a window, up to the window's end or the first delta
+    /// that is longer than two bytes.
+    pub(crate) fn mark_short(&mut self, row: &mut [bool], start: u32, end: u32)
+        requires { start + length row.old ≡ end }
+        ensures row { (bytes : List ℕ) (list : Ids) → Holds bytes self.old →
+            RowSoFar start end list row.old (ids_left bytes self.old) →
+            Holds bytes self.new × RowSoFar start end list row.new (ids_left bytes self.new) }
+        ensures width { length row.new ≡ length row.old }
+        ensures left { self.new.left ≤ self.old.left }
+    {
+        if self.has_ended || self.next < start {
+            return;
+        }
+        let end = end.min(self.name_count);
+        if end < self.next {
+            return;
+        }
+        let at = (self.next - start) as usize;
+        let (len, count, next) = mark_extent(
+            &self.piece[self.used..],
+            self.left,
+            end - self.next,
+            row,
+            at,
+        );
+        self.used += len;
+        self.left -= count;
+        self.next += next;
+    }
+
     /// Reads the next piece if the one that is there may end inside a varint.
     fn fill<S: Store>(&mut self, alloc: Global, store: &mut S) -> Result<(), IoFault>
         ensures ready { (bytes : List ℕ) → S.model store.old ≡ Some bytes → Holds bytes self.old →
@@ -308,7 +340,7 @@ impl StoredList {
 }
 
 /// Whether a piece begins with a trigram.
-fn is_list_of(piece: &[u8], trigram: u32) -> bool
+pub(crate) fn is_list_of(piece: &[u8], trigram: u32) -> bool
     ensures named { result ≡ bytes_eq (take TRIGRAM_LEN piece.now) (three_bytes trigram) }
     ensures long { result ≡ true → TRIGRAM_LEN ≤ length piece.now }
 {

@@ -16,7 +16,7 @@ use std::alloc::{AllocError, Global};
 pub struct Cache {
     pub(crate) transitions: Vec<u16>,
     pub(crate) cached: Vec<State>,
-    pub(crate) hashes: [u32; 256],
+    pub(crate) hashes: [u8; 256],
     pub(crate) used: usize,
     pub(crate) scratch: State,
     pub(crate) memory: Scratch,

@@ -37,7 +37,9 @@ fn reads(alloc: Global, bytes: &[u8], step: usize, ids: &[u16]) -> Result<bool, 
     let index = StoredIndex::open(alloc, &mut store)??;
     let mut names = index.name_reader(alloc);
     for id in ids {
-        if names.read(alloc, &mut store, *id as u32)?? != name(alloc, *id)? {
+        if names.read(alloc, &mut store, *id as u32)?.is_err()
+            || names.name()? != name(alloc, *id)?.as_str()
+        {
             return Ok(false);
         }
     }

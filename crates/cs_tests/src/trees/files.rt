@@ -5,7 +5,7 @@ ghost use Rattle.cs_tree.specs.Cover.{is_absolute};
 use crate::fixtures::{spaced, strings, tree_of};
 use cs_tree::{
     DiskTree, IoFault, Item, Kind, MemTree, PathFault, PutFault, Sink, Source, StdSink, StdSource,
-    Tree, TreeFault, TreeReader, clean, covers, is_normalized, read_all, reduce,
+    Tree, TreeFault, TreeReader, clean, covers, is_normalized, reduce,
 };
 use std::alloc::{AllocError, Global};
 use std::io::{Read, Write};
@@ -76,18 +76,13 @@ fn failures_in_mid_stream(rt: HostRuntime) {
     assert!(rt; reports_failed_writes());
 }
 
-/// Reads the open file to its end, by a reader over the tree.
-fn rest_of<T: Tree>(alloc: Global, tree: &mut T) -> Result<Vec<u8>, IoFault> {
+/// Whether a reader over the tree reads these bytes of the open file at once, and then its end.
+fn has_rest<T: Tree>(tree: &mut T, want: &[u8]) -> bool {
     let mut reader = TreeReader::new(tree);
-    read_all(alloc, &mut reader, 100)
-}
-
-/// Whether the rest of the open file is these bytes.
-fn has_rest<T: Tree>(alloc: Global, tree: &mut T, want: &[u8]) -> bool {
-    match rest_of(alloc, tree) {
-        Ok(rest) => rest.as_slice() == want,
-        Err(_) => false,
-    }
+    let mut buf = [0u8; 100];
+    reader.read(&mut buf) == Ok(want.len())
+        && buf.starts_with(want)
+        && reader.read(&mut buf) == Ok(0)
 }
 
 /// Whether the folder has exactly these names, each followed by a space.
@@ -131,10 +126,7 @@ fn item_of(kind: Kind) -> Item {
 fn items_are_put_and_removed(rt: HostRuntime) -> Result<(), Fail> {
     let mut tree = tree_of(rt.alloc(), "/a", &[("/a/x", b"one\n")])?;
     for (path, kind, answer) in PUTS {
-        assert!(rt;
-            tree.put(*path, item_of(*kind)) == *answer,
-            "{kind:?} at {path}"
-        );
+        assert!(rt; tree.put(*path, item_of(*kind)) == *answer, "at {path}");
     }
     assert!(rt; tree.put("/d", Item::Denied) == Ok(()));
     assert!(rt; has_items(rt.alloc(), &mut tree));
@@ -193,7 +185,7 @@ fn reads_the_disk<T: Tree>(alloc: Global, tree: &mut T) -> bool {
         && tree.kind("cs_tree_disk_test/x") == Ok(Kind::File)
         && has_names(alloc, tree, "cs_tree_disk_test", "d x ")
         && tree.open("cs_tree_disk_test/x") == Ok(())
-        && has_rest(alloc, tree, b"abcd\n")
+        && has_rest(tree, b"abcd\n")
         && tree.failures() == 0
 }
 
@@ -249,7 +241,7 @@ fn follows_links<T: Tree>(alloc: Global, tree: &mut T) -> bool {
         "cs_tree_link_test",
         "broken circle file itself x ",
     ) && tree.open("cs_tree_link_test/file") == Ok(())
-        && has_rest(alloc, tree, b"ab\n")
+        && has_rest(tree, b"ab\n")
         && tree.open("cs_tree_link_test/broken") == Err(TreeFault::Missing)
         && tree.open("cs_tree_link_test/itself") == Err(TreeFault::Failed)
         && tree.failures() == 2

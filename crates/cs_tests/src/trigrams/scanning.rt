@@ -1,7 +1,7 @@
 // Scans: examples whose results are known independently, with reads of one byte or of several.
 use crate::fixtures::{by_chance, number};
 use cs_tree::MemSource;
-use cs_trigram::{BoundedScanner, Limits, Reason, Scan, ScanFault, Scanner};
+use cs_trigram::{Reason, Scan, ScanFault, Scanner};
 use std::alloc::{AllocError, Global};
 use std::test::Fail;
 
@@ -31,19 +31,27 @@ fn are_numbers(trigrams: &[u32], parts: &[&[u8; 3]]) -> bool {
     true
 }
 
+/// A scan of the file with reads of this size, which fail after it if it is `cut`.
+fn scan_of(scanner: &mut Scanner, file: &[u8], step: usize, cut: bool) -> Result<Scan, ScanFault> {
+    scanner.scan(&mut MemSource::new(file, step.max(1), cut))
+}
+
 /// Whether a scan of the file, with reads of this size, gives this answer.
 fn scans(scanner: &mut Scanner, file: &[u8], step: usize, want: Want<'_>) -> bool {
-    match scanner.scan(&mut MemSource::new(file, step.max(1), false)) {
+    match scan_of(scanner, file, step, false) {
         Ok(scan) => is_so(&scan, want),
         Err(_) => false,
     }
 }
 
-/// A file of one byte repeated, and then some others.
-fn many(alloc: Global, count: usize, byte: u8, others: &[u8]) -> Result<Vec<u8>, AllocError> {
-    let mut file = vec![in alloc; byte; count]?;
-    file.extend_from_slice(others)?;
-    Ok(file)
+/// The same with reads of each of these sizes.
+fn scans_by(scanner: &mut Scanner, file: &[u8], steps: &[usize], want: Want<'_>) -> bool {
+    for step in steps {
+        if !scans(scanner, file, *step, want) {
+            return false;
+        }
+    }
+    true
 }
 
 const ROWS: &[(&[u8], Want<'static>)] = &[
@@ -68,32 +76,9 @@ fn rows(rt: HostRuntime) -> Result<(), Fail> {
     Ok(())
 }
 
-const LINES: &[(usize, &[u8], Want<'static>)] = &[
-    (1999, b"\n", Ok((&[b"aa\n", b"aaa"], 2000))),
-    (2000, b"", Ok((&[b"aaa"], 2000))),
-    (2000, b"\n", Err(Reason::LongLine)),
-    (2001, b"", Err(Reason::LongLine)),
-    (70_000, b"\x00", Err(Reason::LongLine)),
-];
-
-#[test]
-fn lines(rt: HostRuntime) -> Result<(), Fail> {
-    let mut scanner = Scanner::new(rt.alloc())?;
-    for (count, others, want) in LINES {
-        let file = many(rt.alloc(), *count, b'a', others)?;
-        for step in [1, 1999, 2000, 2001, 65_536] {
-            assert!(rt;
-                scans(&mut scanner, &file, step, *want),
-                "{count} and {others:?}, {step} at a time"
-            );
-        }
-    }
-    Ok(())
-}
-
 /// The number of trigrams of a scan with reads of this size, their sum, and the number of bytes.
 fn sums(scanner: &mut Scanner, file: &[u8], step: usize) -> Option<(usize, u64, u64)> {
-    match scanner.scan(&mut MemSource::new(file, step.max(1), false)) {
+    match scan_of(scanner, file, step, false) {
         Ok(Scan::Text { trigrams, bytes }) => {
             let mut sum = 0u64;
             for trigram in &trigrams {
@@ -116,19 +101,19 @@ fn most_trigrams(rt: HostRuntime) -> Result<(), Fail> {
     Ok(())
 }
 
-#[test]
-fn more_trigrams(rt: HostRuntime) -> Result<(), Fail> {
-    let mut scanner = Scanner::new(rt.alloc())?;
-    let mut file = by_chance(rt.alloc(), 20_244)?;
-    for step in [1, 1000, 65_536] {
-        assert!(rt;
-            scans(&mut scanner, &file, step, Err(Reason::ManyTrigrams)),
-            "{step} at a time"
-        );
-    }
+/// Whether a file of 20001 trigrams is skipped, and for a byte that is not UTF-8 after them.
+fn skips_more_trigrams(alloc: Global) -> Result<bool, AllocError> {
+    let mut scanner = Scanner::new(alloc)?;
+    let mut file = by_chance(alloc, 20_244)?;
+    let many = Err(Reason::ManyTrigrams);
+    let is_skipped = scans_by(&mut scanner, &file, &[1, 1000, 65_536], many);
     file.push(0xff)?;
-    assert!(rt; scans(&mut scanner, &file, 65_536, Err(Reason::Utf8)));
-    Ok(())
+    Ok(is_skipped && scans(&mut scanner, &file, 65_536, Err(Reason::Utf8)))
+}
+
+#[test]
+fn more_trigrams(rt: HostRuntime) {
+    assert!(rt; skips_more_trigrams(rt.alloc()) == Ok(true));
 }
 
 const BCD: Want<'static> = Ok((&[b"bcd"], 3));
@@ -145,88 +130,66 @@ fn goes_on(scanner: &mut Scanner, file: &[u8], step: usize, want: Want<'_>) -> b
     scans(scanner, file, step, want) && scans(scanner, b"bcd", 2, BCD)
 }
 
+/// The index of the first of these files after which a scan does not give the usual answer.
+fn first_kept(scanner: &mut Scanner) -> Option<usize> {
+    for at in 0..TWICE.len() {
+        if !goes_on(scanner, TWICE[at].0, 2, TWICE[at].1) {
+            return Some(at);
+        }
+    }
+    None
+}
+
+/// Whether a scan gives the usual answer after a failed read, and after a file of many trigrams.
+fn goes_on_after(scanner: &mut Scanner, many: &[u8]) -> bool {
+    fails(scanner, b"abc")
+        && scans(scanner, b"bcd", 2, BCD)
+        && goes_on(scanner, many, 65_536, Err(Reason::ManyTrigrams))
+}
+
 #[test]
 fn used_again(rt: HostRuntime) -> Result<(), Fail> {
     let many = by_chance(rt.alloc(), 60_000)?;
     let mut scanner = Scanner::new(rt.alloc())?;
-    for (file, want) in TWICE {
-        assert!(rt; goes_on(&mut scanner, file, 2, *want), "at {file:?}");
-    }
-    assert!(rt; fails(&mut scanner, b"abc") && scans(&mut scanner, b"bcd", 2, BCD));
-    assert!(rt; goes_on(&mut scanner, &many, 65_536, Err(Reason::ManyTrigrams)));
+    let kept = first_kept(&mut scanner);
+    assert!(rt;
+        kept == None && goes_on_after(&mut scanner, &many),
+        "{kept:?}"
+    );
     Ok(())
 }
 
 /// Whether a scan of a file whose reads fail after these bytes reports a failed read.
 fn fails(scanner: &mut Scanner, file: &[u8]) -> bool {
-    scanner.scan(&mut MemSource::new(file, 2, true)) == Err(ScanFault::Read)
+    scan_of(scanner, file, 2, true).err() == Some(ScanFault::Read)
 }
 
 /// Whether a scan reports a NUL before the read that fails.
 fn reports_a_nul(scanner: &mut Scanner) -> bool {
-    scanner.scan(&mut MemSource::new(b"ab\x00c", 2, true)) == Ok(Scan::Skip(Reason::Nul))
+    match scan_of(scanner, b"ab\x00c", 2, true) {
+        Ok(scan) => is_so(&scan, Err(Reason::Nul)),
+        Err(_) => false,
+    }
 }
 
 #[test]
 fn failing_reads(rt: HostRuntime) -> Result<(), Fail> {
     let mut scanner = Scanner::new(rt.alloc())?;
-    assert!(rt; fails(&mut scanner, b"") && fails(&mut scanner, b"abc"));
-    assert!(rt; reports_a_nul(&mut scanner));
+    assert!(rt; fails(&mut scanner, b"") && reports_a_nul(&mut scanner));
     Ok(())
 }
 
-/// Whether a scan within small limits, with reads of this size, gives this answer.
-fn scans_within(scanner: &mut BoundedScanner, file: &[u8], step: usize, want: Want<'_>) -> bool {
-    match scanner.scan(&mut MemSource::new(file, step.max(1), false)) {
-        Ok(scan) => is_so(&scan, want),
-        Err(_) => false,
-    }
-}
-
-const SMALL: &[(&[u8], Want<'static>)] = &[
-    (b"aaaa\n", Ok((&[b"aa\n", b"aaa"], 5))),
-    (b"aaaaa", Ok((&[b"aaa"], 5))),
-    (b"aaaaa\n", Err(Reason::LongLine)),
-    (b"aaaaaa", Err(Reason::LongLine)),
-    (b"\naaa\naaa\naa\n", Err(Reason::ManyTrigrams)),
-    (b"aa\naa\naa\naa\n", Ok((&[b"\naa", b"a\na", b"aa\n"], 12))),
-    (b"aa\naa\naa\naa\n\n", Err(Reason::TooLong)),
-    (b"aa\naa\naa\naa\n\x00", Err(Reason::Nul)),
-    (b"aa\naa\naa\naa\n\x80", Err(Reason::Utf8)),
-    (b"abcde", Ok((&[b"abc", b"bcd", b"cde"], 5))),
-    (b"abcd\n\n", Err(Reason::ManyTrigrams)),
-    (b"abcd\n\n\xff", Err(Reason::Utf8)),
-];
-
-#[test]
-fn small_limits(rt: HostRuntime) -> Result<(), Fail> {
-    let limits = Limits {
-        bytes: 12,
-        line: 5,
-        trigrams: 3,
-    };
-    let mut scanner = BoundedScanner::new(rt.alloc(), limits)?;
-    for (file, want) in SMALL {
-        for step in 1..21 {
-            assert!(rt;
-                scans_within(&mut scanner, file, step, *want),
-                "{file:?}, {step} at a time"
-            );
-        }
-    }
-    Ok(())
-}
-
-/// Some bytes, then a letter of two bytes repeated, and then some others.
-fn letters(
+/// Some bytes, then a part repeated, and then some others.
+fn joined(
     alloc: Global,
     prefix: &[u8],
+    part: &[u8],
     count: usize,
     others: &[u8],
 ) -> Result<Vec<u8>, AllocError> {
     let mut file = Vec::from_slice(alloc, prefix)?;
-    for _letter in 0..count {
-        file.extend_from_slice(b"\xc3\xa9")?;
+    for _part in 0..count {
+        file.extend_from_slice(part)?;
     }
     file.extend_from_slice(others)?;
     Ok(file)
@@ -234,30 +197,49 @@ fn letters(
 
 const PARTS: &[&[u8; 3]] = &[b"\xa9\xc3\xa9", b"\xc3\xa9\xc3"];
 
-const LETTERS: &[(&[u8], usize, &[u8], Want<'static>)] = &[
-    (b"", 600, b"", Ok((PARTS, 1200))),
-    (b"", 1000, b"", Ok((PARTS, 2000))),
-    (b"", 1000, b"\n", Err(Reason::LongLine)),
-    (b"", 600, b"\x00", Err(Reason::Nul)),
-    (b"", 600, b"\xc3a", Err(Reason::Utf8)),
-    (b"", 600, b"\xf8", Err(Reason::Utf8)),
-    (b"", 512, b"aaa\x80", Err(Reason::Utf8)),
-    (b"\n", 511, b"\xc3a", Err(Reason::Utf8)),
-    (b"\n", 511, b"\xc3\x00", Err(Reason::Nul)),
-    (b"\xff", 600, b"\x00", Err(Reason::Utf8)),
+/// A letter of two bytes.
+const LETTER: &[u8] = b"\xc3\xa9";
+
+/// The file: some bytes, a part, how often it is repeated, and some others. The wanted answer.
+type Repeated<'a> = (&'a [u8], &'a [u8], usize, &'a [u8], Want<'a>);
+
+const REPEATED: &[Repeated<'static>] = &[
+    (b"", b"a", 1999, b"\n", Ok((&[b"aa\n", b"aaa"], 2000))),
+    (b"", b"a", 2000, b"", Ok((&[b"aaa"], 2000))),
+    (b"", b"a", 2000, b"\n", Err(Reason::LongLine)),
+    (b"", b"a", 2001, b"", Err(Reason::LongLine)),
+    (b"", b"a", 70_000, b"\x00", Err(Reason::LongLine)),
+    (b"", LETTER, 600, b"", Ok((PARTS, 1200))),
+    (b"", LETTER, 1000, b"", Ok((PARTS, 2000))),
+    (b"", LETTER, 1000, b"\n", Err(Reason::LongLine)),
+    (b"", LETTER, 600, b"\x00", Err(Reason::Nul)),
+    (b"", LETTER, 600, b"\xc3a", Err(Reason::Utf8)),
+    (b"", LETTER, 600, b"\xf8", Err(Reason::Utf8)),
+    (b"", LETTER, 512, b"aaa\x80", Err(Reason::Utf8)),
+    (b"\n", LETTER, 511, b"\xc3a", Err(Reason::Utf8)),
+    (b"\n", LETTER, 511, b"\xc3\x00", Err(Reason::Nul)),
+    (b"\xff", LETTER, 600, b"\x00", Err(Reason::Utf8)),
 ];
 
+/// Sizes of reads: around the longest line, around a block of letters, and large ones.
+const STEPS: &[usize] = &[1, 1023, 1024, 1999, 2000, 2001, 65_536];
+
+/// Whether a scan of the file of a row gives the wanted answer.
+fn scans_repeated(
+    alloc: Global,
+    scanner: &mut Scanner,
+    row: &Repeated<'_>,
+) -> Result<bool, AllocError> {
+    let file = joined(alloc, row.0, row.1, row.2, row.3)?;
+    Ok(scans_by(scanner, &file, STEPS, row.4))
+}
+
 #[test]
-fn letters_past_ascii(rt: HostRuntime) -> Result<(), Fail> {
+fn lines_and_letters(rt: HostRuntime) -> Result<(), Fail> {
     let mut scanner = Scanner::new(rt.alloc())?;
-    for (prefix, count, others, want) in LETTERS {
-        let file = letters(rt.alloc(), prefix, *count, others)?;
-        for step in [1, 1023, 1024, 65_536] {
-            assert!(rt;
-                scans(&mut scanner, &file, step, *want),
-                "{prefix:?}, {count} letters and {others:?}, {step} at a time"
-            );
-        }
+    for row in REPEATED {
+        let is_so = scans_repeated(rt.alloc(), &mut scanner, row)?;
+        assert!(rt; is_so, "{} parts and {:?}", row.2, row.3);
     }
     Ok(())
 }
@@ -268,11 +250,7 @@ const MANY_LINES: Want<'static> = Ok((&[b"\nab", b"abc", b"bcd", b"cd\n", b"d\na
 fn larger_than_a_block(rt: HostRuntime) -> Result<(), Fail> {
     let file = "abcd\n".repeat(rt.alloc(), 20_000)?;
     let mut scanner = Scanner::new(rt.alloc())?;
-    for step in [7, 65_536, 1_000_000] {
-        assert!(rt;
-            scans(&mut scanner, file.as_bytes(), step, MANY_LINES),
-            "{step} at a time"
-        );
-    }
+    let steps = [7, 65_536, 1_000_000];
+    assert!(rt; scans_by(&mut scanner, file.as_bytes(), &steps, MANY_LINES));
     Ok(())
 }

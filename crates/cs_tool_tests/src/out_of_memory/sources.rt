@@ -1,9 +1,9 @@
-// Paths, trees, sources, sinks and stores.
+// Paths, trees, sinks and stores.
 use crate::fixtures::{TreeItem, item_of, strings};
 use crate::out_of_memory::{Outcome, at_most_one_fails};
 use cs_tree::{
-    DiskTree, IoFault, Kind, MemSink, MemSource, MemStore, MemTree, PathFault, PutFault, Sink,
-    Tree, TreeFault, clean, read_all, read_part, reduce, walk,
+    DiskTree, IoFault, Kind, MemSink, MemStore, MemTree, PathFault, PutFault, Sink, Tree,
+    TreeFault, clean, read_part, reduce, walk,
 };
 use std::alloc::{AllocError, Global};
 use std::test::Fail;
@@ -25,23 +25,12 @@ fn are_reduced(alloc: Global) -> Result<bool, AllocError> {
     Ok(kept == strings(alloc, &["/a", "/b"])?)
 }
 
-/// The outcome of reading all bytes of a source, or a part of a store.
-fn bytes_came(bytes: Result<Vec<u8>, IoFault>, want: &[u8]) -> Outcome {
-    match bytes {
-        Ok(bytes) => Outcome::of(bytes.as_slice() == want),
+fn part_is_read(alloc: Global) -> Outcome {
+    match read_part(alloc, &mut MemStore::new(b"abcdefgh", 2), 2, 5) {
+        Ok(part) => Outcome::of(part.as_slice() == b"cdefg".as_slice()),
         Err(IoFault::Memory) => Outcome::OutOfMemory,
         Err(IoFault::Failed) => Outcome::Wrong,
     }
-}
-
-fn read_to_the_end(alloc: Global) -> Outcome {
-    let bytes = read_all(alloc, &mut MemSource::new(b"abcdefgh", 3, false), 9);
-    bytes_came(bytes, b"abcdefgh")
-}
-
-fn part_is_read(alloc: Global) -> Outcome {
-    let bytes = read_part(alloc, &mut MemStore::new(b"abcdefgh", 2), 2, 5);
-    bytes_came(bytes, b"cdefg")
 }
 
 #[test]
@@ -52,8 +41,6 @@ fn paths_and_parts(rt: HostRuntime) -> Result<(), Fail> {
         cleaned(alloc),
         reduced(alloc),
         reduced(alloc),
-        read_to_the_end(alloc),
-        read_to_the_end(alloc),
         part_is_read(alloc),
         part_is_read(alloc),
     ];

@@ -107,7 +107,7 @@ fn wrong_sizes(alloc: Global, row: &Row<'_>) -> Result<Option<Sizes>, ToolFault>
 fn searches(rt: &impl Abort, alloc: Global, rows: &[Row<'_>]) -> Result<(), ToolFault> {
     for row in rows {
         let wrong = wrong_sizes(alloc, row)?;
-        assert!(rt; wrong.is_none(), "{:?} by {wrong:?}, {:?}", row.0, row.2);
+        assert!(rt; wrong.is_none(), "{} by {wrong:?}", row.0);
     }
     Ok(())
 }

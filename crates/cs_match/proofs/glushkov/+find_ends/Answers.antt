@@ -3,7 +3,7 @@ use Rattle.std.specs.Prelude.{None}
 use Rattle.std.proofs.Math.Bool.{and_assoc, or_assoc, or-false}
 use Rattle.cs_syntax.specs.Matching.{Tree, alt, rep}
 use Rattle.cs_match.specs.Parts.{run, runs, optional_run, shape_of, shapes_of}
-use Rattle.cs_match.proofs.PartLemmas.{shape_of-Run, shape_of-Alternation, shape_of-Optional, shape_of-Rep, shapes_from}
+use Rattle.cs_match.proofs.PartLemmas.{shape_of-Run, shape_of-Alternation, shape_of-Optional, shape_of-Rep, shapes_from, sizes_from}
 use Rattle.cs_match.specs.Glushkov.{position_count, repeats, nullable, nullable_all, nullable_some, is_final, loop_ends}
 use Rattle.cs_match.proofs.ShapeLemmas.{position_count_run, repeats_run, loop_ends_run}
 use Rattle.cs_match.proofs.AlternationLemmas.{repeats_runs, loop_ends_runs}
@@ -11,7 +11,7 @@ use Rattle.cs_match.proofs.TraversalLemmas.{position_count_optional, repeats_opt
 use Rattle.cs_match.proofs.glushkov.+find_ends.Goals as goal
 
 pub find_ends-returns-in-Rep-clause-noted : goal.find_ends-returns-in-Rep-clause-noted
-find_ends-returns-in-Rep-clause-noted t c =
+find_ends-returns-in-Rep-clause-noted g t c =
     let x = shape_of c.deref-in-Rep.result.now in
     let e : shape_of c.args.part.now ≡ rep x c.in-Rep.least None =
     ap shape_of c.in-Rep.is ∙ shape_of-Rep _ _ ∙ ap (λ n. rep (shape_of n) c.in-Rep.least None) (sym c.deref-in-Rep.ensures) in
@@ -21,8 +21,9 @@ find_ends-returns-in-Rep-clause-noted t c =
     c.next_repeat-own.ensures.repeat c.find_ends-ends.ensures.noted)
 
 pub find_ends_all-loop-part-preserved : goal.find_ends_all-loop-part-preserved
-find_ends_all-loop-part-preserved t c =
+find_ends_all-loop-part-preserved g t c =
     let more = shapes_from c.args.parts.now c.loop-part.part-index c.part-item.result c.loop-part-test.true c.part-item.is in
+    let larger = sizes_from c.args.parts.now c.loop-part.part-index c.part-item.result c.loop-part-test.true c.part-item.is in
     let i = c.loop-part.invariant in
     let t = shape_of c.part-item.result in
     let ts = shapes_of (drop (c.loop-part.part-index + 1) c.args.parts.now) in
@@ -30,6 +31,7 @@ find_ends_all-loop-part-preserved t c =
     let repeat = rw more at i.repeat in
     let next = c.find_ends-ends.ensures.position in
     record {
+      cost = omega (arith, c.find_ends-ends.ensures.cost, i.cost, larger);
       position = omega arith;
       within = omega arith;
       repeat = omega arith;
@@ -42,8 +44,9 @@ find_ends_all-loop-part-preserved t c =
     }
 
 pub find_ends_some-loop-part-preserved : goal.find_ends_some-loop-part-preserved
-find_ends_some-loop-part-preserved t c =
+find_ends_some-loop-part-preserved g t c =
     let more = shapes_from c.args.parts.now c.loop-part.part-index c.part-item.result c.loop-part-test.true c.part-item.is in
+    let larger = sizes_from c.args.parts.now c.loop-part.part-index c.part-item.result c.loop-part-test.true c.part-item.is in
     let i = c.loop-part.invariant in
     let t = shape_of c.part-item.result in
     let ts = shapes_of (drop (c.loop-part.part-index + 1) c.args.parts.now) in
@@ -51,6 +54,7 @@ find_ends_some-loop-part-preserved t c =
     let repeat = rw more at i.repeat in
     let next = c.find_ends-ends.ensures.position in
     record {
+      cost = omega (arith, c.find_ends-ends.ensures.cost, i.cost, larger);
       position = omega arith;
       within = omega arith;
       repeat = omega arith;
@@ -63,44 +67,44 @@ find_ends_some-loop-part-preserved t c =
     }
 
 pub find_ends-end_run-requires : goal.find_ends-end_run-requires
-find_ends-end_run-requires t c =
+find_ends-end_run-requires g t c =
     let e : shape_of c.args.part.now ≡ run c.in-Run.n = ap shape_of c.in-Run.is ∙ shape_of-Run c.in-Run.n in
     rw (e, position_count_run c.in-Run.n) at c.requires.room
 
 pub find_ends-returns-in-Run-clause-noted : goal.find_ends-returns-in-Run-clause-noted
-find_ends-returns-in-Run-clause-noted t c =
+find_ends-returns-in-Run-clause-noted g t c =
     let e : shape_of c.args.part.now ≡ run c.in-Run.n = ap shape_of c.in-Run.is ∙ shape_of-Run c.in-Run.n in
     rw (e, loop_ends_run c.in-Run.n (drop c.args.cursor.now.position c.args.positions.now) c.args.here) refl
 
 pub find_ends-returns-in-Run-clause-position : goal.find_ends-returns-in-Run-clause-position
-find_ends-returns-in-Run-clause-position t c =
+find_ends-returns-in-Run-clause-position g t c =
     let e : shape_of c.args.part.now ≡ run c.in-Run.n = ap shape_of c.in-Run.is ∙ shape_of-Run c.in-Run.n in
     rw (e, position_count_run c.in-Run.n) c.end_run.ensures.position
 
 pub find_ends-returns-in-Run-clause-repeat : goal.find_ends-returns-in-Run-clause-repeat
-find_ends-returns-in-Run-clause-repeat t c =
+find_ends-returns-in-Run-clause-repeat g t c =
     let e : shape_of c.args.part.now ≡ run c.in-Run.n = ap shape_of c.in-Run.is ∙ shape_of-Run c.in-Run.n in
     rw (e, repeats_run c.in-Run.n) (omega (arith, c.end_run.ensures.repeat, c.requires.within))
 
 pub find_ends-returns-in-Alternation-clause-noted : goal.find_ends-returns-in-Alternation-clause-noted
-find_ends-returns-in-Alternation-clause-noted t c =
+find_ends-returns-in-Alternation-clause-noted g t c =
     let ns = c.in-Alternation.sequences in
     let e : shape_of c.args.part.now ≡ alt (runs ns) = ap shape_of c.in-Alternation.is ∙ shape_of-Alternation ns in
     rw (e, loop_ends_runs ns (drop c.args.cursor.now.position c.args.positions.now) c.args.here) refl
 
 pub find_ends-returns-in-Alternation-clause-repeat : goal.find_ends-returns-in-Alternation-clause-repeat
-find_ends-returns-in-Alternation-clause-repeat t c =
+find_ends-returns-in-Alternation-clause-repeat g t c =
     let ns = c.in-Alternation.sequences in
     let e : shape_of c.args.part.now ≡ alt (runs ns) = ap shape_of c.in-Alternation.is ∙ shape_of-Alternation ns in
     rw (e, repeats_runs ns) (omega (arith, c.end_sequences.ensures.repeat, c.requires.within))
 
 pub find_ends-end_run-requires-in-Optional : goal.find_ends-end_run-requires-in-Optional
-find_ends-end_run-requires-in-Optional t c =
+find_ends-end_run-requires-in-Optional g t c =
     let e : shape_of c.args.part.now ≡ optional_run c.in-Optional.n = ap shape_of c.in-Optional.is ∙ shape_of-Optional c.in-Optional.n in
     omega (arith, c.requires.room, ap position_count e ∙ position_count_optional c.in-Optional.n)
 
 pub find_ends-returns-in-Optional-clause-accepting : goal.find_ends-returns-in-Optional-clause-accepting
-find_ends-returns-in-Optional-clause-accepting t c =
+find_ends-returns-in-Optional-clause-accepting g t c =
     let n = c.in-Optional.n in
     let e : shape_of c.args.part.now ≡ optional_run n = ap shape_of c.in-Optional.is ∙ shape_of-Optional n in
     let ms = drop c.args.cursor.now.position c.args.positions.now in
@@ -108,17 +112,17 @@ find_ends-returns-in-Optional-clause-accepting t c =
     ∙ c.end_run-in-Optional.ensures.accepting c.args.here ∙ sym (is_final_optional n ms c.args.here) ∙ ap (λ (u : Tree). is_final u ms c.args.here) (sym e)
 
 pub find_ends-returns-in-Optional-clause-noted : goal.find_ends-returns-in-Optional-clause-noted
-find_ends-returns-in-Optional-clause-noted t c =
+find_ends-returns-in-Optional-clause-noted g t c =
     let n = c.in-Optional.n in
     let e : shape_of c.args.part.now ≡ optional_run n = ap shape_of c.in-Optional.is ∙ shape_of-Optional n in
     rw (e, loop_ends_optional n (drop c.args.cursor.now.position c.args.positions.now) c.args.here) refl
 
 pub find_ends-returns-in-Optional-clause-position : goal.find_ends-returns-in-Optional-clause-position
-find_ends-returns-in-Optional-clause-position t c =
+find_ends-returns-in-Optional-clause-position g t c =
     let e : shape_of c.args.part.now ≡ optional_run c.in-Optional.n = ap shape_of c.in-Optional.is ∙ shape_of-Optional c.in-Optional.n in
     omega (arith, c.end_run-in-Optional.ensures.position, ap position_count e ∙ position_count_optional c.in-Optional.n)
 
 pub find_ends-returns-in-Optional-clause-repeat : goal.find_ends-returns-in-Optional-clause-repeat
-find_ends-returns-in-Optional-clause-repeat t c =
+find_ends-returns-in-Optional-clause-repeat g t c =
     let e : shape_of c.args.part.now ≡ optional_run c.in-Optional.n = ap shape_of c.in-Optional.is ∙ shape_of-Optional c.in-Optional.n in
     omega (arith, c.end_run-in-Optional.ensures.repeat, c.requires.within, ap repeats e ∙ repeats_optional c.in-Optional.n)

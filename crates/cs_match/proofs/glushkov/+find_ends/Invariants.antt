@@ -1,15 +1,16 @@
 use Rattle.std.proofs.Common.{◌≡◌, ◌+◌, ◌≤◌, ◌&&◌, ◌||◌, drop, length, min}
 use Rattle.std.proofs.Math.Seq.{sets}
 use Rattle.cs_syntax.specs.Matching.{cat}
-use Rattle.cs_match.specs.Parts.{shapes_of}
+use Rattle.cs_match.specs.Parts.{shapes_of, sizes_of}
 use Rattle.cs_match.specs.Glushkov.{position_count_of, repeats_of, nullable_all, nullable_some, is_final_all, is_final_some, accepts, loop_ends_of}
 use Rattle.cs_match.proofs.glushkov.+find_ends.Given as goal
 
 abbrev pub invariant-find_ends_all-loop-part : goal.invariant-find_ends_all-loop-part
-invariant-find_ends_all-loop-part l =
+invariant-find_ends_all-loop-part g l =
     let parts = shapes_of l.parts in
     let rest = shapes_of (drop l.part-index l.parts) in
     record {
+      cost : l.steps + sizes_of (drop l.part-index l.parts) ≡ l.fn.steps + sizes_of l.parts;
       position : l.cursor.position + position_count_of rest ≡ l.fn.cursor.position + position_count_of parts;
       within : l.cursor.repeat ≤ length l.fn.loops;
       repeat : min (length l.fn.loops) (l.cursor.repeat + repeats_of rest) ≡ min (length l.fn.loops) (l.fn.cursor.repeat + repeats_of parts);
@@ -20,10 +21,11 @@ invariant-find_ends_all-loop-part l =
     }
 
 abbrev pub invariant-find_ends_some-loop-part : goal.invariant-find_ends_some-loop-part
-invariant-find_ends_some-loop-part l =
+invariant-find_ends_some-loop-part g l =
     let parts = shapes_of l.parts in
     let rest = shapes_of (drop l.part-index l.parts) in
     record {
+      cost : l.steps + sizes_of (drop l.part-index l.parts) ≡ l.fn.steps + sizes_of l.parts;
       position : l.cursor.position + position_count_of rest ≡ l.fn.cursor.position + position_count_of parts;
       within : l.cursor.repeat ≤ length l.fn.loops;
       repeat : min (length l.fn.loops) (l.cursor.repeat + repeats_of rest) ≡ min (length l.fn.loops) (l.fn.cursor.repeat + repeats_of parts);

@@ -8,22 +8,22 @@ use Rattle.cs_match.proofs.TraversalLemmas.{mid_long}
 use Rattle.cs_match.proofs.glushkov.enter.Goals as goal
 
 pub returns-clause-entries : goal.returns-clause-entries
-returns-clause-entries c =
+returns-clause-entries g c =
     let t = c.args.program.now in
     let s = shape_of c.part-part.result.now in
     let ms = c.args.positions.now in
-    let same = c.part-part.ensures in
+    let same = c.part-part.ensures.shape in
     ap (take (position_count t)) c.advance.ensures.entries
     ∙ take_at (entered s true ms c.args.here) (drop (0 + position_count s) c.shift_from.new.self) (position_count t) (length-entered s true ms c.args.here ∙ sym same.positions)
     ∙ sym (same.entered true ms c.args.here)
 
 pub returns-clause-scratch : goal.returns-clause-scratch
-returns-clause-scratch c =
+returns-clause-scratch g c =
     let s = shape_of c.part-part.result.now in
     let ms = c.args.positions.now in
     let old = c.shift_from.new.self in
-    let same = c.part-part.ensures in
-    let size : length old ≡ length ms + 1 = omega (arith, ap length c.shift_from.ensures) in
+    let same = c.part-part.ensures.shape in
+    let size : length old ≡ length ms + 1 = omega (arith, ap length c.shift_from.ensures.shifted) in
     let room : 0 + position_count s ≤ length old = omega (arith, size, c.requires.one_each, same.positions) in
     record {
       loops = c.requires.scratch.loops;
@@ -31,3 +31,7 @@ returns-clause-scratch c =
           ∙ omega (arith, size, c.requires.one_each);
       masks = c.requires.scratch.masks;
     }
+
+pub returns-clause-cost : goal.returns-clause-cost
+returns-clause-cost g c =
+    omega (arith, c.advance.ensures.cost, c.note_loops.ensures.cost, c.part-part.ensures.size, c.shift_from.ensures.cost, c.requires.scratch.entries)

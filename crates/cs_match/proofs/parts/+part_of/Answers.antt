@@ -7,8 +7,9 @@ use Rattle.cs_syntax.specs.NodeList.{trees_of}
 use Rattle.cs_syntax.specs.declared.node.Node.{Node}
 use Rattle.cs_syntax.proofs.TreeLemmas.{trees_from}
 use Rattle.cs_syntax.proofs.TreeListLemmas.{append_assoc_trees, append_none}
-use Rattle.cs_match.specs.Parts.{run, runs, shape_of, shapes_of, HaveSameShape}
-use Rattle.cs_match.proofs.PartLemmas.{shape_of-Run, shape_of-Alternation, shape_of-Cat, shapes_last, shapes_none}
+use Rattle.cs_match.specs.Parts.{run, runs, shape_of, shapes_of, sizes_of, HaveSameShape}
+use Rattle.cs_match.specs.Glushkov.{position_count_of}
+use Rattle.cs_match.proofs.PartLemmas.{shape_of-Run, shape_of-Alternation, shape_of-Cat, shapes_last, shapes_none, size_of-Run, size_of-Alternation, size_of-Cat, sizes_last, words_few}
 use Rattle.cs_match.proofs.ShapeLemmas.{shape_trans, cat_first, cat_rest, alt_more, before_same, only_run, position_count_append, position_count_run}
 use Rattle.cs_match.proofs.parts.+part_of.Goals as goal
 
@@ -23,14 +24,20 @@ alternation_of-loop-node-preserved t c =
     let pushed : append (shapes_of c.push.new.self.items) ts ≡ append ss (more s ts) =
     ap (λ us. append us ts) (ap shapes_of c.in_ok-push.ensures.items ∙ shapes_last c.loop-node.parts.items c.in_ok-part.part) ∙ append_assoc_trees ss (more s none) ts in
     let same : HaveSameShape (alt all) (alt (append (shapes_of c.push.new.self.items) ts)) =
-    subst (λ (us : Trees). HaveSameShape (alt all) (alt us)) (sym pushed) (shape_trans _ _ _ (rw next at c.loop-node.invariant.same) (alt_more ss t s ts c.in_ok-part.ensures)) in
+    subst (λ (us : Trees). HaveSameShape (alt all) (alt us)) (sym pushed) (shape_trans _ _ _ (rw next at c.loop-node.invariant.same) (alt_more ss t s ts c.in_ok-part.ensures.shape)) in
     record {
       same = same;
+      size = omega (
+        arith,
+        c.in_ok-part.ensures.size,
+        rw next at c.loop-node.invariant.size,
+        ap sizes_of c.in_ok-push.ensures.items ∙ sizes_last c.loop-node.parts.items c.in_ok-part.part,
+      );
       total = sym (position_count_append (shapes_of c.push.new.self.items) ts) ∙ sym same.positions;
     }
 
-pub alternation_of-returns-in_ok-sequences-in-Some : goal.alternation_of-returns-in_ok-sequences-in-Some
-alternation_of-returns-in_ok-sequences-in-Some t c =
+pub alternation_of-returns-in_ok-sequences-in-Some-clause-shape : goal.alternation_of-returns-in_ok-sequences-in-Some-clause-shape
+alternation_of-returns-in_ok-sequences-in-Some-clause-shape t c =
     let ss = shapes_of c.loop-node.parts.items in
     let all = trees_of c.args.nodes.now in
     let ns = c.in-Some.following.items in
@@ -40,12 +47,12 @@ alternation_of-returns-in_ok-sequences-in-Some t c =
     ap (λ (rest : List Node). alt (append ss (trees_of rest))) (drop_of_length-le c.args.nodes.now {i = c.loop-node.node-index} (omega arith)) ∙ ap alt (append_none ss) in
     subst (λ (u : Tree). HaveSameShape (alt all) u) (none_left ∙ ap alt shapes ∙ sym (shape_of-Alternation c.in_ok-sequences-in-Some.sequences)) c.loop-node.invariant.same
 
-pub alternation_of-returns-in-None : goal.alternation_of-returns-in-None
-alternation_of-returns-in-None t c =
+pub alternation_of-returns-in-None-clause-shape : goal.alternation_of-returns-in-None-clause-shape
+alternation_of-returns-in-None-clause-shape t c =
     let ss = shapes_of c.loop-node.parts.items in
     let none_left : alt (append ss (trees_of (drop c.loop-node.node-index c.args.nodes.now))) ≡ alt ss =
     ap (λ (ns : List Node). alt (append ss (trees_of ns))) (drop_of_length-le c.args.nodes.now {i = c.loop-node.node-index} (omega arith)) ∙ ap alt (append_none ss) in
-    subst (λ (u : Tree). HaveSameShape (alt (trees_of c.args.nodes.now)) u) (none_left ∙ sym c.alternation.ensures) c.loop-node.invariant.same
+    subst (λ (u : Tree). HaveSameShape (alt (trees_of c.args.nodes.now)) u) (none_left ∙ sym c.alternation.ensures.shape) c.loop-node.invariant.same
 
 pub sequence_of-loop-node-preserved : goal.sequence_of-loop-node-preserved
 sequence_of-loop-node-preserved t c =
@@ -58,14 +65,15 @@ sequence_of-loop-node-preserved t c =
     let n = c.in_ok-positions.positions in
     let same : HaveSameShape (cat (trees_of c.args.nodes.now)) (cat (append us (more (run n) ts))) =
     shape_trans _ _ _ (rw next at c.loop-node.invariant.same)
-    (shape_trans _ _ _ (before_same ss _ _ (cat_rest (run c.loop-node.positions) _ _ (cat_first t s ts c.in_ok-part.ensures))) (c.in_ok-positions.ensures ts)) in
+    (shape_trans _ _ _ (before_same ss _ _ (cat_rest (run c.loop-node.positions) _ _ (cat_first t s ts c.in_ok-part.ensures.shape))) (c.in_ok-positions.ensures.shape ts)) in
     record {
       same = same;
+      size = omega (arith, c.in_ok-part.ensures.size, c.in_ok-positions.ensures.size, rw next at c.loop-node.invariant.size);
       total = omega (arith, same.positions, position_count_append us (more (run n) ts), position_count_run n);
     }
 
-pub sequence_of-returns-then-is_empty : goal.sequence_of-returns-then-is_empty
-sequence_of-returns-then-is_empty t c =
+pub sequence_of-returns-then-is_empty-clause-shape : goal.sequence_of-returns-then-is_empty-clause-shape
+sequence_of-returns-then-is_empty-clause-shape t c =
     let n = c.loop-node.positions in
     let empty : length c.loop-node.parts.items ≡ 0 = grind (arith, common_steps) in
     let alone : cat (append (shapes_of c.loop-node.parts.items) (more (run n) (trees_of (drop c.loop-node.node-index c.args.nodes.now)))) ≡ cat (more (run n) none) =
@@ -74,11 +82,31 @@ sequence_of-returns-then-is_empty t c =
     subst (λ (u : Tree). HaveSameShape (cat (trees_of c.args.nodes.now)) u) (sym (shape_of-Run n))
     (shape_trans _ _ _ (subst (λ (u : Tree). HaveSameShape (cat (trees_of c.args.nodes.now)) u) alone c.loop-node.invariant.same) (only_run n))
 
-pub sequence_of-returns : goal.sequence_of-returns
-sequence_of-returns t c =
+pub sequence_of-returns-clause-shape : goal.sequence_of-returns-clause-shape
+sequence_of-returns-clause-shape t c =
     let ss = shapes_of c.loop-node.parts.items in
     let n = c.loop-node.positions in
     let none_left : cat (append ss (more (run n) (trees_of (drop c.loop-node.node-index c.args.nodes.now)))) ≡ cat (append ss (more (run n) none)) =
     ap (λ (ns : List Node). cat (append ss (more (run n) (trees_of ns)))) (drop_of_length-le c.args.nodes.now {i = c.loop-node.node-index} (omega arith)) in
     subst (λ (u : Tree). HaveSameShape (cat (trees_of c.args.nodes.now)) u) (sym (shape_of-Cat c.add_run.new.parts))
-    (shape_trans _ _ _ (subst (λ (u : Tree). HaveSameShape (cat (trees_of c.args.nodes.now)) u) none_left c.loop-node.invariant.same) c.in_ok-add_run.ensures)
+    (shape_trans _ _ _ (subst (λ (u : Tree). HaveSameShape (cat (trees_of c.args.nodes.now)) u) none_left c.loop-node.invariant.same) c.in_ok-add_run.ensures.shape)
+
+pub alternation_of-returns-in_ok-sequences-in-Some-clause-size : goal.alternation_of-returns-in_ok-sequences-in-Some-clause-size
+alternation_of-returns-in_ok-sequences-in-Some-clause-size t c =
+    let ns = c.in_ok-sequences-in-Some.sequences in
+    let known : shapes_of c.deref.result.now ≡ runs c.in-Some.following.items = rw c.in-Some.is at c.in_ok-following.ensures in
+    let shapes : shapes_of c.loop-node.parts.items ≡ runs ns = ap shapes_of (sym c.deref.ensures.value) ∙ known ∙ ap runs (sym c.in_ok-sequences-in-Some.ensures) in
+    omega (
+      arith,
+      size_of-Alternation ns,
+      words_few (trees_of c.args.nodes.now) (position_count_of (runs ns)) (omega (arith, ap position_count_of shapes, c.loop-node.invariant.total)),
+    )
+
+pub alternation_of-returns-in-None-clause-size : goal.alternation_of-returns-in-None-clause-size
+alternation_of-returns-in-None-clause-size t c = omega (arith, c.alternation.ensures.size, c.loop-node.invariant.size)
+
+pub sequence_of-returns-then-is_empty-clause-size : goal.sequence_of-returns-then-is_empty-clause-size
+sequence_of-returns-then-is_empty-clause-size t c = omega (arith, size_of-Run c.loop-node.positions)
+
+pub sequence_of-returns-clause-size : goal.sequence_of-returns-clause-size
+sequence_of-returns-clause-size t c = omega (arith, size_of-Cat c.add_run.new.parts, c.in_ok-add_run.ensures.size, c.loop-node.invariant.size)

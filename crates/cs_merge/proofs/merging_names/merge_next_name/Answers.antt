@@ -5,8 +5,8 @@ use Rattle.std.specs.Option.{option_copied, option_map_or}
 use Rattle.std.specs.Ordering.{is_lt}
 use Rattle.cs_tree.specs.Cover.{is_covered}
 use Rattle.cs_tree.specs.NameOrder.{bytes_cmp}
-use Rattle.cs_tree.specs.PathSet.{Paths}
-use Rattle.cs_merge.specs.SortedIndex.{sorted_names}
+use Rattle.cs_tree.specs.PathSet as set
+use Rattle.cs_merge.specs.SortedNames.{sorted_names}
 use Rattle.cs_merge.proofs.NameStepLemmas.{name_storable, naming_dropped, naming_newer, naming_older, none_past}
 use Rattle.cs_merge.proofs.IdMergeLemmas.{no_more}
 use Rattle.cs_merge.proofs.merging_names.merge_next_name.Goals as goal
@@ -18,18 +18,18 @@ write_name-requires-clause-storable c =
 
 pub returns-in_ok-push_dropped-clause-so_far : goal.returns-in_ok-push_dropped-clause-so_far
 returns-in_ok-push_dropped-clause-so_far c =
-    naming_dropped c.args.old.now c.args.newer.now c.requires.old_sorted c.requires.newer_sorted c.requires.tested c.args.sections.now c.args.ranks.now.older c.args.ranks.now.newer c.requires.so_far c.in-Some.name.now c.push_dropped.new.self
+    naming_dropped c.args.old.now c.args.newer.now c.requires.old_sorted c.requires.newer_sorted (is_covered (set.from_list c.args.cover.now)) c.requires.covered c.args.sections.now c.args.ranks.now.older c.args.ranks.now.newer c.requires.so_far c.in-Some.name.now c.push_dropped.new.self
     (ap (slice_get (sorted_names c.args.old.now)) (sym c.len-2.ensures) ∙ sym c.name.ensures ∙ ap option_copied c.in-Some.is)
-    (ap (λ (paths : Paths). is_covered paths c.in-Some.name.now) (sym c.requires.cover) ∙ sym c.covers.ensures ∙ c.if-covers.true)
+    (sym c.covers.ensures ∙ c.if-covers.true)
     c.in_ok-push_dropped.ensures
 
 pub returns-in_ok-write_name-clause-so_far : goal.returns-in_ok-write_name-clause-so_far
 returns-in_ok-write_name-clause-so_far c =
     let below : (text : List ℕ) → slice_get (sorted_names c.args.newer.now) (length c.args.ranks.now.newer) ≡ Some text → is_lt (bytes_cmp c.in-Some.name.now text) ≡ true = λ text e.
     sym (ap (λ (o : Option (List ℕ)). option_map_or (λ next. is_lt (bytes_cmp c.in-Some.name.now next)) o true) (c.name-next.ensures ∙ ap (slice_get (sorted_names c.args.newer.now)) c.len.ensures ∙ e)) ∙ sym c.is_below.ensures ∙ c.if-is_below.true in
-    naming_older c.args.old.now c.args.newer.now c.requires.old_sorted c.requires.newer_sorted c.requires.tested c.args.sections.now c.args.ranks.now.older c.args.ranks.now.newer c.requires.so_far c.in-Some.name.now c.write_name.new.sections (length c.args.sections.now.names) c.write_name.new.new_ids
+    naming_older c.args.old.now c.args.newer.now c.requires.old_sorted c.requires.newer_sorted (is_covered (set.from_list c.args.cover.now)) c.requires.covered c.args.sections.now c.args.ranks.now.older c.args.ranks.now.newer c.requires.so_far c.in-Some.name.now c.write_name.new.sections (length c.args.sections.now.names) c.write_name.new.new_ids
     (ap (slice_get (sorted_names c.args.old.now)) (sym c.len-2.ensures) ∙ sym c.name.ensures ∙ ap option_copied c.in-Some.is)
-    (ap (λ (paths : Paths). is_covered paths c.in-Some.name.now) (sym c.requires.cover) ∙ sym c.covers.ensures ∙ c.if-covers.false)
+    (sym c.covers.ensures ∙ c.if-covers.false)
     below c.in_ok-write_name.ensures.sections refl c.in_ok-write_name.ensures.ids
 
 pub returns-in_default-next-clause-all : goal.returns-in_default-next-clause-all
@@ -60,7 +60,7 @@ returns-clause-so_far c =
           ∙ w.if-is_below.false
       | in_default w ↦ absurd (none_some text (sym (ap option_copied (no_more c.name.result w.in_default.not-Some)) ∙ c.name.ensures ∙ ap (slice_get (sorted_names c.args.old.now)) c.len-2.ensures ∙ e))
     ] in
-    naming_newer c.args.old.now c.args.newer.now c.requires.old_sorted c.requires.newer_sorted c.requires.tested c.args.sections.now c.args.ranks.now.older c.args.ranks.now.newer c.requires.so_far c.in-Some-next.name.now c.write_name-2.new.sections (length c.args.sections.now.names) c.write_name-2.new.new_ids
+    naming_newer c.args.old.now c.args.newer.now c.requires.old_sorted c.requires.newer_sorted (is_covered (set.from_list c.args.cover.now)) c.requires.covered c.args.sections.now c.args.ranks.now.older c.args.ranks.now.newer c.requires.so_far c.in-Some-next.name.now c.write_name-2.new.sections (length c.args.sections.now.names) c.write_name-2.new.new_ids
     (ap (slice_get (sorted_names c.args.newer.now)) (sym c.len.ensures) ∙ sym c.name-next.ensures ∙ ap option_copied c.in-Some-next.is)
     above c.in_ok-write_name-2.ensures.sections refl c.in_ok-write_name-2.ensures.ids
   where

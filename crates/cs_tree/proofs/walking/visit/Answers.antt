@@ -1,4 +1,4 @@
-use Rattle.std.proofs.Common.{◌≡◌, [], ◌∷◌, ◌++◌, map, refl, arith, sym, ap, subst, ◌∙◌}
+use Rattle.std.proofs.Common.{rules, ◌≡◌, [], ◌∷◌, ◌++◌, map, refl, arith, sym, ap, subst, ◌∙◌}
 use Rattle.std.proofs.lemmas.List.{map-append}
 use Rattle.std.specs.Prelude.{string_bytes}
 use Rattle.cs_tree.specs.Clean.{longest_path}
@@ -7,7 +7,7 @@ use Rattle.cs_tree.proofs.RequestLemmas.{requests_none, requests_on}
 use Rattle.cs_tree.proofs.CoverLemmas.{covers_refl}
 use Rattle.cs_tree.proofs.GatherLemmas.{counts_one, entered_deeper, path_limit_one}
 use Rattle.cs_tree.proofs.FaultCountLemmas.{AddsFewSoFar, adds_on}
-use Rattle.cs_tree.proofs.PendingLemmas.{UnderwayIn, starts_in, goes_on_in, last_below, pending_below, keeps_on, lighter, weight}
+use Rattle.cs_tree.proofs.PendingLemmas.{UnderwayIn, starts_in, ends_in, goes_on_in, last_below, pending_below, keeps_on, lighter, weight}
 use Rattle.cs_tree.proofs.UnderLemmas.{AreBelow}
 use Rattle.cs_tree.proofs.walking.visit.Goals as goal
 
@@ -65,4 +65,21 @@ pending-preserved g c =
       requested = requests_on longest_path (g.T.Tree.longest_requested c.args.tree.now) (g.T.Tree.longest_requested c.pending.tree) (g.T.Tree.longest_requested c.stat_path.new.tree) c.pending.invariant.requested c.stat_path.ensures.requested;
       counts = c.stat_path.ensures.counts ∙ c.pending.invariant.counts;
       keeps = c.stat_path.ensures.keeps ∙ c.pending.invariant.keeps;
+    }
+
+pub returns : goal.returns
+returns g c =
+    let none : c.pending.pending.items ≡ [] = search rules in
+    let waits : map string_bytes c.pending.pending.items ≡ [] = ap (map string_bytes) none in
+    record {
+      gathers = ends_in (g.T.Tree.snapshot c.args.tree.now) (string_bytes c.args.start) c.args.walked.now c.pending.walked
+          (subst (λ paths. UnderwayIn (g.T.Tree.snapshot c.args.tree.now) (string_bytes c.args.start) paths c.args.walked.now c.pending.walked) waits c.pending.invariant.gathers);
+      under = c.pending.invariant.under;
+      path_limit = c.pending.invariant.path_limit;
+      counted = c.pending.invariant.counted;
+      once = λ path. omega (arith, subst (λ paths. AddsFewSoFar (string_bytes c.args.start) paths c.args.walked.now c.pending.walked) waits c.pending.invariant.once path);
+      rises = c.pending.invariant.rises;
+      requested = c.pending.invariant.requested;
+      counts = c.pending.invariant.counts;
+      keeps = c.pending.invariant.keeps;
     }

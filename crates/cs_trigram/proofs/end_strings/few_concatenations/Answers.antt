@@ -42,3 +42,6 @@ returns c = record {
       ];
   each = c.loop-near.invariant.1;
 }
+
+pub returns-then-len-gt-MAX_SET : goal.returns-then-len-gt-MAX_SET
+returns-then-len-gt-MAX_SET c = (c.near-item.result, item_at c.args.nears.now c.loop-near.near-index c.near-item.result c.loop-near-test.true c.near-item.is)

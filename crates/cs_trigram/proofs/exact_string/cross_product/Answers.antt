@@ -1,6 +1,7 @@
-use Rattle.std.proofs.Common.{ℕ, List, ◌+◌, ◌++◌, drop, map, sym, ◌∙◌, ap, arith}
+use Rattle.std.proofs.Common.{ℕ, List, ◌+◌, ◌++◌, drop, map, sym, ◌∙◌, ap, arith, drop_of_length-le}
 use Rattle.cs_trigram.specs.Analysis.{with_strings, concatenations}
-use Rattle.cs_trigram.proofs.EnumerationLemmas.{with_strings_append, with_strings_full, strings_from}
+use Rattle.cs_trigram.proofs.EnumerationLemmas.{with_strings_append, with_strings_full, strings_from, single_prefix}
+use Rattle.cs_trigram.proofs.NodeListLemmas.{if_ok}
 use Rattle.cs_trigram.proofs.exact_string.cross_product.Goals as goal
 
 pub loop-prefix-preserved : goal.loop-prefix-preserved
@@ -17,5 +18,16 @@ loop-prefix-preserved c =
     ∙ c.loop-prefix.invariant
 
 pub returns-then-len-gt-MAX_EXACT : goal.returns-then-len-gt-MAX_EXACT
-returns-then-len-gt-MAX_EXACT c =
+returns-then-len-gt-MAX_EXACT c = λ _ _.
     sym (with_strings_full c.loop-prefix.strings.items (concatenations (drop c.loop-prefix.prefix-index c.args.prefixes.now) c.args.suffixes.now) (omega arith)) ∙ c.loop-prefix.invariant
+
+pub returns : goal.returns
+returns c = λ _ _.
+    ap (λ (us : List (List ℕ)). with_strings c.loop-prefix.strings.items (concatenations us c.args.suffixes.now))
+    (sym (drop_of_length-le c.args.prefixes.now {i = c.loop-prefix.prefix-index} (omega arith)))
+    ∙ c.loop-prefix.invariant
+
+pub returns-then-prefixes-eq1 : goal.returns-then-prefixes-eq1
+returns-then-prefixes-eq1 c =
+    if_ok c.prepended.result _ _ c.prepended.ensures
+    (λ strings is. λ distinct few. is ∙ single_prefix c.args.prefixes.now c.args.suffixes.now c.index-prefixes-0.result (omega arith) c.index-prefixes-0.is distinct few)

@@ -1,7 +1,7 @@
 use Rattle.std.proofs.Common.{◌≤◌, ◌+◌, ◌∙◌, ℕ, List, [], length, take, drop, arith, subst, length-take, Ok, Err}
 use Rattle.cs_trigram.specs.Position.{Validates}
 use Rattle.cs_trigram.specs.SeenTrigrams.{numbers_of}
-use Rattle.cs_trigram.proofs.ScanLemmas.{HasScanned-more, IsScanOf-broken, ConsumesAtMost-more}
+use Rattle.cs_trigram.proofs.ScanLemmas.{HasReadText-more, IsScanOf-broken, ConsumesAtMost-more}
 use Rattle.cs_trigram.proofs.gatherer.read_to_end.Goals as goal
 
 pub chunks-preserved : goal.chunks-preserved
@@ -9,7 +9,7 @@ chunks-preserved g c =
     let block : List ℕ = take c.in-Ok.n (drop 2 c.read_block.new.buffer) in
     record {
       room = omega (arith, c.carry.auto.buffer, c.read_block.auto.buffer, c.chunks.invariant.room);
-      reads = HasScanned-more c.args.limits.now (g.R.Source.model c.args.source.now) (g.R.Source.model c.chunks.source) (g.R.Source.model c.read_block.new.source) c.chunks.position c.in-Ok-validate.next c.chunks.found c.add_block.new.self
+      reads = HasReadText-more c.args.limits.now (g.R.Source.model c.args.source.now) (g.R.Source.model c.chunks.source) (g.R.Source.model c.read_block.new.source) c.chunks.position c.in-Ok-validate.next c.chunks.found c.add_block.new.self
           c.chunks.buffer c.read_block.new.buffer c.carry.new.buffer block c.with_two_before.result.now c.chunks.invariant.reads c.in-Ok.ensures.bytes.0 c.in-Ok.ensures.prefix
           (λ prefix is_after. subst (λ (bs : List ℕ). Validates c.args.limits.now prefix bs (Ok c.in-Ok-validate.next)) c.block.ensures (c.in-Ok-validate.ensures.rule prefix is_after))
           c.with_two_before.ensures.bytes c.add_block.ensures c.carry.ensures;

@@ -1,8 +1,9 @@
-use Rattle.std.proofs.Common.{rules, ◌≡◌, ◌-◌, ◌∙◌, ap, sym, subst, ℕ, List, Bool, Vec, Global, length, length-set, get_or, set, true, false, arith, inl, inr, vec_len}
+use Rattle.std.proofs.Common.{rules, ◌≡◌, ◌-◌, ◌⊎◌, ◌++◌, take, drop, ◌∙◌, ap, sym, subst, ℕ, List, Bool, Vec, Global, length, length-set, get_or, set, true, false, arith, inl, inr, vec_len}
 use Rattle.std.proofs.lemmas.Bool.{eqb-true, eq-eqb, true≢false}
 use Rattle.cs_index.specs.PostingLists.{Ids}
 use Rattle.cs_index.specs.StoredLists.{ids_left, GivesBelow}
-use Rattle.cs_index.proofs.candidates.WindowRows.{row_begins, row_more, row_ends, skipped_to, widened, RowSoFar}
+use Rattle.cs_index.proofs.candidates.WindowRows.{row_begins, row_more, row_ends, skipped_to, taken_back, widened}
+use Rattle.cs_index.specs.Rows.{RowSoFar}
 use Rattle.cs_index.proofs.reading.rows.list_row.Goals as goal
 use Rattle.cs_index.proofs.reading.rows.list_row.Goals.{then-is_empty+in_ok-resize, else-is_empty}
 
@@ -41,16 +42,21 @@ ids-preserved g c =
           ] in
           (long, λ k. ap (λ (v : Vec Bool Global). get_or v.items k false) w.row-is)
     ] in
+    let one : List Bool = set wide c.saturating_sub.result true in
+    let marked : List Bool = c.mark_short.new.row in
+    let back : take c.if-is_empty.row.len (marked ++ drop (length marked) one) ≡ marked = taken_back c.if-is_empty.row.len marked (drop (length marked) one) (sym (c.mark_short.ensures.width ∙ c.deref_mut.ensures.len)) in
     record {
-      width = inr (length-set wide c.saturating_sub.result true ∙ flags.0);
+      width = subst (λ (r : List Bool). (length r ≡ 0) ⊎ (length r ≡ end - start)) (sym back)
+          (inr (c.mark_short.ensures.width ∙ ap length c.deref_mut.ensures.value ∙ length-set wide c.saturating_sub.result true ∙ flags.0));
       so_far = λ bytes is held.
+          let list : Ids = ids_left bytes c.args.list.now in
           let before = i.so_far bytes is held in
-          let given = subst (GivesBelow bytes end c.ids.list c.next_below.new.self) c.in-Some.is (c.in_ok-id.ensures.gives bytes (i.keeps ∙ is) before.0) in (
-            given.0,
-            subst (λ n. RowSoFar start end (ids_left bytes c.args.list.now) (set wide n true) (ids_left bytes c.next_below.new.self)) (sym c.saturating_sub.ensures)
-                (row_more start end (ids_left bytes c.args.list.now) row wide (ids_left bytes c.ids.list) (ids_left bytes c.next_below.new.self) c.in-Some.id before.1
-                (ap (λ (ids : Ids). ids.ids) given.1) (sym (ap (λ (ids : Ids). ids.whole) given.1)) given.2 flags.0 flags.1),
-          );
+          let given = subst (GivesBelow bytes end c.ids.list c.next_below.new.self) c.in-Some.is (c.in_ok-id.ensures.gives bytes (i.keeps ∙ is) before.0) in
+          let first = subst (λ n. RowSoFar start end list (set wide n true) (ids_left bytes c.next_below.new.self)) (sym c.saturating_sub.ensures)
+          (row_more start end list row wide (ids_left bytes c.ids.list) (ids_left bytes c.next_below.new.self) c.in-Some.id before.1
+          (ap (λ (ids : Ids). ids.ids) given.1) (sym (ap (λ (ids : Ids). ids.whole) given.1)) given.2 flags.0 flags.1) in
+          let more = c.mark_short.ensures.row bytes list given.0 (subst (λ (r : List Bool). RowSoFar start end list r (ids_left bytes c.next_below.new.self)) (sym c.deref_mut.ensures.value) first) in
+          (more.0, subst (λ (r : List Bool). RowSoFar start end list r (ids_left bytes c.mark_short.new.self)) (sym back) more.1);
       keeps = c.next_below.ensures.keeps ∙ i.keeps;
       size = c.next_below.ensures.size ∙ i.size;
       failed = c.in_ok-id.ensures.failed ∙ i.failed;

@@ -1,7 +1,6 @@
 use Rattle.std.proofs.Common.{◌≡◌, ◌-◌, ◌⊎◌, List, ℕ, Some, length}
-use Rattle.cs_index.specs.Rows.{IsLeft}
+use Rattle.cs_index.specs.Rows.{IsLeft, RowSoFar}
 use Rattle.cs_index.specs.StoredLists.{Holds, ids_left}
-use Rattle.cs_index.proofs.candidates.WindowRows.{RowSoFar}
 use Rattle.cs_index.proofs.reading.rows.list_row.Given as goal
 
 abbrev pub invariant-ids : goal.invariant-ids

@@ -4,16 +4,17 @@ use Rattle.std.proofs.lemmas.List.{with_items_is}
 use Rattle.cs_match.specs.declared.state.State.{State}
 use Rattle.cs_match.specs.LazyDfa.{AreStates, AreTransitions}
 use Rattle.cs_match.specs.ConsistentDfa.{tree_in}
+use Rattle.cs_match.specs.Work.{words}
 use Rattle.cs_match.proofs.TransitionLemmas.{added_states, added_transitions}
 use Rattle.cs_match.proofs.dfa.LazyDfa.add.Goals as goal
 
 pub returns-clause-right : goal.returns-clause-right
-returns-clause-right c =
+returns-clause-right g c =
     let s = c.args.self.now in
     let t = tree_in s in
     let given = c.requires.right in
-    let put : c.put_state.new.cached ≡ set s.cached.items s.used s.scratch = c.put_state.ensures ∙ ap (λ xs. set xs s.used s.scratch) c.deref_mut.ensures.value in
-    let size = ap length c.put_state.ensures ∙ length-set c.deref_mut.result.now s.used s.scratch ∙ c.deref_mut.ensures.len in
+    let put : c.put_state.new.cached ≡ set s.cached.items s.used s.scratch = c.put_state.ensures.put ∙ ap (λ xs. set xs s.used s.scratch) c.deref_mut.ensures.value in
+    let size = ap length c.put_state.ensures.put ∙ length-set c.deref_mut.result.now s.used s.scratch ∙ c.deref_mut.ensures.len in
     let is = sym (with_items_is s.cached c.put_state.new.cached size ∙ put) in
     record {
       expanded = given.expanded;
@@ -23,3 +24,6 @@ returns-clause-right c =
       room = given.room;
       memory = given.memory;
     }
+
+pub returns-clause-work : goal.returns-clause-work
+returns-clause-work g c = c.put_state.ensures.cost ∙ ap (λ n. c.args.steps.now + words n) c.requires.right.room

@@ -5,7 +5,7 @@ use Rattle.cs_match.specs.ConsistentDfa.{tree_in}
 use Rattle.cs_match.proofs.dfa.LazyDfa.fill.Goals as goal
 
 pub put-requires-clause-right : goal.put-requires-clause-right
-put-requires-clause-right c =
+put-requires-clause-right g c =
     let s = c.args.self.now in
     record {
       expanded = c.requires.right.expanded;
@@ -16,7 +16,7 @@ put-requires-clause-right c =
     }
 
 pub next_number-requires-clause-right : goal.next_number-requires-clause-right
-next_number-requires-clause-right c =
+next_number-requires-clause-right g c =
     let s = c.args.self.now in
     record {
       expanded = c.requires.right.expanded;

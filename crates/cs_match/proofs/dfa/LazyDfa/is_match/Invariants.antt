@@ -1,12 +1,14 @@
-use Rattle.std.proofs.Common.{◌≡◌, ℕ, ◌<◌, take, false}
+use Rattle.std.proofs.Common.{◌≡◌, ℕ, ◌+◌, ◌*◌, ◌<◌, ◌≤◌, take, false}
 use Rattle.cs_match.specs.Automaton.{GrowsOver}
 use Rattle.cs_match.specs.Glushkov.{accepts_in}
 use Rattle.cs_match.specs.States.{state}
+use Rattle.cs_match.specs.Work.{state_work, byte_work}
 use Rattle.cs_match.specs.ConsistentDfa.{IsConsistent, HasState, tree_in}
 use Rattle.cs_match.proofs.dfa.LazyDfa.is_match.Given as goal
 
 abbrev pub invariant-loop-b : goal.invariant-loop-b
-invariant-loop-b l = record {
+invariant-loop-b g l = record {
+  work : l.steps + state_work * l.self.used ≤ l.fn.steps + state_work * l.fn.self.used + l.b-index * byte_work (tree_in l.fn.self);
   right : IsConsistent l.self;
   same : tree_in l.self ≡ tree_in l.fn.self;
   states : GrowsOver l.b-index l.fn.self.used l.self.used;

@@ -5,7 +5,7 @@ use Rattle.cs_match.specs.ConsistentDfa.{LeadsIn, tree_in, state_in}
 use Rattle.cs_match.proofs.dfa.LazyDfa.next_number.Goals as goal
 
 pub put-requires-2-clause-leads : goal.put-requires-2-clause-leads
-put-requires-2-clause-leads c =
+put-requires-2-clause-leads g c =
     let old = c.args.self.now in
     let new = c.add-next.new.self in
     let kept = c.add-next.ensures.kept c.args.from (state_in old c.args.from) c.requires.number in
@@ -13,6 +13,6 @@ put-requires-2-clause-leads c =
     c.add-next.ensures.same kept.same c.requires.within c.requires.stays c.requires.scratch c.add-next.ensures.number
 
 pub returns-clause-leads : goal.returns-clause-leads
-returns-clause-leads c =
+returns-clause-leads g c =
     let kept = c.add-next.ensures.kept c.args.from (state_in c.args.self.now c.args.from) c.requires.number in
     subst (λ (n : State). LeadsIn c.put-2.new.self n c.args.byte c.add-next.result) kept.same c.put-2.ensures.leads

@@ -1,4 +1,4 @@
-use Rattle.std.proofs.Common.{◌≡◌, ◌∙◌, ◌+◌, ◌/◌, ◌<◌, ◌≤◌, ℕ, suc, slice_index, length, ap, sym, subst}
+use Rattle.std.proofs.Common.{◌≡◌, ◌∙◌, ◌+◌, ◌/◌, ◌<◌, ◌≤◌, ℕ, suc, slice_index, length, ap, sym, subst, arith}
 use Rattle.std.proofs.lemmas.List.{with_items_is}
 use Rattle.cs_syntax.specs.declared.char_step.Unfinished.{Unfinished}
 use Rattle.cs_match.specs.ByteClasses.{StepTogether}
@@ -9,7 +9,7 @@ use Rattle.cs_match.proofs.TransitionLemmas.{leads_alike, put_transition}
 use Rattle.cs_match.proofs.dfa.LazyDfa.put.Goals as goal
 
 pub returns-clause-right : goal.returns-clause-right
-returns-clause-right c =
+returns-clause-right g c =
     let s = c.args.self.now in
     let t = tree_in s in
     let class = c.class_of-class.ensures in
@@ -34,3 +34,6 @@ returns-clause-right c =
       room = c.requires.right.room;
       memory = c.requires.right.memory;
     }
+
+pub returns-clause-work : goal.returns-clause-work
+returns-clause-work g c = omega (arith, c.add.ensures, c.class_of-class.ensures.bytes)

@@ -5,13 +5,13 @@ use Rattle.cs_match.specs.Glushkov.{IsExpanded}
 use Rattle.cs_match.specs.Entered.{position_list}
 use Rattle.cs_match.specs.Size.{FitsWeight}
 use Rattle.cs_match.specs.Expansion.{expansion}
-use Rattle.cs_match.proofs.PositionCountLemmas.{positions_light, repeats_light}
+use Rattle.cs_match.proofs.PositionCountLemmas.{positions_light, repeats_light, is_small}
 use Rattle.cs_match.proofs.ExpansionLemmas.{expansion_matches, is_expanded}
 use Rattle.cs_match.proofs.program.Program.compile.Goals as goal
 
 pub invariant_of-result : goal.invariant_of-result
 invariant_of-result c =
-    ((c.count-count.ensures, c.count_repeats-repeats.ensures, c.look_behind-look_behind.ensures, subst IsExpanded (sym c.in_ok-root.ensures) (is_expanded (tree_of c.tree.result.now))), c.in_ok-prefilter.ensures, c.in_ok-part.ensures, c.in_ok-add_positions.ensures ∙ ap (λ ps. ps ++ position_list (tree_of c.in_ok-root.root)) c.new-positions.ensures.items, c.byte_classes-byte_classes.ensures, c.in_ok-cuts.ensures)
+    ((c.count-count.ensures, c.count_repeats-repeats.ensures, c.look_behind-look_behind.ensures, subst IsExpanded (sym c.in_ok-root.ensures) (is_expanded (tree_of c.tree.result.now))), c.in_ok-prefilter.ensures, c.in_ok-part.ensures.shape, c.in_ok-part.ensures.size, c.in_ok-add_positions.ensures ∙ ap (λ ps. ps ++ position_list (tree_of c.in_ok-root.root)) c.new-positions.ensures.items, c.byte_classes-byte_classes.ensures, c.in_ok-cuts.ensures)
 
 pub returns-clause-alike : goal.returns-clause-alike
 returns-clause-alike c = λ line.
@@ -27,7 +27,7 @@ count_repeats-repeats-requires c = rw c.in_ok-root.ensures (omega (arith, repeat
 pub returns-clause-small : goal.returns-clause-small
 returns-clause-small c =
     let same : tree_of c.in_ok-root.root ≡ expansion c.args.pattern.now = c.in_ok-root.ensures ∙ ap expansion c.tree.ensures.tree in
-    subst (λ (t : Tree). FitsWeight t c.args.pattern.now) (sym same) (positions_light c.args.pattern.now)
+    subst (λ (t : Tree). FitsWeight t c.args.pattern.now) (sym same) (is_small c.args.pattern.now)
 
 pub part_of-requires : goal.part_of-requires
 part_of-requires c = rw c.in_ok-root.ensures (omega (arith, positions_light (tree_of c.tree.result.now)))

@@ -1,5 +1,5 @@
 use Rattle.std.proofs.Common.{rules}
 use Rattle.cs_match.proofs.state.State.begin.Goals as goal
 
-pub returns : goal.returns
-returns c = search rules
+pub returns-clause-start : goal.returns-clause-start
+returns-clause-start g c = search rules

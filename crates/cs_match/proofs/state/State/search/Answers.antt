@@ -2,22 +2,24 @@ use Rattle.std.proofs.Common.{◌≡◌, true, length, get_or, refl, sym, ◌∙
 use Rattle.std.proofs.lemmas.List.{take_all}
 use Rattle.cs_match.specs.declared.state.State.{State}
 use Rattle.cs_match.specs.Glushkov.{accepts, accepts_in}
+use Rattle.cs_match.specs.Work.{step_work}
+use Rattle.cs_match.proofs.PositionCountLemmas.{scaled}
 use Rattle.cs_match.specs.States.{state, next_state, ahead, look_at_end}
 use Rattle.cs_match.proofs.DecidabilityLemmas.{found_at, found_last}
 use Rattle.cs_match.proofs.StateLemmas.{length-state, next_more, accepts_ahead, accepts_by_end}
 use Rattle.cs_match.proofs.state.State.search.Goals as goal
 
 pub step_in_line-requires-clause-one_each : goal.step_in_line-requires-clause-one_each
-step_in_line-requires-clause-one_each c =
+step_in_line-requires-clause-one_each g c =
     ap (λ (n : State). length n.positions) c.loop-b.invariant.here ∙ length-state c.args.program.now c.args.line.now c.loop-b.b-index (omega arith)
 
 pub end-requires : goal.end-requires
-end-requires c = record {
+end-requires g c = record {
   one_each = ap (λ (n : State). length n.positions) c.loop-b.invariant.here ∙ length-state c.args.program.now c.args.line.now c.loop-b.b-index (omega arith);
 }
 
 pub returns-then-step_in_line-clause-found : goal.returns-then-step_in_line-clause-found
-returns-then-step_in_line-clause-found c =
+returns-then-step_in_line-clause-found g c =
     let t = c.args.program.now in
     let line = c.args.line.now in
     let i = c.loop-b.b-index in
@@ -28,7 +30,7 @@ returns-then-step_in_line-clause-found c =
     (λ _. f, λ _. refl)
 
 pub returns-then-step_in_line-clause-one_each : goal.returns-then-step_in_line-clause-one_each
-returns-then-step_in_line-clause-one_each c =
+returns-then-step_in_line-clause-one_each g c =
     let t = c.args.program.now in
     let line = c.args.line.now in
     let i = c.loop-b.b-index in
@@ -36,7 +38,7 @@ returns-then-step_in_line-clause-one_each c =
     ∙ length-state t line (i + 1) (omega arith)
 
 pub loop-b-preserved : goal.loop-b-preserved
-loop-b-preserved c =
+loop-b-preserved g c =
     let t = c.args.program.now in
     let line = c.args.line.now in
     let i = c.loop-b.b-index in
@@ -44,13 +46,14 @@ loop-b-preserved c =
     let byte = get_or line i 0 in
     let stays = sym (accepts_ahead t line i (omega arith)) ∙ ap (λ (n : State). accepts t true n.positions (ahead t n byte)) (sym given.here) ∙ sym c.step_in_line.ensures.accepting ∙ c.if-step_in_line.false in
     record {
+      cost = omega (arith, given.cost, c.step_in_line.ensures.cost);
       here = c.step_in_line.ensures.moved ∙ ap (λ (n : State). next_state t n byte) given.here ∙ next_more t line i (omega arith);
       scratch = c.step_in_line.ensures.scratch;
       none = below_more _ _ given.none stays;
     }
 
 pub returns-clause-found : goal.returns-clause-found
-returns-clause-found c =
+returns-clause-found g c =
     let t = c.args.program.now in
     let line = c.args.line.now in
     let i = c.loop-b.b-index in
@@ -58,3 +61,15 @@ returns-clause-found c =
     let here = given.here ∙ ap (state t) (take_all i line (omega arith)) in
     let ends = c.end.ensures.accepting ∙ ap (λ (n : State). accepts t true n.positions (look_at_end n)) here ∙ accepts_by_end t line in
     found_last t line c.requires.expanded _ ends (λ k lt. given.none k (omega arith))
+
+pub returns-then-step_in_line-clause-cost : goal.returns-then-step_in_line-clause-cost
+returns-then-step_in_line-clause-cost g c =
+    let i = c.loop-b.b-index in
+    let n = length c.args.line.now in
+    omega (arith, c.loop-b.invariant.cost, c.step_in_line.ensures.cost, scaled (i + 1) n (step_work c.args.program.now) (omega arith))
+
+pub returns-clause-cost : goal.returns-clause-cost
+returns-clause-cost g c =
+    let i = c.loop-b.b-index in
+    let n = length c.args.line.now in
+    omega (arith, c.loop-b.invariant.cost, c.end.ensures.cost, scaled i n (step_work c.args.program.now) (omega arith))

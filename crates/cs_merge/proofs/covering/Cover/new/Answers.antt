@@ -16,7 +16,7 @@ invariant_of-result c =
 pub returns : goal.returns
 returns c =
     let ordered : texts c.dedup.new.self.items ≡ set.items (set.from_list (texts c.paths.paths.items)) = ordered_items c.paths.paths.items c.sort_unstable.new.self.items c.dedup.new.self.items c.sort_unstable.ensures.permutation c.sort_unstable.ensures.sorted (dedup_is _ _ _ c.dedup.ensures.filtered) in
-    let all : texts c.paths.paths.items ≡ c.args.index.now.paths = sym (append-nil (texts c.paths.paths.items)) ∙ ap (λ (rest : List (List ℕ)). texts c.paths.paths.items ++ rest) (sym c.in-None.ensures.steps.0) ∙ c.paths.invariant in
+    let all : texts c.paths.paths.items ≡ c.args.texts = sym (append-nil (texts c.paths.paths.items)) ∙ ap (λ (rest : List (List ℕ)). texts c.paths.paths.items ++ rest) (sym c.in-None.ensures.steps.0) ∙ c.paths.invariant in
     ap set.from_list ordered
     ∙ sym (set_of_items (set.from_list (texts c.paths.paths.items)))
     ∙ ap set.from_list all

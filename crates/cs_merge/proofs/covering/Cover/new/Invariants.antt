@@ -3,4 +3,4 @@ use Rattle.cs_tree.specs.PathParts.{texts}
 use Rattle.cs_merge.proofs.covering.Cover.new.Given as goal
 
 abbrev pub invariant-paths : goal.invariant-paths
-invariant-paths l = texts l.paths.items ++ l.path-iterator ≡ l.index.paths
+invariant-paths l = texts l.paths.items ++ l.path-iterator ≡ l.fn.texts

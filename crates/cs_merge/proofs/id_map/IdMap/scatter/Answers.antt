@@ -3,7 +3,7 @@ use Rattle.std.proofs.lemmas.Option.{slice_get_read}
 use Rattle.std.specs.Prelude.{slice_index}
 use Rattle.cs_merge.specs.IdMap.{NewIds}
 use Rattle.cs_merge.specs.ListMerge.{AreDistinctIds}
-use Rattle.cs_merge.proofs.SortedIndexLemmas.{has_at, scattered_more}
+use Rattle.cs_merge.proofs.SortedNamesLemmas.{has_at, scattered_more}
 use Rattle.cs_merge.proofs.id_map.IdMap.scatter.Goals as goal
 
 id_below : (ids : List ℕ) (position : ℕ) → AreDistinctIds (length ids) ids → position < length ids → slice_index ids position < length ids

@@ -1,4 +1,5 @@
 use Rattle.std.proofs.Common.{◌≡◌, ◌≤◌, ◌⊎◌, inl, inr, not, true, List, ℕ, [], length, sym, ap, ◌∙◌, subst, arith}
+use Rattle.cs_tree.specs.Folders.{are_distinct}
 use Rattle.cs_syntax.specs.Matching.{cat}
 use Rattle.cs_trigram.specs.Analysis.{EnumeratesTree, with_strings, concatenations}
 use Rattle.cs_trigram.specs.ExactStrings.{is_finite}
@@ -37,9 +38,11 @@ pub returns : goal.returns
 returns c = λ t u prefixes suffixes.
     let us = c.in-Strings.prefixes.items in
     let vs = c.in-Strings-suffixes.suffixes.items in
+    let strings = subst (λ (x : ExactSet). IsExactSetOf x u) c.in-Strings-suffixes.is suffixes in
     let same : c.in_ok-cross_product.field-0.items ≡ with_strings [] (concatenations us vs) =
-    c.in_ok-cross_product.ensures ∙ ap (λ (ws : List (List ℕ)). with_strings [] (concatenations ws c.deref-2.result.now)) c.deref.ensures.value
+    c.in_ok-cross_product.ensures (subst (λ (ws : List (List ℕ)). are_distinct ws ≡ true) (sym c.deref-2.ensures.value) strings.1.1.different)
+    (subst (λ (ws : List (List ℕ)). length ws ≤ 20) (sym c.deref-2.ensures.value) strings.0) ∙ ap (λ (ws : List (List ℕ)). with_strings [] (concatenations ws c.deref-2.result.now)) c.deref.ensures.value
     ∙ ap (λ (ws : List (List ℕ)). with_strings [] (concatenations us ws)) c.deref-2.ensures.value in
     c.of.ensures (cat (pair t u))
     (subst (λ (ws : List (List ℕ)). EnumeratesTree ws (cat (pair t u))) (sym same)
-    (enumerates_pair us vs t u (subst (λ (x : ExactSet). IsExactSetOf x t) c.in-Strings.is prefixes).1 (subst (λ (x : ExactSet). IsExactSetOf x u) c.in-Strings-suffixes.is suffixes).1))
+    (enumerates_pair us vs t u (subst (λ (x : ExactSet). IsExactSetOf x t) c.in-Strings.is prefixes).1 strings.1))

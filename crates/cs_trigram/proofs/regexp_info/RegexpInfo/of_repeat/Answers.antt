@@ -1,5 +1,8 @@
-use Rattle.std.proofs.Common.{arith}
+use Rattle.std.proofs.Common.{List, arith, sym, subst}
 use Rattle.cs_syntax.specs.Matching.{rep}
+use Rattle.cs_trigram.specs.EndStrings.{AreEndStrings}
+use Rattle.cs_trigram.specs.declared.end_strings.EndString.{EndString}
+use Rattle.cs_trigram.specs.declared.end_strings.Side.TheVariants.{Prefix, Suffix}
 use Rattle.cs_trigram.proofs.NodeListLemmas.{if_ok}
 use Rattle.cs_trigram.proofs.CorrectQueryLemmas.{all_repeated, correct_repeated}
 use Rattle.cs_trigram.proofs.regexp_info.RegexpInfo.of_repeat.Goals as goal
@@ -8,10 +11,16 @@ pub returns-then-least-eq0 : goal.returns-then-least-eq0
 returns-then-least-eq0 c =
     if_ok c.new.result _ _ c.new.ensures
     (λ _ right. λ t once.
-    right (rep t c.args.least c.args.most) (c.in_ok-exact.ensures t once.exact) (c.in_ok-ends.ensures t c.args.most once.ends) (λ many. all_repeated t c.args.least c.args.most (omega arith)))
+    right (rep t c.args.least c.args.most) (c.in_ok-exact.ensures t once.exact)
+    (c.in_ok-prefix.ensures t (subst (λ (es : List EndString). AreEndStrings Prefix es t) (sym c.deref.ensures.value) once.prefix) c.args.most)
+    (c.in_ok-suffix.ensures t (subst (λ (es : List EndString). AreEndStrings Suffix es t) (sym c.deref-2.ensures.value) once.suffix) c.args.most)
+    (λ many. all_repeated t c.args.least c.args.most (omega arith)))
 
 pub returns : goal.returns
 returns c =
     if_ok c.new-2.result _ _ c.new-2.ensures
     (λ _ right. λ t once.
-    right (rep t c.args.least c.args.most) (c.in_ok-exact.ensures t once.exact) (c.in_ok-ends.ensures t c.args.most once.ends) (correct_repeated _ t c.args.least c.args.most (omega arith) once.query))
+    right (rep t c.args.least c.args.most) (c.in_ok-exact.ensures t once.exact)
+    (c.in_ok-prefix.ensures t (subst (λ (es : List EndString). AreEndStrings Prefix es t) (sym c.deref.ensures.value) once.prefix) c.args.most)
+    (c.in_ok-suffix.ensures t (subst (λ (es : List EndString). AreEndStrings Suffix es t) (sym c.deref-2.ensures.value) once.suffix) c.args.most)
+    (correct_repeated _ t c.args.least c.args.most (omega arith) once.query))

@@ -1,5 +1,6 @@
 use Rattle.std.proofs.Common.{◌≡◌, ◌&&◌, ◌≤◌, ℕ, Bool, List, [], length, sym, ap, ◌∙◌, subst, arith, true}
 use Rattle.cs_tree.specs.Cover.{is_among}
+use Rattle.cs_tree.specs.Folders.{are_distinct}
 use Rattle.cs_syntax.specs.Matching.{more}
 use Rattle.cs_trigram.specs.Query.{mentions}
 use Rattle.cs_trigram.specs.MayMatch.{MayMatchSequence, HaveMembers}
@@ -17,7 +18,8 @@ returns-then-len-le-MAX_EXACT-clause-required c = λ t ts strings parts sequence
     let conjuncts : (ℕ → Bool) → Bool = λ set. all_match c.args.self.now.conjuncts.items set in
     let us = c.args.strings.now in
     let same : c.in_ok-longer.longer.items ≡ with_strings [] (concatenations us leading) =
-    c.in_ok-longer.ensures ∙ ap (λ (vs : List (List ℕ)). with_strings [] (concatenations us vs)) c.deref.ensures.value in
+    c.in_ok-longer.ensures (subst (λ (vs : List (List ℕ)). are_distinct vs ≡ true) (sym c.deref.ensures.value) sequence_query.0.run.each.different)
+    (subst (λ (vs : List (List ℕ)). length vs ≤ 20) (sym c.deref.ensures.value) sequence_query.0.run.each.few) ∙ ap (λ (vs : List (List ℕ)). with_strings [] (concatenations us vs)) c.deref.ensures.value in
     let few : length (with_strings [] (concatenations us leading)) ≤ 20 = subst (λ (ws : List (List ℕ)). length ws ≤ 20) same (omega arith) in
     (subst (λ (ws : List (List ℕ)). IsQueryBeyondRun ws conjuncts (more t ts)) (sym same) (query_past_few leading conjuncts conjuncts t ts sequence_query.0 us strings few), trigrams_of_rest (some_mentions c.args.self.now.conjuncts.items) t ts sequence_query.1)
 

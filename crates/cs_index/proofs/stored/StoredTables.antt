@@ -1,0 +1,87 @@
+-- The tables of an index in a store.
+use Rattle.std.proofs.Common.{◌≡◌, ◌+◌, ◌-◌, ◌≤◌, ℕ, zero, suc, true, List, [], ◌∷◌, length, Some, Result, Ok, Err, refl, sym, ap, subst, ◌∙◌, inl, inr, leb, arith, slice_get}
+use Rattle.std.proofs.lemmas.Bool.{and_parts, leb-true, or_cases}
+use Rattle.std.specs.List.{list_all}
+use Rattle.std.specs.Prelude.{slice_range, ◌||◌, nat_lt, nat_eq}
+use Rattle.cs_tree.specs.Store.{part_of}
+use Rattle.cs_trigram.specs.Trigram.{closing_trigram}
+use Rattle.cs_index.specs.declared.fault.IndexFault.{IndexFault}
+use Rattle.cs_index.specs.declared.reading.section_offsets.SectionOffsets.{SectionOffsets}
+use Rattle.cs_index.specs.Encoding.{ListEntry}
+use Rattle.cs_index.specs.Opening.{entries_in, is_entry, is_section, opening, parts_of, read_sections, sections_at, split_of, texts_of}
+use Rattle.cs_index.specs.Stored.{OpensAs, StoredParts}
+use Rattle.cs_index.specs.StoredOpening.{AreAscendingOffsets, with_lists}
+use Rattle.cs_index.specs.StoredTables.{AreValidTables, TableParts, TablesIn}
+use Rattle.cs_index.specs.ValidSections.{AreBoundedSections, AreValidSections}
+use Rattle.cs_index.proofs.decoding.IndexFields.{entries_rise, offsets_long}
+use Rattle.cs_index.proofs.decoding.PartsAreValid.{entries_fit}
+use Rattle.cs_index.proofs.decoding.StringSections.{section_read}
+use Rattle.cs_index.proofs.stored.SectionReads.{lists_long, opened, tested}
+
+abbrev pub tables_of : List ℕ → List ℕ → List ℕ → SectionOffsets → TableParts
+tables_of paths names list_index starts = record { paths = texts_of paths; names = texts_of names; entries = entries_in list_index; starts = starts }
+
+pub tables_valid : (p n i l : List ℕ) (s : SectionOffsets) → AreBoundedSections p n i l (s.name_index - s.postings) → AreValidTables (tables_of p n l s)
+tables_valid p n i l s is = record {
+  each_path = (section_read (0 ∷ []) p is.read.each_path).0;
+  each_name = elim (or_cases (is_section (0 ∷ []) n) (is_section [] n) is.read.each_name) [
+    | inl closed ↦ (section_read (0 ∷ []) n closed).0
+    | inr bare ↦ (section_read [] n bare).0
+  ];
+  names_bound = let long = offsets_long i (texts_of n) is.read.offsets in omega (arith, long, is.names_bound);
+  rise = entries_rise (s.name_index - s.postings) l is.read.entries;
+  fit = entries_fit (s.name_index - s.postings) l is.read.entries;
+}
+
+-- each entry fits the section of posting lists
+pub fits_at : (room : ℕ) (es : List ListEntry) (k : ℕ) (e : ListEntry) → list_all (λ (d : ListEntry). is_entry room d) es ≡ true → slice_get es k ≡ Some e → e.offset + 4 ≤ room
+fits_at room [] k e all at = cc
+fits_at room (d ∷ es) zero e all at =
+    let here = (and_parts (is_entry room d) (list_all (λ (d : ListEntry). is_entry room d) es) all).0 in
+    let fits = (and_parts (leb (d.offset + 4) room) (nat_lt d.trigram closing_trigram || nat_eq d.count 0) here).0 in
+    let same : d ≡ e = cc in
+    subst (λ (x : ListEntry). x.offset + 4 ≤ room) same (leb-true (d.offset + 4) room fits)
+fits_at room (d ∷ es) (suc k) e all at = fits_at room es k e (and_parts (is_entry room d) (list_all (λ (d : ListEntry). is_entry room d) es) all).1 at
+
+-- ---- sections that were read
+
+module _ (bytes p n i l : List ℕ) (s : SectionOffsets) (order : AreAscendingOffsets s) (within : s.trailer ≤ length bytes) (split : split_of bytes ≡ Ok (sections_at bytes s))
+    (paths : p ≡ part_of bytes s.paths (s.names - s.paths)) (names : n ≡ part_of bytes s.names (s.postings - s.names))
+    (numbers : i ≡ part_of bytes s.name_index (s.list_index - s.name_index)) (entries : l ≡ part_of bytes s.list_index (s.trailer - s.list_index)) where
+  abbrev postings : List ℕ
+  postings = slice_range bytes s.postings s.name_index
+
+  same : sections_at bytes s ≡ with_lists p n i l postings
+  same = λ t. with_lists (sym paths t) (sym names t) (sym numbers t) (sym entries t) postings
+
+  long : length postings ≡ s.name_index - s.postings
+  long = lists_long bytes s order within
+
+  pub tables_stand : AreValidSections p n i l (s.name_index - s.postings) → TablesIn bytes (tables_of p n l s) (parts_of (with_lists p n i l postings))
+  tables_stand valid = record {
+    stands = record {
+      split = split;
+      within = within;
+      read = ap read_sections same ∙ tested p n i l postings (s.name_index - s.postings) long valid;
+      paths = refl;
+      names = refl;
+    };
+    names = refl;
+    entries = refl;
+  }
+
+  pub tables_fail : (fault : IndexFault) → ((lists : List ℕ) → length lists ≡ s.name_index - s.postings → read_sections (with_lists p n i l lists) ≡ Err fault) → opening bytes ≡ Err fault
+  tables_fail fault fails = opened bytes (sections_at bytes s) (Err fault) split (ap read_sections same ∙ fails postings long)
+
+-- the offsets of an index that was opened
+pub starts_of : (bytes : List ℕ) (answer : Result StoredParts IndexFault) (s : SectionOffsets) {stored : StoredParts} {paths : List (List ℕ)} {count : ℕ} → answer ≡ Ok stored → record { paths = paths; name_count = count; starts = s } ≡ stored → OpensAs bytes answer
+    → (split_of bytes ≡ Ok (sections_at bytes s)) × (s.trailer ≤ length bytes)
+starts_of bytes answer s {stored} is view opens =
+    let stands = (subst (OpensAs bytes) is opens).1 in
+    let same : stored.starts ≡ s = ap (λ (p : StoredParts). p.starts) (sym view) in
+    subst (λ o. (split_of bytes ≡ Ok (sections_at bytes o)) × (o.trailer ≤ length bytes)) same (stands.split, stands.within)
+
+pub valid_same : {p n i l paths names numbers entries : List ℕ} {room : ℕ} → p ≡ paths → n ≡ names → i ≡ numbers → l ≡ entries → AreValidSections p n i l room → AreValidSections paths names numbers entries room
+valid_same {p} {n} {i} {l} {paths} {names} {numbers} {entries} {room} a b d e valid =
+    subst (λ x. AreValidSections paths names numbers x room) e
+    (subst (λ x. AreValidSections paths names x l room) d (subst (λ x. AreValidSections paths x i l room) b (subst (λ x. AreValidSections x n i l room) a valid)))

@@ -1,0 +1,192 @@
+// The paths, the names and the tables of an index in a store, in memory. The posting lists stay in the store.
+ghost use Rattle.std.specs.Prelude.{◌≡◌, ◌≤◌, ◌<◌, ◌+◌, Ok, length, option_map, slice_get, IfOk, IfSome};
+ghost use Rattle.cs_tree.specs.FailureCount.{count_after};
+ghost use Rattle.cs_tree.specs.Transfers.{is_io_failure};
+ghost use Rattle.cs_index.specs.AscendingIds.{max_ids};
+ghost use Rattle.cs_index.specs.Encoding.{ListEntry};
+ghost use Rattle.cs_index.specs.Opening.{entry_at, sections_at, split_of};
+ghost use Rattle.cs_index.specs.StoredEntries.{entry_read};
+ghost use Rattle.cs_index.specs.StoredOpening.{AreAscendingOffsets};
+ghost use Rattle.cs_index.specs.StoredTables.{AreValidTables, OpensAsTables, lists_room};
+
+use crate::fault::IndexFault;
+use crate::reading::bytes::{read_number, read_trigram};
+use crate::reading::entries::ENTRY_LEN;
+use crate::reading::index::test_sections;
+use crate::reading::name_table::NameTable;
+use crate::reading::section_offsets::SectionOffsets;
+use crate::reading::stored::StoredIndex;
+use crate::reading::stored_entries::Entry;
+use crate::reading::texts::Texts;
+use cs_tree::{IoFault, Store, read_part};
+use std::alloc::Global;
+use std::marker::Model;
+
+/// An index in a store. All sections are in memory except the posting lists.
+#[derive(Drop)]
+pub struct StoredTables {
+    paths: Vec<u8>,
+    names: Vec<u8>,
+    name_index: Vec<u8>,
+    list_index: Vec<u8>,
+    starts: SectionOffsets,
+}
+
+impl Model for StoredTables {
+    ghost use Rattle.cs_index.specs.StoredTables.{TableParts};
+
+    ghost Value = { TableParts };
+
+    ghost use Rattle.std.specs.Prelude.{◌-◌};
+    ghost use Rattle.cs_index.specs.Opening.{texts_of, entries_in};
+    ghost use Rattle.cs_index.specs.ValidSections.{AreBoundedSections};
+    ghost use Rattle.cs_index.specs.StoredOpening.{AreAscendingOffsets};
+
+    ghost view = { λ s. record {
+      paths = texts_of s.paths.items;
+      names = texts_of s.names.items;
+      entries = entries_in s.list_index.items;
+      starts = s.starts;
+    } };
+
+    ghost invariant = { λ s. AreAscendingOffsets s.starts
+        × AreBoundedSections s.paths.items s.names.items s.name_index.items s.list_index.items
+        (s.starts.name_index - s.starts.postings) };
+}
+
+impl StoredTables {
+    /// Opens the index in a store, by the tests of `Index::open` in the same order. Reads no posting list.
+    pub fn open<S: Store>(
+        alloc: Global,
+        store: &mut S,
+    ) -> Result<Result<StoredTables, IndexFault>, IoFault>
+        ensures opens { IfSome (S.model store.old) (λ bytes. IfOk result (OpensAsTables bytes)) }
+        ensures keeps { S.model store.new ≡ S.model store.old }
+        ensures size { S.size store.new ≡ S.size store.old }
+        ensures failed { S.failed store.new ≡ count_after is_io_failure result (S.failed store.old) }
+    {
+        // The sections are tested in pieces before they are read as a whole, so a damaged index of any length is
+        // refused without much memory.
+        match StoredIndex::open(alloc, store)? {
+            Ok(index) => read_tables(alloc, store, index.starts),
+            Err(fault) => Ok(Err(fault)),
+        }
+    }
+
+    /// The paths, in the order of the index.
+    pub fn paths(&self) -> Texts<'_>
+        ensures { result ≡ self.now.paths }
+    {
+        Texts::new(&self.paths)
+    }
+
+    /// The names, in the order of their ids.
+    pub fn names(&self) -> Texts<'_>
+        ensures { result ≡ self.now.names }
+    {
+        Texts::new(&self.names)
+    }
+
+    /// The names by their ids.
+    pub fn name_table(&self) -> NameTable<'_>
+        ensures { result ≡ self.now.names }
+    {
+        NameTable::new(&self.names, &self.name_index)
+    }
+
+    /// The number of posting lists.
+    pub fn lists(&self) -> u32
+        ensures { result ≡ length self.now.entries }
+    {
+        (self.list_index.len() / ENTRY_LEN) as u32
+    }
+
+    /// The trigram of the list at a position of the list index.
+    pub fn trigram_at(&self, position: u32) -> Option<u32>
+        ensures { result ≡ option_map (λ (e : ListEntry). e.trigram) (slice_get self.now.entries position) }
+    {
+        let entry = self.entry_at(position)?;
+        Some(entry.trigram)
+    }
+
+    /// States the invariant, for callers that use the names and the lists.
+    pub fn are_valid(&self)
+        ensures { AreValidTables self.now }
+    {
+        let _paths = &self.paths;
+    }
+
+    /// The entry at a position of the list index.
+    pub(crate) fn entry_at(&self, position: u32) -> Option<Entry>
+        ensures entry { option_map entry_read result ≡ slice_get self.now.entries position }
+        ensures fits { IfSome result (λ e. e.offset + 4 ≤ lists_room self.now) }
+    {
+        self.are_valid();
+        if position >= self.lists() {
+            return None;
+        }
+        let entry = entry_in(&self.list_index, ENTRY_LEN * position as usize);
+        Some(entry)
+    }
+
+    /// The number of names.
+    pub(crate) fn name_count(&self) -> u32
+        ensures count { result ≡ length self.now.names }
+        ensures bound { result < max_ids }
+    {
+        self.are_valid();
+        self.name_table().len()
+    }
+
+    /// The offset of each section.
+    pub(crate) fn starts(&self) -> SectionOffsets
+        ensures starts { result ≡ self.now.starts }
+        ensures order { AreAscendingOffsets result }
+    {
+        self.starts
+    }
+}
+
+/// The entry at an offset of a list index.
+fn entry_in(list_index: &[u8], at: usize) -> Entry
+    requires { at + ENTRY_LEN ≤ length list_index.now }
+    ensures { entry_read result ≡ entry_at list_index.now at }
+{
+    Entry {
+        trigram: read_trigram(list_index, at),
+        count: read_number(list_index, at + 3),
+        offset: read_number(list_index, at + 7),
+    }
+}
+
+/// Reads all sections except the posting lists, and tests them again, since the store may have changed.
+fn read_tables<S: Store>(
+    alloc: Global,
+    store: &mut S,
+    starts: SectionOffsets,
+) -> Result<Result<StoredTables, IndexFault>, IoFault>
+    requires { AreAscendingOffsets starts }
+    ensures opens { IfSome (S.model store.old) (λ bytes. starts.trailer ≤ length bytes →
+        split_of bytes ≡ Ok (sections_at bytes starts) → IfOk result (OpensAsTables bytes)) }
+    ensures keeps { S.model store.new ≡ S.model store.old }
+    ensures size { S.size store.new ≡ S.size store.old }
+    ensures failed { S.failed store.new ≡ count_after is_io_failure result (S.failed store.old) }
+{
+    let paths = read_part(alloc, store, starts.paths, starts.names - starts.paths)?;
+    let names = read_part(alloc, store, starts.names, starts.postings - starts.names)?;
+    let len = starts.list_index - starts.name_index;
+    let name_index = read_part(alloc, store, starts.name_index, len)?;
+    let len = starts.trailer - starts.list_index;
+    let list_index = read_part(alloc, store, starts.list_index, len)?;
+    let room = starts.name_index - starts.postings;
+    if let Err(fault) = test_sections(&paths, &names, &name_index, &list_index, room) {
+        return Ok(Err(fault));
+    }
+    Ok(Ok(StoredTables {
+        paths,
+        names,
+        name_index,
+        list_index,
+        starts,
+    }))
+}

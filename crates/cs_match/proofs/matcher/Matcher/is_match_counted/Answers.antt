@@ -1,0 +1,15 @@
+use Rattle.std.proofs.Common.{◌↔◌, ◌≤◌, ◌+◌, ◌*◌, length, subst}
+use Rattle.std.specs.Prelude.{IsTrue}
+use Rattle.cs_syntax.specs.Matching.{HasMatch}
+use Rattle.cs_match.specs.Automaton.{Automaton}
+use Rattle.cs_match.specs.Work.{state_work, line_work}
+use Rattle.cs_match.proofs.matcher.Matcher.is_match_counted.Goals as goal
+
+pub returns-clause-found : goal.returns-clause-found
+returns-clause-found g c =
+    subst (λ (a : Automaton). IsTrue c.is_match.result ↔ HasMatch a.tree c.args.line.now) c.self.view_is c.is_match.ensures.found
+
+pub returns-clause-work : goal.returns-clause-work
+returns-clause-work g c =
+    subst (λ (a : Automaton). c.is_match.new.steps + state_work * c.is_match.new.self.used ≤ c.args.steps.now + state_work * a.states + line_work a.tree (length c.args.line.now))
+    c.self.view_is c.is_match.ensures.work

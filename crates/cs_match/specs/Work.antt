@@ -1,0 +1,29 @@
+-- The work of a search, in steps. A step is a part of the program visited, a word of 64 positions moved or compared, a
+-- position tested for a mask, a cached state compared, or a transition read, computed, written or forgotten.
+-- docs/PROMISES.md, "Work".
+use Rattle.std.specs.Prelude.{ℕ, ◌+◌, ◌*◌, ◌/◌}
+use Rattle.cs_syntax.specs.Matching.{Tree}
+use Rattle.cs_match.specs.Glushkov.{position_count}
+use Rattle.cs_match.specs.Size.{nodes}
+use Rattle.cs_match.specs.Automaton.{most_states}
+
+-- the words of a set of so many positions
+abbrev pub words : ℕ → ℕ
+words count = (count + 63) / 64
+
+-- the most steps of the automaton over a byte: two traversals, the entries, a mask, and the positions that it moves
+abbrev pub step_work : Tree → ℕ
+step_work t = 2 * nodes t + position_count t + 2 * words (position_count t) + 1
+
+-- the share of a cached state in the clearing of the cache: 254 shares pay for the 65536 transitions that are forgotten
+abbrev pub state_work : ℕ
+state_work = 260
+
+-- the most steps of the lazy DFA over a byte: the step of the automaton; the new state compared with each cached one,
+-- copied twice and hashed; the 256 transitions of its byte class, tested and written; and its share of a clearing
+abbrev pub byte_work : Tree → ℕ
+byte_work t = step_work t + (most_states + 3) * (words (position_count t) + 1) + 2 * 256 + state_work
+
+-- the most steps of a line of so many bytes, which are scanned, and simulated once more if one of them is a newline
+abbrev pub line_work : Tree → ℕ → ℕ
+line_work t bytes = 2 * ((bytes + 1) * byte_work t)

@@ -41,11 +41,6 @@ moves_in_place P (Some f) on = on f
 
 -- ---- what becomes of FILE
 
-pub keeps_after_error : (outcome : Outcome) → exit_status outcome ≢ 0 → update_of outcome ≡ Keep
-keeps_after_error (Done update) failed = absurd (failed refl)
-keeps_after_error (Searched status) failed = refl
-keeps_after_error (Refused fault) failed = refl
-
 stores_nothing : (old new : Folder) → LeavesFiles old new → Stores Keep old new
 stores_nothing old new leaves = record { file = leaves.replaced; free = λ none. inl (leaves.own ∙ none) }
 
@@ -109,9 +104,6 @@ pub finish_failed : (update : IndexUpdate) (fault : StorageFault) (old new : Opt
 finish_failed update fault old new is = moves_on (Updates update (Err fault)) (Finishes Keep) old new (unfinished_at update fault) is
 
 -- ---- the whole
-
-pub leaves_file : (update : IndexUpdate) (old new : Option Folder) → update ≡ Keep → Moves (Stores update) old new → Moves LeavesFile old new
-leaves_file update old new is stores = moves_on (Stores Keep) LeavesFile old new (λ f g s. s.file) (subst (λ update. Moves (Stores update) old new) is stores)
 
 was_read : (tool : Tool) (folder : Option Folder) (index : Option (List ℕ)) → tool ≢ Cgrep → IsReadIndex tool folder index → IsSomeAnd folder (λ folder. folder.seen ≡ Some (Ok index))
 was_read Cindex folder index other is = is

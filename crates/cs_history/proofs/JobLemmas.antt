@@ -66,11 +66,6 @@ reset_starts before job tree l r =
     ap (λ b. cond b before (cond job.reset (reset_history job tree) (update_of job tree ⊳ before))) l
     ∙ ap (λ b. cond b (reset_history job tree) (update_of job tree ⊳ before)) r
 
-pub other_goes_on : (before : History) (job : IndexJob) (tree : Snapshot) → job.list ≡ false → job.reset ≡ false → after_done before job tree ≡ update_of job tree ⊳ before
-other_goes_on before job tree l r =
-    ap (λ b. cond b before (cond job.reset (reset_history job tree) (update_of job tree ⊳ before))) l
-    ∙ ap (λ b. cond b (reset_history job tree) (update_of job tree ⊳ before)) r
-
 reset_is_history : (job : IndexJob) (tree : Snapshot) → IsTree tree → AreClean (given_paths job) → IsHistory (reset_history job tree)
 reset_is_history job tree is clean = cond_both (has_no_path job) nothing (update_of job tree ⊳ nothing) IsHistory (λ _. tt) (λ _. (record { tree_is = is; given_are = clean }, tt))
 

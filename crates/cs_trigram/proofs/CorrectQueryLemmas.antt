@@ -1,10 +1,10 @@
 -- Correct queries of trees.
-use Rattle.std.proofs.Common.{◌≡◌, ℕ, zero, suc, ◌-◌, ◌<◌, ◌≤◌, inl, inr, Bool, true, false, List, [], ◌∷◌, ◌++◌, Vec, Global, sym, ◌∙◌, ap, subst, arith, refl}
+use Rattle.std.proofs.Common.{◌≡◌, ℕ, zero, suc, ◌-◌, ◌<◌, ◌≤◌, inl, inr, Bool, true, List, [], ◌∷◌, ◌++◌, Vec, Global, sym, ◌∙◌, subst, arith, refl}
 use Rattle.cs_tree.specs.Cover.{is_among}
 use Rattle.std.specs.Prelude.{Option, Some, None, slice_range}
 use Rattle.std.proofs.lemmas.Bool.{false≢true, or_cases, or_left, or_right}
-use Rattle.cs_syntax.specs.Matching.{Tree, Trees, alt, rep, none, more, Chain, MatchesSpan}
-use Rattle.cs_trigram.specs.Query.{matches_set, mentions, HasTrigrams, LosesNoLine}
+use Rattle.cs_syntax.specs.Matching.{Tree, Trees, alt, rep, more, Chain, MatchesSpan}
+use Rattle.cs_trigram.specs.Query.{matches_set, mentions, HasTrigrams}
 use Rattle.cs_trigram.specs.MayMatch.{MayMatch, MayMatchBranch, HasMembers, HaveMembers}
 use Rattle.cs_trigram.specs.ExactRuns.{HasWhole, HasRunsWithin, HasExactRuns}
 use Rattle.cs_trigram.specs.ExactQuery.{RequiresExactString}
@@ -16,7 +16,7 @@ use Rattle.cs_trigram.proofs.SequenceQueryLemmas.{any_run_found, found_any_run}
 use Rattle.cs_trigram.proofs.ExactStringLemmas.{match_is_exact, exact_match_has_runs}
 use Rattle.cs_trigram.proofs.SubstringTrigramLemmas.{has_part}
 use Rattle.cs_trigram.proofs.QueryLemmas.{matches_set-All, matches_set-Or, some_matches_push, mentions-Or, mentions_push}
-use Rattle.cs_trigram.proofs.MentionLemmas.{all_mentions_none, no_trigrams, occurs_itself, trigrams_of_both, trigrams_within}
+use Rattle.cs_trigram.proofs.MentionLemmas.{all_mentions_none, occurs_itself, trigrams_of_both, trigrams_within}
 use Rattle.cs_trigram.proofs.MayMatchLemmas.{branches_have_members, exact_may_match, iteration_within}
 
 -- a tree that requires nothing
@@ -70,12 +70,6 @@ string_required q ws t strings required set = (
   λ w. required set ∙ found_any_run set ws w.0 ((strings.1.each w.0).0 (exact_of_one t w.0 w.1)) w.2,
 )
 
-pub correct_none : (queries : List Query) → queries ≡ [] → AreCorrect queries none
-correct_none queries e = record { matching = λ s set i j h has. absurd h; selective = λ set h. empty set (ap (λ (qs : List Query). some_matches qs set) (sym e) ∙ h); mentioned = no_trigrams (some_mentions queries) (Unit {0}) (MayMatchBranch none) (λ g. ap (λ (qs : List Query). some_mentions qs g) e) }
-  where
-    empty : (set : ℕ → Bool) → false ≡ true → ⊥
-    empty set h = (cc)
-
 pub right_more : (queries : List Query) (q : Query) (t : Tree) (ts : Trees) → IsCorrect q t → AreCorrect queries ts → AreCorrect (queries ++ q ∷ []) (more t ts)
 right_more queries q t ts match_query others = record {
   matching = λ s set i j h has.
@@ -103,6 +97,3 @@ correct_alternation members ts r many = record {
   selective = λ set h. (λ few. absurd (many few), r.selective set (sym (matches_set-Or set members) ∙ h));
   mentioned = λ g h. let only = r.mentioned g (sym (mentions-Or g members) ∙ h) in (only.0, λ m. only.1 (branches_have_members ts m));
 }
-
-pub correct_loses_nothing : (q : Query) (t : Tree) → IsCorrect q t → LosesNoLine q t
-correct_loses_nothing q t r = λ line set f has. r.matching line set f.0 f.1 f.4 has

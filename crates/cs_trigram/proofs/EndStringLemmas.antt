@@ -1,5 +1,5 @@
 -- End strings of concatenations and of trees.
-use Rattle.std.proofs.Common.{◌≡◌, ℕ, zero, suc, ◌+◌, ◌-◌, ◌<◌, ◌≤◌, ◌⊎◌, inl, inr, true, false, List, [], ◌∷◌, ◌++◌, take, drop, length, get_or, refl, sym, ◌∙◌, ap, subst, arith, append_assoc, drop-cons, drop_of_length-le, length-drop, length-take}
+use Rattle.std.proofs.Common.{◌≡◌, ℕ, zero, suc, ◌+◌, ◌-◌, ◌<◌, ◌≤◌, ◌⊎◌, inl, inr, true, false, List, [], ◌∷◌, ◌++◌, take, drop, length, get_or, refl, sym, ◌∙◌, ap, subst, arith, append_assoc, drop-cons, drop_of_length-le}
 use Rattle.std.specs.Prelude.{None, slice_range}
 use Rattle.std.proofs.lemmas.Bool.{false≢true}
 use Rattle.std.proofs.lemmas.List.{append-nil, take-append-drop}
@@ -167,7 +167,3 @@ module _ (side : Side) (e : EndString) where
       let all : concatenation side u v ≡ concatenation side string b.0 =
       ap (λ (x : List ℕ). concatenation side x v) same ∙ ap (concatenation side near.string) b.1 ∙ sym (concatenation-assoc side near.string far.string b.0) ∙ ap (λ (x : List ℕ). concatenation side x b.0) (sym is) in
       subst (HasEndString side e) (sym all) (of b.0 b.2)
-
-pub near_length : (side : Side) (n : ℕ) (text : List ℕ) → n < length text → length (near_part side n text) ≤ n
-near_length Prefix n text lt = omega (arith, length-take n text)
-near_length Suffix n text lt = omega (arith, length-drop (length text - n) text)

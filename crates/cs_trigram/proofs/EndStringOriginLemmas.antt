@@ -12,7 +12,7 @@ use Rattle.cs_trigram.specs.declared.end_strings.Side.{Side}
 use Rattle.cs_trigram.specs.declared.end_strings.Side.TheVariants.{Prefix, Suffix}
 use Rattle.cs_trigram.specs.declared.end_strings.EndString.{EndString}
 use Rattle.cs_trigram.proofs.EndStringLemmas.{concatenation-assoc, concatenation-none, fits_any, end_strings_none, end_strings_before, iteration_more, iterations_any}
-use Rattle.cs_trigram.proofs.TruncationLemmas.{none_contained, only_contained, any_has}
+use Rattle.cs_trigram.proofs.TruncationLemmas.{only_contained, any_has}
 use Rattle.cs_trigram.proofs.MayMatchLemmas.{repeated_text, repeated_empty, repeated_both, some_empty, text_of, text_of_all, branches_have_members}
 
 -- ---- origins
@@ -110,12 +110,6 @@ pub empty_end_strings : (side : Side) (end_strings : List EndString) → end_str
 empty_end_strings side end_strings is = record {
   matching = λ s i j h. end_strings_none side end_strings (subst (λ (es : List EndString). HasSomeEndString side es []) (sym is) (inl (empty_has side))) s i j h;
   each = λ h x m. empty_origin side (MayMatchSequence none) x refl (only_contained empty_end x (subst (λ (es : List EndString). Contains es x) is m));
-}
-
-pub no_end_strings : (side : Side) (end_strings : List EndString) → end_strings ≡ [] → AreEndStringsOfSome side end_strings none
-no_end_strings side end_strings is = record {
-  matching = λ s i j h. absurd h;
-  each = λ h x m. absurd (none_contained x (subst (λ (es : List EndString). Contains es x) is m));
 }
 
 -- ---- sequences and alternations

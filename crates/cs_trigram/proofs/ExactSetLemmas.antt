@@ -2,14 +2,14 @@
 use Rattle.std.proofs.Math.Bool.{and-true}
 use Rattle.std.proofs.Math.Dec.{eqb-suc-zero}
 use Rattle.std.proofs.Math.Seq.{take-suc}
-use Rattle.std.proofs.Common.{get_or, take, reverse, ◌≡◌, ℕ, zero, suc, ◌+◌, ◌<◌, ◌≤◌, ◌&&◌, ◌⊎◌, inl, inr, true, false, map, List, [], ◌∷◌, length, refl, sym, ◌∙◌, ap, subst, arith, Vec, Global, ◌++◌}
+use Rattle.std.proofs.Common.{get_or, take, reverse, ◌≡◌, ℕ, zero, suc, ◌+◌, ◌<◌, ◌≤◌, ◌&&◌, ◌⊎◌, inl, inr, true, map, List, [], ◌∷◌, length, refl, sym, ◌∙◌, ap, subst, arith, Vec, Global, ◌++◌}
 use Rattle.std.proofs.lemmas.List.{reverse-append, append_cancel_left, append_cancel_right, length-map}
 use Rattle.cs_tree.specs.Cover.{is_among}
-use Rattle.std.proofs.lemmas.Bool.{and_from, and_left, and_right, le-leb, both_ways}
+use Rattle.std.proofs.lemmas.Bool.{and_from, le-leb, both_ways}
 use Rattle.std.specs.Prelude.{Some, nat_le, nat_eq}
 use Rattle.cs_syntax.specs.Matching.{Tree, Trees, cat, alt, rep, empty, none, more}
 use Rattle.cs_trigram.specs.ExactStrings.{HaveFewExactStrings, IsRepeated, is_finite, are_finite, HasExactString, ConcatenatesExactStrings, SomeHasExactString}
-use Rattle.cs_trigram.specs.Analysis.{with_strings, concatenations, IsEnumeration, EnumeratesTree, EnumeratesRun, EnumeratesAlternation, AreExactStrings}
+use Rattle.cs_trigram.specs.Analysis.{with_strings, concatenations, IsEnumeration, EnumeratesTree, EnumeratesRun, EnumeratesAlternation}
 use Rattle.cs_trigram.specs.ExactSet.{HasMany, HasNoString, HasAString, TellsEmpty, IsExactSetOf, AreExactSetsOf, AreExactSetsReversed}
 use Rattle.cs_trigram.specs.declared.exact_set.ExactSet.{ExactSet}
 use Rattle.cs_trigram.specs.declared.exact_set.ExactSet.TheVariants.{Strings, Many, Infinite}
@@ -17,7 +17,7 @@ use Rattle.cs_trigram.proofs.MemberLemmas.{first_member, only_member, no_member,
 use Rattle.cs_trigram.proofs.EnumerationLemmas.{enumeration_same}
 use Rattle.cs_trigram.specs.declared.exact_string.ExactString.{ExactString}
 use Rattle.cs_trigram.proofs.RepeatLemmas.{longer_iterations, iterations_longer}
-use Rattle.cs_trigram.proofs.LeadingRunLemmas.{concatenates_one, exact_of_one, run_step, alternation_step, whole_enumeration, tree_not_finite}
+use Rattle.cs_trigram.proofs.LeadingRunLemmas.{concatenates_one, exact_of_one, run_step, alternation_step, tree_not_finite}
 
 abbrev pub pair : Tree → Tree → Trees
 pair t u = more t (more u none)
@@ -42,13 +42,6 @@ enumerates_either us vs t u s r = alternation_step t (more u none) us vs s (alte
 pub pair_finite : (t u : Tree) → is_finite t ≡ true → is_finite u ≡ true → are_finite (pair t u) ≡ true
 pair_finite t u f g = and_from (is_finite t) (is_finite u && true) f (and_from (is_finite u) true g refl)
 
--- two trees are not finite if one of them is not
-pub infinite_prefix : (t u : Tree) → is_finite t ≡ false → are_finite (pair t u) ≡ false
-infinite_prefix t u e = ap (λ b. b && are_finite (more u none)) e
-
-pub infinite_suffix : (t u : Tree) → is_finite u ≡ false → are_finite (pair t u) ≡ false
-infinite_suffix t u e = and_right (is_finite t) (is_finite u && true) (and_left (is_finite u) true e)
-
 -- the same strings, for another tree
 pub enumerates_as : (ws : List (List ℕ)) (t u : Tree) → EnumeratesTree ws t → is_finite u ≡ true → ((w : List ℕ) → HasExactString t w → HasExactString u w) → ((w : List ℕ) → HasExactString u w → HasExactString t w) → EnumeratesTree ws u
 enumerates_as ws t u s f to from = (f, enumeration_same ws (HasExactString t) (HasExactString u) s.1 to from)
@@ -70,10 +63,6 @@ single_empty_string strings t e f only has =
       whole = λ le w h. first_member w [] [] (only w h);
     } in
     (f, subst (λ (ws : List (List ℕ)). IsEnumeration ws (HasExactString t)) (sym e) enumeration)
-
--- more than twenty strings
-pub many_of : (ws : List (List ℕ)) (P : List ℕ → Type 0) → 20 < length ws → IsEnumeration ws P → HasMany P
-many_of ws P lt s = (ws, lt, s.different, s.right)
 
 one_of_many : (P : List ℕ → Type 0) → HasMany P → (w : List ℕ) × P w
 one_of_many P many = by many.0 many.1 many.3
@@ -188,10 +177,6 @@ exact_set_not_few (Strings strings) t h bare few =
     no_string_of strings.items t h.1 (bare strings refl) few.1.0.0 (exact_of_one t few.1.0.0 few.1.0.1)
 exact_set_not_few Many t h bare few = many_not_few t h.1 few
 exact_set_not_few Infinite t h bare few = tree_not_finite t h few
-
--- the strings of a small exact set
-pub exact_set_strings : (strings : Vec ExactString Global) (t : Tree) → IsExactSetOf (Strings strings) t → 0 < length strings.items → AreExactStrings strings.items t
-exact_set_strings strings t h some = (h.1.0, whole_enumeration strings.items (HasExactString t) h.1.1 some h.0)
 
 -- the exact sets of the parts, that of the first part last
 pub exact_set_more : (counts : List ExactSet) (c : ExactSet) (t : Tree) (ts : Trees) → IsExactSetOf c t → AreExactSetsReversed counts ts → AreExactSetsReversed (counts ++ c ∷ []) (more t ts)

@@ -1,5 +1,5 @@
 -- Positions and broken rules after one more byte.
-use Rattle.std.proofs.Common.{◌≡◌, ◌≤◌, ◌<◌, ℕ, ◌+◌, ◌-◌, Bool, true, false, not, cond, List, [], ◌∷◌, ◌++◌, length, drop, take, get_or, Option, Some, None, Result, Ok, Err, refl, sym, ap, ◌∙◌, arith, length-append, length-drop, append_assoc}
+use Rattle.std.proofs.Common.{◌≡◌, ◌≤◌, ◌<◌, ℕ, ◌+◌, ◌-◌, true, false, not, cond, List, [], ◌∷◌, ◌++◌, length, drop, take, get_or, Option, Some, None, Result, Ok, Err, refl, sym, ap, ◌∙◌, arith, length-append, length-drop, append_assoc}
 use Rattle.std.specs.List.{prefix_len, suffix_len, last_or}
 use Rattle.std.specs.Prelude.{nat_eq, unwrap_or}
 use Rattle.std.proofs.lemmas.List.{reverse-append, append-nil, take_more, take-append-drop}
@@ -18,9 +18,6 @@ last_byte-push prefix b = ap (λ last. unwrap_or last 0) (last_or-push None pref
     last_or-push : (before : Option ℕ) (prefix : List ℕ) → last_or before (prefix ++ b ∷ []) ≡ Some b
     last_or-push before [] = refl
     last_or-push before (a ∷ prefix) = last_or-push (Some a) prefix
-
-not_newline : ℕ → Bool
-not_newline b = not (nat_eq b 10)
 
 pub length-line : (prefix : List ℕ) → length (line_so_far prefix) ≡ suffix_len (λ b. not (nat_eq b 10)) prefix
 length-line prefix =

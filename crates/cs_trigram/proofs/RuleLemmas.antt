@@ -1,14 +1,12 @@
 -- Consequences of the rules for each byte.
-use Rattle.std.proofs.Common.{◌≡◌, ◌≤◌, ◌<◌, ℕ, Bool, true, false, not, cond, ◌&&◌, ◌||◌, ltb, leb, eqb, List, [], ◌∷◌, ◌++◌, length, Option, Some, None, refl, sym, ap, ◌∙◌, inl, inr, arith}
-use Rattle.cs_trigram.specs.Scans.{skipped_or, scan_outcome_of, text, skipped_for}
-use Rattle.std.proofs.lemmas.Bool.{false≢true, or_cases, and_parts, ltb-true, leb-true, lt-ltb, le-ltb}
+use Rattle.std.proofs.Common.{◌≡◌, ◌<◌, ℕ, Bool, true, false, not, cond, ◌&&◌, ◌||◌, ltb, leb, eqb, List, [], ◌∷◌, ◌++◌, length, Option, Some, None, refl, inl, inr, arith}
+use Rattle.std.proofs.lemmas.Bool.{false≢true, or_cases, and_parts, ltb-true, leb-true}
 use Rattle.std.specs.List.{AllByRecursion}
-use Rattle.cs_tree.specs.StreamModels.{ends}
 use Rattle.cs_trigram.specs.declared.limits.Limits.{Limits}
 use Rattle.cs_trigram.specs.declared.scan.Reason.{Reason}
-use Rattle.cs_trigram.specs.declared.scan.Reason.TheVariants.{Nul, Utf8, TooLong, LongLine, ManyTrigrams}
+use Rattle.cs_trigram.specs.declared.scan.Reason.TheVariants.{Nul, Utf8, TooLong, LongLine}
 use Rattle.cs_trigram.specs.Trigram.{trigram_sequence, tri, closing_trigram}
-use Rattle.cs_trigram.specs.Text.{valid_utf8_pair, last_byte, line_so_far, rule_broken, first_broken, too_many}
+use Rattle.cs_trigram.specs.Text.{valid_utf8_pair, last_byte, line_so_far, rule_broken, first_broken}
 use Rattle.std.specs.Option.{option_or}
 use Rattle.cs_trigram.proofs.SetLemmas.{all_set}
 
@@ -59,11 +57,3 @@ pub tri_below : (most : Limits) (bytes : List ℕ) → first_broken most [] byte
 tri_below most bytes whole = all_set (λ n. n < 16777215) (trigram_sequence bytes) (trigrams_below bytes (bytes_below most [] bytes whole))
 
 -- ---- the result for bytes that break no rule
-
-pub found-over : (most : Limits) (bytes : List ℕ) → first_broken most [] bytes ≡ None → most.trigrams < length (tri bytes) → skipped_for ManyTrigrams ≡ scan_outcome_of most bytes ends
-found-over most bytes whole over = sym (ap (λ r. skipped_or (option_or r (too_many most (tri bytes))) (text (tri bytes) (length bytes))) whole
-    ∙ ap (λ t. skipped_or (cond t (Some ManyTrigrams) None) (text (tri bytes) (length bytes))) (lt-ltb most.trigrams (length (tri bytes)) over))
-
-pub found-text : (most : Limits) (bytes : List ℕ) → first_broken most [] bytes ≡ None → length (tri bytes) ≤ most.trigrams → text (tri bytes) (length bytes) ≡ scan_outcome_of most bytes ends
-found-text most bytes whole short = sym (ap (λ r. skipped_or (option_or r (too_many most (tri bytes))) (text (tri bytes) (length bytes))) whole
-    ∙ ap (λ t. skipped_or (cond t (Some ManyTrigrams) None) (text (tri bytes) (length bytes))) (le-ltb most.trigrams (length (tri bytes)) short))

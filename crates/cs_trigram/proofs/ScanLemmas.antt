@@ -1,20 +1,16 @@
 -- A scan in progress: one more block is read.
-use Rattle.std.proofs.Common.{◌≡◌, ◌≤◌, ℕ, ◌+◌, List, [], ◌++◌, length, Option, Some, None, Result, Ok, Err, take, sym, ap, subst, ◌∙◌, arith, length-append, append_assoc}
-use Rattle.cs_tree.specs.Transfers.{Consumes, IsAt}
+use Rattle.std.proofs.Common.{◌≡◌, ◌≤◌, ℕ, ◌+◌, List, [], ◌++◌, length, Option, Some, None, Ok, Err, take, sym, ap, subst, ◌∙◌, arith, length-append, append_assoc}
+use Rattle.cs_tree.specs.Transfers.{Consumes}
 use Rattle.cs_tree.specs.ConsumesAtMost.{ConsumesAtMost}
 use Rattle.cs_trigram.specs.Scans.{skipped_or, scan_outcome_of, text, skipped_for, read_failed}
-use Rattle.cs_trigram.specs.Outcome.{ReportsOutcome, IsOutcomeOf}
+use Rattle.cs_trigram.specs.Outcome.{IsOutcomeOf}
 use Rattle.cs_tree.specs.StreamModels.{SourceModel, Ending, ends, fails}
-use Rattle.std.proofs.lemmas.List.{append-nil}
 use Rattle.cs_tree.proofs.ConsumesLemmas.{Consumes_few}
 use Rattle.cs_trigram.specs.declared.limits.Limits.{Limits}
 use Rattle.cs_trigram.specs.declared.position.Position.{Position}
 use Rattle.cs_trigram.specs.declared.seen_trigrams.SeenTrigrams.{SeenTrigrams}
 use Rattle.cs_trigram.specs.declared.scan.Reason.{Reason}
-use Rattle.cs_trigram.specs.declared.gatherer.Outcome.{Outcome}
 use Rattle.cs_trigram.specs.declared.gatherer.Outcome.TheVariants as answer
-use Rattle.cs_trigram.specs.declared.scan.ScanFault.{ScanFault}
-use Rattle.cs_trigram.specs.declared.scan.ScanFault.TheVariants as fault
 use Rattle.cs_trigram.specs.Trigram.{trigram_sequence, tri}
 use Rattle.cs_trigram.specs.Text.{first_broken, too_many}
 use Rattle.std.specs.Option.{option_or}
@@ -87,27 +83,3 @@ pub ConsumesAtMost-more : (most : Limits) (model mid later : Option SourceModel)
     HasReadText most model mid position found buffer → Consumes mid later block → position.count + length block ≤ most.bytes + 1 → ConsumesAtMost (most.bytes + 1) model later
 ConsumesAtMost-more most model mid later position found buffer numbers block reads lost short =
     Consumes_few model later (reads.prefix ++ block) (most.bytes + 1) (Consumes-chain model mid later reads.prefix block reads.lost lost) (omega (arith, length-append reads.prefix block, reads.is_after.count, short))
-
--- a failed read
-pub IsScanOf-read_failed : (most : Limits) (model mid later : Option SourceModel) (position : Position) (found : SeenTrigrams) (buffer numbers : List ℕ) →
-    HasReadText most model mid position found buffer → Consumes mid later [] → IsAt fails later → IsOutcomeOf most numbers model (Err fault.Read)
-IsScanOf-read_failed most None mid later position found buffer numbers reads lost end = tt
-IsScanOf-read_failed most (Some model) None later position found buffer numbers reads lost end = absurd reads.lost
-IsScanOf-read_failed most (Some model) (Some mid) None position found buffer numbers reads lost end = absurd lost
-IsScanOf-read_failed most (Some model) (Some mid) (Some later) position found buffer numbers reads lost end =
-    let bytes : model.bytes ≡ reads.prefix = reads.lost.0 ∙ ap (λ rest. reads.prefix ++ rest) (lost.0 ∙ end.0) ∙ append-nil reads.prefix in
-    let ending : model.ending ≡ fails = reads.lost.1 ∙ lost.1 ∙ end.1 in
-    rw (bytes, ending) (sym (ap (λ r. skipped_or r read_failed) reads.unbroken))
-
--- the end of the file
-pub IsScanOf-outcome : (most : Limits) (model mid later : Option SourceModel) (position : Position) (found : SeenTrigrams) (buffer numbers : List ℕ) (answer : Result Outcome ScanFault) →
-    HasReadText most model mid position found buffer → Consumes mid later [] → IsAt ends later →
-    ((prefix : List ℕ) → HasSeenBytes most.trigrams found prefix → first_broken most [] prefix ≡ None → position.count ≡ length prefix → ReportsOutcome numbers answer (scan_outcome_of most prefix ends)) →
-    IsOutcomeOf most numbers model answer
-IsScanOf-outcome most None mid later position found buffer numbers answer reads lost end reports = tt
-IsScanOf-outcome most (Some model) None later position found buffer numbers answer reads lost end reports = absurd reads.lost
-IsScanOf-outcome most (Some model) (Some mid) None position found buffer numbers answer reads lost end reports = absurd lost
-IsScanOf-outcome most (Some model) (Some mid) (Some later) position found buffer numbers answer reads lost end reports =
-    let bytes : model.bytes ≡ reads.prefix = reads.lost.0 ∙ ap (λ rest. reads.prefix ++ rest) (lost.0 ∙ end.0) ∙ append-nil reads.prefix in
-    let ending : model.ending ≡ ends = reads.lost.1 ∙ lost.1 ∙ end.1 in
-    rw (bytes, ending) (reports reads.prefix reads.has_seen reads.unbroken reads.is_after.count)

@@ -1,11 +1,11 @@
 -- The cache of 6-grams: hits and misses.
 use Rattle.std.proofs.Common.{◌≡◌, ◌≤◌, ◌<◌, ℕ, ◌+◌, ◌*◌, ◌/◌, ◌%◌, ◌^◌, List, [], ◌∷◌, ◌++◌, length, take, drop, get_or, set, refl, sym, ap, subst, ◌∙◌, inl, inr, ◌⊎◌, arith, length-set, get_or-set_same, get_or-set_other, append_assoc, take_all}
-use Rattle.std.proofs.lemmas.Bool.{false≢true, cases_eq, or_cases, or_left, or_right}
+use Rattle.std.proofs.lemmas.Bool.{cases_eq, or_cases, or_left, or_right}
 use Rattle.std.proofs.lemmas.List.{set-get_or, append-nil, take-set-le, drop_all, take_more}
 use Rattle.cs_trigram.specs.Trigram.{trigram_sequence, has}
 use Rattle.cs_trigram.specs.Sixgrams.{sixgram_trigrams, trigrams_of_sixgrams, file_of, AreMembers, CachesOnly, AreMisses}
 use Rattle.cs_trigram.proofs.SetLemmas.{has-append}
-use Rattle.cs_trigram.proofs.SplitTrigramLemmas.{sequence-split, sequence-sixgram, sequence-short}
+use Rattle.cs_trigram.proofs.SplitTrigramLemmas.{sequence-split, sequence-sixgram}
 
 pub among_both : (xs ys zs : List ℕ) → AreMembers xs zs → AreMembers ys zs → AreMembers (xs ++ ys) zs
 among_both xs ys zs a b n h = elim (or_cases (has xs n) (has ys n) (sym (has-append n xs ys) ∙ h)) [ inl x ↦ a n x | inr y ↦ b n y ]
@@ -126,16 +126,3 @@ tagged_sixgram file six low small = (λ i. a i ∷ b i ∷ c i ∷ d i ∷ [], o
 
     d : n % 16777216 ≡ six % 16777216
     d = omega (arith, low, small)
-
--- no 6-gram yet
-pub misses-none : (file : ℕ) (earlier tags bytes : List ℕ) → CachesOnly file tags earlier → AreMisses file earlier tags bytes 0 []
-misses-none file earlier tags bytes caches_only = record {
-  caches_only = subst (CachesOnly file tags) (sym (append-nil earlier)) caches_only;
-  covers = λ n h. absurd (false≢true (ap (λ ns. has ns n) (sym (sequence-short (take 2 bytes) (short bytes))) ∙ h));
-  inside = λ n h. absurd (false≢true h);
-}
-  where
-    short : (bs : List ℕ) → length (take 2 bs) < 3
-    short [] = omega arith
-    short (a ∷ []) = omega arith
-    short (a ∷ b ∷ bs) = omega arith

@@ -1,12 +1,11 @@
 -- The bitmap and the list after one more number.
-use Rattle.std.proofs.Common.{◌≡◌, ◌≢◌, ◌≤◌, ◌<◌, ℕ, zero, suc, ◌+◌, ◌*◌, ◌/◌, ◌%◌, ◌^◌, Bool, true, false, ◌||◌, eqb, List, [], ◌∷◌, ◌++◌, length, take, get_or, set, refl, sym, ap, subst, ◌∙◌, inl, inr, ◌⊎◌, arith, length-append, drop, get_or-set_same, get_or-set_other, replicate, w64, bit_or, bit_and, not}
+use Rattle.std.proofs.Common.{◌≡◌, ◌≢◌, ◌≤◌, ◌<◌, ℕ, suc, ◌+◌, ◌*◌, ◌/◌, ◌%◌, ◌^◌, Bool, true, false, ◌||◌, eqb, List, [], ◌∷◌, ◌++◌, length, take, get_or, set, refl, sym, ap, subst, ◌∙◌, inl, inr, ◌⊎◌, arith, length-append, drop, get_or-set_same, get_or-set_other, w64, bit_or, bit_and, not}
 use Rattle.std.proofs.Math.Bool.{or-false, or-true}
-use Rattle.std.proofs.lemmas.List.{append_assoc, append-nil, take-set-le, take_more_set, get_or-replicate, length-replicate, get_or_past, drop_all, drop_more}
+use Rattle.std.proofs.lemmas.List.{append_assoc, take-set-le, take_more_set, drop_all}
 use Rattle.std.proofs.lemmas.Nat.{one_shl}
-use Rattle.std.proofs.lemmas.Nat.Bits.{and_pow, bit_at_set_same, bit_at_set_other, bit_at-zero}
+use Rattle.std.proofs.lemmas.Nat.Bits.{and_pow, bit_at_set_same, bit_at_set_other}
 use Rattle.std.specs.Int.Bits.{or_add_and}
-use Rattle.std.proofs.lemmas.Bool.{false≢true, cases_eq, cases_lt, eq-eqb, ne_eqb}
-use Rattle.std.proofs.lemmas.List.Folds.{list_any_at}
+use Rattle.std.proofs.lemmas.Bool.{false≢true, cases_eq, eq-eqb, ne_eqb}
 use Rattle.std.specs.Int.{bit_at, from_bool}
 use Rattle.cs_syntax.specs.Bits.{has_bit}
 use Rattle.std.specs.List.{AllByRecursion}
@@ -129,21 +128,7 @@ pub Collects-chain : (bitmap list : List ℕ) (len : ℕ) (mid_bitmap mid_list :
 Collects-chain bitmap list len mid_bitmap mid_list mid_len more_bitmap more_list more_len xs ys one two numbers is_set =
     subst (Collects more_bitmap more_list more_len) (append_assoc numbers xs ys) (two (numbers ++ xs) (one numbers is_set))
 
--- no numbers are added
-pub Collects-nothing : (bitmap list : List ℕ) (len : ℕ) → CollectsOn bitmap list len bitmap list len []
-Collects-nothing bitmap list len numbers is_set = subst (Collects bitmap list len) (sym (append-nil numbers)) is_set
-
 -- ---- no bit is set
-
-pub IsBitmapOf-clear : (n : ℕ) → IsBitmapOf (replicate n 0) []
-IsBitmapOf-clear n k = by_case (cases_lt (k / 64) n)
-  where
-    by_case : ((k / 64 < n) ⊎ (n ≤ k / 64)) → has_bit (replicate n 0) k ≡ false
-    by_case (inl within) = rw get_or-replicate (ap (λ b. eqb b 1) (bit_at-zero (k % 64)))
-    by_case (inr over) =
-        let zeros : List ℕ = replicate n 0 in
-        let out : length zeros ≤ k / 64 = omega (arith, over, length-replicate n zero) in
-        rw (get_or_past (replicate n 0) (k / 64) 0 out) (ap (λ b. eqb b 1) (bit_at-zero (k % 64)))
 
 -- the bits that remain when those of the first i numbers are cleared belong to the others
 pub record IsPartlyCleared (bitmap numbers : List ℕ) (i : ℕ) : Type 0 where
@@ -162,46 +147,8 @@ IsPartlyCleared-end bitmap numbers i over cleared n = by_case (has_bit bitmap n)
     by_case true one = absurd (false≢true (ap (λ ns. has ns n) (sym nothing) ∙ cleared.left n one))
     by_case false none = none
 
--- the number at i has a word in the bitmap
-pub word-within : (bitmap numbers : List ℕ) (i : ℕ) → i < length numbers → IsBitmapOf bitmap numbers → get_or numbers i 0 / 64 < length bitmap
-word-within bitmap numbers i within is_bitmap = by_case (cases_lt (n / 64) (length bitmap))
-  where
-    n : ℕ
-    n = get_or numbers i 0
-
-    member : has numbers n ≡ true
-    member = list_any_at (λ m. eqb m n) numbers i 0 within (eq-eqb n n refl)
-
-    one : has_bit bitmap n ≡ true
-    one = is_bitmap n ∙ member
-
-    by_case : ((n / 64 < length bitmap) ⊎ (length bitmap ≤ n / 64)) → n / 64 < length bitmap
-    by_case (inl inside) = inside
-    by_case (inr out) =
-        let none : has_bit bitmap n ≡ false = ap (λ old_bits. eqb (bit_at old_bits (n % 64)) 1) (get_or_past bitmap (n / 64) 0 out) ∙ ap (λ b. eqb b 1) (bit_at-zero (n % 64)) in
-        absurd (false≢true (sym none ∙ one))
-
-pub IsPartlyCleared-more : (bitmap numbers : List ℕ) (i : ℕ) → i < length numbers → get_or numbers i 0 / 64 < length bitmap → IsPartlyCleared bitmap numbers i → IsPartlyCleared (set bitmap (get_or numbers i 0 / 64) 0) numbers (i + 1)
-IsPartlyCleared-more bitmap numbers i within inside cleared = record { left = λ n one. by_case n one (cases_eq (n / 64) (get_or numbers i 0 / 64)) }
-  where
-    by_case : (n : ℕ) → has_bit (set bitmap (get_or numbers i 0 / 64) 0) n ≡ true → ((n / 64 ≡ get_or numbers i 0 / 64) ⊎ (n / 64 ≡ get_or numbers i 0 / 64 → ⊥)) → has (drop (i + 1) numbers) n ≡ true
-    by_case n one (inl old_bits) =
-        let none : has_bit (set bitmap (get_or numbers i 0 / 64) 0) n ≡ false = rw (old_bits, get_or-set_same) (ap (λ b. eqb b 1) (bit_at-zero (n % 64))) in
-        absurd (false≢true (sym none ∙ one))
-    by_case n one (inr other) =
-        let stays : has_bit (set bitmap (get_or numbers i 0 / 64) 0) n ≡ has_bit bitmap n = rw get_or-set_other refl in
-        let member : has (drop i numbers) n ≡ true = cleared.left n (sym stays ∙ one) in
-        let apart : eqb (get_or numbers i 0) n ≡ false = ne_eqb (get_or numbers i 0) n (λ same. other (ap (λ k. k / 64) (sym same))) in
-        ap (λ t. t || has (drop (i + 1) numbers) n) (sym apart) ∙ ap (λ ns. has ns n) (sym (drop_more numbers i 0 within)) ∙ member
-
 -- ---- numbers with a bit are small
 
 all_by_index : (P : ℕ → Type 0) (xs : List ℕ) → ((i : ℕ) → i < length xs → P (get_or xs i 0)) → AllByRecursion P xs
 all_by_index P [] each = tt
 all_by_index P (x ∷ xs) each = (each 0 (omega arith), all_by_index P xs (λ i within. each (suc i) (omega (arith, within))))
-
-pub bits_below : (bitmap numbers : List ℕ) → length bitmap ≡ 262144 → IsBitmapOf bitmap numbers → AllByRecursion (λ n. n < 2 ^ 24) numbers
-bits_below bitmap numbers whole is_bitmap = all_by_index (λ n. n < 2 ^ 24) numbers (λ i within. small (get_or numbers i 0) (word-within bitmap numbers i within is_bitmap))
-  where
-    small : (n : ℕ) → n / 64 < length bitmap → n < 2 ^ 24
-    small n inside = omega (arith, inside, whole)

@@ -2,15 +2,14 @@
 use Rattle.std.proofs.Common.{◌≡◌, ◌≤◌, ℕ, ◌+◌, List, [], ◌++◌, length, Option, Some, None, Ok, Err, take, sym, ap, subst, ◌∙◌, arith, length-append, append_assoc}
 use Rattle.cs_tree.specs.Transfers.{Consumes}
 use Rattle.cs_tree.specs.ConsumesAtMost.{ConsumesAtMost}
-use Rattle.cs_trigram.specs.Scans.{skipped_or, scan_outcome_of, text, skipped_for, read_failed}
-use Rattle.cs_trigram.specs.Outcome.{IsOutcomeOf}
+use Rattle.cs_trigram.specs.Scans.{skipped_or, scan_outcome_of, text, skipped_for, read_failed, IsScanOf}
 use Rattle.cs_tree.specs.StreamModels.{SourceModel, Ending, ends, fails}
 use Rattle.cs_tree.proofs.ConsumesLemmas.{Consumes_few}
 use Rattle.cs_trigram.specs.declared.limits.Limits.{Limits}
 use Rattle.cs_trigram.specs.declared.position.Position.{Position}
 use Rattle.cs_trigram.specs.declared.seen_trigrams.SeenTrigrams.{SeenTrigrams}
 use Rattle.cs_trigram.specs.declared.scan.Reason.{Reason}
-use Rattle.cs_trigram.specs.declared.gatherer.Outcome.TheVariants as answer
+use Rattle.cs_trigram.specs.declared.scan.Scan.TheVariants as answer
 use Rattle.cs_trigram.specs.Trigram.{trigram_sequence, tri}
 use Rattle.cs_trigram.specs.Text.{first_broken, too_many}
 use Rattle.std.specs.Option.{option_or}
@@ -65,14 +64,14 @@ skipped_for-broken most bytes ends reason broken = sym (ap (λ r. skipped_or (op
 skipped_for-broken most bytes fails reason broken = sym (ap (λ r. skipped_or r read_failed) broken)
 
 -- a block that breaks a rule
-pub IsScanOf-broken : (most : Limits) (model mid later : Option SourceModel) (position : Position) (found : SeenTrigrams) (buffer numbers block : List ℕ) (reason : Reason) →
+pub IsScanOf-broken : {T : Type 0} (set : T → List ℕ) (most : Limits) (model mid later : Option SourceModel) (position : Position) (found : SeenTrigrams) (buffer block : List ℕ) (reason : Reason) →
     HasReadText most model mid position found buffer → Consumes mid later block →
     ((prefix : List ℕ) → IsPositionAfter position prefix → Validates most prefix block (Err reason)) →
-    IsOutcomeOf most numbers model (Ok (answer.Skip reason))
-IsScanOf-broken most None mid later position found buffer numbers block reason reads lost breaks = tt
-IsScanOf-broken most (Some model) None later position found buffer numbers block reason reads lost breaks = absurd reads.lost
-IsScanOf-broken most (Some model) (Some mid) None position found buffer numbers block reason reads lost breaks = absurd lost
-IsScanOf-broken most (Some model) (Some mid) (Some later) position found buffer numbers block reason reads lost breaks =
+    IsScanOf most model (Ok (answer.Skip reason)) set
+IsScanOf-broken set most None mid later position found buffer block reason reads lost breaks = tt
+IsScanOf-broken set most (Some model) None later position found buffer block reason reads lost breaks = absurd reads.lost
+IsScanOf-broken set most (Some model) (Some mid) None position found buffer block reason reads lost breaks = absurd lost
+IsScanOf-broken set most (Some model) (Some mid) (Some later) position found buffer block reason reads lost breaks =
     let prefix = reads.prefix in
     let bytes : model.bytes ≡ (prefix ++ block) ++ later.bytes = reads.lost.0 ∙ ap (λ rest. prefix ++ rest) lost.0 ∙ sym (append_assoc prefix block later.bytes) in
     let here : first_broken most [] (prefix ++ block) ≡ Some reason = Validates-append most [] prefix block (Err reason) reads.unbroken (breaks prefix reads.is_after) in

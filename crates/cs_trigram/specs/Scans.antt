@@ -8,8 +8,6 @@ use Rattle.cs_trigram.specs.declared.scan.Scan.{Scan}
 use Rattle.cs_trigram.specs.declared.scan.Scan.TheVariants as answer
 use Rattle.cs_trigram.specs.declared.scan.ScanFault.{ScanFault}
 use Rattle.cs_trigram.specs.declared.scan.ScanFault.TheVariants as fault
-use Rattle.cs_trigram.specs.declared.scan.Gathered.{Gathered}
-use Rattle.cs_trigram.specs.declared.scan.Gathered.TheVariants as gathered
 use Rattle.cs_trigram.specs.Trigram.{tri, set_of_numbers}
 use Rattle.cs_trigram.specs.TrigramSets.{IsTrigramSet, AreDistinct}
 use Rattle.cs_trigram.specs.Text.{first_broken, skip}
@@ -33,42 +31,26 @@ scan_outcome_of most bytes fails = skipped_or (first_broken most [] bytes) read_
 abbrev pub scan_outcome : Limits → SourceModel → ScanOutcome
 scan_outcome most model = scan_outcome_of most model.bytes model.ending
 
--- the answer is this result; an answer `Memory` is always allowed
-abbrev pub ReportsScan : Result Scan ScanFault → ScanOutcome → Type 0
-ReportsScan (Ok (answer.Text trigrams bytes)) found = text trigrams.items bytes ≡ found
-ReportsScan (Ok (answer.Skip reason)) found = skipped_for reason ≡ found
-ReportsScan (Err fault.Read) found = read_failed ≡ found
-ReportsScan (Err fault.Memory) found = Unit {0}
+-- The answer is this result, where `set` gives the set of its trigrams. An answer `Memory` is always allowed.
+abbrev pub ReportsScan : {T : Type 0} → Result (Scan T) ScanFault → (T → List ℕ) → ScanOutcome → Type 0
+ReportsScan (Ok (answer.Text trigrams bytes)) set found = text (set trigrams) bytes ≡ found
+ReportsScan (Ok (answer.Skip reason)) set found = skipped_for reason ≡ found
+ReportsScan (Err fault.Read) set found = read_failed ≡ found
+ReportsScan (Err fault.Memory) set found = Unit {0}
 
 -- the answer is the result for the source, if the source is modelled
-abbrev pub IsScanOf : Limits → Option SourceModel → Result Scan ScanFault → Type 0
-IsScanOf most None answer = Unit {0}
-IsScanOf most (Some model) answer = ReportsScan answer (scan_outcome most model)
+abbrev pub IsScanOf : {T : Type 0} → Limits → Option SourceModel → Result (Scan T) ScanFault → (T → List ℕ) → Type 0
+IsScanOf most None answer set = Unit {0}
+IsScanOf most (Some model) answer set = ReportsScan answer set (scan_outcome most model)
 
--- the trigrams ascend and none is ff ff ff, for any source
-abbrev pub HasTrigramSet : Scan → Type 0
-HasTrigramSet (answer.Text trigrams bytes) = IsTrigramSet trigrams.items
-HasTrigramSet (answer.Skip reason) = Unit {0}
+-- the trigrams of a text are so
+abbrev pub IfText : {T : Type 0} → Scan T → (T → Type 0) → Type 0
+IfText (answer.Text trigrams bytes) Claim = Claim trigrams
+IfText (answer.Skip reason) Claim = Unit {0}
 
 -- distinct trigrams, in any order, none of them ff ff ff
 abbrev pub AreDistinctTrigrams : List ℕ → Type 0
 AreDistinctTrigrams numbers = IsTrigramSet (set_of_numbers numbers) × AreDistinct numbers
-
--- the same as `ReportsScan` for a result with borrowed trigrams, which may be in any order
-abbrev pub ReportsUnordered : Result Gathered ScanFault → ScanOutcome → Type 0
-ReportsUnordered (Ok (gathered.Text trigrams bytes)) found = text (set_of_numbers trigrams.now) bytes ≡ found
-ReportsUnordered (Ok (gathered.Skip reason)) found = skipped_for reason ≡ found
-ReportsUnordered (Err fault.Read) found = read_failed ≡ found
-ReportsUnordered (Err fault.Memory) found = Unit {0}
-
-abbrev pub IsGatheringOf : Limits → Option SourceModel → Result Gathered ScanFault → Type 0
-IsGatheringOf most None answer = Unit {0}
-IsGatheringOf most (Some model) answer = ReportsUnordered answer (scan_outcome most model)
-
--- the borrowed trigrams are distinct and none is ff ff ff, for any source
-abbrev pub HasDistinctTrigrams : Gathered → Type 0
-HasDistinctTrigrams (gathered.Text trigrams bytes) = AreDistinctTrigrams trigrams.now
-HasDistinctTrigrams (gathered.Skip reason) = Unit {0}
 
 -- the errors that are failures of the source
 abbrev pub is_scan_failure : ScanFault → Bool

@@ -3,44 +3,37 @@ ghost use Rattle.std.specs.Prelude.{◌≡◌, ◌+◌, ◌<◌, ◌≤◌, ◌^
 ghost use Rattle.cs_tree.specs.ConsumesAtMost.{ConsumesAtMost};
 ghost use Rattle.cs_tree.specs.FailureCount.{count_after};
 ghost use Rattle.cs_tree.specs.StreamModels.{ends};
-ghost use Rattle.cs_trigram.specs.Scans.{scan_outcome_of, is_scan_failure};
+ghost use Rattle.cs_trigram.specs.Scans.{AreDistinctTrigrams, IfText, IsScanOf, ReportsScan, scan_outcome_of, is_scan_failure};
 ghost use Rattle.cs_trigram.specs.Text.{first_broken};
 ghost use Rattle.cs_trigram.specs.Trigram.{set_of_numbers};
 ghost use Rattle.cs_trigram.specs.TrigramSets.{AreDistinct};
 ghost use Rattle.cs_trigram.specs.Small.{IsSmall};
 ghost use Rattle.cs_trigram.specs.declared.seen_trigrams.TheConstants.{WITH_TWO};
 ghost use Rattle.cs_trigram.specs.SeenTrigrams.{HasSeenBytes, IsSound, numbers_of};
-ghost use Rattle.cs_trigram.specs.Outcome.{ReportsOutcome, IsOutcomeOf, HasTrigramNumbers};
 
 use crate::blocks::{block, carry, read_block, with_two_before};
 use crate::fast_path::validate;
 use crate::limits::Limits;
 use crate::position::Position;
-use crate::scan::{Reason, ScanFault};
+use crate::scan::{Reason, Scan, ScanFault};
 use crate::seen_trigrams::{BLOCK, SeenTrigrams};
 use cs_tree::{IoFault, Source};
 use std::alloc::{AllocError, Global};
 
-/// Whether a file is text.
-pub(crate) enum Outcome {
-    /// Text of this many bytes.
-    Text(u64),
-    /// The file is skipped.
-    Skip(Reason),
-}
-
-/// The outcome for a file whose bytes break no rule.
-fn outcome_at_end(found: &SeenTrigrams, bytes: u64) -> Outcome
+/// The result for a file whose bytes break no rule. The trigrams stay with those that were seen.
+fn result_at_end(found: &SeenTrigrams, bytes: u64) -> Scan<()>
     ensures reports { (most : Limits) (prefix : List ℕ) → HasSeenBytes most.trigrams found.now prefix →
         first_broken most [] prefix ≡ None → bytes ≡ length prefix →
-        ReportsOutcome (numbers_of found.now) (Ok result) (scan_outcome_of most prefix ends) }
+        ReportsScan (Ok result) (λ _. set_of_numbers (numbers_of found.now))
+        (scan_outcome_of most prefix ends) }
     ensures trigrams { (most : Limits) (prefix : List ℕ) → HasSeenBytes most.trigrams found.now prefix →
-        first_broken most [] prefix ≡ None → HasTrigramNumbers (numbers_of found.now) result }
+        first_broken most [] prefix ≡ None →
+        IfText result (λ _. AreDistinctTrigrams (numbers_of found.now)) }
 {
     if found.is_over_limit() {
-        return Outcome::Skip(Reason::ManyTrigrams);
+        return Scan::Skip(Reason::ManyTrigrams);
     }
-    Outcome::Text(bytes)
+    Scan::Text { trigrams: (), bytes }
 }
 
 /// Reads a file to its end, or to the first byte that breaks a rule.
@@ -49,12 +42,14 @@ fn read_to_end<R: Source>(
     buffer: &mut [u8],
     found: &mut SeenTrigrams,
     source: &mut R,
-) -> Result<Outcome, ScanFault>
+) -> Result<Scan<()>, ScanFault>
     requires small { IsSmall limits.now }
     requires room { length buffer.old ≡ WITH_TWO }
     requires empty { HasSeenBytes limits.now.trigrams found.old [] }
-    ensures model { IsOutcomeOf limits.now (numbers_of found.new) (R.model source.old) result }
-    ensures trigrams { IfOk result (HasTrigramNumbers (numbers_of found.new)) }
+    ensures model { IsScanOf limits.now (R.model source.old) result
+        (λ _. set_of_numbers (numbers_of found.new)) }
+    ensures trigrams { IfOk result
+        (λ scan. IfText scan (λ _. AreDistinctTrigrams (numbers_of found.new))) }
     ensures failed { R.failed source.new ≡
         count_after is_scan_failure result (R.failed source.old) }
     ensures bounded { ConsumesAtMost (limits.now.bytes + 1) (R.model source.old) (R.model source.new) }
@@ -71,7 +66,7 @@ fn read_to_end<R: Source>(
             Err(IoFault::Memory) => return Err(ScanFault::Memory),
         };
         if n == 0 {
-            return Ok(outcome_at_end(found, position.count));
+            return Ok(result_at_end(found, position.count));
         }
         match validate(limits, position, block(buffer, n)) {
             Ok(next) => {
@@ -79,7 +74,7 @@ fn read_to_end<R: Source>(
                 carry(buffer, n);
                 position = next;
             }
-            Err(reason) => return Ok(Outcome::Skip(reason)),
+            Err(reason) => return Ok(Scan::Skip(reason)),
         }
     }
 }
@@ -126,11 +121,12 @@ impl Gatherer {
     }
 
     /// Reads a file.
-    pub(crate) fn read<R: Source>(&mut self, source: &mut R) -> Result<Outcome, ScanFault>
+    pub(crate) fn read<R: Source>(&mut self, source: &mut R) -> Result<Scan<()>, ScanFault>
         requires { IsPrepared self.old }
-        ensures model { IsOutcomeOf self.old.limits (numbers_of self.new.found)
-            (R.model source.old) result }
-        ensures trigrams { IfOk result (HasTrigramNumbers (numbers_of self.new.found)) }
+        ensures model { IsScanOf self.old.limits (R.model source.old) result
+            (λ _. set_of_numbers (numbers_of self.new.found)) }
+        ensures trigrams { IfOk result
+            (λ scan. IfText scan (λ _. AreDistinctTrigrams (numbers_of self.new.found))) }
         ensures failed { R.failed source.new ≡
             count_after is_scan_failure result (R.failed source.old) }
         ensures bounded { ConsumesAtMost (self.old.limits.bytes + 1)

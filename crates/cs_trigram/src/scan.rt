@@ -23,22 +23,13 @@ pub enum Reason {
     ManyTrigrams,
 }
 
-/// The result of a scan.
+/// The result of a scan. A text has its trigrams, each the number `65536 * a + 256 * b + c` of its
+/// three bytes: `Scanner::scan` returns them strictly ascending, and `Scanner::gather` lends them,
+/// each once, in the order of their first occurrence.
 #[derive(Debug, Drop, PartialEq, Eq)]
-pub enum Scan {
-    /// Text: its trigrams, strictly ascending, each the number `65536 * a + 256 * b + c` of its
-    /// three bytes, and its length in bytes.
-    Text { trigrams: Vec<u32>, bytes: u64 },
-    /// The file is skipped.
-    Skip(Reason),
-}
-
-/// The result of a scan whose trigrams are borrowed from the scanner.
-#[derive(Clone, Copy, Debug, PartialEq, Eq)]
-pub enum Gathered<'a> {
-    /// Text: its trigrams, each once, in the order of their first occurrence, and its length in
-    /// bytes.
-    Text { trigrams: &'a [u32], bytes: u64 },
+pub enum Scan<T = Vec<u32>> {
+    /// Text: its trigrams, and its length in bytes.
+    Text { trigrams: T, bytes: u64 },
     /// The file is skipped.
     Skip(Reason),
 }

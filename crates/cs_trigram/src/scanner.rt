@@ -1,13 +1,15 @@
 // The scanner of indexed files.
 ghost use Rattle.std.specs.Prelude.{◌≡◌, ◌+◌, IfOk};
 ghost use Rattle.cs_tree.specs.ConsumesAtMost.{ConsumesAtMost};
-ghost use Rattle.cs_trigram.specs.Scans.{IsScanOf, HasTrigramSet, IsGatheringOf, HasDistinctTrigrams, is_scan_failure};
+ghost use Rattle.cs_trigram.specs.Scans.{AreDistinctTrigrams, IfText, IsScanOf, is_scan_failure};
+ghost use Rattle.cs_trigram.specs.Trigram.{set_of_numbers};
+ghost use Rattle.cs_trigram.specs.TrigramSets.{IsTrigramSet};
 ghost use Rattle.cs_tree.specs.FailureCount.{count_after};
 ghost use Rattle.cs_trigram.specs.Text.{limits};
 
-use crate::gatherer::{Gatherer, Outcome, set_of};
+use crate::gatherer::{Gatherer, set_of};
 use crate::limits::LIMITS;
-use crate::scan::{Gathered, Scan, ScanFault};
+use crate::scan::{Scan, ScanFault};
 use cs_tree::Source;
 use std::alloc::{AllocError, Global};
 use std::marker::Model;
@@ -47,19 +49,19 @@ impl Scanner {
     ///
     /// `Read` if a read fails, after bytes that break no rule; `Memory` if an allocation fails.
     pub fn scan<R: Source>(&mut self, source: &mut R) -> Result<Scan, ScanFault>
-        ensures model { IsScanOf limits (R.model source.old) result }
-        ensures trigrams { IfOk result HasTrigramSet }
+        ensures model { IsScanOf limits (R.model source.old) result (λ trigrams. trigrams.items) }
+        ensures trigrams { IfOk result (λ scan. IfText scan (λ trigrams. IsTrigramSet trigrams.items)) }
         ensures failed { R.failed source.new ≡
             count_after is_scan_failure result (R.failed source.old) }
         ensures bounded { ConsumesAtMost (limits.bytes + 1) (R.model source.old) (R.model source.new) }
         ensures keeps { R.Keeps source.old source.new }
     {
         match self.gatherer.read(source)? {
-            Outcome::Text(bytes) => {
+            Scan::Text { trigrams: (), bytes } => {
                 let trigrams = set_of(self.alloc, self.gatherer.numbers())?;
                 Ok(Scan::Text { trigrams, bytes })
             }
-            Outcome::Skip(reason) => Ok(Scan::Skip(reason)),
+            Scan::Skip(reason) => Ok(Scan::Skip(reason)),
         }
     }
 
@@ -69,20 +71,22 @@ impl Scanner {
     /// # Errors
     ///
     /// Those of `scan`.
-    pub fn gather<R: Source>(&mut self, source: &mut R) -> Result<Gathered<'_>, ScanFault>
-        ensures model { IsGatheringOf limits (R.model source.old) result }
-        ensures trigrams { IfOk result HasDistinctTrigrams }
+    pub fn gather<R: Source>(&mut self, source: &mut R) -> Result<Scan<&[u32]>, ScanFault>
+        ensures model { IsScanOf limits (R.model source.old) result
+            (λ trigrams. set_of_numbers trigrams.now) }
+        ensures trigrams { IfOk result
+            (λ scan. IfText scan (λ trigrams. AreDistinctTrigrams trigrams.now)) }
         ensures failed { R.failed source.new ≡
             count_after is_scan_failure result (R.failed source.old) }
         ensures bounded { ConsumesAtMost (limits.bytes + 1) (R.model source.old) (R.model source.new) }
         ensures keeps { R.Keeps source.old source.new }
     {
         Ok(match self.gatherer.read(source)? {
-            Outcome::Text(bytes) => Gathered::Text {
+            Scan::Text { trigrams: (), bytes } => Scan::Text {
                 trigrams: self.gatherer.numbers(),
                 bytes,
             },
-            Outcome::Skip(reason) => Gathered::Skip(reason),
+            Scan::Skip(reason) => Scan::Skip(reason),
         })
     }
 }

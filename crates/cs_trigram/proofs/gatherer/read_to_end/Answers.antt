@@ -1,6 +1,7 @@
 use Rattle.std.proofs.Common.{◌≤◌, ◌+◌, ◌∙◌, ℕ, List, [], length, take, drop, arith, subst, length-take, Ok, Err}
 use Rattle.cs_trigram.specs.Position.{Validates}
 use Rattle.cs_trigram.specs.SeenTrigrams.{numbers_of}
+use Rattle.cs_trigram.specs.Trigram.{set_of_numbers}
 use Rattle.cs_trigram.proofs.ScanLemmas.{HasReadText-more, IsScanOf-broken, ConsumesAtMost-more}
 use Rattle.cs_trigram.proofs.gatherer.read_to_end.Goals as goal
 
@@ -21,7 +22,7 @@ chunks-preserved g c =
 
 pub returns-in-Err-clause-model : goal.returns-in-Err-clause-model
 returns-in-Err-clause-model g c =
-    IsScanOf-broken c.args.limits.now (g.R.Source.model c.args.source.now) (g.R.Source.model c.chunks.source) (g.R.Source.model c.read_block.new.source) c.chunks.position c.chunks.found c.chunks.buffer (numbers_of c.chunks.found)
+    IsScanOf-broken (λ _. set_of_numbers (numbers_of c.chunks.found)) c.args.limits.now (g.R.Source.model c.args.source.now) (g.R.Source.model c.chunks.source) (g.R.Source.model c.read_block.new.source) c.chunks.position c.chunks.found c.chunks.buffer
     (take c.in-Ok.n (drop 2 c.read_block.new.buffer)) c.in-Err.reason c.chunks.invariant.reads c.in-Ok.ensures.bytes.0
     (λ prefix is_after. subst (λ (bs : List ℕ). Validates c.args.limits.now prefix bs (Err c.in-Err.reason)) c.block.ensures (c.in-Err.ensures.rule prefix is_after))
 

@@ -4,7 +4,7 @@ use Rattle.cs_trigram.specs.Trigram.{trigram_sequence}
 use Rattle.cs_trigram.proofs.SetLemmas.{ascends_set, distinct-length}
 use Rattle.cs_trigram.proofs.RuleLemmas.{tri_below}
 use Rattle.cs_trigram.specs.declared.seen_trigrams.TheConstants.{WITH_TWO}
-use Rattle.cs_trigram.proofs.gatherer.outcome_at_end.Goals as goal
+use Rattle.cs_trigram.proofs.gatherer.result_at_end.Goals as goal
 
 pub returns-clause-trigrams : goal.returns-clause-trigrams
 returns-clause-trigrams c = λ most prefix has_seen whole.

@@ -10,7 +10,7 @@ use crate::held::{Held, HeldBuilder};
 use crate::slot::Slot;
 use cs_index::Builder;
 use cs_tree::MemSource;
-use cs_trigram::{Gathered, Scanner};
+use cs_trigram::{Scan, Scanner};
 use std::alloc::{AllocError, Global};
 use std::str::from_utf8;
 
@@ -119,11 +119,11 @@ fn add_code(held: &mut HeldBuilder, name: &[u8], text: &[u8]) -> i32
     };
     let mut source = MemSource::new(text, usize::MAX, false);
     match held.scanner.gather(&mut source) {
-        Ok(Gathered::Text { trigrams, bytes: _ }) => match held.builder.add(name, trigrams) {
+        Ok(Scan::Text { trigrams, bytes: _ }) => match held.builder.add(name, trigrams) {
             Ok(_) => OK,
             Err(fault) => build_code(fault),
         },
-        Ok(Gathered::Skip(reason)) => reason_code(reason),
+        Ok(Scan::Skip(reason)) => reason_code(reason),
         Err(_) => MEMORY,
     }
 }

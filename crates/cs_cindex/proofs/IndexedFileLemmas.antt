@@ -1,5 +1,5 @@
 -- Files, one after another: the entries and diagnostics so far.
-use Rattle.std.proofs.Common.{◌≡◌, ℕ, suc, ◌+◌, ◌-◌, ◌^◌, ◌<◌, ◌≤◌, Bool, true, false, cond, ◌&&◌, ◌||◌, List, [], ◌∷◌, ◌++◌, map, take, drop, get_or, length, refl, sym, ap, subst, ◌∙◌, arith, Option, Some, None, append-nil, append_assoc, length-append, add-one, drop-cons}
+use Rattle.std.proofs.Common.{Ok, Err, ◌≡◌, ℕ, suc, ◌+◌, ◌-◌, ◌^◌, ◌<◌, ◌≤◌, Bool, true, false, cond, ◌&&◌, ◌||◌, List, [], ◌∷◌, ◌++◌, map, take, drop, get_or, length, refl, sym, ap, subst, ◌∙◌, arith, Option, Some, None, append-nil, append_assoc, length-append, add-one, drop-cons}
 use Rattle.cs_tree.specs.NameOrder.{bytes_cmp}
 use Rattle.cs_tree.specs.NamesAscending.{are_ascending}
 use Rattle.std.specs.Prelude.{option_map, filter_map, slice_get, bytes_eq, option_to_list}
@@ -20,11 +20,10 @@ use Rattle.cs_index.specs.Encoding.{Entry, names_of}
 use Rattle.cs_index.specs.Built.{is_storable, is_above}
 use Rattle.cs_args.specs.declared.fault.FileFault.TheVariants.{Unnamed}
 use Rattle.cs_history.specs.FileTrigrams.{file_trigrams}
-use Rattle.cs_cindex.specs.declared.verdicts.Verdict.{Verdict}
-use Rattle.cs_cindex.specs.declared.verdicts.Verdict.TheVariants.{Text, Skipped, Unreadable}
+use Rattle.cs_trigram.specs.declared.scan.Scan.TheVariants.{Text, Skip}
 use Rattle.cs_tree.specs.TakesPrefix.{TakesPrefix}
 use Rattle.cs_cindex.specs.Diagnostics.{Diagnostic, faulted, file_line, text_of, failures_in}
-use Rattle.cs_cindex.specs.Verdicts.{verdict_trigrams, verdict_line, IsVerdict, IsVerdictIn, is_failed_verdict, noted_line, added_entries, noted_entries}
+use Rattle.cs_cindex.specs.Verdicts.{Verdict, verdict_trigrams, verdict_line, IsVerdict, IsVerdictIn, is_failed_verdict, noted_line, added_entries, noted_entries}
 use Rattle.cs_cindex.specs.Files.{texts_at, are_storable, AreTextsIn, AreTooManyIn, AreFileLinesIn, BeginFileLinesIn, PrintsFiles, PrintsFilesPrefix, AreAbove, HaveNamesOf}
 use Rattle.cs_index.proofs.names.ReducedPaths.{tail_up}
 use Rattle.cs_tree.proofs.NameOrderLemmas.{before_trans}
@@ -57,9 +56,9 @@ storable_last names name h =
 -- ---- one file
 
 noted_agrees : (log_skip : Bool) (name : List ℕ) (verdict : Verdict) → is_storable name ≡ true → noted_line log_skip name verdict ≡ verdict_line log_skip name verdict
-noted_agrees log_skip name (Text trigrams) h = ap (λ b. cond b None (Some (faulted name Unnamed))) h
-noted_agrees log_skip name (Skipped reason) h = refl
-noted_agrees log_skip name (Unreadable why) h = refl
+noted_agrees log_skip name (Ok (Text trigrams bytes)) h = ap (λ b. cond b None (Some (faulted name Unnamed))) h
+noted_agrees log_skip name (Ok (Skip reason)) h = refl
+noted_agrees log_skip name (Err why) h = refl
 
 one_cons : (line : Option Diagnostic) → option_to_list line ≡ cons_option line []
 one_cons None = refl
@@ -72,9 +71,9 @@ abbrev pub with_name : List ℕ → Option (List ℕ) → Option Entry
 with_name name trigrams = option_map (λ (trigrams : List ℕ). (name, trigrams)) trigrams
 
 entries_agree : (name : List ℕ) (verdict : Verdict) → is_storable name ≡ true → noted_entries name verdict ≡ cons_option (with_name name (verdict_trigrams verdict)) []
-entries_agree name (Text trigrams) h = ap (λ b. cond b ((name, (set_of_numbers trigrams.now)) ∷ []) []) h
-entries_agree name (Skipped reason) h = refl
-entries_agree name (Unreadable why) h = refl
+entries_agree name (Ok (Text trigrams bytes)) h = ap (λ b. cond b ((name, (set_of_numbers trigrams.now)) ∷ []) []) h
+entries_agree name (Ok (Skip reason)) h = refl
+entries_agree name (Err why) h = refl
 
 entries_one : (tree : Snapshot) (name : List ℕ) (verdict : Verdict) → is_storable name ≡ true → IsVerdict tree name verdict → noted_entries name verdict ≡ texts_at tree (name ∷ [])
 entries_one tree name verdict h is = entries_agree name verdict h ∙ ap (λ o. cons_option (with_name name o) []) is.trigrams
@@ -99,10 +98,10 @@ lines_step log_skip (Some tree) names lines name verdict are is = λ storable.
 
 -- the diagnostic of a file reports its failure
 noted_counted : (log_skip : Bool) (name : List ℕ) (verdict : Verdict) (n : ℕ) → failures_in (option_to_list (noted_line log_skip name verdict)) n ≡ count_if (is_failed_verdict verdict) n
-noted_counted log_skip name (Text trigrams) n = elim (is_storable name) as (λ b. failures_in (option_to_list (cond b None (Some (faulted name Unnamed)))) n ≡ n) [ true ↦ refl | false ↦ refl ]
-noted_counted true name (Skipped reason) n = refl
-noted_counted false name (Skipped reason) n = refl
-noted_counted log_skip name (Unreadable why) n = refl
+noted_counted log_skip name (Ok (Text trigrams bytes)) n = elim (is_storable name) as (λ b. failures_in (option_to_list (cond b None (Some (faulted name Unnamed)))) n ≡ n) [ true ↦ refl | false ↦ refl ]
+noted_counted true name (Ok (Skip reason)) n = refl
+noted_counted false name (Ok (Skip reason)) n = refl
+noted_counted log_skip name (Err why) n = refl
 
 module _ (log_skip : Bool) (model : Option Snapshot) (names : List (List ℕ)) (before failed failed' : ℕ) (sink now : Option SinkModel) (p : PrintsFiles log_skip model names before failed sink now) where
   counted_step : (name : List ℕ) (verdict : Verdict) → failed' ≡ count_if (is_failed_verdict verdict) failed → failed' ≡ failures_in (p.lines ++ option_to_list (noted_line log_skip name verdict)) before
@@ -208,10 +207,10 @@ above_same : (entries : List Entry) (rest : List (List ℕ)) → AreAbove entrie
 above_same entries rest all = subst (λ es. AreAbove es rest) (sym (append-nil entries)) all
 
 pub above_step : (entries : List Entry) (name : List ℕ) (verdict : Verdict) (rest : List (List ℕ)) → are_ascending (name ∷ rest) ≡ true → AreAbove entries (name ∷ rest) → AreAbove (entries ++ noted_entries name verdict) rest
-above_step entries name (Text trigrams) rest up all =
+above_step entries name (Ok (Text trigrams bytes)) rest up all =
     elim (is_storable name) as (λ b. AreAbove (entries ++ cond b ((name, (set_of_numbers trigrams.now)) ∷ []) []) rest) [ true ↦ above_new entries name (set_of_numbers trigrams.now) rest (ascend_after name rest up) | false ↦ above_same entries rest all.1 ]
-above_step entries name (Skipped reason) rest up all = above_same entries rest all.1
-above_step entries name (Unreadable why) rest up all = above_same entries rest all.1
+above_step entries name (Ok (Skip reason)) rest up all = above_same entries rest all.1
+above_step entries name (Err why) rest up all = above_same entries rest all.1
 
 -- ---- the steps, if arguments are replaced by equal ones
 
@@ -238,9 +237,9 @@ names_step names entries name verdict have = before entries have
     added trigrams = elim (is_storable name) as (λ b. HaveNamesOf (names ++ name ∷ []) (cond b ((name, trigrams) ∷ []) [])) [ true ↦ (last, tt) | false ↦ tt ]
 
     noted : (v : Verdict) → HaveNamesOf (names ++ name ∷ []) (noted_entries name v)
-    noted (Text trigrams) = added (set_of_numbers trigrams.now)
-    noted (Skipped reason) = tt
-    noted (Unreadable why) = tt
+    noted (Ok (Text trigrams bytes)) = added (set_of_numbers trigrams.now)
+    noted (Ok (Skip reason)) = tt
+    noted (Err why) = tt
 
     before : (es : List Entry) → HaveNamesOf names es → HaveNamesOf (names ++ name ∷ []) (es ++ noted_entries name verdict)
     before [] all = noted verdict

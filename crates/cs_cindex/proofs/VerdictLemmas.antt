@@ -5,7 +5,7 @@ use Rattle.cs_tree.specs.TreeAnswers.{opening_of}
 use Rattle.cs_tree.specs.Failures.{count_if}
 use Rattle.cs_tree.specs.Trees.{is_tree_failure}
 use Rattle.cs_args.specs.FileFaults.{file_fault_of, is_file_failure}
-use Rattle.cs_trigram.specs.Scans.{ScanOutcome, skipped_or, scan_outcome, ReportsUnordered, IsGatheringOf, text, skipped_for, read_failed}
+use Rattle.cs_trigram.specs.Scans.{ScanOutcome, skipped_or, scan_outcome, ReportsScan, IsScanOf, text, skipped_for, read_failed}
 use Rattle.cs_tree.specs.Snapshot.{Snapshot, Item, folder, file, cut, other, bad, item_at}
 use Rattle.cs_tree.specs.StreamModels.{SourceModel}
 use Rattle.cs_tree.specs.Reachability.{read_item}
@@ -15,17 +15,15 @@ use Rattle.cs_tree.specs.declared.fault.TreeFault.{TreeFault}
 use Rattle.cs_tree.specs.declared.fault.TreeFault.TheVariants as tree
 use Rattle.cs_trigram.specs.Text.{limits, text_trigrams, skip, first_broken}
 use Rattle.cs_trigram.proofs.LawLemmas.{none_skipped}
-use Rattle.cs_trigram.specs.Trigram.{tri}
+use Rattle.cs_trigram.specs.Trigram.{tri, set_of_numbers}
 use Rattle.cs_trigram.specs.declared.scan.Reason.{Reason}
-use Rattle.cs_trigram.specs.declared.scan.Gathered.{Gathered}
+use Rattle.cs_trigram.specs.declared.scan.Scan.{Scan}
 use Rattle.cs_trigram.specs.declared.scan.ScanFault.{ScanFault}
-use Rattle.cs_trigram.specs.declared.scan.Gathered.TheVariants as answer
+use Rattle.cs_trigram.specs.declared.scan.Scan.TheVariants.{Text, Skip}
 use Rattle.cs_trigram.specs.declared.scan.ScanFault.TheVariants as fault
 use Rattle.cs_args.specs.declared.fault.FileFault.TheVariants.{Failed}
-use Rattle.cs_cindex.specs.declared.verdicts.Verdict.{Verdict}
-use Rattle.cs_cindex.specs.declared.verdicts.Verdict.TheVariants.{Text, Skipped, Unreadable}
 use Rattle.cs_cindex.specs.Diagnostics.{file_line, opening_line, finding_line}
-use Rattle.cs_cindex.specs.Verdicts.{verdict_trigrams, verdict_line, IsVerdict, IsVerdictIn}
+use Rattle.cs_cindex.specs.Verdicts.{Verdict, verdict_trigrams, verdict_line, IsVerdict, IsVerdictIn}
 
 -- the trigrams of what a scan finds, and of what is opened
 abbrev pub finding_trigrams : ScanOutcome → Option (List ℕ)
@@ -78,10 +76,10 @@ open_counted tree.Output n not = refl
 open_counted tree.Failed n not = refl
 open_counted tree.Memory n not = absurd (not refl)
 
-pub verdict_refused : (snapshot : Option Snapshot) (name : List ℕ) (fault : TreeFault) (later : Option SourceModel) → fault ≢ tree.Memory → OpensFile snapshot name (Err fault) later → IsVerdictIn snapshot name (Unreadable (file_fault_of fault))
+pub verdict_refused : (snapshot : Option Snapshot) (name : List ℕ) (fault : TreeFault) (later : Option SourceModel) → fault ≢ tree.Memory → OpensFile snapshot name (Err fault) later → IsVerdictIn snapshot name (Err (file_fault_of fault))
 verdict_refused None name fault later not opens = tt
 verdict_refused (Some tree) name fault later not opens =
-    verdict_is tree name (Unreadable (file_fault_of fault)) (subst (Agrees name (Unreadable (file_fault_of fault))) (sym (refused_at fault (opening_of (item_at tree name)) later not opens)) (record { trigrams = refl; line = λ log_skip. refl }))
+    verdict_is tree name (Err (file_fault_of fault)) (subst (Agrees name (Err (file_fault_of fault))) (sym (refused_at fault (opening_of (item_at tree name)) later not opens)) (record { trigrams = refl; line = λ log_skip. refl }))
 
 -- ---- a file that is scanned
 
@@ -97,18 +95,21 @@ verdict_opened : (snapshot : Option Snapshot) (name : List ℕ) (verdict : Verdi
 verdict_opened None name verdict later opens finds = tt
 verdict_opened (Some tree) name verdict later opens finds = verdict_is tree name verdict (opened_at name verdict (opening_of (item_at tree name)) later opens finds)
 
-right_at : (read : Option SourceModel) (model : SourceModel) (scan : Result Gathered ScanFault) → read ≡ Some model → IsGatheringOf limits read scan → ReportsUnordered scan (scan_outcome limits model)
+-- a scan of the source, with borrowed trigrams
+abbrev pub IsBorrowedScanOf : Option SourceModel → Result (Scan (Bor (List ℕ))) ScanFault → Type 0
+IsBorrowedScanOf source scan = IsScanOf limits source scan (λ trigrams. set_of_numbers trigrams.now)
+
+right_at : (read : Option SourceModel) (model : SourceModel) (scan : Result (Scan (Bor (List ℕ))) ScanFault) → read ≡ Some model → IsBorrowedScanOf read scan → ReportsScan scan (λ trigrams. set_of_numbers trigrams.now) (scan_outcome limits model)
 right_at read model scan is right = rw is at right
 
 module _ (snapshot : Option Snapshot) (name : List ℕ) (later : Option SourceModel) (opens : OpensFile snapshot name (Ok tt) later) where
-  pub verdict_text : (trigrams : Bor (List ℕ)) (bytes : ℕ) → IsGatheringOf limits (open_model snapshot later) (Ok (answer.Text trigrams bytes)) → IsVerdictIn snapshot name (Text trigrams)
-  verdict_text trigrams bytes right = verdict_opened snapshot name (Text trigrams) later opens (λ model is.
-      subst (Finds name (Text trigrams)) (right_at (open_model snapshot later) model (Ok (answer.Text trigrams bytes)) is right) (record { trigrams = refl; line = λ log_skip. refl }))
+  finds_scanned : (scan : Scan (Bor (List ℕ))) (model : SourceModel) → ReportsScan (Ok scan) (λ trigrams. set_of_numbers trigrams.now) (scan_outcome limits model) → Finds name (Ok scan) (scan_outcome limits model)
+  finds_scanned (Text trigrams bytes) model is = subst (Finds name (Ok (Text trigrams bytes))) is (record { trigrams = refl; line = λ log_skip. refl })
+  finds_scanned (Skip reason) model is = subst (Finds name (Ok (Skip reason))) is (record { trigrams = refl; line = λ log_skip. refl })
 
-  pub verdict_skipped : (reason : Reason) → IsGatheringOf limits (open_model snapshot later) (Ok (answer.Skip reason)) → IsVerdictIn snapshot name (Skipped reason)
-  verdict_skipped reason right = verdict_opened snapshot name (Skipped reason) later opens (λ model is.
-      subst (Finds name (Skipped reason)) (right_at (open_model snapshot later) model (Ok (answer.Skip reason)) is right) (record { trigrams = refl; line = λ log_skip. refl }))
+  pub verdict_scanned : (scan : Scan (Bor (List ℕ))) → IsBorrowedScanOf (open_model snapshot later) (Ok scan) → IsVerdictIn snapshot name (Ok scan)
+  verdict_scanned scan right = verdict_opened snapshot name (Ok scan) later opens (λ model is. finds_scanned scan model (right_at (open_model snapshot later) model (Ok scan) is right))
 
-  pub verdict_unread : IsGatheringOf limits (open_model snapshot later) (Err fault.Read) → IsVerdictIn snapshot name (Unreadable Failed)
-  verdict_unread right = verdict_opened snapshot name (Unreadable Failed) later opens (λ model is.
-      subst (Finds name (Unreadable Failed)) (right_at (open_model snapshot later) model (Err fault.Read) is right) (record { trigrams = refl; line = λ log_skip. refl }))
+  pub verdict_unread : IsBorrowedScanOf (open_model snapshot later) (Err fault.Read) → IsVerdictIn snapshot name (Err Failed)
+  verdict_unread right = verdict_opened snapshot name (Err Failed) later opens (λ model is.
+      subst (Finds name (Err Failed)) (right_at (open_model snapshot later) model (Err fault.Read) is right) (record { trigrams = refl; line = λ log_skip. refl }))

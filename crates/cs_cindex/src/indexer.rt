@@ -20,7 +20,7 @@ use crate::verdicts::{Verdict, read_file};
 use cs_args::{CindexFault, FileFault};
 use cs_index::{BuildFault, Builder};
 use cs_tree::{Sink, Tree};
-use cs_trigram::{Reason, Scanner};
+use cs_trigram::{Reason, Scan, Scanner};
 use std::alloc::Global;
 
 /// The state of indexing.
@@ -114,9 +114,9 @@ impl Indexer {
         ensures only { IfErr result IsIndexingFault }
     {
         match verdict {
-            Verdict::Text(trigrams) => self.add(name, trigrams, err),
-            Verdict::Skipped(reason) => self.note_skipped(name, reason, err),
-            Verdict::Unreadable(fault) => print_fault(self.alloc, name, fault, err),
+            Ok(Scan::Text { trigrams, .. }) => self.add(name, trigrams, err),
+            Ok(Scan::Skip(reason)) => self.note_skipped(name, reason, err),
+            Err(fault) => print_fault(self.alloc, name, fault, err),
         }
     }
 
@@ -128,7 +128,7 @@ impl Indexer {
         err: &mut E,
     ) -> Result<(), CindexFault>
         ensures prints { PrintsAll
-            (option_to_list (noted_line self.now.log_skip name.now (Verdict.Skipped reason)))
+            (option_to_list (noted_line self.now.log_skip name.now (Ok (Scan.Skip reason))))
             (E.model err.old) (E.model err.new) result }
         ensures writes { E.failed err.new ≡ count_after is_failed_write result (E.failed err.old) }
         ensures only { IfErr result IsOutputFault }

@@ -5,19 +5,11 @@ ghost use Rattle.cs_cindex.specs.Verdicts.{IsVerdictIn, HasTrigramsOnce, count_r
 
 use cs_args::FileFault;
 use cs_tree::{Tree, TreeReader};
-use cs_trigram::{Gathered, Reason, ScanFault, Scanner};
+use cs_trigram::{Scan, ScanFault, Scanner};
 use std::alloc::AllocError;
 
-/// The result of reading a file.
-#[derive(Drop)]
-pub(crate) enum Verdict<'a> {
-    /// It is text, and is indexed with these distinct trigrams, borrowed from the scanner.
-    Text(&'a [u32]),
-    /// It is not text.
-    Skipped(Reason),
-    /// It cannot be read to its end.
-    Unreadable(FileFault),
-}
+/// The scan of a file, with the distinct trigrams of a text, or why it cannot be read to its end.
+pub(crate) type Verdict<'a> = Result<Scan<&'a [u32]>, FileFault>;
 
 /// Reads the file at a name. Reading ends at the first byte that breaks a rule of text files.
 pub(crate) fn read_file<'a, T: Tree>(
@@ -34,13 +26,12 @@ pub(crate) fn read_file<'a, T: Tree>(
 {
     if let Err(fault) = tree.open(name) {
         let fault = FileFault::of_tree(fault)?;
-        return Ok(Verdict::Unreadable(fault));
+        return Ok(Err(fault));
     }
     let mut reader = TreeReader::new(tree);
     match scanner.gather(&mut reader) {
-        Ok(Gathered::Text { trigrams, .. }) => Ok(Verdict::Text(trigrams)),
-        Ok(Gathered::Skip(reason)) => Ok(Verdict::Skipped(reason)),
-        Err(ScanFault::Read) => Ok(Verdict::Unreadable(FileFault::Failed)),
+        Ok(scan) => Ok(Ok(scan)),
+        Err(ScanFault::Read) => Ok(Err(FileFault::Failed)),
         Err(ScanFault::Memory) => Err(AllocError),
     }
 }

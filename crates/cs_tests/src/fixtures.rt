@@ -1,7 +1,7 @@
 // Fixtures of several modules.
 use cs_index::{BuildFault, Builder};
 use cs_tree::{Item, MemSource, MemTree, PutFault};
-use cs_trigram::{Gathered, Scanner};
+use cs_trigram::{Scan, Scanner};
 use std::alloc::{AllocError, Global};
 
 /// Names and the texts of the files.
@@ -112,7 +112,7 @@ pub fn add_file(
     text: &[u8],
 ) -> Option<u32> {
     match scanner.gather(&mut MemSource::new(text, 4, false)) {
-        Ok(Gathered::Text { trigrams, .. }) => builder.add(name, trigrams).ok(),
+        Ok(Scan::Text { trigrams, .. }) => builder.add(name, trigrams).ok(),
         _ => None,
     }
 }

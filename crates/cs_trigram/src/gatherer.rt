@@ -33,7 +33,10 @@ fn result_at_end(found: &SeenTrigrams, bytes: u64) -> Scan<()>
     if found.is_over_limit() {
         return Scan::Skip(Reason::ManyTrigrams);
     }
-    Scan::Text { trigrams: (), bytes }
+    Scan::Text {
+        trigrams: (),
+        bytes,
+    }
 }
 
 /// Reads a file to its end, or to the first byte that breaks a rule.

@@ -57,7 +57,10 @@ impl Scanner {
         ensures keeps { R.Keeps source.old source.new }
     {
         match self.gatherer.read(source)? {
-            Scan::Text { trigrams: (), bytes } => {
+            Scan::Text {
+                trigrams: (),
+                bytes,
+            } => {
                 let trigrams = set_of(self.alloc, self.gatherer.numbers())?;
                 Ok(Scan::Text { trigrams, bytes })
             }
@@ -82,7 +85,10 @@ impl Scanner {
         ensures keeps { R.Keeps source.old source.new }
     {
         Ok(match self.gatherer.read(source)? {
-            Scan::Text { trigrams: (), bytes } => Scan::Text {
+            Scan::Text {
+                trigrams: (),
+                bytes,
+            } => Scan::Text {
                 trigrams: self.gatherer.numbers(),
                 bytes,
             },

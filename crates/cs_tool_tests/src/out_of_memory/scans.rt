@@ -5,7 +5,7 @@ use cs_args::{
     FileFault, Job, Refusal, Tool, ToolFault, WordFault, fault_line, message, read_words, skip_line,
 };
 use cs_tree::MemSource;
-use cs_trigram::{Gathered, Reason, Scan, ScanFault, Scanner};
+use cs_trigram::{Reason, Scan, ScanFault, Scanner};
 use std::alloc::{AllocError, Global};
 use std::test::Fail;
 
@@ -22,10 +22,8 @@ fn scanned(scanner: &mut Scanner, text: &[u8]) -> Outcome {
 
 fn gathered(scanner: &mut Scanner) -> Outcome {
     match scanner.gather(&mut MemSource::new(b"bcda", 2, false)) {
-        Ok(Gathered::Text { trigrams, .. }) => Outcome::of(
-            trigrams == [0x626364, 0x636461].as_slice(),
-        ),
-        Ok(Gathered::Skip(_)) => Outcome::Wrong,
+        Ok(Scan::Text { trigrams, .. }) => Outcome::of(trigrams == [0x626364, 0x636461].as_slice()),
+        Ok(Scan::Skip(_)) => Outcome::Wrong,
         Err(ScanFault::Memory) => Outcome::OutOfMemory,
         Err(ScanFault::Read) => Outcome::Wrong,
     }

@@ -1,11 +1,11 @@
 use mir.Val.{to_z, of_z}
-use Rattle.std.proofs.Common.{List, ℕ, Option, Some, false, Ok, Err, length, refl, ap, subst, w32, ◌∙◌}
+use Rattle.std.proofs.Common.{Bor, List, ℕ, Option, Some, false, Ok, Err, length, refl, ap, subst, w32, ◌∙◌}
 use Rattle.std.proofs.lemmas.Int.{to_z-of_z}
 use Rattle.cs_tree.specs.StreamModels.{SourceModel, source_model}
 use Rattle.cs_trigram.specs.Text.{limits, skip}
-use Rattle.cs_trigram.specs.Trigram.{tri}
-use Rattle.cs_trigram.specs.Scans.{IsGatheringOf}
-use Rattle.cs_trigram.specs.declared.scan.Gathered.{Gathered}
+use Rattle.cs_trigram.specs.Trigram.{tri, set_of_numbers}
+use Rattle.cs_trigram.specs.Scans.{IsScanOf}
+use Rattle.cs_trigram.specs.declared.scan.Scan.{Scan}
 use Rattle.codesearch_c.specs.Building.{IsAddition, skipped}
 use Rattle.codesearch_c.proofs.BuildingLemmas.{rejection, left_out}
 use Rattle.codesearch_c.proofs.building.add_code.Goals as goal
@@ -24,7 +24,7 @@ returns-in-Ok-Skip c =
     let bytes = c.args.text.now in
     let code = c.reason_code.result in
     let reason = c.in-Ok-Skip.reason in
-    let outcome = subst (λ (model : Option SourceModel). IsGatheringOf limits model (Ok c.in-Ok-Skip.field-0)) c.new-source.ensures.model c.in-Ok-Skip.ensures.model in
-    let left = subst (λ (answer : Gathered). IsGatheringOf limits (Some (source_model bytes false)) (Ok answer)) c.in-Ok-Skip.field-0-is outcome in
+    let outcome = subst (λ (model : Option SourceModel). IsScanOf limits model (Ok c.in-Ok-Skip.field-0) (λ trigrams. set_of_numbers trigrams.now)) c.new-source.ensures.model c.in-Ok-Skip.ensures.model in
+    let left = subst (λ (answer : Scan (Bor (List ℕ))). IsScanOf limits (Some (source_model bytes false)) (Ok answer) (λ trigrams. set_of_numbers trigrams.now)) c.in-Ok-Skip.field-0-is outcome in
     skipped reason (left_out (skip limits bytes) reason (tri bytes) (length bytes) left)
     (to_z-of_z w32 code (record { sfits = c.reason_code.type_inv }) ∙ c.reason_code.ensures) refl

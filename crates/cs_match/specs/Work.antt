@@ -1,5 +1,6 @@
 -- The work of a search, in steps. A step is a part of the program visited, a word of 64 positions moved or compared, a
--- position tested for a mask, a cached state compared, or a transition read, computed, written or forgotten.
+-- position tested for a mask, a cached state compared, or a transition read, computed, written or forgotten. In a block it
+-- is also a byte that is searched for a newline, or one that a lane reads, and a step of the prefilter (`OffsetWork`).
 -- docs/PROMISES.md, "Work".
 use Rattle.std.specs.Prelude.{ℕ, ◌+◌, ◌-◌, ◌*◌, ◌/◌, Option, Some, None}
 use Rattle.cs_syntax.specs.Matching.{Tree}
@@ -30,17 +31,17 @@ byte_work t = step_work t + (most_states + 3) * (words (position_count t) + 1) +
 abbrev pub line_work : Tree → ℕ → ℕ
 line_work t bytes = 2 * ((bytes + 1) * byte_work t)
 
--- the most bytes of a batch of six chunks that the interleaved scan reads
+-- the most bytes of a batch of six chunks that the lanes of an interleaved scan read
 abbrev pub most_batch : ℕ
 most_batch = 98304
 
--- the most steps of the search of a block over a byte: it is skipped by the prefilter, or a candidate of it, and its line
--- is tested
+-- the most steps of the search of a block over a byte: an offset of the prefilter, and a byte of a line that is tested;
+-- twice both, as a line that is tested is scanned twice at most
 abbrev pub searched_byte_work : Tree → ℕ
 searched_byte_work t = 2 * (byte_work t + offset_work)
 
--- A batch with a match is read twice, by a search for ends of lines and by the lanes, and then its first lines are
--- searched: what is read in vain takes at most as much as so many bytes that are searched.
+-- A batch whose first chunk has a match is read in vain, at most twice: by the searches for the ends of its chunks, and
+-- by the lanes. This takes at most as many steps as so many bytes that are searched.
 abbrev pub search_overhead : ℕ
 search_overhead = 34
 

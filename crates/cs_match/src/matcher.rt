@@ -163,7 +163,8 @@ impl<'a> Matcher<'a> {
         self.next_match_counted(block, from, &mut steps)
     }
 
-    /// The same, with the steps counted.
+    /// The same, with the steps counted: at most `search_work` of the bytes up to the end of the line, or of the block if
+    /// no line matches. They are paid for from the states that were cached before, as those of `is_match_counted`.
     pub fn next_match_counted<L: Ledger>(
         &mut self,
         block: &[u8],
@@ -221,7 +222,7 @@ impl<'a> Matcher<'a> {
         self.count_counted(block, &mut steps)
     }
 
-    /// The same, with the steps counted.
+    /// The same, with the steps counted: at most `count_work`.
     pub fn count_counted<L: Ledger>(&mut self, block: &[u8], steps: &mut Steps<L>) -> u64
         requires whole { AreWholeLines block.now }
         ensures found { (has_match : List ℕ → Bool) → Decides has_match self.old.tree →

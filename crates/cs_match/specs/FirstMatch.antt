@@ -1,5 +1,5 @@
 -- Searches for the first matching line of a text.
-use Rattle.std.specs.Prelude.{ℕ, ◌≡◌, ◌<◌, ◌≤◌, ◌∷◌, Bool, true, false, List, [], take, length, slice_range, slice_index, Option, MatchOption}
+use Rattle.std.specs.Prelude.{ℕ, ◌+◌, ◌≡◌, ◌<◌, ◌≤◌, ◌∷◌, Bool, true, false, List, [], take, length, slice_range, slice_index, Option, Some, None, MatchOption}
 use Rattle.cs_syntax.specs.Matching.{Tree, HasMatch}
 use Rattle.cs_match.specs.declared.matcher.Line.{Line}
 use Rattle.cs_match.specs.declared.state.State.{State}
@@ -28,6 +28,11 @@ pub record AcceptsFirst (t : Tree) (text : List ℕ) (offset : ℕ) : Type 0 whe
   pub within : offset < length text
   pub scanned : AreScanned t text offset
   pub accepts : accepts_before t (state t (last_part (take offset text))) (slice_index text offset) ≡ true
+
+-- the bytes that are scanned: all, or those up to the offset before which the tree accepts
+abbrev pub scanned_bytes : ℕ → Option ℕ → ℕ
+scanned_bytes bytes None = bytes
+scanned_bytes bytes (Some offset) = offset + 1
 
 -- the first bytes of the text are scanned, and the state of the unfinished line has this number
 pub record HasScanned (dfa : LazyDfa) (text : List ℕ) (to number : ℕ) : Type 0 where

@@ -1,8 +1,11 @@
 -- The work of a search, in steps. A step is a part of the program visited, a word of 64 positions moved or compared, a
--- position tested for a mask, a cached state compared, or a transition read, computed, written or forgotten.
+-- position tested for a mask, a cached state compared, or a transition read, computed, written or forgotten. In a block it
+-- is also a byte that is searched for a newline, or one that a lane reads, and a step of the prefilter (`OffsetWork`).
 -- docs/PROMISES.md, "Work".
-use Rattle.std.specs.Prelude.{ℕ, ◌+◌, ◌*◌, ◌/◌}
+use Rattle.std.specs.Prelude.{ℕ, ◌+◌, ◌-◌, ◌*◌, ◌/◌, Option, Some, None}
 use Rattle.cs_syntax.specs.Matching.{Tree}
+use Rattle.cs_prefilter.specs.OffsetWork.{offset_work}
+use Rattle.cs_match.specs.declared.matcher.Line.{Line}
 use Rattle.cs_match.specs.Glushkov.{position_count}
 use Rattle.cs_match.specs.Size.{nodes}
 use Rattle.cs_match.specs.Automaton.{most_states}
@@ -27,3 +30,31 @@ byte_work t = step_work t + (most_states + 3) * (words (position_count t) + 1) +
 -- the most steps of a line of so many bytes, which are scanned, and simulated once more if one of them is a newline
 abbrev pub line_work : Tree → ℕ → ℕ
 line_work t bytes = 2 * ((bytes + 1) * byte_work t)
+
+-- the most bytes of a batch of six chunks that the lanes of an interleaved scan read
+abbrev pub most_batch : ℕ
+most_batch = 98304
+
+-- the most steps of the search of a block over a byte: an offset of the prefilter, and a byte of a line that is tested;
+-- twice both, as a line that is tested is scanned twice at most
+abbrev pub searched_byte_work : Tree → ℕ
+searched_byte_work t = 2 * (byte_work t + offset_work)
+
+-- A batch whose first chunk has a match is read in vain, at most twice: by the searches for the ends of its chunks, and
+-- by the lanes. This takes at most as many steps as so many bytes that are searched.
+abbrev pub search_overhead : ℕ
+search_overhead = 34
+
+-- the most steps of the search for the next matching line over so many bytes
+abbrev pub search_work : Tree → ℕ → ℕ
+search_work t bytes = (bytes + search_overhead) * searched_byte_work t
+
+-- the most steps of the search for all matching lines of so many bytes
+abbrev pub count_work : Tree → ℕ → ℕ → ℕ
+count_work t bytes matches = (bytes + (matches + 1) * search_overhead) * searched_byte_work t
+
+-- the bytes that are searched from an offset on: up to the end of the line that is found, with its newline, or up to
+-- another offset if none is found
+abbrev pub searched_bytes : ℕ → ℕ → Option Line → ℕ
+searched_bytes from to None = to - from
+searched_bytes from to (Some line) = line.end + 1 - from

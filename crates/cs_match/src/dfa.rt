@@ -4,7 +4,7 @@ ghost use Rattle.std.specs.Prelude.{◌≡◌, ◌≢◌, ◌↔◌, ◌+◌, �
 ghost use Rattle.cs_syntax.specs.Matching.{HasMatch};
 ghost use Rattle.cs_match.specs.Automaton.{GrowsOver};
 ghost use Rattle.cs_match.specs.Work.{words, step_work, state_work, byte_work, line_work};
-ghost use Rattle.cs_match.specs.FirstMatch.{AcceptsFirst, AreScanned, HasScanned};
+ghost use Rattle.cs_match.specs.FirstMatch.{AcceptsFirst, AreScanned, HasScanned, scanned_bytes};
 ghost use Rattle.cs_match.specs.Lines.{newline};
 ghost use Rattle.cs_match.specs.Glushkov.{position_count, IsExpanded};
 ghost use Rattle.cs_match.specs.Masks.{IsScratch};
@@ -22,8 +22,7 @@ use crate::steps::Steps;
 use cs_syntax::Unfinished;
 use memchr::memchr_iter;
 use std::alloc::{AllocError, Global};
-use std::marker::Brand;
-use std::sync::ledger::{Blank, Ledger};
+use std::sync::ledger::Ledger;
 
 /// The number of the unknown state: the transition is not computed yet. No cached state has this number or that of
 /// `MATCH`.
@@ -181,38 +180,9 @@ impl<'a> LazyDfa<'a> {
         })
     }
 
-    /// The transition of a state over a byte, whose steps nobody counts.
-    #[inline(always)]
-    fn next(&mut self, from: u16, byte: u8) -> u16
-        requires right { IsConsistent self.old }
-        requires number { HasState self.old from (state_in self.old from) }
-        ensures leads { LeadsIn self.new (state_in self.old from) byte result }
-        ensures right { IsConsistent self.new }
-        ensures same { tree_in self.new ≡ tree_in self.old }
-        ensures states { GrowsOver 1 self.old.used self.new.used }
-    {
-        self.next_from_blank::<Brand>(from, byte, Blank::new(1))
-    }
-
-    #[inline(always)]
-    fn next_from_blank<L: Ledger>(&mut self, from: u16, byte: u8, blank: Blank) -> u16
-        requires right { IsConsistent self.old }
-        requires number { HasState self.old from (state_in self.old from) }
-        requires name { blank.name ≡ L.name }
-        requires parts { blank.parts ≡ L.parts }
-        requires some { 0 < blank.parts }
-        ensures leads { LeadsIn self.new (state_in self.old from) byte result }
-        ensures right { IsConsistent self.new }
-        ensures same { tree_in self.new ≡ tree_in self.old }
-        ensures states { GrowsOver 1 self.old.used self.new.used }
-    {
-        let mut steps = Steps::<L>::new(blank);
-        self.next_counted(from, byte, &mut steps)
-    }
-
     /// The transition of a state over a byte, computed first if it is unknown. A newline is the end of the line.
     #[inline(always)]
-    fn next_counted<L: Ledger>(&mut self, from: u16, byte: u8, steps: &mut Steps<L>) -> u16
+    fn next<L: Ledger>(&mut self, from: u16, byte: u8, steps: &mut Steps<L>) -> u16
         requires right { IsConsistent self.old }
         requires number { HasState self.old from (state_in self.old from) }
         ensures leads { LeadsIn self.new (state_in self.old from) byte result }
@@ -262,16 +232,20 @@ impl<'a> LazyDfa<'a> {
             if *b == b'\n' {
                 return self.search(line, steps);
             }
-            number = self.next_counted(number, *b, steps);
+            number = self.next(number, *b, steps);
             if number == MATCH {
                 return true;
             }
         }
-        self.next_counted(number, b'\n', steps) == MATCH
+        self.next(number, b'\n', steps) == MATCH
     }
 
     /// The offset of the byte before which the automaton accepts first, in a scan over the lines of a text.
-    pub(crate) fn first_accepted(&mut self, text: &[u8]) -> Option<usize>
+    pub(crate) fn first_accepted<L: Ledger>(
+        &mut self,
+        text: &[u8],
+        steps: &mut Steps<L>,
+    ) -> Option<usize>
         requires right { IsConsistent self.old }
         ensures found { MatchOption result
             (AreScanned (tree_in self.old) text.now (length text.now))
@@ -279,15 +253,18 @@ impl<'a> LazyDfa<'a> {
         ensures right { IsConsistent self.new }
         ensures same { tree_in self.new ≡ tree_in self.old }
         ensures states { GrowsOver (length text.now) self.old.used self.new.used }
+        ensures work { steps.new + state_work * self.new.used ≤ steps.old + state_work * self.old.used
+            + scanned_bytes (length text.now) result * byte_work (tree_in self.old) }
     {
         let mut to = 0;
         let mut number = 0;
         'scan: while to < text.len() {
             let known = self.scan_known(text, Scanned { to, number });
+            steps.add(known.to - to);
             if known.to == text.len() {
                 return None;
             }
-            number = self.next(known.number, text[known.to]);
+            number = self.next(known.number, text[known.to], steps);
             if number == MATCH {
                 return Some(known.to);
             }

@@ -1,14 +1,17 @@
 // Interleaved scan: six lanes scan chunks of a block by the transition table, and chunks without a match are skipped.
 // The two special states absorb, so that a lane has no branch for a byte. The scan knows nothing of patterns;
 // `specs/Scan.antt` says what it returns and what the table has to guarantee.
-ghost use Rattle.std.specs.Prelude.{◌≡◌, ◌≤◌, ◌<◌, ◌+◌, ◌∷◌, ℕ, [], map, true, bit_or, length, slice_range, slice_index, drop};
+ghost use Rattle.std.specs.Prelude.{◌≡◌, ◌≤◌, ◌<◌, ◌+◌, ◌-◌, ◌*◌, ◌∷◌, ℕ, [], map, min, true, bit_or, length, slice_range, slice_index, drop};
 ghost use Rattle.cs_match.specs.Lines.{newline};
 ghost use Rattle.cs_match.specs.NoNewline.{HasNoNewline};
 ghost use Rattle.cs_match.specs.Skipped.{AreSkipped};
 ghost use Rattle.cs_match.specs.Skipping.{AreWholeLines};
 ghost use Rattle.cs_match.specs.Scan.{state_after, first_special, RulesOutLines};
+ghost use Rattle.cs_match.specs.Work.{most_batch};
 
+use crate::steps::Steps;
 use memchr::memchr;
+use std::sync::ledger::Ledger;
 
 /// The match state: the line has a match, whatever follows in it.
 pub(crate) const MATCH: u16 = 0xFE00;
@@ -19,8 +22,14 @@ pub(crate) const FIRST_SPECIAL: u16 = MATCH;
 /// The least size of a chunk in bytes, except at the end of a block.
 const CHUNK: usize = 512;
 
+/// The most bytes that are searched for the end of a chunk, those of its least size included.
+const MOST_CHUNK: usize = 16384;
+
 /// The least size of a batch of six chunks in bytes.
 pub(crate) const BATCH: usize = 3072;
+
+/// The most bytes of a batch that is scanned. What a scan reads in vain, as the first chunk has a match, is bounded by it.
+const MOST_BATCH: usize = 98304;
 
 /// The state after one more byte.
 #[inline(always)]
@@ -45,23 +54,27 @@ fn scan(transitions: &[u16], from: u16, text: &[u8]) -> u16
 }
 
 /// The offset of the first newline at or after `from`.
-pub(crate) fn line_end(block: &[u8], from: usize) -> usize
+pub(crate) fn line_end<L: Ledger>(block: &[u8], from: usize, steps: &mut Steps<L>) -> usize
     requires within { from < length block.now }
     requires whole { AreWholeLines (drop from block.now) }
     ensures low { from ≤ result }
     ensures high { result < length block.now }
     ensures part { HasNoNewline (slice_range block.now from result) }
     ensures newline { drop result block.now ≡ newline ∷ drop (result + 1) block.now }
+    ensures work { steps.new ≡ steps.old + (result + 1 - from) }
 {
     match memchr(b'\n', &block[from..]) {
-        Some(offset) => from + offset,
+        Some(offset) => {
+            steps.add(offset + 1);
+            from + offset
+        }
         None => unreachable!(),
     }
 }
 
 /// The end of the chunk that begins at `from`: after the first newline at least 512 bytes on, or the end of the
-/// block.
-pub(crate) fn cut(block: &[u8], from: usize) -> usize
+/// block if there is none within 16384 bytes.
+pub(crate) fn cut<L: Ledger>(block: &[u8], from: usize, steps: &mut Steps<L>) -> usize
     requires within { from ≤ length block.now }
     requires whole { AreWholeLines (drop from block.now) }
     ensures low { from ≤ result }
@@ -69,11 +82,24 @@ pub(crate) fn cut(block: &[u8], from: usize) -> usize
     ensures moves { from < length block.now → from < result }
     ensures whole { AreWholeLines (slice_range block.now from result) }
     ensures rest { AreWholeLines (drop result block.now) }
+    ensures long { min (from + CHUNK) (length block.now) ≤ result }
+    ensures work { steps.new ≤ steps.old + (result - from) }
+    ensures near { steps.new ≤ steps.old + MOST_CHUNK }
 {
-    if block.len() - from <= CHUNK {
+    let most = MOST_CHUNK.min(block.len() - from);
+    if most <= CHUNK {
         return block.len();
     }
-    line_end(block, from + CHUNK) + 1
+    match memchr(b'\n', &block[from + CHUNK..from + most]) {
+        Some(offset) => {
+            steps.add(offset + 1);
+            from + CHUNK + offset + 1
+        }
+        None => {
+            steps.add(most - CHUNK);
+            block.len()
+        }
+    }
 }
 
 /// Six chunks of a block.
@@ -145,21 +171,36 @@ struct Skipped {
     all: bool,
 }
 
-/// Skips the leading chunks of a batch whose scans end in ordinary states.
-fn skip_batch(transitions: &[u16], block: &[u8], from: usize) -> Skipped
+/// Skips the leading chunks of a batch whose scans end in ordinary states, and no chunks of a batch that is too long.
+fn skip_batch<L: Ledger>(
+    transitions: &[u16],
+    block: &[u8],
+    from: usize,
+    steps: &mut Steps<L>,
+) -> Skipped
     requires full { length transitions.now ≡ 65536 }
     requires within { from ≤ length block.now }
     requires whole { AreWholeLines (drop from block.now) }
     ensures skipped { AreSkipped (λ has_match. RulesOutLines has_match transitions.now)
         block.now from result.to }
     ensures moves { result.all ≡ true → from < length block.now → from < result.to }
+    ensures all { result.all ≡ true → steps.new ≤ steps.old + 2 * (result.to - from) }
+    ensures most { steps.new ≤ steps.old + 2 * most_batch }
+    ensures rest { steps.new ≤ steps.old + 2 * (length block.now - from) }
 {
-    let a = cut(block, from);
-    let b = cut(block, a);
-    let c = cut(block, b);
-    let d = cut(block, c);
-    let e = cut(block, d);
-    let f = cut(block, e);
+    let a = cut(block, from, steps);
+    let b = cut(block, a, steps);
+    let c = cut(block, b, steps);
+    let d = cut(block, c, steps);
+    let e = cut(block, d, steps);
+    let f = cut(block, e, steps);
+    if f - from > MOST_BATCH {
+        return Skipped {
+            to: from,
+            all: false,
+        };
+    }
+    steps.add(f - from);
     let states = six_lanes(
         transitions,
         Chunks {
@@ -181,17 +222,24 @@ fn skip_batch(transitions: &[u16], block: &[u8], from: usize) -> Skipped
 
 /// Skips batches while all their chunks are ordinary, then the leading ordinary chunks of the next batch. The
 /// returned offset is the start of a line or the end of the block.
-pub(crate) fn skip_interleaved(transitions: &[u16], block: &[u8], from: usize) -> usize
+pub(crate) fn skip_interleaved<L: Ledger>(
+    transitions: &[u16],
+    block: &[u8],
+    from: usize,
+    steps: &mut Steps<L>,
+) -> usize
     requires full { length transitions.now ≡ 65536 }
     requires within { from ≤ length block.now }
     requires whole { AreWholeLines (drop from block.now) }
     ensures skipped { AreSkipped (λ has_match. RulesOutLines has_match transitions.now)
         block.now from result }
     ensures rest { AreWholeLines (drop result block.now) }
+    ensures most { steps.new ≤ steps.old + 2 * (result - from) + 2 * most_batch }
+    ensures all { steps.new ≤ steps.old + 2 * (length block.now - from) }
 {
     let mut offset = from;
     'batches: while offset < block.len() {
-        let skipped = skip_batch(transitions, block, offset);
+        let skipped = skip_batch(transitions, block, offset, steps);
         if !skipped.all {
             return skipped.to;
         }

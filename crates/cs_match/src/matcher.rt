@@ -6,7 +6,8 @@ ghost use Rattle.cs_match.specs.Deciding.{Decides};
 ghost use Rattle.cs_match.specs.FirstMatch.{IsFirstMatch, IsSearched};
 ghost use Rattle.cs_match.specs.Lines.{terminated_lines};
 ghost use Rattle.cs_match.specs.Skipped.{AreSkipped};
-ghost use Rattle.cs_match.specs.Work.{state_work, line_work};
+ghost use Rattle.cs_match.specs.Work.{state_work, byte_work, line_work, search_work, count_work, searched_bytes, most_batch};
+ghost use Rattle.cs_match.specs.PartWork.{part_work};
 ghost use Rattle.cs_match.specs.Skipping.{AreWholeLines, IsLineAfter, NoneMatch};
 
 mod cache;
@@ -134,9 +135,60 @@ impl<'a> Matcher<'a> {
         ensures same { self.new.tree ≡ self.old.tree }
         ensures states { GrowsOver (length block.now - from) self.old.states self.new.states }
     {
+        self.next_match_from_blank::<Brand>(block, from, Blank::new(1))
+    }
+
+    fn next_match_from_blank<L: Ledger>(
+        &mut self,
+        block: &[u8],
+        from: usize,
+        blank: Blank,
+    ) -> Option<Line>
+        requires within { from ≤ length block.now }
+        requires whole { AreWholeLines (drop from block.now) }
+        requires name { blank.name ≡ L.name }
+        requires parts { blank.parts ≡ L.parts }
+        requires some { 0 < blank.parts }
+        ensures line { IfSome result (λ line. IsLineAfter block.now from line.start line.end) }
+        ensures found { IfSome result (λ line. HasMatch self.old.tree
+            (slice_range block.now line.start line.end)) }
+        ensures none { (has_match : List ℕ → Bool) → Decides has_match self.old.tree →
+            MatchOption result (NoneMatch has_match (terminated_lines (drop from block.now)))
+            (λ line. NoneMatch has_match
+            (terminated_lines (slice_range block.now from line.start))) }
+        ensures same { self.new.tree ≡ self.old.tree }
+        ensures states { GrowsOver (length block.now - from) self.old.states self.new.states }
+    {
+        let mut steps = Steps::<L>::new(blank);
+        self.next_match_counted(block, from, &mut steps)
+    }
+
+    /// The same, with the steps counted: at most `search_work` of the bytes up to the end of the line, or of the block if
+    /// no line matches. They are paid for from the states that were cached before, as those of `is_match_counted`.
+    pub fn next_match_counted<L: Ledger>(
+        &mut self,
+        block: &[u8],
+        from: usize,
+        steps: &mut Steps<L>,
+    ) -> Option<Line>
+        requires within { from ≤ length block.now }
+        requires whole { AreWholeLines (drop from block.now) }
+        ensures line { IfSome result (λ line. IsLineAfter block.now from line.start line.end) }
+        ensures found { IfSome result (λ line. HasMatch self.old.tree
+            (slice_range block.now line.start line.end)) }
+        ensures none { (has_match : List ℕ → Bool) → Decides has_match self.old.tree →
+            MatchOption result (NoneMatch has_match (terminated_lines (drop from block.now)))
+            (λ line. NoneMatch has_match
+            (terminated_lines (slice_range block.now from line.start))) }
+        ensures same { self.new.tree ≡ self.old.tree }
+        ensures states { GrowsOver (length block.now - from) self.old.states self.new.states }
+        ensures work { steps.new + state_work * self.new.states
+            ≤ steps.old + state_work * self.old.states
+            + search_work self.old.tree (searched_bytes from (length block.now) result) }
+    {
         let mut offset = from;
         'parts: while offset < block.len() {
-            let searched = self.search_part(block, offset);
+            let searched = self.search_part(block, offset, steps);
             match searched.line {
                 Some(line) => return Some(line),
                 None => offset = searched.to,
@@ -153,9 +205,37 @@ impl<'a> Matcher<'a> {
         ensures bound { result ≤ length (terminated_lines block.now) }
         ensures same { self.new.tree ≡ self.old.tree }
     {
+        self.count_from_blank::<Brand>(block, Blank::new(1))
+    }
+
+    fn count_from_blank<L: Ledger>(&mut self, block: &[u8], blank: Blank) -> u64
+        requires whole { AreWholeLines block.now }
+        requires name { blank.name ≡ L.name }
+        requires parts { blank.parts ≡ L.parts }
+        requires some { 0 < blank.parts }
+        ensures found { (has_match : List ℕ → Bool) → Decides has_match self.old.tree →
+            result ≡ count_by has_match (terminated_lines block.now) }
+        ensures bound { result ≤ length (terminated_lines block.now) }
+        ensures same { self.new.tree ≡ self.old.tree }
+    {
+        let mut steps = Steps::<L>::new(blank);
+        self.count_counted(block, &mut steps)
+    }
+
+    /// The same, with the steps counted: at most `count_work`.
+    pub fn count_counted<L: Ledger>(&mut self, block: &[u8], steps: &mut Steps<L>) -> u64
+        requires whole { AreWholeLines block.now }
+        ensures found { (has_match : List ℕ → Bool) → Decides has_match self.old.tree →
+            result ≡ count_by has_match (terminated_lines block.now) }
+        ensures bound { result ≤ length (terminated_lines block.now) }
+        ensures same { self.new.tree ≡ self.old.tree }
+        ensures work { steps.new + state_work * self.new.states
+            ≤ steps.old + state_work * self.old.states
+            + count_work self.old.tree (length block.now) result }
+    {
         let mut offset = 0;
         let mut matching_lines = 0u64;
-        'lines: while let Some(line) = self.next_match(block, offset) {
+        'lines: while let Some(line) = self.next_match_counted(block, offset, steps) {
             offset = line.end + 1;
             matching_lines += 1;
         }
@@ -163,7 +243,12 @@ impl<'a> Matcher<'a> {
     }
 
     /// Searches some lines, at least one, by the method that suits the text.
-    fn search_part(&mut self, block: &[u8], from: usize) -> Searched
+    fn search_part<L: Ledger>(
+        &mut self,
+        block: &[u8],
+        from: usize,
+        steps: &mut Steps<L>,
+    ) -> Searched
         requires within { from < length block.now }
         requires whole { AreWholeLines (drop from block.now) }
         ensures moves { from < result.to }
@@ -171,15 +256,24 @@ impl<'a> Matcher<'a> {
         ensures high { result.to ≤ length block.now }
         ensures same { self.new.tree ≡ self.old.tree }
         ensures states { GrowsOver (result.to - from) self.old.states self.new.states }
+        ensures work { steps.new + state_work * self.new.states
+            ≤ steps.old + state_work * self.old.states
+            + part_work self.old.tree from result.to result.line }
     {
         let method = self.method();
-        let searched = self.search_by(method, block, from);
+        let searched = self.search_by(method, block, from, steps);
         self.note_part(method, from, searched);
         searched
     }
 
     /// Searches one line, some chunks or the whole rest of the block, after what the method skips.
-    fn search_by(&mut self, method: Method, block: &[u8], from: usize) -> Searched
+    fn search_by<L: Ledger>(
+        &mut self,
+        method: Method,
+        block: &[u8],
+        from: usize,
+        steps: &mut Steps<L>,
+    ) -> Searched
         requires within { from < length block.now }
         requires whole { AreWholeLines (drop from block.now) }
         ensures moves { from < result.to }
@@ -187,17 +281,26 @@ impl<'a> Matcher<'a> {
         ensures high { result.to ≤ length block.now }
         ensures same { self.new.tree ≡ self.old.tree }
         ensures states { GrowsOver (result.to - from) self.old.states self.new.states }
+        ensures work { steps.new + state_work * self.new.states
+            ≤ steps.old + state_work * self.old.states
+            + part_work self.old.tree from result.to result.line }
     {
         match method {
-            Method::Prefilter => self.search_candidate(block, from),
-            Method::Line => self.search_line(block, from),
-            Method::Interleaved => self.search_chunks(block, from),
-            Method::Single => self.search_to(block, from, block.len()),
+            Method::Prefilter => self.search_candidate(block, from, steps),
+            Method::Line => self.search_line(block, from, steps),
+            Method::Interleaved => self.search_chunks(block, from, steps),
+            Method::Single => self.search_to(block, from, block.len(), steps),
         }
     }
 
     /// Searches the lines between two offsets by one scan.
-    fn search_to(&mut self, block: &[u8], from: usize, to: usize) -> Searched
+    fn search_to<L: Ledger>(
+        &mut self,
+        block: &[u8],
+        from: usize,
+        to: usize,
+        steps: &mut Steps<L>,
+    ) -> Searched
         requires low { from ≤ to }
         requires high { to ≤ length block.now }
         requires whole { AreWholeLines (slice_range block.now from to) }
@@ -206,15 +309,23 @@ impl<'a> Matcher<'a> {
         ensures to { result.to ≡ to }
         ensures same { self.new.tree ≡ self.old.tree }
         ensures states { GrowsOver (to - from) self.old.states self.new.states }
+        ensures work { steps.new + state_work * self.new.states
+            ≤ steps.old + state_work * self.old.states
+            + searched_bytes from to result.line * (byte_work self.old.tree + 2) }
     {
         Searched {
             to,
-            line: self.first_match(block, from, to),
+            line: self.first_match(block, from, to, steps),
         }
     }
 
     /// Tests the line at the offset.
-    fn search_line(&mut self, block: &[u8], from: usize) -> Searched
+    fn search_line<L: Ledger>(
+        &mut self,
+        block: &[u8],
+        from: usize,
+        steps: &mut Steps<L>,
+    ) -> Searched
         requires within { from < length block.now }
         requires whole { AreWholeLines (drop from block.now) }
         ensures moves { from < result.to }
@@ -222,9 +333,12 @@ impl<'a> Matcher<'a> {
         ensures high { result.to ≤ length block.now }
         ensures same { self.new.tree ≡ self.old.tree }
         ensures states { GrowsOver (result.to - from) self.old.states self.new.states }
+        ensures work { steps.new + state_work * self.new.states
+            ≤ steps.old + state_work * self.old.states
+            + part_work self.old.tree from result.to result.line }
     {
-        let end = line_end(block, from);
-        let found = self.is_match(&block[from..end]);
+        let end = line_end(block, from, steps);
+        let found = self.is_match_counted(&block[from..end], steps);
         Searched {
             to: end + 1,
             line: if found {
@@ -236,7 +350,12 @@ impl<'a> Matcher<'a> {
     }
 
     /// Skips to the first line with a word of the prefilter, and tests it unless the words are the pattern.
-    fn search_candidate(&mut self, block: &[u8], from: usize) -> Searched
+    fn search_candidate<L: Ledger>(
+        &mut self,
+        block: &[u8],
+        from: usize,
+        steps: &mut Steps<L>,
+    ) -> Searched
         requires within { from < length block.now }
         requires whole { AreWholeLines (drop from block.now) }
         ensures moves { from < result.to }
@@ -244,11 +363,14 @@ impl<'a> Matcher<'a> {
         ensures high { result.to ≤ length block.now }
         ensures same { self.new.tree ≡ self.old.tree }
         ensures states { GrowsOver (result.to - from) self.old.states self.new.states }
+        ensures work { steps.new + state_work * self.new.states
+            ≤ steps.old + state_work * self.old.states
+            + part_work self.old.tree from result.to result.line }
     {
         let Some(prefilter) = self.prefilter else {
-            return self.search_line(block, from);
+            return self.search_line(block, from, steps);
         };
-        let Some(line) = next_candidate(prefilter, block, from) else {
+        let Some(line) = next_candidate(prefilter, block, from, steps) else {
             return Searched {
                 to: block.len(),
                 line: None,
@@ -260,7 +382,7 @@ impl<'a> Matcher<'a> {
                 line: Some(line),
             };
         }
-        let found = self.is_match(&block[line.start..line.end]);
+        let found = self.is_match_counted(&block[line.start..line.end], steps);
         Searched {
             to: line.end + 1,
             line: if found { Some(line) } else { None },
@@ -268,7 +390,12 @@ impl<'a> Matcher<'a> {
     }
 
     /// Skips chunks by the interleaved scan, and searches the next one by one scan.
-    fn search_chunks(&mut self, block: &[u8], from: usize) -> Searched
+    fn search_chunks<L: Ledger>(
+        &mut self,
+        block: &[u8],
+        from: usize,
+        steps: &mut Steps<L>,
+    ) -> Searched
         requires within { from < length block.now }
         requires whole { AreWholeLines (drop from block.now) }
         ensures moves { from < result.to }
@@ -276,22 +403,35 @@ impl<'a> Matcher<'a> {
         ensures high { result.to ≤ length block.now }
         ensures same { self.new.tree ≡ self.old.tree }
         ensures states { GrowsOver (result.to - from) self.old.states self.new.states }
+        ensures work { steps.new + state_work * self.new.states
+            ≤ steps.old + state_work * self.old.states
+            + part_work self.old.tree from result.to result.line }
     {
-        let start = self.skip_interleaved(block, from);
-        self.search_to(block, start, cut(block, start))
+        let start = self.skip_interleaved(block, from, steps);
+        let to = cut(block, start, steps);
+        self.search_to(block, start, to, steps)
     }
 
     /// Skips chunks by the interleaved scan.
-    fn skip_interleaved(&self, block: &[u8], from: usize) -> usize
+    fn skip_interleaved<L: Ledger>(&self, block: &[u8], from: usize, steps: &mut Steps<L>) -> usize
         requires within { from ≤ length block.now }
         requires whole { AreWholeLines (drop from block.now) }
-        ensures { AreSkipped (λ has_match. Decides has_match self.now.tree) block.now from result }
+        ensures skipped { AreSkipped (λ has_match. Decides has_match self.now.tree)
+            block.now from result }
+        ensures most { steps.new ≤ steps.old + 2 * (result - from) + 2 * most_batch }
+        ensures all { steps.new ≤ steps.old + 2 * (length block.now - from) }
     {
-        skip_interleaved(&self.dfa.transitions, block, from)
+        skip_interleaved(&self.dfa.transitions, block, from, steps)
     }
 
     /// The first matching line of those between two offsets, by one scan.
-    fn first_match(&mut self, block: &[u8], from: usize, to: usize) -> Option<Line>
+    fn first_match<L: Ledger>(
+        &mut self,
+        block: &[u8],
+        from: usize,
+        to: usize,
+        steps: &mut Steps<L>,
+    ) -> Option<Line>
         requires low { from ≤ to }
         requires high { to ≤ length block.now }
         requires whole { AreWholeLines (slice_range block.now from to) }
@@ -301,14 +441,20 @@ impl<'a> Matcher<'a> {
             (λ line. IsFirstMatch self.old.tree block.now from line.start line.end) }
         ensures same { self.new.tree ≡ self.old.tree }
         ensures states { GrowsOver (to - from) self.old.states self.new.states }
+        ensures work { steps.new + state_work * self.new.states
+            ≤ steps.old + state_work * self.old.states
+            + searched_bytes from to result * (byte_work self.old.tree + 2) }
     {
-        let Some(accepted) = self.dfa.first_accepted(&block[from..to]) else {
+        let Some(accepted) = self.dfa.first_accepted(&block[from..to], steps) else {
             return None;
         };
         let offset = from + accepted;
+        let len = whole_lines_len(&block[from..offset]);
+        // The bytes of the line before the offset are read, and the newline before them.
+        steps.add(accepted - len + 1);
         Some(Line {
-            start: from + whole_lines_len(&block[from..offset]),
-            end: line_end(block, offset),
+            start: from + len,
+            end: line_end(block, offset, steps),
         })
     }
 

@@ -1,5 +1,5 @@
 -- Worked examples: the buckets of a byte and of three bytes, and a test of a letter.
-use Rattle.std.proofs.Common.{◌≡◌, ℕ, ◌-◌, true, false, List, [], ◌∷◌, ◌++◌, replicate, refl, arith}
+use Rattle.std.proofs.Common.{◌≡◌, ℕ, ◌-◌, List, ◌∷◌, ◌++◌, replicate, refl}
 use Rattle.cs_prefilter.specs.declared.byte_test.ByteTest.{ByteTest}
 use Rattle.cs_prefilter.specs.declared.masks.NibbleMasks.{NibbleMasks}
 use Rattle.cs_prefilter.specs.declared.masks.TrigramMasks.{TrigramMasks}

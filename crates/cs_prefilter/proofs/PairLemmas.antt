@@ -1,8 +1,7 @@
 -- Words at offsets that are no candidates of a pair.
-use Rattle.std.proofs.Common.{◌≡◌, ◌≢◌, ℕ, ◌+◌, ◌-◌, ◌<◌, ◌≤◌, ◌⊎◌, inl, inr, true, List, length, get_or, min, sym, ap, ap₂, ◌∙◌, bit_or, bit_xor, refl, arith}
+use Rattle.std.proofs.Common.{◌≡◌, ◌≢◌, ℕ, ◌+◌, ◌<◌, inl, inr, true, List, get_or, ap, ap₂, ◌∙◌, bit_or, bit_xor, refl, arith}
 use Rattle.std.specs.Prelude.{Option, Some, None}
 use lib.Bits.{xor_self}
-use Rattle.std.proofs.lemmas.Nat.Bits.{bit_at-zero}
 use Rattle.cs_syntax.specs.Matching.{member}
 use Rattle.cs_prefilter.specs.declared.word.Word.{Word}
 use Rattle.cs_prefilter.specs.declared.byte_test.ByteTest.{ByteTest}
@@ -10,7 +9,7 @@ use Rattle.cs_prefilter.specs.declared.pair.Pair.{Pair}
 use Rattle.cs_prefilter.specs.declared.pairs.Pairs.{Pairs}
 use Rattle.cs_prefilter.specs.WordAt.{WordAt}
 use Rattle.cs_prefilter.specs.ByteTest.{difference}
-use Rattle.cs_prefilter.specs.Pairs.{TestsAt, IsPairOf, pair_difference, HasPair, least_difference, NoPair}
+use Rattle.cs_prefilter.specs.Pairs.{TestsAt, IsPairOf, pair_difference, HasPair, least_difference}
 
 -- the test of a word passes where the word occurs
 passes : (text : List ℕ) (k : ℕ) (word : Word) (test : ByteTest) (at : ℕ) → ((i : ℕ) → get_or text i 0 < 256) → WordAt text k word → TestsAt word test at → difference test (get_or text (k + at) 0) ≡ 0

@@ -1,14 +1,11 @@
 -- Runs that a tree matches, and the words that every matching line contains.
-use Rattle.std.proofs.Common.{◌≡◌, ℕ, suc, ◌+◌, ◌<◌, ◌≤◌, ◌⊎◌, inl, inr, Bool, true, List, [], ◌∷◌, ◌++◌, length, take, drop, get_or, refl, sym, ap, subst, ◌∙◌, arith, length-append, length-drop, length-take-le, get_or-take, get_or-drop, drop_of_length-le}
+use Rattle.std.proofs.Common.{◌≡◌, ℕ, suc, ◌+◌, ◌<◌, ◌≤◌, inl, inr, Bool, true, List, [], ◌∷◌, ◌++◌, length, take, drop, get_or, refl, sym, ap, subst, ◌∙◌, arith, length-append, length-drop, length-take-le, get_or-take, get_or-drop, drop_of_length-le}
 use Rattle.cs_prefilter.specs.declared.words.Words.{Words}
 use Rattle.std.specs.Prelude.{Option, Some, None, IfSome, max, slice_index, vec_len}
 use Rattle.std.proofs.lemmas.Bool.{cases_lt}
 use Rattle.std.proofs.lemmas.List.{drop-append-le, get_or_append_left, get_or-append-add}
 use Rattle.std.proofs.Math.Seq.{get_or-append_seam, drop-length}
 use Rattle.cs_syntax.specs.Matching.{Tree, Trees, one_of, rep, more, MatchesSpan, MatchesSequence, member}
-use Rattle.cs_syntax.specs.Node.{tree_of}
-use Rattle.cs_syntax.specs.declared.node.Node.{Node}
-use Rattle.cs_syntax.specs.declared.node.Node.TheVariants.{Empty, LineStart, LineEnd, WordEdge, NotWordEdge}
 use Rattle.cs_prefilter.specs.declared.word.Word.{Word}
 use Rattle.cs_prefilter.specs.WordAt.{HasWord, AreSufficient, IsPrefilterOf}
 use Rattle.cs_prefilter.specs.Words.{HasWordOf, SetsEndAt}

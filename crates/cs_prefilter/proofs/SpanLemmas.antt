@@ -1,13 +1,9 @@
 -- Spans of a line that a tree matches.
-use Rattle.std.proofs.Common.{◌≡◌, ℕ, zero, suc, ◌<◌, ◌≤◌, ◌⊎◌, inl, inr, List, length, sym, ap, subst, ◌∙◌, arith}
+use Rattle.std.proofs.Common.{ℕ, zero, suc, ◌<◌, ◌≤◌, inl, inr, List, length, subst, arith}
 use Rattle.std.specs.Prelude.{Option, Result, Ok, Err, OnOk}
 use Rattle.std.specs.Char.{encode_utf8}
 use Rattle.cs_syntax.specs.Matching.{Tree, Trees, empty, one_of, one_char, cat, alt, rep, line_start, line_end, word_edge, not_word_edge, none, more, Chain, MatchesSpan, MatchesSequence, MatchesBranch}
 use Rattle.cs_syntax.proofs.LoweringLemmas.{occurs_within}
-use Rattle.cs_syntax.specs.Node.{tree_of}
-use Rattle.cs_syntax.specs.declared.node.Node.{Node}
-use Rattle.cs_syntax.specs.declared.node.Node.TheVariants.{Empty, LineStart, LineEnd, WordEdge, NotWordEdge}
-use Rattle.cs_syntax.proofs.NodeLemmas.{tree_of-Empty, tree_of-LineStart, tree_of-LineEnd, tree_of-WordEdge, tree_of-NotWordEdge}
 
 -- a span that begins within the line ends within it
 module _ (s : List ℕ) where

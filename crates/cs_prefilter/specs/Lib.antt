@@ -1,6 +1,7 @@
 -- Definitions that public contracts cite.
 pub use Rattle.cs_syntax.specs.Matching
 pub mod WordAt
+pub mod OffsetWork
 -- Definitions that only private contracts cite.
 pub mod Words
 pub mod Runs

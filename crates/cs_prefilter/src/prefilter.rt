@@ -1,17 +1,20 @@
 // The prefilter: a search for candidates, then verification.
-ghost use Rattle.std.specs.Prelude.{◌≡◌, ◌≤◌, ◌<◌, ◌↔◌, true, ℕ, List, length, Any, IfOk, IfSome, IsTrue};
+ghost use Rattle.std.specs.Prelude.{◌≡◌, ◌≤◌, ◌<◌, ◌↔◌, ◌+◌, ◌*◌, ◌-◌, true, ℕ, List, length, vec_len, Any, IfOk, IfSome, IsTrue};
 ghost use Rattle.cs_syntax.specs.Node.{tree_of};
 ghost use Rattle.cs_prefilter.specs.WordAt.{AreSufficient, HasWord, IsPrefilterOf, NoWordFrom, WordAt};
+ghost use Rattle.cs_prefilter.specs.OffsetWork.{most_words, word_work, offset_work};
 ghost use Rattle.cs_prefilter.specs.Words.{HasWordOf};
 
 use crate::required::best;
 use crate::search::{Kind, Search};
+use crate::steps::Steps;
 use crate::sufficient::are_sufficient;
 use crate::word::Word;
 use crate::words::{Words, share_of};
 use cs_syntax::Node;
 use std::alloc::{AllocError, Global};
 use std::marker::Model;
+use std::sync::ledger::Ledger;
 
 /// Below this share of offsets, in units of 10^-12, words are searched for by pairs whatever the trigrams are.
 const RARE: u64 = 1_000_000_000;
@@ -30,6 +33,7 @@ pub struct Prefilter {
     words: Vec<Word>,
     search: Search,
     is_exact: bool,
+    ghost few: { vec_len words ≤ most_words },
 }
 
 impl Model for Prefilter {
@@ -88,42 +92,69 @@ impl Prefilter {
     }
 
     /// The first offset at or after `from` at which a word occurs, or the end of the text.
-    pub fn skip(&self, text: &[u8], from: usize) -> usize
+    pub fn skip<L: Ledger>(&self, text: &[u8], from: usize, steps: &mut Steps<L>) -> usize
         requires { from ≤ length text.now }
         ensures low { from ≤ result }
         ensures high { result ≤ length text.now }
         ensures none { NoWordFrom self.now.0 text.now from result }
         ensures stops { result < length text.now → Any (WordAt text.now result) self.now.0 }
+        ensures work { steps.new ≤ steps.old + (result - from + 1) * offset_work }
     {
-        let mut offset = self.next(text, from);
+        let mut offset = self.next(text, from, steps);
         'scan: while offset < text.len() {
-            if occurs(&self.words, text, offset) {
+            if occurs(&self.words, text, offset, steps) {
                 return offset;
             }
-            offset = self.next(text, offset + 1);
+            offset = self.next(text, offset + 1, steps);
         }
         text.len()
     }
 
     /// An offset at or after `from` such that no word occurs from `from` up to it. Near the end of the text it is `from`
     /// itself.
-    fn next(&self, text: &[u8], from: usize) -> usize
+    fn next<L: Ledger>(&self, text: &[u8], from: usize, steps: &mut Steps<L>) -> usize
         requires { from ≤ length text.now }
         ensures low { from ≤ result }
         ensures high { result ≤ length text.now }
         ensures none { NoWordFrom self.now.0 text.now from result }
+        ensures work { steps.new ≡ steps.old + (result - from + 1) }
     {
-        self.search.skip(text, from)
+        let offset = self.search.skip(text, from);
+        // The search moves by strides of 30 or 64 offsets, each of constant work, from `from` to the offset.
+        steps.add(offset - from + 1);
+        offset
+    }
+}
+
+impl Word {
+    /// Whether the word occurs at the offset.
+    pub(crate) fn occurs<L: Ledger>(&self, text: &[u8], offset: usize, steps: &mut Steps<L>) -> bool
+        requires { offset ≤ length text.now }
+        ensures found { IsTrue result ↔ WordAt text.now offset self.now }
+        ensures work { steps.new ≤ steps.old + word_work }
+    {
+        steps.add(1);
+        if text.len() - offset < self.sets.len() {
+            return false;
+        }
+        for (i, set) in self.sets.iter().enumerate() {
+            steps.add(1);
+            if !set.contains(text[offset + i]) {
+                return false;
+            }
+        }
+        true
     }
 }
 
 /// Whether one of the words occurs at the offset.
-fn occurs(words: &[Word], text: &[u8], offset: usize) -> bool
+fn occurs<L: Ledger>(words: &[Word], text: &[u8], offset: usize, steps: &mut Steps<L>) -> bool
     requires { offset ≤ length text.now }
-    ensures { IsTrue result ↔ Any (WordAt text.now offset) words.now }
+    ensures found { IsTrue result ↔ Any (WordAt text.now offset) words.now }
+    ensures work { steps.new ≤ steps.old + length words.now * word_work }
 {
     for word in words {
-        if word.occurs(text, offset) {
+        if word.occurs(text, offset, steps) {
             return true;
         }
     }

@@ -66,11 +66,10 @@ fn common_share(sets: [&ByteSet; 3]) -> u64 {
     sum
 }
 
-/// A part of a run, and the share of offsets at which it is expected, in units of 10^-12.
+/// The start of a part of a run, and the share of offsets at which the part is expected, in units of 10^-12.
 #[derive(Clone, Copy, Drop)]
 pub(crate) struct Part {
     pub(crate) from: usize,
-    pub(crate) to: usize,
     pub(crate) share: u64,
 }
 
@@ -86,11 +85,7 @@ fn rarest_trigram(run: &[ByteSet], frequencies: &[u64]) -> Option<Part> {
         let next = next.saturating_add(common_share([&sets[0], &sets[1], &sets[2]]));
         if next < share {
             share = next;
-            best = Some(Part {
-                from,
-                to: from.saturating_add(MOST_SETS),
-                share,
-            });
+            best = Some(Part { from, share });
         }
     }
     best
@@ -153,11 +148,7 @@ pub(crate) fn rarest_part(kind: Kind, run: &[ByteSet], frequencies: &[u64]) -> O
             } else {
                 0
             };
-            Some(Part {
-                from,
-                to: from.saturating_add(MOST_SETS),
-                share,
-            })
+            Some(Part { from, share })
         }
     }
 }

@@ -73,10 +73,10 @@ fn best_of_each(alloc: Global, kind: Kind, branches: &[Node]) -> Result<Option<W
         let Some(words) = best(alloc, kind, branch)? else {
             return Ok(None);
         };
-        all.append(words)?;
-        if all.words.len() > kind.most_words() {
+        if all.words.len() + words.words.len() > kind.most_words() {
             return Ok(None);
         }
+        all.append(words)?;
     }
     Ok(Some(all))
 }

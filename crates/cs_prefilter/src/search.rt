@@ -2,6 +2,7 @@
 ghost use Rattle.std.specs.Prelude.{◌≤◌, length, All, IfSome};
 ghost use Rattle.cs_prefilter.specs.WordAt.{NoWordFrom};
 ghost use Rattle.cs_prefilter.specs.Search.{Finds, NoneFrom};
+ghost use Rattle.cs_prefilter.specs.OffsetWork.{most_words};
 
 use crate::masks::TrigramMasks;
 use crate::pairs::Pairs;
@@ -18,7 +19,9 @@ pub(crate) enum Kind {
 
 impl Kind {
     /// The largest number of words.
-    pub(crate) fn most_words(self) -> usize {
+    pub(crate) fn most_words(self) -> usize
+        ensures { result ≤ most_words }
+    {
         match self {
             Kind::Pairs => 2,
             Kind::Trigrams => 64,

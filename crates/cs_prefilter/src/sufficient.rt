@@ -3,11 +3,25 @@ ghost use Rattle.std.specs.Prelude.{◌≡◌, ◌≤◌, ℕ, true, IsTrue, IfS
 ghost use Rattle.cs_syntax.specs.Matching.{MatchesSpan, MatchesSequence, MatchesBranch, member};
 ghost use Rattle.cs_syntax.specs.Node.{tree_of};
 ghost use Rattle.cs_syntax.specs.NodeList.{trees_of};
-ghost use Rattle.cs_prefilter.specs.WordAt.{AreSufficient, IsSufficient};
+ghost use Rattle.cs_prefilter.specs.WordAt.{AreSufficient, IsInLine, IsSufficient};
 ghost use Rattle.cs_prefilter.specs.Sufficient.{MatchesPart};
 
 use crate::word::Word;
 use cs_syntax::{ByteSet, Node};
+
+impl Word {
+    /// Whether no set of the word contains a newline.
+    pub(crate) fn is_in_line(&self) -> bool
+        ensures { IsTrue result → IsInLine self.now }
+    {
+        for set in &self.sets {
+            if set.contains(b'\n') {
+                return false;
+            }
+        }
+        true
+    }
+}
 
 /// Whether the tree matches each of the words, and none of them contains a newline.
 pub(crate) fn are_sufficient(root: &Node, words: &[Word]) -> bool

@@ -1,6 +1,6 @@
 // Words.
-ghost use Rattle.std.specs.Prelude.{◌≤◌, ◌↔◌, length, IsTrue};
-ghost use Rattle.cs_prefilter.specs.WordAt.{WordAt, IsInLine};
+ghost use Rattle.std.specs.Prelude.{◌≤◌, vec_len};
+ghost use Rattle.cs_prefilter.specs.OffsetWork.{most_sets};
 
 use cs_syntax::ByteSet;
 
@@ -8,34 +8,5 @@ use cs_syntax::ByteSet;
 #[derive(Drop)]
 pub struct Word {
     pub sets: Vec<ByteSet>,
-}
-
-impl Word {
-    /// Whether the word occurs at the offset.
-    pub(crate) fn occurs(&self, text: &[u8], offset: usize) -> bool
-        requires { offset ≤ length text.now }
-        ensures { IsTrue result ↔ WordAt text.now offset self.now }
-    {
-        if text.len() - offset < self.sets.len() {
-            return false;
-        }
-        for (i, set) in self.sets.iter().enumerate() {
-            if !set.contains(text[offset + i]) {
-                return false;
-            }
-        }
-        true
-    }
-
-    /// Whether no set of the word contains a newline.
-    pub(crate) fn is_in_line(&self) -> bool
-        ensures { IsTrue result → IsInLine self.now }
-    {
-        for set in &self.sets {
-            if set.contains(b'\n') {
-                return false;
-            }
-        }
-        true
-    }
+    ghost short: { vec_len sets ≤ most_sets },
 }

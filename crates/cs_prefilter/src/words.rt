@@ -1,78 +1,15 @@
 // Lists of words, one of which every matching line contains.
-ghost use Rattle.std.specs.Prelude.{◌≡◌, ◌++◌, ◌∷◌, ℕ, List, IfOk, OnOk, []};
-ghost use Rattle.cs_prefilter.specs.Words.{SetsEndAt, HasWordOf};
-ghost use Rattle.cs_prefilter.specs.WordAt.{HasWord};
+ghost use Rattle.std.specs.Prelude.{◌≤◌, vec_len};
+ghost use Rattle.cs_prefilter.specs.OffsetWork.{most_words};
 
-use crate::rarity::{Part, rarest_part};
-use crate::search::Kind;
 use crate::word::Word;
-use cs_syntax::ByteSet;
-use std::alloc::{AllocError, Global};
 
 /// Words, and the share of offsets at which one of them is expected, in units of 10^-12.
 #[derive(Drop)]
 pub(crate) struct Words {
     pub(crate) words: Vec<Word>,
     pub(crate) share: u64,
-}
-
-impl Words {
-    /// No words.
-    pub(crate) fn none(alloc: Global) -> Words
-        ensures { result.words.items ≡ [] }
-    {
-        Words {
-            words: Vec::new(alloc),
-            share: 0,
-        }
-    }
-
-    /// The part of the run that is the best to search for, as the only word, if its share is below `most`; the
-    /// frequencies are those of the sets.
-    pub(crate) fn of_run(
-        alloc: Global,
-        kind: Kind,
-        run: &[ByteSet],
-        frequencies: &[u64],
-        most: u64,
-    ) -> Result<Option<Words>, AllocError>
-        ensures { IfOk result (λ words. (line : List ℕ) (j : ℕ) →
-            SetsEndAt line run.now j → HasWordOf line words) }
-    {
-        let Some(part) = rarest_part(kind, run, frequencies) else {
-            return Ok(None);
-        };
-        if part.share >= most {
-            return Ok(None);
-        }
-        let mut words = Words::none(alloc);
-        words.words.push(word_of(alloc, run, part)?)?;
-        words.share = part.share;
-        Ok(Some(words))
-    }
-
-    /// Adds the words of another list.
-    pub(crate) fn append(&mut self, other: Words) -> Result<(), AllocError>
-        ensures { OnOk result
-            (self.new.words.items ≡ self.old.words.items ++ other.words.items) }
-    {
-        let mut more = other.words;
-        self.words.append(&mut more)?;
-        self.share = self.share.saturating_add(other.share);
-        Ok(())
-    }
-}
-
-/// The word that is a part of the run.
-fn word_of(alloc: Global, run: &[ByteSet], part: Part) -> Result<Word, AllocError>
-    ensures { IfOk result (λ word. (line : List ℕ) (j : ℕ) →
-        SetsEndAt line run.now j → HasWord (word ∷ []) line) }
-{
-    let from = part.from.min(run.len());
-    let to = part.to.clamp(from, run.len());
-    let mut sets = Vec::new(alloc);
-    sets.extend_from_slice(&run[from..to])?;
-    Ok(Word { sets })
+    ghost few: { vec_len words ≤ most_words },
 }
 
 /// The share of offsets at which one of the words is expected. Without words it is above 1.

@@ -1,10 +1,10 @@
 use Rattle.std.proofs.Common.{◌<◌, [], ◌∷◌, get_or, subst, arith}
-use Rattle.cs_match.specs.Scan.{first_special}
-use Rattle.cs_match.proofs.ScanLemmas.{skipped_parts}
+use Rattle.cs_match.specs.Scan.{first_special, RulesOutLines}
+use Rattle.cs_match.proofs.ScanLemmas.{skipped_none, skipped_parts}
 use Rattle.cs_match.proofs.interleaved_scan.skip_batch.Goals as goal
 
 pub returns-clause-skipped : goal.returns-clause-skipped
-returns-clause-skipped c =
+returns-clause-skipped g c =
     let a = c.cut-a in
     let b = c.cut-b in
     let d = c.cut-c in
@@ -16,3 +16,6 @@ returns-clause-skipped c =
     ((a.ensures.low, a.ensures.high, a.ensures.whole), ((b.ensures.low, b.ensures.high, b.ensures.whole), ((d.ensures.low, d.ensures.high, d.ensures.whole), ((e.ensures.low, e.ensures.high, e.ensures.whole), ((f.ensures.low, f.ensures.high, f.ensures.whole), ((g.ensures.low, g.ensures.high, g.ensures.whole), tt))))))
     (omega arith)
     (λ k low. subst (λ states. get_or states k 0 < first_special) c.six_lanes-states.ensures (c.ordinary_prefix-ordinary.ensures.ordinary k low))
+
+pub returns-then-f-from-gt-MOST_BATCH-clause-skipped : goal.returns-then-f-from-gt-MOST_BATCH-clause-skipped
+returns-then-f-from-gt-MOST_BATCH-clause-skipped g c = skipped_none (λ has_match. RulesOutLines has_match c.args.transitions.now) c.args.block.now c.args.from c.requires.within

@@ -1,10 +1,13 @@
-use Rattle.std.proofs.Common.{◌-◌, length}
+use Rattle.std.proofs.Common.{◌≤◌, ◌+◌, ◌*◌, ◌-◌, length}
 use Rattle.cs_match.specs.Skipped.{AreSkipped}
 use Rattle.cs_match.specs.Scan.{RulesOutLines}
 use Rattle.cs_match.proofs.interleaved_scan.skip_interleaved.Given as goal
 
 abbrev pub invariant-batches : goal.invariant-batches
-invariant-batches l = AreSkipped (λ has_match. RulesOutLines has_match l.transitions) l.block l.from l.offset
+invariant-batches g l = record {
+  skipped : AreSkipped (λ has_match. RulesOutLines has_match l.transitions) l.block l.from l.offset;
+  work : l.steps ≤ l.fn.steps + 2 * (l.offset - l.from);
+}
 
 abbrev pub decreases-batches : goal.decreases-batches
-decreases-batches l = length l.block - l.offset
+decreases-batches g l = length l.block - l.offset

@@ -11,8 +11,8 @@ use Rattle.cs_match.proofs.SkippedLineLemmas.{words_placed, without, without_bef
 use Rattle.cs_match.proofs.WholeLineLemmas.{whole_from}
 use Rattle.cs_match.proofs.skipping.next_candidate.Goals as goal
 
-pub returns-then-offset-rest : goal.returns-then-offset-rest
-returns-then-offset-rest c =
+pub returns-then-offset-rest-clause-candidate : goal.returns-then-offset-rest-clause-candidate
+returns-then-offset-rest-clause-candidate g c =
     let words = c.args.prefilter.now.0 in
     let block = c.args.block.now in
     let text = take (length block - c.args.from) (drop c.args.from block) in
@@ -22,25 +22,25 @@ returns-then-offset-rest c =
     (λ k low h. c.skip-offset.ensures.none k (omega arith) (omega (arith, all)) h.0 h.1 h.2 (subst (WordAt text k) (sym h.3) h.4)))
 
 pub line_end-requires-clause-within : goal.line_end-requires-clause-within
-line_end-requires-clause-within c = omega (arith, c.skip-offset.ensures.high, c.if-offset-rest.false, length-drop c.args.from c.args.block.now)
+line_end-requires-clause-within g c = omega (arith, c.skip-offset.ensures.high, c.if-offset-rest.false, length-drop c.args.from c.args.block.now)
 
 pub line_end-requires-clause-whole : goal.line_end-requires-clause-whole
-line_end-requires-clause-whole c = whole_from c.args.block.now c.args.from _ (omega arith) c.requires.whole
+line_end-requires-clause-whole g c = whole_from c.args.block.now c.args.from _ (omega arith) c.requires.whole
 
-pub returns : goal.returns
-returns c =
+pub returns-clause-candidate : goal.returns-clause-candidate
+returns-clause-candidate g c =
     let words = c.args.prefilter.now.0 in
     let block = c.args.block.now in
     let from = c.args.from in
     let rest = drop from block in
     let offset = c.skip-offset.result in
-    let size = c.whole_lines_len.result in
+    let size = c.whole_lines_len-len.result in
     let end = c.line_end.result in
     let all : take (length block - from) rest ≡ rest = take_rest block from in
     let skip = c.skip-offset.ensures in
     let below : offset ≤ length rest = omega (arith, skip.high, ap (λ (t : List ℕ). length t) all) in
     let prefix = length-take-le offset rest below in
-    let lines = c.whole_lines_len.ensures in
+    let lines = c.whole_lines_len-len.ensures in
     let within : size ≤ length (take offset rest) = subst (λ (t : List ℕ). size ≤ length (take offset t)) all lines.within in
     let small : size ≤ offset = omega (arith, within, prefix) in
     let e = c.line_end.ensures in

@@ -1,6 +1,6 @@
 use Rattle.std.proofs.Common.{refl, sym}
 use Rattle.cs_prefilter.proofs.prefilter.occurs.Goals as goal
 
-pub returns-then-occurs : goal.returns-then-occurs
-returns-then-occurs c =
-    (λ _. (c.loop-word.word-index, c.word-item.result, c.loop-word-test.true, sym c.word-item.is, c.occurs.ensures.0 c.if-occurs.true), λ _. refl)
+pub returns-then-occurs-clause-found : goal.returns-then-occurs-clause-found
+returns-then-occurs-clause-found g c =
+    (λ _. (c.loop-word.word-index, c.word-item.result, c.loop-word-test.true, sym c.word-item.is, c.occurs.ensures.found.0 c.if-occurs.true), λ _. refl)

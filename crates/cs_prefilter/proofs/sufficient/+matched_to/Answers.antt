@@ -1,4 +1,4 @@
-use Rattle.std.proofs.Common.{◌+◌, List, inl, drop, refl, sym, ◌∙◌, ap, subst, arith, drop_of_length-le}
+use Rattle.std.proofs.Common.{◌+◌, List, inl, refl, sym, ◌∙◌, ap, subst, arith, drop_of_length-le}
 use Rattle.std.specs.Prelude.{IfSome}
 use Rattle.cs_syntax.specs.Matching.{Tree, Trees, cat, alt, MatchesSpan, MatchesSequence, MatchesBranch}
 use Rattle.cs_syntax.specs.Node.{tree_of}

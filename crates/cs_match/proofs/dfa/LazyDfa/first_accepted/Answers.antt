@@ -1,4 +1,4 @@
-use Rattle.std.proofs.Common.{◌≡◌, ◌<◌, ◌≤◌, ◌+◌, ℕ, false, length, get_or, take, refl, ap, subst, sym, ◌∙◌, arith, inl, inr}
+use Rattle.std.proofs.Common.{◌≡◌, ◌<◌, ◌≤◌, ◌+◌, ◌*◌, ◌-◌, ℕ, false, length, get_or, take, refl, ap, subst, sym, ◌∙◌, arith, inl, inr}
 use Rattle.std.proofs.lemmas.Bool.{cases_lt}
 use Rattle.cs_syntax.specs.Matching.{Tree}
 use Rattle.cs_match.specs.declared.state.State.{State}
@@ -6,17 +6,21 @@ use Rattle.cs_match.specs.ConsistentDfa.{tree_in, state_in}
 use Rattle.cs_match.specs.FirstMatch.{AreScanned}
 use Rattle.cs_match.specs.LastPart.{last_part}
 use Rattle.cs_match.specs.LazyDfa.{IsStateNumber}
+use Rattle.cs_match.specs.Work.{byte_work}
 use Rattle.cs_match.specs.States.{state, successor, accepts_before}
 use Rattle.cs_match.proofs.FirstMatchLemmas.{scanned_none, scanned_on, state_on}
+use Rattle.cs_match.proofs.PositionCountLemmas.{scaled}
+use Rattle.cs_match.proofs.SearchWorkLemmas.{walked}
 use Rattle.cs_match.proofs.StateCountLemmas.{grows_none, grows_on}
 use Rattle.cs_match.proofs.TransitionLemmas.{leads_on}
 use Rattle.cs_match.proofs.dfa.LazyDfa.first_accepted.Goals as goal
 
 pub scan-init : goal.scan-init
 unfolding last_part
-scan-init c =
+scan-init g c =
     let right = c.requires.right in
     record {
+      work = omega arith;
       right = right;
       same = refl;
       states = grows_none 0 _ _ refl;
@@ -36,7 +40,7 @@ before_end i n within other =
     ]
 
 pub scan-preserved : goal.scan-preserved
-scan-preserved c =
+scan-preserved g c =
     let s = c.scan.self in
     let t = tree_in s in
     let text = c.args.text.now in
@@ -52,7 +56,9 @@ scan-preserved c =
     let next = leads_on (tree_in new) new.cached.items new.used b c.next-number.result n c.next-number.ensures.leads c.if-number.false in
     let is : n ≡ m = known.at.same in
     let stays : accepts_before t m b ≡ false = sym (ap (λ (u : Tree). accepts_before u n b) same ∙ ap (λ x. accepts_before t x b) is) ∙ next.0 in
+    let walk = walked c.scan.to i (byte_work (tree_in c.args.self.now)) c.scan_known-known.ensures.low (omega arith) in
     record {
+      work = omega (arith, given.work, c.add.ensures, c.next-number.ensures.work, ap byte_work given.same, walk);
       right = c.next-number.ensures.right;
       same = same ∙ given.same;
       states = grows_on c.scan.to 1 (i + 1) _ _ _ given.states c.next-number.ensures.states (omega (arith, c.scan_known-known.ensures.low));
@@ -63,3 +69,20 @@ scan-preserved c =
             (ap (λ (u : Tree). successor u n b) same ∙ ap (λ x. successor t x b) is ∙ state_on t text i lt ∙ ap (λ (u : Tree). state u (last_part (take (i + 1) text))) (sym same)) next.1;
       };
     }
+
+pub returns-then-known-text-clause-work : goal.returns-then-known-text-clause-work
+returns-then-known-text-clause-work g c =
+    let t = tree_in c.args.self.now in
+    let known = c.scan_known-known in
+    let all : known.result.to ≡ length c.args.text.now = c.if-known-text.true in
+    omega (arith, c.scan.invariant.work, c.add.ensures, walked c.scan.to known.result.to (byte_work t) known.ensures.low (omega arith), ap (λ n. n * byte_work t) all)
+
+pub returns-then-number-clause-work : goal.returns-then-number-clause-work
+returns-then-number-clause-work g c =
+    let t = tree_in c.args.self.now in
+    let known = c.scan_known-known in
+    omega (arith, c.scan.invariant.work, c.add.ensures, c.next-number.ensures.work, ap byte_work c.scan.invariant.same, walked c.scan.to known.result.to (byte_work t) known.ensures.low (omega arith))
+
+pub returns-clause-work : goal.returns-clause-work
+returns-clause-work g c =
+    omega (arith, c.scan.invariant.work, scaled c.scan.to (length c.args.text.now) (byte_work (tree_in c.args.self.now)) c.scan.invariant.scanned.within)

@@ -1,11 +1,13 @@
-use Rattle.std.proofs.Common.{◌≡◌, ◌-◌, length}
+use Rattle.std.proofs.Common.{◌≡◌, ◌≤◌, ◌+◌, ◌*◌, ◌-◌, length}
 use Rattle.cs_match.specs.Automaton.{GrowsOver}
 use Rattle.cs_match.specs.ConsistentDfa.{IsConsistent, tree_in}
+use Rattle.cs_match.specs.Work.{state_work, byte_work}
 use Rattle.cs_match.specs.FirstMatch.{HasScanned}
 use Rattle.cs_match.proofs.dfa.LazyDfa.first_accepted.Given as goal
 
 abbrev pub invariant-scan : goal.invariant-scan
-invariant-scan l = record {
+invariant-scan g l = record {
+  work : l.steps + state_work * l.self.used ≤ l.fn.steps + state_work * l.fn.self.used + l.to * byte_work (tree_in l.fn.self);
   right : IsConsistent l.self;
   same : tree_in l.self ≡ tree_in l.fn.self;
   states : GrowsOver l.to l.fn.self.used l.self.used;
@@ -13,4 +15,4 @@ invariant-scan l = record {
 }
 
 abbrev pub decreases-scan : goal.decreases-scan
-decreases-scan l = length l.text - l.to
+decreases-scan g l = length l.text - l.to

@@ -1,27 +1,55 @@
-use Rattle.std.proofs.Common.{length, inl, inr, sym, subst, arith}
+use Rattle.std.proofs.Common.{ℕ, List, ◌≤◌, ◌+◌, ◌-◌, ◌*◌, length, inl, inr, sym, subst, arith}
+use Rattle.std.specs.Prelude.{Option, Some, None, MatchOption}
 use Rattle.std.proofs.lemmas.Bool.{cases_lt}
+use Rattle.cs_syntax.specs.Matching.{Tree}
+use Rattle.cs_match.specs.declared.matcher.Line.{Line}
 use Rattle.cs_match.specs.FirstMatch.{IsSearched}
+use Rattle.cs_match.specs.PartWork.{part_work}
+use Rattle.cs_match.specs.Work.{byte_work, searched_bytes}
+use Rattle.cs_match.proofs.SearchWorkLemmas.{chunk_cost}
 use Rattle.cs_match.proofs.FirstMatchLemmas.{searched_after}
 use Rattle.cs_match.proofs.WholeLineLemmas.{whole_from}
 use Rattle.cs_match.proofs.matcher.Matcher.search_chunks.Goals as goal
 
 pub search_to-requires-clause-rest : goal.search_to-requires-clause-rest
-search_to-requires-clause-rest c = whole_from c.args.block.now c.args.from c.skip_interleaved-start.result c.skip_interleaved-start.ensures.lines.low c.requires.whole
+search_to-requires-clause-rest g c = whole_from c.args.block.now c.args.from c.skip_interleaved-start.result c.skip_interleaved-start.ensures.skipped.lines.low c.requires.whole
 
-pub cut-requires-clause-whole : goal.cut-requires-clause-whole
-cut-requires-clause-whole c = whole_from c.args.block.now c.args.from c.skip_interleaved-start.result c.skip_interleaved-start.ensures.lines.low c.requires.whole
+pub cut-to-requires-clause-whole : goal.cut-to-requires-clause-whole
+cut-to-requires-clause-whole g c = whole_from c.args.block.now c.args.from c.skip_interleaved-start.result c.skip_interleaved-start.ensures.skipped.lines.low c.requires.whole
 
 pub returns-clause-found : goal.returns-clause-found
-returns-clause-found c =
+returns-clause-found g c =
     let searched = c.search_to.result in
     subst (λ to. IsSearched c.args.self.now.tree c.args.block.now c.args.from to searched.line) (sym c.search_to.ensures.to)
-    (searched_after c.args.self.now.tree c.args.block.now c.args.from c.skip_interleaved-start.result c.cut.result searched.line c.skip_interleaved-start.ensures c.search_to.ensures.found)
+    (searched_after c.args.self.now.tree c.args.block.now c.args.from c.skip_interleaved-start.result c.cut-to.result searched.line c.skip_interleaved-start.ensures.skipped c.search_to.ensures.found)
 
 pub returns-clause-moves : goal.returns-clause-moves
-returns-clause-moves c =
-    let skipped = c.skip_interleaved-start.ensures.lines in
+returns-clause-moves g c =
+    let skipped = c.skip_interleaved-start.ensures.skipped.lines in
     let to = c.search_to.ensures.to in
     elim (cases_lt c.skip_interleaved-start.result (length c.args.block.now)) [
-      | inl below ↦ let moves = c.cut.ensures.moves below in omega (arith, skipped.low, to)
-      | inr past ↦ omega (arith, c.cut.ensures.low, c.requires.within, to)
+      | inl below ↦ let moves = c.cut-to.ensures.moves below in omega (arith, skipped.low, to)
+      | inr past ↦ omega (arith, c.cut-to.ensures.low, c.requires.within, to)
     ]
+
+-- a line that is found ends after the start of the search
+found_after : (tree : Tree) (block : List ℕ) (start to : ℕ) (found : Option Line) → IsSearched tree block start to found → MatchOption found (Unit {0}) (λ line. start ≤ line.end)
+found_after tree block start to None searched = tt
+found_after tree block start to (Some line) searched = omega (arith, searched.line.low, searched.line.order)
+
+pub returns-clause-work : goal.returns-clause-work
+returns-clause-work g c =
+    let block = c.args.block.now in
+    let tree = c.args.self.now.tree in
+    let start = c.skip_interleaved-start.result in
+    let skip = c.skip_interleaved-start.ensures in
+    let to = c.cut-to.result in
+    let cut = c.cut-to.ensures in
+    let found = c.search_to.result.line in
+    let skipped = c.skip_interleaved-start.new.steps - c.args.steps.now in
+    let read = c.cut-to.new.steps - c.skip_interleaved-start.new.steps in
+    let cost = chunk_cost tree c.args.from start to (length block) skipped read found skip.skipped.lines.low cut.low cut.high cut.long
+    (omega (arith, skip.most)) (omega (arith, skip.all)) (omega (arith, cut.work)) (omega (arith, cut.near))
+    (found_after tree block start to found c.search_to.ensures.found) in
+    subst (λ to. c.search_to.new.steps + 260 * c.search_to.new.self.states ≤ c.args.steps.now + 260 * c.args.self.now.states + part_work tree c.args.from to found) (sym c.search_to.ensures.to)
+    (omega (arith, c.search_to.ensures.work, cost))

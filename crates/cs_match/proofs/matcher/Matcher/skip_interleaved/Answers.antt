@@ -6,8 +6,8 @@ use Rattle.cs_match.specs.ConsistentDfa.{tree_in}
 use Rattle.cs_match.proofs.DfaLineLemmas.{dfa_rules_out}
 use Rattle.cs_match.proofs.matcher.Matcher.skip_interleaved.Goals as goal
 
-pub returns : goal.returns
-returns c =
+pub returns-clause-skipped : goal.returns-clause-skipped
+returns-clause-skipped g c =
     let h = c.skip_interleaved.ensures.skipped in
     let dfa = c.self.inside.dfa in
     let right = c.self.invariant.0 in

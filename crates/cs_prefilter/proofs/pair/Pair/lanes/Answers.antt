@@ -1,4 +1,4 @@
-use Rattle.std.proofs.Common.{◌≡◌, ℕ, ◌+◌, ◌<◌, get_or, ap, ◌∙◌, bit_or, arith}
+use Rattle.std.proofs.Common.{◌≡◌, ◌+◌, get_or, ap, ◌∙◌, bit_or, arith}
 use Rattle.cs_prefilter.specs.ByteTest.{difference}
 use Rattle.cs_prefilter.specs.Pairs.{pair_difference}
 use Rattle.cs_prefilter.proofs.pair.Pair.lanes.Goals as goal

@@ -1,5 +1,3 @@
-use Rattle.std.proofs.Common.{arith}
-use Rattle.cs_syntax.specs.Matching.{HasMatch}
 use Rattle.cs_syntax.specs.Node.{tree_of}
 use Rattle.cs_prefilter.proofs.RunLemmas.{required}
 use Rattle.cs_prefilter.proofs.prefilter.Prefilter.of.Goals as goal

@@ -1,4 +1,4 @@
-use Rattle.std.proofs.Common.{◌≡◌, Bool, List, get_or, inl, inr, subst, sym, ap, ◌∙◌, arith}
+use Rattle.std.proofs.Common.{◌≡◌, ◌≤◌, Bool, List, length, get_or, inl, inr, subst, sym, ap, ◌∙◌, arith}
 use Rattle.std.specs.Prelude.{Any}
 use Rattle.std.proofs.lemmas.Bool.{cases_lt, cases_eq, false≢true}
 use Rattle.std.proofs.lemmas.List.{get_or_default}
@@ -7,12 +7,13 @@ use Rattle.cs_prefilter.specs.WordAt.{WordAt}
 use Rattle.cs_prefilter.proofs.prefilter.Prefilter.skip.Goals as goal
 
 pub scan-preserved : goal.scan-preserved
-scan-preserved c =
+scan-preserved g c =
     let words = c.args.self.now.0 in
     let text = c.args.text.now in
     let at = c.scan.offset in
     let next = c.next-offset-in-scan.ensures in
     let same : c.deref.result.now ≡ words = c.deref.ensures.value ∙ ap (λ (p : List Word × Bool). p.0) c.self.view_is in
+    let few : length c.deref.result.now ≤ 64 = omega (arith, c.self.inside.few, ap (λ (ws : List Word). length ws) c.deref.ensures.value) in
     record {
       low = omega (arith, next.low, c.scan.invariant.low);
       high = next.high;
@@ -21,17 +22,18 @@ scan-preserved c =
         | inr after ↦ elim (cases_eq k at) [
           | inl here ↦ λ i d within occurs.
               let word = get_or words i d in
-              let found = c.occurs.ensures.1 (subst (λ (ws : List Word). Any (WordAt text at) ws) (sym same)
+              let found = c.occurs.ensures.found.1 (subst (λ (ws : List Word). Any (WordAt text at) ws) (sym same)
               (i, word, within, get_or_default words i word d within, subst (λ n. WordAt text n word) here occurs)) in
               absurd (false≢true (sym c.if-occurs.false ∙ found))
           | inr past ↦ next.none k (omega arith) high
         ]
       ];
+      work = omega (arith, c.scan.invariant.work, c.scan.invariant.low, few, c.occurs.ensures.work, next.work, next.low);
     }
 
 pub returns-then-occurs-clause-stops : goal.returns-then-occurs-clause-stops
-returns-then-occurs-clause-stops c = λ _.
-    subst (λ (ws : List Word). Any (WordAt c.args.text.now c.scan.offset) ws) (c.deref.ensures.value ∙ ap (λ (p : List Word × Bool). p.0) c.self.view_is) (c.occurs.ensures.0 c.if-occurs.true)
+returns-then-occurs-clause-stops g c = λ _.
+    subst (λ (ws : List Word). Any (WordAt c.args.text.now c.scan.offset) ws) (c.deref.ensures.value ∙ ap (λ (p : List Word × Bool). p.0) c.self.view_is) (c.occurs.ensures.found.0 c.if-occurs.true)
 
 pub returns-clause-none : goal.returns-clause-none
-returns-clause-none c k low high = c.scan.invariant.none k low (omega (arith, c.scan-test.false))
+returns-clause-none g c k low high = c.scan.invariant.none k low (omega (arith, c.scan-test.false))

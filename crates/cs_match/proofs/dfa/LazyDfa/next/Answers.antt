@@ -4,7 +4,7 @@ use Rattle.std.specs.Prelude.{bit_or}
 use Rattle.cs_match.proofs.TransitionLemmas.{transition_index, known_leads}
 use Rattle.std.proofs.lemmas.List.{get_or_read}
 use Rattle.cs_match.specs.ConsistentDfa.{tree_in}
-use Rattle.cs_match.proofs.dfa.LazyDfa.next_counted.Goals as goal
+use Rattle.cs_match.proofs.dfa.LazyDfa.next.Goals as goal
 
 pub returns-else-next-clause-leads : goal.returns-else-next-clause-leads
 returns-else-next-clause-leads g c =

@@ -1,0 +1,17 @@
+use Rattle.std.proofs.Common.{◌≤◌, ◌+◌, ◌*◌, ◌-◌, ◌≡◌, length}
+use Rattle.cs_match.specs.Automaton.{GrowsOver}
+use Rattle.cs_match.specs.Deciding.{Decides}
+use Rattle.cs_match.specs.Work.{state_work, searched_byte_work}
+use Rattle.cs_match.specs.Skipped.{AreSkipped}
+use Rattle.cs_match.proofs.matcher.Matcher.next_match_counted.Given as goal
+
+abbrev pub invariant-parts : goal.invariant-parts
+invariant-parts g l = record {
+  skipped : AreSkipped (λ has_match. Decides has_match l.fn.self.tree) l.block l.from l.offset;
+  same : l.self.tree ≡ l.fn.self.tree;
+  states : GrowsOver (l.offset - l.from) l.fn.self.states l.self.states;
+  work : l.steps + state_work * l.self.states ≤ l.fn.steps + state_work * l.fn.self.states + (l.offset - l.from) * searched_byte_work l.fn.self.tree;
+}
+
+abbrev pub decreases-parts : goal.decreases-parts
+decreases-parts g l = length l.block - l.offset

@@ -1,0 +1,19 @@
+-- The work of a prefilter at an offset of a text, in steps. A step is an offset skipped, a word compared, or a byte set of
+-- a word tested. docs/PROMISES.md, "Work".
+use Rattle.std.specs.Prelude.{ℕ, ◌+◌, ◌*◌}
+
+-- the most words of a prefilter
+abbrev pub most_words : ℕ
+most_words = 64
+
+-- the most byte sets of a word
+abbrev pub most_sets : ℕ
+most_sets = 32
+
+-- the most steps of a word that is compared
+abbrev pub word_work : ℕ
+word_work = 1 + most_sets
+
+-- the most steps at an offset, which is skipped, or is a candidate where each word is compared
+abbrev pub offset_work : ℕ
+offset_work = 1 + most_words * word_work

@@ -1,0 +1,72 @@
+// The words of a run, and of several branches together.
+ghost use Rattle.std.specs.Prelude.{◌≡◌, ◌≤◌, ◌+◌, ◌++◌, ◌∷◌, ℕ, List, IfOk, OnOk, [], vec_len};
+ghost use Rattle.cs_prefilter.specs.OffsetWork.{most_words};
+ghost use Rattle.cs_prefilter.specs.Words.{SetsEndAt, HasWordOf};
+ghost use Rattle.cs_prefilter.specs.WordAt.{HasWord};
+
+use crate::rarity::{MOST_SETS, Part, rarest_part};
+use crate::search::Kind;
+use crate::word::Word;
+use crate::words::Words;
+use cs_syntax::ByteSet;
+use std::alloc::{AllocError, Global};
+
+impl Words {
+    /// No words.
+    pub(crate) fn none(alloc: Global) -> Words
+        ensures { result.words.items ≡ [] }
+    {
+        Words {
+            words: Vec::new(alloc),
+            share: 0,
+        }
+    }
+
+    /// The part of the run that is the best to search for, as the only word, if its share is below `most`; the
+    /// frequencies are those of the sets.
+    pub(crate) fn of_run(
+        alloc: Global,
+        kind: Kind,
+        run: &[ByteSet],
+        frequencies: &[u64],
+        most: u64,
+    ) -> Result<Option<Words>, AllocError>
+        ensures { IfOk result (λ words. (line : List ℕ) (j : ℕ) →
+            SetsEndAt line run.now j → HasWordOf line words) }
+    {
+        let Some(part) = rarest_part(kind, run, frequencies) else {
+            return Ok(None);
+        };
+        if part.share >= most {
+            return Ok(None);
+        }
+        let mut words = Words::none(alloc);
+        words.words.push(word_of(alloc, run, part)?)?;
+        words.share = part.share;
+        Ok(Some(words))
+    }
+
+    /// Adds the words of another list.
+    pub(crate) fn append(&mut self, other: Words) -> Result<(), AllocError>
+        requires { vec_len self.old.words + vec_len other.words ≤ most_words }
+        ensures { OnOk result
+            (self.new.words.items ≡ self.old.words.items ++ other.words.items) }
+    {
+        let mut more = other.words;
+        self.words.append(&mut more)?;
+        self.share = self.share.saturating_add(other.share);
+        Ok(())
+    }
+}
+
+/// The word that is the part of the run, up to the most sets of a word.
+fn word_of(alloc: Global, run: &[ByteSet], part: Part) -> Result<Word, AllocError>
+    ensures { IfOk result (λ word. (line : List ℕ) (j : ℕ) →
+        SetsEndAt line run.now j → HasWord (word ∷ []) line) }
+{
+    let from = part.from.min(run.len());
+    let len = MOST_SETS.min(run.len() - from);
+    let mut sets = Vec::new(alloc);
+    sets.extend_from_slice(&run[from..from + len])?;
+    Ok(Word { sets })
+}

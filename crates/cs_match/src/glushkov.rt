@@ -9,7 +9,7 @@ ghost use Rattle.cs_syntax.specs.NodeList.{trees_of};
 ghost use Rattle.cs_syntax.specs.Matching.{cat, alt};
 ghost use Rattle.cs_match.specs.Glushkov.{position_count, position_count_of, repeats, repeats_of, nullable, nullable_all, nullable_some, is_final, is_final_all, is_final_some, accepts, loop_ends, loop_ends_of, step, IsExpanded};
 ghost use Rattle.cs_match.specs.Entered.{entered, entered_all, entered_each, AreShifted};
-ghost use Rattle.cs_match.specs.Parts.{run, runs, shape_of, shapes_of, size_of, sizes_of};
+ghost use Rattle.cs_match.specs.Parts.{run, runs, options, shape_of, shapes_of, size_of, sizes_of};
 ghost use Rattle.cs_match.specs.Size.{nodes};
 ghost use Rattle.cs_match.specs.Work.{words, step_work};
 ghost use Rattle.cs_match.specs.Masks.{IsScratch};
@@ -294,7 +294,10 @@ fn find_ends<L: Ledger>(
     match part {
         Part::Run(n) => end_run(*n, positions, cursor),
         Part::Alternation(sequences) => end_sequences(sequences, positions, cursor, steps),
-        Part::Optional(n) => end_run(*n, positions, cursor).or(Ends::within(true)),
+        Part::Options(n, count) => {
+            steps.add(*count);
+            end_options(*n, *count, positions, cursor)
+        }
         Part::Cat(parts) => find_ends_all(parts, positions, loops, here, cursor, steps),
         Part::Alt(parts) => find_ends_some(parts, positions, loops, here, cursor, steps),
         Part::Rep(x, least) => {
@@ -357,6 +360,49 @@ fn enter_run(
     entries.put(cursor.position, enter);
     cursor.position += n;
     positions.get(cursor.position - 1)
+}
+
+/// The ends of options: the last position of each, or the empty span.
+fn end_options(n: usize, count: usize, positions: &PositionSet, cursor: &mut Cursor) -> Ends
+    requires { cursor.old.position + position_count (options n count) ≤ length positions.now }
+    ensures accepting { (here : LookAround) → result.accepting
+        ≡ is_final (options n count) (drop cursor.old.position positions.now) here }
+    ensures nullable { (here : LookAround) → result.nullable ≡ nullable (options n count) here }
+    ensures position { cursor.new.position ≡ cursor.old.position + position_count (options n count) }
+    ensures repeat { cursor.new.repeat ≡ cursor.old.repeat }
+{
+    let mut all = Ends::within(true);
+    for k in 0..count {
+        let ends = end_run(n, positions, cursor);
+        all = all.then(ends.or(Ends::within(true)));
+    }
+    all
+}
+
+/// Enters options one after another, each where it can begin, and returns whether they accept.
+fn enter_options(
+    n: usize,
+    count: usize,
+    enter: bool,
+    positions: &PositionSet,
+    entries: &mut PositionSet,
+    cursor: &mut Cursor,
+) -> bool
+    requires room { cursor.old.position + position_count (options n count) ≤ length positions.now }
+    requires shifted { AreShifted cursor.old.position positions.now entries.old }
+    ensures accepting { (here : LookAround) → result
+        ≡ accepts (options n count) enter (drop cursor.old.position positions.now) here }
+    ensures entries { (here : LookAround) → entries.new ≡ take cursor.old.position entries.old
+        ++ (entered (options n count) enter (drop cursor.old.position positions.now) here
+        ++ drop (cursor.old.position + position_count (options n count)) entries.old) }
+    ensures position { cursor.new.position ≡ cursor.old.position + position_count (options n count) }
+    ensures repeat { cursor.new.repeat ≡ cursor.old.repeat }
+{
+    let mut accepting = enter;
+    for k in 0..count {
+        accepting = enter_run(n, accepting, positions, entries, cursor) | accepting;
+    }
+    accepting
 }
 
 /// The ends of an alternation of sequences: their last positions.
@@ -533,7 +579,10 @@ fn advance<L: Ledger>(
         Part::Alternation(sequences) => {
             enter_sequences(sequences, enter, at.positions, entries, cursor, steps)
         }
-        Part::Optional(n) => enter_run(*n, enter, at.positions, entries, cursor) | enter,
+        Part::Options(n, count) => {
+            steps.add(*count);
+            enter_options(*n, *count, enter, at.positions, entries, cursor)
+        }
         Part::Cat(parts) => advance_all(parts, enter, at, entries, cursor, steps),
         Part::Alt(parts) => advance_each(parts, enter, at, entries, cursor, steps),
         Part::Rep(x, least) => {

@@ -2,7 +2,7 @@
 // once: the first, bottom-up, computes for each repeat whether its body is final; the second, top-down, finds which
 // positions are entered. Then all positions are moved over the byte at once. Cursors count the positions and repeats
 // that were visited.
-ghost use Rattle.std.specs.Prelude.{◌≡◌, ℕ, ◌+◌, ◌*◌, ◌<◌, ◌≤◌, ◌^◌, ◌&&◌, ◌||◌, IfOk, length, take, drop, min, true, false, nat_eq, ◌++◌, slice_set};
+ghost use Rattle.std.specs.Prelude.{◌≡◌, ℕ, ◌+◌, ◌*◌, ◌<◌, ◌≤◌, ◌^◌, ◌&&◌, ◌||◌, IfOk, length, take, drop, min, true, false, ◌++◌, slice_set};
 ghost use Rattle.std.proofs.Math.Seq.{sets};
 ghost use Rattle.cs_syntax.specs.Node.{tree_of};
 ghost use Rattle.cs_syntax.specs.NodeList.{trees_of};
@@ -26,34 +26,6 @@ use crate::steps::Steps;
 use cs_syntax::Node;
 use std::alloc::{AllocError, Global};
 use std::sync::ledger::Ledger;
-
-/// The number of positions of the tree.
-#[cycle(count)]
-pub(crate) fn count(node: &Node) -> usize
-    requires { position_count (tree_of node.now) < 2 ^ 64 }
-    ensures { result ≡ position_count (tree_of node.now) }
-{
-    match node {
-        Node::Set(_) => 1,
-        Node::Chars(_) => 2,
-        Node::Cat(parts) => count_all(parts),
-        Node::Alt(parts) => count_all(parts),
-        Node::Rep(x, _, _) => count(x),
-        _ => 0,
-    }
-}
-
-#[cycle(count)]
-fn count_all(parts: &[Node]) -> usize
-    requires { position_count_of (trees_of parts.now) < 2 ^ 64 }
-    ensures { result ≡ position_count_of (trees_of parts.now) }
-{
-    let mut n = 0;
-    for part in parts {
-        n += count(part);
-    }
-    n
-}
 
 /// The number of repeats of the tree.
 #[cycle(count_repeats)]
@@ -134,17 +106,6 @@ impl Ends {
         Ends {
             accepting: self.accepting || other.accepting,
             nullable: self.nullable || other.nullable,
-        }
-    }
-
-    /// The ends of a loop of at least `least` iterations.
-    fn repeated(self, least: u32) -> Ends
-        ensures accepting { result.accepting ≡ self.accepting }
-        ensures nullable { result.nullable ≡ (nat_eq least 0 || self.nullable) }
-    {
-        Ends {
-            accepting: self.accepting,
-            nullable: least == 0 || self.nullable,
         }
     }
 }
@@ -304,7 +265,7 @@ fn find_ends<L: Ledger>(
             let own = next_repeat(loops.len(), cursor);
             let ends = find_ends(x, positions, loops, here, cursor, steps);
             note_loop(loops, own, ends.accepting);
-            ends.repeated(*least)
+            Ends::within(*least == 0).or(ends)
         }
         Part::LineStart => Ends::within(here.first),
         Part::LineEnd => Ends::within(here.last),

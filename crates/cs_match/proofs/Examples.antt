@@ -12,7 +12,7 @@ use Rattle.cs_match.specs.PositionSet.{positions_of, intersect}
 use Rattle.cs_match.specs.Glushkov.{repeats, loop_ends, accepts}
 use Rattle.cs_match.specs.Sequences.{firsts_of, lasts_of}
 use Rattle.cs_match.specs.Entered.{entered, entered_each, position_list, moved}
-use Rattle.cs_match.specs.Parts.{run, runs, optional_run}
+use Rattle.cs_match.specs.Parts.{run, runs, optional_run, options}
 use Rattle.cs_match.specs.declared.position.Position.TheVariants.{Bytes, Begun, Taken}
 use Rattle.cs_syntax.specs.declared.char_step.CharStep.TheVariants.{Begins}
 use Rattle.cs_match.specs.Skipping.{AreWholeLines}
@@ -141,9 +141,13 @@ no_state_is_forgotten_where_there_is_room h = omega (arith, h.kept (omega arith)
 entries_of_a_run : entered (run 3) true (true ∷ false ∷ true ∷ []) (record { first = false; last = false; edge = false }) ≡ true ∷ true ∷ false ∷ []
 entries_of_a_run = refl
 
--- an optional run accepts where it can begin, with no position in the set
+-- an option accepts where it can begin, with no position in the set, and the options after one that is left are entered
 optional_run_is_left : accepts (optional_run 2) true (false ∷ false ∷ []) (record { first = false; last = false; edge = false }) ≡ true
 optional_run_is_left = refl
+
+entries_of_options : entered (options 2 3) false (false ∷ true ∷ true ∷ false ∷ false ∷ false ∷ []) (record { first = false; last = false; edge = false })
+    ≡ false ∷ false ∷ true ∷ true ∷ true ∷ false ∷ []
+entries_of_options = refl
 
 -- `(a|b)` is one set; `(a|)` has a branch that is none
 sets_are_joined : expansion (alt (more (one_of (true ∷ [])) (more (one_of (false ∷ true ∷ [])) none))) ≡ one_of (true ∷ true ∷ [])

@@ -4,12 +4,12 @@ use Rattle.std.specs.Prelude.{None, map}
 use Rattle.std.proofs.lemmas.List.Sums.{sum_by-cons}
 use Rattle.cs_syntax.specs.Matching.{empty, one_of, one_char, cat, alt, rep, line_start, line_end, word_edge, not_word_edge, none, more}
 use Rattle.cs_syntax.specs.TreeList.{append}
-use Rattle.cs_match.specs.Parts.{run, runs, optional_run, shape_of, shape_step, shapes_of, size_of, size_step, sizes_of}
+use Rattle.cs_match.specs.Parts.{run, runs, options, shape_of, shape_step, shapes_of, size_of, size_step, sizes_of}
 use Rattle.cs_match.specs.Work.{words}
 use Rattle.cs_match.specs.Size.{nodes, nodes_of}
 use Rattle.cs_match.specs.Glushkov.{position_count, position_count_of}
 use Rattle.cs_match.specs.declared.parts.Part.{Part, Part-F, fold-roll-Part}
-use Rattle.cs_match.specs.declared.parts.Part.TheVariants.{Run, Alternation, Optional, Cat, Alt, Rep, LineStart, LineEnd, WordEdge, NotWordEdge, rolls-Run, rolls-Alternation, rolls-Optional, rolls-Cat, rolls-Alt, rolls-Rep, rolls-LineStart, rolls-LineEnd, rolls-WordEdge, rolls-NotWordEdge}
+use Rattle.cs_match.specs.declared.parts.Part.TheVariants.{Run, Alternation, Options, Cat, Alt, Rep, LineStart, LineEnd, WordEdge, NotWordEdge, rolls-Run, rolls-Alternation, rolls-Options, rolls-Cat, rolls-Alt, rolls-Rep, rolls-LineStart, rolls-LineEnd, rolls-WordEdge, rolls-NotWordEdge}
 use Rattle.cs_syntax.specs.Matching.{Tree, Trees}
 
 pub shape_of-Run : (n : ℕ) → shape_of (Run n) ≡ run n
@@ -18,8 +18,8 @@ shape_of-Run n = ap shape_of (sym (rolls-Run n)) ∙ fold-roll-Part Tree shape_s
 pub shape_of-Alternation : (ns : List ℕ) → shape_of (Alternation ns) ≡ alt (runs ns)
 shape_of-Alternation ns = ap shape_of (sym (rolls-Alternation ns)) ∙ fold-roll-Part Tree shape_step (Part-F.Alternation ns)
 
-pub shape_of-Optional : (n : ℕ) → shape_of (Optional n) ≡ optional_run n
-shape_of-Optional n = ap shape_of (sym (rolls-Optional n)) ∙ fold-roll-Part Tree shape_step (Part-F.Optional n)
+pub shape_of-Options : (n count : ℕ) → shape_of (Options n count) ≡ options n count
+shape_of-Options n count = ap shape_of (sym (rolls-Options n count)) ∙ fold-roll-Part Tree shape_step (Part-F.Options n count)
 
 pub shape_of-Cat : (parts : Vec Part Global) → shape_of (Cat parts) ≡ cat (shapes_of parts.items)
 shape_of-Cat parts = ap shape_of (sym (rolls-Cat parts)) ∙ fold-roll-Part Tree shape_step (Part-F.Cat parts)
@@ -54,7 +54,7 @@ pub shapes_last : (xs : List Part) (x : Part) → shapes_of (xs ++ x ∷ []) ≡
 shapes_last [] x = refl
 shapes_last (y ∷ xs) x = ap (more (shape_of y)) (shapes_last xs x)
 
-pub ruleset part_rules = (shape_of-Run, shape_of-Optional, shape_of-Cat, shape_of-Alt, shape_of-Rep, shape_of-LineStart, shape_of-LineEnd, shape_of-WordEdge, shape_of-NotWordEdge)
+pub ruleset part_rules = (shape_of-Run, shape_of-Options, shape_of-Cat, shape_of-Alt, shape_of-Rep, shape_of-LineStart, shape_of-LineEnd, shape_of-WordEdge, shape_of-NotWordEdge)
 
 pub shapes_none : (xs : List Part) → length xs ≡ 0 → shapes_of xs ≡ none
 shapes_none [] h = refl
@@ -71,8 +71,8 @@ size_of-Run n = ap size_of (sym (rolls-Run n)) ∙ fold-roll-Part ℕ size_step 
 pub size_of-Alternation : (ns : List ℕ) → size_of (Alternation ns) ≡ 1 + words (position_count_of (runs ns))
 size_of-Alternation ns = ap size_of (sym (rolls-Alternation ns)) ∙ fold-roll-Part ℕ size_step (Part-F.Alternation ns)
 
-pub size_of-Optional : (n : ℕ) → size_of (Optional n) ≡ 1
-size_of-Optional n = ap size_of (sym (rolls-Optional n)) ∙ fold-roll-Part ℕ size_step (Part-F.Optional n)
+pub size_of-Options : (n count : ℕ) → size_of (Options n count) ≡ 1 + count
+size_of-Options n count = ap size_of (sym (rolls-Options n count)) ∙ fold-roll-Part ℕ size_step (Part-F.Options n count)
 
 pub size_of-Cat : (parts : Vec Part Global) → size_of (Cat parts) ≡ 1 + sizes_of parts.items
 size_of-Cat parts = ap size_of (sym (rolls-Cat parts)) ∙ fold-roll-Part ℕ size_step (Part-F.Cat parts)
@@ -111,7 +111,7 @@ pub sizes_last : (xs : List Part) (x : Part) → sizes_of (xs ++ x ∷ []) ≡ s
 sizes_last [] x = omega (arith, sizes_cons x [])
 sizes_last (y ∷ xs) x = sizes_cons y (xs ++ x ∷ []) ∙ omega (arith, sizes_last xs x, sizes_cons y xs)
 
-pub ruleset size_rules = (size_of-Run, size_of-Alternation, size_of-Optional, size_of-Cat, size_of-Alt, size_of-Rep, size_of-LineStart, size_of-LineEnd, size_of-WordEdge, size_of-NotWordEdge)
+pub ruleset size_rules = (size_of-Run, size_of-Alternation, size_of-Options, size_of-Cat, size_of-Alt, size_of-Rep, size_of-LineStart, size_of-LineEnd, size_of-WordEdge, size_of-NotWordEdge)
 
 -- a node has at most two positions
 mutual

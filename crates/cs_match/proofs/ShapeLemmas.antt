@@ -4,9 +4,8 @@ use Rattle.std.proofs.Common.{◌≡◌, ℕ, zero, suc, ◌+◌, ◌≤◌, Boo
 use Rattle.std.proofs.Math.Bool.{and-false, and_assoc}
 use Rattle.std.proofs.Math.Seq.{take-take}
 use Rattle.std.proofs.lemmas.List.{drop-drop, drop-take}
-use Rattle.cs_syntax.specs.Matching.{Tree, Trees, one_of, cat, alt, none, more}
+use Rattle.cs_syntax.specs.Matching.{Tree, Trees, cat, alt, none, more}
 use Rattle.cs_syntax.specs.TreeList.{append}
-use Rattle.cs_syntax.proofs.TreeListLemmas.{append_assoc_trees, append_none}
 use Rattle.cs_match.specs.declared.look_around.LookAround.{LookAround}
 use Rattle.cs_match.specs.Glushkov.{position_count, position_count_of, repeats, repeats_of, nullable, nullable_all, nullable_some, is_final, is_final_all, accepts, loop_ends, loop_ends_of}
 use Rattle.cs_match.specs.Expansion.{copies}
@@ -141,9 +140,6 @@ pub before_same : (us ts ss : Trees) → HaveSameShape (cat ts) (cat ss) → Hav
 before_same none ts ss h = h
 before_same (more u us) ts ss h = cat_rest u _ _ (before_same us ts ss h)
 
-after_same : (us vs ts : Trees) → HaveSameShape (cat us) (cat vs) → HaveSameShape (cat (append us ts)) (cat (append vs ts))
-after_same us vs ts h = shape_trans _ _ _ (shape_sym _ _ (grouped us ts)) (shape_trans _ _ _ (cat_first (cat us) (cat vs) ts h) (grouped vs ts))
-
 -- runs
 pub position_count_run : (n : ℕ) → position_count (run n) ≡ n
 position_count_run zero = refl
@@ -180,41 +176,18 @@ entered_run (suc n) enter (m ∷ ms) a h = ap (λ xs. enter ∷ xs) (entered_run
     by true enter = refl
     by false enter = and-false enter
 
--- a run is continued by a run
-pub run_more : (us : Trees) (m n k : ℕ) (t : Tree) (ts : Trees) → HaveSameShape t (run n) → k ≡ m + n →
-    HaveSameShape (cat (append us (more (run m) (more t ts)))) (cat (append us (more (run k) ts)))
-run_more us m n k t ts h e =
-    before_same us _ _
-    (shape_trans _ _ _ (cat_rest (run m) _ _ (cat_first t (run n) ts h))
-    (shape_trans _ _ _ (cat_rest (run m) _ _ (grouped (copies n (one_of []) none) ts))
-    (shape_trans _ _ _ (grouped (copies m (one_of []) none) _)
-    (shape_trans _ _ _ (same_tree (appended m n (one_of []) ts ∙ ap (λ (i : ℕ). append (copies i (one_of []) none) ts) (sym e)))
-    (shape_sym _ _ (grouped (copies k (one_of []) none) ts))))))
+-- copies are continued by copies of the same tree
+pub copies_more : (x : Tree) (m n : ℕ) (ts : Trees) →
+    HaveSameShape (cat (more (cat (copies m x none)) (more (cat (copies n x none)) ts))) (cat (more (cat (copies (m + n) x none)) ts))
+copies_more x m n ts =
+    shape_trans _ _ _ (cat_rest (cat (copies m x none)) _ _ (grouped (copies n x none) ts))
+    (shape_trans _ _ _ (grouped (copies m x none) _)
+    (shape_trans _ _ _ (subst (λ ws. HaveSameShape (cat (append (copies m x none) (append (copies n x none) ts))) (cat ws)) (appended m) (shape_refl _))
+    (shape_sym _ _ (grouped (copies (m + n) x none) ts))))
   where
-    same_tree : {us vs : Trees} → us ≡ vs → HaveSameShape (cat us) (cat vs)
-    same_tree {us} {vs} e = subst (λ ws. HaveSameShape (cat us) (cat ws)) e (shape_refl (cat us))
-
-    appended : (m n : ℕ) (t : Tree) (ts : Trees) → append (copies m t none) (append (copies n t none) ts) ≡ append (copies (m + n) t none) ts
-    appended zero n t ts = let e : n ≡ 0 + n = omega arith in ap (λ (i : ℕ). append (copies i t none) ts) e
-    appended (suc m) n t ts = let e : suc (m + n) ≡ suc m + n = omega arith in ap (more t) (appended m n t ts) ∙ ap (λ (i : ℕ). append (copies i t none) ts) e
-
--- a run and a part follow
-pub part_more : (us vs : Trees) (m : ℕ) (t s : Tree) (ts : Trees) → HaveSameShape t s → HaveSameShape (cat (append us (more (run m) none))) (cat vs) →
-    HaveSameShape (cat (append us (more (run m) (more t ts)))) (cat (append (append vs (more s none)) (more (run 0) ts)))
-part_more us vs m t s ts h pushed =
-    shape_trans _ _ _ (before_same us _ _ (cat_rest (run m) _ _ (cat_first t s ts h)))
-    (subst (λ ws. HaveSameShape (cat ws) (cat (append (append vs (more s none)) (more (run 0) ts)))) (append_assoc_trees us (more (run m) none) (more s ts))
-    (shape_trans _ _ _ (after_same _ vs (more s ts) pushed)
-    (subst (λ ws. HaveSameShape (cat (append vs (more s ts))) (cat ws)) (sym (append_assoc_trees vs (more s none) (more (run 0) ts)))
-    (before_same vs _ _ (cat_rest s _ _ (shape_sym _ _ (grouped none ts)))))))
-
--- a run alone
-pub only_run : (m : ℕ) → HaveSameShape (cat (more (run m) none)) (run m)
-only_run m = subst (λ ws. HaveSameShape (cat (more (run m) none)) (cat ws)) (append_none (copies m (one_of []) none)) (grouped (copies m (one_of []) none) none)
-
--- an empty run is left out
-pub no_run : (us : Trees) → HaveSameShape (cat (append us (more (run 0) none))) (cat us)
-no_run us = subst (λ ws. HaveSameShape (cat (append us (more (run 0) none))) (cat ws)) (append_none us) (before_same us _ _ (grouped none none))
+    appended : (m : ℕ) → append (copies m x none) (append (copies n x none) ts) ≡ append (copies (m + n) x none) ts
+    appended zero = let e : n ≡ 0 + n = omega arith in ap (λ (i : ℕ). append (copies i x none) ts) e
+    appended (suc m) = let e : suc (m + n) ≡ suc m + n = omega arith in ap (more x) (appended m) ∙ ap (λ (i : ℕ). append (copies i x none) ts) e
 
 -- the number of positions of parts in a concatenation
 pub position_count_append : (us vs : Trees) → position_count_of (append us vs) ≡ position_count_of us + position_count_of vs

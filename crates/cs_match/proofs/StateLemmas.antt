@@ -1,7 +1,7 @@
 -- The state after a prefix of a line has its positions and its look-around.
 use Rattle.std.proofs.Common.{◌≡◌, ℕ, zero, suc, ◌+◌, ◌-◌, ◌<◌, ◌≤◌, Bool, true, false, ◌&&◌, List, [], ◌∷◌, ◌++◌, take, length, refl, sym, ◌∙◌, ap, arith, inl, inr}
 use Rattle.std.specs.Prelude.{slice_index, nat_eq, ◌≢◌}
-use mathlib.Core.Bool.{xor}
+use mathlib.Core.Bool.{xor, beq, not}
 use Rattle.std.proofs.lemmas.List.{take_more, take_all, length-replicate}
 use Rattle.std.proofs.lemmas.Bool.{lt-ltb, le-ltb, le-leb, eq-eqb, ne_eqb, cases_eq}
 use Rattle.cs_match.proofs.GlushkovLemmas.{length-step, length-positions}
@@ -41,6 +41,13 @@ and-xor true false false = refl
 and-xor false true true = refl
 and-xor false true false = refl
 and-xor false false c = refl
+
+pub xor-is : (a b : Bool) → not (beq a b) ≡ xor a b
+unfolding xor
+xor-is true true = refl
+xor-is true false = refl
+xor-is false true = refl
+xor-is false false = refl
 
 -- a step over a byte, by its parts
 module _ (t u : Tree) (n : State) (b : ℕ) (edge word : Bool) (same : u ≡ t) (is_word : word ≡ is_word_for t b) (is_edge : edge ≡ xor n.word word) where

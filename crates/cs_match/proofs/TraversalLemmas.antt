@@ -2,7 +2,7 @@
 -- part adds.
 use Rattle.std.proofs.Common.{◌≡◌, ℕ, zero, suc, ◌+◌, ◌-◌, ◌≤◌, inl, inr, ◌<◌, ◌++◌, ◌||◌, ◌&&◌, List, [], ◌∷◌, Bool, true, false, take, drop, set, length, get_or, min, refl, sym, ◌∙◌, ap, arith, append_assoc, length-append, length-drop}
 use Rattle.std.proofs.lemmas.Bool.{cases_lt}
-use Rattle.std.proofs.Math.Bool.{and-false, or-false, or-true, or_assoc}
+use Rattle.std.proofs.Math.Bool.{and-false, and-true, or-false, or-true, or_assoc}
 use Rattle.std.proofs.Math.ListN.{drop_of_length-le}
 use Rattle.std.proofs.Math.Seq.{sets, sets-eq, length-sets, set_out, set_comm, take-take, get_or-take}
 use Rattle.std.proofs.lemmas.List.{append-nil, take-append-drop, drop-drop, drop-take, length-take, get_or-drop, take_at, drop_at}
@@ -10,7 +10,7 @@ use Rattle.cs_syntax.specs.Matching.{Tree, Trees, empty, one_of, one_char, cat, 
 use Rattle.cs_match.specs.declared.look_around.LookAround.{LookAround}
 use Rattle.cs_match.specs.Glushkov.{position_count, position_count_of, repeats, repeats_of, nullable, nullable_all, nullable_some, is_final, is_final_all, is_final_some, accepts, loop_ends, loop_ends_of}
 use Rattle.cs_match.specs.Entered.{entered, entered_all, entered_each, AreShifted}
-use Rattle.cs_match.specs.Parts.{run, optional_run}
+use Rattle.cs_match.specs.Parts.{run, optional_run, options, HaveSameShape}
 use Rattle.cs_match.proofs.GlushkovLemmas.{cat_bools, alt_bools}
 use Rattle.cs_match.proofs.EnteredLemmas.{length-entered}
 use Rattle.cs_match.proofs.ShapeLemmas.{entered_run, is_final_run, position_count_run, repeats_run, loop_ends_run}
@@ -340,3 +340,28 @@ accepts_optional n enter ms a = rw (is_final_optional n ms a, nullable_optional 
 
 pub entered_optional : (n : ℕ) (enter : Bool) (ms : List Bool) (a : LookAround) → entered (optional_run n) enter ms a ≡ entered (run n) enter ms a
 entered_optional n enter ms a = append-nil _ ∙ entered-prefix (run n) enter ms a
+
+-- options one after another
+pub repeats_options : (n count : ℕ) → repeats (options n count) ≡ 0
+repeats_options n zero = refl
+repeats_options n (suc count) = omega (arith, repeats_optional n, repeats_options n count)
+
+pub loop_ends_options : (n count : ℕ) (ms : List Bool) (a : LookAround) → loop_ends (options n count) ms a ≡ []
+loop_ends_options n zero ms a = refl
+loop_ends_options n (suc count) ms a = rw (loop_ends_optional n ms a) (loop_ends_options n count (drop (position_count (optional_run n)) ms) a)
+
+-- options with positions are not more than these
+pub few_options : (n count : ℕ) → 0 < n → count ≤ position_count (options n count)
+few_options n zero some = omega arith
+few_options n (suc count) some = omega (arith, few_options n count some, position_count_optional n, some)
+
+-- a concatenation of one part
+pub only_one : (t : Tree) → HaveSameShape (cat (more t none)) t
+only_one t = record {
+  positions = omega arith;
+  repeats = omega arith;
+  nullable = λ a. and-true _;
+  final = λ ms a. or-false _ ∙ and-true _ ∙ is_final-prefix t ms a;
+  ends = λ ms a. append-nil _;
+  entered = λ enter ms a. append-nil _ ∙ entered-prefix t enter ms a;
+}

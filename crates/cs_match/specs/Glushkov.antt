@@ -208,6 +208,6 @@ abbrev mutual
   AreExpanded none = Unit {0}
   AreExpanded (more t ts) = IsExpanded t × AreExpanded ts
 
--- an expanded tree, with the number of its positions and of its repeats, and the look-behind bits that it reads
-abbrev pub IsProgram : Tree → ℕ → ℕ → LookBehind → Type 0
-IsProgram t n m bits = (n ≡ position_count t) × (m ≡ repeats t) × (bits ≡ look_behind t) × IsExpanded t
+-- an expanded tree, with the number of its repeats and the look-behind bits that it reads
+abbrev pub IsProgram : Tree → ℕ → LookBehind → Type 0
+IsProgram t n bits = (n ≡ repeats t) × (bits ≡ look_behind t) × IsExpanded t

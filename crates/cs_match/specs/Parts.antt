@@ -24,11 +24,15 @@ runs (n ∷ ns) = more (run (suc n)) (runs ns)
 abbrev pub optional_run : ℕ → Tree
 optional_run n = alt (more (run n) (more (run 0) none))
 
+-- such options one after another
+abbrev pub options : ℕ → ℕ → Tree
+options n count = cat (copies count (optional_run n) none)
+
 -- the shape of a part: a tree with such sets
 abbrev pub shape_step : Part-F Tree → Tree
 shape_step (Part-F.Run n) = run n
 shape_step (Part-F.Alternation ns) = alt (runs ns)
-shape_step (Part-F.Optional n) = optional_run n
+shape_step (Part-F.Options n count) = options n count
 shape_step (Part-F.Cat parts) = cat (trees parts.items)
 shape_step (Part-F.Alt parts) = alt (trees parts.items)
 shape_step (Part-F.Rep x n) = rep x.value n None
@@ -43,11 +47,12 @@ shape_of = fold-Part Tree shape_step
 abbrev pub shapes_of : List Part → Trees
 shapes_of ps = trees (map shape_of ps)
 
--- the steps of a traversal: it visits each part once, and of an alternation of sequences each word of its positions
+-- the steps of a traversal: it visits each part and each option once, and of an alternation of sequences each word of
+-- its positions
 abbrev pub size_step : Part-F ℕ → ℕ
 size_step (Part-F.Run n) = 1
 size_step (Part-F.Alternation ns) = 1 + words (position_count_of (runs ns))
-size_step (Part-F.Optional n) = 1
+size_step (Part-F.Options n count) = 1 + count
 size_step (Part-F.Cat parts) = 1 + sum parts.items
 size_step (Part-F.Alt parts) = 1 + sum parts.items
 size_step (Part-F.Rep x n) = 1 + x.value

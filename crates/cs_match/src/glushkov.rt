@@ -2,14 +2,14 @@
 // once: the first, bottom-up, computes for each repeat whether its body is final; the second, top-down, finds which
 // positions are entered. Then all positions are moved over the byte at once. Cursors count the positions and repeats
 // that were visited.
-ghost use Rattle.std.specs.Prelude.{◌≡◌, ℕ, ◌+◌, ◌*◌, ◌<◌, ◌≤◌, ◌^◌, ◌&&◌, ◌||◌, IfOk, length, take, drop, min, true, false, nat_eq, ◌++◌, slice_set};
+ghost use Rattle.std.specs.Prelude.{◌≡◌, ℕ, ◌+◌, ◌*◌, ◌<◌, ◌≤◌, ◌^◌, ◌&&◌, ◌||◌, IfOk, length, take, drop, min, true, false, ◌++◌, slice_set};
 ghost use Rattle.std.proofs.Math.Seq.{sets};
 ghost use Rattle.cs_syntax.specs.Node.{tree_of};
 ghost use Rattle.cs_syntax.specs.NodeList.{trees_of};
 ghost use Rattle.cs_syntax.specs.Matching.{cat, alt};
 ghost use Rattle.cs_match.specs.Glushkov.{position_count, position_count_of, repeats, repeats_of, nullable, nullable_all, nullable_some, is_final, is_final_all, is_final_some, accepts, loop_ends, loop_ends_of, step, IsExpanded};
 ghost use Rattle.cs_match.specs.Entered.{entered, entered_all, entered_each, AreShifted};
-ghost use Rattle.cs_match.specs.Parts.{run, runs, shape_of, shapes_of, size_of, sizes_of};
+ghost use Rattle.cs_match.specs.Parts.{run, runs, options, shape_of, shapes_of, size_of, sizes_of};
 ghost use Rattle.cs_match.specs.Size.{nodes};
 ghost use Rattle.cs_match.specs.Work.{words, step_work};
 ghost use Rattle.cs_match.specs.Masks.{IsScratch};
@@ -26,34 +26,6 @@ use crate::steps::Steps;
 use cs_syntax::Node;
 use std::alloc::{AllocError, Global};
 use std::sync::ledger::Ledger;
-
-/// The number of positions of the tree.
-#[cycle(count)]
-pub(crate) fn count(node: &Node) -> usize
-    requires { position_count (tree_of node.now) < 2 ^ 64 }
-    ensures { result ≡ position_count (tree_of node.now) }
-{
-    match node {
-        Node::Set(_) => 1,
-        Node::Chars(_) => 2,
-        Node::Cat(parts) => count_all(parts),
-        Node::Alt(parts) => count_all(parts),
-        Node::Rep(x, _, _) => count(x),
-        _ => 0,
-    }
-}
-
-#[cycle(count)]
-fn count_all(parts: &[Node]) -> usize
-    requires { position_count_of (trees_of parts.now) < 2 ^ 64 }
-    ensures { result ≡ position_count_of (trees_of parts.now) }
-{
-    let mut n = 0;
-    for part in parts {
-        n += count(part);
-    }
-    n
-}
 
 /// The number of repeats of the tree.
 #[cycle(count_repeats)]
@@ -134,17 +106,6 @@ impl Ends {
         Ends {
             accepting: self.accepting || other.accepting,
             nullable: self.nullable || other.nullable,
-        }
-    }
-
-    /// The ends of a loop of at least `least` iterations.
-    fn repeated(self, least: u32) -> Ends
-        ensures accepting { result.accepting ≡ self.accepting }
-        ensures nullable { result.nullable ≡ (nat_eq least 0 || self.nullable) }
-    {
-        Ends {
-            accepting: self.accepting,
-            nullable: least == 0 || self.nullable,
         }
     }
 }
@@ -294,14 +255,17 @@ fn find_ends<L: Ledger>(
     match part {
         Part::Run(n) => end_run(*n, positions, cursor),
         Part::Alternation(sequences) => end_sequences(sequences, positions, cursor, steps),
-        Part::Optional(n) => end_run(*n, positions, cursor).or(Ends::within(true)),
+        Part::Options(n, count) => {
+            steps.add(*count);
+            end_options(*n, *count, positions, cursor)
+        }
         Part::Cat(parts) => find_ends_all(parts, positions, loops, here, cursor, steps),
         Part::Alt(parts) => find_ends_some(parts, positions, loops, here, cursor, steps),
         Part::Rep(x, least) => {
             let own = next_repeat(loops.len(), cursor);
             let ends = find_ends(x, positions, loops, here, cursor, steps);
             note_loop(loops, own, ends.accepting);
-            ends.repeated(*least)
+            Ends::within(*least == 0).or(ends)
         }
         Part::LineStart => Ends::within(here.first),
         Part::LineEnd => Ends::within(here.last),
@@ -357,6 +321,49 @@ fn enter_run(
     entries.put(cursor.position, enter);
     cursor.position += n;
     positions.get(cursor.position - 1)
+}
+
+/// The ends of options: the last position of each, or the empty span.
+fn end_options(n: usize, count: usize, positions: &PositionSet, cursor: &mut Cursor) -> Ends
+    requires { cursor.old.position + position_count (options n count) ≤ length positions.now }
+    ensures accepting { (here : LookAround) → result.accepting
+        ≡ is_final (options n count) (drop cursor.old.position positions.now) here }
+    ensures nullable { (here : LookAround) → result.nullable ≡ nullable (options n count) here }
+    ensures position { cursor.new.position ≡ cursor.old.position + position_count (options n count) }
+    ensures repeat { cursor.new.repeat ≡ cursor.old.repeat }
+{
+    let mut all = Ends::within(true);
+    for k in 0..count {
+        let ends = end_run(n, positions, cursor);
+        all = all.then(ends.or(Ends::within(true)));
+    }
+    all
+}
+
+/// Enters options one after another, each where it can begin, and returns whether they accept.
+fn enter_options(
+    n: usize,
+    count: usize,
+    enter: bool,
+    positions: &PositionSet,
+    entries: &mut PositionSet,
+    cursor: &mut Cursor,
+) -> bool
+    requires room { cursor.old.position + position_count (options n count) ≤ length positions.now }
+    requires shifted { AreShifted cursor.old.position positions.now entries.old }
+    ensures accepting { (here : LookAround) → result
+        ≡ accepts (options n count) enter (drop cursor.old.position positions.now) here }
+    ensures entries { (here : LookAround) → entries.new ≡ take cursor.old.position entries.old
+        ++ (entered (options n count) enter (drop cursor.old.position positions.now) here
+        ++ drop (cursor.old.position + position_count (options n count)) entries.old) }
+    ensures position { cursor.new.position ≡ cursor.old.position + position_count (options n count) }
+    ensures repeat { cursor.new.repeat ≡ cursor.old.repeat }
+{
+    let mut accepting = enter;
+    for k in 0..count {
+        accepting = enter_run(n, accepting, positions, entries, cursor) | accepting;
+    }
+    accepting
 }
 
 /// The ends of an alternation of sequences: their last positions.
@@ -533,7 +540,10 @@ fn advance<L: Ledger>(
         Part::Alternation(sequences) => {
             enter_sequences(sequences, enter, at.positions, entries, cursor, steps)
         }
-        Part::Optional(n) => enter_run(*n, enter, at.positions, entries, cursor) | enter,
+        Part::Options(n, count) => {
+            steps.add(*count);
+            enter_options(*n, *count, enter, at.positions, entries, cursor)
+        }
         Part::Cat(parts) => advance_all(parts, enter, at, entries, cursor, steps),
         Part::Alt(parts) => advance_each(parts, enter, at, entries, cursor, steps),
         Part::Rep(x, least) => {

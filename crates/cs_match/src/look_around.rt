@@ -38,20 +38,17 @@ impl LookBehind {
 
     const FIRST: LookBehind = LookBehind {
         first: true,
-        word: false,
-        char: false,
+        ..LookBehind::NONE
     };
 
     const WORD: LookBehind = LookBehind {
-        first: false,
         word: true,
-        char: false,
+        ..LookBehind::NONE
     };
 
     const CHAR: LookBehind = LookBehind {
-        first: false,
-        word: false,
         char: true,
+        ..LookBehind::NONE
     };
 
     /// The bits that one of two trees reads.

@@ -1,12 +1,12 @@
 // The parts of a program: its tree without the sets. A run of positions is one part, and so is an alternation of runs,
 // so that a traversal visits it once.
-ghost use Rattle.std.specs.Prelude.{◌≡◌, ◌+◌, ◌<◌, ◌≤◌, ◌^◌, min, IfOk, IfSome, OnOk};
-ghost use Rattle.cs_syntax.specs.Matching.{Trees, cat, alt, more, none};
+ghost use Rattle.std.specs.Prelude.{◌≡◌, ◌+◌, ◌<◌, ◌≤◌, ◌^◌, IfOk, IfSome};
+ghost use Rattle.cs_syntax.specs.Matching.{Trees, cat, alt, more};
 ghost use Rattle.cs_syntax.specs.TreeList.{append};
 ghost use Rattle.cs_syntax.specs.Node.{tree_of};
 ghost use Rattle.cs_syntax.specs.NodeList.{trees_of};
 ghost use Rattle.cs_match.specs.Glushkov.{position_count, position_count_of};
-ghost use Rattle.cs_match.specs.Parts.{run, runs, optional_run, shape_of, shapes_of, size_of, sizes_of, HaveSameShape};
+ghost use Rattle.cs_match.specs.Parts.{runs, optional_run, shape_of, shapes_of, size_of, sizes_of, HaveSameShape};
 ghost use Rattle.cs_match.specs.Size.{nodes, nodes_of};
 
 use crate::sequences::Sequences;
@@ -20,8 +20,8 @@ pub(crate) enum Part {
     Run(usize),
     /// An alternation of such sequences.
     Alternation(Sequences),
-    /// Such a sequence, or nothing.
-    Optional(usize),
+    /// Such sequences one after another, each of them or nothing, by the positions of one and their number.
+    Options(usize, usize),
     /// A concatenation.
     Cat(Vec<Part>),
     /// An alternation.
@@ -58,56 +58,49 @@ pub(crate) fn part_of(alloc: Global, node: &Node) -> Result<Part, AllocError>
     }
 }
 
-/// The parts of a concatenation. If all are runs, it is a run itself.
+/// The parts of a concatenation. If they are one part, it is that part.
 #[cycle(part_of)]
 fn sequence_of(alloc: Global, nodes: &[Node]) -> Result<Part, AllocError>
     requires { position_count_of (trees_of nodes.now) < 2 ^ 64 }
     ensures shape { IfOk result (λ part. HaveSameShape (cat (trees_of nodes.now)) (shape_of part)) }
     ensures size { IfOk result (λ part. size_of part ≤ 1 + nodes_of (trees_of nodes.now)) }
 {
+    let [first, others @ ..] = nodes else {
+        return Ok(Part::Run(0));
+    };
     let mut parts = Vec::new(alloc);
-    let mut positions = 0;
-    for node in nodes {
+    let mut last = part_of(alloc, first)?;
+    for node in others {
         let part = part_of(alloc, node)?;
-        positions = add_part(&mut parts, positions, part)?;
+        last = add_part(&mut parts, last, part)?;
     }
     if parts.is_empty() {
-        return Ok(Part::Run(positions));
+        return Ok(last);
     }
-    add_run(&mut parts, positions)?;
+    parts.push(last)?;
     Ok(Part::Cat(parts))
 }
 
-/// Adds a part after a run of so many positions, and returns those of the run that the part ends with. It is not added
-/// yet.
-fn add_part(parts: &mut Vec<Part>, positions: usize, part: Part) -> Result<usize, AllocError>
-    requires { positions + position_count (shape_of part) < 2 ^ 64 }
-    ensures shape { IfOk result (λ more_positions. (ts : Trees) →
-        HaveSameShape (cat (append (shapes_of parts.old.items) (more (run positions) (more (shape_of part) ts))))
-        (cat (append (shapes_of parts.new.items) (more (run more_positions) ts)))) }
-    ensures size { IfOk result (λ more_positions. sizes_of parts.new.items + min 1 more_positions
-        ≤ sizes_of parts.old.items + min 1 positions + size_of part) }
+/// Adds a part after the last one, which is not in the list yet, and returns the new last one. Runs are one part, and
+/// so are options of one length.
+fn add_part(parts: &mut Vec<Part>, last: Part, part: Part) -> Result<Part, AllocError>
+    requires { position_count (shape_of last) + position_count (shape_of part) < 2 ^ 64 }
+    ensures shape { IfOk result (λ new_last. (ts : Trees) →
+        HaveSameShape (cat (append (shapes_of parts.old.items) (more (shape_of last) (more (shape_of part) ts))))
+        (cat (append (shapes_of parts.new.items) (more (shape_of new_last) ts)))) }
+    ensures size { IfOk result (λ new_last. sizes_of parts.new.items + size_of new_last
+        ≤ sizes_of parts.old.items + (size_of last + size_of part)) }
 {
-    match part {
-        Part::Run(more) => Ok(positions + more),
-        _ => {
-            add_run(parts, positions)?;
-            parts.push(part)?;
-            Ok(0)
+    match (last, part) {
+        (Part::Run(n), Part::Run(m)) => Ok(Part::Run(n + m)),
+        (Part::Options(n, count), Part::Options(m, more)) if n == m && n > 0 => {
+            Ok(Part::Options(n, count + more))
+        }
+        (last, part) => {
+            parts.push(last)?;
+            Ok(part)
         }
     }
-}
-
-/// Adds a run, unless it has no positions.
-fn add_run(parts: &mut Vec<Part>, positions: usize) -> Result<(), AllocError>
-    ensures shape { OnOk result (HaveSameShape (cat (append (shapes_of parts.old.items) (more (run positions) none)))
-        (cat (shapes_of parts.new.items))) }
-    ensures size { OnOk result (sizes_of parts.new.items ≤ sizes_of parts.old.items + min 1 positions) }
-{
-    if positions > 0 {
-        parts.push(Part::Run(positions))?;
-    }
-    Ok(())
 }
 
 #[cycle(part_of)]
@@ -130,22 +123,22 @@ fn alternation_of(alloc: Global, nodes: &[Node]) -> Result<Part, AllocError>
     }
 }
 
-/// The alternation of the parts. If they are a run and the empty run, it is one part.
-#[tactic(auto, using(crate::proofs::PartLemmas::part_rules, crate::proofs::PartLemmas::size_rules))]
+/// The alternation of the parts. If they are a run and the empty run, it is an option.
 fn alternation(parts: Vec<Part>) -> Part
-    ensures shape { shape_of result ≡ alt (shapes_of parts.items) }
+    ensures shape { HaveSameShape (alt (shapes_of parts.items)) (shape_of result) }
     ensures size { size_of result ≤ 1 + sizes_of parts.items }
 {
     match optional_run(&parts) {
-        Some(n) => Part::Optional(n),
+        Some(n) => Part::Options(n, 1),
         None => Part::Alt(parts),
     }
 }
 
 /// The number of positions of the run, if the parts are a run and the empty run.
-#[tactic(auto, using(crate::proofs::PartLemmas::part_rules))]
+#[tactic(auto, using(crate::proofs::PartLemmas::part_rules, crate::proofs::PartLemmas::size_rules))]
 fn optional_run(parts: &[Part]) -> Option<usize>
-    ensures { IfSome result (λ n. alt (shapes_of parts.now) ≡ optional_run n) }
+    ensures shape { IfSome result (λ n. alt (shapes_of parts.now) ≡ optional_run n) }
+    ensures size { IfSome result (λ n. sizes_of parts.now ≡ 2) }
 {
     match parts {
         [Part::Run(n), Part::Run(0)] => Some(*n),

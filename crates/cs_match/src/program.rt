@@ -1,5 +1,5 @@
 // Programs: compiled patterns.
-ghost use Rattle.std.specs.Prelude.{◌≡◌, ◌≤◌, IfOk, IfSome};
+ghost use Rattle.std.specs.Prelude.{◌≡◌, ◌≤◌, IfOk, IfSome, length};
 ghost use Rattle.cs_syntax.specs.Node.{tree_of};
 ghost use Rattle.cs_match.specs.SameLines.{MatchSameLines};
 ghost use Rattle.cs_match.specs.Glushkov.{position_count, repeats, char_step_of, IsExpanded};
@@ -12,7 +12,7 @@ ghost use Rattle.cs_match.specs.Size.{nodes, FitsWeight};
 
 use crate::byte_classes::byte_classes;
 use crate::expand::expand;
-use crate::glushkov::{count, count_repeats};
+use crate::glushkov::count_repeats;
 use crate::look_around::{LookBehind, look_behind};
 use crate::parts::{Part, part_of};
 use crate::position::{Position, add_positions};
@@ -30,8 +30,6 @@ pub struct Program {
     part: Part,
     /// The positions of the tree.
     positions: Vec<Position>,
-    /// The number of positions.
-    count: usize,
     /// The number of repeats.
     repeats: usize,
     /// The look-behind bits that the tree reads.
@@ -64,7 +62,7 @@ impl Model for Program {
 
     ghost view = { λ program. tree_of program.root };
 
-    ghost invariant = { λ program. IsProgram (tree_of program.root) program.count program.repeats program.look_behind
+    ghost invariant = { λ program. IsProgram (tree_of program.root) program.repeats program.look_behind
         × IfSome program.prefilter (IsPrefilterOf (tree_of program.root))
         × HaveSameShape (tree_of program.root) (shape_of program.part)
         × (size_of program.part ≤ nodes (tree_of program.root))
@@ -81,7 +79,6 @@ impl Program {
         ensures small { IfOk result (λ program. FitsWeight program pattern.now) }
     {
         let root = expand(alloc, pattern.tree())?;
-        let count = count(&root);
         let repeats = count_repeats(&root);
         let look_behind = look_behind(&root);
         let byte_classes = byte_classes(&root, look_behind);
@@ -94,7 +91,6 @@ impl Program {
             root,
             part,
             positions,
-            count,
             repeats,
             look_behind,
             byte_classes,
@@ -120,16 +116,10 @@ impl Program {
 
     /// The positions of the tree.
     pub(crate) fn positions(&self) -> &[Position]
-        ensures { result.now ≡ position_list self.now }
+        ensures list { result.now ≡ position_list self.now }
+        ensures count { length result.now ≡ position_count self.now }
     {
         &self.positions
-    }
-
-    /// The number of positions of the tree.
-    pub(crate) fn position_count(&self) -> usize
-        ensures { result ≡ position_count self.now }
-    {
-        self.count
     }
 
     /// The number of repeats of the tree. Each repeat is a loop.

@@ -1,6 +1,5 @@
 // States of the DFA.
 ghost use Rattle.std.specs.Prelude.{◌≡◌, ◌+◌, ◌*◌, ◌≤◌, ◌↔◌, IfOk, IsTrue, length, true, false};
-ghost use Rattle.std.specs.Bool.{xor};
 ghost use Rattle.cs_syntax.specs.Matching.{HasMatch};
 ghost use Rattle.cs_match.specs.Glushkov.{position_count, accepts, IsExpanded};
 ghost use Rattle.cs_match.specs.Masks.{IsScratch};
@@ -36,7 +35,7 @@ impl State {
     pub(crate) fn new(alloc: Global, program: &Program) -> Result<State, AllocError>
         ensures { IfOk result (λ state. state ≡ start program.now) }
     {
-        let positions = PositionSet::none(alloc, program.position_count())?;
+        let positions = PositionSet::none(alloc, program.positions().len())?;
         Ok(State {
             positions,
             first: program.look_behind().first,
@@ -158,7 +157,7 @@ impl State {
         let here = LookAround {
             first: self.first,
             last: false,
-            edge: self.is_edge(is_word),
+            edge: self.word ^ is_word,
         };
         let char = program.char_step(self.unfinished, byte);
         let input = Input { byte, char };
@@ -185,12 +184,5 @@ impl State {
         let accepting = is_accepting(program, &self.positions, here, steps);
         self.begin(program, steps);
         accepting
-    }
-
-    /// Whether a byte after this state, which is a word byte or not, begins at a word boundary.
-    fn is_edge(&self, is_word: bool) -> bool
-        ensures { result ≡ xor self.now.word is_word }
-    {
-        if self.word { !is_word } else { is_word }
     }
 }

@@ -1,12 +1,11 @@
-use Rattle.std.proofs.Common.{◌≡◌, ℕ, ◌+◌, ◌≤◌, ◌||◌, ◌++◌, Bool, List, ◌∙◌, refl, sym, ap, take, drop, length, arith}
-use Rattle.cs_syntax.specs.Matching.{Tree, alt}
-use Rattle.cs_match.specs.Entered.{entered}
-use Rattle.cs_match.specs.Glushkov.{position_count, repeats, accepts}
-use Rattle.cs_match.specs.Parts.{run, runs, optional_run, shape_of, shapes_of}
-use Rattle.cs_match.proofs.PartLemmas.{shape_of-Run, shape_of-Alternation, shape_of-Optional, shape_of-LineStart, shape_of-LineEnd, shape_of-WordEdge, shape_of-NotWordEdge, shapes_from, sizes_from}
+use Rattle.std.proofs.Common.{◌≡◌, ◌+◌, ◌≤◌, ◌∙◌, refl, ap, drop, length, arith}
+use Rattle.cs_syntax.specs.Matching.{alt}
+use Rattle.cs_match.specs.Glushkov.{position_count}
+use Rattle.cs_match.specs.Parts.{run, runs, options, shape_of, shapes_of}
+use Rattle.cs_match.proofs.PartLemmas.{shape_of-Run, shape_of-Alternation, shape_of-Options, shape_of-LineStart, shape_of-LineEnd, shape_of-WordEdge, shape_of-NotWordEdge, shapes_from, sizes_from}
 use Rattle.cs_match.proofs.ShapeLemmas.{position_count_run, repeats_run}
 use Rattle.cs_match.proofs.AlternationLemmas.{repeats_runs}
-use Rattle.cs_match.proofs.TraversalLemmas.{position_count_optional, repeats_optional, accepts_optional, entered_optional, accepted_all, accepted_each, noted_others, first_noted, entered_ahead, entered_shifted, all_entered, each_entered, no_run_entered}
+use Rattle.cs_match.proofs.TraversalLemmas.{repeats_options, accepted_all, accepted_each, noted_others, first_noted, entered_ahead, entered_shifted, all_entered, each_entered, no_run_entered}
 use Rattle.cs_match.proofs.glushkov.+advance.Goals as goal
 
 pub advance_all-loop-part-preserved : goal.advance_all-loop-part-preserved
@@ -161,37 +160,9 @@ advance-returns-in-Alternation-clause-repeat g t c =
     let e : shape_of c.args.part.now ≡ alt (runs ns) = ap shape_of c.in-Alternation.is ∙ shape_of-Alternation ns in
     rw (e, repeats_runs ns) (omega (arith, c.enter_sequences.ensures.repeat))
 
-pub advance-enter_run-requires-in-Optional-clause-room : goal.advance-enter_run-requires-in-Optional-clause-room
-advance-enter_run-requires-in-Optional-clause-room g t c =
-    let e : shape_of c.args.part.now ≡ optional_run c.in-Optional.n = ap shape_of c.in-Optional.is ∙ shape_of-Optional c.in-Optional.n in
-    omega (arith, c.requires.room, ap position_count e ∙ position_count_optional c.in-Optional.n)
-
-pub advance-returns-in-Optional-clause-accepting : goal.advance-returns-in-Optional-clause-accepting
-advance-returns-in-Optional-clause-accepting g t c =
-    let n = c.in-Optional.n in
-    let e : shape_of c.args.part.now ≡ optional_run n = ap shape_of c.in-Optional.is ∙ shape_of-Optional n in
-    let ms = drop c.args.cursor.now.position c.args.at.now.positions.now in
-    ap (λ x. x || c.args.enter) (c.enter_run-in-Optional.ensures.accepting c.args.at.now.here) ∙ sym (accepts_optional n c.args.enter ms c.args.at.now.here)
-    ∙ ap (λ (u : Tree). accepts u c.args.enter ms c.args.at.now.here) (sym e)
-
-pub advance-returns-in-Optional-clause-entries : goal.advance-returns-in-Optional-clause-entries
-advance-returns-in-Optional-clause-entries g t c =
-    let n = c.in-Optional.n in
-    let e : shape_of c.args.part.now ≡ optional_run n = ap shape_of c.in-Optional.is ∙ shape_of-Optional n in
-    let from = c.args.cursor.now.position in
-    let ms = drop from c.args.at.now.positions.now in
-    let old = c.args.entries.now in
-    c.enter_run-in-Optional.ensures.entries c.args.at.now.here
-    ∙ ap (λ (xs : List Bool). take from old ++ (xs ++ drop (from + n) old)) (sym (entered_optional n c.args.enter ms c.args.at.now.here))
-    ∙ ap (λ (k : ℕ). take from old ++ (entered (optional_run n) c.args.enter ms c.args.at.now.here ++ drop (from + k) old)) (sym (position_count_optional n))
-    ∙ ap (λ (u : Tree). take from old ++ (entered u c.args.enter ms c.args.at.now.here ++ drop (from + position_count u) old)) (sym e)
-
-pub advance-returns-in-Optional-clause-position : goal.advance-returns-in-Optional-clause-position
-advance-returns-in-Optional-clause-position g t c =
-    let e : shape_of c.args.part.now ≡ optional_run c.in-Optional.n = ap shape_of c.in-Optional.is ∙ shape_of-Optional c.in-Optional.n in
-    omega (arith, c.enter_run-in-Optional.ensures.position, ap position_count e ∙ position_count_optional c.in-Optional.n)
-
-pub advance-returns-in-Optional-clause-repeat : goal.advance-returns-in-Optional-clause-repeat
-advance-returns-in-Optional-clause-repeat g t c =
-    let e : shape_of c.args.part.now ≡ optional_run c.in-Optional.n = ap shape_of c.in-Optional.is ∙ shape_of-Optional c.in-Optional.n in
-    omega (arith, c.enter_run-in-Optional.ensures.repeat, ap repeats e ∙ repeats_optional c.in-Optional.n)
+pub advance-returns-in-Options-clause-repeat : goal.advance-returns-in-Options-clause-repeat
+advance-returns-in-Options-clause-repeat g t c =
+    let n = c.in-Options.n in
+    let count = c.in-Options.count in
+    let e : shape_of c.args.part.now ≡ options n count = ap shape_of c.in-Options.is ∙ shape_of-Options n count in
+    rw (e, repeats_options n count) (omega (arith, c.enter_options.ensures.repeat))

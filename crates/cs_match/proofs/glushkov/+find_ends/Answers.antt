@@ -1,13 +1,13 @@
-use Rattle.std.proofs.Common.{◌≡◌, ◌+◌, ◌||◌, drop, refl, sym, ◌∙◌, ap, arith}
+use Rattle.std.proofs.Common.{◌≡◌, ◌+◌, drop, refl, sym, ◌∙◌, ap, arith}
 use Rattle.std.specs.Prelude.{None}
-use Rattle.std.proofs.Math.Bool.{and_assoc, or_assoc, or-false}
-use Rattle.cs_syntax.specs.Matching.{Tree, alt, rep}
-use Rattle.cs_match.specs.Parts.{run, runs, optional_run, shape_of, shapes_of}
-use Rattle.cs_match.proofs.PartLemmas.{shape_of-Run, shape_of-Alternation, shape_of-Optional, shape_of-Rep, shapes_from, sizes_from}
-use Rattle.cs_match.specs.Glushkov.{position_count, repeats, nullable, nullable_all, nullable_some, is_final, loop_ends}
+use Rattle.std.proofs.Math.Bool.{and_assoc, or_assoc}
+use Rattle.cs_syntax.specs.Matching.{alt, rep}
+use Rattle.cs_match.specs.Parts.{run, runs, options, shape_of, shapes_of}
+use Rattle.cs_match.proofs.PartLemmas.{shape_of-Run, shape_of-Alternation, shape_of-Options, shape_of-Rep, shapes_from, sizes_from}
+use Rattle.cs_match.specs.Glushkov.{nullable, nullable_all, nullable_some, is_final, loop_ends}
 use Rattle.cs_match.proofs.ShapeLemmas.{position_count_run, repeats_run, loop_ends_run}
 use Rattle.cs_match.proofs.AlternationLemmas.{repeats_runs, loop_ends_runs}
-use Rattle.cs_match.proofs.TraversalLemmas.{position_count_optional, repeats_optional, loop_ends_optional, is_final_optional, rep_noted, accepted_all, accepted_some, noted_more}
+use Rattle.cs_match.proofs.TraversalLemmas.{repeats_options, loop_ends_options, rep_noted, accepted_all, accepted_some, noted_more}
 use Rattle.cs_match.proofs.glushkov.+find_ends.Goals as goal
 
 pub find_ends-returns-in-Rep-clause-noted : goal.find_ends-returns-in-Rep-clause-noted
@@ -98,31 +98,16 @@ find_ends-returns-in-Alternation-clause-repeat g t c =
     let e : shape_of c.args.part.now ≡ alt (runs ns) = ap shape_of c.in-Alternation.is ∙ shape_of-Alternation ns in
     rw (e, repeats_runs ns) (omega (arith, c.end_sequences.ensures.repeat, c.requires.within))
 
-pub find_ends-end_run-requires-in-Optional : goal.find_ends-end_run-requires-in-Optional
-find_ends-end_run-requires-in-Optional g t c =
-    let e : shape_of c.args.part.now ≡ optional_run c.in-Optional.n = ap shape_of c.in-Optional.is ∙ shape_of-Optional c.in-Optional.n in
-    omega (arith, c.requires.room, ap position_count e ∙ position_count_optional c.in-Optional.n)
+pub find_ends-returns-in-Options-clause-noted : goal.find_ends-returns-in-Options-clause-noted
+find_ends-returns-in-Options-clause-noted g t c =
+    let n = c.in-Options.n in
+    let count = c.in-Options.count in
+    let e : shape_of c.args.part.now ≡ options n count = ap shape_of c.in-Options.is ∙ shape_of-Options n count in
+    rw (e, loop_ends_options n count (drop c.args.cursor.now.position c.args.positions.now) c.args.here) refl
 
-pub find_ends-returns-in-Optional-clause-accepting : goal.find_ends-returns-in-Optional-clause-accepting
-find_ends-returns-in-Optional-clause-accepting g t c =
-    let n = c.in-Optional.n in
-    let e : shape_of c.args.part.now ≡ optional_run n = ap shape_of c.in-Optional.is ∙ shape_of-Optional n in
-    let ms = drop c.args.cursor.now.position c.args.positions.now in
-    c.or.ensures.accepting ∙ ap (λ x. c.end_run-in-Optional.result.accepting || x) c.within.ensures.accepting ∙ or-false _
-    ∙ c.end_run-in-Optional.ensures.accepting c.args.here ∙ sym (is_final_optional n ms c.args.here) ∙ ap (λ (u : Tree). is_final u ms c.args.here) (sym e)
-
-pub find_ends-returns-in-Optional-clause-noted : goal.find_ends-returns-in-Optional-clause-noted
-find_ends-returns-in-Optional-clause-noted g t c =
-    let n = c.in-Optional.n in
-    let e : shape_of c.args.part.now ≡ optional_run n = ap shape_of c.in-Optional.is ∙ shape_of-Optional n in
-    rw (e, loop_ends_optional n (drop c.args.cursor.now.position c.args.positions.now) c.args.here) refl
-
-pub find_ends-returns-in-Optional-clause-position : goal.find_ends-returns-in-Optional-clause-position
-find_ends-returns-in-Optional-clause-position g t c =
-    let e : shape_of c.args.part.now ≡ optional_run c.in-Optional.n = ap shape_of c.in-Optional.is ∙ shape_of-Optional c.in-Optional.n in
-    omega (arith, c.end_run-in-Optional.ensures.position, ap position_count e ∙ position_count_optional c.in-Optional.n)
-
-pub find_ends-returns-in-Optional-clause-repeat : goal.find_ends-returns-in-Optional-clause-repeat
-find_ends-returns-in-Optional-clause-repeat g t c =
-    let e : shape_of c.args.part.now ≡ optional_run c.in-Optional.n = ap shape_of c.in-Optional.is ∙ shape_of-Optional c.in-Optional.n in
-    omega (arith, c.end_run-in-Optional.ensures.repeat, c.requires.within, ap repeats e ∙ repeats_optional c.in-Optional.n)
+pub find_ends-returns-in-Options-clause-repeat : goal.find_ends-returns-in-Options-clause-repeat
+find_ends-returns-in-Options-clause-repeat g t c =
+    let n = c.in-Options.n in
+    let count = c.in-Options.count in
+    let e : shape_of c.args.part.now ≡ options n count = ap shape_of c.in-Options.is ∙ shape_of-Options n count in
+    rw (e, repeats_options n count) (omega (arith, c.end_options.ensures.repeat, c.requires.within))

@@ -1,6 +1,6 @@
-use Rattle.std.proofs.Common.{◌∙◌, length, true, sym, ap, arith}
+use Rattle.std.proofs.Common.{◌∙◌, true, sym, arith}
 use Rattle.cs_match.specs.Entered.{if_entered, if_previous, if_kept}
-use Rattle.cs_match.proofs.EnteredLemmas.{is_step, length-position_list}
+use Rattle.cs_match.proofs.EnteredLemmas.{is_step}
 use Rattle.cs_match.proofs.MaskLemmas.{found, found_input, mask_entered, mask_previous, mask_kept, length-mask}
 use Rattle.cs_match.proofs.glushkov.step_over.Goals as goal
 
@@ -8,9 +8,9 @@ pub move_over-requires-clause-room : goal.move_over-requires-clause-room
 move_over-requires-clause-room g c =
     let t = c.args.program.now in
     record {
-      entered = length-mask t (if_entered c.args.input) _ (mask_entered t c.positions.result.now c.index.result.now c.args.input (found c.positions.result.now c.find-slot.new.self.slots.items c.find-slot.result c.index.result.now c.index.ensures c.find-slot.ensures.mask) (found_input c.args.input c.find-slot.new.self.slots.items c.find-slot.result c.index.result.now c.index.ensures c.find-slot.ensures.input) c.positions.ensures) ∙ sym c.requires.one_each;
-      previous = length-mask t (if_previous c.args.input) _ (mask_previous t c.positions.result.now c.index.result.now c.args.input (found c.positions.result.now c.find-slot.new.self.slots.items c.find-slot.result c.index.result.now c.index.ensures c.find-slot.ensures.mask) (found_input c.args.input c.find-slot.new.self.slots.items c.find-slot.result c.index.result.now c.index.ensures c.find-slot.ensures.input) c.positions.ensures) ∙ sym c.requires.one_each;
-      kept = length-mask t (if_kept c.args.input) _ (mask_kept t c.positions.result.now c.index.result.now c.args.input (found c.positions.result.now c.find-slot.new.self.slots.items c.find-slot.result c.index.result.now c.index.ensures c.find-slot.ensures.mask) (found_input c.args.input c.find-slot.new.self.slots.items c.find-slot.result c.index.result.now c.index.ensures c.find-slot.ensures.input) c.positions.ensures) ∙ sym c.requires.one_each;
+      entered = length-mask t (if_entered c.args.input) _ (mask_entered t c.positions.result.now c.index.result.now c.args.input (found c.positions.result.now c.find-slot.new.self.slots.items c.find-slot.result c.index.result.now c.index.ensures c.find-slot.ensures.mask) (found_input c.args.input c.find-slot.new.self.slots.items c.find-slot.result c.index.result.now c.index.ensures c.find-slot.ensures.input) c.positions.ensures.list) ∙ sym c.requires.one_each;
+      previous = length-mask t (if_previous c.args.input) _ (mask_previous t c.positions.result.now c.index.result.now c.args.input (found c.positions.result.now c.find-slot.new.self.slots.items c.find-slot.result c.index.result.now c.index.ensures c.find-slot.ensures.mask) (found_input c.args.input c.find-slot.new.self.slots.items c.find-slot.result c.index.result.now c.index.ensures c.find-slot.ensures.input) c.positions.ensures.list) ∙ sym c.requires.one_each;
+      kept = length-mask t (if_kept c.args.input) _ (mask_kept t c.positions.result.now c.index.result.now c.args.input (found c.positions.result.now c.find-slot.new.self.slots.items c.find-slot.result c.index.result.now c.index.ensures c.find-slot.ensures.mask) (found_input c.args.input c.find-slot.new.self.slots.items c.find-slot.result c.index.result.now c.index.ensures c.find-slot.ensures.input) c.positions.ensures.list) ∙ sym c.requires.one_each;
     }
 
 pub move_over-requires-clause-one_mask : goal.move_over-requires-clause-one_mask
@@ -21,9 +21,9 @@ pub returns-clause-positions : goal.returns-clause-positions
 returns-clause-positions g c =
     let t = c.args.program.now in
     is_step t true c.args.positions.now c.args.here c.args.input c.enter-accepting.new.scratch.entries c.move_over.new.positions _ _ _ c.requires.one_each c.enter-accepting.ensures.entries
-    (mask_entered t c.positions.result.now c.index.result.now c.args.input (found c.positions.result.now c.find-slot.new.self.slots.items c.find-slot.result c.index.result.now c.index.ensures c.find-slot.ensures.mask) (found_input c.args.input c.find-slot.new.self.slots.items c.find-slot.result c.index.result.now c.index.ensures c.find-slot.ensures.input) c.positions.ensures)
-    (mask_previous t c.positions.result.now c.index.result.now c.args.input (found c.positions.result.now c.find-slot.new.self.slots.items c.find-slot.result c.index.result.now c.index.ensures c.find-slot.ensures.mask) (found_input c.args.input c.find-slot.new.self.slots.items c.find-slot.result c.index.result.now c.index.ensures c.find-slot.ensures.input) c.positions.ensures)
-    (mask_kept t c.positions.result.now c.index.result.now c.args.input (found c.positions.result.now c.find-slot.new.self.slots.items c.find-slot.result c.index.result.now c.index.ensures c.find-slot.ensures.mask) (found_input c.args.input c.find-slot.new.self.slots.items c.find-slot.result c.index.result.now c.index.ensures c.find-slot.ensures.input) c.positions.ensures)
+    (mask_entered t c.positions.result.now c.index.result.now c.args.input (found c.positions.result.now c.find-slot.new.self.slots.items c.find-slot.result c.index.result.now c.index.ensures c.find-slot.ensures.mask) (found_input c.args.input c.find-slot.new.self.slots.items c.find-slot.result c.index.result.now c.index.ensures c.find-slot.ensures.input) c.positions.ensures.list)
+    (mask_previous t c.positions.result.now c.index.result.now c.args.input (found c.positions.result.now c.find-slot.new.self.slots.items c.find-slot.result c.index.result.now c.index.ensures c.find-slot.ensures.mask) (found_input c.args.input c.find-slot.new.self.slots.items c.find-slot.result c.index.result.now c.index.ensures c.find-slot.ensures.input) c.positions.ensures.list)
+    (mask_kept t c.positions.result.now c.index.result.now c.args.input (found c.positions.result.now c.find-slot.new.self.slots.items c.find-slot.result c.index.result.now c.index.ensures c.find-slot.ensures.mask) (found_input c.args.input c.find-slot.new.self.slots.items c.find-slot.result c.index.result.now c.index.ensures c.find-slot.ensures.input) c.positions.ensures.list)
     c.move_over.ensures.length c.move_over.ensures.each
 
 pub returns-clause-cost : goal.returns-clause-cost
@@ -34,6 +34,5 @@ returns-clause-cost g c =
       c.find-slot.ensures.cost,
       c.move_over.ensures.cost,
       c.requires.one_each,
-      ap length c.positions.ensures,
-      length-position_list c.args.program.now,
+      c.positions.ensures.count,
     )

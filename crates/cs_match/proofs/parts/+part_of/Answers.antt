@@ -1,4 +1,4 @@
-use Rattle.std.proofs.Common.{◌≡◌, ◌+◌, List, drop, length, ◌∙◌, sym, ap, subst, arith, drop_of_length-le}
+use Rattle.std.proofs.Common.{◌≡◌, ◌+◌, ◌-◌, List, take, drop, length, ◌∙◌, sym, ap, subst, arith, drop_of_length-le}
 use Rattle.std.proofs.lemmas.Grind.{common_steps}
 use Rattle.cs_syntax.specs.Matching.{Tree, Trees, cat, alt, more, none}
 use Rattle.cs_syntax.specs.TreeList.{append}
@@ -7,10 +7,11 @@ use Rattle.cs_syntax.specs.NodeList.{trees_of}
 use Rattle.cs_syntax.specs.declared.node.Node.{Node}
 use Rattle.cs_syntax.proofs.TreeLemmas.{trees_from}
 use Rattle.cs_syntax.proofs.TreeListLemmas.{append_assoc_trees, append_none}
-use Rattle.cs_match.specs.Parts.{run, runs, shape_of, shapes_of, sizes_of, HaveSameShape}
+use Rattle.cs_match.specs.Parts.{runs, shape_of, shapes_of, sizes_of, HaveSameShape}
 use Rattle.cs_match.specs.Glushkov.{position_count_of}
-use Rattle.cs_match.proofs.PartLemmas.{shape_of-Run, shape_of-Alternation, shape_of-Cat, shapes_last, shapes_none, size_of-Run, size_of-Alternation, size_of-Cat, sizes_last, words_few}
-use Rattle.cs_match.proofs.ShapeLemmas.{shape_trans, cat_first, cat_rest, alt_more, before_same, only_run, position_count_append, position_count_run}
+use Rattle.cs_match.proofs.PartLemmas.{shape_of-Alternation, shape_of-Cat, shapes_last, shapes_none, size_of-Alternation, sizes_last, words_few}
+use Rattle.cs_match.proofs.ShapeLemmas.{shape_trans, cat_first, cat_rest, alt_more, before_same, position_count_append}
+use Rattle.cs_match.proofs.TraversalLemmas.{only_one}
 use Rattle.cs_match.proofs.parts.+part_of.Goals as goal
 
 pub alternation_of-loop-node-preserved : goal.alternation_of-loop-node-preserved
@@ -52,44 +53,7 @@ alternation_of-returns-in-None-clause-shape t c =
     let ss = shapes_of c.loop-node.parts.items in
     let none_left : alt (append ss (trees_of (drop c.loop-node.node-index c.args.nodes.now))) ≡ alt ss =
     ap (λ (ns : List Node). alt (append ss (trees_of ns))) (drop_of_length-le c.args.nodes.now {i = c.loop-node.node-index} (omega arith)) ∙ ap alt (append_none ss) in
-    subst (λ (u : Tree). HaveSameShape (alt (trees_of c.args.nodes.now)) u) (none_left ∙ sym c.alternation.ensures.shape) c.loop-node.invariant.same
-
-pub sequence_of-loop-node-preserved : goal.sequence_of-loop-node-preserved
-sequence_of-loop-node-preserved t c =
-    let next = trees_from c.args.nodes.now c.loop-node.node-index c.node-item.result c.loop-node-test.true c.node-item.is in
-    let t = tree_of c.node-item.result in
-    let ts = trees_of (drop (c.loop-node.node-index + 1) c.args.nodes.now) in
-    let s = shape_of c.in_ok-part.part in
-    let ss = shapes_of c.loop-node.parts.items in
-    let us = shapes_of c.add_part.new.parts.items in
-    let n = c.in_ok-positions.positions in
-    let same : HaveSameShape (cat (trees_of c.args.nodes.now)) (cat (append us (more (run n) ts))) =
-    shape_trans _ _ _ (rw next at c.loop-node.invariant.same)
-    (shape_trans _ _ _ (before_same ss _ _ (cat_rest (run c.loop-node.positions) _ _ (cat_first t s ts c.in_ok-part.ensures.shape))) (c.in_ok-positions.ensures.shape ts)) in
-    record {
-      same = same;
-      size = omega (arith, c.in_ok-part.ensures.size, c.in_ok-positions.ensures.size, rw next at c.loop-node.invariant.size);
-      total = omega (arith, same.positions, position_count_append us (more (run n) ts), position_count_run n);
-    }
-
-pub sequence_of-returns-then-is_empty-clause-shape : goal.sequence_of-returns-then-is_empty-clause-shape
-sequence_of-returns-then-is_empty-clause-shape t c =
-    let n = c.loop-node.positions in
-    let empty : length c.loop-node.parts.items ≡ 0 = grind (arith, common_steps) in
-    let alone : cat (append (shapes_of c.loop-node.parts.items) (more (run n) (trees_of (drop c.loop-node.node-index c.args.nodes.now)))) ≡ cat (more (run n) none) =
-    ap (λ (ns : List Node). cat (append (shapes_of c.loop-node.parts.items) (more (run n) (trees_of ns)))) (drop_of_length-le c.args.nodes.now {i = c.loop-node.node-index} (omega arith))
-    ∙ ap (λ us. cat (append us (more (run n) none))) (shapes_none c.loop-node.parts.items empty) in
-    subst (λ (u : Tree). HaveSameShape (cat (trees_of c.args.nodes.now)) u) (sym (shape_of-Run n))
-    (shape_trans _ _ _ (subst (λ (u : Tree). HaveSameShape (cat (trees_of c.args.nodes.now)) u) alone c.loop-node.invariant.same) (only_run n))
-
-pub sequence_of-returns-clause-shape : goal.sequence_of-returns-clause-shape
-sequence_of-returns-clause-shape t c =
-    let ss = shapes_of c.loop-node.parts.items in
-    let n = c.loop-node.positions in
-    let none_left : cat (append ss (more (run n) (trees_of (drop c.loop-node.node-index c.args.nodes.now)))) ≡ cat (append ss (more (run n) none)) =
-    ap (λ (ns : List Node). cat (append ss (more (run n) (trees_of ns)))) (drop_of_length-le c.args.nodes.now {i = c.loop-node.node-index} (omega arith)) in
-    subst (λ (u : Tree). HaveSameShape (cat (trees_of c.args.nodes.now)) u) (sym (shape_of-Cat c.add_run.new.parts))
-    (shape_trans _ _ _ (subst (λ (u : Tree). HaveSameShape (cat (trees_of c.args.nodes.now)) u) none_left c.loop-node.invariant.same) c.in_ok-add_run.ensures.shape)
+    shape_trans _ _ _ (rw none_left at c.loop-node.invariant.same) c.alternation.ensures.shape
 
 pub alternation_of-returns-in_ok-sequences-in-Some-clause-size : goal.alternation_of-returns-in_ok-sequences-in-Some-clause-size
 alternation_of-returns-in_ok-sequences-in-Some-clause-size t c =
@@ -105,8 +69,33 @@ alternation_of-returns-in_ok-sequences-in-Some-clause-size t c =
 pub alternation_of-returns-in-None-clause-size : goal.alternation_of-returns-in-None-clause-size
 alternation_of-returns-in-None-clause-size t c = omega (arith, c.alternation.ensures.size, c.loop-node.invariant.size)
 
-pub sequence_of-returns-then-is_empty-clause-size : goal.sequence_of-returns-then-is_empty-clause-size
-sequence_of-returns-then-is_empty-clause-size t c = omega (arith, size_of-Run c.loop-node.positions)
+pub sequence_of-loop-node-preserved : goal.sequence_of-loop-node-preserved
+sequence_of-loop-node-preserved t c =
+    let next = trees_from _ c.loop-node.node-index c.node-item.result c.loop-node-test.true c.node-item.is in
+    let ts = trees_of (drop (c.loop-node.node-index + 1) (take (length c.args.nodes.now - 1) (drop 1 c.args.nodes.now))) in
+    let s = shape_of c.loop-node.last in
+    let ss = shapes_of c.loop-node.parts.items in
+    let us = shapes_of c.add_part.new.parts.items in
+    let u = shape_of c.in_ok-last-2.last in
+    let same : HaveSameShape (cat (trees_of c.args.nodes.now)) (cat (append us (more u ts))) =
+    shape_trans _ _ _ (rw next at c.loop-node.invariant.same)
+    (shape_trans _ _ _ (before_same ss _ _ (cat_rest s _ _ (cat_first _ _ ts c.in_ok-part.ensures.shape))) (c.in_ok-last-2.ensures.shape ts)) in
+    record {
+      same = same;
+      size = omega (arith, c.in_ok-part.ensures.size, c.in_ok-last-2.ensures.size, rw next at c.loop-node.invariant.size);
+      total = omega (arith, same.positions, position_count_append us (more u ts));
+    }
 
-pub sequence_of-returns-clause-size : goal.sequence_of-returns-clause-size
-sequence_of-returns-clause-size t c = omega (arith, size_of-Cat c.add_run.new.parts, c.in_ok-add_run.ensures.size, c.loop-node.invariant.size)
+pub sequence_of-returns-then-is_empty-clause-shape : goal.sequence_of-returns-then-is_empty-clause-shape
+sequence_of-returns-then-is_empty-clause-shape t c =
+    let empty : length c.loop-node.parts.items ≡ 0 = grind (arith, common_steps) in
+    let others = take (length c.args.nodes.now - 1) (drop 1 c.args.nodes.now) in
+    shape_trans _ _ _
+    (rw (drop_of_length-le others {i = c.loop-node.node-index} (omega arith), shapes_none c.loop-node.parts.items empty) at c.loop-node.invariant.same)
+    (only_one (shape_of c.loop-node.last))
+
+pub sequence_of-returns-clause-shape : goal.sequence_of-returns-clause-shape
+sequence_of-returns-clause-shape t c =
+    let others = take (length c.args.nodes.now - 1) (drop 1 c.args.nodes.now) in
+    rw (shape_of-Cat c.push.new.self, ap shapes_of c.in_ok-push.ensures.items ∙ shapes_last c.loop-node.parts.items c.loop-node.last)
+    (rw (drop_of_length-le others {i = c.loop-node.node-index} (omega arith)) at c.loop-node.invariant.same)

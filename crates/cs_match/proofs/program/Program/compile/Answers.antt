@@ -11,15 +11,12 @@ use Rattle.cs_match.proofs.program.Program.compile.Goals as goal
 
 pub invariant_of-result : goal.invariant_of-result
 invariant_of-result c =
-    ((c.count-count.ensures, c.count_repeats-repeats.ensures, c.look_behind-look_behind.ensures, subst IsExpanded (sym c.in_ok-root.ensures) (is_expanded (tree_of c.tree.result.now))), c.in_ok-prefilter.ensures, c.in_ok-part.ensures.shape, c.in_ok-part.ensures.size, c.in_ok-add_positions.ensures ∙ ap (λ ps. ps ++ position_list (tree_of c.in_ok-root.root)) c.new-positions.ensures.items, c.byte_classes-byte_classes.ensures, c.in_ok-cuts.ensures)
+    ((c.count_repeats-repeats.ensures, c.look_behind-look_behind.ensures, subst IsExpanded (sym c.in_ok-root.ensures) (is_expanded (tree_of c.tree.result.now))), c.in_ok-prefilter.ensures, c.in_ok-part.ensures.shape, c.in_ok-part.ensures.size, c.in_ok-add_positions.ensures ∙ ap (λ ps. ps ++ position_list (tree_of c.in_ok-root.root)) c.new-positions.ensures.items, c.byte_classes-byte_classes.ensures, c.in_ok-cuts.ensures)
 
 pub returns-clause-alike : goal.returns-clause-alike
 returns-clause-alike c = λ line.
     let same : tree_of c.in_ok-root.root ≡ expansion c.args.pattern.now = c.in_ok-root.ensures ∙ ap expansion c.tree.ensures.tree in
     subst (λ (t : Tree). HasMatch t line ↔ HasMatch c.args.pattern.now line) (sym same) (expansion_matches c.args.pattern.now line)
-
-pub count-count-requires : goal.count-count-requires
-count-count-requires c = rw c.in_ok-root.ensures (omega (arith, positions_light (tree_of c.tree.result.now)))
 
 pub count_repeats-repeats-requires : goal.count_repeats-repeats-requires
 count_repeats-repeats-requires c = rw c.in_ok-root.ensures (omega (arith, repeats_light (tree_of c.tree.result.now)))

@@ -1,0 +1,41 @@
+use Rattle.std.proofs.Common.{◌≡◌, suc, ◌+◌, ◌-◌, ◌||◌, drop, sym, ◌∙◌, ap, arith}
+use Rattle.std.proofs.Math.Bool.{and_assoc, or-false, or-true}
+use Rattle.cs_syntax.specs.Matching.{none}
+use Rattle.cs_match.specs.declared.look_around.LookAround.{LookAround}
+use Rattle.cs_match.specs.Expansion.{copies}
+use Rattle.cs_match.specs.Glushkov.{position_count, nullable, nullable_all, is_final}
+use Rattle.cs_match.specs.Parts.{optional_run, options}
+use Rattle.cs_match.proofs.TraversalLemmas.{position_count_optional, nullable_optional, is_final_optional, accepted_all}
+use Rattle.cs_match.proofs.glushkov.end_options.Goals as goal
+
+pub end_run-ends-requires : goal.end_run-ends-requires
+end_run-ends-requires c =
+    let one : c.args.count - c.loop-k.k ≡ suc (c.args.count - (c.loop-k.k + 1)) = omega arith in
+    omega (arith, c.requires, c.loop-k.invariant.position, ap (λ k. position_count (options c.args.n k)) one, position_count_optional c.args.n)
+
+pub loop-k-preserved : goal.loop-k-preserved
+loop-k-preserved c =
+    let n = c.args.n in
+    let i = c.loop-k.invariant in
+    let p = c.loop-k.cursor.position in
+    let ms = drop p c.args.positions.now in
+    let acc = c.loop-k.all.accepting in
+    let t = optional_run n in
+    let ts = copies (c.args.count - (c.loop-k.k + 1)) t none in
+    let one : c.args.count - c.loop-k.k ≡ suc (c.args.count - (c.loop-k.k + 1)) = omega arith in
+    let next : c.end_run-ends.new.cursor.position ≡ p + position_count t = omega (arith, c.end_run-ends.ensures.position, position_count_optional n) in
+    let final : (here : LookAround) → c.or.result.accepting ≡ is_final t ms here =
+    λ here. c.or.ensures.accepting ∙ ap (λ x. c.end_run-ends.result.accepting || x) c.within.ensures.accepting ∙ or-false _ ∙ c.end_run-ends.ensures.accepting here
+    ∙ sym (is_final_optional n ms here) in
+    let null : (here : LookAround) → c.or.result.nullable ≡ nullable t here =
+    λ here. c.or.ensures.nullable ∙ ap (λ x. c.end_run-ends.result.nullable || x) c.within.ensures.nullable ∙ or-true _ ∙ sym (nullable_optional n here) in
+    record {
+      position = omega (arith, next, rw one at i.position);
+      repeat = c.end_run-ends.ensures.repeat ∙ i.repeat;
+      accepting = λ here.
+          rw (c.then-all.ensures.accepting, final here, null here)
+          (accepted_all t ts c.args.positions.now here p _ next acc _ ((rw one at i.accepting) here));
+      nullable = λ here.
+          rw (c.then-all.ensures.nullable, null here)
+          (and_assoc c.loop-k.all.nullable (nullable t here) (nullable_all ts here) ∙ (rw one at i.nullable) here);
+    }

@@ -66,7 +66,7 @@ impl LookBehind {
     pub(crate) fn is_word(self, byte: u8) -> bool
         ensures { result ≡ (is_word byte && self.word) }
     {
-        is_word_byte(byte) & self.word
+        (byte.is_ascii_alphanumeric() | (byte == b'_')) & self.word
     }
 }
 
@@ -96,11 +96,4 @@ fn look_behind_of(parts: &[Node]) -> LookBehind
         bits = bits.or(look_behind(part));
     }
     bits
-}
-
-/// Whether the byte is an ASCII word character.
-fn is_word_byte(byte: u8) -> bool
-    ensures { result ≡ is_word byte }
-{
-    byte.is_ascii_alphanumeric() || byte == b'_'
 }

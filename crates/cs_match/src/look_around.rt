@@ -76,8 +76,7 @@ pub(crate) fn look_behind(node: &Node) -> LookBehind
     ensures { result ≡ look_behind (tree_of node.now) }
 {
     match node {
-        Node::Cat(parts) => look_behind_of(parts),
-        Node::Alt(parts) => look_behind_of(parts),
+        Node::Cat(parts) | Node::Alt(parts) => look_behind_of(parts),
         Node::Rep(x, _, _) => look_behind(x),
         Node::Chars(_) => LookBehind::CHAR,
         Node::LineStart => LookBehind::FIRST,

@@ -1,12 +1,14 @@
 -- Bits of words that are combined or shifted.
 use Rattle.std.proofs.Common.{◌≡◌, ℕ, zero, suc, ◌+◌, ◌*◌, ◌/◌, ◌%◌, ◌^◌, ◌<◌, Bool, true, false, ◌&&◌, ◌||◌, eqb, List, length, get_or, bit_and, bit_or, bit_xor, min, max, refl, inl, inr, sym, ◌∙◌, ap, arith}
 use Rattle.std.proofs.Math.Bool.{or-false, or-true}
-use Rattle.std.proofs.lemmas.Nat.Bits.{bit_at-lt, bit_at-suc, bit_at_lowest, bit_at_above, bit_at_cat_low, bit_at_and, bit_at_or, bit_at_xor}
-use Rattle.std.proofs.lemmas.Bool.{cases_lt}
+use Rattle.std.proofs.lemmas.Nat.Bits.{bit_at-lt, bit_at-suc, bit_at_lowest, bit_at_above, bit_at_cat_low, bit_at_and, bit_at_or, bit_at_xor, bit_at-pow_same, bit_at-pow_other}
+use Rattle.std.proofs.lemmas.Bool.{cases_lt, eq-eqb, false≢true}
+use Rattle.std.proofs.lemmas.Nat.{one_shl}
 use Rattle.std.proofs.lemmas.List.{get_or_past}
 use Rattle.std.specs.Prelude.{All, if◌then◌else◌}
 use Rattle.std.specs.Int.{bit_at}
 use Rattle.cs_syntax.specs.Bits.{has_bit}
+use Rattle.cs_syntax.proofs.BitLemmas.{IsWithBit}
 
 -- the carry into a word
 abbrev pub carry : List ℕ → ℕ → ℕ
@@ -65,6 +67,26 @@ bits-cleared word bits i on e =
     ∙ clear (bit_at word i) (bit_at bits i) on (bit_at-lt word i) (bit_at-lt bits i) e
 
 -- the lowest bit of a word shifted left is clear, and the others move up by one
+same_bit : (a b : ℕ) → a < 2 → b < 2 → eqb a 1 ≡ eqb b 1 → a ≡ b
+same_bit zero zero h k e = refl
+same_bit zero (suc zero) h k e = absurd (false≢true e)
+same_bit (suc zero) zero h k e = absurd (false≢true (sym e))
+same_bit (suc zero) (suc zero) h k e = refl
+same_bit (suc (suc a)) b h k e = absurd (omega (arith, h))
+same_bit a (suc (suc b)) h k e = absurd (omega (arith, k))
+
+-- a mask with one bit
+pub with_one_bit : (old new index : ℕ) (on : Bool) → index < 64 →
+    ((i : ℕ) → i < 64 → eqb (bit_at new i) 1 ≡ (if eqb (bit_at (1 * 2 ^ index % 2 ^ 64) i) 1 then on else eqb (bit_at old i) 1)) → IsWithBit old new index on
+with_one_bit old new index on low each = record {
+  there = each index low ∙ ap (λ x. if x then on else eqb (bit_at old index) 1) (mask index ∙ eq-eqb _ 1 (bit_at-pow_same index));
+  elsewhere = λ i h other. same_bit (bit_at new i) (bit_at old i) (bit_at-lt new i) (bit_at-lt old i)
+      (each i h ∙ ap (λ x. if x then on else eqb (bit_at old i) 1) (mask i ∙ ap (λ b. eqb b 1) (bit_at-pow_other index i other)));
+}
+  where
+    mask : (i : ℕ) → eqb (bit_at (1 * 2 ^ index % 2 ^ 64) i) 1 ≡ eqb (bit_at (2 ^ index) i) 1
+    mask i = ap (λ n. eqb (bit_at n i) 1) (one_shl index 64 low)
+
 pub shl-lowest : (word : ℕ) → eqb (bit_at (word * 2 % 18446744073709551616) 0) 1 ≡ false
 shl-lowest word = ap (λ x. eqb x 1) (bit_at_lowest (word * 2 % 18446744073709551616) ∙ even)
   where

@@ -1,5 +1,5 @@
 // Expansion of counted repeats, and of alternations of single bytes to sets (RE2's simplification).
-ghost use Rattle.std.specs.Prelude.{◌≡◌, IfOk, OnOk, None};
+ghost use Rattle.std.specs.Prelude.{◌≡◌, IfOk, OnOk, None, if◌then◌else◌};
 ghost use Rattle.cs_syntax.specs.Matching.{rep};
 ghost use Rattle.cs_syntax.specs.Node.{tree_of};
 ghost use Rattle.cs_syntax.specs.NodeList.{trees_of};
@@ -54,7 +54,7 @@ fn expand_repeat(
             if least == 0 {
                 return in_loop(alloc, last, 0);
             }
-            add_copies(alloc, node, least - 1, &mut parts)?;
+            add_copies(alloc, node, least - 1, false, &mut parts)?;
             let last = in_loop(alloc, last, 1)?;
             parts.push(last)?;
             Ok(Node::Cat(parts))
@@ -63,8 +63,8 @@ fn expand_repeat(
             if least > most {
                 return Ok(Node::Alt(parts));
             }
-            add_copies(alloc, node, least, &mut parts)?;
-            add_optional(alloc, node, most - least, &mut parts)?;
+            add_copies(alloc, node, least, false, &mut parts)?;
+            add_copies(alloc, node, most - least, true, &mut parts)?;
             Ok(Node::Cat(parts))
         }
     }
@@ -109,39 +109,27 @@ fn union_of(nodes: &[Node]) -> Option<ByteSet>
     Some(union)
 }
 
+/// Adds so many copies of the expansion. Each of them, or nothing, if they are optional.
 #[cycle(expand)]
 #[tactic(auto, using(crate::proofs::CopyLemmas::pushed_copy, cs_syntax::proofs::TreeListLemmas::append_none))]
 fn add_copies(
     alloc: Global,
     node: &Node,
     count: u32,
+    are_optional: bool,
     parts: &mut Vec<Node>,
 ) -> Result<(), AllocError>
-    ensures { OnOk result (trees_of parts.new.items
-        ≡ with_copies (trees_of parts.old.items) count (expansion (tree_of node.now))) }
+    ensures { OnOk result (trees_of parts.new.items ≡ with_copies (trees_of parts.old.items) count
+        (if are_optional then optional (expansion (tree_of node.now)) else expansion (tree_of node.now))) }
 {
     for k in 0..count {
-        let copy = expand(alloc, node)?;
+        let once = expand(alloc, node)?;
+        let copy = if are_optional {
+            or_nothing(alloc, once)?
+        } else {
+            once
+        };
         parts.push(copy)?;
-    }
-    Ok(())
-}
-
-#[cycle(expand)]
-#[tactic(auto, using(crate::proofs::CopyLemmas::pushed_copy, cs_syntax::proofs::TreeListLemmas::append_none))]
-fn add_optional(
-    alloc: Global,
-    node: &Node,
-    count: u32,
-    parts: &mut Vec<Node>,
-) -> Result<(), AllocError>
-    ensures { OnOk result (trees_of parts.new.items
-        ≡ with_copies (trees_of parts.old.items) count (optional (expansion (tree_of node.now)))) }
-{
-    for k in 0..count {
-        let copy = expand(alloc, node)?;
-        let option = or_nothing(alloc, copy)?;
-        parts.push(option)?;
     }
     Ok(())
 }

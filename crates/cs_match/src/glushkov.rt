@@ -34,8 +34,7 @@ pub(crate) fn count_repeats(node: &Node) -> usize
     ensures { result ≡ repeats (tree_of node.now) }
 {
     match node {
-        Node::Cat(parts) => count_all_repeats(parts),
-        Node::Alt(parts) => count_all_repeats(parts),
+        Node::Cat(parts) | Node::Alt(parts) => count_all_repeats(parts),
         Node::Rep(x, _, _) => count_repeats(x) + 1,
         _ => 0,
     }

@@ -66,7 +66,7 @@ impl LookBehind {
     pub(crate) fn is_word(self, byte: u8) -> bool
         ensures { result ≡ (is_word byte && self.word) }
     {
-        is_word_byte(byte) & self.word
+        (byte.is_ascii_alphanumeric() | (byte == b'_')) & self.word
     }
 }
 
@@ -76,8 +76,7 @@ pub(crate) fn look_behind(node: &Node) -> LookBehind
     ensures { result ≡ look_behind (tree_of node.now) }
 {
     match node {
-        Node::Cat(parts) => look_behind_of(parts),
-        Node::Alt(parts) => look_behind_of(parts),
+        Node::Cat(parts) | Node::Alt(parts) => look_behind_of(parts),
         Node::Rep(x, _, _) => look_behind(x),
         Node::Chars(_) => LookBehind::CHAR,
         Node::LineStart => LookBehind::FIRST,
@@ -96,11 +95,4 @@ fn look_behind_of(parts: &[Node]) -> LookBehind
         bits = bits.or(look_behind(part));
     }
     bits
-}
-
-/// Whether the byte is an ASCII word character.
-fn is_word_byte(byte: u8) -> bool
-    ensures { result ≡ is_word byte }
-{
-    byte.is_ascii_alphanumeric() || byte == b'_'
 }

@@ -6,7 +6,7 @@ ghost use Rattle.cs_syntax.specs.TreeList.{append};
 ghost use Rattle.cs_syntax.specs.Node.{tree_of};
 ghost use Rattle.cs_syntax.specs.NodeList.{trees_of};
 ghost use Rattle.cs_match.specs.Glushkov.{position_count, position_count_of};
-ghost use Rattle.cs_match.specs.Parts.{runs, optional_run, shape_of, shapes_of, size_of, sizes_of, HaveSameShape};
+ghost use Rattle.cs_match.specs.Parts.{runs, shape_of, shapes_of, size_of, sizes_of, HaveSameShape};
 ghost use Rattle.cs_match.specs.Size.{nodes, nodes_of};
 
 use crate::sequences::Sequences;
@@ -124,25 +124,14 @@ fn alternation_of(alloc: Global, nodes: &[Node]) -> Result<Part, AllocError>
 }
 
 /// The alternation of the parts. If they are a run and the empty run, it is an option.
+#[tactic(auto, using(crate::proofs::PartLemmas::part_rules, crate::proofs::PartLemmas::size_rules))]
 fn alternation(parts: Vec<Part>) -> Part
     ensures shape { HaveSameShape (alt (shapes_of parts.items)) (shape_of result) }
     ensures size { size_of result ≤ 1 + sizes_of parts.items }
 {
-    match optional_run(&parts) {
-        Some(n) => Part::Options(n, 1),
-        None => Part::Alt(parts),
-    }
-}
-
-/// The number of positions of the run, if the parts are a run and the empty run.
-#[tactic(auto, using(crate::proofs::PartLemmas::part_rules, crate::proofs::PartLemmas::size_rules))]
-fn optional_run(parts: &[Part]) -> Option<usize>
-    ensures shape { IfSome result (λ n. alt (shapes_of parts.now) ≡ optional_run n) }
-    ensures size { IfSome result (λ n. sizes_of parts.now ≡ 2) }
-{
-    match parts {
-        [Part::Run(n), Part::Run(0)] => Some(*n),
-        _ => None,
+    match &parts[..] {
+        [Part::Run(n), Part::Run(0)] => Part::Options(*n, 1),
+        _ => Part::Alt(parts),
     }
 }
 

@@ -72,8 +72,7 @@ pub(crate) fn add_positions(
             positions.push(Position::Taken(set))?;
             Ok(())
         }
-        Node::Cat(parts) => add_all_positions(alloc, parts, positions),
-        Node::Alt(parts) => add_all_positions(alloc, parts, positions),
+        Node::Cat(parts) | Node::Alt(parts) => add_all_positions(alloc, parts, positions),
         Node::Rep(x, _, _) => add_positions(alloc, x, positions),
         _ => Ok(()),
     }

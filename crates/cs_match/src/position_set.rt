@@ -70,7 +70,7 @@ impl PositionSet {
         requires { index < length self.old }
         ensures { self.new ≡ take index self.old ++ on ∷ drop (index + 1) self.old }
     {
-        self.words[index / 64] = with_bit(self.words[index / 64], index % 64, on);
+        self.words[index / 64] = with_bits(self.words[index / 64], 1 << (index % 64), on);
     }
 
     /// Removes all positions.
@@ -208,16 +208,6 @@ fn word_at(words: &[u64], index: usize) -> u64
     ensures { result ≡ slice_index_or words.now index 0 }
 {
     if index < words.len() { words[index] } else { 0 }
-}
-
-/// The word with the bit at `index` set or cleared.
-fn with_bit(word: u64, index: usize, on: bool) -> u64
-    requires { index < 64 }
-    ensures there { (bit_at result index == 1) ≡ on }
-    ensures elsewhere { (i : ℕ) → i < 64 → i ≢ index → bit_at result i ≡ bit_at word i }
-{
-    let bit = 1u64 << index;
-    if on { word | bit } else { word & !bit }
 }
 
 /// The word with these bits set or cleared.

@@ -43,8 +43,8 @@ expand_repeat-returns-in_ok-push-in-None t c =
     ∙ ap cat (trees_last c.add_copies.new.parts.items c.in_ok-last-in-None-2.last ∙ ap (λ us. append us (more (tree_of c.in_ok-last-in-None-2.last) none)) first ∙ ap (λ u. append (copies (n - 1) x none) (more u none)) loop ∙ append_copies (n - 1) x (more (rep x 1 None) none))
     ∙ sym (counted_loop x n some))
 
-pub expand_repeat-returns-in_ok-add_optional-in-Some : goal.expand_repeat-returns-in_ok-add_optional-in-Some
-expand_repeat-returns-in_ok-add_optional-in-Some t c =
+pub expand_repeat-returns-in_ok-add_copies-in-Some-2 : goal.expand_repeat-returns-in_ok-add_copies-in-Some-2
+expand_repeat-returns-in_ok-add_copies-in-Some-2 t c =
     let x = expansion (tree_of c.args.node.now) in
     let n = c.args.least in
     let m = c.in-Some.most in
@@ -52,4 +52,4 @@ expand_repeat-returns-in_ok-add_optional-in-Some t c =
     let first : trees_of c.add_copies-in-Some.new.parts.items ≡ copies n x none = c.in_ok-add_copies-in-Some.ensures ∙ ap (λ (ns : List Node). append (trees_of ns) (copies n x none)) c.new-parts.ensures.items in
     let others = copies (m - n) (optional x) none in
     rw (c.in-Some.is, le-leb n m le)
-    (tree_of-Cat _ ∙ ap cat (c.in_ok-add_optional-in-Some.ensures ∙ ap (λ us. append us others) first ∙ append_copies n x others))
+    (tree_of-Cat _ ∙ ap cat (c.in_ok-add_copies-in-Some-2.ensures ∙ ap (λ us. append us others) first ∙ append_copies n x others))

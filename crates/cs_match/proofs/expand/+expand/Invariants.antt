@@ -1,4 +1,5 @@
 use Rattle.std.proofs.Common.{◌≡◌, drop}
+use Rattle.std.specs.Prelude.{if◌then◌else◌}
 use Rattle.cs_syntax.specs.TreeList.{append}
 use Rattle.cs_syntax.specs.Matching.{none}
 use Rattle.cs_syntax.specs.Node.{tree_of}
@@ -12,8 +13,5 @@ invariant-expand_all-loop-part l =
 
 abbrev pub invariant-add_copies-loop-k : goal.invariant-add_copies-loop-k
 invariant-add_copies-loop-k l =
-    trees_of l.parts.items ≡ append (trees_of l.fn.parts.items) (copies l.k (expansion (tree_of l.node)) none)
-
-abbrev pub invariant-add_optional-loop-k : goal.invariant-add_optional-loop-k
-invariant-add_optional-loop-k l =
-    trees_of l.parts.items ≡ append (trees_of l.fn.parts.items) (copies l.k (optional (expansion (tree_of l.node))) none)
+    let x = expansion (tree_of l.node) in
+    trees_of l.parts.items ≡ append (trees_of l.fn.parts.items) (copies l.k (if l.are_optional then optional x else x) none)

@@ -1,6 +1,7 @@
 use Rattle.std.proofs.Common.{◌≡◌, ◌+◌, ◌/◌, ◌%◌, ◌∷◌, ◌++◌, ◌∙◌, take, drop, get_or, ap, arith}
 use Rattle.std.proofs.lemmas.List.{get_or_read}
 use Rattle.cs_syntax.proofs.BitLemmas.{IsWithBit}
+use Rattle.cs_match.proofs.BitwiseLemmas.{with_one_bit}
 use Rattle.cs_match.proofs.PositionSetLemmas.{position_within, word_within, positions_of-set, IsPositionSet-set}
 use Rattle.cs_match.proofs.position_set.PositionSet.put.Goals as goal
 
@@ -22,9 +23,9 @@ invariant_of-self c =
     let low = position_within m.words.items m.count c.args.index _ c.self.view_is c.requires in
     let within = word_within m.words.items m.count c.args.index c.self.invariant low in
     let read : c.index.result.now ≡ get_or m.words.items (c.args.index / 64) 0 = get_or_read m.words.items (c.args.index / 64) _ within c.index.ensures 0 in
-    let bit : IsWithBit c.index.result.now c.with_bit.result (c.args.index % 64) c.args.on =
-    record { there = c.with_bit.ensures.there; elsewhere = c.with_bit.ensures.elsewhere } in
-    IsPositionSet-set m.words.items c.args.index c.with_bit.result c.args.on (rw read at bit) within m.count low (omega (arith, c.with_bit.type_inv)) c.self.invariant
+    let bit : IsWithBit c.index.result.now c.with_bits.result (c.args.index % 64) c.args.on =
+    with_one_bit c.index.result.now c.with_bits.result (c.args.index % 64) c.args.on (omega arith) c.with_bits.ensures in
+    IsPositionSet-set m.words.items c.args.index c.with_bits.result c.args.on (rw read at bit) within m.count low (omega (arith, c.with_bits.type_inv)) c.self.invariant
 
 pub returns : goal.returns
 returns c =
@@ -32,7 +33,7 @@ returns c =
     let low = position_within m.words.items m.count c.args.index _ c.self.view_is c.requires in
     let within = word_within m.words.items m.count c.args.index c.self.invariant low in
     let read : c.index.result.now ≡ get_or m.words.items (c.args.index / 64) 0 = get_or_read m.words.items (c.args.index / 64) _ within c.index.ensures 0 in
-    let bit : IsWithBit c.index.result.now c.with_bit.result (c.args.index % 64) c.args.on =
-    record { there = c.with_bit.ensures.there; elsewhere = c.with_bit.ensures.elsewhere } in
-    positions_of-set m.words.items c.args.index c.with_bit.result c.args.on (rw read at bit) within m.count low
+    let bit : IsWithBit c.index.result.now c.with_bits.result (c.args.index % 64) c.args.on =
+    with_one_bit c.index.result.now c.with_bits.result (c.args.index % 64) c.args.on (omega arith) c.with_bits.ensures in
+    positions_of-set m.words.items c.args.index c.with_bits.result c.args.on (rw read at bit) within m.count low
     ∙ ap (λ ms. take c.args.index ms ++ c.args.on ∷ drop (c.args.index + 1) ms) c.self.view_is

@@ -54,7 +54,7 @@ pub(crate) fn test_entries(entries: &[u8], least: usize, room: usize) -> Option<
     let mut next = least;
     let mut at = 0;
     'entries: while entries.len() - at >= ENTRY_LEN {
-        let trigram = read_trigram(entries, at) as usize;
+        let trigram = entry_trigram(entries, at) as usize;
         if trigram < next || !entry_fits(entries, at, room) {
             return None;
         }
@@ -69,10 +69,19 @@ fn entry_fits(list_index: &[u8], at: usize, room: usize) -> bool
     requires { at + ENTRY_LEN ≤ length list_index.now }
     ensures { result ≡ is_entry room (entry_at list_index.now at) }
 {
-    let trigram = read_trigram(list_index, at);
+    let trigram = entry_trigram(list_index, at);
     let count = read_number(list_index, at + 3);
     let offset = read_number(list_index, at + 7) as usize;
     offset + 4 <= room && (trigram < 0xffffff || count == 0)
+}
+
+/// The trigram of the entry at an offset: four bytes are read at once.
+#[tactic(auto, unfolding(crate::specs::Opening::number_at, crate::specs::Opening::trigram_at))]
+fn entry_trigram(list_index: &[u8], at: usize) -> u32
+    requires { at + ENTRY_LEN ≤ length list_index.now }
+    ensures { result ≡ trigram_at list_index.now at }
+{
+    read_number(list_index, at) / 256
 }
 
 /// The offset of a trigram's entry in the list index.

@@ -11,7 +11,3 @@ pub gathered_new : (lists : List PostingList) (g id : ℕ) → has (trigrams_in 
 gathered_new [] g id h = refl
 gathered_new (p ∷ lists) g id h =
     ap (λ b. cond b ((p.0, p.1 ++ id ∷ []) ∷ lists) (p ∷ with_id lists g id)) (or_parts _ _ h).0 ∙ ap (λ rest. p ∷ rest) (gathered_new lists g id (or_parts _ _ h).1)
-
-pub ids_new : (lists : List PostingList) (g : ℕ) → has (trigrams_in lists) g ≡ false → ids_of lists g ≡ []
-ids_new [] g h = refl
-ids_new (p ∷ lists) g h = ap (λ b. cond b p.1 (ids_of lists g)) (or_parts _ _ h).0 ∙ ids_new lists g (or_parts _ _ h).1

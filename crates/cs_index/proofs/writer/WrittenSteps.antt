@@ -21,39 +21,12 @@ use Rattle.cs_index.proofs.writer.StringsPush.{all_texts, length-starts_from}
 use Rattle.cs_index.proofs.decoding.DecodingIsUnique.{lengths}
 use Rattle.cs_index.proofs.encoding.FixedWidthFields.{length-fours}
 
--- ---- one more name
-
-no_lists : (name_count more : ℕ) (lists : List PostingList) → lists ≡ [] → ArePostingLists name_count lists → ArePostingLists more lists
-no_lists name_count more lists none are = subst (ArePostingLists more) (sym none) (record { ascend = tt; each = tt })
-
-pub written_named : (output : Written) (name : List ℕ) → IsWritten output → output.lists ≡ [] → IsString name →
-    length output.names < 2 ^ 31 → IsWritten (with_written_name output name)
-written_named output name is none text bound =
-    let more : length (output.names ++ name ∷ []) ≡ length output.names + 1 = length_push output.names name in
-    record {
-      each_path = is.each_path;
-      each_name = all_texts output.names name is.each_name text;
-      bound = omega (arith, more, bound);
-      postings = no_lists (length output.names) (length (output.names ++ name ∷ [])) output.lists none is.postings;
-      last = is.last;
-    }
-
--- ---- a list is begun
+-- ---- one more list
 
 at_limit : (lists : List PostingList) (trigram : ℕ) → AllBelow lists trigram →
     AllByRecursion (λ (p : PostingList). p.0 ≤ trigram) lists
 at_limit [] trigram all = tt
 at_limit (p ∷ lists) trigram all = (omega (arith, all.0), at_limit lists trigram all.1)
-
-pub written_listed : (output : Written) (trigram : ℕ) → IsWritten output → trigram < 16777215 → AllBelow output.lists trigram →
-    IsWritten (with_list output trigram)
-written_listed output trigram is small above = record {
-  each_path = is.each_path;
-  each_name = is.each_name;
-  bound = is.bound;
-  postings = is.postings;
-  last = (small, at_limit output.lists trigram above);
-}
 
 -- ---- one more id
 

@@ -1,10 +1,9 @@
 -- Filtered ids, ranges of ids and ascending ids.
-use Rattle.std.proofs.Common.{◌≡◌, ℕ, zero, suc, ◌+◌, ◌-◌, ◌<◌, ◌≤◌, true, ◌&&◌, ◌||◌, eqb, ltb, List, [], ◌∷◌, refl, sym, ap, subst, ◌∙◌, inl, inr, arith, Option, Some, None}
+use Rattle.std.proofs.Common.{◌≡◌, ℕ, zero, suc, ◌+◌, ◌-◌, ◌<◌, ◌≤◌, true, ◌&&◌, ◌||◌, eqb, ltb, List, [], ◌∷◌, sym, ap, subst, ◌∙◌, inl, inr, arith, Option, Some, None}
 use Rattle.cs_index.specs.AscendingIds.{AscendWithin}
 use Rattle.cs_index.specs.PostingLists.{read_varint, Ids, damage, onto, read_ids}
 use Rattle.cs_trigram.specs.Trigram.{has, Ascends}
 use Rattle.std.proofs.lemmas.Bool.{true≢false, and_parts, ltb-true, cases_Bool, cond_both, cases_order, eqb-true, eq-eqb, ne_eqb, or_left}
-use Rattle.std.specs.Prelude.{filter}
 use Rattle.std.specs.List.{AllByRecursion, range_with_len}
 use Rattle.cs_trigram.proofs.SetLemmas.{Above, ascends_cons}
 use Rattle.cs_index.proofs.encoding.VarintRoundtrip.{after_delta}

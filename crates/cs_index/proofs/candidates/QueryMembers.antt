@@ -11,7 +11,7 @@ use Rattle.std.specs.Prelude.{filter, option_map, unwrap_or, bytes_eq}
 use Rattle.std.specs.List.{list_all, list_any}
 use Rattle.cs_trigram.specs.Query.{matches_set, matches_set_step}
 use Rattle.cs_trigram.specs.declared.queries.Query.{Query, Query-F, fold-roll-Query}
-use Rattle.cs_trigram.specs.declared.queries.Query.TheVariants.{All, Nothing, Tri, And, Or, rolls-All, rolls-Nothing, rolls-Tri, rolls-And, rolls-Or}
+use Rattle.cs_trigram.specs.declared.queries.Query.TheVariants.{Tri, And, Or, rolls-Tri, rolls-And, rolls-Or}
 use Rattle.cs_index.specs.Encoding.{ListEntry, PostingList, three_bytes}
 use Rattle.cs_index.specs.Opening.{rises}
 use Rattle.cs_index.specs.OpenedParts.{Parts, ids_read, lists_in, whole_ids}

@@ -4,7 +4,7 @@ use Rattle.std.proofs.lemmas.Bool.{true≢false, cases_Bool, eqb-true, eq-eqb, n
 use Rattle.std.proofs.Math.Bool.{or-false}
 use Rattle.std.proofs.lemmas.List.{append-nil, get_or-drop}
 use Rattle.std.specs.Prelude.{filter, IfSome}
-use Rattle.std.specs.List.{AllByRecursion, AllZip, list_all, list_any, range_with_len}
+use Rattle.std.specs.List.{AllByRecursion, AllZip, list_any, range_with_len}
 use Rattle.cs_trigram.specs.Trigram.{has}
 use Rattle.cs_index.specs.AscendingIds.{AscendWithin, BeginsFrom, ids_onward, max_ids}
 use Rattle.cs_index.specs.PostingLists.{Ids, before}

@@ -4,7 +4,7 @@ use Rattle.cs_trigram.specs.Trigram.{has}
 use Rattle.std.proofs.lemmas.Bool.{or_parts}
 use Rattle.cs_index.specs.Encoding.{PostingList}
 use Rattle.cs_index.specs.Gathering.{trigrams_in}
-use Rattle.cs_index.specs.Written.{ids_of, with_id}
+use Rattle.cs_index.specs.Written.{with_id}
 
 -- a trigram without a list
 pub gathered_new : (lists : List PostingList) (g id : ℕ) → has (trigrams_in lists) g ≡ false → with_id lists g id ≡ lists ++ (g, id ∷ []) ∷ []

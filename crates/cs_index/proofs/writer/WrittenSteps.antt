@@ -3,13 +3,13 @@ use Rattle.std.proofs.Common.{◌≡◌, ◌≢◌, ℕ, ◌+◌, ◌*◌, ◌^�
 use Rattle.cs_trigram.specs.Trigram.{has, closing_trigram, Ascends}
 use Rattle.cs_trigram.proofs.SetLemmas.{Above, ascends_cons, ascends_tail, ascends_head}
 use Rattle.std.proofs.lemmas.Bool.{true≢false, cases_Bool, cond_both, eq-eqb}
-use Rattle.std.proofs.lemmas.List.{append-nil, length_push, length-map}
+use Rattle.std.proofs.lemmas.List.{append-nil, length-map}
 use Rattle.std.specs.Prelude.{filter}
 use Rattle.std.specs.List.{AllByRecursion, concat}
 use Rattle.cs_index.specs.Encoding.{Entry, PostingList, IsString, encoding_of, layout, posting_list_bytes, postings_of, sections_of, with_nul, starts_from, four_bytes, name_offsets}
-use Rattle.cs_index.specs.AscendingIds.{next_after, ArePostingLists, IsPostingList}
+use Rattle.cs_index.specs.AscendingIds.{next_after, IsPostingList}
 use Rattle.cs_index.specs.Gathering.{trigrams_in}
-use Rattle.cs_index.specs.Written.{ids_of, with_id, Written, entries_written, with_written_name, with_written_id, with_list, AllBelow}
+use Rattle.cs_index.specs.Written.{ids_of, with_id, Written, entries_written, with_written_id, AllBelow}
 use Rattle.cs_index.specs.WrittenLists.{IsWritten, IsLastList, with_posting, with_postings}
 use Rattle.cs_index.specs.Indexable.{IsIndexable}
 use Rattle.cs_index.specs.PostingLists.{entries_of, set_at}
@@ -17,7 +17,7 @@ use Rattle.cs_index.proofs.writer.BuilderAdd.{names_entries}
 use Rattle.cs_index.proofs.writer.EntriesOfLists.{each_gathered}
 use Rattle.cs_index.proofs.writer.ListsBelow.{ascend_push}
 use Rattle.cs_index.proofs.encoding.InvertedLists.{length-entries_of, postings_gathered}
-use Rattle.cs_index.proofs.writer.StringsPush.{all_texts, length-starts_from}
+use Rattle.cs_index.proofs.writer.StringsPush.{length-starts_from}
 use Rattle.cs_index.proofs.decoding.DecodingIsUnique.{lengths}
 use Rattle.cs_index.proofs.encoding.FixedWidthFields.{length-fours}
 

@@ -1,5 +1,5 @@
 // The name index and the list index.
-ghost use Rattle.std.specs.Prelude.{◌≡◌, ◌≤◌, ◌<◌, ◌+◌, ◌*◌, ◌/◌, ◌^◌, ◌∷◌, ◌++◌, [], ◌≢◌, ◌-◌, ℕ, List, None, true, false, length, slice_index, Some, IfSome, IfNone, IsTrue};
+ghost use Rattle.std.specs.Prelude.{◌≡◌, ◌==◌, ◌≤◌, ◌<◌, ◌+◌, ◌*◌, ◌/◌, ◌^◌, ◌∷◌, ◌++◌, [], ◌≢◌, ◌-◌, ℕ, List, None, true, false, length, slice_index, Some, IfSome, IfNone, IsTrue};
 ghost use Rattle.cs_index.specs.Postings.{entry_of};
 ghost use Rattle.cs_index.specs.PostingLists.{read_list};
 ghost use Rattle.cs_index.specs.SectionPieces.{are_entries};
@@ -87,10 +87,19 @@ fn entry_fits(list_index: &[u8], at: usize, room: usize) -> bool
     requires { at + ENTRY_LEN ≤ length list_index.now }
     ensures { result ≡ is_entry room (entry_at list_index.now at) }
 {
-    let trigram = entry_trigram(list_index, at);
-    let count = read_number(list_index, at + 3);
-    let offset = read_number(list_index, at + 7) as usize;
-    offset + 4 <= room && (trigram < 0xffffff || count == 0)
+    if entry_trigram(list_index, at) >= 0xffffff && !has_no_ids(list_index, at) {
+        return false;
+    }
+    read_number(list_index, at + 7) as usize + 4 <= room
+}
+
+/// Whether the entry counts no file. Only the last entry is asked, so the counts of the others are not read.
+#[inline(never)]
+fn has_no_ids(list_index: &[u8], at: usize) -> bool
+    requires { at + ENTRY_LEN ≤ length list_index.now }
+    ensures { result ≡ ((entry_at list_index.now at).count == 0) }
+{
+    read_number(list_index, at + 3) == 0
 }
 
 /// The trigram of the entry at an offset: four bytes are read at once.

@@ -6,7 +6,7 @@ usage: tests/runs/damage.py PROGRAM
 Each run has 2 GB of address space and 5 seconds. Its status is 0 to 2. If the bytes do not open, each tool fails with the name of the
 error, and the file stays unchanged. If they do, `cindex -list` lists their paths, `csearch -brute` succeeds, `csearch` fails if its
 posting list is damaged, and `cindex PATH` fails with the right name and an unchanged file, or leaves the index of the remaining names
-and the new ones."""
+and the new ones. Last, `csearch` has 16 MB for an index of 4 GB of zeros, and for one of ten million names."""
 import os
 import random
 import resource
@@ -285,6 +285,43 @@ def overlaps():
     return made([b"/a"], names, lists, [(b"bon", 5, 0), (b"one", 2, 3)])
 
 
+def counted():
+    """A posting list whose entry counts 2^32 - 1 ids, and has one."""
+    return made([b"/a"], [b"/a/x"], b"one\1\0\xff\xff\xff\0", [(b"one", (1 << 32) - 1, 0)])
+
+
+# A section of zeros in an index whose other sections are sound, and the answer of csearch.
+ZEROS = [(0, "paths"), (1, "names"), (2, None), (3, "name index"), (4, "list index")]
+
+
+def sparse(section):
+    """Makes the index file one of 2^32 - 1 bytes, whose section of this number is zeros."""
+    sections = [b"/a\0\0", b"x\0\0", b"\xff\xff\xff\0", bytes(8), b"\xff\xff\xff" + bytes(8)]
+    sections[section] = b""
+    zeros = (1 << 32) - 1 - 16 - 36 - sum(map(len, sections))
+    starts = [16]
+    for number, data in enumerate(sections):
+        starts.append(starts[-1] + (zeros if number == section else len(data)))
+    with open("index", "wb") as file:
+        file.write(MAGIC)
+        for at, data in zip(starts, sections):
+            file.seek(at)
+            file.write(data)
+        file.seek(starts[5])
+        file.write(b"".join(at.to_bytes(4, "big") for at in starts[:5]) + TRAILER)
+
+
+def zeros():
+    """Zeros of 4 GB are refused or passed over in 16 MB, whichever section has them."""
+    for section, fault in ZEROS:
+        sparse(section)
+        status, out, err = run(["csearch", "one"], space=1 << 24, seconds=5)
+        want = b"" if fault is None else f"bad index: {fault}\n".encode()
+        if status != (1 if fault is None else 2) or out or not err.endswith(want) or bool(err) != bool(want):
+            complain(f"csearch over zeros, section {section}", (status, out, err))
+    os.remove("index")
+
+
 def large():
     """A million paths are listed, and ten million names are searched in 16 MB."""
     paths = [b"/a/%06d" % number for number in range(1000000)]
@@ -316,6 +353,9 @@ def main():
         counts[outcome] = counts.get(outcome, 0) + 1
     if judge(overlaps()) != "open, cindex done":
         complain("overlapping lists", "they are not read")
+    if judge(counted()) != "open, cindex bad index: list":
+        complain("a list of 2^32 - 1 ids", "it is read")
+    zeros()
     large()
     if "-v" in sys.argv:
         for outcome, count in sorted(counts.items()):

@@ -18,9 +18,9 @@ import time
 import running
 from running import complain, home, leave, read, write
 
-CALLS = ["read", "write", "openat", "getdents64", "statx", "fsync", "ftruncate", "flock", "rename", "unlink", "close", "fchmod"]
+CALLS = ["read", "pread64", "write", "openat", "getdents64", "statx", "fsync", "ftruncate", "flock", "rename", "unlink", "close", "fchmod"]
 # The calls that are retried after an interrupt.
-AGAIN = ["read", "write", "openat", "getdents64", "fsync", "flock"]
+AGAIN = ["read", "pread64", "write", "openat", "getdents64", "fsync", "flock"]
 # The timeout of a run that could block, in seconds.
 PATIENCE = 20
 # The longest path.

@@ -3,6 +3,7 @@ pub mod ListBuffers
 pub mod ListPieces
 pub mod ListSections
 pub mod NamePieces
+pub mod NameStarts
 pub mod SectionOffsets
 pub mod SectionPieces
 pub mod SectionReads

@@ -1,29 +1,14 @@
 -- Filtered ids, ranges of ids and ascending ids.
-use Rattle.std.proofs.Common.{◌≡◌, ℕ, zero, suc, ◌+◌, ◌-◌, ◌<◌, ◌≤◌, true, ◌&&◌, ◌||◌, eqb, ltb, List, [], ◌∷◌, refl, sym, ap, subst, ◌∙◌, inl, inr, arith, Option, Some, None}
+use Rattle.std.proofs.Common.{◌≡◌, ℕ, zero, suc, ◌+◌, ◌-◌, ◌<◌, ◌≤◌, true, ◌&&◌, ◌||◌, eqb, ltb, List, [], ◌∷◌, sym, ap, subst, ◌∙◌, inl, inr, arith, Option, Some, None}
 use Rattle.cs_index.specs.AscendingIds.{AscendWithin}
 use Rattle.cs_index.specs.PostingLists.{read_varint, Ids, damage, onto, read_ids}
 use Rattle.cs_trigram.specs.Trigram.{has, Ascends}
 use Rattle.std.proofs.lemmas.Bool.{true≢false, and_parts, ltb-true, cases_Bool, cond_both, cases_order, eqb-true, eq-eqb, ne_eqb, or_left}
-use Rattle.std.specs.Prelude.{filter}
 use Rattle.std.specs.List.{AllByRecursion, range_with_len}
 use Rattle.cs_trigram.proofs.SetLemmas.{Above, ascends_cons}
 use Rattle.cs_index.proofs.encoding.VarintRoundtrip.{after_delta}
 
--- ---- filters
-
-pub filter_all : (xs : List ℕ) → filter (λ _. true) xs ≡ xs
-filter_all [] = refl
-filter_all (x ∷ xs) = ap (λ ys. x ∷ ys) (filter_all xs)
-
 -- ---- ranges
-
-above_range : (a n : ℕ) → Ascends (range_with_len a n)
-above_range a zero = tt
-above_range a (suc zero) = tt
-above_range a (suc (suc n)) = (omega arith, above_range (a + 1) (suc n))
-
-pub ascends_range : (n : ℕ) → Ascends (range_with_len 0 n)
-ascends_range n = above_range 0 n
 
 has_from : (a n k : ℕ) → a ≤ k → k < a + n → has (range_with_len a n) k ≡ true
 has_from a zero k h g = absurd (omega (arith, h, g))
@@ -51,10 +36,6 @@ rise_ascends name_count next (id ∷ ids) up = ascends_cons id ids (first name_c
     first : (m k : ℕ) (is : List ℕ) → AscendWithin m k is → id < k → Above id is
     first m k [] u h = tt
     first m k (i ∷ is) u h = omega (arith, u.0, h)
-
-pub rise_below : (name_count next : ℕ) (ids : List ℕ) → AscendWithin name_count next ids → AllByRecursion (λ id. id < name_count) ids
-rise_below name_count next [] up = tt
-rise_below name_count next (id ∷ ids) up = (up.1, rise_below name_count (id + 1) ids up.2)
 
 pub read_rise : (name_count count next : ℕ) (bytes : List ℕ) → AscendWithin name_count next (read_ids name_count count next bytes).ids
 read_rise name_count zero next bytes = tt

@@ -11,7 +11,7 @@ use Rattle.std.specs.Prelude.{filter, option_map, unwrap_or, bytes_eq}
 use Rattle.std.specs.List.{list_all, list_any}
 use Rattle.cs_trigram.specs.Query.{matches_set, matches_set_step}
 use Rattle.cs_trigram.specs.declared.queries.Query.{Query, Query-F, fold-roll-Query}
-use Rattle.cs_trigram.specs.declared.queries.Query.TheVariants.{All, Nothing, Tri, And, Or, rolls-All, rolls-Nothing, rolls-Tri, rolls-And, rolls-Or}
+use Rattle.cs_trigram.specs.declared.queries.Query.TheVariants.{Tri, And, Or, rolls-Tri, rolls-And, rolls-Or}
 use Rattle.cs_index.specs.Encoding.{ListEntry, PostingList, three_bytes}
 use Rattle.cs_index.specs.Opening.{rises}
 use Rattle.cs_index.specs.OpenedParts.{Parts, ids_read, lists_in, whole_ids}
@@ -36,12 +36,6 @@ module _ (set : ℕ → Bool) where
       ∙ list_any-map (λ q. matches_set q set) (λ b. b) members.items
 
 module _ (g : ℕ) where
-  is_mentioned-All : mentions All g ≡ false
-  is_mentioned-All = ap (λ q. mentions q g) (sym rolls-All) ∙ fold-roll-Query Bool (mentions_step g) Query-F.All
-
-  is_mentioned-Nothing : mentions Nothing g ≡ false
-  is_mentioned-Nothing = ap (λ q. mentions q g) (sym rolls-Nothing) ∙ fold-roll-Query Bool (mentions_step g) Query-F.Nothing
-
   pub is_mentioned-Tri : (n : ℕ) → mentions (Tri n) g ≡ eqb g n
   is_mentioned-Tri n = ap (λ q. mentions q g) (sym (rolls-Tri n)) ∙ fold-roll-Query Bool (mentions_step g) (Query-F.Tri n)
 
@@ -55,63 +49,12 @@ module _ (g : ℕ) where
       ap (λ q. mentions q g) (sym (rolls-Or members)) ∙ fold-roll-Query Bool (mentions_step g) (Query-F.Or members)
       ∙ list_any-map (λ q. mentions q g) (λ b. b) members.items
 
--- ---- lists of members
-
--- the test of an entry
-passes : (ListEntry → Bool) → (ℕ → Bool) → ListEntry → Bool
-passes whole mentioned e = not (mentioned e.trigram) || whole e
-
-all_true : (es : List ListEntry) → list_all (λ _. true) es ≡ true
-all_true [] = refl
-all_true (e ∷ es) = all_true es
-
-both_all : (p q : ListEntry → Bool) (es : List ListEntry) → list_all (λ e. p e && q e) es ≡ (list_all p es && list_all q es)
-both_all p q [] = refl
-both_all p q (e ∷ es) = ap (λ b. (p e && q e) && b) (both_all p q es) ∙ swap (p e) (q e) (list_all p es) (list_all q es)
-  where
-    swap : (a b c d : Bool) → ((a && b) && (c && d)) ≡ ((a && c) && (b && d))
-    swap true true c d = refl
-    swap true false true d = refl
-    swap true false false d = refl
-    swap false b c d = refl
-
-split : (a b w : Bool) → (not (a || b) || w) ≡ ((not a || w) && (not b || w))
-split true b true = sym (one b)
-  where
-    one : (b : Bool) → (not b || true) ≡ true
-    one true = refl
-    one false = refl
-split true b false = refl
-split false b w = refl
-
--- the lists of each member are whole if those of all members are
-members_whole : (whole : ListEntry → Bool) (es : List ListEntry) (ms : List Query) → list_all (λ (e : ListEntry). not (list_any (λ m. mentions m e.trigram) ms) || whole e) es ≡ list_all (λ m. list_all (λ (e : ListEntry). not (mentions m e.trigram) || whole e) es) ms
-members_whole whole es [] = all_true es
-members_whole whole es (m ∷ ms) =
-    ap (λ (p : ListEntry → Bool). list_all p es) (λ i e. split (mentions m e.trigram) (list_any (λ n. mentions n e.trigram) ms) (whole e) i)
-    ∙ both_all (λ (e : ListEntry). not (mentions m e.trigram) || whole e) (λ (e : ListEntry). not (list_any (λ n. mentions n e.trigram) ms) || whole e) es
-    ∙ ap (λ b. list_all (λ (e : ListEntry). not (mentions m e.trigram) || whole e) es && b) (members_whole whole es ms)
+-- ---- the lists of a query
 
 module _ (parts : Parts) where
   pub answerable_as : (query : Query) (mentioned : ℕ → Bool) → ((g : ℕ) → mentions query g ≡ mentioned g) → is_answerable parts query ≡ list_all (λ (e : ListEntry). not (mentioned e.trigram) || (ids_read parts e).whole) parts.entries
   unfolding is_answerable
   answerable_as query mentioned h = ap (λ (p : ListEntry → Bool). list_all p parts.entries) (λ i e. not (h e.trigram i) || (ids_read parts e).whole)
-
-  pub answerable-All : is_answerable parts All ≡ true
-  answerable-All = answerable_as All (λ _. false) is_mentioned-All ∙ all_true parts.entries
-
-  pub answerable-Nothing : is_answerable parts Nothing ≡ true
-  answerable-Nothing = answerable_as Nothing (λ _. false) is_mentioned-Nothing ∙ all_true parts.entries
-
-  all_answerable : (ms : List Query) → list_all (λ (e : ListEntry). not (list_any (λ m. mentions m e.trigram) ms) || (ids_read parts e).whole) parts.entries ≡ list_all (is_answerable parts) ms
-  unfolding is_answerable
-  all_answerable ms = members_whole (λ e. (ids_read parts e).whole) parts.entries ms
-
-  pub answerable-And : (members : Vec Query Global) → is_answerable parts (And members) ≡ list_all (is_answerable parts) members.items
-  answerable-And members = answerable_as (And members) (λ g. list_any (λ m. mentions m g) members.items) (λ g. is_mentioned-And g members) ∙ all_answerable members.items
-
-  pub answerable-Or : (members : Vec Query Global) → is_answerable parts (Or members) ≡ list_all (is_answerable parts) members.items
-  answerable-Or members = answerable_as (Or members) (λ g. list_any (λ m. mentions m g) members.items) (λ g. is_mentioned-Or g members) ∙ all_answerable members.items
 
 -- ---- the list of a trigram
 

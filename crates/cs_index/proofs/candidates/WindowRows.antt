@@ -4,7 +4,7 @@ use Rattle.std.proofs.lemmas.Bool.{true≢false, cases_Bool, eqb-true, eq-eqb, n
 use Rattle.std.proofs.Math.Bool.{or-false}
 use Rattle.std.proofs.lemmas.List.{append-nil, get_or-drop}
 use Rattle.std.specs.Prelude.{filter, IfSome}
-use Rattle.std.specs.List.{AllByRecursion, AllZip, list_all, list_any, range_with_len}
+use Rattle.std.specs.List.{AllByRecursion, AllZip, list_any, range_with_len}
 use Rattle.cs_trigram.specs.Trigram.{has}
 use Rattle.cs_index.specs.AscendingIds.{AscendWithin, BeginsFrom, ids_onward, max_ids}
 use Rattle.cs_index.specs.PostingLists.{Ids, before}
@@ -124,13 +124,6 @@ row_ends start end list row rest r h k below =
     sym (or-false (get_or row k false))
     ∙ ap (λ b. get_or row k false || b) (sym (none_below max_ids end rest.ids (start + k) (ascend_from max_ids start end rest.ids r.from h) below))
     ∙ r.flags k below
-
-pub read_to : (start end : ℕ) (list : Ids) (row : List Bool) (rest after : Ids) → RowSoFar start end list row rest → BeginsFrom end rest.ids → after.ids ≡ rest.ids → after.whole ≡ rest.whole → IsReadTo end list after
-read_to start end list row rest after r h ids whole = record {
-  same = λ id above. ap (λ (is : List ℕ). has is id) ids ∙ r.same id above;
-  ascend = subst (AscendWithin max_ids 0) (sym ids) (ascend_weaker max_ids 0 start rest.ids (omega arith) r.from);
-  whole = whole ∙ r.whole;
-}
 
 pub read_weaker : (a b : ℕ) (list rest : Ids) → a ≤ b → IsReadTo a list rest → IsReadTo b list rest
 read_weaker a b list rest h r = record { same = λ id above. r.same id (omega (arith, h, above)); ascend = r.ascend; whole = r.whole }
@@ -331,34 +324,11 @@ pub width-push : (width : ℕ) (rows : List (Vec Bool Global)) (row : Vec Bool G
 width-push width [] row h w = (w, tt)
 width-push width (r ∷ rows) row h w = (h.0, width-push width rows row h.1 w)
 
--- the row with a number
-pub width_at : (width : ℕ) (rows : List (Vec Bool Global)) (n : ℕ) (d : Vec Bool Global) → n < length rows → HaveWidth width rows → (length (get_or rows n d).items ≡ 0) ⊎ (length (get_or rows n d).items ≡ width)
-width_at width [] n d below h = absurd (omega (arith, below))
-width_at width (r ∷ rows) zero d below h = h.0
-width_at width (r ∷ rows) (suc n) d below h = width_at width rows n d (omega (arith, below)) h.1
-
-pub column_at : (k : ℕ) (rows : List (Vec Bool Global)) (n : ℕ) (d : Vec Bool Global) → n < length rows → get_or (column k rows) n false ≡ get_or (get_or rows n d).items k false
-column_at k [] n d below = absurd (omega (arith, below))
-column_at k (r ∷ rows) zero d below = refl
-column_at k (r ∷ rows) (suc n) d below = column_at k rows n d (omega (arith, below))
-
-pub column_out : (k : ℕ) (rows : List (Vec Bool Global)) (n : ℕ) → length rows ≤ n → get_or (column k rows) n false ≡ false
-column_out k [] n h = refl
-column_out k (r ∷ rows) zero h = absurd (omega (arith, h))
-column_out k (r ∷ rows) (suc n) h = column_out k rows n (omega (arith, h))
-
 -- ---- one member more
 
 module _ (known : List Bool) where
   abbrev flag : ℕ → Bool
   flag m = get_or known m false
-
-  pub and_step : (f f' all : Bool) (left rest : List ℕ) (m : ℕ) → left ≡ m ∷ rest → f' ≡ (f && flag m) → (f && list_all flag left) ≡ all → (f' && list_all flag rest) ≡ all
-  and_step f f' all left rest m first is so_far = ap (λ b. b && list_all flag rest) is ∙ assoc f (flag m) (list_all flag rest) ∙ ap (λ (ms : List ℕ). f && list_all flag ms) (sym first) ∙ so_far
-    where
-      assoc : (a b c : Bool) → ((a && b) && c) ≡ (a && (b && c))
-      assoc true b c = refl
-      assoc false b c = refl
 
   pub or_step : (f f' all : Bool) (left rest : List ℕ) (m : ℕ) → left ≡ m ∷ rest → f' ≡ (f || flag m) → (f || list_any flag left) ≡ all → (f' || list_any flag rest) ≡ all
   or_step f f' all left rest m first is so_far = ap (λ b. b || list_any flag rest) is ∙ assoc f (flag m) (list_any flag rest) ∙ ap (λ (ms : List ℕ). f || list_any flag ms) (sym first) ∙ so_far
@@ -366,14 +336,6 @@ module _ (known : List Bool) where
       assoc : (a b c : Bool) → ((a || b) || c) ≡ (a || (b || c))
       assoc true b c = refl
       assoc false b c = refl
-
-  -- a member that does not match
-  pub and_dead : (f all : Bool) (left rest : List ℕ) (m : ℕ) → left ≡ m ∷ rest → flag m ≡ false → (f && list_all flag left) ≡ all → all ≡ false
-  and_dead f all left rest m first gone so_far = sym so_far ∙ ap (λ (ms : List ℕ). f && list_all flag ms) first ∙ ap (λ b. f && (b && list_all flag rest)) gone ∙ none f
-    where
-      none : (a : Bool) → (a && false) ≡ false
-      none true = refl
-      none false = refl
 
 -- ---- lists in a vector
 

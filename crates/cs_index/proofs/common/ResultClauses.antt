@@ -11,10 +11,6 @@ pub both_ok : {T E : Type 0} (r : Result T E) (P Q R : T → Type 0) → ((x : T
 both_ok (Ok x) P Q R f p q = f x p q
 both_ok (Err e) P Q R f p q = tt
 
-pub both_on_ok : {T E : Type 0} (r : Result T E) (P Q R : Type 0) → (P → Q → R) → OnOk r P → OnOk r Q → OnOk r R
-both_on_ok (Ok x) P Q R f p q = f p q
-both_on_ok (Err e) P Q R f p q = tt
-
 pub of_err : {T E P : Type 0} (r : Result T E) → OnErr r P → is_err r ≡ true → P
 of_err (Ok x) p is = absurd (true≢false (sym is))
 of_err (Err e) p is = p

@@ -13,11 +13,6 @@ use Rattle.cs_index.specs.declared.fault.IndexFault.TheVariants.{BadList}
 use Rattle.cs_index.proofs.candidates.Intersection.{range_step}
 use Rattle.std.proofs.Math.Bool.{or-true}
 
--- equal items come from equal ids
-record Same (r s : Ids) : Type 0 where
-  ids : r.ids ≡ s.ids
-  whole : r.whole ≡ s.whole
-
 yields_once : (xs ys : List ℕ) (a b : Bool) → ids_given (record { ids = xs; whole = a }) ≡ ids_given (record { ids = ys; whole = b }) → (xs ≡ ys) × (a ≡ b)
 yields_once [] [] true true e = (refl, refl)
 yields_once [] [] false false e = (refl, refl)
@@ -36,14 +31,6 @@ yields_once (x ∷ xs) (y ∷ ys) a b e =
 
 pub yields_ok : (r rest : Ids) (id : ℕ) → ids_given r ≡ Ok id ∷ ids_given rest → (r.ids ≡ id ∷ rest.ids) × (r.whole ≡ rest.whole)
 yields_ok r rest id e = yields_once r.ids (id ∷ rest.ids) r.whole rest.whole e
-
-pub yields_err : (r rest : Ids) (fault : IndexFault) → ids_given r ≡ Err fault ∷ ids_given rest → (fault ≡ BadList) × (r.whole ≡ false)
-yields_err r rest fault e = bad r.ids r.whole e
-  where
-    bad : (xs : List ℕ) (a : Bool) → ids_given (record { ids = xs; whole = a }) ≡ Err fault ∷ ids_given rest → (fault ≡ BadList) × (a ≡ false)
-    bad [] true h = cc
-    bad [] false h = let head : ◌≡◌ {A = Result ℕ IndexFault} (Err BadList) (Err fault) = cc in (let is : fault ≡ BadList = cc in is, refl)
-    bad (x ∷ xs) a h = absurd (let head : ◌≡◌ {A = Result ℕ IndexFault} (Ok x) (Err fault) = cc in cc)
 
 pub yields_none : (r : Ids) → ids_given r ≡ [] → (r.ids ≡ []) × (r.whole ≡ true)
 yields_none r e = none r.ids r.whole e

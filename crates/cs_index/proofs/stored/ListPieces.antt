@@ -202,10 +202,6 @@ run_taken bytes items used start stop left next name_count ended whole end len i
     rest : ListState
     rest = record { piece = drop (used + len) items; at = start + (used + len); stop = stop; left = left - length ids; next = next + next_after 0 ids; name_count = name_count; has_ended = ended; is_whole = whole }
 
--- no id is skipped
-pub skips_none : (bytes : List ℕ) (end : ℕ) (list : ListState) → Holds bytes list → SkipsBelow bytes end list list
-skips_none bytes end list holds = (holds, [], refl, tt)
-
 -- an id, and then others
 pub skips_on : (bytes : List ℕ) (end id : ℕ) (list one two rest : ListState) → SkipsBelow bytes end list one → GivesBelow bytes end one two (Some id) → SkipsBelow bytes end two rest → SkipsBelow bytes end list rest
 skips_on bytes end id list one two rest before_it gives after =
@@ -245,12 +241,6 @@ none_left bytes s (inr none) =
     either : (e : Bool) → (cond e (let r : Ids = record { ids = []; whole = s.is_whole } in r) (read_ids s.name_count 0 s.next (bytes_left bytes s))).ids ≡ []
     either true = refl
     either false = refl
-
--- none is left below the end
-pub skips_done : (bytes : List ℕ) (end : ℕ) (list one rest : ListState) (found : Option ℕ) → found ≡ None → SkipsBelow bytes end list one → GivesBelow bytes end one rest found → SkipsBelow bytes end list rest × BeginsFrom end (ids_left bytes rest).ids
-skips_done bytes end list one rest None none skips gives =
-    ((gives.0, skips.1, skips.2 ∙ ap (before skips.1) (sym gives.1), skips.3), subst (λ (ids : Ids). BeginsFrom end ids.ids) (sym gives.1) gives.2)
-skips_done bytes end list one rest (Some id) none skips gives = cc
 
 -- ---- pieces that are read
 
@@ -292,18 +282,6 @@ new_piece bytes piece at m len h enough is = (part_of bytes (at + len) (m - len)
       | inl less ↦ inr (short less long)
       | inr more ↦ inl more
     ]
-
--- a piece that has all bytes that are left
-pub last_piece : (bytes : List ℕ) (s : ListState) → s.at + length s.piece ≡ s.stop → Holds bytes s → IsReady bytes s
-last_piece bytes s all holds =
-    let l = ap length holds.1 in
-    let t = length-take (s.stop - s.at) (drop s.at bytes) in
-    let a = length-append s.piece holds.0 in
-    (holds.0, holds.1, inr (none holds.0 (omega (arith, l, t, a, all))))
-  where
-    none : (xs : List ℕ) → length xs ≡ 0 → xs ≡ []
-    none [] e = refl
-    none (x ∷ xs) e = absurd (omega (arith, e))
 
 -- what a modelled store shows
 pub shown : (P : List ℕ → Type 0) (model : Option (List ℕ)) (bytes : List ℕ) → model ≡ Some bytes → IfSome model P → P bytes
@@ -378,14 +356,3 @@ open_short bytes start room name_count e h =
 pub given_on : (bytes : List ℕ) (end : ℕ) (list later rest : ListState) (piece : List ℕ) (found : Option ℕ) → later ≡ with_piece list piece → GivesBelow bytes end later rest found → GivesBelow bytes end list rest found
 given_on bytes end list later rest piece None is gives = subst (λ (l : ListState). GivesBelow bytes end l rest None) is gives
 given_on bytes end list later rest piece (Some id) is gives = subst (λ (l : ListState). GivesBelow bytes end l rest (Some id)) is gives
-
--- a list that has ended without an id is as whole as before
-pub ended_whole : (bytes : List ℕ) (end : ℕ) (list rest : ListState) (found : Option ℕ) → found ≡ None → GivesBelow bytes end list rest found → rest.has_ended ≡ true → rest.is_whole ≡ (ids_left bytes list).whole
-ended_whole bytes end list rest None none gives ended =
-    sym (ap (λ e. (cond e (let r : Ids = record { ids = []; whole = rest.is_whole } in r) (read_ids rest.name_count rest.left rest.next (bytes_left bytes rest))).whole) ended)
-    ∙ ap (λ (ids : Ids). ids.whole) gives.1
-ended_whole bytes end list rest (Some id) none gives ended = cc
-
--- an id is taken from a list that is as whole as before
-pub more_whole : (bytes : List ℕ) (end id : ℕ) (list rest : ListState) → GivesBelow bytes end list rest (Some id) → Holds bytes rest × ((ids_left bytes rest).whole ≡ (ids_left bytes list).whole)
-more_whole bytes end id list rest gives = (gives.0, sym (ap (λ (ids : Ids). ids.whole) gives.1))

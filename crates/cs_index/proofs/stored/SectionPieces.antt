@@ -21,7 +21,7 @@ use Rattle.cs_index.specs.declared.reading.section_window.Window.{Window}
 use Rattle.cs_index.specs.declared.reading.stored_sections.NameTest.{NameTest}
 use Rattle.cs_index.proofs.decoding.EntryTables.{offsets_step, offsets_wrong, offsets_end}
 use Rattle.cs_index.proofs.decoding.StringScan.{section_step, section_after, section_end, texts_step, none_formed, nul_first}
-use Rattle.cs_index.proofs.decoding.StringSections.{formed_decoded, texts_decoded}
+use Rattle.cs_index.proofs.decoding.StringSections.{texts_decoded}
 use Rattle.cs_index.proofs.stored.ListPieces.{left_after, part_split, shown}
 
 -- ---- a run of strings at the start of a section
@@ -202,7 +202,7 @@ module _ (section numbers : List ℕ) (base len : ℕ) (is : numbers ≡ part_of
       true_false : true ≡ false → ⊥
       true_false e = cc
 
-wrong_length : (bytes : List ℕ) (at offset : ℕ) (names : List (List ℕ)) → length bytes ≢ at + 4 * (length names + 1) → has_starts bytes at offset names ≡ false
+pub wrong_length : (bytes : List ℕ) (at offset : ℕ) (names : List (List ℕ)) → length bytes ≢ at + 4 * (length names + 1) → has_starts bytes at offset names ≡ false
 wrong_length bytes at offset names apart =
     ap (λ b. b && bytes_eq (numbers_from bytes at (length names)) (starts_from offset (map with_nul names))) (ne_eqb (length bytes) (at + 4 * (length names + 1)) apart)
 
@@ -317,15 +317,25 @@ run_long piece run r =
     let w = r.within in
     omega (arith, t, l, w)
 
-pub run_valid : (piece : List ℕ) (run : TextRun) → IsTextRun piece run → is_names_section (take run.len piece) ≡ true
+pub run_valid : (piece : List ℕ) (run : TextRun) → IsTextRun piece run → is_section [] (take run.len piece) ≡ true
 run_valid piece run r =
-    ap is_names_section (run_taken piece run.len r.texts r.within r.strings ∙ sym (append-nil (run_bytes r.texts)))
-    ∙ formed_decoded r.texts [] r.strings.0 (inl refl)
+    ap (is_section []) (run_taken piece run.len r.texts r.within r.strings ∙ sym (append-nil (run_bytes r.texts)))
+    ∙ strings_before [] [] r.texts r.strings.0 ∙ section_end [] [] (texts_decoded [] [] tt (inl refl))
 
 pub run_texts : (piece : List ℕ) (run : TextRun) → (r : IsTextRun piece run) → texts_of (take run.len piece) ≡ r.texts
 run_texts piece run r =
     ap texts_of (run_taken piece run.len r.texts r.within r.strings ∙ sym (append-nil (run_bytes r.texts)))
     ∙ texts_decoded r.texts [] r.strings.0 (inl refl)
+
+-- the strings of a valid section are all of its texts
+pub run_all : (section : List ℕ) (run : TextRun) → IsTextRun section run → is_names_section section ≡ true → texts_of (take run.len section) ≡ texts_of section
+run_all section run r formed =
+    let rest : List ℕ = drop run.len section in
+    let whole = r.strings.1 in
+    let last : is_names_section rest ≡ true =
+    (λ i. sym (ap (is_section (0 ∷ [])) whole ∙ strings_before (0 ∷ []) rest r.texts r.strings.0) i || sym (ap (is_section []) whole ∙ strings_before [] rest r.texts r.strings.0) i) ∙ formed in
+    run_texts section run r ∙ sym (append-nil r.texts) ∙ ap (λ ts. r.texts ++ ts) (sym (none_formed rest r.rest last))
+    ∙ sym (ap texts_of whole ∙ texts_before rest r.texts r.strings.0)
 
 -- ---- the end of the names
 

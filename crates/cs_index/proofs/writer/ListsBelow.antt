@@ -13,11 +13,6 @@ use Rattle.cs_trigram.proofs.SetLemmas.{Above, ascends_cons, ascends_head, ascen
 
 -- ---- ascending ids
 
-pub rise_prefix : (name_count next : ℕ) (xs ys : List ℕ) → AscendWithin name_count next (xs ++ ys) →
-    AscendWithin name_count next xs
-rise_prefix name_count next [] ys up = tt
-rise_prefix name_count next (x ∷ xs) ys up = (up.0, up.1, rise_prefix name_count (x + 1) xs ys up.2)
-
 pub rise_behind : (name_count next : ℕ) (xs ys : List ℕ) → AscendWithin name_count next (xs ++ ys) →
     AscendWithin name_count (next_after next xs) ys
 rise_behind name_count next [] ys up = up

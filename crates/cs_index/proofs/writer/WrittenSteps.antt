@@ -3,13 +3,13 @@ use Rattle.std.proofs.Common.{◌≡◌, ◌≢◌, ℕ, ◌+◌, ◌*◌, ◌^�
 use Rattle.cs_trigram.specs.Trigram.{has, closing_trigram, Ascends}
 use Rattle.cs_trigram.proofs.SetLemmas.{Above, ascends_cons, ascends_tail, ascends_head}
 use Rattle.std.proofs.lemmas.Bool.{true≢false, cases_Bool, cond_both, eq-eqb}
-use Rattle.std.proofs.lemmas.List.{append-nil, length_push, length-map}
+use Rattle.std.proofs.lemmas.List.{append-nil, length-map}
 use Rattle.std.specs.Prelude.{filter}
 use Rattle.std.specs.List.{AllByRecursion, concat}
 use Rattle.cs_index.specs.Encoding.{Entry, PostingList, IsString, encoding_of, layout, posting_list_bytes, postings_of, sections_of, with_nul, starts_from, four_bytes, name_offsets}
-use Rattle.cs_index.specs.AscendingIds.{next_after, ArePostingLists, IsPostingList}
+use Rattle.cs_index.specs.AscendingIds.{next_after, IsPostingList}
 use Rattle.cs_index.specs.Gathering.{trigrams_in}
-use Rattle.cs_index.specs.Written.{ids_of, with_id, Written, entries_written, with_written_name, with_written_id, with_list, AllBelow}
+use Rattle.cs_index.specs.Written.{ids_of, with_id, Written, entries_written, with_written_id, AllBelow}
 use Rattle.cs_index.specs.WrittenLists.{IsWritten, IsLastList, with_posting, with_postings}
 use Rattle.cs_index.specs.Indexable.{IsIndexable}
 use Rattle.cs_index.specs.PostingLists.{entries_of, set_at}
@@ -17,43 +17,16 @@ use Rattle.cs_index.proofs.writer.BuilderAdd.{names_entries}
 use Rattle.cs_index.proofs.writer.EntriesOfLists.{each_gathered}
 use Rattle.cs_index.proofs.writer.ListsBelow.{ascend_push}
 use Rattle.cs_index.proofs.encoding.InvertedLists.{length-entries_of, postings_gathered}
-use Rattle.cs_index.proofs.writer.StringsPush.{all_texts, length-starts_from}
+use Rattle.cs_index.proofs.writer.StringsPush.{length-starts_from}
 use Rattle.cs_index.proofs.decoding.DecodingIsUnique.{lengths}
 use Rattle.cs_index.proofs.encoding.FixedWidthFields.{length-fours}
 
--- ---- one more name
-
-no_lists : (name_count more : ℕ) (lists : List PostingList) → lists ≡ [] → ArePostingLists name_count lists → ArePostingLists more lists
-no_lists name_count more lists none are = subst (ArePostingLists more) (sym none) (record { ascend = tt; each = tt })
-
-pub written_named : (output : Written) (name : List ℕ) → IsWritten output → output.lists ≡ [] → IsString name →
-    length output.names < 2 ^ 31 → IsWritten (with_written_name output name)
-written_named output name is none text bound =
-    let more : length (output.names ++ name ∷ []) ≡ length output.names + 1 = length_push output.names name in
-    record {
-      each_path = is.each_path;
-      each_name = all_texts output.names name is.each_name text;
-      bound = omega (arith, more, bound);
-      postings = no_lists (length output.names) (length (output.names ++ name ∷ [])) output.lists none is.postings;
-      last = is.last;
-    }
-
--- ---- a list is begun
+-- ---- one more list
 
 at_limit : (lists : List PostingList) (trigram : ℕ) → AllBelow lists trigram →
     AllByRecursion (λ (p : PostingList). p.0 ≤ trigram) lists
 at_limit [] trigram all = tt
 at_limit (p ∷ lists) trigram all = (omega (arith, all.0), at_limit lists trigram all.1)
-
-pub written_listed : (output : Written) (trigram : ℕ) → IsWritten output → trigram < 16777215 → AllBelow output.lists trigram →
-    IsWritten (with_list output trigram)
-written_listed output trigram is small above = record {
-  each_path = is.each_path;
-  each_name = is.each_name;
-  bound = is.bound;
-  postings = is.postings;
-  last = (small, at_limit output.lists trigram above);
-}
 
 -- ---- one more id
 

@@ -83,14 +83,19 @@ pub(crate) fn is_closed(section: &[u8]) -> bool
     }
 }
 
-/// Whether a section is strings and at most one final NUL.
-pub(crate) fn is_complete(section: &[u8]) -> bool
-    ensures { result ≡ is_names_section section.now }
+/// The strings of a section of names; `None` if it is not strings and at most one final NUL.
+pub(crate) fn names_run(section: &[u8]) -> Option<TextRun>
+    ensures run { IfSome result (IsTextRun section.now) }
+    ensures some { IfSome result (λ _. is_names_section section.now ≡ true) }
+    ensures none { IfNone result (is_names_section section.now ≡ false) }
 {
-    match first_texts(section) {
-        Some(run) => is_ending(&section[run.len..]),
-        None => false,
+    let Some(run) = first_texts(section) else {
+        return None;
+    };
+    if !is_ending(&section[run.len..]) {
+        return None;
     }
+    Some(run)
 }
 
 /// Whether the bytes are at most one NUL.

@@ -1,39 +1,57 @@
 // The name index and the list index.
-ghost use Rattle.std.specs.Prelude.{◌≡◌, ◌≤◌, ◌<◌, ◌+◌, ◌*◌, ◌/◌, ◌^◌, ◌∷◌, ◌++◌, [], ◌||◌, ℕ, List, None, true, false, length, Some, IfSome, IfNone};
+ghost use Rattle.std.specs.Prelude.{◌≡◌, ◌==◌, ◌≤◌, ◌<◌, ◌+◌, ◌*◌, ◌/◌, ◌^◌, ◌∷◌, ◌++◌, [], ◌≢◌, ◌-◌, ℕ, List, None, true, false, length, slice_index, Some, IfSome, IfNone, IsTrue};
 ghost use Rattle.cs_index.specs.Postings.{entry_of};
 ghost use Rattle.cs_index.specs.PostingLists.{read_list};
 ghost use Rattle.cs_index.specs.SectionPieces.{are_entries};
 ghost use Rattle.cs_index.specs.ValidSections.{has_starts};
 ghost use Rattle.cs_index.specs.Encoding.{ListEntry};
-ghost use Rattle.cs_index.specs.Opening.{entries_in, entry_at, trigram_at, is_entry, is_list_index, is_name_index, is_names_section, rises, texts_of};
+ghost use Rattle.cs_index.specs.Opening.{entries_in, entry_at, trigram_at, is_entry, is_list_index, is_name_index, is_section, rises, texts_of};
 ghost use Rattle.cs_index.specs.AscendingIds.{max_ids};
 
-use crate::reading::bytes::{first_text, read_number, read_trigram};
+use crate::reading::bytes::{read_number, read_trigram};
 use crate::reading::postings::Postings;
 
 pub(crate) const ENTRY_LEN: usize = 11;
 
-/// Whether the numbers are the offset of each name, the first at `start`, and one more number.
-pub(crate) fn has_offsets(numbers: &[u8], names: &[u8], start: usize) -> bool
-    requires names { is_names_section names.now ≡ true }
+/// Whether the numbers are the offsets of `count` strings, the first at `start`, and one more number. No NUL is searched
+/// for: offsets that ascend, each after a NUL, are those of all strings if there are as many.
+pub(crate) fn has_offsets(numbers: &[u8], names: &[u8], start: usize, count: usize) -> bool
+    requires names { is_section [] names.now ≡ true }
+    requires count { count ≡ length (texts_of names.now) }
     requires fits { start + length names.now < 2 ^ 64 }
     ensures { result ≡ has_starts numbers.now 0 start (texts_of names.now) }
 {
-    let mut rest = names;
-    let mut offset = start;
-    let mut at = 0;
-    'names: while let Some((name, next)) = first_text(rest) {
-        if numbers.len() - at < 8 {
-            return false;
-        }
-        if read_number(numbers, at) as usize != offset {
-            return false;
-        }
-        offset += name.len() + 1;
-        at += 4;
-        rest = next;
+    let Some(end) = numbers.len().checked_sub(4) else {
+        return false;
+    };
+    if end % 4 != 0 || end / 4 != count {
+        return false;
     }
-    numbers.len() - at == 4
+    if end == 0 {
+        return true;
+    }
+    if read_number(numbers, 0) as usize != start {
+        return false;
+    }
+    let mut from = 0;
+    let mut at = 0;
+    'names: while at + 4 < end {
+        at += 4;
+        let to = (read_number(numbers, at) as usize).saturating_sub(start);
+        if !begins_later(names, from, to) {
+            return false;
+        }
+        from = to;
+    }
+    from < names.len()
+}
+
+/// Whether a string may begin at an offset after `from`: the byte before it is a NUL.
+fn begins_later(names: &[u8], from: usize, to: usize) -> bool
+    ensures yes { IsTrue result → (from < to) × (to ≤ length names.now) × (slice_index names.now (to - 1) ≡ 0) }
+    ensures no { result ≡ false → from < to → to ≤ length names.now → slice_index names.now (to - 1) ≢ 0 }
+{
+    from < to && to <= names.len() && names[to - 1] == 0
 }
 
 /// Whether the list index is entries of ascending trigrams that fit a section of `room` bytes.
@@ -54,7 +72,7 @@ pub(crate) fn test_entries(entries: &[u8], least: usize, room: usize) -> Option<
     let mut next = least;
     let mut at = 0;
     'entries: while entries.len() - at >= ENTRY_LEN {
-        let trigram = read_trigram(entries, at) as usize;
+        let trigram = entry_trigram(entries, at) as usize;
         if trigram < next || !entry_fits(entries, at, room) {
             return None;
         }
@@ -69,10 +87,28 @@ fn entry_fits(list_index: &[u8], at: usize, room: usize) -> bool
     requires { at + ENTRY_LEN ≤ length list_index.now }
     ensures { result ≡ is_entry room (entry_at list_index.now at) }
 {
-    let trigram = read_trigram(list_index, at);
-    let count = read_number(list_index, at + 3);
-    let offset = read_number(list_index, at + 7) as usize;
-    offset + 4 <= room && (trigram < 0xffffff || count == 0)
+    if entry_trigram(list_index, at) >= 0xffffff && !has_no_ids(list_index, at) {
+        return false;
+    }
+    read_number(list_index, at + 7) as usize + 4 <= room
+}
+
+/// Whether the entry counts no file. Only the last entry is asked, so the counts of the others are not read.
+#[inline(never)]
+fn has_no_ids(list_index: &[u8], at: usize) -> bool
+    requires { at + ENTRY_LEN ≤ length list_index.now }
+    ensures { result ≡ ((entry_at list_index.now at).count == 0) }
+{
+    read_number(list_index, at + 3) == 0
+}
+
+/// The trigram of the entry at an offset: four bytes are read at once.
+#[tactic(auto, unfolding(crate::specs::Opening::number_at, crate::specs::Opening::trigram_at))]
+fn entry_trigram(list_index: &[u8], at: usize) -> u32
+    requires { at + ENTRY_LEN ≤ length list_index.now }
+    ensures { result ≡ trigram_at list_index.now at }
+{
+    read_number(list_index, at) / 256
 }
 
 /// The offset of a trigram's entry in the list index.

@@ -15,7 +15,7 @@ ghost use Rattle.cs_index.specs.StoredOpening.{with_lists};
 ghost use Rattle.cs_index.specs.Order.{IsOrderOf};
 
 use crate::fault::IndexFault;
-use crate::reading::bytes::{is_closed, is_complete, read_number, read_trigram};
+use crate::reading::bytes::{is_closed, names_run, read_number, read_trigram};
 use crate::reading::entries::{entry_offset, entry_postings, has_entries, has_offsets};
 use crate::reading::name_table::NameTable;
 use crate::reading::postings::Postings;
@@ -230,10 +230,10 @@ pub(crate) fn test_sections(
     if !is_closed(paths) {
         return Err(IndexFault::BadPaths);
     }
-    if !is_complete(names) {
+    let Some(run) = names_run(names) else {
         return Err(IndexFault::BadNames);
-    }
-    if !has_offsets(name_index, names, 0) {
+    };
+    if !has_offsets(name_index, &names[..run.len], 0, run.count) {
         return Err(IndexFault::BadNameIndex);
     }
     if !has_entries(list_index, room) {

@@ -83,7 +83,7 @@ pub(crate) fn test_names<S: Store>(
         };
         let numbers = read_numbers(alloc, store, starts, count, run.count)?;
         let start = window.start - starts.names;
-        let have = has_offsets(&numbers, &window.piece[..run.len], start);
+        let have = has_offsets(&numbers, &window.piece[..run.len], start, run.count);
         have_offsets = have_offsets && have;
         count += run.count;
         used = run.len;

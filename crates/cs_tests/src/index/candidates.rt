@@ -1,6 +1,7 @@
 // The candidates of queries: worked examples.
-use crate::fixtures::{Files, ROW, changed, index_of, number};
-use cs_index::{Index, IndexFault};
+use crate::fixtures::{Files, ROW, UNSORTED, changed, index_of, number};
+use cs_index::{Index, IndexFault, StoredIndex};
+use cs_tree::MemStore;
 use cs_trigram::Query;
 use std::alloc::{AllocError, Global};
 use std::process::Abort;
@@ -132,5 +133,64 @@ fn damage_is_detected(rt: HostRuntime) -> Result<(), Fail> {
     let bytes = changed(ROW, &[(59, 0x02)]);
     let index = Index::open(&bytes)?;
     assert!(rt; reports_damage(rt.alloc(), &index) == Ok(true));
+    Ok(())
+}
+
+/// Whether an index in memory and one in a store have the same candidates of a trigram, or the same error.
+fn answer_alike(
+    alloc: Global,
+    index: &Index<'_>,
+    stored: &StoredIndex,
+    store: &mut MemStore<'_>,
+    trigram: u32,
+) -> Result<bool, Fail> {
+    let query = Query::Tri(trigram);
+    let found = stored.candidates(alloc, store, &query)?;
+    Ok(match (index.candidates(alloc, &query), found) {
+        (Ok(ids), Ok(others)) => ids.as_slice() == others.as_slice(),
+        (Err(fault), Err(other)) => fault == other,
+        _ => false,
+    })
+}
+
+/// The same for two trigrams, with reads of at most seven bytes; if the bytes do not open, the same error of opening.
+fn agree(alloc: Global, bytes: &[u8]) -> Result<bool, Fail> {
+    let mut store = MemStore::new(bytes, 7);
+    let stored = match StoredIndex::open(alloc, &mut store)? {
+        Ok(stored) => stored,
+        Err(fault) => return Ok(Index::open(bytes).err() == Some(fault)),
+    };
+    let index = Index::open(bytes)?;
+    for trigram in [0x616263, 0x626364] {
+        if !answer_alike(alloc, &index, &stored, &mut store, trigram)? {
+            return Ok(false);
+        }
+    }
+    Ok(true)
+}
+
+#[test]
+fn bytes_of_a_store_are_altered(rt: HostRuntime) -> Result<(), Fail> {
+    for byte in [0, 1, 2, 5, 0x7f, 0x80, 0xff] {
+        for at in 0..ROW.len() {
+            let bytes = changed(ROW, &[(at, byte)]);
+            assert!(rt; agree(rt.alloc(), &bytes)?, "{byte} at {at}");
+        }
+        for at in 0..UNSORTED.len() {
+            let bytes = changed(UNSORTED, &[(at, byte)]);
+            assert!(rt; agree(rt.alloc(), &bytes)?, "{byte} at {at}, unsorted");
+        }
+    }
+    Ok(())
+}
+
+/// An entry counts 2^32 - 1 ids.
+#[test]
+fn the_largest_count(rt: HostRuntime) -> Result<(), Fail> {
+    let bytes = changed(ROW, &[(56, 0xff), (57, 0xff), (58, 0xff), (59, 0xff)]);
+    let index = Index::open(&bytes)?;
+    let query = Query::Tri(number(b"abc"));
+    assert!(rt; index.count(number(b"abc")) == u32::MAX);
+    assert!(rt; is_damaged(rt.alloc(), &index, &query) && agree(rt.alloc(), &bytes)?);
     Ok(())
 }

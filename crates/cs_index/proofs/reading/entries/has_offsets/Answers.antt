@@ -1,45 +1,77 @@
-use Rattle.std.proofs.Common.{◌≡◌, ◌+◌, ◌∙◌, ◌++◌, ap, sym, ℕ, List, length, refl, arith, length-append}
-use Rattle.std.proofs.lemmas.List.{length_push}
-use Rattle.cs_index.specs.Encoding.{with_nul}
-use Rattle.cs_index.specs.Opening.{texts_of}
+use Rattle.std.proofs.Common.{◌≡◌, ◌≢◌, ◌≤◌, ◌<◌, ◌+◌, ◌-◌, ◌∙◌, ◌∷◌, [], ap, sym, ℕ, List, length, refl, arith, get_or, length-drop}
+use Rattle.std.proofs.lemmas.List.{append-nil}
+use Rattle.cs_index.specs.Opening.{number_at, texts_of}
 use Rattle.cs_index.specs.ValidSections.{has_starts}
-use Rattle.cs_index.proofs.decoding.StringScan.{texts_after, formed_after, none_formed}
-use Rattle.cs_index.proofs.decoding.EntryTables.{offsets_short, offsets_wrong, offsets_step, offsets_end}
+use Rattle.cs_index.proofs.decoding.StringSections.{section_read}
+use Rattle.cs_index.proofs.stored.NameStarts.{end_there, goes_on, starts_last, starts_not, starts_wrong}
+use Rattle.cs_index.proofs.stored.SectionPieces.{run_bytes}
 use Rattle.cs_index.proofs.reading.entries.has_offsets.Goals as goal
 
+pub returns-then-read_number-start : goal.returns-then-read_number-start
+returns-then-read_number-start c =
+    let some : 0 < length (texts_of c.args.names.now) = omega arith in
+    sym (starts_wrong c.args.numbers.now 0 c.args.start (texts_of c.args.names.now) some (λ e. c.if-read_number-start.true (c.read_number.ensures ∙ e)))
+
 pub names-init : goal.names-init
-names-init c = record { formed = c.requires.names; within = omega arith; offset = omega arith; left = refl }
+names-init c =
+    let names : List ℕ = c.args.names.now in
+    let read = section_read [] names c.requires.names in
+    record {
+      texts = texts_of names;
+      each = read.0;
+      bytes = read.1 ∙ append-nil (run_bytes (texts_of names));
+      from = omega arith;
+      number = omega arith;
+      within = omega arith;
+      whole = refl;
+      few = omega arith;
+      left = ap (λ n. has_starts c.args.numbers.now 0 n (texts_of names)) (let z : c.args.start ≡ c.args.start + 0 = omega arith in z);
+    }
 
-pub returns-then-numbers-at-lt8 : goal.returns-then-numbers-at-lt8
-returns-then-numbers-at-lt8 c =
-    let name : List ℕ = c.in-Some.name.now in
-    let next : List ℕ = c.in-Some.next.now in
-    let texts = texts_after c.names.rest.now name next c.in-Some.ensures.text c.in-Some.ensures.above c.in-Some.ensures.some in
-    sym (c.names.invariant.left ∙ ap (has_starts c.args.numbers.now c.names.at c.names.offset) texts ∙ offsets_short c.args.numbers.now c.names.at c.names.offset name (texts_of next) c.names.invariant.within (omega arith))
-
-pub returns-then-read_number-offset : goal.returns-then-read_number-offset
-returns-then-read_number-offset c =
-    let name : List ℕ = c.in-Some.name.now in
-    let next : List ℕ = c.in-Some.next.now in
-    let texts = texts_after c.names.rest.now name next c.in-Some.ensures.text c.in-Some.ensures.above c.in-Some.ensures.some in
-    sym (c.names.invariant.left ∙ ap (has_starts c.args.numbers.now c.names.at c.names.offset) texts ∙ offsets_wrong c.args.numbers.now c.names.at c.names.offset name (texts_of next) (λ e. c.if-read_number-offset.true (c.read_number.ensures ∙ e)))
+pub returns-then-not-begins_later : goal.returns-then-not-begins_later
+returns-then-not-begins_later c =
+    let i = c.names.invariant in
+    let names : List ℕ = c.args.names.now in
+    let to : ℕ = c.saturating_sub-to.result in
+    let from : ℕ = c.names.from in
+    let apart : (text : List ℕ) (more : List (List ℕ)) → i.texts ≡ text ∷ more → number_at c.args.numbers.now (c.names.at + 4) ≢ c.args.start + from + (length text + 1) = λ text more e n.
+    let there = end_there names from text more (i.bytes ∙ ap run_bytes e) in
+    let is : from + (length text + 1) ≡ to = omega (arith, n, c.read_number-in-names.ensures, c.saturating_sub-to.ensures) in
+    let order : from < to = omega (arith, is) in
+    c.if-not-begins_later.ensures.no refl order (omega (arith, there.0, is)) (ap (λ k. get_or names (k - 1) 0) (sym is) ∙ there.1) in
+    let within : c.names.at + 12 ≤ length c.args.numbers.now = omega (arith, i.whole) in
+    sym (i.left ∙ starts_not c.args.numbers.now c.names.at (c.args.start + from) i.number i.texts within apart)
 
 pub names-preserved : goal.names-preserved
 names-preserved c =
-    let name : List ℕ = c.in-Some.name.now in
-    let next : List ℕ = c.in-Some.next.now in
-    let texts = texts_after c.names.rest.now name next c.in-Some.ensures.text c.in-Some.ensures.above c.in-Some.ensures.some in
-    let one : length (with_nul name ++ next) ≡ length (with_nul name) + length next = length-append (with_nul name) next in
-    let long : length c.names.rest.now ≡ length name + 1 + length next = ap length c.in-Some.ensures.text ∙ (let z : length (with_nul name ++ next) ≡ length name + 1 + length next = omega (arith, one, length_push name 0) in z) in
+    let i = c.names.invariant in
+    let names : List ℕ = c.args.names.now in
+    let numbers : List ℕ = c.args.numbers.now in
+    let to : ℕ = c.saturating_sub-to.result in
+    let from : ℕ = c.names.from in
+    let yes = c.if-not-begins_later.ensures.yes refl in
+    let order : from < to = yes.0 in
+    let next : number_at numbers (c.names.at + 4) ≡ c.args.start + to = omega (arith, order, c.read_number-in-names.ensures, c.saturating_sub-to.ensures) in
+    let on = goes_on numbers names c.args.start c.names.at from to i.texts i.each i.bytes i.number next i.few order yes.1 yes.2 in
     record {
-      formed = (formed_after c.names.rest.now name next c.in-Some.ensures.text c.in-Some.ensures.above c.in-Some.ensures.some c.names.invariant.formed).1;
-      within = omega arith;
-      offset = omega (arith, long, c.names.invariant.offset);
-      left = c.names.invariant.left ∙ ap (has_starts c.args.numbers.now c.names.at c.names.offset) texts ∙ offsets_step c.args.numbers.now c.names.at c.names.offset (c.names.offset + (length name + 1)) name (texts_of next) (sym c.read_number.ensures ∙ c.if-read_number-offset.false) (omega arith);
+      texts = on.left;
+      each = on.each;
+      bytes = on.bytes;
+      from = yes.1;
+      number = next;
+      within = omega (arith, i.whole);
+      whole = omega (arith, i.whole);
+      few = on.few;
+      left = i.left ∙ on.starts;
     }
 
 pub returns : goal.returns
 returns c =
-    sym (c.names.invariant.left
-    ∙ ap (has_starts c.args.numbers.now c.names.at c.names.offset) (none_formed c.names.rest.now c.in_default.ensures.none c.names.invariant.formed)
-    ∙ offsets_end c.args.numbers.now c.names.at c.names.offset c.names.invariant.within)
+    let i = c.names.invariant in
+    let names : List ℕ = c.args.names.now in
+    let l = ap length i.bytes in
+    let d = length-drop c.names.from names in
+    let from = i.from in
+    let within = i.within in
+    starts_last c.args.numbers.now c.names.at (c.args.start + c.names.from) i.number i.texts c.names.from (length names) (omega arith) i.few (omega (arith, l, d, from))
+    ∙ sym i.left

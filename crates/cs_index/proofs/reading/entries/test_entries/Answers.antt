@@ -37,7 +37,7 @@ entries-preserved c =
     let at : ℕ = c.entries.at in
     let high : c.entries.next ≤ trigram_at bytes at = search rules in
     let fits : is_entry c.args.room (entry_at bytes at) ≡ true = search rules in
-    let same : c.read_trigram-trigram.result + 1 ≡ trigram_at bytes at + 1 = omega arith in
+    let same : c.entry_trigram-trigram.result + 1 ≡ trigram_at bytes at + 1 = omega arith in
     record {
       within = omega arith;
       left = λ more. c.entries.invariant.left more ∙ ap (are_entries c.args.room c.entries.next) (first_of bytes at more (omega arith))

@@ -3,7 +3,7 @@ use Rattle.std.proofs.Common.{◌≡◌, ◌+◌, ◌-◌, ◌*◌, ◌∙◌, �
 use Rattle.std.proofs.lemmas.Bool.{true≢false}
 use Rattle.std.proofs.lemmas.List.{take_rest}
 use Rattle.cs_tree.specs.Store.{part_of}
-use Rattle.cs_index.specs.Opening.{is_names_section, texts_of}
+use Rattle.cs_index.specs.Opening.{is_section, texts_of}
 use Rattle.cs_index.specs.SectionPieces.{IsNoSection, IsTextRun, left_from}
 use Rattle.cs_index.specs.ValidSections.{has_starts}
 use Rattle.cs_index.proofs.decoding.DecodableBytesOpen.{rise_from}
@@ -50,7 +50,14 @@ has_offsets-have-requires-clause-names g c =
     let piece : List ℕ = c.read_on.new.self.piece.items in
     let run = c.in-Some.run' in
     let is : IsTextRun piece run = subst (λ (p : List ℕ). IsTextRun p run) c.deref.ensures.value c.in-Some.ensures.run in
-    ap (λ p. is_names_section (take run.len p)) c.deref-in-pieces-2.ensures.value ∙ run_valid piece run is
+    ap (λ p. is_section [] (take run.len p)) c.deref-in-pieces-2.ensures.value ∙ run_valid piece run is
+
+pub has_offsets-have-requires-clause-count : goal.has_offsets-have-requires-clause-count
+has_offsets-have-requires-clause-count g c =
+    let piece : List ℕ = c.read_on.new.self.piece.items in
+    let run = c.in-Some.run' in
+    let is : IsTextRun piece run = subst (λ (p : List ℕ). IsTextRun p run) c.deref.ensures.value c.in-Some.ensures.run in
+    sym is.count ∙ ap (λ (ts : List (List ℕ)). length ts) (sym (ap (λ p. texts_of (take run.len p)) c.deref-in-pieces-2.ensures.value ∙ run_texts piece run is))
 
 pub pieces-preserved : goal.pieces-preserved
 pieces-preserved g c =

@@ -1,4 +1,4 @@
-use Rattle.std.proofs.Common.{◌≡◌, ◌+◌, ◌∙◌, subst, List, ℕ, Option, Some, Ok, Err, length, slice_get}
+use Rattle.std.proofs.Common.{◌+◌, ◌∙◌, subst, Ok, Err, length, slice_get}
 use Rattle.cs_index.specs.declared.fault.IndexFault.TheVariants.{BadNames}
 use Rattle.cs_index.specs.declared.reading.name_reader.NameReader.{NameReader}
 use Rattle.cs_index.specs.Pieces.{HasText}

@@ -1,6 +1,6 @@
 -- Worked examples of the definitions, by computation.
 use Rattle.std.proofs.Common.{◌≡◌, true, false, [], ◌∷◌, refl, ap, arith, codes}
-use Rattle.std.specs.Prelude.{◌+◌, ◌*◌, Some, None}
+use Rattle.std.specs.Prelude.{None}
 use mathlib.Core.Bool.{xor}
 use Rattle.std.proofs.lemmas.Bool.{both_ways}
 use Rattle.cs_syntax.specs.Matching.{Tree, empty, one_of, one_char, cat, alt, rep, none, more, word_edge, line_end}

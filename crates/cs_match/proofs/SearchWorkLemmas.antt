@@ -1,11 +1,11 @@
 -- Bounds on the work of searches: products of bytes and the work of a byte.
-use Rattle.std.proofs.Common.{◌≡◌, ℕ, ◌+◌, ◌-◌, ◌*◌, ◌≤◌, ◌⊎◌, inl, inr, ◌∙◌, ap, arith}
+use Rattle.std.proofs.Common.{◌≡◌, ℕ, ◌+◌, ◌-◌, ◌*◌, ◌≤◌, inl, inr, ◌∙◌, ap, arith}
 use Rattle.std.specs.Prelude.{Option, Some, None, MatchOption, min}
 use Rattle.std.proofs.lemmas.Bool.{cases_lt}
 use Rattle.cs_syntax.specs.Matching.{Tree}
 use Rattle.cs_match.specs.declared.matcher.Line.{Line}
 use Rattle.cs_match.specs.PartWork.{part_work}
-use Rattle.cs_match.specs.Work.{byte_work, searched_byte_work, search_work, count_work, searched_bytes}
+use Rattle.cs_match.specs.Work.{byte_work, searched_bytes}
 use Rattle.cs_match.proofs.PositionCountLemmas.{mul_both, scaled}
 
 -- the work of two neighbouring parts

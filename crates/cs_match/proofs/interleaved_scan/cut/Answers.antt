@@ -1,5 +1,4 @@
-use Rattle.std.proofs.Common.{◌≡◌, ◌∷◌, ◌+◌, length, take, drop, arith, length-take, length-drop}
-use Rattle.cs_match.specs.Lines.{newline}
+use Rattle.std.proofs.Common.{◌+◌, length, arith}
 use Rattle.cs_match.proofs.NewlineLemmas.{newline_within}
 use Rattle.cs_match.proofs.WholeLineLemmas.{whole_from, whole_line, whole_rest}
 use Rattle.cs_match.proofs.interleaved_scan.cut.Goals as goal

@@ -5,7 +5,6 @@ use Rattle.cs_syntax.specs.Matching.{Tree}
 use Rattle.cs_match.specs.declared.matcher.Line.{Line}
 use Rattle.cs_match.specs.FirstMatch.{IsSearched}
 use Rattle.cs_match.specs.PartWork.{part_work}
-use Rattle.cs_match.specs.Work.{byte_work, searched_bytes}
 use Rattle.cs_match.proofs.SearchWorkLemmas.{chunk_cost}
 use Rattle.cs_match.proofs.FirstMatchLemmas.{searched_after}
 use Rattle.cs_match.proofs.WholeLineLemmas.{whole_from}

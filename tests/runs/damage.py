@@ -312,7 +312,7 @@ def sparse(section):
 
 
 def zeros():
-    """Zeros of 4 GB are refused or passed over in 16 MB, whichever section has them."""
+    """Zeros of 4 GB are refused, or never read, in 16 MB, whichever section has them."""
     for section, fault in ZEROS:
         sparse(section)
         status, out, err = run(["csearch", "one"], space=1 << 24, seconds=5)

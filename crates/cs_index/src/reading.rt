@@ -9,6 +9,7 @@ mod list_buffer;
 mod name_reader;
 mod name_table;
 mod order;
+mod part;
 mod piece;
 mod postings;
 mod query_trigrams;

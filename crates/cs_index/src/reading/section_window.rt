@@ -5,7 +5,8 @@ ghost use Rattle.cs_tree.specs.Store.{part_of};
 ghost use Rattle.cs_tree.specs.Transfers.{is_io_failure};
 ghost use Rattle.cs_index.specs.SectionPieces.{IsWindow};
 
-use cs_tree::{IoFault, Store, read_part};
+use crate::reading::part::read_into;
+use cs_tree::{IoFault, Store};
 use std::alloc::Global;
 
 /// The most bytes of a piece, unless a string is longer than half of it.
@@ -38,12 +39,7 @@ impl Window {
 
     /// Passes `used` bytes, and reads the next piece. It begins with the bytes that are left of this one, and has at
     /// least twice as many, so a long string is read a few times. Returns whether any byte is new.
-    pub(crate) fn read_on<S: Store>(
-        &mut self,
-        alloc: Global,
-        store: &mut S,
-        used: usize,
-    ) -> Result<bool, IoFault>
+    pub(crate) fn read_on<S: Store>(&mut self, store: &mut S, used: usize) -> Result<bool, IoFault>
         requires window { IsWindow self.old }
         requires used { used ≤ length self.old.piece.items }
         ensures window { IsWindow self.new }
@@ -63,7 +59,7 @@ impl Window {
         let left = self.piece.len() - used;
         let start = self.start + used;
         let len = (self.stop - start).min(PIECE_LEN.max(2 * left));
-        self.piece = read_part(alloc, store, start, len)?;
+        read_into(&mut self.piece, store, start, len)?;
         self.start = start;
         Ok(self.piece.len() > left)
     }

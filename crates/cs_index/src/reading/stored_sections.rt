@@ -9,6 +9,7 @@ ghost use Rattle.cs_index.specs.StoredOpening.{AreAscendingOffsets};
 
 use crate::reading::bytes::{first_texts, is_closed, is_ending};
 use crate::reading::entries::{ENTRY_LEN, has_offsets, test_entries};
+use crate::reading::part::read_into;
 use crate::reading::section_offsets::SectionOffsets;
 use crate::reading::section_window::Window;
 use cs_tree::{IoFault, Store, read_part};
@@ -41,7 +42,7 @@ pub(crate) fn read_paths<S: Store>(
     let mut paths = Vec::new(alloc);
     let mut window = Window::new(alloc, starts.paths, starts.names);
     let mut used = 0;
-    'pieces: while window.read_on(alloc, store, used)? {
+    'pieces: while window.read_on(store, used)? {
         let Some(run) = first_texts(&window.piece) else {
             return Ok(None);
         };
@@ -77,7 +78,7 @@ pub(crate) fn test_names<S: Store>(
     let mut have_offsets = true;
     let mut more = true;
     'pieces: while more {
-        more = window.read_on(alloc, store, used)?;
+        more = window.read_on(store, used)?;
         let Some(run) = first_texts(&window.piece) else {
             return Ok(None);
         };
@@ -139,6 +140,7 @@ pub(crate) fn has_stored_entries<S: Store>(
     ensures failed { S.failed store.new ≡ count_after is_io_failure result (S.failed store.old) }
 {
     let room = starts.name_index - starts.postings;
+    let mut piece = Vec::new(alloc);
     let mut at = starts.list_index;
     let mut least = 0;
     if (starts.trailer - at) % ENTRY_LEN != 0 {
@@ -146,7 +148,7 @@ pub(crate) fn has_stored_entries<S: Store>(
     }
     'pieces: while at < starts.trailer {
         let len = (starts.trailer - at).min(ENTRIES_LEN);
-        let piece = read_part(alloc, store, at, len)?;
+        read_into(&mut piece, store, at, len)?;
         // (A store that has changed may end here.)
         if piece.len() < len {
             return Ok(false);

@@ -4,7 +4,7 @@ use Rattle.cs_index.specs.Opening.{entries_in}
 use Rattle.cs_index.specs.SectionPieces.{are_entries}
 use Rattle.cs_index.proofs.decoding.DecodableBytesOpen.{rise_from}
 use Rattle.cs_index.proofs.stored.EntryPieces.{entries_joined, list_index_tested, list_index_uneven, no_entries}
-use Rattle.cs_index.proofs.stored.ListPieces.{part_split, shown}
+use Rattle.cs_index.proofs.stored.ListPieces.{part_split}
 use Rattle.cs_index.proofs.stored.SectionPieces.{part_long}
 use Rattle.cs_index.proofs.reading.stored_sections.has_stored_entries.Goals as goal
 
@@ -34,13 +34,13 @@ returns-in_default-clause-entries g c bytes m within =
     let order = rise_from s.paths s.names s.postings s.name_index s.list_index s.trailer c.requires.order in
     let long = part_long bytes s.list_index s.trailer order.ea within in
     let len : ℕ = c.min-len.result in
-    let piece : List ℕ = c.in_ok-piece.piece.items in
+    let piece : List ℕ = c.read_into.new.part.items in
     let left = i.whole in
-    let read = shown (λ b. piece ≡ part_of b c.pieces.at len) (g.S.Store.model c.pieces.store) bytes (i.keeps ∙ m) c.in_ok-piece.ensures.bytes in
+    let read = c.in_ok-read_into.ensures.part bytes (i.keeps ∙ m) in
     sym (list_index_tested room section (ap (λ n. n % 11) long ∙ c.if-starts-at-ne0.false)
     ∙ i.left bytes m within
-    ∙ ap (are_entries room c.pieces.least) (joined bytes piece c.pieces.at s.trailer len read (omega (arith, c.if-len.false, c.in_ok-piece.ensures.bound)) (omega (arith, c.min-len.ensures)) (omega (arith, c.min-len.ensures, left))
-    ∙ ap (λ p. entries_in p ++ entries_in (after bytes piece c.pieces.at s.trailer len read (omega (arith, c.if-len.false, c.in_ok-piece.ensures.bound)) (omega (arith, c.min-len.ensures)) (omega (arith, c.min-len.ensures, left)))) (sym c.deref.ensures.value))
+    ∙ ap (are_entries room c.pieces.least) (joined bytes piece c.pieces.at s.trailer len read (omega (arith, c.if-len.false, c.in_ok-read_into.ensures.bound)) (omega (arith, c.min-len.ensures)) (omega (arith, c.min-len.ensures, left))
+    ∙ ap (λ p. entries_in p ++ entries_in (after bytes piece c.pieces.at s.trailer len read (omega (arith, c.if-len.false, c.in_ok-read_into.ensures.bound)) (omega (arith, c.min-len.ensures)) (omega (arith, c.min-len.ensures, left)))) (sym c.deref.ensures.value))
     ∙ c.in_default.ensures.none (entries_in (part_of bytes (c.pieces.at + len) (s.trailer - (c.pieces.at + len)))))
 
 pub pieces-preserved : goal.pieces-preserved
@@ -49,7 +49,7 @@ pieces-preserved g c =
     let i = c.pieces.invariant in
     let room : ℕ = s.name_index - s.postings in
     let len : ℕ = c.min-len.result in
-    let piece : List ℕ = c.in_ok-piece.piece.items in
+    let piece : List ℕ = c.read_into.new.part.items in
     let left = i.whole in
     let begun = i.begun in
     record {
@@ -57,14 +57,14 @@ pieces-preserved g c =
       within = omega (arith, c.min-len.ensures);
       whole = omega (arith, c.min-len.ensures, left);
       left = λ bytes m within.
-          let read = shown (λ b. piece ≡ part_of b c.pieces.at len) (g.S.Store.model c.pieces.store) bytes (i.keeps ∙ m) c.in_ok-piece.ensures.bytes in
+          let read = c.in_ok-read_into.ensures.part bytes (i.keeps ∙ m) in
           i.left bytes m within
-          ∙ ap (are_entries room c.pieces.least) (joined bytes piece c.pieces.at s.trailer len read (omega (arith, c.if-len.false, c.in_ok-piece.ensures.bound)) (omega (arith, c.min-len.ensures)) (omega (arith, c.min-len.ensures, left))
+          ∙ ap (are_entries room c.pieces.least) (joined bytes piece c.pieces.at s.trailer len read (omega (arith, c.if-len.false, c.in_ok-read_into.ensures.bound)) (omega (arith, c.min-len.ensures)) (omega (arith, c.min-len.ensures, left))
           ∙ ap (λ p. entries_in p ++ entries_in (part_of bytes (c.pieces.at + len) (s.trailer - (c.pieces.at + len)))) (sym c.deref.ensures.value))
           ∙ c.in-Some.ensures.some (entries_in (part_of bytes (c.pieces.at + len) (s.trailer - (c.pieces.at + len))));
-      keeps = c.read_part.ensures.keeps ∙ i.keeps;
-      size = c.read_part.ensures.size ∙ i.size;
-      failed = c.in_ok-piece.ensures.failed ∙ i.failed;
+      keeps = c.read_into.ensures.keeps ∙ i.keeps;
+      size = c.read_into.ensures.size ∙ i.size;
+      failed = c.in_ok-read_into.ensures.failed ∙ i.failed;
     }
 
 pub returns-clause-entries : goal.returns-clause-entries

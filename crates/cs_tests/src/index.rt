@@ -1,7 +1,7 @@
 // The index: written, read, and queried.
 mod building;
 mod candidates;
-mod lists;
+pub(crate) mod lists;
 mod names;
 mod pieces;
 mod reading;

@@ -1,7 +1,12 @@
 // The merge of two indexes: worked examples.
 use crate::fixtures::{Files, ROW, UNSORTED, changed, index_of};
-use cs_index::{Index, IndexFault};
-use cs_merge::{MergeFault, is_replaced, is_whole, merge, merge_within};
+use crate::index::lists::Failing;
+use cs_index::{Index, IndexFault, StoredTables};
+use cs_merge::{
+    MergeFault, is_replaced, is_replaced_stored, is_whole, is_whole_stored, merge, merge_stored,
+    merge_stored_within, merge_within,
+};
+use cs_tree::{IoFault, MemStore, Store};
 use std::alloc::Global;
 use std::test::Fail;
 
@@ -232,5 +237,88 @@ fn damage_goes_before_the_limit(rt: HostRuntime) -> Result<(), Fail> {
             "{offset}"
         );
     }
+    Ok(())
+}
+
+/// Whether the old index merges alike from a store, whose reads give at most `step` bytes, and from memory; and whether
+/// it is replaced and whole alike.
+fn merges_alike(
+    alloc: Global,
+    most: u32,
+    step: usize,
+    old: &[u8],
+    newer: &[u8],
+) -> Result<bool, Fail> {
+    let older = Index::open(old)?;
+    let later = Index::open(newer)?;
+    let mut store = MemStore::new(old, step.max(1));
+    let tables = StoredTables::open(alloc, &mut store)??;
+    let replaced = is_replaced_stored(alloc, &tables, &later)?
+        == is_replaced(alloc, &older, &later)?;
+    let whole = is_whole_stored(alloc, &mut store, &tables)? == is_whole(&older);
+    let stored = merge_stored_within(alloc, &mut store, most, &tables, &later)?;
+    let merged = match (merge_within(alloc, most, &older, &later), stored) {
+        (Ok(want), Ok(index)) => index.as_slice() == want.as_slice(),
+        (Err(want), Err(fault)) => fault == want,
+        _ => false,
+    };
+    Ok(replaced && whole && merged)
+}
+
+#[test]
+fn stored_indexes_merge_alike(rt: HostRuntime) -> Result<(), Fail> {
+    let indexes = small_indexes(rt.alloc()).ok_or("indexes")?;
+    for newer in &indexes {
+        for old in &indexes {
+            for most in [0, 120, u32::MAX] {
+                assert!(rt; merges_alike(rt.alloc(), most, 7, old, newer)?, "{most}");
+            }
+        }
+        for offset in [28, 29, 39] {
+            let old = changed(ROW, &[(offset, 2)]);
+            for most in [0, u32::MAX] {
+                assert!(rt;
+                    merges_alike(rt.alloc(), most, 1 << 20, &old, newer)?,
+                    "{offset} {most}"
+                );
+            }
+        }
+    }
+    Ok(())
+}
+
+/// Merges the index of the store with a newer one.
+fn merge_failing(
+    alloc: Global,
+    store: &mut Failing,
+    newer: &[u8],
+) -> Result<Result<Vec<u8>, MergeFault>, IoFault> {
+    let tables = match StoredTables::open(alloc, store)? {
+        Ok(tables) => tables,
+        Err(fault) => return Ok(Err(MergeFault::Index(fault))),
+    };
+    match Index::open(newer) {
+        Ok(newer) => merge_stored(alloc, store, &tables, &newer),
+        Err(fault) => Ok(Err(MergeFault::Index(fault))),
+    }
+}
+
+/// The number of reads of `merge_failing`.
+const READS: usize = 14;
+
+#[test]
+fn merges_whose_reads_fail(rt: HostRuntime) -> Result<(), Fail> {
+    let newer = index_of(rt.alloc(), &["/b"], &[("/b", b"abcd\n")]).ok_or("index")?;
+    for reads in 0..READS {
+        let mut store = Failing { reads, failed: 0 };
+        let answer = merge_failing(rt.alloc(), &mut store, &newer);
+        assert!(rt; answer.err() == Some(IoFault::Failed), "after {reads}");
+        assert!(rt; store.failures() == 1, "after {reads}");
+    }
+    let mut store = Failing {
+        reads: READS,
+        failed: 0,
+    };
+    assert!(rt; merge_failing(rt.alloc(), &mut store, &newer).is_ok_and(|index| index.is_ok()));
     Ok(())
 }

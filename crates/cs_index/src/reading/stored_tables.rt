@@ -114,7 +114,8 @@ impl StoredTables {
     /// States the invariant, for callers that use the names and the lists.
     pub fn are_valid(&self)
         ensures tables { AreValidTables self.now }
-        ensures parts { (bytes : List ℕ) (parts : Parts) → TablesIn bytes self.now parts → AreValidParts parts }
+        ensures parts { (bytes : List ℕ) (parts : Parts) →
+            TablesIn bytes self.now parts → AreValidParts parts }
     {
         let _paths = &self.paths;
     }

@@ -107,9 +107,9 @@ fn damaged_lists(rt: HostRuntime) -> Result<(), Fail> {
 
 /// The bytes of `ROW` for some reads; then each read fails.
 #[derive(Drop)]
-struct Failing {
-    reads: usize,
-    failed: u64,
+pub(crate) struct Failing {
+    pub(crate) reads: usize,
+    pub(crate) failed: u64,
 }
 
 impl Store for Failing {

@@ -48,8 +48,10 @@ pub(crate) fn has_offsets(numbers: &[u8], names: &[u8], start: usize, count: usi
 
 /// Whether a string may begin at an offset after `from`: the byte before it is a NUL.
 fn begins_later(names: &[u8], from: usize, to: usize) -> bool
-    ensures yes { IsTrue result → (from < to) × (to ≤ length names.now) × (slice_index names.now (to - 1) ≡ 0) }
-    ensures no { result ≡ false → from < to → to ≤ length names.now → slice_index names.now (to - 1) ≢ 0 }
+    ensures yes { IsTrue result →
+        (from < to) × (to ≤ length names.now) × (slice_index names.now (to - 1) ≡ 0) }
+    ensures no { result ≡ false → from < to → to ≤ length names.now →
+        slice_index names.now (to - 1) ≢ 0 }
 {
     from < to && to <= names.len() && names[to - 1] == 0
 }

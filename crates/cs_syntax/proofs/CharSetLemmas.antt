@@ -4,16 +4,17 @@ use Rattle.std.proofs.Common.{cond, ◌≡◌, ℕ, zero, suc, ◌+◌, ◌-◌,
 use Rattle.std.specs.Prelude.{nat_le, nat_lt, All, Some, slice_get, if◌then◌else◌}
 use Rattle.std.specs.Char.{scalar_index}
 use Rattle.std.proofs.Math.Bool.{and-or_distrib_left, or-false, or_assoc}
-use Rattle.std.specs.List.{count_by, range_with_len}
+use Rattle.std.specs.List.{count_by, range_with_len, AllAdjacentBelow}
 use Rattle.std.proofs.lemmas.List.Sums.{sum_by-cons}
 use Rattle.std.proofs.lemmas.List.Elements.{All-push}
-use Rattle.std.specs.List.Sorted.{IsNonDecreasingBy, IsPermutation}
+use Rattle.std.specs.List.Sorted.{IsNonDecreasingBy, IsPermutation, IsPartitionedBy, IsPartitionPoint}
 use Rattle.std.proofs.lemmas.Bool.Decides.{nat_tests}
 use Rattle.std.proofs.lemmas.List.Folds.{list_any-append}
-use Rattle.std.proofs.lemmas.List.Sorted.{list_any-IsPermutation}
+use Rattle.std.proofs.lemmas.List.Sorted.{list_any-IsPermutation, IsNonDecreasingBy-from_all_adjacent, IsPartitionedBy-ltb}
 use Rattle.std.proofs.lemmas.Bool.{le-leb, lt-ltb, ltb-true, cases_lt}
 use Rattle.std.proofs.lemmas.Option.{slice_get_within, get_or_from_slice_get}
 use Rattle.std.proofs.lemmas.List.{take_more, drop_more, drop_all, append_assoc, append-nil}
+use native.Mathlib.Numerals.{unary_clauses}
 use Rattle.cs_syntax.specs.Ranges.{is_in_ranges}
 use Rattle.cs_syntax.specs.Characters.{is_scalar, has_char}
 use Rattle.cs_syntax.specs.CharRanges.{IsCharRange, AreCanonicalFrom, AreCanonical, char_count_below, char_count}
@@ -637,3 +638,31 @@ canonical_range_at least (range ∷ ranges) (suc i) h inside = canonical_range_a
 -- the numbers of a range are at most 0x10ffff
 pub char_range_within : (range : ℕ × ℕ) → IsCharRange range → range.1 ≤ 1114111
 char_range_within range h = grind (arith, scalar_cases range.1, h.2)
+
+-- ---- the search for a character
+
+range_ends_rise : (least : ℕ) (ranges : List (ℕ × ℕ)) → AreCanonicalFrom least ranges → AllAdjacentBelow (λ (x y : ℕ × ℕ). x.1 ≤ y.1) ranges (length ranges)
+range_ends_rise least [] h k d inside = absurd (omega arith)
+range_ends_rise least (x ∷ []) h k d inside = absurd (omega arith)
+range_ends_rise least (x ∷ y ∷ ranges) h zero d inside = grind (arith, h.2.0, h.2.1.0)
+range_ends_rise least (x ∷ y ∷ ranges) h (suc k) d inside =
+    let later = range_ends_rise (scalar_index x.1 + 2) (y ∷ ranges) h.2 k d (omega arith) in
+    simp unary_clauses (simp unary_clauses at later)
+
+pub range_ends_are_partitioned : (ranges : List (ℕ × ℕ)) (c : ℕ) → AreCanonical ranges → IsPartitionedBy (λ r. nat_lt r.1 c) ranges
+range_ends_are_partitioned ranges c h = IsPartitionedBy-ltb (λ (r : ℕ × ℕ). r.1) ranges c (IsNonDecreasingBy-from_all_adjacent (λ (r : ℕ × ℕ). r.1) ranges (range_ends_rise 0 ranges h))
+
+-- only the first range that does not end before the number can have it
+pub range_found : (least : ℕ) (ranges : List (ℕ × ℕ)) (c i : ℕ) → AreCanonicalFrom least ranges → IsPartitionPoint (λ r. nat_lt r.1 c ≡ true) (λ r. nat_lt r.1 c ≡ false) ranges i →
+    is_in_ranges ranges c ≡ (nat_lt i (length ranges) && nat_le (get_or ranges i (0, 0)).0 c)
+range_found least [] c i h point = grind (arith, nat_tests)
+range_found least (range ∷ ranges) c zero h point =
+    let here : nat_lt range.1 c ≡ false = point.1 0 (0, 0) (omega arith) (omega arith) in
+    let later : is_in_ranges ranges c ≡ false = none_below (scalar_index range.1 + 2) ranges c h.2 (grind (arith, nat_tests, here)) in
+    ap (λ b. is_in range c || b) later ∙ grind (arith, nat_tests, here)
+range_found least (range ∷ ranges) c (suc i) h point =
+    let before : nat_lt range.1 c ≡ true = point.0 0 (0, 0) (omega arith) (omega arith) in
+    let out : is_in range c ≡ false = grind (arith, nat_tests, before) in
+    ap (λ b. b || is_in_ranges ranges c) out
+    ∙ range_found (scalar_index range.1 + 2) ranges c i h.2 ((λ k d le lt. point.0 (suc k) d (omega arith) (omega arith)), (λ k d le lt. point.1 (suc k) d (omega arith) (omega arith)))
+    ∙ grind (arith, nat_tests)

@@ -8,7 +8,6 @@ ghost use Rattle.cs_syntax.specs.ByteSet.{set_of, all_bytes, other_case, is_in_f
 ghost use Rattle.cs_syntax.specs.SetWords.{TestsAs};
 ghost use Rattle.cs_syntax.specs.Ranges.{is_in_ranges};
 
-use crate::char_set::is_in_char_ranges;
 use std::marker::Model;
 
 /// A set of bytes, stored as a bitmap of 256 bits. Contracts see it as the list of its 256
@@ -148,6 +147,13 @@ impl ByteSet {
     {
         ByteSet::of(|b| b < 128 && is_in_char_ranges(ranges, b as u32))
     }
+}
+
+/// Whether the number is in one of the ranges.
+fn is_in_char_ranges(ranges: &[(u32, u32)], n: u32) -> bool
+    ensures { result ≡ is_in_ranges ranges.now n }
+{
+    ranges.iter().any(|range| range.0 <= n && n <= range.1)
 }
 
 /// The word of the bitmap for the bytes `first..first + 64`, with the bits of `low..=high` set.

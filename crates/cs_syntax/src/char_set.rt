@@ -53,7 +53,7 @@ impl CharSet {
     pub fn contains(&self, char: u32) -> bool
         ensures { result ≡ has_char self.now char }
     {
-        is_scalar(char) && is_in_char_ranges(&self.ranges, char)
+        is_scalar(char) && is_in_canonical_ranges(&self.ranges, char)
     }
 
     /// The number of members.
@@ -120,11 +120,13 @@ pub(crate) fn is_scalar(n: u32) -> bool
     n < 0xD800 || (0xE000 <= n && n <= LAST)
 }
 
-/// Whether the number is in one of the ranges.
-pub(crate) fn is_in_char_ranges(ranges: &[(u32, u32)], n: u32) -> bool
+/// Whether the number is in one of the ranges, by a binary search.
+fn is_in_canonical_ranges(ranges: &[(u32, u32)], n: u32) -> bool
+    requires { AreCanonical ranges.now }
     ensures { result ≡ is_in_ranges ranges.now n }
 {
-    ranges.iter().any(|range| range.0 <= n && n <= range.1)
+    let index = ranges.partition_point(|range| range.1 < n);
+    index < ranges.len() && ranges[index].0 <= n
 }
 
 /// The index of a character in the list of all characters.

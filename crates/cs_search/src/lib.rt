@@ -1,6 +1,6 @@
 //! Searches inputs line by line and prints the matching lines (`grep`, `cgrep`, `csearch`). Read `specs/Report.antt`
 //! first, which says what a search of one input prints, then `specs/Printed.antt`. `grep_within` takes a limit and a
-//! buffer from the caller, and `grep_text` searches a text in memory.
+//! buffer from the caller, `grep_counted` counts its steps (`specs/Work.antt`), and `grep_text` searches a text in memory.
 #![tactic(auto)]
 
 mod buffer;
@@ -28,7 +28,7 @@ pub use csearching::csearch;
 pub use grep_fault::{GrepFault, ReadFault};
 pub use grepped::Grepped;
 pub use printer::Printer;
-pub use report::{MAX_SEARCHED, grep, grep_within};
+pub use report::{MAX_SEARCHED, grep, grep_counted, grep_within};
 pub use searching::cgrep;
 pub use status::Status;
 pub use stored::csearch_stored;

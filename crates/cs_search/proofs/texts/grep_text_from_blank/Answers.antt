@@ -5,7 +5,7 @@ use Rattle.cs_match.proofs.LinesLemmas.{lines_within}
 use Rattle.cs_index.proofs.common.ResultClauses.{any_err}
 use Rattle.cs_search.proofs.MatchOutputLemmas.{reported_listed, reported_end}
 use Rattle.cs_search.proofs.PrintedPrefixLemmas.{report_prefix, report_prefix-rest, report_prefix-total}
-use Rattle.cs_search.proofs.texts.grep_text.Goals as goal
+use Rattle.cs_search.proofs.texts.grep_text_from_blank.Goals as goal
 
 abbrev rest_of : List ℕ → ℕ → List ℕ
 rest_of text start = take (length text - start) (drop start text)
@@ -21,8 +21,8 @@ returns-in-None-clause-report g c = λ has_match decides.
     let printer = c.args.printer.now in
     reported_listed printer.style printer.name.now has_match c.args.text.now c.new-tally.result c.search_block.new.tally c.new-tally.ensures.lines c.new-tally.ensures.matches (g.O.Sink.model c.args.out.now) (g.O.Sink.model c.search_block.new.out) (s.tests has_match decides) None
 
-pub returns-in_ok-print_total-in-Some-clause-report : goal.returns-in_ok-print_total-in-Some-clause-report
-returns-in_ok-print_total-in-Some-clause-report g c = λ has_match decides.
+pub returns-clause-report : goal.returns-clause-report
+returns-clause-report g c = λ has_match decides.
     let s = rw c.in-Some.is at c.in_ok-search_block.ensures in
     let printer = c.args.printer.now in
     reported_end printer.style printer.name.now has_match c.args.text.now c.new-tally.result c.search_rest.new.tally c.new-tally.ensures.lines c.new-tally.ensures.matches (g.O.Sink.model c.args.out.now) (g.O.Sink.model c.search_rest.new.out) c.search_block.new.tally (g.O.Sink.model c.search_block.new.out) (rest_of c.args.text.now c.in-Some.start) (g.O.Sink.model c.print_total.new.out)

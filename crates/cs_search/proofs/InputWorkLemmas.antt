@@ -95,8 +95,13 @@ module _ (t : Tree) (name : List ℕ) where
   printed_within : printed_work name ≤ searched_work t name 0 1
   printed_within = omega (arith, one_search t name 0)
 
+  pub ended_within : (text : List ℕ) → ended_work t name text ≤ searched_work t name (length text) (2 * length (lines text) + 1)
+  ended_within text =
+      let fewer : length (terminated_lines text) ≤ length (lines text) = omega (arith, ap (λ (ls : List (List ℕ)). length ls) (lines-split text) ∙ length-append (terminated_lines text) _) in
+      searched_fewer t name (length text - length (last_part text)) (length text) (2 * length (terminated_lines text)) (2 * length (lines text) + 1) (omega arith) (omega (arith, fewer))
+
   -- the rest is tested, and the number of matching lines is printed
-  rest_within : (rest text : List ℕ) → rest ≡ last_part text → ended_work t name text + rest_work t name rest + printed_work name ≤ searched_work t name (length text) (2 * length (lines text) + 1) + line_work t (length rest)
+  pub rest_within : (rest text : List ℕ) → rest ≡ last_part text → ended_work t name text + rest_work t name rest + printed_work name ≤ searched_work t name (length text) (2 * length (lines text) + 1) + line_work t (length rest)
   rest_within [] text is =
       let whole = length text - length (last_part text) in
       let ended = 2 * length (terminated_lines text) in
@@ -113,14 +118,7 @@ module _ (t : Tree) (name : List ℕ) where
 
   module _ (most : ℕ) (model later : Option SourceModel) (before : ℕ) where
     pub ended_input : (after : ℕ) → TakesSteps most (read_work t name) model later before after → TakesSteps most (input_work t name) model later before after
-    ended_input after h =
-        let fewer : length (terminated_lines h.text) ≤ length (lines h.text) = omega (arith, ap (λ (ls : List (List ℕ)). length ls) (lines-split h.text) ∙ length-append (terminated_lines h.text) _) in
-        record {
-          text = h.text;
-          read = h.read;
-          size = h.size;
-          bound = omega (arith, h.bound, searched_fewer t name (length h.text - length (last_part h.text)) (length h.text) (2 * length (terminated_lines h.text)) (2 * length (lines h.text) + 1) (omega arith) (omega (arith, fewer)));
-        }
+    ended_input after h = record { text = h.text; read = h.read; size = h.size; bound = omega (arith, h.bound, ended_within h.text) }
 
     pub rest_input : (pending rest : List ℕ) (u : Tree) (mid after : ℕ) → SearchesLines t name pending (Ok End) most model later before mid → u ≡ t → rest ≡ pending → after ≤ mid + rest_work u name rest + printed_work name → TakesSteps most (input_work t name) model later before after
     rest_input pending rest u mid after h same is a =

@@ -18,3 +18,5 @@ mod SearchExamples
 mod SearchLemmas
 mod SelectionLemmas
 mod LineTestLemmas
+mod WorkLemmas
+mod InputWorkLemmas

@@ -27,12 +27,14 @@ pub use Rattle.cs_syntax.specs.Matching
 pub use Rattle.cs_syntax.specs.Parsing
 pub use Rattle.cs_match.specs.Deciding
 pub use Rattle.cs_match.specs.Lines
+pub use Rattle.cs_match.specs.LastPart
 pub mod Report
 pub mod InputReport
 pub mod Buffer
 pub mod GrepReports
 pub mod GrepFaults
 pub mod Printed
+pub mod Work
 pub mod Refusals
 pub mod Cgrep
 pub mod CgrepFaults
@@ -44,6 +46,7 @@ pub mod SameSearch
 -- Definitions that private contracts cite.
 pub mod TestedLines
 pub mod Progress
+pub mod SearchedWork
 pub mod Searcher
 pub mod Programs
 pub mod IndexSearch

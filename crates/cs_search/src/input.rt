@@ -1,5 +1,5 @@
 // Reads one input block by block, and searches each block.
-ghost use Rattle.std.specs.Prelude.{◌≡◌, ◌≤◌, ◌<◌, ◌+◌, ◌^◌, [], ℕ, Bool, true, List, IfOk, OnErr, IsOkUnless, length};
+ghost use Rattle.std.specs.Prelude.{◌≡◌, ◌≤◌, ◌<◌, ◌+◌, ◌*◌, ◌^◌, [], ℕ, Bool, true, List, IfOk, OnErr, IsOkUnless, length};
 ghost use Rattle.cs_tree.specs.ConsumesAtMost.{ConsumesAtMost};
 ghost use Rattle.cs_search.specs.GrepFaults.{is_grep_failure};
 ghost use Rattle.cs_tree.specs.Failures.{count_if};
@@ -7,6 +7,8 @@ ghost use Rattle.cs_tree.specs.FailureCount.{count_after};
 ghost use Rattle.cs_match.specs.Deciding.{Decides};
 ghost use Rattle.cs_search.specs.Buffer.{pending_bytes};
 ghost use Rattle.cs_search.specs.Progress.{StopsHere, Stops, UnlessListed, TestsInput, TestsInputPrefix, has_stop_failed};
+ghost use Rattle.cs_match.specs.Work.{state_work};
+ghost use Rattle.cs_search.specs.SearchedWork.{SearchesLines, ReadsOne};
 
 use crate::buffer::LineBuffer;
 use crate::grep_fault::{GrepFault, ReadFault};
@@ -14,12 +16,13 @@ use crate::line_search::search_block;
 use crate::printer::Printer;
 use crate::stop::Stop;
 use crate::tally::Tally;
-use cs_match::Matcher;
+use cs_match::{Matcher, Steps};
 use cs_tree::{IoFault, Sink, Source};
+use std::sync::ledger::Ledger;
 
 /// Searches the lines that end within the first `limit` bytes of an input, and returns where the reading stopped. The
 /// buffer then has the unfinished line.
-pub(crate) fn search_input<R: Source, O: Sink>(
+pub(crate) fn search_input<R: Source, O: Sink, L: Ledger>(
     printer: &Printer<'_>,
     tally: &mut Tally,
     input: &mut R,
@@ -27,6 +30,7 @@ pub(crate) fn search_input<R: Source, O: Sink>(
     buffer: &mut LineBuffer,
     matcher: &mut Matcher<'_>,
     out: &mut O,
+    steps: &mut Steps<L>,
 ) -> Result<Stop, GrepFault>
     requires bound { limit < 2 ^ 32 }
     requires lines { tally.old.lines ≡ 0 }
@@ -53,9 +57,13 @@ pub(crate) fn search_input<R: Source, O: Sink>(
     ensures write_failed { O.failed out.new ≡
         count_after is_grep_failure result (O.failed out.old) }
     ensures keeps { R.Keeps input.old input.new }
+    ensures work { SearchesLines matcher.old.tree printer.now.name.now (pending_bytes buffer.new) result
+        (limit + 1) (R.model input.old) (R.model input.new)
+        (steps.old + state_work * matcher.old.states) (steps.new + state_work * matcher.new.states) }
 {
     let mut left = limit;
     'pieces: while left > 0 {
+        steps.add(1);
         let scanned = buffer.pending().len();
         match buffer.fill(input, left) {
             Ok(0) => return Ok(Stop::End),
@@ -63,12 +71,21 @@ pub(crate) fn search_input<R: Source, O: Sink>(
             Err(IoFault::Failed) => return Ok(Stop::Faulted(ReadFault::Read)),
             Err(IoFault::Memory) => return Err(GrepFault::Memory),
         }
-        let Some(start) = search_block(printer, tally, buffer.pending(), scanned, matcher, out)?
+        let Some(start) = search_block(
+            printer,
+            tally,
+            buffer.pending(),
+            scanned,
+            matcher,
+            out,
+            steps,
+        )?
         else {
             return Ok(Stop::Listed);
         };
         buffer.skip(start);
     }
+    steps.add(1);
     let stop = probe_end(input)?;
     Ok(stop)
 }
@@ -80,6 +97,7 @@ fn probe_end<R: Source>(input: &mut R) -> Result<Stop, GrepFault>
     ensures loses { ConsumesAtMost 1 (R.model input.old) (R.model input.new) }
     ensures failed { R.failed input.new ≡ count_if (has_stop_failed result) (R.failed input.old) }
     ensures keeps { R.Keeps input.old input.new }
+    ensures read { ReadsOne result (R.model input.old) (R.model input.new) }
 {
     let mut next = [0u8; 1];
     match input.read(&mut next) {

@@ -1,5 +1,5 @@
 // Searches of one input (Go: `Grep` in regexp/match.go).
-ghost use Rattle.std.specs.Prelude.{◌≡◌, ◌<◌, ◌+◌, ◌^◌, ℕ, Bool, List, OnOk, OnErr, IfOk};
+ghost use Rattle.std.specs.Prelude.{◌≡◌, ◌≤◌, ◌<◌, ◌+◌, ◌*◌, ◌^◌, ℕ, Bool, List, OnOk, OnErr, IfOk, length};
 ghost use Rattle.cs_tree.specs.ConsumesAtMost.{ConsumesAtMost};
 ghost use Rattle.cs_tree.specs.Failures.{count_if};
 ghost use Rattle.cs_tree.specs.FailureCount.{count_after};
@@ -9,6 +9,9 @@ ghost use Rattle.cs_search.specs.GrepReports.{Reports, ReportsPrefix};
 ghost use Rattle.cs_search.specs.InputReport.{max_searched, input_report};
 ghost use Rattle.cs_search.specs.GrepFaults.{is_grep_failure, has_read_failed};
 ghost use Rattle.cs_search.specs.TestedLines.{Tests, TestsPrefix};
+ghost use Rattle.cs_match.specs.Work.{state_work, line_work};
+ghost use Rattle.cs_search.specs.Work.{TakesSteps, input_work};
+ghost use Rattle.cs_search.specs.SearchedWork.{rest_work};
 
 use crate::buffer::LineBuffer;
 use crate::grep_fault::GrepFault;
@@ -19,9 +22,11 @@ use crate::printer::Printer;
 use crate::stop::Stop;
 use crate::tally::Tally;
 use cs_args::Style;
-use cs_match::Matcher;
+use cs_match::{Matcher, Steps};
 use cs_tree::{Sink, Source};
 use std::alloc::Global;
+use std::marker::Brand;
+use std::sync::ledger::{Blank, Ledger};
 
 /// The maximum number of bytes of an input that are searched: 2^30.
 pub const MAX_SEARCHED: usize = 1073741824;
@@ -96,9 +101,48 @@ pub fn grep_within<R: Source, O: Sink>(
     ensures same { matcher.new.tree ≡ matcher.old.tree }
     ensures keeps { R.Keeps input.old input.new }
 {
+    grep_from_blank::<R, O, Brand>(printer, input, limit, buffer, matcher, out, Blank::new(1))
+}
+
+/// `grep_within`, with the steps counted. `input_work` of what was read bounds them, beside `state_work` for each state
+/// that was cached before. Not counted are the system's own work, the growth of the buffer, and the moves of an
+/// unfinished line to its front.
+pub fn grep_counted<R: Source, O: Sink, L: Ledger>(
+    printer: &Printer<'_>,
+    input: &mut R,
+    limit: usize,
+    buffer: &mut LineBuffer,
+    matcher: &mut Matcher<'_>,
+    out: &mut O,
+    steps: &mut Steps<L>,
+) -> Result<Grepped, GrepFault>
+    requires { limit < 2 ^ 32 }
+    ensures report { IfOk result (λ answer. (has_match : List ℕ → Bool) →
+        Decides has_match matcher.old.tree →
+        Reports (R.model input.old)
+        (input_report limit printer.now.style printer.now.name.now has_match)
+        (O.model out.old) (O.model out.new) answer) }
+    ensures prefix { OnErr result ((has_match : List ℕ → Bool) →
+        Decides has_match matcher.old.tree →
+        ReportsPrefix (R.model input.old)
+        (input_report limit printer.now.style printer.now.name.now has_match)
+        (O.model out.old) (O.model out.new)) }
+    ensures read_failed { R.failed input.new ≡
+        count_if (has_read_failed result) (R.failed input.old) }
+    ensures write_failed { O.failed out.new ≡
+        count_after is_grep_failure result (O.failed out.old) }
+    ensures loses { ConsumesAtMost (limit + 1) (R.model input.old) (R.model input.new) }
+    ensures same { matcher.new.tree ≡ matcher.old.tree }
+    ensures keeps { R.Keeps input.old input.new }
+    ensures work { TakesSteps (limit + 1) (input_work matcher.old.tree printer.now.name.now)
+        (R.model input.old) (R.model input.new)
+        (steps.old + state_work * matcher.old.states) (steps.new + state_work * matcher.new.states) }
+{
     buffer.clear();
     let mut tally = Tally::new();
-    match search_input(printer, &mut tally, input, limit, buffer, matcher, out)? {
+    match search_input(
+        printer, &mut tally, input, limit, buffer, matcher, out, steps,
+    )? {
         Stop::Listed => Ok(Grepped {
             matched: true,
             fault: None,
@@ -108,8 +152,8 @@ pub fn grep_within<R: Source, O: Sink>(
             fault: Some(fault),
         }),
         Stop::End => {
-            search_rest(printer, &mut tally, buffer.pending(), matcher, out)?;
-            printer.print_total(tally.matches, out)?;
+            search_rest(printer, &mut tally, buffer.pending(), matcher, out, steps)?;
+            printer.print_total(tally.matches, out, steps)?;
             Ok(Grepped {
                 matched: tally.matches > 0,
                 fault: None,
@@ -118,13 +162,49 @@ pub fn grep_within<R: Source, O: Sink>(
     }
 }
 
+fn grep_from_blank<R: Source, O: Sink, L: Ledger>(
+    printer: &Printer<'_>,
+    input: &mut R,
+    limit: usize,
+    buffer: &mut LineBuffer,
+    matcher: &mut Matcher<'_>,
+    out: &mut O,
+    blank: Blank,
+) -> Result<Grepped, GrepFault>
+    requires name { blank.name ≡ L.name }
+    requires parts { blank.parts ≡ L.parts }
+    requires some { 0 < blank.parts }
+    requires limit { limit < 2 ^ 32 }
+    ensures report { IfOk result (λ answer. (has_match : List ℕ → Bool) →
+        Decides has_match matcher.old.tree →
+        Reports (R.model input.old)
+        (input_report limit printer.now.style printer.now.name.now has_match)
+        (O.model out.old) (O.model out.new) answer) }
+    ensures prefix { OnErr result ((has_match : List ℕ → Bool) →
+        Decides has_match matcher.old.tree →
+        ReportsPrefix (R.model input.old)
+        (input_report limit printer.now.style printer.now.name.now has_match)
+        (O.model out.old) (O.model out.new)) }
+    ensures read_failed { R.failed input.new ≡
+        count_if (has_read_failed result) (R.failed input.old) }
+    ensures write_failed { O.failed out.new ≡
+        count_after is_grep_failure result (O.failed out.old) }
+    ensures loses { ConsumesAtMost (limit + 1) (R.model input.old) (R.model input.new) }
+    ensures same { matcher.new.tree ≡ matcher.old.tree }
+    ensures keeps { R.Keeps input.old input.new }
+{
+    let mut steps = Steps::<L>::new(blank);
+    grep_counted(printer, input, limit, buffer, matcher, out, &mut steps)
+}
+
 /// Tests the bytes after the last newline as a line, if there are any.
-pub(crate) fn search_rest<O: Sink>(
+pub(crate) fn search_rest<O: Sink, L: Ledger>(
     printer: &Printer<'_>,
     tally: &mut Tally,
     rest: &[u8],
     matcher: &mut Matcher<'_>,
     out: &mut O,
+    steps: &mut Steps<L>,
 ) -> Result<(), GrepFault>
     requires { tally.old.lines + 1 < 2 ^ 64 }
     ensures tests { OnOk result ((has_match : List ℕ → Bool) → Decides has_match matcher.old.tree →
@@ -138,10 +218,13 @@ pub(crate) fn search_rest<O: Sink>(
         (O.model out.old) (O.model out.new)) }
     ensures same { matcher.new.tree ≡ matcher.old.tree }
     ensures failed { O.failed out.new ≡ count_after is_grep_failure result (O.failed out.old) }
+    ensures work { steps.new + state_work * matcher.new.states
+        ≤ steps.old + state_work * matcher.old.states
+        + rest_work matcher.old.tree printer.now.name.now rest.now }
 {
     if rest.is_empty() {
         return Ok(());
     }
-    search_line(printer, tally, rest, matcher, out)?;
+    search_line(printer, tally, rest, matcher, out, steps)?;
     Ok(())
 }

@@ -1,6 +1,9 @@
 // The counts of a search.
-ghost use Rattle.std.specs.Prelude.{◌≤◌, ◌≡◌, length};
+ghost use Rattle.std.specs.Prelude.{◌≤◌, ◌≡◌, ◌+◌, length};
 ghost use Rattle.cs_match.specs.Lines.{terminated_lines};
+
+use cs_match::Steps;
+use std::sync::ledger::Ledger;
 
 /// The number of tested lines, and of the matching ones. If no number is printed, lines without a match are not counted.
 #[derive(Drop)]
@@ -26,24 +29,27 @@ impl Tally {
 const PART: usize = 240;
 
 /// The number of newlines in the block; each ends a line.
-pub(crate) fn newlines(block: &[u8]) -> u64
-    ensures { result ≡ length (terminated_lines block.now) }
+pub(crate) fn newlines<L: Ledger>(block: &[u8], steps: &mut Steps<L>) -> u64
+    ensures exact { result ≡ length (terminated_lines block.now) }
+    ensures work { steps.new ≡ steps.old + length block.now }
 {
     let mut count = 0u64;
     let mut rest = block;
     'parts: while rest.len() > PART {
         let (part, more) = rest.split_at(PART);
-        count += u64::from(count_newlines(part));
+        count += u64::from(count_newlines(part, steps));
         rest = more;
     }
-    count + u64::from(count_newlines(rest))
+    count + u64::from(count_newlines(rest, steps))
 }
 
-/// The number of newlines in a part.
-fn count_newlines(part: &[u8]) -> u8
+/// The number of newlines in a part. Each byte is a step.
+fn count_newlines<L: Ledger>(part: &[u8], steps: &mut Steps<L>) -> u8
     requires { length part.now ≤ PART }
-    ensures { result ≡ length (terminated_lines part.now) }
+    ensures exact { result ≡ length (terminated_lines part.now) }
+    ensures work { steps.new ≡ steps.old + length part.now }
 {
+    steps.add(part.len());
     let mut count = 0u8;
     for b in part {
         count += u8::from(*b == b'\n');

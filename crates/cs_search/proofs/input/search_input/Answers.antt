@@ -1,4 +1,4 @@
-use Rattle.std.proofs.Common.{◌≡◌, true, ◌+◌, ◌-◌, ◌++◌, [], Bool, List, ℕ, length, drop, refl, sym, ap, subst, ◌∙◌, inl, inr, arith, rules}
+use Rattle.std.proofs.Common.{◌≡◌, true, ◌+◌, ◌*◌, ◌-◌, ◌++◌, [], Bool, List, ℕ, Ok, length, drop, refl, sym, ap, subst, ◌∙◌, inl, inr, arith, rules, append-nil}
 use Rattle.std.proofs.lemmas.List.{nil_from_length}
 use Rattle.cs_match.specs.Deciding.{Decides}
 use Rattle.cs_tree.specs.StreamModels.{ends, fails}
@@ -13,6 +13,9 @@ use Rattle.cs_search.specs.Buffer.{pending_bytes}
 use Rattle.cs_search.specs.TestedLines.{Tests, TestsPrefix, IsListed}
 use Rattle.cs_search.specs.Progress.{HasReadInput, HasTested}
 use Rattle.cs_match.proofs.LinesLemmas.{HasNoNewline-last_part, lines_within}
+use Rattle.cs_match.specs.Work.{state_work}
+use Rattle.cs_search.specs.SearchedWork.{HasSearched}
+use Rattle.cs_search.proofs.InputWorkLemmas.{Consumes-none, block_bound, unless_err, searched_on, searched_last, stops_at}
 use Rattle.cs_search.proofs.BufferLemmas.{GrowsBy-split, GrowsBy-size}
 use Rattle.cs_search.proofs.LineTestLemmas.{Tests-none, Tests-more}
 use Rattle.cs_search.proofs.ProgressLemmas.{HasReadInput-none, HasTested-none, HasReadInput-more, HasTested-more, TestsInput-empty, TestsInput-listed, TestsInput-past, Stops-past, Consumes-read, ConsumesAtMost-more}
@@ -21,6 +24,7 @@ use Rattle.cs_search.proofs.PrintedPrefixLemmas.{TestsInputPrefix-tested, TestsI
 use Rattle.cs_search.proofs.input.search_input.Goals as goal
 
 pub pieces-init : goal.pieces-init
+unfolding last_part
 pieces-init g c =
     let r = c.requires in
     let none : c.args.limit - c.args.limit ≡ 0 = omega arith in
@@ -33,6 +37,13 @@ pieces-init g c =
       same = refl;
       read_failed = refl;
       write_failed = refl;
+      work = record {
+        text = [];
+        read = Consumes-none (g.R.Source.model c.args.input.now);
+        size = omega arith;
+        rest = r.empty;
+        bound = omega arith;
+      };
       keeps = g.met.R.Source.keeps_refl c.args.input.now;
     }
 
@@ -127,6 +138,8 @@ pieces-preserved g c =
       same = s.same ∙ i.same;
       read_failed = e.failed ∙ i.read_failed;
       write_failed = s.failed ∙ i.write_failed;
+      work = subst (λ k. HasSearched c.args.matcher.now.tree c.args.printer.now.name.now (pending_bytes c.skip.new.self) k model later (c.args.steps.now + state_work * c.args.matcher.now.states) (c.search_block.new.steps + state_work * c.search_block.new.matcher.states)) n
+          (searched_on c.args.matcher.now.tree c.args.printer.now.name.now (pending_bytes c.pieces.buffer) (c.args.limit - c.pieces.left) (g.R.Source.model c.args.input.now) (g.R.Source.model c.pieces.input) (c.args.steps.now + state_work * c.args.matcher.now.states) (c.pieces.steps + state_work * c.pieces.matcher.states) i.work later piece (c.search_block.new.steps + state_work * c.search_block.new.matcher.states) e.model.0 (pending_bytes c.skip.new.self) (rest ∙ ap last_part block) (omega (arith, size, c.in-Ok.n-test)) (block_bound c.args.matcher.now.tree c.pieces.matcher.tree c.args.printer.now.name.now c.pending.result.now old piece (length c.pending-scanned.result.now) (c.pieces.steps + state_work * c.pieces.matcher.states) (c.search_block.new.steps + state_work * c.search_block.new.matcher.states) i.same (c.pending.ensures ∙ GrowsBy-split _ _ _ e.gains) (ap (λ (b : List ℕ). length b) c.pending-scanned.ensures) (omega (arith, c.search_block.ensures.work, c.add.ensures))));
       keeps = g.met.R.Source.keeps_trans _ _ _ i.keeps e.keeps;
     }
 
@@ -155,3 +168,51 @@ returns-in-Err-Failed-clause-stops g c = grind (arith, common_steps)
 
 pub returns-in-Err-Failed-clause-read_failed : goal.returns-in-Err-Failed-clause-read_failed
 returns-in-Err-Failed-clause-read_failed g c = search rules
+
+pub returns-in-Ok-eq0-clause-work : goal.returns-in-Ok-eq0-clause-work
+returns-in-Ok-eq0-clause-work g c =
+    let i = c.pieces.invariant in
+    let e = c.in-Ok-eq0.ensures in
+    let old = pending_bytes c.pieces.buffer in
+    let new = pending_bytes c.fill.new.self in
+    let piece = drop (length old) new in
+    let size : length piece ≡ 0 = GrowsBy-size _ _ _ e.gains ∙ c.in-Ok-eq0.field-0-test in
+    let none : piece ≡ [] = nil_from_length piece size in
+    let same : new ≡ old = GrowsBy-split _ _ _ e.gains ∙ ap (λ p. old ++ p) none ∙ append-nil old in
+    stops_at c.args.matcher.now.tree c.args.printer.now.name.now (pending_bytes c.pieces.buffer) (c.args.limit - c.pieces.left) (g.R.Source.model c.args.input.now) (g.R.Source.model c.pieces.input) (c.args.steps.now + state_work * c.args.matcher.now.states) (c.pieces.steps + state_work * c.pieces.matcher.states) i.work piece new same (Ok End) none (g.R.Source.model c.fill.new.input) (c.add.new.self + state_work * c.pieces.matcher.states) (c.args.limit + 1) e.model.0 (omega (arith, size)) (omega (arith, c.add.ensures))
+
+pub returns-in_err-start-clause-work : goal.returns-in_err-start-clause-work
+returns-in_err-start-clause-work g c =
+    let i = c.pieces.invariant in
+    let e = c.in-Ok.ensures in
+    let old = pending_bytes c.pieces.buffer in
+    let piece = drop (length old) (pending_bytes c.fill.new.self) in
+    let size : length piece ≡ c.in-Ok.n = GrowsBy-size _ _ _ e.gains in
+    record {
+      steps = searched_last c.args.matcher.now.tree c.args.printer.now.name.now (pending_bytes c.pieces.buffer) (c.args.limit - c.pieces.left) (g.R.Source.model c.args.input.now) (g.R.Source.model c.pieces.input) (c.args.steps.now + state_work * c.args.matcher.now.states) (c.pieces.steps + state_work * c.pieces.matcher.states) i.work (g.R.Source.model c.fill.new.input) piece (c.search_block.new.steps + state_work * c.search_block.new.matcher.states) e.model.0 (c.args.limit + 1) (omega (arith, e.within, i.bound, size)) (omega (arith, size, c.in-Ok.n-test)) (block_bound c.args.matcher.now.tree c.pieces.matcher.tree c.args.printer.now.name.now c.pending.result.now old piece (length c.pending-scanned.result.now) (c.pieces.steps + state_work * c.pieces.matcher.states) (c.search_block.new.steps + state_work * c.search_block.new.matcher.states) i.same (c.pending.ensures ∙ GrowsBy-split _ _ _ e.gains) (ap (λ (b : List ℕ). length b) c.pending-scanned.ensures) (omega (arith, c.search_block.ensures.work, c.add.ensures)));
+      rest = unless_err _ c.from_residual.result c.from_residual.ensures.0;
+    }
+
+pub returns-in_default-clause-work : goal.returns-in_default-clause-work
+returns-in_default-clause-work g c =
+    let i = c.pieces.invariant in
+    let e = c.in-Ok.ensures in
+    let old = pending_bytes c.pieces.buffer in
+    let piece = drop (length old) (pending_bytes c.fill.new.self) in
+    let size : length piece ≡ c.in-Ok.n = GrowsBy-size _ _ _ e.gains in
+    record {
+      steps = searched_last c.args.matcher.now.tree c.args.printer.now.name.now (pending_bytes c.pieces.buffer) (c.args.limit - c.pieces.left) (g.R.Source.model c.args.input.now) (g.R.Source.model c.pieces.input) (c.args.steps.now + state_work * c.args.matcher.now.states) (c.pieces.steps + state_work * c.pieces.matcher.states) i.work (g.R.Source.model c.fill.new.input) piece (c.search_block.new.steps + state_work * c.search_block.new.matcher.states) e.model.0 (c.args.limit + 1) (omega (arith, e.within, i.bound, size)) (omega (arith, size, c.in-Ok.n-test)) (block_bound c.args.matcher.now.tree c.pieces.matcher.tree c.args.printer.now.name.now c.pending.result.now old piece (length c.pending-scanned.result.now) (c.pieces.steps + state_work * c.pieces.matcher.states) (c.search_block.new.steps + state_work * c.search_block.new.matcher.states) i.same (c.pending.ensures ∙ GrowsBy-split _ _ _ e.gains) (ap (λ (b : List ℕ). length b) c.pending-scanned.ensures) (omega (arith, c.search_block.ensures.work, c.add.ensures)));
+      rest = tt;
+    }
+
+pub returns-in_err-stop-clause-work : goal.returns-in_err-stop-clause-work
+returns-in_err-stop-clause-work g c =
+    let i = c.pieces.invariant in
+    let p = c.probe_end.ensures.read in
+    stops_at c.args.matcher.now.tree c.args.printer.now.name.now (pending_bytes c.pieces.buffer) (c.args.limit - c.pieces.left) (g.R.Source.model c.args.input.now) (g.R.Source.model c.pieces.input) (c.args.steps.now + state_work * c.args.matcher.now.states) (c.pieces.steps + state_work * c.pieces.matcher.states) i.work p.0 (pending_bytes c.pieces.buffer) refl c.from_residual-in_err-stop.result (unless_err _ c.from_residual-in_err-stop.result c.from_residual-in_err-stop.ensures.0) (g.R.Source.model c.probe_end.new.input) (c.add-2.new.self + state_work * c.pieces.matcher.states) (c.args.limit + 1) p.1 (omega (arith, p.2)) (omega (arith, c.add-2.ensures))
+
+pub returns-clause-work : goal.returns-clause-work
+returns-clause-work g c =
+    let i = c.pieces.invariant in
+    let p = c.in_ok-stop.ensures.read in
+    stops_at c.args.matcher.now.tree c.args.printer.now.name.now (pending_bytes c.pieces.buffer) (c.args.limit - c.pieces.left) (g.R.Source.model c.args.input.now) (g.R.Source.model c.pieces.input) (c.args.steps.now + state_work * c.args.matcher.now.states) (c.pieces.steps + state_work * c.pieces.matcher.states) i.work p.0 (pending_bytes c.pieces.buffer) refl (Ok c.in_ok-stop.stop) p.3 (g.R.Source.model c.probe_end.new.input) (c.add-2.new.self + state_work * c.pieces.matcher.states) (c.args.limit + 1) p.1 (omega (arith, p.2)) (omega (arith, c.add-2.ensures))

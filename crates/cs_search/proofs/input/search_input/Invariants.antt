@@ -1,5 +1,7 @@
-use Rattle.std.proofs.Common.{◌≡◌, ◌≤◌, ◌+◌, ◌-◌, true, Bool, List, ℕ, length}
+use Rattle.std.proofs.Common.{◌≡◌, ◌≤◌, ◌+◌, ◌*◌, ◌-◌, true, Bool, List, ℕ, length}
 use Rattle.cs_match.specs.Deciding.{Decides}
+use Rattle.cs_match.specs.Work.{state_work}
+use Rattle.cs_search.specs.SearchedWork.{HasSearched}
 use Rattle.cs_match.specs.NoNewline.{HasNoNewline}
 use Rattle.cs_search.specs.Buffer.{pending_bytes}
 use Rattle.cs_search.specs.Progress.{HasReadInput, HasTested}
@@ -16,6 +18,7 @@ invariant-pieces g l = record {
   same : l.matcher.tree ≡ l.initial.matcher.tree;
   read_failed : g.R.Source.failed l.input ≡ g.R.Source.failed l.initial.input;
   write_failed : g.O.Sink.failed l.out ≡ g.O.Sink.failed l.initial.out;
+  work : HasSearched l.initial.matcher.tree l.printer.name.now (pending_bytes l.buffer) (l.limit - l.left) (g.R.Source.model l.initial.input) (g.R.Source.model l.input) (l.initial.steps + state_work * l.initial.matcher.states) (l.steps + state_work * l.matcher.states);
   keeps : g.R.Source.Keeps l.initial.input l.input;
 }
 

@@ -1,8 +1,9 @@
-use Rattle.std.proofs.Common.{◌≡◌, ◌+◌, Bool, true, false, List, ℕ, length, MatchBool, sym, subst}
+use Rattle.std.proofs.Common.{◌≡◌, ◌+◌, Bool, true, false, List, ℕ, length, MatchBool, sym, subst, arith}
 use Rattle.std.proofs.lemmas.Bool.{false≢true}
 use Rattle.cs_search.specs.TestedLines.{CountsLines, Tests, TestsPrefix, IsListed}
 use Rattle.cs_match.proofs.WholeLineLemmas.{ended_all, rest_is_last}
 use Rattle.cs_index.proofs.common.ResultClauses.{any_err}
+use Rattle.cs_search.proofs.WorkLemmas.{ended}
 use Rattle.cs_search.proofs.line_search.search_block.Goals as goal
 
 at_true : (P Q : Type 0) (b : Bool) → b ≡ true → MatchBool b P Q → P
@@ -42,3 +43,18 @@ returns-clause-tests g c = λ has_match decides.
     let e = c.ended_len-stop.ensures in
     subst (λ (ls : List (List ℕ)). Tests c.args.printer.now.style c.args.printer.now.name.now has_match ls c.args.tally.now c.search_lines.new.tally (g.O.Sink.model c.args.out.now) (g.O.Sink.model c.search_lines.new.out)) (sym (ended_all c.args.block.now c.ended_len-stop.result e.whole e.rest))
     (at_false _ _ c.in_ok-search_lines.field-0 c.if-branch.false (c.in_ok-search_lines.ensures.tests has_match decides))
+
+pub returns-then-branch-clause-work : goal.returns-then-branch-clause-work
+returns-then-branch-clause-work g c =
+    let e = c.ended_len-stop.ensures in
+    omega (arith, c.search_lines.ensures.work, e.work, ended c.args.matcher.now.tree c.args.printer.now.name.now c.args.block.now c.ended_len-stop.result e.within e.whole e.rest)
+
+pub returns-in_err-search_lines-clause-work : goal.returns-in_err-search_lines-clause-work
+returns-in_err-search_lines-clause-work g c =
+    let e = c.ended_len-stop.ensures in
+    omega (arith, c.search_lines.ensures.work, e.work, ended c.args.matcher.now.tree c.args.printer.now.name.now c.args.block.now c.ended_len-stop.result e.within e.whole e.rest)
+
+pub returns-clause-work : goal.returns-clause-work
+returns-clause-work g c =
+    let e = c.ended_len-stop.ensures in
+    omega (arith, c.search_lines.ensures.work, e.work, ended c.args.matcher.now.tree c.args.printer.now.name.now c.args.block.now c.ended_len-stop.result e.within e.whole e.rest)

@@ -1,7 +1,5 @@
 use Rattle.std.proofs.Common.{◌≡◌, ◌++◌, ◌∷◌, [], Option, Result, List, ℕ, get_or, ap, sym, subst, ◌∙◌}
-use Rattle.std.specs.Prelude.{String, string_bytes}
 use Rattle.std.specs.Result.{IsOkAnd}
-use Rattle.std.specs.declared.alloc.Global.{Global}
 use Rattle.cs_syntax.specs.Matching.{Tree}
 use Rattle.cs_index.specs.declared.fault.IndexFault.{IndexFault}
 use Rattle.cs_index.specs.NameReading.{HasName}

@@ -1,11 +1,14 @@
-use Rattle.std.proofs.Common.{ℕ, List, None, ◌-◌, length, take, drop, sym, subst, ◌∙◌, arith}
+use Rattle.std.proofs.Common.{ℕ, List, None, ◌-◌, length, take, drop, sym, ap, subst, ◌∙◌, arith}
 use Rattle.std.proofs.lemmas.List.{take_rest}
 use Rattle.cs_match.specs.Deciding.{Decides}
 use Rattle.cs_match.proofs.LinesLemmas.{lines_within}
 use Rattle.cs_index.proofs.common.ResultClauses.{any_err}
 use Rattle.cs_search.proofs.MatchOutputLemmas.{reported_listed, reported_end}
 use Rattle.cs_search.proofs.PrintedPrefixLemmas.{report_prefix, report_prefix-rest, report_prefix-total}
-use Rattle.cs_search.proofs.texts.grep_text.Goals as goal
+use Rattle.cs_match.specs.Work.{line_work}
+use Rattle.cs_search.specs.SearchedWork.{rest_work}
+use Rattle.cs_search.proofs.InputWorkLemmas.{ended_within, rest_within}
+use Rattle.cs_search.proofs.texts.grep_text_counted.Goals as goal
 
 abbrev rest_of : List ℕ → ℕ → List ℕ
 rest_of text start = take (length text - start) (drop start text)
@@ -55,3 +58,30 @@ returns-in_err-print_total-in-Some-clause-prefix g c =
     (take_rest c.args.text.now c.in-Some.start ∙ s.rest.1) (λ shown. omega (arith, s.lines.exact shown, c.new-tally.ensures.lines)) s.unlisted (s.tests has_match decides)
     (c.in_ok-search_rest-in-Some.ensures.tests has_match (subst (Decides has_match) (sym s.same) decides))
     c.in_err-print_total-in-Some.ensures.written)
+
+pub returns-in-None-clause-work : goal.returns-in-None-clause-work
+returns-in-None-clause-work g c = omega (arith, c.search_block.ensures.work, ended_within c.args.matcher.now.tree c.args.printer.now.name.now c.args.text.now)
+
+pub returns-in_err-search_block-clause-work : goal.returns-in_err-search_block-clause-work
+returns-in_err-search_block-clause-work g c = omega (arith, c.search_block.ensures.work, ended_within c.args.matcher.now.tree c.args.printer.now.name.now c.args.text.now)
+
+pub returns-in_ok-print_total-in-Some-clause-work : goal.returns-in_ok-print_total-in-Some-clause-work
+returns-in_ok-print_total-in-Some-clause-work g c =
+    let s = rw c.in-Some.is at c.in_ok-search_block.ensures in
+    let rest = rest_of c.args.text.now c.in-Some.start in
+    let last = take_rest c.args.text.now c.in-Some.start ∙ s.rest.1 in
+    omega (arith, c.search_block.ensures.work, c.search_rest.ensures.work, c.print_total.ensures.work, ap (λ t. rest_work t c.args.printer.now.name.now rest) s.same, rest_within c.args.matcher.now.tree c.args.printer.now.name.now rest c.args.text.now last, ap (λ l. line_work c.args.matcher.now.tree (length l)) last)
+
+pub returns-in_err-search_rest-in-Some-clause-work : goal.returns-in_err-search_rest-in-Some-clause-work
+returns-in_err-search_rest-in-Some-clause-work g c =
+    let s = rw c.in-Some.is at c.in_ok-search_block.ensures in
+    let rest = rest_of c.args.text.now c.in-Some.start in
+    let last = take_rest c.args.text.now c.in-Some.start ∙ s.rest.1 in
+    omega (arith, c.search_block.ensures.work, c.search_rest.ensures.work, ap (λ t. rest_work t c.args.printer.now.name.now rest) s.same, rest_within c.args.matcher.now.tree c.args.printer.now.name.now rest c.args.text.now last, ap (λ l. line_work c.args.matcher.now.tree (length l)) last)
+
+pub returns-in_err-print_total-in-Some-clause-work : goal.returns-in_err-print_total-in-Some-clause-work
+returns-in_err-print_total-in-Some-clause-work g c =
+    let s = rw c.in-Some.is at c.in_ok-search_block.ensures in
+    let rest = rest_of c.args.text.now c.in-Some.start in
+    let last = take_rest c.args.text.now c.in-Some.start ∙ s.rest.1 in
+    omega (arith, c.search_block.ensures.work, c.search_rest.ensures.work, c.print_total.ensures.work, ap (λ t. rest_work t c.args.printer.now.name.now rest) s.same, rest_within c.args.matcher.now.tree c.args.printer.now.name.now rest c.args.text.now last, ap (λ l. line_work c.args.matcher.now.tree (length l)) last)

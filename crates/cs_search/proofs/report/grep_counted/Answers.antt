@@ -1,11 +1,14 @@
-use Rattle.std.proofs.Common.{sym, subst}
+use Rattle.std.proofs.Common.{◌+◌, ◌*◌, sym, subst, arith}
+use Rattle.cs_match.specs.Work.{state_work}
+use Rattle.cs_search.specs.Buffer.{pending_bytes}
+use Rattle.cs_search.proofs.InputWorkLemmas.{ended_input, rest_input}
 use Rattle.cs_match.specs.Deciding.{Decides}
 use Rattle.cs_search.specs.declared.stop.Stop.TheVariants.{End}
 use Rattle.cs_search.specs.Progress.{Stops}
 use Rattle.cs_search.proofs.InputReportLemmas.{Reports-listed, Reports-left, Reports-end}
 use Rattle.cs_index.proofs.common.ResultClauses.{any_err}
 use Rattle.cs_search.proofs.PrintedPrefixLemmas.{ReportsPrefix-read, ReportsPrefix-rest, ReportsPrefix-total}
-use Rattle.cs_search.proofs.report.grep_within.Goals as goal
+use Rattle.cs_search.proofs.report.grep_counted.Goals as goal
 
 pub returns-in-Listed-clause-report : goal.returns-in-Listed-clause-report
 returns-in-Listed-clause-report g c = λ has_match decides.
@@ -60,3 +63,30 @@ returns-in_err-print_total-in-End-clause-prefix g c =
     s.unlisted (s.tests has_match decides)
     (c.in_ok-search_rest-in-End.ensures.tests has_match (subst (Decides has_match) (sym s.same) decides))
     c.in_err-print_total-in-End.ensures.written)
+
+pub returns-in-Listed-clause-work : goal.returns-in-Listed-clause-work
+returns-in-Listed-clause-work g c =
+    ended_input c.args.matcher.now.tree c.args.printer.now.name.now (c.args.limit + 1) (g.R.Source.model c.args.input.now) (g.R.Source.model c.search_input.new.input) (c.args.steps.now + state_work * c.args.matcher.now.states) (c.search_input.new.steps + state_work * c.search_input.new.matcher.states) c.search_input.ensures.work.steps
+
+pub returns-in-Faulted-clause-work : goal.returns-in-Faulted-clause-work
+returns-in-Faulted-clause-work g c =
+    ended_input c.args.matcher.now.tree c.args.printer.now.name.now (c.args.limit + 1) (g.R.Source.model c.args.input.now) (g.R.Source.model c.search_input.new.input) (c.args.steps.now + state_work * c.args.matcher.now.states) (c.search_input.new.steps + state_work * c.search_input.new.matcher.states) c.search_input.ensures.work.steps
+
+pub returns-in_err-search_input-clause-work : goal.returns-in_err-search_input-clause-work
+returns-in_err-search_input-clause-work g c =
+    ended_input c.args.matcher.now.tree c.args.printer.now.name.now (c.args.limit + 1) (g.R.Source.model c.args.input.now) (g.R.Source.model c.search_input.new.input) (c.args.steps.now + state_work * c.args.matcher.now.states) (c.search_input.new.steps + state_work * c.search_input.new.matcher.states) c.search_input.ensures.work.steps
+
+pub returns-in_ok-print_total-in-End-clause-work : goal.returns-in_ok-print_total-in-End-clause-work
+returns-in_ok-print_total-in-End-clause-work g c =
+    let s = rw c.in-End.is at c.in_ok-search_input.ensures in
+    rest_input c.args.matcher.now.tree c.args.printer.now.name.now (c.args.limit + 1) (g.R.Source.model c.args.input.now) (g.R.Source.model c.search_input.new.input) (c.args.steps.now + state_work * c.args.matcher.now.states) (pending_bytes c.search_input.new.buffer) c.pending.result.now c.search_input.new.matcher.tree (c.search_input.new.steps + state_work * c.search_input.new.matcher.states) (c.print_total.new.steps + state_work * c.search_rest.new.matcher.states) s.work s.same c.pending.ensures (omega (arith, c.search_rest.ensures.work, c.print_total.ensures.work))
+
+pub returns-in_err-search_rest-in-End-clause-work : goal.returns-in_err-search_rest-in-End-clause-work
+returns-in_err-search_rest-in-End-clause-work g c =
+    let s = rw c.in-End.is at c.in_ok-search_input.ensures in
+    rest_input c.args.matcher.now.tree c.args.printer.now.name.now (c.args.limit + 1) (g.R.Source.model c.args.input.now) (g.R.Source.model c.search_input.new.input) (c.args.steps.now + state_work * c.args.matcher.now.states) (pending_bytes c.search_input.new.buffer) c.pending.result.now c.search_input.new.matcher.tree (c.search_input.new.steps + state_work * c.search_input.new.matcher.states) (c.search_rest.new.steps + state_work * c.search_rest.new.matcher.states) s.work s.same c.pending.ensures (omega (arith, c.search_rest.ensures.work))
+
+pub returns-in_err-print_total-in-End-clause-work : goal.returns-in_err-print_total-in-End-clause-work
+returns-in_err-print_total-in-End-clause-work g c =
+    let s = rw c.in-End.is at c.in_ok-search_input.ensures in
+    rest_input c.args.matcher.now.tree c.args.printer.now.name.now (c.args.limit + 1) (g.R.Source.model c.args.input.now) (g.R.Source.model c.search_input.new.input) (c.args.steps.now + state_work * c.args.matcher.now.states) (pending_bytes c.search_input.new.buffer) c.pending.result.now c.search_input.new.matcher.tree (c.search_input.new.steps + state_work * c.search_input.new.matcher.states) (c.print_total.new.steps + state_work * c.search_rest.new.matcher.states) s.work s.same c.pending.ensures (omega (arith, c.search_rest.ensures.work, c.print_total.ensures.work))

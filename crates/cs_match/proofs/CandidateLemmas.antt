@@ -1,5 +1,5 @@
 -- Lines that contain a word of a prefilter.
-use Rattle.std.proofs.Common.{◌≡◌, ℕ, ◌+◌, ◌-◌, ◌<◌, ◌≤◌, inl, inr, List, [], ◌∷◌, length, take, drop, get_or, sym, ap, subst, ◌∙◌, arith, add-zero, length-take, length-drop, take-take, drop-drop}
+use Rattle.std.proofs.Common.{◌≡◌, ℕ, ◌+◌, ◌-◌, ◌<◌, ◌≤◌, inl, inr, Bool, List, [], ◌∷◌, length, take, drop, get_or, sym, ap, subst, ◌∙◌, arith, add-zero, length-take, length-drop, take-take, drop-drop}
 use Rattle.std.specs.Prelude.{All}
 use Rattle.std.proofs.lemmas.Bool.{cases_lt, false≢true}
 use Rattle.std.proofs.lemmas.List.{get_or-take, get_or-drop, drop-take, take_rest}
@@ -33,9 +33,10 @@ no_candidate tree words block from within whole required lack = record {
 }
 
 -- no line before the first one with a word has a match
-pub before_candidate : (tree : Tree) (words : List Word) (block : List ℕ) (from start end : ℕ) → AreRequired tree words → IsCandidateLine words block from start end →
+pub before_candidate : (tree : Tree) (words : List Word) (block : List ℕ) (from start end : ℕ) (has_word : Bool) → AreRequired tree words →
+    IsCandidateLine words block from start end has_word →
     AreSkipped (λ has_match. Decides has_match tree) block from start
-before_candidate tree words block from start end required e = record {
+before_candidate tree words block from start end has_word required e = record {
   lines = record { low = e.line.low; high = omega (arith, e.line.order, e.line.high); whole = e.line.before };
   none = λ has_match decides. none_found tree (HasWord words) has_match (terminated_lines (take (start - from) (drop from block))) required decides e.lack;
 }

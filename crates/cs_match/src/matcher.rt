@@ -45,6 +45,8 @@ pub struct Matcher<'a> {
 pub(crate) struct Searched {
     to: usize,
     line: Option<Line>,
+    /// What candidates of the prefilter that are no words cost, in bytes that the DFA scans in their time.
+    wasted: usize,
 }
 
 impl<'a> Model for Matcher<'a> {
@@ -316,6 +318,7 @@ impl<'a> Matcher<'a> {
         Searched {
             to,
             line: self.first_match(block, from, to, steps),
+            wasted: 0,
         }
     }
 
@@ -346,10 +349,12 @@ impl<'a> Matcher<'a> {
             } else {
                 None
             },
+            wasted: 0,
         }
     }
 
-    /// Skips to the first line with a word of the prefilter, and tests it unless the words are the pattern.
+    /// Skips to the first line with a word of the prefilter, or where its search is given up, and tests the line unless it
+    /// has a word and the words are the pattern.
     fn search_candidate<L: Ledger>(
         &mut self,
         block: &[u8],
@@ -370,22 +375,26 @@ impl<'a> Matcher<'a> {
         let Some(prefilter) = self.prefilter else {
             return self.search_line(block, from, steps);
         };
-        let Some(line) = next_candidate(prefilter, block, from, steps) else {
+        let candidate = next_candidate(prefilter, block, from, steps);
+        let Some(line) = candidate.line else {
             return Searched {
                 to: block.len(),
                 line: None,
+                wasted: candidate.wasted,
             };
         };
-        if prefilter.is_exact() {
+        if candidate.has_word && prefilter.is_exact() {
             return Searched {
                 to: line.end + 1,
                 line: Some(line),
+                wasted: candidate.wasted,
             };
         }
         let found = self.is_match_counted(&block[line.start..line.end], steps);
         Searched {
             to: line.end + 1,
             line: if found { Some(line) } else { None },
+            wasted: candidate.wasted,
         }
     }
 
@@ -473,7 +482,8 @@ impl<'a> Matcher<'a> {
             Some(line) => (line.start, true),
             None => (searched.to, false),
         };
+        let without_match = end.saturating_sub(from);
         self.pacing
-            .note_part(method, end.saturating_sub(from), found);
+            .note_part(method, without_match, searched.wasted, found);
     }
 }

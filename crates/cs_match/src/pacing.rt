@@ -6,8 +6,8 @@ use crate::interleaved_scan::BATCH;
 /// Below this distance between candidates without a match the DFA alone is faster than a prefilter.
 const NEAR: usize = 256;
 
-/// How many such candidates in a row are put down to chance.
-const MOST_MISSES: usize = 16;
+/// The cost of such candidates in a row that is put down to chance, in bytes that the DFA scans in their time.
+const MOST_WASTED: usize = 16 * NEAR;
 
 /// A way to find the next lines to search.
 #[derive(Clone, Copy)]
@@ -28,8 +28,8 @@ pub(crate) struct Pacing {
     has_prefilter: bool,
     prefilter_backoff: Backoff,
     interleaved_backoff: Backoff,
-    /// How many near candidates in a row had no match.
-    misses: usize,
+    /// The cost of near candidates in a row that had no match, in bytes that the DFA scans in their time.
+    wasted: usize,
 }
 
 impl Pacing {
@@ -38,7 +38,7 @@ impl Pacing {
             has_prefilter,
             prefilter_backoff: Backoff::new(),
             interleaved_backoff: Backoff::new(),
-            misses: 0,
+            wasted: 0,
         }
     }
 
@@ -56,10 +56,17 @@ impl Pacing {
         }
     }
 
-    /// Notes how many bytes without a match a search by the method found, and whether it ended at a match.
-    pub(crate) fn note_part(&mut self, method: Method, without_match: usize, found: bool) {
+    /// Notes how many bytes without a match a search by the method found, what candidates that are no words cost it, and
+    /// whether it ended at a match.
+    pub(crate) fn note_part(
+        &mut self,
+        method: Method,
+        without_match: usize,
+        wasted: usize,
+        found: bool,
+    ) {
         match method {
-            Method::Prefilter => self.note_candidate(without_match, found),
+            Method::Prefilter => self.note_candidate(without_match, wasted, found),
             Method::Interleaved => {
                 if without_match >= BATCH {
                     self.interleaved_backoff.reset();
@@ -77,14 +84,15 @@ impl Pacing {
         }
     }
 
-    /// Notes how far the candidate of the prefilter was, and whether it has a match.
-    fn note_candidate(&mut self, skipped: usize, found: bool) {
-        if skipped >= NEAR {
-            self.misses = 0;
+    /// Notes how far the candidate of the prefilter was, what others that are no words cost, and whether it has a match.
+    fn note_candidate(&mut self, skipped: usize, others: usize, found: bool) {
+        let wasted = others.saturating_add(if found { 0 } else { NEAR });
+        if skipped >= others.saturating_add(NEAR) {
+            self.wasted = 0;
             self.prefilter_backoff.reset();
-        } else if !found {
-            self.misses = self.misses.saturating_add(1);
-            if self.misses > MOST_MISSES {
+        } else if wasted > 0 {
+            self.wasted = self.wasted.saturating_add(wasted);
+            if self.wasted > MOST_WASTED {
                 self.prefilter_backoff.begin();
             }
         }

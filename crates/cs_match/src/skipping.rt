@@ -13,31 +13,49 @@ use cs_prefilter::Prefilter;
 use memchr::memrchr;
 use std::sync::ledger::Ledger;
 
-/// The first line at or after `from` that contains a word of the prefilter.
+/// A line that may contain a word of a prefilter, such that no line before it does, or none if no line contains one.
+#[derive(Clone, Copy)]
+pub(crate) struct Candidate {
+    pub(crate) line: Option<Line>,
+    pub(crate) has_word: bool,
+    /// What candidates that are no words cost, in bytes that the DFA scans in their time.
+    pub(crate) wasted: usize,
+}
+
+/// The first line at or after `from` that contains a word of the prefilter, unless its search is given up before.
 pub(crate) fn next_candidate<L: Ledger>(
     prefilter: &Prefilter,
     block: &[u8],
     from: usize,
     steps: &mut Steps<L>,
-) -> Option<Line>
+) -> Candidate
     requires within { from < length block.now }
     requires whole { AreWholeLines (drop from block.now) }
-    ensures candidate { IsCandidate prefilter.now.0 block.now from result }
+    ensures candidate { IsCandidate prefilter.now.0 block.now from result.line result.has_word }
     ensures work { steps.new
-        ≤ steps.old + 2 * offset_work * searched_bytes from (length block.now) result }
+        ≤ steps.old + 2 * offset_work * searched_bytes from (length block.now) result.line }
 {
     let rest = &block[from..];
-    let offset = prefilter.skip(rest, 0, steps);
-    if offset == rest.len() {
-        return None;
+    let stop = prefilter.skip(rest, 0, steps);
+    if stop.offset == rest.len() {
+        return Candidate {
+            line: None,
+            has_word: false,
+            wasted: stop.wasted,
+        };
     }
-    let len = whole_lines_len(&rest[..offset]);
+    let len = whole_lines_len(&rest[..stop.offset]);
     // The bytes of the line before the offset are read, and the newline before them.
-    steps.add(offset - len + 1);
-    Some(Line {
+    steps.add(stop.offset - len + 1);
+    let line = Line {
         start: from + len,
-        end: line_end(block, from + offset, steps),
-    })
+        end: line_end(block, from + stop.offset, steps),
+    };
+    Candidate {
+        line: Some(line),
+        has_word: stop.has_word,
+        wasted: stop.wasted,
+    }
 }
 
 /// The length of the terminated lines of the text.

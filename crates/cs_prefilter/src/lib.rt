@@ -22,6 +22,6 @@ mod word;
 mod word_choice;
 mod words;
 
-pub use prefilter::Prefilter;
+pub use prefilter::{Prefilter, Stop};
 pub use steps::Steps;
 pub use word::Word;

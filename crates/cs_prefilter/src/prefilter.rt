@@ -26,6 +26,23 @@ const WORTH: u64 = 5_000_000_000;
 /// are.
 const MOST_SHARE: u64 = 10_000_000_000;
 
+/// How many bytes the DFA scans in the time of a candidate that is no word: so many, and so many for each word.
+const CANDIDATE_COST: usize = 16;
+
+const WORD_COST: usize = 4;
+
+/// A search is given up when candidates that are no words cost so many bytes more than are skipped.
+const MOST_WASTED: usize = 4096;
+
+/// The end of a search for a word: at the word, at the end of the text, or where the search is given up.
+#[derive(Clone, Copy, Drop)]
+pub struct Stop {
+    pub offset: usize,
+    pub has_word: bool,
+    /// The cost of the candidates that are no words, in bytes that the DFA scans in their time.
+    pub wasted: usize,
+}
+
 /// Words, and a search that rules out most offsets. Contracts see the words, and whether each line that contains one of
 /// them has a match.
 #[derive(Drop)]
@@ -91,23 +108,35 @@ impl Prefilter {
         self.is_exact
     }
 
-    /// The first offset at or after `from` at which a word occurs, or the end of the text.
-    pub fn skip<L: Ledger>(&self, text: &[u8], from: usize, steps: &mut Steps<L>) -> usize
+    /// Skips to the first word at or after `from`, or to the end of the text, unless too many candidates are no words.
+    pub fn skip<L: Ledger>(&self, text: &[u8], from: usize, steps: &mut Steps<L>) -> Stop
         requires { from ≤ length text.now }
-        ensures low { from ≤ result }
-        ensures high { result ≤ length text.now }
-        ensures none { NoWordFrom self.now.0 text.now from result }
-        ensures stops { result < length text.now → Any (WordAt text.now result) self.now.0 }
-        ensures work { steps.new ≤ steps.old + (result - from + 1) * offset_work }
+        ensures low { from ≤ result.offset }
+        ensures high { result.offset ≤ length text.now }
+        ensures none { NoWordFrom self.now.0 text.now from result.offset }
+        ensures stops { IsTrue result.has_word → Any (WordAt text.now result.offset) self.now.0 }
+        ensures work { steps.new ≤ steps.old + (result.offset - from + 1) * offset_work }
     {
+        let cost = CANDIDATE_COST + WORD_COST * self.words.len();
+        let mut wasted = 0usize;
         let mut offset = self.next(text, from, steps);
         'scan: while offset < text.len() {
-            if occurs(&self.words, text, offset, steps) {
-                return offset;
+            let has_word = occurs(&self.words, text, offset, steps);
+            if has_word || wasted > (offset - from).saturating_add(MOST_WASTED) {
+                return Stop {
+                    offset,
+                    has_word,
+                    wasted,
+                };
             }
+            wasted = wasted.saturating_add(cost);
             offset = self.next(text, offset + 1, steps);
         }
-        text.len()
+        Stop {
+            offset: text.len(),
+            has_word: false,
+            wasted,
+        }
     }
 
     /// An offset at or after `from` such that no word occurs from `from` up to it. Near the end of the text it is `from`

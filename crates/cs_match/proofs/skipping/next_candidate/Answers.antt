@@ -11,18 +11,18 @@ use Rattle.cs_match.proofs.SkippedLineLemmas.{words_placed, without, without_bef
 use Rattle.cs_match.proofs.WholeLineLemmas.{whole_from}
 use Rattle.cs_match.proofs.skipping.next_candidate.Goals as goal
 
-pub returns-then-offset-rest-clause-candidate : goal.returns-then-offset-rest-clause-candidate
-returns-then-offset-rest-clause-candidate g c =
+pub returns-then-stop-rest-clause-candidate : goal.returns-then-stop-rest-clause-candidate
+returns-then-stop-rest-clause-candidate g c =
     let words = c.args.prefilter.now.0 in
     let block = c.args.block.now in
     let text = take (length block - c.args.from) (drop c.args.from block) in
-    let all : c.skip-offset.result ≡ length text = c.if-offset-rest.true in
+    let all : c.skip-stop.result.offset ≡ length text = c.if-stop-rest.true in
     subst (λ (t : List ℕ). LackWords words (terminated_lines t)) (take_rest block c.args.from)
     (without (λ xs k. Any (WordAt xs k) words) (words_placed words) text
-    (λ k low h. c.skip-offset.ensures.none k (omega arith) (omega (arith, all)) h.0 h.1 h.2 (subst (WordAt text k) (sym h.3) h.4)))
+    (λ k low h. c.skip-stop.ensures.none k (omega arith) (omega (arith, all)) h.0 h.1 h.2 (subst (WordAt text k) (sym h.3) h.4)))
 
 pub line_end-requires-clause-within : goal.line_end-requires-clause-within
-line_end-requires-clause-within g c = omega (arith, c.skip-offset.ensures.high, c.if-offset-rest.false, length-drop c.args.from c.args.block.now)
+line_end-requires-clause-within g c = omega (arith, c.skip-stop.ensures.high, c.if-stop-rest.false, length-drop c.args.from c.args.block.now)
 
 pub line_end-requires-clause-whole : goal.line_end-requires-clause-whole
 line_end-requires-clause-whole g c = whole_from c.args.block.now c.args.from _ (omega arith) c.requires.whole
@@ -33,11 +33,11 @@ returns-clause-candidate g c =
     let block = c.args.block.now in
     let from = c.args.from in
     let rest = drop from block in
-    let offset = c.skip-offset.result in
+    let offset = c.skip-stop.result.offset in
     let size = c.whole_lines_len-len.result in
     let end = c.line_end.result in
     let all : take (length block - from) rest ≡ rest = take_rest block from in
-    let skip = c.skip-offset.ensures in
+    let skip = c.skip-stop.ensures in
     let below : offset ≤ length rest = omega (arith, skip.high, ap (λ (t : List ℕ). length t) all) in
     let prefix = length-take-le offset rest below in
     let lines = c.whole_lines_len-len.ensures in
@@ -54,8 +54,8 @@ returns-clause-candidate g c =
           subst (λ m. LackWords words (terminated_lines (take m rest))) n
           (without_before (λ xs k. Any (WordAt xs k) words) (words_placed words) rest offset size small below
           (λ k low h. subst (λ (t : List ℕ). NoWordFrom words t 0 offset) all skip.none k (omega arith) low h.0 h.1 h.2 (subst (WordAt rest k) (sym h.3) h.4)));
-      has = λ in_line.
-          let found = subst (λ (t : List ℕ). Any (WordAt t offset) words) all (skip.stops (omega (arith, skip.high, c.if-offset-rest.false))) in (
+      has = λ has_word in_line.
+          let found = subst (λ (t : List ℕ). Any (WordAt t offset) words) all (skip.stops has_word) in (
             offset - size,
             (
               found.0,

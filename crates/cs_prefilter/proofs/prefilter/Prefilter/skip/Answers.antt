@@ -22,18 +22,18 @@ scan-preserved g c =
         | inr after ↦ elim (cases_eq k at) [
           | inl here ↦ λ i d within occurs.
               let word = get_or words i d in
-              let found = c.occurs.ensures.found.1 (subst (λ (ws : List Word). Any (WordAt text at) ws) (sym same)
+              let found = c.occurs-has_word.ensures.found.1 (subst (λ (ws : List Word). Any (WordAt text at) ws) (sym same)
               (i, word, within, get_or_default words i word d within, subst (λ n. WordAt text n word) here occurs)) in
-              absurd (false≢true (sym c.if-occurs.false ∙ found))
+              absurd (false≢true (sym c.if-has_word.false ∙ found))
           | inr past ↦ next.none k (omega arith) high
         ]
       ];
-      work = omega (arith, c.scan.invariant.work, c.scan.invariant.low, few, c.occurs.ensures.work, next.work, next.low);
+      work = omega (arith, c.scan.invariant.work, c.scan.invariant.low, few, c.occurs-has_word.ensures.work, next.work, next.low);
     }
 
-pub returns-then-occurs-clause-stops : goal.returns-then-occurs-clause-stops
-returns-then-occurs-clause-stops g c = λ _.
-    subst (λ (ws : List Word). Any (WordAt c.args.text.now c.scan.offset) ws) (c.deref.ensures.value ∙ ap (λ (p : List Word × Bool). p.0) c.self.view_is) (c.occurs.ensures.found.0 c.if-occurs.true)
+pub returns-then-has_word-clause-stops : goal.returns-then-has_word-clause-stops
+returns-then-has_word-clause-stops g c = λ has_word.
+    subst (λ (ws : List Word). Any (WordAt c.args.text.now c.scan.offset) ws) (c.deref.ensures.value ∙ ap (λ (p : List Word × Bool). p.0) c.self.view_is) (c.occurs-has_word.ensures.found.0 has_word)
 
 pub returns-clause-none : goal.returns-clause-none
 returns-clause-none g c k low high = c.scan.invariant.none k low (omega (arith, c.scan-test.false))

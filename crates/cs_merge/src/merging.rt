@@ -59,7 +59,7 @@ pub fn merge_within(
     finish(sections, most)
 }
 
-/// Does what `merge` does, with an old index in a store, of which only the tables are in memory. Each of its lists is
+/// Does what `merge` does, with an old index in a store: only its tables are in memory. Each of its lists is
 /// read once and to its end, in the order of the list index, so that each byte is read once.
 ///
 /// A failed read is an error of its own, and so is an allocation that fails while a list is read. Both come after the

@@ -160,7 +160,7 @@ fn merge_next<S: Store>(
     }
 }
 
-/// Merges the lists of a trigram, of which the buffer has the old one.
+/// Merges the lists of a trigram. The buffer has the old one.
 fn merge_trigram(
     alloc: Global,
     sections: &mut Sections,

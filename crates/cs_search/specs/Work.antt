@@ -18,7 +18,7 @@ unfoldable pub searched_work : Tree → List ℕ → ℕ → ℕ → ℕ
 searched_work t name bytes searches =
     bytes * (searched_byte_work t + 2) + searches * (search_overhead * searched_byte_work t + printed_work name)
 
--- The most steps of an input with this name, of which `text` was read. Each line costs at most two searches: one if it
+-- The most steps of an input with this name, if `text` was read of it. Each line costs at most two searches: one if it
 -- matches, and one for the block that it ends. The unfinished line is tested alone. Each byte is one read at most, and
 -- is looked at once for a line end.
 abbrev pub input_work : Tree → List ℕ → List ℕ → ℕ

@@ -106,7 +106,7 @@ pub fn grep_within<R: Source, O: Sink>(
 
 /// `grep_within`, with the steps counted. `input_work` of what was read bounds them, beside `state_work` for each state
 /// that was cached before. Not counted are the system's own work, the growth of the buffer, and the moves of an
-/// unfinished line to its front.
+/// unfinished line to its start.
 pub fn grep_counted<R: Source, O: Sink, L: Ledger>(
     printer: &Printer<'_>,
     input: &mut R,

@@ -482,8 +482,11 @@ impl<'a> Matcher<'a> {
             Some(line) => (line.start, true),
             None => (searched.to, false),
         };
-        let without_match = end.saturating_sub(from);
+        // The DFA would have read each byte of the part.
+        let wasted = searched
+            .wasted
+            .saturating_sub(searched.to.saturating_sub(from));
         self.pacing
-            .note_part(method, without_match, searched.wasted, found);
+            .note_part(method, end.saturating_sub(from), wasted, found);
     }
 }

@@ -56,8 +56,8 @@ impl Pacing {
         }
     }
 
-    /// Notes how many bytes without a match a search by the method found, what candidates that are no words cost it, and
-    /// whether it ended at a match.
+    /// Notes how many bytes without a match a search by the method found, what candidates that are no words cost it beyond
+    /// what the DFA does, and whether it ended at a match.
     pub(crate) fn note_part(
         &mut self,
         method: Method,
@@ -84,14 +84,14 @@ impl Pacing {
         }
     }
 
-    /// Notes how far the candidate of the prefilter was, what others that are no words cost, and whether it has a match.
-    fn note_candidate(&mut self, skipped: usize, others: usize, found: bool) {
-        let wasted = others.saturating_add(if found { 0 } else { NEAR });
-        if skipped >= others.saturating_add(NEAR) {
+    /// Notes how far the candidate of the prefilter was, what others before it cost, and whether it has a match.
+    fn note_candidate(&mut self, skipped: usize, wasted: usize, found: bool) {
+        if skipped >= NEAR && wasted == 0 {
             self.wasted = 0;
             self.prefilter_backoff.reset();
-        } else if wasted > 0 {
-            self.wasted = self.wasted.saturating_add(wasted);
+        } else if !found || wasted > 0 {
+            let tested = if found { 0 } else { NEAR };
+            self.wasted = self.wasted.saturating_add(wasted).saturating_add(tested);
             if self.wasted > MOST_WASTED {
                 self.prefilter_backoff.begin();
             }

@@ -15,7 +15,7 @@ use std::simd::prelude::*;
 const BUCKETS: usize = 8;
 
 /// The number of bytes that are looked up at once.
-const LANES: usize = 32;
+pub(crate) const LANES: usize = 32;
 
 /// The number of offsets that are decided at once: 32 bytes contain 30 trigrams.
 const STRIDE: usize = 30;

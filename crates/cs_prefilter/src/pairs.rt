@@ -16,7 +16,7 @@ use std::simd::prelude::*;
 const STRIDE: usize = 64;
 
 /// At least this many bytes are left where offsets are decided at once: the last offset, and the word there.
-const REACH: usize = 96;
+pub(crate) const REACH: usize = 96;
 
 impl Pair {
     /// The rarest pair of the word, if it is rare enough.

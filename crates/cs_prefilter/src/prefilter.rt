@@ -117,7 +117,6 @@ impl Prefilter {
         ensures stops { IsTrue result.has_word → Any (WordAt text.now result.offset) self.now.0 }
         ensures work { steps.new ≤ steps.old + (result.offset - from + 1) * offset_work }
     {
-        let cost = CANDIDATE_COST + WORD_COST * self.words.len();
         let mut wasted = 0usize;
         let mut offset = self.next(text, from, steps);
         'scan: while offset < text.len() {
@@ -129,13 +128,23 @@ impl Prefilter {
                     wasted,
                 };
             }
-            wasted = wasted.saturating_add(cost);
+            wasted = wasted.saturating_add(self.cost(text.len() - offset));
             offset = self.next(text, offset + 1, steps);
         }
         Stop {
             offset: text.len(),
             has_word: false,
             wasted,
+        }
+    }
+
+    /// The cost of a candidate so many bytes before the end of the text, in bytes that the DFA scans in its time. It is
+    /// nothing where each offset is a candidate.
+    fn cost(&self, rest: usize) -> usize {
+        if rest < self.search.reach() {
+            0
+        } else {
+            CANDIDATE_COST + WORD_COST * self.words.len()
         }
     }
 

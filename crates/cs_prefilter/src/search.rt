@@ -4,8 +4,8 @@ ghost use Rattle.cs_prefilter.specs.WordAt.{NoWordFrom};
 ghost use Rattle.cs_prefilter.specs.Search.{Finds, NoneFrom};
 ghost use Rattle.cs_prefilter.specs.OffsetWork.{most_words};
 
-use crate::masks::TrigramMasks;
-use crate::pairs::Pairs;
+use crate::masks::{LANES, TrigramMasks};
+use crate::pairs::{Pairs, REACH};
 use crate::word::Word;
 
 /// What words are searched for by.
@@ -44,6 +44,14 @@ impl Search {
         match kind {
             Kind::Pairs => Some(Search::Pairs(Pairs::of(words)?)),
             Kind::Trigrams => Some(Search::Trigrams(TrigramMasks::of(words)?)),
+        }
+    }
+
+    /// How many bytes from an offset on it reads. Where fewer are left, each offset is a candidate.
+    pub(crate) fn reach(&self) -> usize {
+        match self {
+            Search::Pairs(_) => REACH,
+            Search::Trigrams(_) => LANES,
         }
     }
 

@@ -9,7 +9,7 @@ ghost use Rattle.cs_index.specs.Encoding.{IsString};
 ghost use Rattle.cs_index.specs.OpenedParts.{Parts, paths_in};
 ghost use Rattle.cs_index.specs.StoredTables.{TablesIn};
 ghost use Rattle.cs_merge.specs.IdMap.{AreMergedNames};
-ghost use Rattle.cs_merge.specs.ListSources.{known_parts, IsSourceOf};
+ghost use Rattle.cs_merge.specs.ListSources.{IsSourceOf};
 ghost use Rattle.cs_merge.specs.Merge.{merge_paths};
 ghost use Rattle.cs_merge.specs.Mergeable.{AreTested};
 ghost use Rattle.cs_merge.specs.MergeResult.{most_bytes, IsMerged, IsMergeFault};
@@ -124,8 +124,16 @@ fn merge_source<S: Store>(
 {
     old.are_valid();
     newer.are_valid();
-    match sort_names(alloc, old.name_table(), newer) {
-        Ok(names) => merge_sorted(alloc, store, most, old, newer, &names),
+    let names = match sort_names(alloc, old.name_table(), newer) {
+        Ok(names) => names,
+        Err(fault) => return Ok(Err(fault)),
+    };
+    let (mut sections, ids) = match begin_merged(alloc, old.paths(), newer, &names) {
+        Ok(begun) => begun,
+        Err(fault) => return Ok(Err(fault)),
+    };
+    match merge_lists(alloc, store, &mut sections, most, old, newer, &ids)? {
+        Ok(()) => Ok(finish(sections, most)),
         Err(fault) => Ok(Err(fault)),
     }
 }
@@ -187,37 +195,6 @@ fn begin_merged(
     let cover = Cover::new(alloc, newer.paths())?;
     let ids = merge_names(alloc, &mut sections, &names.old, &names.newer, &cover)?;
     Ok((sections, ids))
-}
-
-/// Merges both indexes in the order of their names.
-fn merge_sorted<S: Store>(
-    alloc: Global,
-    store: &mut S,
-    most: u32,
-    old: &ListSource<'_>,
-    newer: &Index<'_>,
-    names: &BothNames<'_, '_>,
-) -> Result<Result<Vec<u8>, MergeFault>, IoFault>
-    requires tested { AreTestedNames (known_parts old.now).names newer.now
-        names.now.old names.now.newer }
-    ensures merged { (parts : Parts) → IsSourceOf (S.model store.old) old.now parts →
-        IfOk result (λ merged. MatchResult merged
-        (λ index. IsMerged parts newer.now most index.items)
-        (λ fault. IsMergeFault parts newer.now most fault)) }
-    ensures keeps { S.model store.new ≡ S.model store.old }
-    ensures size { S.size store.new ≡ S.size store.old }
-    ensures failed { S.failed store.new ≡ count_after is_io_failure result (S.failed store.old) }
-{
-    old.are_valid();
-    newer.are_valid();
-    let (mut sections, ids) = match begin_merged(alloc, old.paths(), newer, names) {
-        Ok(begun) => begun,
-        Err(fault) => return Ok(Err(fault)),
-    };
-    match merge_lists(alloc, store, &mut sections, most, old, newer, &ids)? {
-        Ok(()) => Ok(finish(sections, most)),
-        Err(fault) => Ok(Err(fault)),
-    }
 }
 
 /// The paths of both that no other path covers, ascending.

@@ -1,7 +1,7 @@
 -- The merge of the lists of two indexes, trigram by trigram.
-use Rattle.std.proofs.Common.{◌≡◌, ℕ, ◌+◌, ◌<◌, true, ◌&&◌, List, [], length, refl, sym, ap, subst, ◌∙◌, Option, Some, None, Result, Ok, Err}
+use Rattle.std.proofs.Common.{◌≡◌, ℕ, ◌+◌, ◌<◌, true, ◌&&◌, List, [], length, refl, sym, ap, subst, ◌∙◌, Option, Some, None, Result, Ok}
 use Rattle.std.proofs.lemmas.Bool.{and_parts}
-use Rattle.std.specs.Prelude.{IfErr, IfOk, OnOk}
+use Rattle.std.specs.Prelude.{IfOk, OnOk}
 use Rattle.cs_index.specs.Encoding.{ListEntry}
 use Rattle.cs_index.specs.ListBuffers.{BufferState}
 use Rattle.cs_index.specs.OpenedParts.{Parts}
@@ -29,44 +29,6 @@ AreListsRead model source buffer a = (parts : Parts) → IsSourceOf model source
 module _ (model : Option (List ℕ)) (source : ListSource) (newer : Parts) (older_ids newer_ids : NewIds) where
   abbrev pub Merging : BufferState → Written → Written → ℕ → ℕ → Type 0
   Merging buffer before now a b = IsMergingLists model source buffer newer older_ids newer_ids before now a b
-
-  -- the same state, counted from what is written
-  pub restart : (buffer : BufferState) (before now : Written) (a b : ℕ) → Merging buffer before now a b → Merging buffer now now a b
-  restart buffer before now a b so_far = record {
-    paths = refl;
-    names = refl;
-    left = so_far.left;
-    buffered = so_far.buffered;
-    known = λ parts is.
-        let merged = so_far.known parts is in record {
-          paths = refl;
-          names = refl;
-          left = merged.left;
-          older_sets = merged.older_sets;
-          newer_sets = merged.newer_sets;
-          older_whole = merged.older_whole;
-          newer_whole = merged.newer_whole;
-        };
-  }
-
-  -- the same state, counted from what was written before
-  pub resume : (buffer : BufferState) (before now after : Written) (a b : ℕ) → now.paths ≡ before.paths → now.names ≡ before.names → Merging buffer now after a b → Merging buffer before after a b
-  resume buffer before now after a b paths names so_far = record {
-    paths = so_far.paths ∙ paths;
-    names = so_far.names ∙ names;
-    left = so_far.left;
-    buffered = so_far.buffered;
-    known = λ parts is.
-        let merged = so_far.known parts is in record {
-          paths = merged.paths ∙ paths;
-          names = merged.names ∙ names;
-          left = merged.left;
-          older_sets = merged.older_sets;
-          newer_sets = merged.newer_sets;
-          older_whole = merged.older_whole;
-          newer_whole = merged.newer_whole;
-        };
-  }
 
   -- all lists are merged
   pub all_merged : (buffer : BufferState) (before now : Written) (a b : ℕ) → Merging buffer before now a b → lower_of (list_trigram (known_parts source) a) (list_trigram newer b) ≡ None
@@ -122,6 +84,3 @@ on_ok {A} {E} {X} e h = subst (λ (o : Result A E). OnOk o X) e h
 
 pub if_ok : {A E : Type 0} (P : A → Type 0) {r : Result A E} {x : A} → r ≡ Ok x → IfOk r P → P x
 if_ok {A} {E} P e h = subst (λ (o : Result A E). IfOk o P) e h
-
-pub if_err : {A E : Type 0} (P : E → Type 0) {r : Result A E} {x : E} → r ≡ Err x → IfErr r P → P x
-if_err {A} {E} P e h = subst (λ (o : Result A E). IfErr o P) e h

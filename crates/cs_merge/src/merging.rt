@@ -52,6 +52,7 @@ pub fn merge_within(
     ensures { MatchResult result (λ index. IsMerged old.now newer.now most index.items)
         (λ fault. IsMergeFault old.now newer.now most fault) }
 {
+    // An index in memory is read in place, so the store is never read.
     let mut store = MemStore::new(&[], 1);
     match merge_source(alloc, &mut store, most, &ListSource::InMemory(old), newer) {
         Ok(merged) => merged,

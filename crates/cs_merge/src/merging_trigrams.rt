@@ -64,6 +64,8 @@ pub(crate) fn merge_lists<S: Store>(
     ensures size { S.size store.new ≡ S.size store.old }
     ensures failed { S.failed store.new ≡ count_after is_io_failure result (S.failed store.old) }
 {
+    old.are_valid();
+    newer.are_valid();
     let older_runs = IdRuns::new(alloc, &ids.older)?;
     let newer_runs = IdRuns::new(alloc, &ids.newer)?;
     let runs = BothRuns {
@@ -75,46 +77,19 @@ pub(crate) fn merge_lists<S: Store>(
         newer,
         runs,
     };
-    merge_all_lists(alloc, store, sections, most, &sides)
-}
-
-/// Writes the merged posting lists, once the runs of both maps are known.
-fn merge_all_lists<S: Store>(
-    alloc: Global,
-    store: &mut S,
-    sections: &mut Sections,
-    most: u32,
-    sides: &Sides<'_>,
-) -> Result<Result<(), MergeFault>, IoFault>
-    requires ids { AreIdMaps (length sections.old.names) sides.now.runs.older sides.now.runs.newer }
-    requires unlisted { sections.old.lists ≡ [] }
-    ensures paths { IfOk result (λ merged. OnOk merged (sections.new.paths ≡ sections.old.paths)) }
-    ensures names { IfOk result (λ merged. OnOk merged (sections.new.names ≡ sections.old.names)) }
-    ensures merged { (old : Parts) → IsSourceOf (S.model store.old) sides.now.older.now old →
-        IfOk result (λ merged. MatchResult merged
-        (λ _. AreAllMerged old sides.now.newer.now
-        sides.now.runs.older sides.now.runs.newer sections.new.lists)
-        (IsListsFault old sides.now.newer.now
-        sides.now.runs.older sides.now.runs.newer sections.old most)) }
-    ensures keeps { S.model store.new ≡ S.model store.old }
-    ensures size { S.size store.new ≡ S.size store.old }
-    ensures failed { S.failed store.new ≡ count_after is_io_failure result (S.failed store.old) }
-{
-    sides.older.are_valid();
-    sides.newer.are_valid();
     let mut progress = Progress {
         buffer: ListBuffer::new(alloc),
         older: 0,
         newer: 0,
     };
     'lists: while sections.list_bytes() <= most as usize {
-        match merge_next(alloc, store, sections, sides, &mut progress)? {
+        match merge_next(alloc, store, sections, &sides, &mut progress)? {
             Ok(true) => {}
             Ok(false) => return Ok(Ok(())),
             Err(fault) => return Ok(Err(MergeFault::from(fault))),
         }
     }
-    let fault = fault_of_rest(alloc, store, sides, &mut progress)?;
+    let fault = fault_of_rest(alloc, store, &sides, &mut progress)?;
     Ok(Err(fault))
 }
 

@@ -104,7 +104,7 @@ pub fn is_whole_stored<S: Store>(
     is_whole_onward(alloc, store, &ListSource::InStore(tables), &mut buffer, 0)
 }
 
-/// Whether the lists from a position on are whole, where each is read before.
+/// Does what `is_whole_from` does; each list is read first.
 pub(crate) fn is_whole_onward<S: Store>(
     alloc: Global,
     store: &mut S,

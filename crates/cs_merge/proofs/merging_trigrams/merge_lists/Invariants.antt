@@ -1,6 +1,6 @@
 use Rattle.std.proofs.Common.{◌≡◌, ◌+◌, ◌-◌, length}
 use Rattle.cs_merge.specs.ListSources.{known_parts, IsMergingLists}
-use Rattle.cs_merge.proofs.merging_trigrams.merge_all_lists.Given as goal
+use Rattle.cs_merge.proofs.merging_trigrams.merge_lists.Given as goal
 
 abbrev pub invariant-lists : goal.invariant-lists
 invariant-lists g l = record {

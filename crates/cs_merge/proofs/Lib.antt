@@ -23,5 +23,5 @@ mod TrigramMergeLemmas
 mod RestLemmas
 mod DistinctIdLemmas
 mod WholeListLemmas
-mod StoredListLemmas
-mod StoredMergeLemmas
+mod ListSourceLemmas
+mod ListLoopLemmas

@@ -17,7 +17,7 @@ use Rattle.cs_merge.specs.IdMap.{NewIds, AreIdMaps, AreMergedNames}
 use Rattle.cs_merge.specs.ListsFault.{IsListsFault, damaged as lists_damaged, long as lists_long, refused as lists_refused}
 use Rattle.cs_merge.specs.MergeResult.{IsMerged, IsMergeFault, damaged, long, refused}
 use Rattle.cs_merge.specs.SortedNames.{SortedNames, AreTestedNames}
-use Rattle.cs_merge.specs.StoredMerge.{AreAllMerged}
+use Rattle.cs_merge.specs.ListSources.{AreAllMerged}
 use Rattle.cs_merge.proofs.MergedFilesLemmas.{AreWritten, all_covered, written_merged}
 use Rattle.cs_merge.proofs.NameMergeLemmas.{id_maps}
 use Rattle.cs_merge.proofs.SortedNamesLemmas.{sorted_distinct}

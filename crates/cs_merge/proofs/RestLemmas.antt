@@ -14,13 +14,10 @@ use Rattle.cs_index.specs.PostingLists.{entries_of}
 use Rattle.cs_index.specs.ValidParts.{AreValidParts}
 use Rattle.cs_index.specs.Written.{Written}
 use Rattle.cs_index.specs.WrittenLists.{IsWritten, with_posting}
-use Rattle.cs_index.specs.Postings.{IsListFault}
-use Rattle.cs_index.specs.declared.fault.IndexFault.{IndexFault}
 use Rattle.cs_index.proofs.writer.WrittenSteps.{lists_within, written_begun, written_encoding}
 use Rattle.cs_merge.specs.IdMap.{NewIds, new_ids_of, AreIdMaps, AreMappedLists}
-use Rattle.cs_merge.specs.ListFault.{merge_fault_of}
 use Rattle.cs_merge.specs.ListMerge.{list_ids, list_trigram, lower_of, position_after, AreMergedLists, IsMergedList}
-use Rattle.cs_merge.specs.ListsFault.{are_whole_from, rest_fault, AreTooLong, IsListsFault, damaged, long, refused}
+use Rattle.cs_merge.specs.ListsFault.{are_whole_from, rest_fault, AreTooLong, IsListsFault, damaged, long}
 use Rattle.cs_merge.specs.Mergeable.{both_whole}
 use Rattle.cs_merge.proofs.DistinctIdLemmas.{new_ids_of_both}
 use Rattle.cs_merge.proofs.IdMergeLemmas.{has_both}
@@ -238,9 +235,3 @@ module _ (older newer : Parts) (older_ids newer_ids : NewIds) (before : Written)
           let whole = and_parts (are_whole older) (are_whole newer) (both_is ∙ e) in
           long refl (both_is ∙ e) (too_long whole.0 whole.1 most now a b state is more)
       by_rest false e = damaged refl (both_is ∙ e)
-
--- ---- an error of a list
-
-pub lists_fault : (older newer : Parts) (older_ids newer_ids : NewIds) (before : Written) (most : ℕ) (fault : IndexFault) → IsListFault (both_whole older newer) fault → IsListsFault older newer older_ids newer_ids before most (merge_fault_of fault)
-lists_fault older newer older_ids newer_ids before most fault (inl bad) = damaged (ap merge_fault_of bad.0) bad.1
-lists_fault older newer older_ids newer_ids before most fault (inr memory) = refused (ap merge_fault_of memory)

@@ -11,13 +11,14 @@ mod fault;
 mod id_map;
 mod id_runs;
 pub mod laws;
+mod list_source;
 mod mapped_postings;
 mod merging;
 mod merging_lists;
 mod merging_names;
+mod merging_trigrams;
 mod replacing;
 mod sorted_names;
-mod stored_lists;
 
 pub use fault::MergeFault;
 pub use merging::{merge, merge_stored, merge_stored_within, merge_within};

@@ -9,6 +9,7 @@ ghost use Rattle.cs_index.specs.Encoding.{IsString};
 ghost use Rattle.cs_index.specs.OpenedParts.{Parts, paths_in};
 ghost use Rattle.cs_index.specs.StoredTables.{TablesIn};
 ghost use Rattle.cs_merge.specs.IdMap.{AreMergedNames};
+ghost use Rattle.cs_merge.specs.ListSources.{IsSourceOf};
 ghost use Rattle.cs_merge.specs.Merge.{merge_paths};
 ghost use Rattle.cs_merge.specs.Mergeable.{AreTested};
 ghost use Rattle.cs_merge.specs.MergeResult.{most_bytes, IsMerged, IsMergeFault};
@@ -18,12 +19,12 @@ use crate::building::{begin, finish};
 use crate::covering::{Cover, is_under};
 use crate::fault::MergeFault;
 use crate::id_map::IdMaps;
-use crate::merging_lists::merge_lists;
+use crate::list_source::ListSource;
 use crate::merging_names::merge_names;
+use crate::merging_trigrams::merge_lists;
 use crate::sorted_names::SortedNames;
-use crate::stored_lists::merge_stored_lists;
 use cs_index::{Index, NameTable, Sections, StoredTables, Texts};
-use cs_tree::{IoFault, Store, reduce};
+use cs_tree::{IoFault, MemStore, Store, reduce};
 use std::alloc::{AllocError, Global};
 
 /// Merges two indexes. At a name that a newer path covers, the newer index takes precedence; other
@@ -51,12 +52,12 @@ pub fn merge_within(
     ensures { MatchResult result (λ index. IsMerged old.now newer.now most index.items)
         (λ fault. IsMergeFault old.now newer.now most fault) }
 {
-    old.are_valid();
-    newer.are_valid();
-    let names = sort_names(alloc, old.name_table(), newer)?;
-    let (mut sections, ids) = begin_merged(alloc, old.paths(), newer, &names)?;
-    merge_lists(alloc, &mut sections, most, old, newer, &ids)?;
-    finish(sections, most)
+    // An index in memory is read in place, so the store is never read.
+    let mut store = MemStore::new(&[], 1);
+    match merge_source(alloc, &mut store, most, &ListSource::InMemory(old), newer) {
+        Ok(merged) => merged,
+        Err(_) => Err(MergeFault::Memory),
+    }
 }
 
 /// Does what `merge` does, with an old index in a store: only its tables are in memory. Each of its lists is
@@ -101,10 +102,39 @@ pub fn merge_stored_within<S: Store>(
     ensures size { S.size store.new ≡ S.size store.old }
     ensures failed { S.failed store.new ≡ count_after is_io_failure result (S.failed store.old) }
 {
+    merge_source(alloc, store, most, &ListSource::InStore(old), newer)
+}
+
+/// Merges an old index that is in memory or in a store.
+fn merge_source<S: Store>(
+    alloc: Global,
+    store: &mut S,
+    most: u32,
+    old: &ListSource<'_>,
+    newer: &Index<'_>,
+) -> Result<Result<Vec<u8>, MergeFault>, IoFault>
+    ensures merged { (parts : Parts) → IsSourceOf (S.model store.old) old.now parts →
+        IfOk result (λ merged. MatchResult merged
+        (λ index. IsMerged parts newer.now most index.items)
+        (λ fault. IsMergeFault parts newer.now most fault)) }
+    ensures tested { (parts : Parts) → IsSourceOf (S.model store.old) old.now parts →
+        IfErr result (λ _. AreTested parts newer.now) }
+    ensures keeps { S.model store.new ≡ S.model store.old }
+    ensures size { S.size store.new ≡ S.size store.old }
+    ensures failed { S.failed store.new ≡ count_after is_io_failure result (S.failed store.old) }
+{
     old.are_valid();
     newer.are_valid();
-    match sort_names(alloc, old.name_table(), newer) {
-        Ok(names) => merge_stored_sorted(alloc, store, most, old, newer, &names),
+    let names = match sort_names(alloc, old.name_table(), newer) {
+        Ok(names) => names,
+        Err(fault) => return Ok(Err(fault)),
+    };
+    let (mut sections, ids) = match begin_merged(alloc, old.paths(), newer, &names) {
+        Ok(begun) => begun,
+        Err(fault) => return Ok(Err(fault)),
+    };
+    match merge_lists(alloc, store, &mut sections, most, old, newer, &ids)? {
+        Ok(()) => Ok(finish(sections, most)),
         Err(fault) => Ok(Err(fault)),
     }
 }
@@ -166,36 +196,6 @@ fn begin_merged(
     let cover = Cover::new(alloc, newer.paths())?;
     let ids = merge_names(alloc, &mut sections, &names.old, &names.newer, &cover)?;
     Ok((sections, ids))
-}
-
-/// Merges an index in a store with a newer one in the order of their names.
-fn merge_stored_sorted<S: Store>(
-    alloc: Global,
-    store: &mut S,
-    most: u32,
-    old: &StoredTables,
-    newer: &Index<'_>,
-    names: &BothNames<'_, '_>,
-) -> Result<Result<Vec<u8>, MergeFault>, IoFault>
-    requires tested { AreTestedNames old.now.names newer.now names.now.old names.now.newer }
-    ensures merged { (bytes : List ℕ) → S.model store.old ≡ Some bytes → (parts : Parts) →
-        TablesIn bytes old.now parts → IfOk result (λ merged. MatchResult merged
-        (λ index. IsMerged parts newer.now most index.items)
-        (λ fault. IsMergeFault parts newer.now most fault)) }
-    ensures keeps { S.model store.new ≡ S.model store.old }
-    ensures size { S.size store.new ≡ S.size store.old }
-    ensures failed { S.failed store.new ≡ count_after is_io_failure result (S.failed store.old) }
-{
-    old.are_valid();
-    newer.are_valid();
-    let (mut sections, ids) = match begin_merged(alloc, old.paths(), newer, names) {
-        Ok(begun) => begun,
-        Err(fault) => return Ok(Err(fault)),
-    };
-    match merge_stored_lists(alloc, store, &mut sections, most, old, newer, &ids)? {
-        Ok(()) => Ok(finish(sections, most)),
-        Err(fault) => Ok(Err(fault)),
-    }
 }
 
 /// The paths of both that no other path covers, ascending.

@@ -1,23 +1,15 @@
-// The merge of the posting lists: a two-way merge by trigram, and within each list a two-way merge
-// by id that copies whole runs.
-ghost use Rattle.std.specs.Prelude.{◌≡◌, ◌⊎◌, ◌<◌, ◌^◌, ◌&&◌, ◌++◌, [], true, false, Some, length, slice_get, IfErr, MatchResult, OnOk};
+// The merge of the posting lists of one trigram: a two-way merge by id that copies whole runs.
+ghost use Rattle.std.specs.Prelude.{◌≡◌, ◌⊎◌, ◌<◌, ◌&&◌, ◌++◌, [], true, Some, length, slice_get, MatchResult, OnOk};
 ghost use Rattle.cs_trigram.specs.Trigram.{closing_trigram};
 ghost use Rattle.cs_index.specs.Written.{AllBelow};
 ghost use Rattle.cs_index.specs.Postings.{IsListFault};
 ghost use Rattle.cs_index.specs.AscendingIds.{AscendWithin};
-ghost use Rattle.cs_index.specs.OpenedParts.{lists_in};
-ghost use Rattle.cs_index.specs.ValidParts.{AreValidParts};
-ghost use Rattle.cs_merge.specs.Mergeable.{both_whole};
-ghost use Rattle.cs_merge.specs.ListsFault.{are_whole_from, rest_fault, IsListsFault};
-ghost use Rattle.cs_merge.specs.IdMap.{new_ids_read, AreMappedLists, AreUnique, AreIdMaps, IsIncreasing, AreNewIdsFrom};
-ghost use Rattle.cs_merge.specs.ListMerge.{list_ids, lower_of, position_after, list_trigram, runs_ids, AreGathered, AreDistinctIds, IsRunOfEither, IsMergedList};
+ghost use Rattle.cs_merge.specs.IdMap.{AreUnique, IsIncreasing, AreNewIdsFrom};
+ghost use Rattle.cs_merge.specs.ListMerge.{lower_of, runs_ids, AreGathered, AreDistinctIds, IsRunOfEither, IsMergedList};
 
-use crate::fault::MergeFault;
-use crate::id_map::IdMaps;
 use crate::id_runs::IdRuns;
 use crate::mapped_postings::MappedPostings;
-use crate::replacing::is_whole_from;
-use cs_index::{EncodedRun, Index, IndexFault, Sections};
+use cs_index::{EncodedRun, IndexFault, Sections};
 use std::alloc::{AllocError, Global};
 
 /// The id maps of both indexes, with their runs.
@@ -34,139 +26,12 @@ pub(crate) struct BothLists<'a, 'b> {
     pub(crate) newer: MappedPostings<'a, 'b>,
 }
 
-/// Writes the merged posting lists in ascending order of trigrams. Each list is read once and to
-/// its end, even if all of its files are dropped, so that damage is always found. Once the lists
-/// have more than `most` bytes, the others are only read for damage.
-pub(crate) fn merge_lists(
-    alloc: Global,
-    sections: &mut Sections,
-    most: u32,
-    old: &Index<'_>,
-    newer: &Index<'_>,
-    ids: &IdMaps,
-) -> Result<(), MergeFault>
-    requires old_parts { AreValidParts old.now }
-    requires newer_parts { AreValidParts newer.now }
-    requires ids { AreIdMaps (length sections.old.names) ids.now.older ids.now.newer }
-    requires older_bound { length ids.now.older < 2 ^ 32 }
-    requires newer_bound { length ids.now.newer < 2 ^ 32 }
-    requires unlisted { sections.old.lists ≡ [] }
-    ensures paths { OnOk result (sections.new.paths ≡ sections.old.paths) }
-    ensures names { OnOk result (sections.new.names ≡ sections.old.names) }
-    ensures older { OnOk result (AreMappedLists ids.now.older (lists_in old.now) sections.new.lists) }
-    ensures newer { OnOk result (AreMappedLists ids.now.newer (lists_in newer.now) sections.new.lists) }
-    ensures whole { OnOk result (both_whole old.now newer.now ≡ true) }
-    ensures fault { IfErr result
-        (IsListsFault old.now newer.now ids.now.older ids.now.newer sections.old most) }
-{
-    let older_runs = IdRuns::new(alloc, &ids.older)?;
-    let newer_runs = IdRuns::new(alloc, &ids.newer)?;
-    let runs = BothRuns {
-        older: older_runs,
-        newer: newer_runs,
-    };
-    merge_all_lists(alloc, sections, most, old, newer, &runs)
-}
-
-/// Writes the merged posting lists, once the runs of both maps are known.
-fn merge_all_lists(
-    alloc: Global,
-    sections: &mut Sections,
-    most: u32,
-    old: &Index<'_>,
-    newer: &Index<'_>,
-    runs: &BothRuns<'_>,
-) -> Result<(), MergeFault>
-    requires old_parts { AreValidParts old.now }
-    requires newer_parts { AreValidParts newer.now }
-    requires ids { AreIdMaps (length sections.old.names) runs.now.older runs.now.newer }
-    requires unlisted { sections.old.lists ≡ [] }
-    ensures paths { OnOk result (sections.new.paths ≡ sections.old.paths) }
-    ensures names { OnOk result (sections.new.names ≡ sections.old.names) }
-    ensures older { OnOk result (AreMappedLists runs.now.older (lists_in old.now) sections.new.lists) }
-    ensures newer { OnOk result (AreMappedLists runs.now.newer (lists_in newer.now) sections.new.lists) }
-    ensures whole { OnOk result (both_whole old.now newer.now ≡ true) }
-    ensures fault { IfErr result
-        (IsListsFault old.now newer.now runs.now.older runs.now.newer sections.old most) }
-{
-    let mut older_position = 0;
-    let mut newer_position = 0;
-    'lists: while let Some(trigram) = lower(
-        trigram_at(old, older_position),
-        trigram_at(newer, newer_position),
-    ) {
-        let older = next_list(old, &mut older_position, trigram, &runs.older)?;
-        let later = next_list(newer, &mut newer_position, trigram, &runs.newer)?;
-        let lists = BothLists {
-            older,
-            newer: later,
-        };
-        merge_list(alloc, sections, trigram, lists, runs)?;
-        if sections.list_bytes() > most as usize {
-            return Err(fault_of_rest(old, older_position, newer, newer_position));
-        }
-    }
-    Ok(())
-}
-
-/// The error if the lists so far are too long: a damaged list goes before.
-fn fault_of_rest(
-    old: &Index<'_>,
-    older_position: u32,
-    newer: &Index<'_>,
-    newer_position: u32,
-) -> MergeFault
-    ensures { result ≡ rest_fault
-        (are_whole_from old.now older_position && are_whole_from newer.now newer_position) }
-{
-    if is_whole_from(old, older_position) && is_whole_from(newer, newer_position) {
-        MergeFault::TooLarge
-    } else {
-        MergeFault::Index(IndexFault::BadList)
-    }
-}
-
 /// Whether both maps are increasing, so that the new ids of each list ascend.
 fn is_increasing(runs: &BothRuns<'_>) -> bool
     ensures older { result ≡ true → IsIncreasing runs.now.older }
     ensures newer { result ≡ true → IsIncreasing runs.now.newer }
 {
     runs.older.is_increasing() && runs.newer.is_increasing()
-}
-
-/// The trigram of the list at a position of the list index.
-pub(crate) fn trigram_at(index: &Index<'_>, position: u32) -> Option<u32>
-    ensures { result ≡ list_trigram index.now position }
-{
-    match index.list_at(position) {
-        Some((trigram, _ids)) => Some(trigram),
-        None => None,
-    }
-}
-
-/// The new ids of the list at the position, and the position advances; no ids if that list has
-/// another trigram.
-pub(crate) fn next_list<'a, 'b>(
-    index: &Index<'a>,
-    position: &mut u32,
-    trigram: u32,
-    runs: &'b IdRuns<'b>,
-) -> Result<MappedPostings<'a, 'b>, IndexFault>
-    ensures position { OnOk result (position.new ≡ position_after index.now position.old trigram) }
-    ensures ids { MatchResult result
-        (λ ids. ids ≡ new_ids_read runs.now (list_ids index.now position.old trigram))
-        (λ fault. (fault ≡ IndexFault.BadList)
-        × ((list_ids index.now position.old trigram).whole ≡ false)) }
-{
-    if *position < index.lists() {
-        if let Some((found, ids)) = index.list_at(*position) {
-            if found == trigram {
-                *position += 1;
-                return MappedPostings::new(ids, runs);
-            }
-        }
-    }
-    Ok(MappedPostings::none(runs))
 }
 
 /// Writes the merged list of one trigram.

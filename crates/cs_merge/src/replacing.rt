@@ -7,13 +7,15 @@ ghost use Rattle.cs_tree.specs.FailureCount.{count_after};
 ghost use Rattle.cs_tree.specs.Transfers.{is_io_failure};
 ghost use Rattle.cs_tree.specs.PathSet as set;
 ghost use Rattle.cs_index.specs.Encoding.{ListEntry};
-ghost use Rattle.cs_index.specs.ListBuffers.{IsBufferOf};
-ghost use Rattle.cs_index.specs.OpenedParts.{Parts, are_whole, ids_read, paths_in};
+ghost use Rattle.cs_index.specs.OpenedParts.{Parts, are_whole, paths_in};
+ghost use Rattle.cs_index.specs.PostingLists.{Ids};
 ghost use Rattle.cs_index.specs.StoredTables.{TablesIn};
+ghost use Rattle.cs_merge.specs.ListSources.{ids_from, known_parts, HasBuffer, IsSourceOf};
 ghost use Rattle.cs_merge.specs.ListsFault.{are_whole_from};
 ghost use Rattle.cs_merge.specs.Replacing.{is_replaced as is_replaced'};
 
 use crate::covering::Cover;
+use crate::list_source::ListSource;
 use cs_index::{Index, ListBuffer, Postings, StoredTables, Texts};
 use cs_tree::{IoFault, Store};
 use std::alloc::{AllocError, Global};
@@ -79,7 +81,7 @@ pub(crate) fn is_whole_from(index: &Index<'_>, start: u32) -> bool
     ensures { result ≡ are_whole_from index.now start }
 {
     'positions: for position in start..index.lists() {
-        if !is_whole_at(index, position) {
+        if !is_whole_list(index.list_at(position)) {
             return false;
         }
     }
@@ -99,49 +101,48 @@ pub fn is_whole_stored<S: Store>(
     ensures failed { S.failed store.new ≡ count_after is_io_failure result (S.failed store.old) }
 {
     let mut buffer = ListBuffer::new(alloc);
-    is_whole_onward(alloc, store, tables, &mut buffer, 0)
+    is_whole_onward(alloc, store, &ListSource::InStore(tables), &mut buffer, 0)
 }
 
-/// Whether the lists from a position on are whole. Each is read through the buffer.
+/// Does what `is_whole_from` does; each list is read first.
 pub(crate) fn is_whole_onward<S: Store>(
     alloc: Global,
     store: &mut S,
-    tables: &StoredTables,
+    source: &ListSource<'_>,
     buffer: &mut ListBuffer,
     start: u32,
 ) -> Result<bool, IoFault>
-    ensures whole { (bytes : List ℕ) → S.model store.old ≡ Some bytes → IsBufferOf bytes buffer.old →
-        (parts : Parts) → TablesIn bytes tables.now parts →
+    ensures whole { HasBuffer (S.model store.old) buffer.old → (parts : Parts) →
+        IsSourceOf (S.model store.old) source.now parts →
         IfOk result (λ whole. whole ≡ are_whole_from parts start) }
     ensures keeps { S.model store.new ≡ S.model store.old }
     ensures size { S.size store.new ≡ S.size store.old }
     ensures failed { S.failed store.new ≡ count_after is_io_failure result (S.failed store.old) }
 {
-    'positions: for position in start..tables.lists() {
-        buffer.read(alloc, store, tables, position)?;
-        if !is_whole_list(buffer.list(tables, position)) {
+    'positions: for position in start..source.lists() {
+        source.read(alloc, store, buffer, position)?;
+        if !is_whole_at(&*source, buffer, position) {
             return Ok(false);
         }
     }
     Ok(true)
 }
 
-/// Whether the list at the position is whole, if there is one.
-fn is_whole_at(index: &Index<'_>, position: u32) -> bool
-    ensures { result ≡ option_map_or (λ (e : ListEntry). (ids_read index.now e).whole)
-        (slice_get index.now.entries position) true }
+/// Whether the list at the position is whole, which was read last.
+fn is_whole_at<'a>(source: &'a ListSource<'_>, buffer: &'a ListBuffer, position: u32) -> bool
+    ensures { result ≡ option_map_or (λ (e : ListEntry). (ids_from source.now buffer.now e).whole)
+        (slice_get (known_parts source.now).entries position) true }
 {
-    match index.list_at(position) {
-        Some((_trigram, ids)) => is_whole_list(ids),
-        None => true,
-    }
+    is_whole_list(source.list_at(buffer, position))
 }
 
-/// Whether the list is whole. Most of it is skipped without decoding.
-fn is_whole_list(ids: Postings<'_>) -> bool
-    ensures { result ≡ ids.entry.whole }
+/// Whether the list is whole, if there is one. Most of it is skipped without decoding.
+fn is_whole_list(list: Option<(u32, Postings<'_>)>) -> bool
+    ensures { result ≡ option_map_or (λ (found : ℕ × Ids). found.1.whole) list.entry true }
 {
-    let mut rest = ids;
+    let Some((_trigram, mut rest)) = list else {
+        return true;
+    };
     'ids: while let Some(answer) = rest.next() {
         let Ok(id) = answer else {
             return false;

@@ -6,12 +6,12 @@ use Rattle.cs_merge.proofs.replacing.is_whole_list.Goals as goal
 
 pub returns-in_default-answer : goal.returns-in_default-answer
 returns-in_default-answer c =
-    sym (sym c.ids.invariant ∙ yielded_no_id c.ids.rest c.next.new.self c.in-Some.answer c.in-Some.ensures.steps c.in_default-answer.not-Ok)
+    sym (sym c.ids.invariant ∙ yielded_no_id c.ids.rest c.next.new.self c.in-Some-next.answer c.in-Some-next.ensures.steps c.in_default-answer.not-Ok)
 
 pub ids-preserved : goal.ids-preserved
 ids-preserved c =
-    let next = yields_ok c.ids.rest c.next.new.self c.in-Ok.id (c.in-Some.ensures.steps ∙ ap (λ x. x ∷ ids_given c.next.new.self) c.in-Ok.is) in
+    let next = yields_ok c.ids.rest c.next.new.self c.in-Ok.id (c.in-Some-next.ensures.steps ∙ ap (λ x. x ∷ ids_given c.next.new.self) c.in-Ok.is) in
     c.encoded_run-skipped.ensures.whole ∙ sym next.1 ∙ c.ids.invariant
 
 pub returns : goal.returns
-returns c = sym (sym c.ids.invariant ∙ (yields_none c.ids.rest c.in_default.ensures.steps.0).1)
+returns c = sym (sym c.ids.invariant ∙ (yields_none c.ids.rest c.in_default-next.ensures.steps.0).1)

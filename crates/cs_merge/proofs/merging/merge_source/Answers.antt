@@ -1,0 +1,66 @@
+use Rattle.std.proofs.Common.{◌∙◌, sym, ap, subst, List, ℕ, Result, Ok, Err}
+use Rattle.std.specs.Prelude.{IfErr, MatchResult}
+use Rattle.cs_tree.specs.PathSet as set
+use Rattle.cs_index.specs.OpenedParts.{Parts, paths_in}
+use Rattle.cs_merge.specs.ListSources.{known_parts, AreAllMerged}
+use Rattle.cs_merge.specs.ListsFault.{IsListsFault}
+use Rattle.cs_merge.specs.Merge.{merge_paths}
+use Rattle.cs_merge.specs.MergeResult.{refused}
+use Rattle.cs_merge.specs.SortedNames.{AreTestedNames}
+use Rattle.cs_merge.specs.declared.fault.MergeFault.{MergeFault}
+use Rattle.cs_merge.proofs.ListLoopLemmas.{on_ok}
+use Rattle.cs_merge.proofs.ListSourceLemmas.{names_known, paths_known}
+use Rattle.cs_merge.proofs.MergeResultLemmas.{are_tested, begun_maps, lists_built, lists_fail}
+use Rattle.cs_merge.proofs.merging.merge_source.Goals as goal
+
+-- a fact that is said of an error
+said : {A E X : Type 0} (r : Result A E) → X → IfErr r (λ e. X)
+said (Ok x) h = tt
+said (Err e) h = h
+
+pub returns-in-Err-clause-merged : goal.returns-in-Err-clause-merged
+returns-in-Err-clause-merged g c parts is = c.in-Err.ensures.fault c.args.most parts (sym (c.name_table.ensures ∙ names_known (g.S.Store.model c.args.store.now) c.args.old.now parts is))
+
+pub returns-in-Err-begin_merged-clause-merged : goal.returns-in-Err-begin_merged-clause-merged
+returns-in-Err-begin_merged-clause-merged g c parts is =
+    let newer : Parts = c.args.newer.now in
+    let names = c.in-Ok.names in
+    refused c.in-Err-begin_merged.ensures.fault (λ up. are_tested parts newer names.old names.newer (subst (λ (ns : List (List ℕ)). AreTestedNames ns newer names.old names.newer) (c.name_table.ensures ∙ names_known (g.S.Store.model c.args.store.now) c.args.old.now parts is) c.in-Ok.ensures.tested))
+
+pub merge_lists-requires-clause-ids : goal.merge_lists-requires-clause-ids
+merge_lists-requires-clause-ids g c =
+    let newer : Parts = c.args.newer.now in
+    let names = c.in-Ok.names in
+    let begun = c.in-Ok-begin_merged.begun in
+    begun_maps (known_parts c.args.old.now) newer names.old names.newer (subst (λ (ns : List (List ℕ)). AreTestedNames ns newer names.old names.newer) c.name_table.ensures c.in-Ok.ensures.tested) begun.0 begun.1.older begun.1.newer c.in-Ok-begin_merged.ensures.ids
+
+pub returns-in_err-merge_lists-clause-tested : goal.returns-in_err-merge_lists-clause-tested
+returns-in_err-merge_lists-clause-tested g c parts is =
+    let newer : Parts = c.args.newer.now in
+    let names = c.in-Ok.names in
+    said c.from_residual.result
+    (are_tested parts newer names.old names.newer (subst (λ (ns : List (List ℕ)). AreTestedNames ns newer names.old names.newer) (c.name_table.ensures ∙ names_known (g.S.Store.model c.args.store.now) c.args.old.now parts is) c.in-Ok.ensures.tested))
+
+pub returns-in-Ok-2-clause-merged : goal.returns-in-Ok-2-clause-merged
+returns-in-Ok-2-clause-merged g c parts is =
+    let model = g.S.Store.model c.args.store.now in
+    let newer : Parts = c.args.newer.now in
+    let names = c.in-Ok.names in
+    let begun = c.in-Ok-begin_merged.begun in
+    let tested = subst (λ (ns : List (List ℕ)). AreTestedNames ns newer names.old names.newer) (c.name_table.ensures ∙ names_known model c.args.old.now parts is) c.in-Ok.ensures.tested in
+    let paths = c.in-Ok-begin_merged.ensures.paths ∙ ap (λ (ps : List (List ℕ)). set.items (merge_paths (set.from_list ps) (paths_in newer))) (c.paths.ensures ∙ paths_known model c.args.old.now parts is) in
+    let done = c.in_ok-merge_lists.ensures in
+    let all = subst (λ (r : Result (Unit {0}) MergeFault). MatchResult r (λ x. AreAllMerged parts newer begun.1.older begun.1.newer c.merge_lists.new.sections.lists) (IsListsFault parts newer begun.1.older begun.1.newer begun.0 c.args.most)) c.in-Ok-2.is (done.merged parts is) in
+    lists_built parts newer names.old names.newer tested begun.0 begun.1.older begun.1.newer c.in-Ok-begin_merged.ensures.ids c.args.most paths
+    c.finish.result c.merge_lists.new.sections (on_ok c.in-Ok-2.is done.paths) (on_ok c.in-Ok-2.is done.names) all c.finish.ensures.ok c.finish.ensures.fault
+
+pub returns-clause-merged : goal.returns-clause-merged
+returns-clause-merged g c parts is =
+    let model = g.S.Store.model c.args.store.now in
+    let newer : Parts = c.args.newer.now in
+    let names = c.in-Ok.names in
+    let begun = c.in-Ok-begin_merged.begun in
+    let tested = subst (λ (ns : List (List ℕ)). AreTestedNames ns newer names.old names.newer) (c.name_table.ensures ∙ names_known model c.args.old.now parts is) c.in-Ok.ensures.tested in
+    let paths = c.in-Ok-begin_merged.ensures.paths ∙ ap (λ (ps : List (List ℕ)). set.items (merge_paths (set.from_list ps) (paths_in newer))) (c.paths.ensures ∙ paths_known model c.args.old.now parts is) in
+    let fails = subst (λ (r : Result (Unit {0}) MergeFault). MatchResult r (λ x. AreAllMerged parts newer begun.1.older begun.1.newer c.merge_lists.new.sections.lists) (IsListsFault parts newer begun.1.older begun.1.newer begun.0 c.args.most)) c.in-Err-2.is (c.in_ok-merge_lists.ensures.merged parts is) in
+    lists_fail parts newer names.old names.newer tested begun.0 begun.1.older begun.1.newer c.in-Ok-begin_merged.ensures.ids c.args.most paths c.in-Err-2.fault fails

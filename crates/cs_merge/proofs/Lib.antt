@@ -22,3 +22,6 @@ mod IdMapLemmas
 mod TrigramMergeLemmas
 mod RestLemmas
 mod DistinctIdLemmas
+mod WholeListLemmas
+mod StoredListLemmas
+mod StoredMergeLemmas

@@ -73,17 +73,21 @@ module _ (parts : Parts) (position trigram : ℕ) where
   entry_fits (e ∷ entries) zero entry all there = subst (λ (d : ListEntry). is_entry (length parts.postings) d ≡ true) (same_Some e entry there) (and_parts (is_entry (length parts.postings) e) (list_all (is_entry (length parts.postings)) entries) all).0
   entry_fits (e ∷ entries) (suc at) entry all there = entry_fits entries at entry (and_parts (is_entry (length parts.postings) e) (list_all (is_entry (length parts.postings)) entries) all).1 there
 
+  -- the entry of the closing trigram counts no file
+  pub closing_counts : AreValidParts parts → closing_trigram ≤ trigram → (entry : ListEntry) → slice_get parts.entries position ≡ Some entry → entry.trigram ≡ trigram → entry.count ≡ 0
+  closing_counts are from entry there same =
+      let fits = and_parts (nat_le (entry.offset + 4) (length parts.postings)) (ltb entry.trigram closing_trigram || eqb entry.count 0) (entry_fits parts.entries position entry are.fit there) in
+      elim (or_cases (ltb entry.trigram closing_trigram) (eqb entry.count 0) fits.1) [
+        | inl below ↦ let less = ltb-true entry.trigram closing_trigram below in absurd (omega (arith, less, same, from))
+        | inr none ↦ eqb-true entry.count 0 none
+      ]
+
   -- no file has the closing trigram
   pub closing_has_none : AreValidParts parts → closing_trigram ≤ trigram → (list_ids parts position trigram).ids ≡ []
   closing_has_none are from = by_list_case list_case
     where
       by_list_case : ListCase → (list_ids parts position trigram).ids ≡ []
-      by_list_case (takes entry there same ids after) =
-          let fits = and_parts (nat_le (entry.offset + 4) (length parts.postings)) (ltb entry.trigram closing_trigram || eqb entry.count 0) (entry_fits parts.entries position entry are.fit there) in
-          elim (or_cases (ltb entry.trigram closing_trigram) (eqb entry.count 0) fits.1) [
-            | inl below ↦ let less = ltb-true entry.trigram closing_trigram below in absurd (omega (arith, less, same, from))
-            | inr none ↦ ap (λ (r : Ids). r.ids) ids ∙ none_read parts entry (eqb-true entry.count 0 none)
-          ]
+      by_list_case (takes entry there same ids after) = ap (λ (r : Ids). r.ids) ids ∙ none_read parts entry (closing_counts are from entry there same)
       by_list_case (stays ids after differs) = ap (λ (r : Ids). r.ids) ids
 
   pub whole_so_far : list_all (λ (e : ListEntry). (ids_read parts e).whole) (take position parts.entries) ≡ true → (list_ids parts position trigram).whole ≡ true → list_all (λ (e : ListEntry). (ids_read parts e).whole) (take (position_after parts position trigram) parts.entries) ≡ true

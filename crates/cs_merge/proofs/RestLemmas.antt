@@ -68,7 +68,7 @@ module _ (older newer : Parts) (older_ids newer_ids : NewIds) (before : Written)
   module _ (older_whole : are_whole older ≡ true) (newer_whole : are_whole newer ≡ true) where
     one_more : (now : Written) (a b : ℕ) → AreMergedLists older newer older_ids newer_ids before now a b → IsWritten now → (trigram : ℕ) → lower_of (list_trigram older a) (list_trigram newer b) ≡ Some trigram → OneMore now a b
     one_more now a b state is trigram next =
-        let moves = positions_move older newer older_ids newer_ids before now a b state older_are newer_are trigram next in
+        let moves = positions_move older newer a b older_are newer_are trigram now.lists state.left next in
         record {
           after = with_ids both;
           more = list_of trigram both;
@@ -139,11 +139,11 @@ module _ (older newer : Parts) (older_ids newer_ids : NewIds) (before : Written)
         written_with [] same = is
         written_with (id ∷ ids) same =
             written_begun now (trigram, id ∷ ids) is small
-            (list_above older newer older_ids newer_ids before now a b state older_are newer_are trigram next)
+            (list_above older newer a b older_are newer_are trigram now.lists state.left next)
             ((λ e. cc), rise_of_set (length now.names) 0 (id ∷ ids) (omega arith) (subst Ascends (sym same) (ascends_set (some ++ others))) (λ n h. below n (sym (ap (λ ns. has ns n) same) ∙ h)))
           where
             small : trigram < 16777215
-            small = elim (list_fits older newer older_ids newer_ids before now a b state older_are newer_are trigram next) [
+            small = elim (list_fits older newer a b older_are newer_are trigram older_ids newer_ids) [
               | inl less ↦ less
               | inr none ↦ absurd (true≢false (sym (or_left (eqb id id) (has ids id) (eq-eqb id id refl)) ∙ ap (λ ns. has ns id) same ∙ has-set_of_numbers id (some ++ others) ∙ (λ i. has (none.0 i ++ none.1 i) id)))
             ]

@@ -1,5 +1,5 @@
 -- The merge of the lists, trigram by trigram.
-use Rattle.std.proofs.Common.{◌≡◌, ℕ, ◌+◌, ◌<◌, ◌≤◌, Bool, true, false, cond, ◌&&◌, ◌||◌, List, [], length, take, refl, sym, ap, subst, ◌∙◌, ◌⊎◌, inl, inr, Option, Some, None, arith, slice_get, get_or, ltb}
+use Rattle.std.proofs.Common.{◌≡◌, ℕ, ◌+◌, ◌<◌, ◌≤◌, Bool, true, false, cond, ◌&&◌, ◌||◌, List, [], ◌++◌, length, take, refl, sym, ap, subst, ◌∙◌, ◌⊎◌, inl, inr, Option, Some, None, arith, slice_get, get_or, ltb}
 use Rattle.std.proofs.lemmas.Bool.{and_from, cases_lt, and_cases, and_right, and_left}
 use Rattle.std.proofs.lemmas.List.{length-map}
 use Rattle.std.proofs.lemmas.Option.{same_Some, slice_get-get_or}
@@ -16,7 +16,8 @@ use Rattle.cs_index.specs.AscendingIds.{AscendWithin}
 use Rattle.cs_index.specs.declared.fault.IndexFault.{IndexFault}
 use Rattle.cs_merge.specs.Mergeable.{both_whole}
 use Rattle.cs_merge.specs.IdMap.{NewIds, new_ids_of, IsIncreasing, StayBelow, AreMappedLists, AreIdMaps}
-use Rattle.cs_merge.specs.ListMerge.{list_ids, lower_of, position_after, list_trigram, AreMergedLists, IsMergedList}
+use Rattle.cs_index.specs.Gathering.{list_of}
+use Rattle.cs_merge.specs.ListMerge.{list_ids, lower_of, position_after, list_trigram, AreLeft, AreMergedLists, IsMergedList}
 use Rattle.cs_merge.proofs.TrigramSetLemmas.{all_below_more, newer_lists_mapped, older_lists_mapped}
 use Rattle.cs_merge.proofs.NextListLemmas.{closing_has_none, damage_in_list, entry_trigram, ids_rise, is_lower, moves, moves_within, next_above, sets_grow, whole_so_far}
 use Rattle.cs_merge.proofs.IdMapLemmas.{rise_mapped}
@@ -47,31 +48,31 @@ pub mapped_rise : (parts : Parts) (position trigram count : ℕ) (new_ids : NewI
 mapped_rise parts position trigram count new_ids order below =
     rise_mapped new_ids count (length parts.names) 0 0 (list_ids parts position trigram).ids order below (ids_rise parts position trigram) (λ id new h e. omega arith)
 
-module _ (older newer : Parts) (older_ids newer_ids : NewIds) (before now : Written) (a b : ℕ) (state : AreMergedLists older newer older_ids newer_ids before now a b) where
-  module _ (older_are : AreValidParts older) (newer_are : AreValidParts newer) (trigram : ℕ) (next : lower_of (list_trigram older a) (list_trigram newer b) ≡ Some trigram) where
-    pub list_above : AllBelow now.lists trigram
+module _ (older newer : Parts) (a b : ℕ) (older_are : AreValidParts older) (newer_are : AreValidParts newer) (trigram : ℕ) where
+  pub list_fits : (older_ids newer_ids : NewIds) → (trigram < closing_trigram) ⊎ ((new_ids_of older_ids (list_ids older a trigram).ids ≡ []) × (new_ids_of newer_ids (list_ids newer b trigram).ids ≡ []))
+  list_fits older_ids newer_ids =
+      elim (cases_lt trigram closing_trigram) [
+        | inl below ↦ inl below
+        | inr from ↦ inr (ap (new_ids_of older_ids) (closing_has_none older a trigram older_are from), ap (new_ids_of newer_ids) (closing_has_none newer b trigram newer_are from))
+      ]
+
+  module _ (lists : List PostingList) (left : AreLeft older.entries newer.entries lists a b) (next : lower_of (list_trigram older a) (list_trigram newer b) ≡ Some trigram) where
+    pub list_above : AllBelow lists trigram
     list_above = by_index (is_lower (list_trigram older a) (list_trigram newer b) trigram next).one
       where
-        of_entry : (parts : Parts) (position : ℕ) → ((entry : ListEntry) → slice_get parts.entries position ≡ Some entry → AllBelow now.lists entry.trigram) → list_trigram parts position ≡ Some trigram → AllBelow now.lists trigram
-        of_entry parts position left e = by_entry (slice_get parts.entries position) refl
+        of_entry : (parts : Parts) (position : ℕ) → ((entry : ListEntry) → slice_get parts.entries position ≡ Some entry → AllBelow lists entry.trigram) → list_trigram parts position ≡ Some trigram → AllBelow lists trigram
+        of_entry parts position above e = by_entry (slice_get parts.entries position) refl
           where
-            by_entry : (o : Option ListEntry) → slice_get parts.entries position ≡ o → AllBelow now.lists trigram
+            by_entry : (o : Option ListEntry) → slice_get parts.entries position ≡ o → AllBelow lists trigram
             by_entry None f = absurd (none (sym (ap (option_map (λ (d : ListEntry). d.trigram)) f) ∙ e))
               where
                 none : None ≡ Some trigram → ⊥
                 none h = cc
-            by_entry (Some entry) f = subst (AllBelow now.lists) (same_Some entry.trigram trigram (sym (ap (option_map (λ (d : ListEntry). d.trigram)) f) ∙ e)) (left entry f)
+            by_entry (Some entry) f = subst (AllBelow lists) (same_Some entry.trigram trigram (sym (ap (option_map (λ (d : ListEntry). d.trigram)) f) ∙ e)) (above entry f)
 
-        by_index : (list_trigram older a ≡ Some trigram) ⊎ (list_trigram newer b ≡ Some trigram) → AllBelow now.lists trigram
-        by_index (inl e) = of_entry older a state.older_left e
-        by_index (inr e) = of_entry newer b state.newer_left e
-
-    pub list_fits : (trigram < closing_trigram) ⊎ ((new_ids_of older_ids (list_ids older a trigram).ids ≡ []) × (new_ids_of newer_ids (list_ids newer b trigram).ids ≡ []))
-    list_fits =
-        elim (cases_lt trigram closing_trigram) [
-          | inl below ↦ inl below
-          | inr from ↦ inr (ap (new_ids_of older_ids) (closing_has_none older a trigram older_are from), ap (new_ids_of newer_ids) (closing_has_none newer b trigram newer_are from))
-        ]
+        by_index : (list_trigram older a ≡ Some trigram) ⊎ (list_trigram newer b ≡ Some trigram) → AllBelow lists trigram
+        by_index (inl e) = of_entry older a left.older_above e
+        by_index (inr e) = of_entry newer b left.newer_above e
 
     older_least : (entry : ListEntry) → slice_get older.entries a ≡ Some entry → trigram ≤ entry.trigram
     older_least entry there = (is_lower (list_trigram older a) (list_trigram newer b) trigram next).some_from entry.trigram (entry_trigram older a entry there)
@@ -82,8 +83,8 @@ module _ (older newer : Parts) (older_ids newer_ids : NewIds) (before now : Writ
     -- no position moves back, and at least one advances
     pub positions_move : (a + b < position_after older a trigram + position_after newer b trigram) × (position_after older a trigram ≤ length older.entries) × (position_after newer b trigram ≤ length newer.entries)
     positions_move =
-        let first = moves_within older a trigram state.older_within in
-        let second = moves_within newer b trigram state.newer_within in
+        let first = moves_within older a trigram left.older_within in
+        let second = moves_within newer b trigram left.newer_within in
         let up = first.0 in
         let up' = second.0 in (
           elim (is_lower (list_trigram older a) (list_trigram newer b) trigram next).one [
@@ -94,21 +95,30 @@ module _ (older newer : Parts) (older_ids newer_ids : NewIds) (before now : Writ
           second.1,
         )
 
+    pub left_more : (given : List ℕ) (after : List PostingList) → after ≡ lists ++ list_of trigram given → AreLeft older.entries newer.entries after (position_after older a trigram) (position_after newer b trigram)
+    left_more given after is =
+        let on = positions_move in
+        record {
+          older_within = on.1;
+          newer_within = on.2;
+          older_above = λ entry there. subst (λ ps. AllBelow ps entry.trigram) (sym is) (all_below_more trigram entry.trigram lists given list_above (next_above older a trigram older_are older_least entry there));
+          newer_above = λ entry there. subst (λ ps. AllBelow ps entry.trigram) (sym is) (all_below_more trigram entry.trigram lists given list_above (next_above newer b trigram newer_are newer_least entry there));
+        }
+
+module _ (older newer : Parts) (older_ids newer_ids : NewIds) (before now : Written) (a b : ℕ) (state : AreMergedLists older newer older_ids newer_ids before now a b) where
+  module _ (older_are : AreValidParts older) (newer_are : AreValidParts newer) (trigram : ℕ) (next : lower_of (list_trigram older a) (list_trigram newer b) ≡ Some trigram) where
     pub listed_more : (count : ℕ) (after : Written) (some others : List ℕ) → AreIdMaps count older_ids newer_ids → some ≡ new_ids_of older_ids (list_ids older a trigram).ids → others ≡ new_ids_of newer_ids (list_ids newer b trigram).ids → (list_ids older a trigram).whole ≡ true → (list_ids newer b trigram).whole ≡ true → IsMergedList trigram now after some others [] [] → AreMergedLists older newer older_ids newer_ids before after (position_after older a trigram) (position_after newer b trigram)
     listed_more count after some others are e f whole whole' given =
         record {
           paths = given.paths ∙ state.paths;
           names = given.names ∙ state.names;
-          older_within = positions_move.1;
-          newer_within = positions_move.2;
+          left = left_more older newer a b older_are newer_are trigram now.lists state.left next given.given after.lists given.lists;
           older_sets = subst (AreMappedLists older_ids (take (position_after older a trigram) (lists_in older))) (sym given.lists)
               (older_lists_mapped count trigram older_ids newer_ids are now.lists (list_ids older a trigram).ids (list_ids newer b trigram).ids given.given both (take a (lists_in older)) (take (position_after older a trigram) (lists_in older)) (sets_grow older a trigram whole) state.older_sets);
           newer_sets = subst (AreMappedLists newer_ids (take (position_after newer b trigram) (lists_in newer))) (sym given.lists)
               (newer_lists_mapped count trigram older_ids newer_ids are now.lists (list_ids older a trigram).ids (list_ids newer b trigram).ids given.given both (take b (lists_in newer)) (take (position_after newer b trigram) (lists_in newer)) (sets_grow newer b trigram whole') state.newer_sets);
           older_whole = whole_so_far older a trigram state.older_whole whole;
           newer_whole = whole_so_far newer b trigram state.newer_whole whole';
-          older_left = λ entry there. subst (λ lists. AllBelow lists entry.trigram) (sym given.lists) (all_below_more trigram entry.trigram now.lists given.given list_above (next_above older a trigram older_are older_least entry there));
-          newer_left = λ entry there. subst (λ lists. AllBelow lists entry.trigram) (sym given.lists) (all_below_more trigram entry.trigram now.lists given.given list_above (next_above newer b trigram newer_are newer_least entry there));
         }
       where
         or_none : (t : Bool) → (t || (false || false)) ≡ t
@@ -143,10 +153,10 @@ module _ (older newer : Parts) (older_ids newer_ids : NewIds) (before now : Writ
 
   module _ (ends : lower_of (list_trigram older a) (list_trigram newer b) ≡ None) where
     older_past : a ≡ length older.entries
-    older_past = let from = past older a (both_none (list_trigram older a) (list_trigram newer b) ends).0 in let within = state.older_within in omega (arith, from, within)
+    older_past = let from = past older a (both_none (list_trigram older a) (list_trigram newer b) ends).0 in let within = state.left.older_within in omega (arith, from, within)
 
     newer_past : b ≡ length newer.entries
-    newer_past = let from = past newer b (both_none (list_trigram older a) (list_trigram newer b) ends).1 in let within = state.newer_within in omega (arith, from, within)
+    newer_past = let from = past newer b (both_none (list_trigram older a) (list_trigram newer b) ends).1 in let within = state.left.newer_within in omega (arith, from, within)
 
     all_lists : (parts : Parts) (position : ℕ) → position ≡ length parts.entries → ◌≡◌ {A = List PostingList} (take position (lists_in parts)) (lists_in parts)
     all_lists parts position e =

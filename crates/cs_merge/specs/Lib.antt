@@ -20,3 +20,4 @@ pub mod SortedNames
 pub mod IdMap
 pub mod ListMerge
 pub mod ListsFault
+pub mod StoredMerge

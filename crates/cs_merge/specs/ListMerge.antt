@@ -4,7 +4,7 @@ use Rattle.std.specs.List.{list_all, AllByRecursion}
 use Rattle.std.specs.Option.{option_map_or}
 use Rattle.cs_trigram.specs.Trigram.{has}
 use Rattle.cs_index.specs.AscendingIds.{next_after, AscendWithin, ids_onward}
-use Rattle.cs_index.specs.Encoding.{ListEntry}
+use Rattle.cs_index.specs.Encoding.{ListEntry, PostingList}
 use Rattle.cs_index.specs.Written.{Written, AllBelow}
 use Rattle.cs_index.specs.OpenedParts.{Parts, ids_read, lists_in}
 use Rattle.cs_trigram.specs.TrigramSets.{AreDistinct}
@@ -101,18 +101,19 @@ pub record AreDistinctIds (count : ℕ) (ids : List ℕ) : Type 0 where
   pub below : (id : ℕ) → has ids id ≡ true → id < count
   pub once : AreDistinct ids
 
+-- Each list from these positions on has a higher trigram than the lists that are written.
+pub record AreLeft (older newer : List ListEntry) (lists : List PostingList) (older_position newer_position : ℕ) : Type 0 where
+  pub older_within : older_position ≤ length older
+  pub newer_within : newer_position ≤ length newer
+  pub older_above : (entry : ListEntry) → slice_get older older_position ≡ Some entry → AllBelow lists entry.trigram
+  pub newer_above : (entry : ListEntry) → slice_get newer newer_position ≡ Some entry → AllBelow lists entry.trigram
+
 -- The lists before these positions are merged and written.
 pub record AreMergedLists (older newer : Parts) (older_ids newer_ids : NewIds) (before now : Written) (older_position newer_position : ℕ) : Type 0 where
   pub paths : now.paths ≡ before.paths
   pub names : now.names ≡ before.names
-  pub older_within : older_position ≤ length older.entries
-  pub newer_within : newer_position ≤ length newer.entries
+  pub left : AreLeft older.entries newer.entries now.lists older_position newer_position
   pub older_sets : AreMappedLists older_ids (take older_position (lists_in older)) now.lists
   pub newer_sets : AreMappedLists newer_ids (take newer_position (lists_in newer)) now.lists
   pub older_whole : list_all (λ (e : ListEntry). (ids_read older e).whole) (take older_position older.entries) ≡ true
   pub newer_whole : list_all (λ (e : ListEntry). (ids_read newer e).whole) (take newer_position newer.entries) ≡ true
-  -- each remaining list has a higher trigram
-  pub older_left : (entry : ListEntry) → slice_get older.entries older_position ≡ Some entry →
-      AllBelow now.lists entry.trigram
-  pub newer_left : (entry : ListEntry) → slice_get newer.entries newer_position ≡ Some entry →
-      AllBelow now.lists entry.trigram

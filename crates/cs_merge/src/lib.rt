@@ -17,7 +17,8 @@ mod merging_lists;
 mod merging_names;
 mod replacing;
 mod sorted_names;
+mod stored_lists;
 
 pub use fault::MergeFault;
 pub use merging::{merge, merge_within};
-pub use replacing::{is_replaced, is_whole};
+pub use replacing::{is_replaced, is_whole, is_whole_stored};

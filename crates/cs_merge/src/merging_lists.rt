@@ -22,16 +22,16 @@ use std::alloc::{AllocError, Global};
 
 /// The id maps of both indexes, with their runs.
 #[derive(Drop)]
-struct BothRuns<'a> {
-    older: IdRuns<'a>,
-    newer: IdRuns<'a>,
+pub(crate) struct BothRuns<'a> {
+    pub(crate) older: IdRuns<'a>,
+    pub(crate) newer: IdRuns<'a>,
 }
 
 /// The new ids of both lists of a trigram.
 #[derive(Drop)]
-struct BothLists<'a, 'b> {
-    older: MappedPostings<'a, 'b>,
-    newer: MappedPostings<'a, 'b>,
+pub(crate) struct BothLists<'a, 'b> {
+    pub(crate) older: MappedPostings<'a, 'b>,
+    pub(crate) newer: MappedPostings<'a, 'b>,
 }
 
 /// Writes the merged posting lists in ascending order of trigrams. Each list is read once and to
@@ -135,7 +135,7 @@ fn is_increasing(runs: &BothRuns<'_>) -> bool
 }
 
 /// The trigram of the list at a position of the list index.
-fn trigram_at(index: &Index<'_>, position: u32) -> Option<u32>
+pub(crate) fn trigram_at(index: &Index<'_>, position: u32) -> Option<u32>
     ensures { result ≡ list_trigram index.now position }
 {
     match index.list_at(position) {
@@ -146,7 +146,7 @@ fn trigram_at(index: &Index<'_>, position: u32) -> Option<u32>
 
 /// The new ids of the list at the position, and the position advances; no ids if that list has
 /// another trigram.
-fn next_list<'a, 'b>(
+pub(crate) fn next_list<'a, 'b>(
     index: &Index<'a>,
     position: &mut u32,
     trigram: u32,
@@ -170,7 +170,7 @@ fn next_list<'a, 'b>(
 }
 
 /// Writes the merged list of one trigram.
-fn merge_list(
+pub(crate) fn merge_list(
     alloc: Global,
     sections: &mut Sections,
     trigram: u32,
@@ -325,7 +325,7 @@ fn next_run<'a>(
 }
 
 /// The minimum of two optional numbers.
-fn lower(one: Option<u32>, other: Option<u32>) -> Option<u32>
+pub(crate) fn lower(one: Option<u32>, other: Option<u32>) -> Option<u32>
     ensures { result ≡ lower_of one other }
 {
     match (one, other) {

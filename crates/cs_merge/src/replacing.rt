@@ -1,16 +1,21 @@
 // Where the merge is the newer index as a whole.
-ghost use Rattle.std.specs.Prelude.{◌≡◌, true, slice_get, IfOk};
+ghost use Rattle.std.specs.Prelude.{◌≡◌, ℕ, List, true, Some, slice_get, IfOk};
 ghost use Rattle.std.specs.List.{list_all};
 ghost use Rattle.std.specs.Option.{option_map_or};
 ghost use Rattle.cs_tree.specs.Cover.{is_covered};
+ghost use Rattle.cs_tree.specs.FailureCount.{count_after};
+ghost use Rattle.cs_tree.specs.Transfers.{is_io_failure};
 ghost use Rattle.cs_tree.specs.PathSet as set;
 ghost use Rattle.cs_index.specs.Encoding.{ListEntry};
-ghost use Rattle.cs_index.specs.OpenedParts.{are_whole, ids_read, paths_in};
+ghost use Rattle.cs_index.specs.ListBuffers.{IsBufferOf};
+ghost use Rattle.cs_index.specs.OpenedParts.{Parts, are_whole, ids_read, paths_in};
+ghost use Rattle.cs_index.specs.StoredTables.{TablesIn};
 ghost use Rattle.cs_merge.specs.ListsFault.{are_whole_from};
 ghost use Rattle.cs_merge.specs.Replacing.{is_replaced as is_replaced'};
 
 use crate::covering::Cover;
-use cs_index::{Index, Postings, Texts};
+use cs_index::{Index, ListBuffer, Postings, StoredTables, Texts};
+use cs_tree::{IoFault, Store};
 use std::alloc::{AllocError, Global};
 
 /// Whether the newer paths cover all paths and names of the old index. Then the merge is the newer
@@ -54,6 +59,46 @@ pub(crate) fn is_whole_from(index: &Index<'_>, start: u32) -> bool
         }
     }
     true
+}
+
+/// Does what `is_whole` does, for an index in a store.
+pub fn is_whole_stored<S: Store>(
+    alloc: Global,
+    store: &mut S,
+    tables: &StoredTables,
+) -> Result<bool, IoFault>
+    ensures whole { (bytes : List ℕ) → S.model store.old ≡ Some bytes → (parts : Parts) →
+        TablesIn bytes tables.now parts → IfOk result (λ whole. whole ≡ are_whole parts) }
+    ensures keeps { S.model store.new ≡ S.model store.old }
+    ensures size { S.size store.new ≡ S.size store.old }
+    ensures failed { S.failed store.new ≡ count_after is_io_failure result (S.failed store.old) }
+{
+    let mut buffer = ListBuffer::new(alloc);
+    is_whole_onward(alloc, store, tables, &mut buffer, 0)
+}
+
+/// Whether the lists from a position on are whole. Each is read through the buffer.
+pub(crate) fn is_whole_onward<S: Store>(
+    alloc: Global,
+    store: &mut S,
+    tables: &StoredTables,
+    buffer: &mut ListBuffer,
+    start: u32,
+) -> Result<bool, IoFault>
+    ensures whole { (bytes : List ℕ) → S.model store.old ≡ Some bytes → IsBufferOf bytes buffer.old →
+        (parts : Parts) → TablesIn bytes tables.now parts →
+        IfOk result (λ whole. whole ≡ are_whole_from parts start) }
+    ensures keeps { S.model store.new ≡ S.model store.old }
+    ensures size { S.size store.new ≡ S.size store.old }
+    ensures failed { S.failed store.new ≡ count_after is_io_failure result (S.failed store.old) }
+{
+    'positions: for position in start..tables.lists() {
+        buffer.read(alloc, store, tables, position)?;
+        if !is_whole_list(buffer.list(tables, position)) {
+            return Ok(false);
+        }
+    }
+    Ok(true)
 }
 
 /// Whether the list at the position is whole, if there is one.

@@ -1,21 +1,24 @@
 -- The tables of an index in a store.
 use Rattle.std.proofs.Common.{◌≡◌, ◌+◌, ◌-◌, ◌≤◌, ℕ, zero, suc, true, List, [], ◌∷◌, length, Some, Result, Ok, Err, refl, sym, ap, subst, ◌∙◌, inl, inr, leb, arith, slice_get}
 use Rattle.std.proofs.lemmas.Bool.{and_parts, leb-true, or_cases}
-use Rattle.std.specs.List.{list_all}
+use Rattle.std.specs.List.{AllByRecursion, list_all}
 use Rattle.std.specs.Prelude.{slice_range, ◌||◌, nat_lt, nat_eq}
 use Rattle.cs_tree.specs.Store.{part_of}
 use Rattle.cs_trigram.specs.Trigram.{closing_trigram}
 use Rattle.cs_index.specs.declared.fault.IndexFault.{IndexFault}
 use Rattle.cs_index.specs.declared.reading.section_offsets.SectionOffsets.{SectionOffsets}
-use Rattle.cs_index.specs.Encoding.{ListEntry}
-use Rattle.cs_index.specs.Opening.{entries_in, is_entry, is_section, opening, parts_of, read_sections, sections_at, split_of, texts_of}
+use Rattle.cs_index.specs.Encoding.{IsString, ListEntry}
+use Rattle.cs_index.specs.OpenedParts.{Parts}
+use Rattle.cs_index.specs.Opening.{entries_in, is_entry, is_section, opening, parts_of, read_sections, rises, sections_at, split_of, texts_of}
 use Rattle.cs_index.specs.Stored.{OpensAs, StoredParts}
 use Rattle.cs_index.specs.StoredOpening.{AreAscendingOffsets, with_lists}
-use Rattle.cs_index.specs.StoredTables.{AreValidTables, TableParts, TablesIn}
+use Rattle.cs_index.specs.StoredTables.{AreValidTables, TableParts, TablesIn, lists_room}
+use Rattle.cs_index.specs.ValidParts.{AreValidParts}
 use Rattle.cs_index.specs.ValidSections.{AreBoundedSections, AreValidSections}
 use Rattle.cs_index.proofs.decoding.IndexFields.{entries_rise, offsets_long}
 use Rattle.cs_index.proofs.decoding.PartsAreValid.{entries_fit}
 use Rattle.cs_index.proofs.decoding.StringSections.{section_read}
+use Rattle.cs_index.proofs.stored.ListSections.{stored_lists}
 use Rattle.cs_index.proofs.stored.SectionReads.{lists_long, opened, tested}
 
 abbrev pub tables_of : List ℕ → List ℕ → List ℕ → SectionOffsets → TableParts
@@ -42,6 +45,20 @@ fits_at room (d ∷ es) zero e all at =
     let same : d ≡ e = cc in
     subst (λ (x : ListEntry). x.offset + 4 ≤ room) same (leb-true (d.offset + 4) room fits)
 fits_at room (d ∷ es) (suc k) e all at = fits_at room es k e (and_parts (is_entry room d) (list_all (λ (d : ListEntry). is_entry room d) es) all).1 at
+
+-- the parts of these tables are valid
+pub parts_valid : (bytes : List ℕ) (tables : TableParts) (parts : Parts) → AreValidTables tables → AreAscendingOffsets tables.starts → TablesIn bytes tables parts → AreValidParts parts
+parts_valid bytes tables parts are order is = record {
+  each_path = subst (AllByRecursion IsString) is.stands.paths are.each_path;
+  each_name = subst (AllByRecursion IsString) is.names are.each_name;
+  names_bound = let same = ap length is.names in omega (arith, same, are.names_bound);
+  rise = ap rises (sym is.entries) ∙ are.rise;
+  fit =
+      (λ i. list_all (λ (e : ListEntry). is_entry (long i) e) (sym is.entries i)) ∙ are.fit;
+}
+  where
+    long : length parts.postings ≡ lists_room tables
+    long = ap length (stored_lists bytes _ parts is.stands order).postings ∙ lists_long bytes tables.starts order is.stands.within
 
 -- ---- sections that were read
 

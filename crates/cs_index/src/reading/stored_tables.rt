@@ -1,13 +1,15 @@
 // The paths, the names and the tables of an index in a store, in memory. The posting lists stay in the store.
-ghost use Rattle.std.specs.Prelude.{◌≡◌, ◌≤◌, ◌<◌, ◌+◌, Ok, length, option_map, slice_get, IfOk, IfSome};
+ghost use Rattle.std.specs.Prelude.{◌≡◌, ◌≤◌, ◌<◌, ◌+◌, ℕ, List, Ok, length, option_map, slice_get, IfOk, IfSome};
 ghost use Rattle.cs_tree.specs.FailureCount.{count_after};
 ghost use Rattle.cs_tree.specs.Transfers.{is_io_failure};
 ghost use Rattle.cs_index.specs.AscendingIds.{max_ids};
 ghost use Rattle.cs_index.specs.Encoding.{ListEntry};
+ghost use Rattle.cs_index.specs.OpenedParts.{Parts};
 ghost use Rattle.cs_index.specs.Opening.{entry_at, sections_at, split_of};
 ghost use Rattle.cs_index.specs.StoredEntries.{entry_read};
 ghost use Rattle.cs_index.specs.StoredOpening.{AreAscendingOffsets};
-ghost use Rattle.cs_index.specs.StoredTables.{AreValidTables, OpensAsTables, lists_room};
+ghost use Rattle.cs_index.specs.StoredTables.{AreValidTables, OpensAsTables, TablesIn, lists_room};
+ghost use Rattle.cs_index.specs.ValidParts.{AreValidParts};
 
 use crate::fault::IndexFault;
 use crate::reading::bytes::{read_number, read_trigram};
@@ -111,7 +113,8 @@ impl StoredTables {
 
     /// States the invariant, for callers that use the names and the lists.
     pub fn are_valid(&self)
-        ensures { AreValidTables self.now }
+        ensures tables { AreValidTables self.now }
+        ensures parts { (bytes : List ℕ) (parts : Parts) → TablesIn bytes self.now parts → AreValidParts parts }
     {
         let _paths = &self.paths;
     }

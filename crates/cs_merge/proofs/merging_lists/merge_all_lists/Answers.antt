@@ -59,8 +59,7 @@ merge_list-requires-clause-ids c =
 
 pub merge_list-requires-clause-below : goal.merge_list-requires-clause-below
 merge_list-requires-clause-below c =
-    let next : lower_of (list_trigram c.args.old.now c.lists.older_position) (list_trigram c.args.newer.now c.lists.newer_position) ≡ Some c.in-Some.trigram = (λ i. lower_of (sym c.trigram_at.ensures i) (sym c.trigram_at-in-lists.ensures i)) ∙ sym c.lower.ensures ∙ c.in-Some.is in
-    elim (list_fits c.args.old.now c.args.newer.now c.args.runs.now.older c.args.runs.now.newer c.args.sections.now c.lists.sections c.lists.older_position c.lists.newer_position c.lists.invariant c.requires.old_parts c.requires.newer_parts c.in-Some.trigram next) [
+    elim (list_fits c.args.old.now c.args.newer.now c.lists.older_position c.lists.newer_position c.requires.old_parts c.requires.newer_parts c.in-Some.trigram c.args.runs.now.older c.args.runs.now.newer) [
       | inl below ↦ inl below
       | inr none ↦ inr (ap (λ (r : Ids). r.ids) c.in_ok-older.ensures.ids ∙ none.0, ap (λ (r : Ids). r.ids) c.in_ok-later.ensures.ids ∙ none.1)
     ]
@@ -68,7 +67,7 @@ merge_list-requires-clause-below c =
 pub lists-smaller : goal.lists-smaller
 lists-smaller c =
     let next : lower_of (list_trigram c.args.old.now c.lists.older_position) (list_trigram c.args.newer.now c.lists.newer_position) ≡ Some c.in-Some.trigram = (λ i. lower_of (sym c.trigram_at.ensures i) (sym c.trigram_at-in-lists.ensures i)) ∙ sym c.lower.ensures ∙ c.in-Some.is in
-    let on = positions_move c.args.old.now c.args.newer.now c.args.runs.now.older c.args.runs.now.newer c.args.sections.now c.lists.sections c.lists.older_position c.lists.newer_position c.lists.invariant c.requires.old_parts c.requires.newer_parts c.in-Some.trigram next in
+    let on = positions_move c.args.old.now c.args.newer.now c.lists.older_position c.lists.newer_position c.requires.old_parts c.requires.newer_parts c.in-Some.trigram c.lists.sections.lists c.lists.invariant.left next in
     let more = on.0 in
     let first = on.1 in
     let second = on.2 in

@@ -1,25 +1,8 @@
-use Rattle.std.proofs.Common.{◌≡◌, ℕ, suc, ◌+◌, ◌<◌, Bool, true, ◌&&◌, length, sym, ap, ◌∙◌, Option, slice_get, drop, drop-cons, arith}
+use Rattle.std.proofs.Common.{◌+◌, ◌<◌, ◌&&◌, length, sym, ap, ◌∙◌, drop, arith}
 use Rattle.std.proofs.lemmas.List.{drop_all}
-use Rattle.std.proofs.lemmas.Option.{slice_get-get_or}
 use Rattle.std.specs.List.{list_all}
-use Rattle.std.specs.Option.{option_map_or}
-use Rattle.cs_index.specs.Encoding.{ListEntry}
-use Rattle.cs_index.specs.OpenedParts.{Parts, ids_read}
+use Rattle.cs_merge.proofs.WholeListLemmas.{whole, one_less}
 use Rattle.cs_merge.proofs.replacing.is_whole_from.Goals as goal
-
-module _ (parts : Parts) where
-  abbrev whole : ListEntry → Bool
-  whole e = (ids_read parts e).whole
-
-  abbrev whole_at : Option ListEntry → Bool
-  whole_at o = option_map_or whole o true
-
-  one_less : (position : ℕ) → position < length parts.entries → list_all whole (drop position parts.entries) ≡ (whole_at (slice_get parts.entries position) && list_all whole (drop (position + 1) parts.entries))
-  one_less position within =
-      let d : ListEntry = record { trigram = 0; count = 0; offset = 0 } in
-      let on : suc position ≡ position + 1 = omega arith in
-      ap (list_all whole) (drop-cons parts.entries position d within)
-      ∙ (λ i. whole_at (sym (slice_get-get_or parts.entries position d within) i) && list_all whole (drop (on i) parts.entries))
 
 pub returns-then-not-is_whole_at : goal.returns-then-not-is_whole_at
 returns-then-not-is_whole_at c =

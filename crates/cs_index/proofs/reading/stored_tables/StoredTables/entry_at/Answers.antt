@@ -28,4 +28,4 @@ returns-clause-fits c =
     let within = positioned c.self.inside.list_index.items c.args.self.now.entries c.args.position c.lists.result (ap (λ (t : TableParts). t.entries) c.self.view_is) c.lists.ensures c.if-position-lists.false in
     let found = ap Some c.entry_in-entry.ensures ∙ ap (λ bytes. Some (entry_at bytes (11 * c.args.position))) c.deref.ensures.value
     ∙ sym (get-in c.self.inside.list_index.items c.args.position within) ∙ ap (λ (t : TableParts). slice_get t.entries c.args.position) c.self.view_is in
-    fits_at (lists_room c.args.self.now) c.args.self.now.entries c.args.position (entry_read c.entry_in-entry.result) c.are_valid.ensures.fit (sym found)
+    fits_at (lists_room c.args.self.now) c.args.self.now.entries c.args.position (entry_read c.entry_in-entry.result) c.are_valid.ensures.tables.fit (sym found)

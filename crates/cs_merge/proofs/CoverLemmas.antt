@@ -62,5 +62,5 @@ listed_union ps qs = same_set (set.from_list (ps ++ qs)) (set.union (set.from_li
     ∙ (λ i. sym (contains-from_list ps q) i || sym (contains-from_list qs q) i)
     ∙ sym (contains-union (set.from_list ps) (set.from_list qs) q))
 
-pub paths_merged : (old newer : Parts) → least (set.from_list (old.paths ++ newer.paths)) ≡ merge_paths (paths_in old) (paths_in newer)
-paths_merged old newer = ap least (listed_union old.paths newer.paths)
+pub paths_merged : (old newer : List (List ℕ)) → least (set.from_list (old ++ newer)) ≡ merge_paths (set.from_list old) (set.from_list newer)
+paths_merged old newer = ap least (listed_union old newer)

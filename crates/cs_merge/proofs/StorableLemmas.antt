@@ -18,8 +18,7 @@ use Rattle.cs_tree.proofs.ReduceLemmas.{true_from_T}
 use Rattle.cs_tree.proofs.PathSetLemmas.{contains-union, tied_same}
 use Rattle.cs_index.specs.Encoding.{ListEntry, three_bytes, IsString}
 use Rattle.cs_index.specs.Built.{are_paths, are_reduced, is_before, is_storable}
-use Rattle.cs_index.specs.OpenedParts.{Parts, ids_read, paths_in}
-use Rattle.cs_index.specs.ValidParts.{AreValidParts}
+use Rattle.cs_index.specs.OpenedParts.{Parts, ids_read}
 use Rattle.cs_merge.specs.Merge.{merge_paths}
 use Rattle.cs_merge.proofs.ContentLemmas.{all_paths, each_of_map}
 use Rattle.cs_merge.proofs.DecodedContentLemmas.{from_list_all}
@@ -78,10 +77,10 @@ least_listed paths are =
     (reduced_from paths (map'.entries (least paths)) (true_from_T _ (map'.entries_sorted (least paths))) (each_of_map (λ (path : List ℕ) (mark : Unit {0}). IsLeast paths path) (least paths) (λ path mark there. least_says paths path (ap is_some there))))
 
 -- the merged paths can be the paths of an index
-pub paths_listed : (old newer : Parts) → AreValidParts old → AreValidParts newer → are_paths (set.items (merge_paths (paths_in old) (paths_in newer))) ≡ true
+pub paths_listed : (old newer : List (List ℕ)) → AllByRecursion IsString old → AllByRecursion IsString newer → are_paths (set.items (merge_paths (set.from_list old) (set.from_list newer))) ≡ true
 paths_listed old newer a b =
-    least_listed (set.union (set.from_list old.paths) (set.from_list newer.paths)) (λ path h.
-    elim (or_cases (set.contains (set.from_list old.paths) path) (set.contains (set.from_list newer.paths) path) (sym (contains-union (set.from_list old.paths) (set.from_list newer.paths) path) ∙ h)) [
-      | inl here ↦ from_list_all IsString old.paths a.each_path path here
-      | inr there ↦ from_list_all IsString newer.paths b.each_path path there
+    least_listed (set.union (set.from_list old) (set.from_list newer)) (λ path h.
+    elim (or_cases (set.contains (set.from_list old) path) (set.contains (set.from_list newer) path) (sym (contains-union (set.from_list old) (set.from_list newer) path) ∙ h)) [
+      | inl here ↦ from_list_all IsString old a path here
+      | inr there ↦ from_list_all IsString newer b path there
     ])

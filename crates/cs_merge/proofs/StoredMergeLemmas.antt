@@ -2,7 +2,7 @@
 use Rattle.std.proofs.Common.{◌≡◌, ℕ, ◌+◌, ◌<◌, true, ◌&&◌, List, [], length, refl, sym, ap, subst, ◌∙◌, Option, Some, None, Result, Ok, Err, arith}
 use Rattle.std.proofs.lemmas.Bool.{and_parts}
 use Rattle.std.specs.Prelude.{IfErr, IfOk, OnOk}
-use Rattle.cs_index.specs.Encoding.{ListEntry, posting_list_bytes}
+use Rattle.cs_index.specs.Encoding.{ListEntry}
 use Rattle.cs_index.specs.ListBuffers.{BufferState, HasList, IsBufferOf}
 use Rattle.cs_index.specs.OpenedParts.{Parts}
 use Rattle.cs_index.specs.PostingLists.{Ids, set_at}
@@ -14,7 +14,7 @@ use Rattle.cs_index.specs.declared.fault.IndexFault.{IndexFault}
 use Rattle.cs_merge.specs.IdMap.{NewIds, new_ids_of, AreIdMaps}
 use Rattle.cs_merge.specs.ListMerge.{list_ids, list_trigram, lower_of, position_after, AreLeft, AreMergedLists, IsMergedList}
 use Rattle.cs_merge.specs.Mergeable.{both_whole}
-use Rattle.cs_merge.specs.StoredMerge.{buffered_ids, with_postings, AreAllMerged, AreMergedFrom, IsMergingLists}
+use Rattle.cs_merge.specs.StoredMerge.{buffered_ids, with_postings, AreAllMerged, IsMergingLists}
 use Rattle.cs_merge.proofs.StoredListLemmas.{blank, blank_valid, buffered_same}
 use Rattle.cs_merge.proofs.TrigramMergeLemmas.{all_newer, all_older, all_whole, fault_of_list, left_more, listed_more, positions_move}
 

@@ -1,20 +1,29 @@
 // The merge of an index with a newer one.
-ghost use Rattle.std.specs.Prelude.{◌≡◌, ◌++◌, Err, map, string_bytes, IfOk, OnOk, MatchResult};
+ghost use Rattle.std.specs.Prelude.{◌≡◌, ◌++◌, ℕ, List, [], Some, map, string_bytes, IfErr, IfOk, OnOk, MatchResult};
+ghost use Rattle.std.specs.List.{AllByRecursion};
+ghost use Rattle.cs_tree.specs.Cover.{is_covered};
+ghost use Rattle.cs_tree.specs.FailureCount.{count_after};
 ghost use Rattle.cs_tree.specs.PathSet as set;
-ghost use Rattle.cs_index.specs.OpenedParts.{paths_in};
-ghost use Rattle.cs_index.specs.ValidParts.{AreValidParts};
+ghost use Rattle.cs_tree.specs.Transfers.{is_io_failure};
+ghost use Rattle.cs_index.specs.Encoding.{IsString};
+ghost use Rattle.cs_index.specs.OpenedParts.{Parts, paths_in};
+ghost use Rattle.cs_index.specs.StoredTables.{TablesIn};
+ghost use Rattle.cs_merge.specs.IdMap.{AreMergedNames};
 ghost use Rattle.cs_merge.specs.Merge.{merge_paths};
+ghost use Rattle.cs_merge.specs.Mergeable.{AreTested};
 ghost use Rattle.cs_merge.specs.MergeResult.{most_bytes, IsMerged, IsMergeFault};
-ghost use Rattle.cs_merge.specs.SortedNames.{AreTestedNames};
+ghost use Rattle.cs_merge.specs.SortedNames.{AreIndexNames, AreTestedNames};
 
 use crate::building::{begin, finish};
 use crate::covering::{Cover, is_under};
 use crate::fault::MergeFault;
+use crate::id_map::IdMaps;
 use crate::merging_lists::merge_lists;
 use crate::merging_names::merge_names;
 use crate::sorted_names::SortedNames;
-use cs_index::{Index, Texts};
-use cs_tree::reduce;
+use crate::stored_lists::merge_stored_lists;
+use cs_index::{Index, NameTable, Sections, StoredTables, Texts};
+use cs_tree::{IoFault, Store, reduce};
 use std::alloc::{AllocError, Global};
 
 /// Merges two indexes. At a name that a newer path covers, the newer index takes precedence; other
@@ -44,20 +53,60 @@ pub fn merge_within(
 {
     old.are_valid();
     newer.are_valid();
-    let Some(old_names) = SortedNames::of(alloc, old.name_table())? else {
-        return Err(MergeFault::Unsorted);
-    };
-    let Some(newer_names) = SortedNames::of(alloc, newer.name_table())? else {
-        return Err(MergeFault::Unsorted);
-    };
-    if !is_under(newer) {
-        return Err(MergeFault::Uncovered);
+    let names = sort_names(alloc, old.name_table(), newer)?;
+    let (mut sections, ids) = begin_merged(alloc, old.paths(), newer, &names)?;
+    merge_lists(alloc, &mut sections, most, old, newer, &ids)?;
+    finish(sections, most)
+}
+
+/// Does what `merge` does, with an old index in a store, of which only the tables are in memory. Each of its lists is
+/// read once and to its end, in the order of the list index, so that each byte is read once.
+///
+/// A failed read is an error of its own, and so is an allocation that fails while a list is read. Both come after the
+/// tests for `Unsorted` and `Uncovered`.
+pub fn merge_stored<S: Store>(
+    alloc: Global,
+    store: &mut S,
+    old: &StoredTables,
+    newer: &Index<'_>,
+) -> Result<Result<Vec<u8>, MergeFault>, IoFault>
+    ensures merged { (bytes : List ℕ) → S.model store.old ≡ Some bytes → (parts : Parts) →
+        TablesIn bytes old.now parts → IfOk result (λ merged. MatchResult merged
+        (λ index. IsMerged parts newer.now most_bytes index.items)
+        (λ fault. IsMergeFault parts newer.now most_bytes fault)) }
+    ensures tested { (bytes : List ℕ) → S.model store.old ≡ Some bytes → (parts : Parts) →
+        TablesIn bytes old.now parts → IfErr result (λ _. AreTested parts newer.now) }
+    ensures keeps { S.model store.new ≡ S.model store.old }
+    ensures size { S.size store.new ≡ S.size store.old }
+    ensures failed { S.failed store.new ≡ count_after is_io_failure result (S.failed store.old) }
+{
+    merge_stored_within(alloc, store, u32::MAX, old, newer)
+}
+
+/// `merge_stored` with a maximum length of the index, in bytes, as a parameter.
+pub fn merge_stored_within<S: Store>(
+    alloc: Global,
+    store: &mut S,
+    most: u32,
+    old: &StoredTables,
+    newer: &Index<'_>,
+) -> Result<Result<Vec<u8>, MergeFault>, IoFault>
+    ensures merged { (bytes : List ℕ) → S.model store.old ≡ Some bytes → (parts : Parts) →
+        TablesIn bytes old.now parts → IfOk result (λ merged. MatchResult merged
+        (λ index. IsMerged parts newer.now most index.items)
+        (λ fault. IsMergeFault parts newer.now most fault)) }
+    ensures tested { (bytes : List ℕ) → S.model store.old ≡ Some bytes → (parts : Parts) →
+        TablesIn bytes old.now parts → IfErr result (λ _. AreTested parts newer.now) }
+    ensures keeps { S.model store.new ≡ S.model store.old }
+    ensures size { S.size store.new ≡ S.size store.old }
+    ensures failed { S.failed store.new ≡ count_after is_io_failure result (S.failed store.old) }
+{
+    old.are_valid();
+    newer.are_valid();
+    match sort_names(alloc, old.name_table(), newer) {
+        Ok(names) => merge_stored_sorted(alloc, store, most, old, newer, &names),
+        Err(fault) => Ok(Err(fault)),
     }
-    let names = BothNames {
-        old: old_names,
-        newer: newer_names,
-    };
-    merge_sorted(alloc, most, old, newer, &names)
 }
 
 /// The names of both indexes in ascending order.
@@ -67,40 +116,96 @@ struct BothNames<'a, 'b> {
     newer: SortedNames<'b>,
 }
 
-/// Merges two indexes in the order of their names. The newer paths cover the newer names.
-fn merge_sorted(
+/// Sorts the names of both indexes, and tests that no name occurs twice and that the newer paths cover the newer names.
+fn sort_names<'a, 'b>(
     alloc: Global,
-    most: u32,
-    old: &Index<'_>,
-    newer: &Index<'_>,
-    names: &BothNames<'_, '_>,
-) -> Result<Vec<u8>, MergeFault>
-    requires old_parts { AreValidParts old.now }
-    requires newer_parts { AreValidParts newer.now }
-    requires tested { AreTestedNames old.now.names newer.now names.now.old names.now.newer }
-    ensures { MatchResult result (λ index. IsMerged old.now newer.now most index.items)
-        (λ fault. IsMergeFault old.now newer.now most fault) }
+    old: NameTable<'a>,
+    newer: &Index<'b>,
+) -> Result<BothNames<'a, 'b>, MergeFault>
+    requires { AreIndexNames old }
+    ensures tested { IfOk result (λ names. AreTestedNames old.entry newer.now names.old names.newer) }
+    ensures fault { IfErr result (λ fault. (most : ℕ) (parts : Parts) → parts.names ≡ old.entry →
+        IsMergeFault parts newer.now most fault) }
 {
-    let paths = merged_paths(alloc, old, newer)?;
-    let mut sections = begin(alloc, &paths)?;
-    let cover = Cover::new(alloc, newer.paths())?;
-    let ids = merge_names(alloc, &mut sections, &names.old, &names.newer, &cover)?;
-    merge_lists(alloc, &mut sections, most, old, newer, &ids)?;
-    finish(sections, most)
+    newer.are_valid();
+    let Some(old_names) = SortedNames::of(alloc, old)? else {
+        return Err(MergeFault::Unsorted);
+    };
+    let Some(newer_names) = SortedNames::of(alloc, newer.name_table())? else {
+        return Err(MergeFault::Unsorted);
+    };
+    if !is_under(newer) {
+        return Err(MergeFault::Uncovered);
+    }
+    Ok(BothNames {
+        old: old_names,
+        newer: newer_names,
+    })
 }
 
-/// The paths of both indexes that no other path covers, ascending.
-fn merged_paths(
+/// An index of the merged paths and names, which has no lists yet, and the id maps of both indexes. The newer paths cover
+/// the newer names.
+fn begin_merged(
     alloc: Global,
-    old: &Index<'_>,
+    paths: Texts<'_>,
     newer: &Index<'_>,
-) -> Result<Vec<String>, AllocError>
+    names: &BothNames<'_, '_>,
+) -> Result<(Sections, IdMaps), MergeFault>
+    requires paths { AllByRecursion IsString paths }
+    requires tested { AreTestedNames names.now.old.names newer.now names.now.old names.now.newer }
+    ensures paths { IfOk result (λ begun. begun.0.paths
+        ≡ set.items (merge_paths (set.from_list paths.entry) (paths_in newer.now))) }
+    ensures unlisted { IfOk result (λ begun. begun.0.lists ≡ []) }
+    ensures ids { IfOk result (λ begun. AreMergedNames (is_covered (paths_in newer.now))
+        names.now.old.names newer.now.names begun.0.names begun.1.older begun.1.newer) }
+    ensures fault { IfErr result (λ fault. fault ≡ MergeFault.Memory) }
+{
+    newer.are_valid();
+    let merged = merged_paths(alloc, paths, newer.paths())?;
+    let mut sections = begin(alloc, &merged)?;
+    let cover = Cover::new(alloc, newer.paths())?;
+    let ids = merge_names(alloc, &mut sections, &names.old, &names.newer, &cover)?;
+    Ok((sections, ids))
+}
+
+/// Merges an index in a store with a newer one in the order of their names.
+fn merge_stored_sorted<S: Store>(
+    alloc: Global,
+    store: &mut S,
+    most: u32,
+    old: &StoredTables,
+    newer: &Index<'_>,
+    names: &BothNames<'_, '_>,
+) -> Result<Result<Vec<u8>, MergeFault>, IoFault>
+    requires tested { AreTestedNames old.now.names newer.now names.now.old names.now.newer }
+    ensures merged { (bytes : List ℕ) → S.model store.old ≡ Some bytes → (parts : Parts) →
+        TablesIn bytes old.now parts → IfOk result (λ merged. MatchResult merged
+        (λ index. IsMerged parts newer.now most index.items)
+        (λ fault. IsMergeFault parts newer.now most fault)) }
+    ensures keeps { S.model store.new ≡ S.model store.old }
+    ensures size { S.size store.new ≡ S.size store.old }
+    ensures failed { S.failed store.new ≡ count_after is_io_failure result (S.failed store.old) }
+{
+    old.are_valid();
+    newer.are_valid();
+    let (mut sections, ids) = match begin_merged(alloc, old.paths(), newer, names) {
+        Ok(begun) => begun,
+        Err(fault) => return Ok(Err(fault)),
+    };
+    match merge_stored_lists(alloc, store, &mut sections, most, old, newer, &ids)? {
+        Ok(()) => Ok(finish(sections, most)),
+        Err(fault) => Ok(Err(fault)),
+    }
+}
+
+/// The paths of both that no other path covers, ascending.
+fn merged_paths(alloc: Global, old: Texts<'_>, newer: Texts<'_>) -> Result<Vec<String>, AllocError>
     ensures { IfOk result (λ paths. map string_bytes paths.items ≡
-        set.items (merge_paths (paths_in old.now) (paths_in newer.now))) }
+        set.items (merge_paths (set.from_list old.entry) (set.from_list newer.entry))) }
 {
     let mut paths = Vec::new(alloc);
-    copy(alloc, &mut paths, old.paths())?;
-    copy(alloc, &mut paths, newer.paths())?;
+    copy(alloc, &mut paths, old)?;
+    copy(alloc, &mut paths, newer)?;
     let kept = reduce(alloc, &paths)?;
     Ok(kept)
 }

@@ -1,5 +1,5 @@
 // Where the merge is the newer index as a whole.
-ghost use Rattle.std.specs.Prelude.{◌≡◌, ℕ, List, true, Some, slice_get, IfOk};
+ghost use Rattle.std.specs.Prelude.{◌≡◌, ◌&&◌, ℕ, List, true, Some, slice_get, IfOk};
 ghost use Rattle.std.specs.List.{list_all};
 ghost use Rattle.std.specs.Option.{option_map_or};
 ghost use Rattle.cs_tree.specs.Cover.{is_covered};
@@ -23,11 +23,36 @@ use std::alloc::{AllocError, Global};
 pub fn is_replaced(alloc: Global, old: &Index<'_>, newer: &Index<'_>) -> Result<bool, AllocError>
     ensures { IfOk result (λ replaced. replaced ≡ is_replaced' (paths_in newer.now) old.now) }
 {
+    covers_both(alloc, newer, old.paths(), old.names())
+}
+
+/// Does what `is_replaced` does, for an old index in a store: see `is_whole_stored`.
+pub fn is_replaced_stored(
+    alloc: Global,
+    tables: &StoredTables,
+    newer: &Index<'_>,
+) -> Result<bool, AllocError>
+    ensures { IfOk result (λ replaced. (bytes : List ℕ) (parts : Parts) →
+        TablesIn bytes tables.now parts → replaced ≡ is_replaced' (paths_in newer.now) parts) }
+{
+    covers_both(alloc, newer, tables.paths(), tables.names())
+}
+
+/// Whether the newer paths cover these paths and names.
+fn covers_both(
+    alloc: Global,
+    newer: &Index<'_>,
+    paths: Texts<'_>,
+    names: Texts<'_>,
+) -> Result<bool, AllocError>
+    ensures { IfOk result (λ covered. covered ≡ (list_all (is_covered (paths_in newer.now)) paths.entry
+        && list_all (is_covered (paths_in newer.now)) names.entry)) }
+{
     let cover = Cover::new(alloc, newer.paths())?;
-    if !covers_all(&cover, old.paths()) {
+    if !covers_all(&cover, paths) {
         return Ok(false);
     }
-    Ok(covers_all(&cover, old.names()))
+    Ok(covers_all(&cover, names))
 }
 
 /// Whether each text is covered.

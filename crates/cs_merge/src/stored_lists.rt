@@ -92,9 +92,9 @@ fn merge_all_stored<S: Store>(
     ensures merged { (bytes : List ℕ) → S.model store.old ≡ Some bytes → (old : Parts) →
         TablesIn bytes sides.now.tables.now old → IfOk result (λ merged. MatchResult merged
         (λ _. AreAllMerged old sides.now.newer.now
-            sides.now.runs.older sides.now.runs.newer sections.new.lists)
+        sides.now.runs.older sides.now.runs.newer sections.new.lists)
         (IsListsFault old sides.now.newer.now
-            sides.now.runs.older sides.now.runs.newer sections.old most)) }
+        sides.now.runs.older sides.now.runs.newer sections.old most)) }
     ensures keeps { S.model store.new ≡ S.model store.old }
     ensures size { S.size store.new ≡ S.size store.old }
     ensures failed { S.failed store.new ≡ count_after is_io_failure result (S.failed store.old) }
@@ -175,15 +175,15 @@ fn merge_trigram(
         sections.old.lists progress.old.older progress.old.newer }
     ensures ok { OnOk result (IsMergedList trigram sections.old sections.new
         (new_ids_of sides.now.runs.older
-            (buffered_ids sides.now.tables.now progress.old.buffer progress.old.older trigram).ids)
+        (buffered_ids sides.now.tables.now progress.old.buffer progress.old.older trigram).ids)
         (new_ids_of sides.now.runs.newer
-            (list_ids sides.now.newer.now progress.old.newer trigram).ids) [] []) }
+        (list_ids sides.now.newer.now progress.old.newer trigram).ids) [] []) }
     ensures fault { MatchResult result
         (λ _. ((buffered_ids sides.now.tables.now progress.old.buffer progress.old.older trigram).whole
-            && (list_ids sides.now.newer.now progress.old.newer trigram).whole) ≡ true)
+        && (list_ids sides.now.newer.now progress.old.newer trigram).whole) ≡ true)
         (IsListFault
-            ((buffered_ids sides.now.tables.now progress.old.buffer progress.old.older trigram).whole
-            && (list_ids sides.now.newer.now progress.old.newer trigram).whole)) }
+        ((buffered_ids sides.now.tables.now progress.old.buffer progress.old.older trigram).whole
+        && (list_ids sides.now.newer.now progress.old.newer trigram).whole)) }
     ensures buffer { OnOk result (progress.new.buffer ≡ progress.old.buffer) }
     ensures older { OnOk result (progress.new.older
         ≡ position_after (with_postings sides.now.tables.now []) progress.old.older trigram) }
@@ -254,7 +254,7 @@ fn fault_of_rest<S: Store>(
         IsBufferOf bytes progress.old.buffer →
         (old : Parts) → TablesIn bytes sides.now.tables.now old → IfOk result (λ fault. fault ≡ rest_fault
         (are_whole_from old progress.old.older
-            && are_whole_from sides.now.newer.now progress.old.newer)) }
+        && are_whole_from sides.now.newer.now progress.old.newer)) }
     ensures keeps { S.model store.new ≡ S.model store.old }
     ensures size { S.size store.new ≡ S.size store.old }
     ensures failed { S.failed store.new ≡ count_after is_io_failure result (S.failed store.old) }

@@ -1,4 +1,4 @@
-use Rattle.std.proofs.Common.{◌≡◌, ◌∙◌, ◌+◌, ◌<◌, ◌&&◌, sym, ap, ℕ, List, Bool, Some, length, slice_get, drop, arith, rules}
+use Rattle.std.proofs.Common.{◌≡◌, ◌∙◌, ◌+◌, ◌<◌, ◌&&◌, sym, ap, ℕ, List, Bool, length, slice_get, drop, arith, rules}
 use Rattle.std.proofs.lemmas.List.{drop_all}
 use Rattle.std.specs.List.{list_all}
 use Rattle.cs_index.specs.ListBuffers.{BufferState, HasList, list_of}

@@ -1,7 +1,6 @@
-use Rattle.std.proofs.Common.{◌≡◌, ◌∙◌, sym, subst, ℕ, List, Some, arith, rules}
+use Rattle.std.proofs.Common.{◌∙◌, sym, subst, arith}
 use Rattle.cs_index.specs.OpenedParts.{Parts}
 use Rattle.cs_index.specs.StoredTables.{TableParts}
-use Rattle.cs_merge.specs.IdMap.{AreIdMaps}
 use Rattle.cs_merge.specs.ListsFault.{IsListsFault}
 use Rattle.cs_merge.specs.StoredMerge.{IsMergingLists}
 use Rattle.cs_merge.proofs.RestLemmas.{lists_fault, rest_says}

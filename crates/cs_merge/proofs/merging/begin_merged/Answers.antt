@@ -1,0 +1,23 @@
+use Rattle.std.proofs.Common.{ℕ, List, map, sym, ap, ◌∙◌, slice_get}
+use Rattle.std.specs.Prelude.{string_bytes}
+use Rattle.cs_tree.specs.Cover.{is_covered}
+use Rattle.cs_tree.specs.PathSet as set
+use Rattle.cs_index.specs.Built.{are_paths}
+use Rattle.cs_index.specs.OpenedParts.{Parts}
+use Rattle.cs_merge.specs.Merge.{merge_paths}
+use Rattle.cs_merge.proofs.MergedFilesLemmas.{all_covered}
+use Rattle.cs_merge.proofs.StorableLemmas.{paths_listed}
+use Rattle.cs_merge.proofs.merging.begin_merged.Goals as goal
+
+pub begin-requires : goal.begin-requires
+begin-requires c =
+    let newer : Parts = c.args.newer.now in
+    ap are_paths (ap (map string_bytes) c.deref.ensures.value ∙ c.in_ok-merged.ensures ∙ ap (λ (paths : List (List ℕ)). set.items (merge_paths (set.from_list c.args.paths) (set.from_list paths))) c.paths.ensures)
+    ∙ paths_listed c.args.paths newer.paths c.requires.paths c.are_valid.ensures.each_path
+
+pub merge_names-requires-clause-covered : goal.merge_names-requires-clause-covered
+merge_names-requires-clause-covered c id name there =
+    let newer : Parts = c.args.newer.now in
+    let tested = c.requires.tested in
+    ap (λ paths. is_covered paths name) (c.in_ok-cover.ensures ∙ ap set.from_list c.paths-2.ensures)
+    ∙ all_covered newer tested.covered id name (ap (λ (ns : List (List ℕ)). slice_get ns id) (sym tested.newer_names) ∙ there)

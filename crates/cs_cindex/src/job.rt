@@ -1,5 +1,5 @@
 // One job.
-ghost use Rattle.std.specs.Prelude.{◌≡◌, ℕ, List, Option, option_map, IfOk, IfErr};
+ghost use Rattle.std.specs.Prelude.{◌≡◌, ℕ, List, Option, true, option_map, IfOk, IfErr};
 ghost use Rattle.std.specs.Option.{option_copied};
 ghost use Rattle.cs_tree.specs.Clean.{longest_path};
 ghost use Rattle.cs_tree.specs.Walks.{RequestsWithin};
@@ -79,6 +79,8 @@ pub fn cindex_stored<S: Store, T: Tree, O: Sink, E: Sink>(
         IsWholeStepTo job.now (job_tree T.snapshot T.failed tree.old tree.new) update
         (state O.model O.failed E.model E.failed index out.old err.old)
         (outputs O.model O.failed E.model E.failed out.new err.new)) }
+    ensures lists { job.now.list ≡ true →
+        IfOk result (λ update. IfOk update (λ kept. kept ≡ IndexUpdate.Keep)) }
     ensures unread { IfErr result (λ _.
         IsUnread job.now (job_tree T.snapshot T.failed tree.old tree.new)
         (IsIndex S.model old.old)
@@ -122,6 +124,8 @@ fn update_of<S: Store, T: Tree, O: Sink, E: Sink>(
         IsStepTo job.now (job_tree T.snapshot T.failed tree.old tree.new) update
         (state O.model O.failed E.model E.failed index out.old err.old)
         (outputs O.model O.failed E.model E.failed out.new err.new)) }
+    ensures lists { job.now.list ≡ true →
+        IfOk result (λ update. IfOk update (λ kept. kept ≡ IndexUpdate.Keep)) }
     ensures unread { IfErr result (λ _.
         IsUnread job.now (job_tree T.snapshot T.failed tree.old tree.new)
         (IsIndex S.model old.old)

@@ -11,7 +11,6 @@ use Rattle.cs_tree.specs.Snapshot.{Snapshot}
 use Rattle.cs_tree.specs.Sinks.{Grows, SinkModel}
 use Rattle.cs_index.specs.Opening.{opening}
 use Rattle.cs_index.specs.Stored.{OpensAs, StoredParts}
-use Rattle.cs_index.specs.ValidSections.{read_split}
 use Rattle.cs_index.specs.OpenedParts.{Parts}
 use Rattle.cs_index.specs.declared.fault.IndexFault.{IndexFault}
 use Rattle.cs_args.specs.declared.jobs.IndexJob.{IndexJob}
@@ -30,6 +29,7 @@ use Rattle.cs_args.specs.declared.fault.CindexFault.TheVariants.{NoIndex, BadInd
 use Rattle.cs_cindex.specs.Output.{JobTree, Output, index_lines, path_lines, paths_lines, AreTooMany, IsMidway, WalkPrints, WalkPrintsPrefix, WalkPrintsSome, JobPrintsBy, is_failed_write}
 use Rattle.cs_tree.proofs.PrefixLemmas.{prefix_none, prefix_left, prefix_right}
 use Rattle.cs_tree.proofs.GrowsLemmas.{Grows-same}
+use Rattle.cs_cindex.proofs.StoredIndexLemmas.{stands_open}
 use Rattle.cs_cindex.proofs.WalkedPathLemmas.{walk_as_set, count_texts}
 
 -- ---- diagnostics of walks
@@ -155,8 +155,7 @@ lines_end done all rest a b e h g = subst (Grows a b) (sym (append-nil done) ∙
 
 module _ (bytes : List ℕ) (stored : StoredParts) (opens : OpensAs bytes (Ok stored)) where
   opens_there : opening bytes ≡ Ok opens.0
-  unfolding opening
-  opens_there = ap read_split opens.1.split ∙ opens.1.read
+  opens_there = stands_open bytes stored opens.0 opens.1
 
   pub stored_lines : index_lines (Some bytes) ≡ path_lines stored.paths
   stored_lines = ap paths_lines opens_there ∙ ap path_lines (sym opens.1.paths)

@@ -5,6 +5,7 @@ mod WalkIndexLemmas
 mod WalkNameLemmas
 mod WalkedPathLemmas
 mod WalkOutputLemmas
+mod StoredIndexLemmas
 mod JobOutputLemmas
 mod JobPathLemmas
 mod DiagnosticLemmas

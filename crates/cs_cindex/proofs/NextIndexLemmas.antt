@@ -54,12 +54,8 @@ own_index job tree old paths bytes e index built short = record {
 }
 
 -- it has reduced paths
-pub reduced_index : (job : IndexJob) (old : Option (List ℕ)) (paths : Paths) (bytes : List ℕ) → paths ≡ paths_of_job job old → IsIndex paths bytes → length bytes < 2 ^ 32 → IsReducedIndex bytes
-reduced_index job old paths bytes e index short = record {
-  paths = cond (has_no_path job) (base_paths old) (given_paths job);
-  index = subst (λ ps. IsIndex ps bytes) e index;
-  short = short;
-}
+pub reduced_index : (paths start : Paths) (bytes : List ℕ) → paths ≡ least start → IsIndex paths bytes → length bytes < 2 ^ 32 → IsReducedIndex bytes
+reduced_index paths start bytes e index short = record { paths = start; index = subst (λ ps. IsIndex ps bytes) e index; short = short }
 
 pub next_new : (job : IndexJob) (tree : Option Snapshot) (bytes : List ℕ) → IsOwnIndex job tree None bytes → IsNext job tree None (Some bytes)
 next_new job tree bytes own = record { own = bytes; own_is = own; whole = tt; is = refl; short = own.short }

@@ -1,19 +1,16 @@
 -- A walk that covers the base index replaces it.
-use Rattle.std.proofs.Common.{◌≡◌, ◌∙◌, ℕ, true, false, refl, List, Ok, Err, Result, sym, ap, subst}
+use Rattle.std.proofs.Common.{◌≡◌, ◌∙◌, ℕ, true, List, Ok, Result, sym, ap, subst}
 use Rattle.std.proofs.lemmas.Bool.{and_from}
 use Rattle.cs_tree.specs.Folders.{are_distinct}
 use Rattle.cs_tree.specs.Cover.{least}
-use Rattle.cs_index.specs.Encoding.{Files, encoding}
+use Rattle.cs_index.specs.Encoding.{encoding}
 use Rattle.cs_index.specs.Opening.{opening}
-use Rattle.cs_index.specs.OpenedParts.{Parts, are_whole, paths_in, files_in}
+use Rattle.cs_index.specs.OpenedParts.{Parts, are_whole, paths_in}
 use Rattle.cs_index.specs.declared.fault.IndexFault.{IndexFault}
-use Rattle.cs_merge.specs.Mergeable.{merge_index}
 use Rattle.cs_merge.specs.Replacing.{is_replaced}
 use Rattle.cs_merge.proofs.ReplacedLemmas.{index_replaced}
 use Rattle.cs_history.proofs.HistoryLemmas.{least_twice}
-use Rattle.cs_index.specs.declared.fault.IndexFault.TheVariants.{BadList}
-use Rattle.cs_args.specs.declared.fault.CindexFault.TheVariants.{BadIndex}
-use Rattle.cs_cindex.specs.Merges.{IsMergeRefusal, MergesTo}
+use Rattle.cs_cindex.specs.Merges.{MergesTo}
 use Rattle.cs_cindex.specs.Next.{IsReducedIndex}
 use Rattle.cs_cindex.proofs.OldIndexLemmas.{OpensWith, opened_encoding}
 
@@ -28,6 +25,3 @@ replaced_merges old newer bytes once walk opens replaced whole =
       walk.index.is
           ∙ sym (index_replaced old newer replaced ∙ (λ i. encoding (least (has.paths_are i)) (has.files_are i)) ∙ ap (λ ps. encoding ps walk.index.files) (least_twice walk.paths)),
     )
-
-pub damage_refuses : (old : Parts) (bytes : List ℕ) → are_whole old ≡ false → IsMergeRefusal old (opening bytes) (BadIndex BadList)
-damage_refuses old bytes damaged = λ sound. (refl, damaged)

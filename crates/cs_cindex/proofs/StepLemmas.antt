@@ -1,9 +1,8 @@
 -- The step of one job, from the clauses of its parts.
-use Rattle.std.proofs.Common.{◌≡◌, ℕ, ◌&&◌, Bool, true, false, cond, List, [], ◌∷◌, length, refl, sym, ap, subst, ◌∙◌, inl, inr, arith, Option, Some, None, Result, Vec, Bor}
+use Rattle.std.proofs.Common.{◌≡◌, ℕ, ◌&&◌, Bool, true, false, cond, List, [], ◌∷◌, length, refl, sym, ap, subst, ◌∙◌, inl, inr, arith, Option, Some, None}
 use Rattle.cs_tree.specs.Transfers.{is_io_failure}
 use Rattle.std.specs.Prelude.{string_bytes}
 use Rattle.cs_tree.specs.Cleaning.{clean_fault}
-use Rattle.std.specs.declared.alloc.Global.{Global}
 use Rattle.std.specs.List.{AllByRecursion}
 use Rattle.std.proofs.lemmas.Bool.{true≢false, eqb-true}
 use Rattle.std.proofs.lemmas.List.{length-map}
@@ -14,7 +13,6 @@ use Rattle.cs_tree.specs.declared.fault.IoFault.{IoFault}
 use Rattle.cs_tree.specs.declared.fault.IoFault.TheVariants as io
 use Rattle.cs_args.specs.Faults.{write_refusal}
 use Rattle.cs_args.specs.declared.jobs.IndexJob.{IndexJob}
-use Rattle.cs_args.specs.declared.jobs.Reply.{Reply}
 use Rattle.cs_args.specs.declared.jobs.Reply.TheVariants.{Done, Refused}
 use Rattle.cs_args.specs.declared.fault.CindexFault.{CindexFault}
 use Rattle.cs_history.specs.History.{nothing, ◌⊳◌, index_of}
@@ -22,15 +20,11 @@ use Rattle.cs_history.specs.Jobs.{given_texts, has_no_path, update_of}
 use Rattle.cs_history.specs.Premises.{modelled_snapshot}
 use Rattle.cs_history.specs.Headline.{Indexes}
 use Rattle.cs_history.specs.JobKinds.{JobKind, lists, clears, walks, job_kind}
-use Rattle.std.specs.Option.{option_copied}
 use Rattle.cs_tree.specs.TakesPrefix.{TakesPrefix, MayEnd}
 use Rattle.cs_cindex.specs.Next.{IsNext}
 use Rattle.cs_cindex.specs.Output.{JobTree, IsSilent, JobPrintsBy, WalkPrints, WalkPrintsSome, index_lines, list_lines, is_failed_write}
 use Rattle.cs_cindex.specs.Refusals.{base, list_fault, early_walk_fault, early_fault_of, IsOutputFault, IsWalkFault, IsLateFault, EarlyOr}
-use Rattle.cs_cindex.specs.Bytes.{index_bytes}
 use Rattle.cs_cindex.specs.Steps.{Outputs, State, IsStep, IsWholeStep}
-use Rattle.cs_cindex.specs.declared.outcome.Outcome.{Outcome}
-use Rattle.cs_cindex.specs.Outcomes.{IsWholeStepTo, index_from, reply_of}
 use Rattle.cs_tree.proofs.PrefixLemmas.{prefix_none, prefix_all}
 use Rattle.cs_tree.proofs.GrowsLemmas.{Grows-same}
 use Rattle.cs_cindex.proofs.JobOutputLemmas.{prints_refused}
@@ -216,9 +210,3 @@ module _ (job : IndexJob) (tree : JobTree) (old : State) (index : Option (List �
     err_unflushed o e out err = unflushed (counts_err (is_failed_write (write_refusal why)) old.outputs.out.failed later.out.failed old.outputs.err.failed later.err.failed
         (o ∙ done.writes.0) (e ∙ ap (λ b. count_if b mid.err.failed) (is_write why) ∙ ap (count_if (is_failed_write (write_refusal why))) done.writes.1))
         (inr out) err
-
--- ---- the new index
-
-pub step_finished : (job : IndexJob) (tree : JobTree) (old : Option (Vec ℕ Global)) (borrowed : Option (Bor (List ℕ))) (before later : Outputs) (outcome : Result Outcome CindexFault) (index : Option (List ℕ)) (reply : Reply) → option_copied borrowed ≡ index_bytes old → IsWholeStepTo job tree outcome (record { index = option_copied borrowed; outputs = before }) later → index ≡ index_from (index_bytes old) outcome → reply ≡ reply_of outcome → IsWholeStep job tree reply (record { index = index_bytes old; outputs = before }) (record { index = index; outputs = later })
-step_finished job tree old borrowed before later outcome index reply same step e f =
-    rw (e, f) (subst (λ bytes. IsWholeStepTo job tree outcome (record { index = bytes; outputs = before }) later) same step)

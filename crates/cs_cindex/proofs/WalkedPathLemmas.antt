@@ -1,15 +1,12 @@
 -- The paths that a job walks, and what the walk gives.
-use Rattle.std.proofs.Common.{◌≡◌, ◌≢◌, ℕ, ◌<◌, ◌^◌, Bool, true, false, cond, not, List, [], ◌∷◌, length, map, refl, sym, ap, subst, ◌∙◌, Some, None, Result, Ok, Err}
+use Rattle.std.proofs.Common.{◌≡◌, ◌≢◌, ℕ, ◌<◌, ◌^◌, true, List, [], ◌∷◌, length, map, sym, ap, subst, ◌∙◌, Result, Ok, Err}
 use Rattle.cs_tree.specs.PathSet.{Paths}
-use Rattle.cs_tree.specs.Folders.{are_distinct}
 use Rattle.std.specs.Prelude.{String, string_bytes}
 use Rattle.std.specs.declared.alloc.Global.{Global}
 use Rattle.std.proofs.lemmas.Bool.{and_parts}
 use Rattle.std.specs.List.{AllByRecursion, list_all}
 use Rattle.cs_index.specs.Built.{is_storable, are_paths}
-use Rattle.cs_index.specs.declared.fault.IndexFault.TheVariants.{BadPaths}
 use Rattle.cs_tree.specs.Cleaning.{is_normalized}
-use Rattle.cs_cindex.specs.Refusals.{unfit_parts_fault}
 use Rattle.std.proofs.lemmas.List.{length-map}
 use Rattle.cs_tree.specs.PathSet as set
 use Rattle.cs_tree.specs.Cover.{least}
@@ -20,7 +17,6 @@ use Rattle.cs_index.specs.OpenedParts.{Parts}
 use Rattle.cs_index.specs.declared.fault.IndexFault.{IndexFault}
 use Rattle.cs_merge.proofs.DecodedContentLemmas.{from_list_all}
 use Rattle.cs_args.specs.declared.jobs.IndexJob.{IndexJob}
-use Rattle.cs_args.specs.declared.fault.CindexFault.TheVariants.{BadIndex, Unsorted}
 use Rattle.cs_history.specs.Jobs.{given_texts}
 use Rattle.cs_history.proofs.JobLemmas.{given_clean}
 use Rattle.std.specs.Result.{IsOkAnd}
@@ -50,23 +46,14 @@ given_storable job ts clean path member =
 pub own_paths : (job : IndexJob) (ts paths : List (List ℕ)) → AreCleaned job ts → paths ≡ set.items (least (set.from_list ts)) → are_paths paths ≡ true
 own_paths job ts paths clean e = subst (λ ps. are_paths ps ≡ true) (sym e) (reduced_paths (set.from_list ts) (given_storable job ts clean))
 
--- what holds of a base index
-none_of : (a b : Bool) → cond (not a) (Some (BadIndex BadPaths)) (cond (not b) (Some Unsorted) None) ≡ None → (a ≡ true) × (b ≡ true)
-none_of true true e = (refl, refl)
-none_of true false e = cc
-none_of false b e = cc
-
-pub base_fits : (parts : Parts) → unfit_parts_fault parts ≡ None → (list_all is_normalized parts.paths ≡ true) × (are_distinct parts.names ≡ true)
-base_fits parts e = none_of (list_all is_normalized parts.paths) (are_distinct parts.names) e
-
 each_normalized : (ps : List (List ℕ)) → list_all is_normalized ps ≡ true → AllByRecursion (λ p. is_storable p ≡ true) ps
 each_normalized [] h = tt
 each_normalized (p ∷ ps) h = let both = and_parts (is_normalized p) (list_all is_normalized ps) h in (normalized_storable p both.0, each_normalized ps both.1)
 
-pub start_paths : (job : IndexJob) (parts : Parts) (ts paths : List (List ℕ)) → AreCleaned job ts → unfit_parts_fault parts ≡ None → paths ≡ set.items (least (set.from_list (starts ts parts.paths))) → are_paths paths ≡ true
-start_paths job parts [] paths clean good e =
-    subst (λ ps. are_paths ps ≡ true) (sym e) (reduced_paths (set.from_list parts.paths) (from_list_all (λ p. is_storable p ≡ true) parts.paths (each_normalized parts.paths (base_fits parts good).0)))
-start_paths job parts (t ∷ ts) paths clean good e = own_paths job (t ∷ ts) paths clean e
+pub start_paths : (job : IndexJob) (recorded ts paths : List (List ℕ)) → AreCleaned job ts → list_all is_normalized recorded ≡ true → paths ≡ set.items (least (set.from_list (starts ts recorded))) → are_paths paths ≡ true
+start_paths job recorded [] paths clean good e =
+    subst (λ ps. are_paths ps ≡ true) (sym e) (reduced_paths (set.from_list recorded) (from_list_all (λ p. is_storable p ≡ true) recorded (each_normalized recorded good)))
+start_paths job recorded (t ∷ ts) paths clean good e = own_paths job (t ∷ ts) paths clean e
 
 -- ---- in terms of the calls
 

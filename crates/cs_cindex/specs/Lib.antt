@@ -1,4 +1,5 @@
 -- Definitions that public contracts cite.
+pub use Rattle.cs_storage.specs.FileAfter
 pub use Rattle.cs_index.specs.Stored
 pub use Rattle.cs_history.specs.Headline
 pub use Rattle.cs_history.specs.Jobs
@@ -10,6 +11,7 @@ pub mod Next
 pub mod Refusals
 pub mod Output
 pub mod Steps
+pub mod OldIndex
 -- Definitions that private contracts cite.
 pub mod Verdicts
 pub mod Files

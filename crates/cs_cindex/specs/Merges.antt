@@ -11,12 +11,18 @@ use Rattle.cs_merge.specs.declared.fault.MergeFault.{MergeFault}
 use Rattle.cs_merge.specs.declared.fault.MergeFault.TheVariants as merge
 use Rattle.cs_merge.specs.Mergeable.{merge_index, AreMergeable}
 use Rattle.cs_history.specs.WellFormed.{IsMergeable}
+use Rattle.cs_history.specs.Premises.{IsShort}
 use Rattle.cs_history.specs.Replies.{IsLong}
 
 -- the newer index opens and can be merged with the old one, and `bytes` is the merged index
 abbrev pub MergesTo : Parts → Result Parts IndexFault → List ℕ → Type 0
 MergesTo old opening bytes =
     IsOkAnd opening (λ newer. AreMergeable old newer × (bytes ≡ merge_index old newer))
+
+-- it has fewer than 2^32 bytes
+pub record MergesShort (old : Parts) (newer : Result Parts IndexFault) (bytes : List ℕ) : Type 0 where
+  pub merges : MergesTo old newer bytes
+  pub short : IsShort (Some bytes)
 
 -- why the two cannot be merged
 abbrev pub IsMergeRefusal : Parts → Result Parts IndexFault → CindexFault → Type 0

@@ -1,12 +1,12 @@
 -- Inside a job: its reply, the index after it, and what it printed.
-use Rattle.std.specs.Prelude.{◌≡◌, ℕ, List, [], ◌∷◌, Option, Some, None, Result, Ok, Err, MatchResult}
+use Rattle.std.specs.Prelude.{◌≡◌, ℕ, List, [], ◌∷◌, Option, None, Result, Ok, Err, MatchResult}
 use Rattle.cs_tree.specs.Snapshot.{Snapshot}
 use Rattle.cs_args.specs.declared.jobs.Reply.{Reply}
 use Rattle.cs_args.specs.declared.jobs.Reply.TheVariants.{Done, Refused}
 use Rattle.cs_args.specs.declared.jobs.IndexJob.{IndexJob}
 use Rattle.cs_args.specs.declared.fault.CindexFault.{CindexFault}
-use Rattle.cs_cindex.specs.declared.outcome.Outcome.{Outcome}
-use Rattle.cs_cindex.specs.declared.outcome.Outcome.TheVariants.{Kept, Gone, Index}
+use Rattle.cs_storage.specs.FileAfter.{file_after}
+use Rattle.cs_storage.specs.declared.update.IndexUpdate.{IndexUpdate}
 use Rattle.cs_history.specs.History.{History}
 use Rattle.cs_history.specs.Premises.{modelled_snapshot, Premises}
 use Rattle.cs_history.specs.Replies.{IsRightReply}
@@ -16,31 +16,25 @@ use Rattle.cs_cindex.specs.Steps.{Outputs, State, IsStep, IsWholeStep}
 
 -- ---- the index
 
--- the index after the job
-abbrev pub index_after : Option (List ℕ) → Outcome → Option (List ℕ)
-index_after old Kept = old
-index_after old Gone = None
-index_after old (Index bytes) = Some bytes.items
-
--- a job that fails leaves the old index
-abbrev pub index_from : Option (List ℕ) → Result Outcome CindexFault → Option (List ℕ)
-index_from old (Ok outcome) = index_after old outcome
+-- the index after the job; a job that fails leaves the old one
+abbrev pub index_from : Option (List ℕ) → Result IndexUpdate CindexFault → Option (List ℕ)
+index_from old (Ok update) = file_after update old
 index_from old (Err fault) = old
 
 abbrev pub reply_of : {A : Type 0} → Result A CindexFault → Reply
 reply_of (Ok answer) = Done
 reply_of (Err fault) = Refused fault
 
--- the job has done its step, with the index and the reply of this outcome
-abbrev pub IsStepTo : IndexJob → JobTree → Result Outcome CindexFault → State → Outputs → Type 0
-IsStepTo job tree outcome old later =
-    IsStep job tree (reply_of outcome) old (record { index = index_from old.index outcome; outputs = later })
+-- the job has done its step, with the index and the reply of this update
+abbrev pub IsStepTo : IndexJob → JobTree → Result IndexUpdate CindexFault → State → Outputs → Type 0
+IsStepTo job tree update old later =
+    IsStep job tree (reply_of update) old (record { index = index_from old.index update; outputs = later })
 
 -- the same, including its flushes
-abbrev pub IsWholeStepTo : IndexJob → JobTree → Result Outcome CindexFault → State → Outputs → Type 0
-IsWholeStepTo job tree outcome old later =
-    IsWholeStep job tree (reply_of outcome) old
-    (record { index = index_from old.index outcome; outputs = later })
+abbrev pub IsWholeStepTo : IndexJob → JobTree → Result IndexUpdate CindexFault → State → Outputs → Type 0
+IsWholeStepTo job tree update old later =
+    IsWholeStep job tree (reply_of update) old
+    (record { index = index_from old.index update; outputs = later })
 
 -- ---- the reply
 

@@ -111,6 +111,15 @@ WalkPrintsSome None fault job tree old err later =
     ⊎ (IsMidway fault tree.snapshot (paths_of_job job old) err later × WalkPrintsPrefix job tree old err later)
 WalkPrintsSome (Some early) fault job tree old err later = IsSilent tree err later
 
+-- A read of the old index that fails comes before the walk, and nothing was printed, or after it, and all of its
+-- diagnostics were printed.
+pub data UnreadPrints (job : IndexJob) (tree : JobTree) (IsOld : Option (List ℕ) → Type 0) (err later : Output) : Type 0 where
+  before : IsSilent tree err later → UnreadPrints job tree IsOld err later
+  after :
+      (paths : Paths) → ((old : Option (List ℕ)) → IsOld old → paths ≡ paths_of_job job old) →
+      PrintsLines job.log_skip tree.snapshot paths tree.failed tree.failed_then err.model later.model →
+      UnreadPrints job tree IsOld err later
+
 -- the diagnostics of a job that walks, by its reply
 abbrev pub WalkPrintsBy : Reply → IndexJob → JobTree → Option (List ℕ) → Output → Output → Type 0
 WalkPrintsBy Done job tree old err later = WalkPrints job tree old err later

@@ -10,7 +10,7 @@ use Rattle.cs_args.specs.declared.jobs.Reply.{Reply}
 use Rattle.cs_args.specs.declared.jobs.Reply.TheVariants.{Done, Refused}
 use Rattle.cs_cindex.specs.Next.{IsNext}
 use Rattle.cs_cindex.specs.Refusals.{HasCause, base}
-use Rattle.cs_cindex.specs.Output.{JobTree, Output, job_tree, output, WritesBy, JobPrintsBy, list_lines, is_write_refusal}
+use Rattle.cs_cindex.specs.Output.{JobTree, Output, job_tree, output, WritesBy, JobPrintsBy, UnreadPrints, IsSilent, list_lines, is_write_refusal}
 use Rattle.cs_history.specs.History.{History}
 use Rattle.cs_history.specs.Jobs.{has_no_path}
 use Rattle.cs_history.specs.Premises.{modelled_snapshot, Premises}
@@ -88,6 +88,15 @@ pub record IsWholeStep (job : IndexJob) (tree : JobTree) (reply : Reply) (old ne
   pub flushes : FlushesBy reply printed new.outputs
   pub out_failed : new.outputs.out.failed ≡ printed.out.failed
   pub err_failed : new.outputs.err.failed ≡ printed.err.failed
+
+-- A job ends because a read of the old index failed; `-reset` reads none. Only a job that walks has printed anything,
+-- and no write failed.
+pub record IsUnread (job : IndexJob) (tree : JobTree) (IsOld : Option (List ℕ) → Type 0) (old new : Outputs) : Type 0 where
+  pub reads : job.list ≡ false → job.reset ≡ false
+  pub out : Grows old.out.model new.out.model []
+  pub err : UnreadPrints job tree IsOld old.err new.err
+  pub listed : job.list ≡ true → IsSilent tree old.err new.err
+  pub writes : CountsOne false old.out.failed new.out.failed old.err.failed new.err.failed
 
 -- A job that succeeds has flushed both outputs after everything that it printed.
 abbrev pub LeavesFlushed : Reply → Outputs → Type 0

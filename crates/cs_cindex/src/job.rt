@@ -1,22 +1,24 @@
 // One job.
-ghost use Rattle.std.specs.Prelude.{◌≡◌};
-ghost use Rattle.cs_cindex.specs.Bytes.{index_bytes};
+ghost use Rattle.std.specs.Prelude.{◌≡◌, ℕ, List, Option, true, option_map, IfOk, IfErr};
 ghost use Rattle.std.specs.Option.{option_copied};
 ghost use Rattle.cs_tree.specs.Clean.{longest_path};
 ghost use Rattle.cs_tree.specs.Walks.{RequestsWithin};
-ghost use Rattle.cs_cindex.specs.Outcomes.{IsStepTo, IsWholeStepTo, RightAfter};
-ghost use Rattle.cs_history.specs.Jobs.{HasAbsoluteFolder};
+ghost use Rattle.cs_cindex.specs.Bytes.{index_bytes};
+ghost use Rattle.cs_cindex.specs.OldIndex.{IsIndex, IsUnreadable, has_failed};
+ghost use Rattle.cs_cindex.specs.Outcomes.{IsStepTo, IsWholeStepTo, RightAfter, reply_of};
 ghost use Rattle.cs_cindex.specs.Output.{job_tree};
-ghost use Rattle.cs_cindex.specs.Steps.{IsWholeStep, outputs, state};
+ghost use Rattle.cs_cindex.specs.Steps.{IsUnread, IsWholeStep, outputs, state};
+ghost use Rattle.cs_history.specs.Jobs.{HasAbsoluteFolder};
 
-use crate::listing::list_paths;
-use crate::outcome::{Outcome, index_and_reply};
+use crate::listing::list_old;
+use crate::outcome::index_and_reply;
 use crate::walked::walked_index;
 use cs_args::{CindexFault, IndexJob, Reply};
-use cs_tree::{Sink, Tree};
+use cs_storage::IndexUpdate;
+use cs_tree::{IoFault, MemStore, Sink, Store, Tree};
 use std::alloc::Global;
 
-/// Runs a job, and returns the index after it and its reply.
+/// Runs a job over the bytes of the old index, and returns the index after it and its reply.
 pub(crate) fn do_job<T: Tree, O: Sink, E: Sink>(
     alloc: Global,
     old: Option<Vec<u8>>,
@@ -36,63 +38,120 @@ pub(crate) fn do_job<T: Tree, O: Sink, E: Sink>(
         (T.longest_requested tree.new) }
     ensures tree_keeps { T.snapshot tree.new ≡ T.snapshot tree.old }
 {
-    let outcome = complete_job(alloc, old.as_deref(), job, tree, out, err);
-    index_and_reply(old, outcome)
+    let mut store = stored(old.as_deref());
+    match cindex_stored(alloc, &mut store, job, tree, out, err) {
+        Ok(update) => index_and_reply(old, update),
+        // No read of a store in memory fails.
+        Err(_) => unreachable!(),
+    }
 }
 
-/// The change of the index by a job. At the end the outputs are flushed, before the new bytes are kept.
-fn complete_job<T: Tree, O: Sink, E: Sink>(
+/// A store of the bytes of an index, if there is one.
+fn stored<'a>(old: Option<&'a [u8]>) -> Option<MemStore<'a>>
+    ensures { IsIndex ⟦<MemStore<'a> as Store>⟧.model result (option_copied old.entry) }
+{
+    match old {
+        Some(bytes) => Some(MemStore::new(bytes, usize::MAX)),
+        None => None,
+    }
+}
+
+/// Runs a job as `cindex` does, over an old index in a store, of which only the paths, the names and the tables are in
+/// memory. Each of its posting lists is read once, after the walk; `-list` and `-reset` read none.
+///
+/// # Errors
+///
+/// The outer result is that of the store. If a read of it fails, nothing was printed, or all diagnostics of the walk; the
+/// outputs are not flushed then.
+pub fn cindex_stored<S: Store, T: Tree, O: Sink, E: Sink>(
     alloc: Global,
-    old: Option<&[u8]>,
+    old: &mut Option<S>,
     job: &IndexJob,
     tree: &mut T,
     out: &mut O,
     err: &mut E,
-) -> Result<Outcome, CindexFault>
+) -> Result<Result<IndexUpdate, CindexFault>, IoFault>
     requires { HasAbsoluteFolder job.now }
-    ensures step { IsWholeStepTo job.now (job_tree T.snapshot T.failed tree.old tree.new) result
-        (state O.model O.failed E.model E.failed
-        (option_copied old.entry) out.old err.old)
-        (outputs O.model O.failed E.model E.failed out.new err.new) }
+    ensures replies { (index : Option (List ℕ)) → IsIndex S.model old.old index →
+        IfOk result (λ update. RightAfter (T.snapshot tree.old) index job.now (reply_of update)) }
+    ensures step { (index : Option (List ℕ)) → IsIndex S.model old.old index →
+        IfOk result (λ update.
+        IsWholeStepTo job.now (job_tree T.snapshot T.failed tree.old tree.new) update
+        (state O.model O.failed E.model E.failed index out.old err.old)
+        (outputs O.model O.failed E.model E.failed out.new err.new)) }
+    ensures lists { job.now.list ≡ true →
+        IfOk result (λ update. IfOk update (λ kept. kept ≡ IndexUpdate.Keep)) }
+    ensures unread { IfErr result (λ _.
+        IsUnread job.now (job_tree T.snapshot T.failed tree.old tree.new)
+        (IsIndex S.model old.old)
+        (outputs O.model O.failed E.model E.failed out.old err.old)
+        (outputs O.model O.failed E.model E.failed out.new err.new)) }
+    ensures failure { IfErr result (λ fault. fault ≡ IoFault.Failed) }
+    ensures failed { IsUnreadable S.failed old.old old.new (has_failed result) }
+    ensures keeps { option_map S.model old.new ≡ option_map S.model old.old }
+    ensures size { option_map S.size old.new ≡ option_map S.size old.old }
     ensures requested { RequestsWithin longest_path (T.longest_requested tree.old)
         (T.longest_requested tree.new) }
     ensures tree_keeps { T.snapshot tree.new ≡ T.snapshot tree.old }
 {
-    let outcome = outcome_of(alloc, old, job, tree, out, err)?;
-    out.flush()?;
-    err.flush()?;
-    Ok(outcome)
+    let update = match update_of(alloc, old, job, tree, out, err) {
+        Ok(Ok(update)) => update,
+        Ok(Err(fault)) => return Ok(Err(fault)),
+        Err(fault) => return Err(fault),
+    };
+    // At the end the outputs are flushed, before the new bytes are kept.
+    if let Err(fault) = out.flush() {
+        return Ok(Err(CindexFault::from(fault)));
+    }
+    if let Err(fault) = err.flush() {
+        return Ok(Err(CindexFault::from(fault)));
+    }
+    Ok(Ok(update))
 }
 
 /// The change of the index by a job, before the outputs are flushed.
-fn outcome_of<T: Tree, O: Sink, E: Sink>(
+fn update_of<S: Store, T: Tree, O: Sink, E: Sink>(
     alloc: Global,
-    old: Option<&[u8]>,
+    old: &mut Option<S>,
     job: &IndexJob,
     tree: &mut T,
     out: &mut O,
     err: &mut E,
-) -> Result<Outcome, CindexFault>
+) -> Result<Result<IndexUpdate, CindexFault>, IoFault>
     requires { HasAbsoluteFolder job.now }
-    ensures step { IsStepTo job.now (job_tree T.snapshot T.failed tree.old tree.new) result
-        (state O.model O.failed E.model E.failed
-        (option_copied old.entry) out.old err.old)
-        (outputs O.model O.failed E.model E.failed out.new err.new) }
+    ensures step { (index : Option (List ℕ)) → IsIndex S.model old.old index →
+        IfOk result (λ update.
+        IsStepTo job.now (job_tree T.snapshot T.failed tree.old tree.new) update
+        (state O.model O.failed E.model E.failed index out.old err.old)
+        (outputs O.model O.failed E.model E.failed out.new err.new)) }
+    ensures lists { job.now.list ≡ true →
+        IfOk result (λ update. IfOk update (λ kept. kept ≡ IndexUpdate.Keep)) }
+    ensures unread { IfErr result (λ _.
+        IsUnread job.now (job_tree T.snapshot T.failed tree.old tree.new)
+        (IsIndex S.model old.old)
+        (outputs O.model O.failed E.model E.failed out.old err.old)
+        (outputs O.model O.failed E.model E.failed out.new err.new)) }
+    ensures failure { IfErr result (λ fault. fault ≡ IoFault.Failed) }
+    ensures failed { IsUnreadable S.failed old.old old.new (has_failed result) }
+    ensures keeps { option_map S.model old.new ≡ option_map S.model old.old }
+    ensures size { option_map S.size old.new ≡ option_map S.size old.old }
     ensures requested { RequestsWithin longest_path (T.longest_requested tree.old)
         (T.longest_requested tree.new) }
     ensures tree_keeps { T.snapshot tree.new ≡ T.snapshot tree.old }
 {
     if job.list {
-        list_paths(old, out)?;
-        return Ok(Outcome::Kept);
+        return match list_old(alloc, old, out) {
+            Ok(Ok(())) => Ok(Ok(IndexUpdate::Keep)),
+            Ok(Err(fault)) => Ok(Err(fault)),
+            Err(fault) => Err(fault),
+        };
     }
-    if !job.reset {
-        let index = walked_index(alloc, old, job, tree, err)?;
-        return Ok(Outcome::Index(index));
+    if job.reset && job.paths.is_empty() {
+        return Ok(Ok(IndexUpdate::Remove));
     }
-    if job.paths.is_empty() {
-        return Ok(Outcome::Gone);
+    match walked_index(alloc, old, job, tree, err) {
+        Ok(Ok(index)) => Ok(Ok(IndexUpdate::Write(index))),
+        Ok(Err(fault)) => Ok(Err(fault)),
+        Err(fault) => Err(fault),
     }
-    let index = walked_index(alloc, None, job, tree, err)?;
-    Ok(Outcome::Index(index))
 }

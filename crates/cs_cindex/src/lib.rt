@@ -17,4 +17,5 @@ mod verdicts;
 mod walked;
 
 pub use cindexing::cindex;
+pub use job::cindex_stored;
 pub use listing::list_stored;

@@ -1,19 +1,20 @@
 // Lists the paths of an index.
-ghost use Rattle.std.specs.Prelude.{◌≡◌, ◌++◌, ℕ, List, Some, Err, codes, true, IfErr};
+ghost use Rattle.std.specs.Prelude.{◌≡◌, ◌++◌, ℕ, List, Option, Some, Err, codes, true, IfErr, IfOk, option_map};
 ghost use Rattle.cs_tree.specs.FailureCount.{count_after};
 ghost use Rattle.cs_tree.specs.WritesBytes.{WritesBytes};
 ghost use Rattle.cs_index.specs.Stored.{OpensAs};
 ghost use Rattle.cs_args.specs.Faults.{index_refusal};
 ghost use Rattle.cs_args.specs.declared.jobs.IndexJob.{IndexJob as IndexJob'};
-ghost use Rattle.std.specs.Option.{option_copied};
+ghost use Rattle.cs_cindex.specs.OldIndex.{IsIndex, IsUnreadable, has_failed};
 ghost use Rattle.cs_cindex.specs.Outcomes.{AnswersFor, reply_of};
 ghost use Rattle.cs_cindex.specs.Output.{JobTree, index_lines, output, path_lines, is_failed_write};
 ghost use Rattle.cs_cindex.specs.Refusals.{IsOutputFault, list_fault};
 ghost use Rattle.cs_cindex.specs.Steps.{IsWholeStep, LeavesFlushed, outputs, state};
 
 use cs_args::{CindexFault, Reply};
-use cs_index::{Index, IndexFault, StoredIndex, Texts};
-use cs_tree::{Sink, write_all};
+use cs_index::{IndexFault, StoredIndex, Texts};
+use cs_tree::{IoFault, Sink, Store, write_all};
+use std::alloc::Global;
 
 /// Runs a job of `-list` over a store, as `cindex` runs it over bytes; `opened` is what `StoredIndex::open` returned
 /// for the store. No posting list is read.
@@ -82,18 +83,34 @@ fn print_opened<O: Sink>(
     print_paths(index.paths(), out)
 }
 
-/// Prints each path of the index on a line.
-pub(crate) fn list_paths<O: Sink>(old: Option<&[u8]>, out: &mut O) -> Result<(), CindexFault>
-    ensures refusal { AnswersFor result (list_fault (option_copied old.entry)) IsOutputFault }
-    ensures out { WritesBytes (index_lines (option_copied old.entry))
-        (O.model out.old) (O.model out.new) result }
-    ensures writes { O.failed out.new ≡ count_after is_failed_write result (O.failed out.old) }
+/// Prints each path of the old index on a line. No posting list is read.
+pub(crate) fn list_old<S: Store, O: Sink>(
+    alloc: Global,
+    old: &mut Option<S>,
+    out: &mut O,
+) -> Result<Result<(), CindexFault>, IoFault>
+    ensures refusal { (index : Option (List ℕ)) → IsIndex S.model old.old index →
+        IfOk result (λ listed. AnswersFor listed (list_fault index) IsOutputFault) }
+    ensures out { (index : Option (List ℕ)) → IsIndex S.model old.old index →
+        IfOk result (λ listed.
+        WritesBytes (index_lines index) (O.model out.old) (O.model out.new) listed) }
+    ensures writes { IfOk result
+        (λ listed. O.failed out.new ≡ count_after is_failed_write listed (O.failed out.old)) }
+    ensures unread { IfErr result
+        (λ _. output O.model O.failed out.new ≡ output O.model O.failed out.old) }
+    ensures failure { IfErr result (λ fault. fault ≡ IoFault.Failed) }
+    ensures failed { IsUnreadable S.failed old.old old.new (has_failed result) }
+    ensures keeps { option_map S.model old.new ≡ option_map S.model old.old }
+    ensures size { option_map S.size old.new ≡ option_map S.size old.old }
 {
-    let Some(bytes) = old else {
-        return Err(CindexFault::NoIndex);
+    let Some(store) = old else {
+        return Ok(Err(CindexFault::NoIndex));
     };
-    let index = Index::open(bytes)?;
-    print_paths(index.paths(), out)
+    match StoredIndex::open(alloc, store) {
+        Ok(opened) => Ok(print_opened(opened, out)),
+        Err(IoFault::Memory) => Ok(Err(CindexFault::Memory)),
+        Err(IoFault::Failed) => Err(IoFault::Failed),
+    }
 }
 
 /// Prints each path on a line.

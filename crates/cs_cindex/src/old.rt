@@ -1,51 +1,83 @@
 // The base index: the index that a job updates.
-ghost use Rattle.std.specs.Prelude.{◌≡◌, false, map, string_bytes, IfErr, IfOk, MatchResult, Ok, None};
+ghost use Rattle.std.specs.Prelude.{◌≡◌, ℕ, List, Some, true, false, map, string_bytes, IfErr, IfOk, MatchResult, None};
 ghost use Rattle.std.specs.List.{list_all};
 ghost use Rattle.cs_index.specs.Opening.{opening};
+ghost use Rattle.cs_index.specs.StoredTables.{OpensAsTables, TablesIn};
+ghost use Rattle.cs_merge.specs.SortedNames.{AreIndexNames};
+ghost use Rattle.cs_tree.specs.FailureCount.{count_after};
 ghost use Rattle.cs_tree.specs.Folders.{are_distinct};
 ghost use Rattle.cs_tree.specs.Cleaning.{is_normalized as is_normalized'};
+ghost use Rattle.cs_tree.specs.Transfers.{is_io_failure};
+ghost use Rattle.cs_cindex.specs.OldIndex.{IsFit, IsFitFor};
 ghost use Rattle.cs_cindex.specs.Output.{is_failed_write};
 ghost use Rattle.cs_cindex.specs.Refusals.{opening_fault, unfit_parts_fault, EarlyOr, IsOutputFault};
 
 use cs_args::CindexFault;
-use cs_index::{Index, IndexFault};
-use cs_tree::is_normalized;
+use cs_index::{IndexFault, NameTable, StoredTables, Texts};
+use cs_tree::{IoFault, Store, is_normalized};
 use std::alloc::{AllocError, Global};
 
-/// Opens the bytes of a base index. It allocates only if the names do not ascend.
-pub(crate) fn open_old<'a>(alloc: Global, bytes: &'a [u8]) -> Result<Index<'a>, CindexFault>
-    ensures opened { MatchResult result
-        (λ index. (opening bytes.now ≡ Ok index) × (unfit_parts_fault index ≡ None))
-        (λ fault. EarlyOr (opening_fault unfit_parts_fault (opening bytes.now))
-        (IsOutputFault fault) fault) }
-    ensures writes { IfErr result (λ fault. is_failed_write fault ≡ false) }
+/// Opens a base index in a store. No posting list is read.
+pub(crate) fn open_old<S: Store>(
+    alloc: Global,
+    store: &mut S,
+) -> Result<Result<StoredTables, CindexFault>, IoFault>
+    ensures opened { (bytes : List ℕ) → S.model store.old ≡ Some bytes →
+        IfOk result (λ opened. MatchResult opened (IsFitFor bytes)
+        (λ fault. EarlyOr (opening_fault unfit_parts_fault (opening bytes)) (IsOutputFault fault) fault)) }
+    ensures fit { IfOk result (λ opened. IfOk opened IsFit) }
+    ensures writes { IfOk result (λ opened. IfErr opened (λ fault. is_failed_write fault ≡ false)) }
+    ensures failure { IfErr result (λ fault. fault ≡ IoFault.Failed) }
+    ensures keeps { S.model store.new ≡ S.model store.old }
+    ensures size { S.size store.new ≡ S.size store.old }
+    ensures failed { S.failed store.new ≡ count_after is_io_failure result (S.failed store.old) }
 {
-    let index = Index::open(bytes)?;
-    if !has_normalized_paths(&index) {
-        return Err(CindexFault::BadIndex(IndexFault::BadPaths));
+    match StoredTables::open(alloc, store) {
+        Ok(opened) => Ok(tested(alloc, opened)),
+        Err(IoFault::Memory) => Ok(Err(CindexFault::Memory)),
+        Err(IoFault::Failed) => Err(IoFault::Failed),
     }
-    if !has_distinct_names(alloc, &index)? {
-        return Err(CindexFault::Unsorted);
-    }
-    Ok(index)
 }
 
-/// Whether the names of the index are distinct. It allocates only if they do not ascend.
-fn has_distinct_names(alloc: Global, index: &Index<'_>) -> Result<bool, AllocError>
-    ensures { IfOk result (λ distinct. distinct ≡ are_distinct index.now.names) }
+/// The tables of an index that can be a base: its paths are normalized, and its names are distinct. Allocates only if the
+/// names do not ascend.
+fn tested(
+    alloc: Global,
+    opened: Result<StoredTables, IndexFault>,
+) -> Result<StoredTables, CindexFault>
+    ensures opened { (bytes : List ℕ) → OpensAsTables bytes opened → MatchResult result (IsFitFor bytes)
+        (λ fault. EarlyOr (opening_fault unfit_parts_fault (opening bytes)) (IsOutputFault fault) fault) }
+    ensures fit { IfOk result IsFit }
+    ensures writes { IfErr result (λ fault. is_failed_write fault ≡ false) }
 {
-    if index.in_order() {
+    let tables = opened?;
+    if !are_normalized(tables.paths()) {
+        return Err(CindexFault::BadIndex(IndexFault::BadPaths));
+    }
+    tables.are_valid();
+    if !are_distinct(alloc, tables.name_table())? {
+        return Err(CindexFault::Unsorted);
+    }
+    Ok(tables)
+}
+
+/// Whether the names are distinct. Allocates only if they do not ascend.
+fn are_distinct(alloc: Global, names: NameTable<'_>) -> Result<bool, AllocError>
+    requires { AreIndexNames names }
+    ensures { IfOk result (λ distinct. distinct ≡ are_distinct names.entry) }
+{
+    if names.in_order() {
         return Ok(true);
     }
-    let order = index.order(alloc)?;
+    let order = names.order(alloc)?;
     Ok(order.is_some())
 }
 
-/// Whether each path of the index is normalized.
-fn has_normalized_paths(index: &Index<'_>) -> bool
-    ensures { result ≡ list_all is_normalized' index.now.paths }
+/// Whether each path is normalized.
+fn are_normalized(paths: Texts<'_>) -> bool
+    ensures { result ≡ list_all is_normalized' paths.entry }
 {
-    'paths: for path in index.paths() {
+    'paths: for path in paths {
         if !is_normalized(path) {
             return false;
         }
@@ -53,13 +85,13 @@ fn has_normalized_paths(index: &Index<'_>) -> bool
     true
 }
 
-/// The paths of the index.
-pub(crate) fn recorded_paths(alloc: Global, index: &Index<'_>) -> Result<Vec<String>, AllocError>
-    ensures { IfOk result (λ paths. map string_bytes paths.items ≡ index.now.paths) }
+/// Copies of the paths.
+pub(crate) fn copied(alloc: Global, paths: Texts<'_>) -> Result<Vec<String>, AllocError>
+    ensures { IfOk result (λ copies. map string_bytes copies.items ≡ paths.entry) }
 {
-    let mut paths = Vec::new(alloc);
-    'paths: for path in index.paths() {
-        paths.push(String::from_str(alloc, path)?)?;
+    let mut copies = Vec::new(alloc);
+    'paths: for path in paths {
+        copies.push(String::from_str(alloc, path)?)?;
     }
-    Ok(paths)
+    Ok(copies)
 }

@@ -1,64 +1,72 @@
 // Jobs that walk.
-ghost use Rattle.std.specs.Prelude.{◌≡◌, true, Some, None, Ok, map, string_bytes, IfOk, IfErr};
+ghost use Rattle.std.specs.Prelude.{◌≡◌, ℕ, List, Option, false, true, Some, None, Ok, map, option_map, string_bytes, IfOk, IfErr, MatchResult};
 ghost use Rattle.cs_tree.specs.Clean.{longest_path};
-ghost use Rattle.cs_tree.specs.Folders.{are_distinct};
 ghost use Rattle.cs_tree.specs.Walks.{RequestsWithin};
 ghost use Rattle.cs_tree.specs.FailureCount.{count_after};
-ghost use Rattle.std.specs.Option.{option_copied};
+ghost use Rattle.cs_tree.specs.Transfers.{is_io_failure};
 ghost use Rattle.cs_tree.specs.PathSet as set;
 ghost use Rattle.cs_tree.specs.Cover.{least};
 ghost use Rattle.cs_index.specs.Opening.{opening};
-ghost use Rattle.cs_cindex.specs.Merges.{IsMergeRefusal, MergesTo, refusal_of};
+ghost use Rattle.cs_index.specs.OpenedParts.{Parts};
+ghost use Rattle.cs_index.specs.StoredTables.{TablesIn};
+ghost use Rattle.cs_cindex.specs.Merges.{IsMergeRefusal, MergesShort, refusal_of};
 ghost use Rattle.cs_cindex.specs.Next.{IsNext, IsReducedIndex};
-ghost use Rattle.cs_cindex.specs.Refusals.{IsWalkFault, base_fault, early_walk_fault};
-ghost use Rattle.cs_history.specs.Premises.{IsShort};
+ghost use Rattle.cs_cindex.specs.Refusals.{IsWalkFault, base, base_fault, early_walk_fault};
 ghost use Rattle.cs_history.specs.Jobs.{HasAbsoluteFolder};
-ghost use Rattle.cs_cindex.specs.Output.{is_failed_write, job_tree, output};
+ghost use Rattle.cs_cindex.specs.OldIndex.{IsFit, IsIndex, IsUnreadable, has_failed};
+ghost use Rattle.cs_cindex.specs.Output.{UnreadPrints, is_failed_write, job_tree, output};
 ghost use Rattle.cs_cindex.specs.Outcomes.{AnswersFor, WalkPrintsFor};
 ghost use Rattle.cs_cindex.specs.JobPaths.{AreCleaned, starts};
 
 use crate::cleaning::clean_all;
 use crate::indexing::index_paths;
-use crate::old::{open_old, recorded_paths};
+use crate::old::{copied, open_old};
 use cs_args::{CindexFault, IndexJob};
-use cs_index::{Index, IndexFault};
-use cs_merge::{MergeFault, is_replaced, is_whole, merge};
-use cs_tree::{Sink, Tree, reduce};
+use cs_index::{Index, IndexFault, StoredTables};
+use cs_merge::{MergeFault, is_replaced_stored, is_whole_stored, merge_stored};
+use cs_tree::{IoFault, Sink, Store, Tree, reduce};
 use std::alloc::{AllocError, Global};
 
-/// The index after a job that walks, over this base index.
-#[tactic(auto, using(crate::proofs::JobOutputLemmas::nothing_printed))]
-pub(crate) fn walked_index<T: Tree, E: Sink>(
+/// The index after a job that walks, over the old index, or over none with `-reset`.
+pub(crate) fn walked_index<S: Store, T: Tree, E: Sink>(
     alloc: Global,
-    old: Option<&[u8]>,
+    old: &mut Option<S>,
     job: &IndexJob,
     tree: &mut T,
     err: &mut E,
-) -> Result<Vec<u8>, CindexFault>
+) -> Result<Result<Vec<u8>, CindexFault>, IoFault>
     requires { HasAbsoluteFolder job.now }
-    ensures next { IfOk result
-        (λ index. IsNext job.now (T.snapshot tree.old) (option_copied old.entry)
-        (Some index.items)) }
-    ensures refusal { AnswersFor result (early_walk_fault job.now (option_copied old.entry))
-        (IsWalkFault job.now (T.snapshot tree.old) (option_copied old.entry)) }
-    ensures prints { WalkPrintsFor result (early_walk_fault job.now (option_copied old.entry))
-        job.now (job_tree T.snapshot T.failed tree.old tree.new) (option_copied old.entry)
-        (output E.model E.failed err.old) (output E.model E.failed err.new) }
-    ensures writes { E.failed err.new ≡ count_after is_failed_write result (E.failed err.old) }
+    ensures next { (index : Option (List ℕ)) → IsIndex S.model old.old index → IfOk result (λ walked.
+        IfOk walked (λ bytes. IsNext job.now (T.snapshot tree.old) (base job.now index)
+        (Some bytes.items))) }
+    ensures refusal { (index : Option (List ℕ)) → IsIndex S.model old.old index → IfOk result (λ walked.
+        AnswersFor walked (early_walk_fault job.now (base job.now index))
+        (IsWalkFault job.now (T.snapshot tree.old) (base job.now index))) }
+    ensures prints { (index : Option (List ℕ)) → IsIndex S.model old.old index → IfOk result (λ walked.
+        WalkPrintsFor walked (early_walk_fault job.now (base job.now index))
+        job.now (job_tree T.snapshot T.failed tree.old tree.new) (base job.now index)
+        (output E.model E.failed err.old) (output E.model E.failed err.new)) }
+    ensures writes { IfOk result
+        (λ walked. E.failed err.new ≡ count_after is_failed_write walked (E.failed err.old)) }
+    ensures unread { IfErr result (λ _. (job.now.reset ≡ false)
+        × UnreadPrints job.now (job_tree T.snapshot T.failed tree.old tree.new) (IsIndex S.model old.old)
+        (output E.model E.failed err.old) (output E.model E.failed err.new)
+        × (E.failed err.new ≡ E.failed err.old)) }
+    ensures failure { IfErr result (λ fault. fault ≡ IoFault.Failed) }
+    ensures failed { IsUnreadable S.failed old.old old.new (has_failed result) }
+    ensures keeps { option_map S.model old.new ≡ option_map S.model old.old }
+    ensures size { option_map S.size old.new ≡ option_map S.size old.old }
     ensures requested { RequestsWithin longest_path (T.longest_requested tree.old)
         (T.longest_requested tree.new) }
     ensures tree_keeps { T.snapshot tree.new ≡ T.snapshot tree.old }
 {
-    let given = clean_all(alloc, &job.cwd, &job.paths)?;
+    let given = match clean_all(alloc, &job.cwd, &job.paths) {
+        Ok(given) => given,
+        Err(fault) => return Ok(Err(fault)),
+    };
     match old {
-        None => {
-            let index = new_index(alloc, &given, job, tree, err)?;
-            Ok(index)
-        }
-        Some(bytes) => {
-            let index = extended_index(alloc, bytes, &given, job, tree, err)?;
-            Ok(index)
-        }
+        Some(store) if !job.reset => extended_index(alloc, store, &given, job, tree, err),
+        _ => Ok(new_index(alloc, &given, job, tree, err)),
     }
 }
 
@@ -94,83 +102,133 @@ fn new_index<T: Tree, E: Sink>(
 
 /// The base index, merged with what the job finds below its cleaned paths, or, if it has none, below those of the base
 /// index.
-#[tactic(auto, using(crate::proofs::JobOutputLemmas::nothing_printed))]
-fn extended_index<T: Tree, E: Sink>(
+fn extended_index<S: Store, T: Tree, E: Sink>(
     alloc: Global,
-    old: &[u8],
+    store: &mut S,
     given: &[String],
     job: &IndexJob,
     tree: &mut T,
     err: &mut E,
-) -> Result<Vec<u8>, CindexFault>
+) -> Result<Result<Vec<u8>, CindexFault>, IoFault>
     requires { AreCleaned job.now (map string_bytes given.now) }
-    ensures next { IfOk result
-        (λ index. IsNext job.now (T.snapshot tree.old) (Some old.now) (Some index.items)) }
-    ensures refusal { AnswersFor result (base_fault job.now (Some old.now))
-        (IsWalkFault job.now (T.snapshot tree.old) (Some old.now)) }
-    ensures prints { WalkPrintsFor result (base_fault job.now (Some old.now))
-        job.now (job_tree T.snapshot T.failed tree.old tree.new) (Some old.now)
-        (output E.model E.failed err.old) (output E.model E.failed err.new) }
-    ensures writes { E.failed err.new ≡ count_after is_failed_write result (E.failed err.old) }
+    ensures next { (old : List ℕ) → S.model store.old ≡ Some old → IfOk result (λ walked.
+        IfOk walked (λ index. IsNext job.now (T.snapshot tree.old) (Some old) (Some index.items))) }
+    ensures refusal { (old : List ℕ) → S.model store.old ≡ Some old → IfOk result (λ walked.
+        AnswersFor walked (base_fault job.now (Some old))
+        (IsWalkFault job.now (T.snapshot tree.old) (Some old))) }
+    ensures prints { (old : List ℕ) → S.model store.old ≡ Some old → IfOk result (λ walked.
+        WalkPrintsFor walked (base_fault job.now (Some old))
+        job.now (job_tree T.snapshot T.failed tree.old tree.new) (Some old)
+        (output E.model E.failed err.old) (output E.model E.failed err.new)) }
+    ensures writes { IfOk result
+        (λ walked. E.failed err.new ≡ count_after is_failed_write walked (E.failed err.old)) }
+    ensures unread { IfErr result (λ _.
+        UnreadPrints job.now (job_tree T.snapshot T.failed tree.old tree.new)
+        (IsIndex S.model (Some store.old))
+        (output E.model E.failed err.old) (output E.model E.failed err.new)
+        × (E.failed err.new ≡ E.failed err.old)) }
+    ensures failure { IfErr result (λ fault. fault ≡ IoFault.Failed) }
+    ensures keeps { S.model store.new ≡ S.model store.old }
+    ensures size { S.size store.new ≡ S.size store.old }
+    ensures failed { S.failed store.new ≡ count_after is_io_failure result (S.failed store.old) }
     ensures requested { RequestsWithin longest_path (T.longest_requested tree.old)
         (T.longest_requested tree.new) }
     ensures tree_keeps { T.snapshot tree.new ≡ T.snapshot tree.old }
 {
-    let index = open_old(alloc, old)?;
-    let paths = paths_to_walk(alloc, &index, given)?;
-    let newer = index_paths(alloc, tree, &paths, job.log_skip, err)?;
-    let merged = merge_old(alloc, &index, newer)?;
-    Ok(merged)
+    let tables = match open_old(alloc, store) {
+        Ok(Ok(tables)) => tables,
+        Ok(Err(fault)) => return Ok(Err(fault)),
+        Err(fault) => return Err(fault),
+    };
+    let Ok(paths) = paths_to_walk(alloc, &tables, given) else {
+        return Ok(Err(CindexFault::Memory));
+    };
+    let newer = match index_paths(alloc, tree, &paths, job.log_skip, err) {
+        Ok(newer) => newer,
+        Err(fault) => return Ok(Err(fault)),
+    };
+    merge_old(alloc, store, &tables, newer)
 }
 
 /// The reduced paths that a job walks: its own, or, if it has none, those of the index.
 fn paths_to_walk(
     alloc: Global,
-    index: &Index<'_>,
+    tables: &StoredTables,
     given: &[String],
 ) -> Result<Vec<String>, AllocError>
     ensures { IfOk result (λ paths. map string_bytes paths.items ≡
-        set.items (least (set.from_list (starts (map string_bytes given.now) index.now.paths)))) }
+        set.items (least (set.from_list (starts (map string_bytes given.now) tables.now.paths)))) }
 {
     if !given.is_empty() {
         let paths = reduce(alloc, given)?;
         return Ok(paths);
     }
-    let recorded = recorded_paths(alloc, index)?;
+    let recorded = copied(alloc, tables.paths())?;
     let paths = reduce(alloc, &recorded)?;
     Ok(paths)
 }
 
 /// Merges the base index with that of a walk. Where the walked paths cover the base index, the bytes of the walk are
 /// the merged index, and the lists of the base are only read for damage.
-fn merge_old(alloc: Global, old: &Index<'_>, newer: Vec<u8>) -> Result<Vec<u8>, CindexFault>
-    requires names { are_distinct old.now.names ≡ true }
+fn merge_old<S: Store>(
+    alloc: Global,
+    store: &mut S,
+    old: &StoredTables,
+    newer: Vec<u8>,
+) -> Result<Result<Vec<u8>, CindexFault>, IoFault>
+    requires fit { IsFit old.now }
     requires newer { IsReducedIndex newer.items }
-    ensures merged { IfOk result (λ index. MergesTo old.now (opening newer.items) index.items) }
-    ensures short { IfOk result (λ index. IsShort (Some index.items)) }
-    ensures fault { IfErr result (IsMergeRefusal old.now (opening newer.items)) }
+    ensures merged { (bytes : List ℕ) → S.model store.old ≡ Some bytes → (parts : Parts) →
+        TablesIn bytes old.now parts → IfOk result (λ merged.
+        MatchResult merged (λ index. MergesShort parts (opening newer.items) index.items)
+        (IsMergeRefusal parts (opening newer.items))) }
+    ensures writes { IfOk result (λ merged. IfErr merged (λ fault. is_failed_write fault ≡ false)) }
+    ensures failure { IfErr result (λ fault. fault ≡ IoFault.Failed) }
+    ensures keeps { S.model store.new ≡ S.model store.old }
+    ensures size { S.size store.new ≡ S.size store.old }
+    ensures failed { S.failed store.new ≡ count_after is_io_failure result (S.failed store.old) }
 {
-    let index = Index::open(&newer)?;
-    let replaced = is_replaced(alloc, old, &index)?;
+    let index = match Index::open(&newer) {
+        Ok(index) => index,
+        Err(fault) => return Ok(Err(CindexFault::from(fault))),
+    };
+    let Ok(replaced) = is_replaced_stored(alloc, old, &index) else {
+        return Ok(Err(CindexFault::Memory));
+    };
     if !replaced {
-        return merge_both(alloc, old, &index);
+        return merge_both(alloc, store, old, &index);
     }
-    if !is_whole(old) {
-        return Err(CindexFault::BadIndex(IndexFault::BadList));
+    match is_whole_stored(alloc, store, old) {
+        Ok(true) => Ok(Ok(newer)),
+        Ok(false) => Ok(Err(CindexFault::BadIndex(IndexFault::BadList))),
+        Err(IoFault::Memory) => Ok(Err(CindexFault::Memory)),
+        Err(IoFault::Failed) => Err(IoFault::Failed),
     }
-    Ok(newer)
 }
 
 /// Merges the base index with a newer one, whose names are distinct and lie under its paths.
-fn merge_both(alloc: Global, old: &Index<'_>, newer: &Index<'_>) -> Result<Vec<u8>, CindexFault>
-    requires { are_distinct old.now.names ≡ true }
-    ensures merged { IfOk result (λ index. MergesTo old.now (Ok newer.now) index.items) }
-    ensures short { IfOk result (λ index. IsShort (Some index.items)) }
-    ensures fault { IfErr result (IsMergeRefusal old.now (Ok newer.now)) }
+fn merge_both<S: Store>(
+    alloc: Global,
+    store: &mut S,
+    old: &StoredTables,
+    newer: &Index<'_>,
+) -> Result<Result<Vec<u8>, CindexFault>, IoFault>
+    requires { IsFit old.now }
+    ensures merged { (bytes : List ℕ) → S.model store.old ≡ Some bytes → (parts : Parts) →
+        TablesIn bytes old.now parts → IfOk result (λ merged.
+        MatchResult merged (λ index. MergesShort parts (Ok newer.now) index.items)
+        (IsMergeRefusal parts (Ok newer.now))) }
+    ensures writes { IfOk result (λ merged. IfErr merged (λ fault. is_failed_write fault ≡ false)) }
+    ensures failure { IfErr result (λ fault. fault ≡ IoFault.Failed) }
+    ensures keeps { S.model store.new ≡ S.model store.old }
+    ensures size { S.size store.new ≡ S.size store.old }
+    ensures failed { S.failed store.new ≡ count_after is_io_failure result (S.failed store.old) }
 {
-    match merge(alloc, old, newer) {
-        Ok(index) => Ok(index),
-        Err(fault) => Err(merge_refusal(fault)),
+    match merge_stored(alloc, store, old, newer) {
+        Ok(Ok(index)) => Ok(Ok(index)),
+        Ok(Err(fault)) => Ok(Err(merge_refusal(fault))),
+        Err(IoFault::Memory) => Ok(Err(CindexFault::Memory)),
+        Err(IoFault::Failed) => Err(IoFault::Failed),
     }
 }
 

@@ -1,12 +1,13 @@
-use Rattle.std.proofs.Common.{◌≡◌, ◌≤◌, ◌^◌, true, false, Ok, length, refl, sym, subst, ◌∙◌, arith}
+use Rattle.std.proofs.Common.{◌≡◌, ◌≤◌, ◌<◌, ◌^◌, true, false, ℕ, List, Ok, Result, Vec, Global, length, refl, ap, sym, subst, ◌∙◌, arith}
+use Rattle.std.specs.Prelude.{MatchResult}
 use Rattle.std.proofs.lemmas.Bool.{true≢false, and_from, false_from_ne_true}
 use Rattle.cs_tree.specs.Folders.{are_distinct}
 use Rattle.cs_index.specs.OpenedParts.{Parts, are_whole, are_covered}
 use Rattle.cs_merge.specs.declared.fault.MergeFault.{MergeFault}
 use Rattle.cs_merge.specs.Mergeable.{both_distinct, both_whole, merge_index}
-use Rattle.cs_merge.specs.MergeResult.{most_bytes, IsMergeFault, unsorted, uncovered, damaged, long, refused}
+use Rattle.cs_merge.specs.MergeResult.{most_bytes, IsMerged, IsMergeFault, unsorted, uncovered, damaged, long, refused}
 use Rattle.cs_history.specs.WellFormed.{IsMergeable}
-use Rattle.cs_cindex.specs.Merges.{refusal_of, IsMergeRefusal}
+use Rattle.cs_cindex.specs.Merges.{refusal_of, IsMergeRefusal, MergesShort}
 use Rattle.cs_cindex.proofs.walked.merge_both.Goals as goal
 
 module _ (old newer : Parts) (once : are_distinct old.names ≡ true) where
@@ -30,7 +31,21 @@ module _ (old newer : Parts) (once : are_distinct old.names ≡ true) where
   refusal fault (long is mergeable more) = subst Refuses (sym is) (mergeable, (let above : 2 ^ 32 ≤ length (merge_index old newer) = omega (arith, more) in above))
   refusal fault (refused is tested) = subst Refuses (sym is) tt
 
-pub returns-in-Err-clause-fault : goal.returns-in-Err-clause-fault
-returns-in-Err-clause-fault c =
-    subst (IsMergeRefusal c.args.old.now (Ok c.args.newer.now)) (sym c.merge_refusal.ensures)
-    (refusal c.args.old.now c.args.newer.now c.requires c.in-Err.fault c.in-Err.ensures)
+-- an answer of the merge
+abbrev Answers : Parts → Parts → Result (Vec ℕ Global) MergeFault → Type 0
+Answers old newer answer = MatchResult answer (λ index. IsMerged old newer most_bytes index.items) (λ fault. IsMergeFault old newer most_bytes fault)
+
+merged_short : (old newer : Parts) (index : List ℕ) → IsMerged old newer most_bytes index → MergesShort old (Ok newer) index
+merged_short old newer index merged = record {
+  merges = (merged.mergeable, merged.index.are);
+  short = (let least = merged.index.short in let below : length index < 2 ^ 32 = omega (arith, least) in below);
+}
+
+pub returns-in-Ok-Ok-clause-merged : goal.returns-in-Ok-Ok-clause-merged
+returns-in-Ok-Ok-clause-merged g c = λ bytes known parts are.
+    merged_short parts c.args.newer.now c.in-Ok-Ok.index.items (subst (Answers parts c.args.newer.now) c.in-Ok-Ok.field-0-is (c.in-Ok-Ok.ensures.merged bytes known parts are))
+
+pub returns-in-Ok-Err-clause-merged : goal.returns-in-Ok-Err-clause-merged
+returns-in-Ok-Err-clause-merged g c = λ bytes known parts are.
+    subst (IsMergeRefusal parts (Ok c.args.newer.now)) (sym c.merge_refusal.ensures)
+    (refusal parts c.args.newer.now (ap are_distinct (sym are.names) ∙ c.requires.distinct) c.in-Ok-Err.fault (subst (Answers parts c.args.newer.now) c.in-Ok-Err.field-0-is (c.in-Ok-Err.ensures.merged bytes known parts are)))

@@ -1,13 +1,21 @@
-use Rattle.std.proofs.Common.{◌≡◌, ℕ, List, false, refl, map, subst}
-use Rattle.std.specs.Prelude.{string_bytes}
-use Rattle.std.proofs.lemmas.Result.{err_from_is_err_and}
+use Rattle.std.proofs.Common.{◌≡◌, ◌∙◌, ℕ, List, false, cond, refl, ap, sym, map, subst, Option, Some, None, Result, Ok, Err, Vec, Global}
+use Rattle.std.specs.Prelude.{string_bytes, option_map, IfErr, IfOk}
+use Rattle.std.specs.Option.{option_or}
+use Rattle.cs_tree.specs.Snapshot.{Snapshot}
+use Rattle.cs_tree.specs.declared.fault.IoFault.{IoFault}
 use Rattle.cs_history.specs.Jobs.{given_texts}
-use Rattle.std.specs.Option.{option_copied}
+use Rattle.cs_history.specs.Replies.{first_bad}
+use Rattle.cs_args.specs.declared.jobs.IndexJob.{IndexJob}
 use Rattle.cs_args.specs.declared.fault.CindexFault.{CindexFault}
 use Rattle.cs_args.specs.declared.fault.CindexFault.TheVariants.{NoIndex, BadIndex, Unsorted, TooLarge, BadPath, Write, Memory}
-use Rattle.cs_cindex.specs.Output.{is_failed_write, output}
 use Rattle.cs_cindex.specs.JobPaths.{AreCleanFault}
+use Rattle.cs_cindex.specs.Next.{IsNext}
+use Rattle.cs_cindex.specs.OldIndex.{IsIndex}
+use Rattle.cs_cindex.specs.Outcomes.{AnswersFor, WalkPrintsFor}
+use Rattle.cs_cindex.specs.Output.{JobTree, Output, UnreadPrints, is_failed_write, job_tree, output}
+use Rattle.cs_cindex.specs.Refusals.{IsWalkFault, base, base_fault, early_walk_fault}
 use Rattle.cs_cindex.proofs.JobOutputLemmas.{unclean_printed}
+use Rattle.cs_cindex.proofs.StoredIndexLemmas.{known_bytes}
 use Rattle.cs_cindex.proofs.walked.walked_index.Goals as goal
 
 no_write : (folder : List ℕ) (texts : List (List ℕ)) (fault : CindexFault) → AreCleanFault folder texts fault → is_failed_write fault ≡ false
@@ -19,10 +27,67 @@ no_write folder texts (BadIndex bad) h = refl
 no_write folder texts Unsorted h = refl
 no_write folder texts TooLarge h = refl
 
-pub returns-in_err-given-clause-prints : goal.returns-in_err-given-clause-prints
-returns-in_err-given-clause-prints g c =
-    let p = err_from_is_err_and c.from_residual.result c.from_residual.ensures.1 in
-    let fault = c.in_err-given.field-0.0 in
-    let texts = subst (λ paths. AreCleanFault c.deref.result.now (map string_bytes paths) fault) c.deref-2.ensures.value c.in_err-given.ensures.fault in
+pub returns-in-Err-clause-prints : goal.returns-in-Err-clause-prints
+returns-in-Err-clause-prints g c = λ index is.
+    let fault = c.in-Err.fault in
+    let texts = subst (λ paths. AreCleanFault c.deref.result.now (map string_bytes paths) fault) c.deref-2.ensures.value c.in-Err.ensures.fault in
     let cleaned = subst (λ folder. AreCleanFault folder (given_texts c.args.job.now) fault) c.deref.ensures texts in
-    rw (p.1, p.2) (unclean_printed c.args.job.now (g.T.Tree.snapshot c.args.tree.now) (option_copied c.args.old) fault (g.T.Tree.failed c.args.tree.now) (output g.E.Sink.model g.E.Sink.failed c.args.err.now) (no_write c.deref.result.now (given_texts c.args.job.now) fault texts) cleaned)
+    unclean_printed c.args.job.now (g.T.Tree.snapshot c.args.tree.now) (base c.args.job.now index) fault (g.T.Tree.failed c.args.tree.now) (output g.E.Sink.model g.E.Sink.failed c.args.err.now) (no_write c.deref.result.now (given_texts c.args.job.now) fault texts) cleaned
+
+-- ---- the old index is the base index
+
+abbrev Answer : Type 0
+Answer = Result (Result (Vec ℕ Global) CindexFault) IoFault
+
+module _ (job : IndexJob) (index : Option (List ℕ)) (bytes : List ℕ) (kept : job.reset ≡ false) (is : index ≡ Some bytes) (good : first_bad (string_bytes job.cwd) (given_texts job) ≡ None) where
+  base_is : Some bytes ≡ base job index
+  base_is = sym (ap (λ b. cond b None index) kept ∙ is)
+
+  early_is : base_fault job (Some bytes) ≡ early_walk_fault job (base job index)
+  early_is =
+      sym (ap (λ b. option_or (option_map (λ path_index. BadPath path_index) b) (base_fault job (Some bytes))) good)
+      ∙ ap (early_walk_fault job) base_is
+
+  next_on : (tree : Option Snapshot) (r : Answer) → IfOk r (λ walked. IfOk walked (λ new. IsNext job tree (Some bytes) (Some new.items))) → IfOk r (λ walked. IfOk walked (λ new. IsNext job tree (base job index) (Some new.items)))
+  next_on tree r h = subst (λ old. IfOk r (λ walked. IfOk walked (λ new. IsNext job tree old (Some new.items)))) base_is h
+
+  answers_on : (tree : Option Snapshot) (r : Answer) → IfOk r (λ walked. AnswersFor walked (base_fault job (Some bytes)) (IsWalkFault job tree (Some bytes))) → IfOk r (λ walked. AnswersFor walked (early_walk_fault job (base job index)) (IsWalkFault job tree (base job index)))
+  answers_on tree r h =
+      subst (λ early. IfOk r (λ walked. AnswersFor walked early (IsWalkFault job tree (base job index)))) early_is
+      (subst (λ old. IfOk r (λ walked. AnswersFor walked (base_fault job (Some bytes)) (IsWalkFault job tree old))) base_is h)
+
+  prints_on : (tree : JobTree) (err later : Output) (r : Answer) → IfOk r (λ walked. WalkPrintsFor walked (base_fault job (Some bytes)) job tree (Some bytes) err later) → IfOk r (λ walked. WalkPrintsFor walked (early_walk_fault job (base job index)) job tree (base job index) err later)
+  prints_on tree err later r h =
+      subst (λ early. IfOk r (λ walked. WalkPrintsFor walked early job tree (base job index) err later)) early_is
+      (subst (λ old. IfOk r (λ walked. WalkPrintsFor walked (base_fault job (Some bytes)) job tree old err later)) base_is h)
+
+with_first : (A B C : Type 0) (r : Answer) → A → IfErr r (λ _. B × C) → IfErr r (λ _. A × B × C)
+with_first A B C (Ok walked) a h = tt
+with_first A B C (Err fault) a h = (a, h.0, h.1)
+
+pub returns-in-Some-clause-next : goal.returns-in-Some-clause-next
+returns-in-Some-clause-next g c = λ index is.
+    let job = c.args.job.now in
+    let k = known_bytes (g.S.Store.model c.in-Some.store) index (subst (λ o. IsIndex g.S.Store.model o index) c.in-Some.is is) in
+    let good = subst (λ folder. first_bad folder (given_texts job) ≡ None) c.deref.ensures (subst (λ paths. first_bad c.deref.result.now (map string_bytes paths) ≡ None) c.deref-2.ensures.value c.in-Ok.ensures.fault) in
+    next_on job index k.bytes c.if-not-job.true k.index_is good (g.T.Tree.snapshot c.args.tree.now) c.extended_index.result (c.extended_index.ensures.next k.bytes k.model_is)
+
+pub returns-in-Some-clause-refusal : goal.returns-in-Some-clause-refusal
+returns-in-Some-clause-refusal g c = λ index is.
+    let job = c.args.job.now in
+    let k = known_bytes (g.S.Store.model c.in-Some.store) index (subst (λ o. IsIndex g.S.Store.model o index) c.in-Some.is is) in
+    let good = subst (λ folder. first_bad folder (given_texts job) ≡ None) c.deref.ensures (subst (λ paths. first_bad c.deref.result.now (map string_bytes paths) ≡ None) c.deref-2.ensures.value c.in-Ok.ensures.fault) in
+    answers_on job index k.bytes c.if-not-job.true k.index_is good (g.T.Tree.snapshot c.args.tree.now) c.extended_index.result (c.extended_index.ensures.refusal k.bytes k.model_is)
+
+pub returns-in-Some-clause-prints : goal.returns-in-Some-clause-prints
+returns-in-Some-clause-prints g c = λ index is.
+    let job = c.args.job.now in
+    let k = known_bytes (g.S.Store.model c.in-Some.store) index (subst (λ o. IsIndex g.S.Store.model o index) c.in-Some.is is) in
+    let good = subst (λ folder. first_bad folder (given_texts job) ≡ None) c.deref.ensures (subst (λ paths. first_bad c.deref.result.now (map string_bytes paths) ≡ None) c.deref-2.ensures.value c.in-Ok.ensures.fault) in
+    prints_on job index k.bytes c.if-not-job.true k.index_is good (job_tree g.T.Tree.snapshot g.T.Tree.failed c.args.tree.now c.extended_index.new.tree) (output g.E.Sink.model g.E.Sink.failed c.args.err.now) (output g.E.Sink.model g.E.Sink.failed c.extended_index.new.err) c.extended_index.result (c.extended_index.ensures.prints k.bytes k.model_is)
+
+pub returns-in-Some-clause-unread : goal.returns-in-Some-clause-unread
+returns-in-Some-clause-unread g c =
+    let job = c.args.job.now in
+    with_first _ _ _ c.extended_index.result c.if-not-job.true
+    (subst (λ o. IfErr c.extended_index.result (λ _. UnreadPrints job (job_tree g.T.Tree.snapshot g.T.Tree.failed c.args.tree.now c.extended_index.new.tree) (IsIndex g.S.Store.model o) (output g.E.Sink.model g.E.Sink.failed c.args.err.now) (output g.E.Sink.model g.E.Sink.failed c.extended_index.new.err) × (g.E.Sink.failed c.extended_index.new.err ≡ g.E.Sink.failed c.args.err.now))) (sym c.in-Some.is) c.extended_index.ensures.unread)

@@ -1,6 +1,6 @@
 use Rattle.std.proofs.Common.{◌≡◌, ◌++◌, map}
 use Rattle.std.specs.Prelude.{string_bytes}
-use Rattle.cs_cindex.proofs.old.recorded_paths.Given as goal
+use Rattle.cs_cindex.proofs.old.copied.Given as goal
 
 abbrev pub invariant-paths : goal.invariant-paths
-invariant-paths l = map string_bytes l.paths.items ++ l.path-iterator ≡ l.index.paths
+invariant-paths l = map string_bytes l.copies.items ++ l.path-iterator ≡ l.fn.paths

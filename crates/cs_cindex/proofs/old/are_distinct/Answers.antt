@@ -5,10 +5,10 @@ use Rattle.cs_tree.proofs.ListingLemmas.{ascending_distinct}
 use Rattle.cs_index.specs.Order.{IsOrderOf}
 use Rattle.cs_merge.specs.SortedNames.{AreIndexNames}
 use Rattle.cs_merge.proofs.SortedNamesLemmas.{sorted_distinct, sorted_order}
-use Rattle.cs_cindex.proofs.old.has_distinct_names.Goals as goal
+use Rattle.cs_cindex.proofs.old.are_distinct.Goals as goal
 
 pub returns-then-in_order : goal.returns-then-in_order
-returns-then-in_order c = sym (ascending_distinct c.args.index.now.names (sym c.in_order.ensures.order ∙ c.if-in_order.true))
+returns-then-in_order c = sym (ascending_distinct c.args.names (sym c.in_order.ensures ∙ c.if-in_order.true))
 
 by_order : (names : List (List ℕ)) (ids : Option (List ℕ)) → AreIndexNames names → IsOrderOf names ids → is_some ids ≡ are_distinct names
 by_order names (Some ids) are order = sym (sorted_distinct (record { names = names; order = Some ids }) (sorted_order names are ids order))
@@ -22,5 +22,4 @@ pub returns : goal.returns
 returns c =
     c.is_some.ensures
     ∙ some_items c.in_ok-order.order
-    ∙ by_order c.args.index.now.names (option_map (λ ids. ids.items) c.in_ok-order.order)
-    (record { each_name = c.in_order.ensures.parts.each_name; bound = c.in_order.ensures.parts.names_bound }) c.in_ok-order.ensures
+    ∙ by_order c.args.names (option_map (λ ids. ids.items) c.in_ok-order.order) c.requires c.in_ok-order.ensures

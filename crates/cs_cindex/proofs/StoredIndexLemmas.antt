@@ -1,0 +1,62 @@
+-- The base index in a store.
+use Rattle.std.proofs.Common.{◌≡◌, ℕ, true, false, cond, not, List, refl, sym, ap, subst, ◌∙◌, inl, Option, Some, None, Ok}
+use Rattle.std.specs.Prelude.{IsSomeAnd}
+use Rattle.std.specs.List.{list_all}
+use Rattle.cs_tree.specs.Cleaning.{is_normalized}
+use Rattle.cs_tree.specs.Folders.{are_distinct}
+use Rattle.cs_index.specs.Opening.{opening}
+use Rattle.cs_index.specs.OpenedParts.{Parts}
+use Rattle.cs_index.specs.Stored.{StandsIn, StoredParts}
+use Rattle.cs_index.specs.StoredTables.{OpensAsTables, TableParts}
+use Rattle.cs_index.specs.ValidSections.{read_split}
+use Rattle.cs_index.specs.declared.fault.IndexFault.TheVariants.{BadPaths}
+use Rattle.cs_args.specs.declared.fault.CindexFault.{CindexFault}
+use Rattle.cs_args.specs.declared.fault.CindexFault.TheVariants.{BadIndex, Unsorted}
+use Rattle.cs_cindex.specs.OldIndex.{IsFit, IsFitFor}
+use Rattle.cs_cindex.specs.Refusals.{opening_fault, unfit_parts_fault, EarlyOr}
+
+-- ---- what stands in the bytes is what they open as
+
+pub stands_open : (bytes : List ℕ) (stored : StoredParts) (parts : Parts) → StandsIn bytes stored parts → opening bytes ≡ Ok parts
+unfolding opening
+stands_open bytes stored parts stands = ap read_split stands.split ∙ stands.read
+
+-- ---- the tests of tables are those of the index
+
+module _ (bytes : List ℕ) (tables : TableParts) (opens : OpensAsTables bytes (Ok tables)) where
+  faulted : (fault : CindexFault) (Late : Type 0) → unfit_parts_fault opens.0 ≡ Some fault → EarlyOr (Some fault) Late fault → EarlyOr (opening_fault unfit_parts_fault (opening bytes)) Late fault
+  faulted fault Late is early = subst (λ (o : Option CindexFault). EarlyOr o Late fault) (sym (ap (opening_fault unfit_parts_fault) (stands_open bytes _ opens.0 opens.1.stands) ∙ is)) early
+
+  paths_fault : list_all is_normalized tables.paths ≡ false → unfit_parts_fault opens.0 ≡ Some (BadIndex BadPaths)
+  paths_fault bad = ap (λ b. cond (not b) (Some (BadIndex BadPaths)) (cond (not (are_distinct opens.0.names)) (Some Unsorted) None)) (ap (list_all is_normalized) (sym opens.1.stands.paths) ∙ bad)
+
+  names_fault : list_all is_normalized tables.paths ≡ true → are_distinct tables.names ≡ false → unfit_parts_fault opens.0 ≡ Some Unsorted
+  names_fault good twice =
+      ap (λ b. cond (not b) (Some (BadIndex BadPaths)) (cond (not (are_distinct opens.0.names)) (Some Unsorted) None)) (ap (list_all is_normalized) (sym opens.1.stands.paths) ∙ good)
+      ∙ ap (λ b. cond (not b) (Some Unsorted) None) (ap are_distinct (sym opens.1.names) ∙ twice)
+
+  pub bad_paths : (Late : Type 0) → list_all is_normalized tables.paths ≡ false → EarlyOr (opening_fault unfit_parts_fault (opening bytes)) Late (BadIndex BadPaths)
+  bad_paths Late bad = faulted (BadIndex BadPaths) Late (paths_fault bad) (inl refl)
+
+  pub unsorted : (Late : Type 0) → list_all is_normalized tables.paths ≡ true → are_distinct tables.names ≡ false → EarlyOr (opening_fault unfit_parts_fault (opening bytes)) Late Unsorted
+  unsorted Late good twice = faulted Unsorted Late (names_fault good twice) (inl refl)
+
+  pub fit_for : IsFit tables → IsFitFor bytes tables
+  fit_for fit = record {
+    parts = opens.0;
+    are = opens.1;
+    fit =
+        ap (λ b. cond (not b) (Some (BadIndex BadPaths)) (cond (not (are_distinct opens.0.names)) (Some Unsorted) None)) (ap (list_all is_normalized) (sym opens.1.stands.paths) ∙ fit.normalized)
+        ∙ ap (λ b. cond (not b) (Some Unsorted) None) (ap are_distinct (sym opens.1.names) ∙ fit.distinct);
+  }
+
+-- ---- the bytes of a store that are known
+
+pub record KnownBytes (model : Option (List ℕ)) (index : Option (List ℕ)) : Type 0 where
+  pub bytes : List ℕ
+  pub model_is : model ≡ Some bytes
+  pub index_is : index ≡ Some bytes
+
+pub known_bytes : (model index : Option (List ℕ)) → IsSomeAnd model (λ bytes. index ≡ Some bytes) → KnownBytes model index
+known_bytes (Some bytes) index is = record { bytes = bytes; model_is = refl; index_is = is }
+known_bytes None index is = absurd is

@@ -56,8 +56,8 @@ fn stored<'a>(old: Option<&'a [u8]>) -> Option<MemStore<'a>>
     }
 }
 
-/// Runs a job as `cindex` does, over an old index in a store, of which only the paths, the names and the tables are in
-/// memory. Each of its posting lists is read once, after the walk; `-list` and `-reset` read none.
+/// Runs a job as `cindex` does, over an old index in a store. Only its paths, names and tables are in memory. Each of its
+/// posting lists is read once, after the walk; `-list` and `-reset` read none.
 ///
 /// # Errors
 ///

@@ -17,7 +17,7 @@ CONTRACTS = [
     ("cindex", "cs_cindex/src/cindexing.rt", ["indexes"], 520),
     ("cgrep", "cs_search/src/searching.rt", [], 850),
     ("csearch_stored", "cs_search/src/stored.rt", [], 1350),
-    ("list_stored", "cs_cindex/src/listing.rt", [], None),
+    ("cindex_stored", "cs_cindex/src/job.rt", [], None),
     ("run", "codesearch/src/running.rt", [], None),
     ("execute", "codesearch/src/execution.rt", [], None),
 ]

@@ -18,7 +18,10 @@ use Rattle.cs_args.specs.declared.jobs.Job.{Job}
 use Rattle.cs_args.specs.declared.jobs.Job.TheVariants.{Index, Search, Grep}
 use Rattle.cs_args.specs.declared.jobs.Tool.{Tool}
 use Rattle.cs_args.specs.declared.jobs.Tool.TheVariants.{Cindex, Csearch, Cgrep}
-use Rattle.codesearch.specs.Program.{tool_of, tool_args, meaning, lacks_folder, word_line, reading_line, writing_line, IndexFile, early_line, arg_at, Surroundings, IsUntouched, Refuses, DoesJob, RunsAfter, Runs, IsCall, may_update}
+use Rattle.cs_cindex.specs.Output.{UnreadPrints, before, after}
+use Rattle.codesearch.specs.Running.{IsUnreadIn}
+use Rattle.cs_storage.specs.declared.fault.StorageFault.TheVariants.{Failed}
+use Rattle.codesearch.specs.Program.{tree_of, EndsUnread, IsUnreadBy, tool_of, tool_args, meaning, lacks_folder, word_line, reading_line, writing_line, IndexFile, early_line, arg_at, Surroundings, IsUntouched, Refuses, DoesJob, RunsAfter, Runs, IsCall, may_update}
 use Rattle.cs_storage.specs.declared.fault.StorageFault.{StorageFault}
 use Rattle.codesearch.specs.Running.{HasFolder}
 use Rattle.codesearch.specs.declared.call.Call.{Call}
@@ -76,14 +79,14 @@ runs_job call job file IsIndex old new outcome is job-is readable claimed does =
     let given = call.given.now in
     let is-meant = call_means call job is job-is in
     let none : early_line given file ≡ None = early_line_at given call.tool file is.tool is.text is.folder ∙ rw (readable, is-meant, claimed) refl in
-    inl (subst (λ line. RunsAfter line given IsIndex old new outcome) (sym none) (call.tool, job, is.tool, is-meant, does))
+    inl (subst (λ line. RunsAfter line given file IsIndex old new outcome) (sym none) (call.tool, job, is.tool, is-meant, does))
 
 -- an index file that cannot be read ends the program with its line
 pub refuses_reading : (call : Call) (file : IndexFile) (fault : StorageFault) (IsIndex : Option (List ℕ) → Type 0) (old new : Surroundings) (outcome : Outcome) → IsCall call → file.unreadable ≡ Some fault → Refuses outcome (reading_line file.name fault) → IsUntouched old new → Runs call.given.now file IsIndex old new outcome
 refuses_reading call file fault IsIndex old new outcome is unreadable ends untouched =
     let given = call.given.now in
     let some : early_line given file ≡ Some (reading_line file.name fault) = early_line_at given call.tool file is.tool is.text is.folder ∙ rw (unreadable) refl in
-    inl (subst (λ line. RunsAfter line given IsIndex old new outcome) (sym some) (ends, untouched))
+    inl (subst (λ line. RunsAfter line given file IsIndex old new outcome) (sym some) (ends, inl untouched))
 
 -- an index file that cannot be claimed ends the program with its line
 pub refuses_claim : (call : Call) (job : Job) (file : IndexFile) (fault : StorageFault) (IsIndex : Option (List ℕ) → Type 0) (old new : Surroundings) (outcome : Outcome) → IsCall call → call.job ≡ Ok job → file.unreadable ≡ None → file.unclaimed ≡ Some fault → Refuses outcome (writing_line file.name file.temp fault) → IsUntouched old new → Runs call.given.now file IsIndex old new outcome
@@ -91,7 +94,7 @@ refuses_claim call job file fault IsIndex old new outcome is job-is readable unc
     let given = call.given.now in
     let is-meant = call_means call job is job-is in
     let some : early_line given file ≡ Some (writing_line file.name file.temp fault) = early_line_at given call.tool file is.tool is.text is.folder ∙ rw (readable, is-meant, unclaimed) refl in
-    inl (subst (λ line. RunsAfter line given IsIndex old new outcome) (sym some) (ends, untouched))
+    inl (subst (λ line. RunsAfter line given file IsIndex old new outcome) (sym some) (ends, inl untouched))
 
 words_line : (fault : WordFault) (parsed : Result JobView WordFault) → GivesJob parsed (Err fault) → (fault ≡ Memory) ⊎ (parsed ≡ Err fault)
 words_line fault (Ok view) gives = inl gives
@@ -108,16 +111,63 @@ refuses_words call fault arg file IsIndex old new outcome is job-is readable arg
       | inl memory ↦ inr (inr (call.tool, subst (λ f. Refuses outcome (line_of call.tool (A_word f) (arg_at f (tool_args given)))) memory ends), untouched)
       | inr failed ↦
           let some : early_line given file ≡ Some line = early_line_at given call.tool file is.tool is.text is.folder ∙ rw (readable, failed) refl in
-          inl (subst (λ some. RunsAfter some given IsIndex old new outcome) (sym some) (ends, untouched))
+          inl (subst (λ some. RunsAfter some given file IsIndex old new outcome) (sym some) (ends, inl untouched))
     ]
 
+-- a read of the index file that fails in the job ends the program with its line
+pub refuses_unread : (call : Call) (file : IndexFile) (IsIndex : Option (List ℕ) → Type 0) (old new : Surroundings) (outcome : Outcome) → IsCall call → file.unreadable ≡ Some Failed → Refuses outcome (reading_line file.name Failed) → IsUnreadIn call.job IsIndex old new → Runs call.given.now file IsIndex old new outcome
+refuses_unread call file IsIndex old new outcome is unreadable ends unread =
+    let given = call.given.now in
+    let some : early_line given file ≡ Some (reading_line file.name Failed) = early_line_at given call.tool file is.tool is.text is.folder ∙ rw (unreadable) refl in
+    inl (subst (λ line. RunsAfter line given file IsIndex old new outcome) (sym some) (ends, by_job call.job refl unread))
+  where
+    by_job : (parsed : Result Job WordFault) → call.job ≡ parsed → IsUnreadIn parsed IsIndex old new → IsUntouched old new ⊎ EndsUnread call.given.now file IsIndex old new
+    by_job (Err fault) job-is untouched = inl untouched
+    by_job (Ok job) job-is unread = inr (record {
+      failed = unreadable;
+      tool = call.tool;
+      is_tool = is.tool;
+      job = job;
+      means = call_means call job is job-is;
+      unread = unread;
+    })
+
 -- what holds of each index of a set holds of those of a part of it
-runs_after : (line : Option (List ℕ)) (given : Given) (P Q : Option (List ℕ) → Type 0) (old new : Surroundings) (outcome : Outcome) → ((index : Option (List ℕ)) → Q index → P index) → RunsAfter line given P old new outcome → RunsAfter line given Q old new outcome
-runs_after (Some line) given P Q old new outcome on ran = ran
-runs_after None given P Q old new outcome on ran = (ran.0, ran.1, ran.2, ran.3, λ index is. ran.4 index (on index is))
+unread_over : (job : Job) (P Q : Option (List ℕ) → Type 0) (old new : Surroundings) → ((index : Option (List ℕ)) → Q index → P index) → IsUnreadBy job P old new → IsUnreadBy job Q old new
+unread_over (Index job) P Q old new on unread = (
+  record {
+    reads = unread.0.reads;
+    out = unread.0.out;
+    err = prints_over unread.0.err;
+    listed = unread.0.listed;
+    writes = unread.0.writes;
+  },
+  unread.1,
+)
+  where
+    prints_over : UnreadPrints job (tree_of old new) P old.outputs.err new.outputs.err → UnreadPrints job (tree_of old new) Q old.outputs.err new.outputs.err
+    prints_over (before silent) = before silent
+    prints_over (after paths known prints) = after paths (λ index is. known index (on index is)) prints
+unread_over (Search job) P Q old new on unread = unread
+unread_over (Grep job) P Q old new on unread = unread
+
+ends_over : (given : Given) (file : IndexFile) (P Q : Option (List ℕ) → Type 0) (old new : Surroundings) → ((index : Option (List ℕ)) → Q index → P index) → IsUntouched old new ⊎ EndsUnread given file P old new → IsUntouched old new ⊎ EndsUnread given file Q old new
+ends_over given file P Q old new on (inl untouched) = inl untouched
+ends_over given file P Q old new on (inr ends) = inr (record {
+  failed = ends.failed;
+  tool = ends.tool;
+  is_tool = ends.is_tool;
+  job = ends.job;
+  means = ends.means;
+  unread = unread_over ends.job P Q old new on ends.unread;
+})
+
+runs_after : (line : Option (List ℕ)) (given : Given) (file : IndexFile) (P Q : Option (List ℕ) → Type 0) (old new : Surroundings) (outcome : Outcome) → ((index : Option (List ℕ)) → Q index → P index) → RunsAfter line given file P old new outcome → RunsAfter line given file Q old new outcome
+runs_after (Some line) given file P Q old new outcome on ran = (ran.0, ends_over given file P Q old new on ran.1)
+runs_after None given file P Q old new outcome on ran = (ran.0, ran.1, ran.2, ran.3, λ index is. ran.4 index (on index is))
 
 pub runs_over : (given : Given) (file : IndexFile) (P Q : Option (List ℕ) → Type 0) (old new : Surroundings) (outcome : Outcome) → ((index : Option (List ℕ)) → Q index → P index) → Runs given file P old new outcome → Runs given file Q old new outcome
-runs_over given file P Q old new outcome on (inl ran) = inl (runs_after (early_line given file) given P Q old new outcome on ran)
+runs_over given file P Q old new outcome on (inl ran) = inl (runs_after (early_line given file) given file P Q old new outcome on ran)
 runs_over given file P Q old new outcome on (inr memory) = inr memory
 
 -- ---- the current folder of a job of cindex

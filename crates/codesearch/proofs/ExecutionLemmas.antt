@@ -10,7 +10,8 @@ use Rattle.cs_storage.specs.Storing.{Folder, Moves, LeavesFiles, HasBytesOf, Loo
 use Rattle.cs_storage.specs.declared.fault.StorageFault.{StorageFault}
 use Rattle.cs_storage.specs.declared.update.IndexUpdate.{IndexUpdate}
 use Rattle.cs_storage.specs.declared.update.IndexUpdate.TheVariants.{Keep, Write, Remove}
-use Rattle.codesearch.specs.Program.{IndexFile, Surroundings, IsUntouched, Refuses, Runs, IsIndex, IsCall, opened_file, may_update, exit_status, update_of, reading_line, writing_line}
+use Rattle.cs_cindex.specs.OldIndex.{IsIndex}
+use Rattle.codesearch.specs.Program.{IndexFile, Surroundings, IsUntouched, Refuses, Runs, IsCall, opened_file, may_update, exit_status, update_of, reading_line, writing_line}
 use Rattle.codesearch.specs.Execution.{IsReadIndex, LeavesFile, ReplacesFile, Stores, EndsWith, WasOpened, Executes}
 use Rattle.codesearch.specs.Opened.{StoresOpened, Finishes, ExecutesOpened}
 use Rattle.cs_args.specs.declared.fault.WordFault.{WordFault}

@@ -46,7 +46,7 @@ use Rattle.cs_search.specs.Searched.{SearchOutputs, IsSearch}
 use Rattle.cs_search.specs.declared.status.Status.{Status}
 use Rattle.cs_search.specs.declared.status.Status.TheVariants.{Matched, NoMatch}
 use Rattle.cs_cindex.specs.Output.{JobTree}
-use Rattle.cs_cindex.specs.Steps.{Outputs, outputs, State, IsWholeStep}
+use Rattle.cs_cindex.specs.Steps.{Outputs, outputs, State, IsUnread, IsWholeStep}
 use Rattle.codesearch.specs.declared.call.Call.{Call}
 use Rattle.codesearch.specs.declared.given.Given.{Given}
 use Rattle.codesearch.specs.declared.outcome.Outcome.{Outcome}
@@ -335,29 +335,35 @@ DoesMeaning given IsIndex old new outcome =
     (tool : Tool) × (job : Job) × (tool_of given ≡ Some tool) × (meaning given tool ≡ Ok (job_view job))
     × ((index : Option (List ℕ)) → IsIndex index → DoesJob job index old new outcome)
 
--- the first error that comes before the tool ends the program, and nothing is done; without one the job is done
-abbrev pub RunsAfter : Option (List ℕ) → Given → (Option (List ℕ) → Type 0) → Surroundings → Surroundings → Outcome → Type 0
-RunsAfter (Some line) given IsIndex old new outcome = Refuses outcome line × IsUntouched old new
-RunsAfter None given IsIndex old new outcome = DoesMeaning given IsIndex old new outcome
+-- A job of cindex reads the index file after its arguments, and posting lists after its walk.
+abbrev pub IsUnreadBy : Job → (Option (List ℕ) → Type 0) → Surroundings → Surroundings → Type 0
+IsUnreadBy (Index job) IsIndex old new = IsUnread job (tree_of old new) IsIndex old.outputs new.outputs × KeepsInput old new
+IsUnreadBy (Search job) IsIndex old new = IsUntouched old new
+IsUnreadBy (Grep job) IsIndex old new = IsUntouched old new
+
+-- A read of the index file failed in the job that the arguments mean.
+pub record EndsUnread (given : Given) (file : IndexFile) (IsIndex : Option (List ℕ) → Type 0)
+    (old new : Surroundings) : Type 0 where
+  pub failed : file.unreadable ≡ Some storage.Failed
+  pub tool : Tool
+  pub is_tool : tool_of given ≡ Some tool
+  pub job : Job
+  pub means : meaning given tool ≡ Ok (job_view job)
+  pub unread : IsUnreadBy job IsIndex old new
+
+-- The first error that comes before the tool ends the program, and nothing is done, except if the index file cannot be
+-- read: a job of cindex that walks may have printed its diagnostics by then. Without such an error the job is done.
+abbrev pub RunsAfter : Option (List ℕ) → Given → IndexFile → (Option (List ℕ) → Type 0) → Surroundings → Surroundings → Outcome → Type 0
+RunsAfter (Some line) given file IsIndex old new outcome =
+    Refuses outcome line × (IsUntouched old new ⊎ EndsUnread given file IsIndex old new)
+RunsAfter None given file IsIndex old new outcome = DoesMeaning given IsIndex old new outcome
 
 -- What the program does; instead of that it may end before the tool because an allocation failed.
 abbrev pub Runs : Given → IndexFile → (Option (List ℕ) → Type 0) → Surroundings → Surroundings → Outcome → Type 0
 Runs given file IsIndex old new outcome =
-    RunsAfter (early_line given file) given IsIndex old new outcome ⊎ (EndsOutOfMemory outcome × IsUntouched old new)
+    RunsAfter (early_line given file) given file IsIndex old new outcome ⊎ (EndsOutOfMemory outcome × IsUntouched old new)
 
 -- ---- the index file as it was found
-
-module _ {S : Type 0} where
-  -- the index in the store, if its bytes are known
-  abbrev pub IsIndex : (S → Option (List ℕ)) → Option S → Option (List ℕ) → Type 0
-  IsIndex model None index = index ≡ None
-  IsIndex model (Some store) index = IsSomeAnd (model store) (λ bytes. index ≡ Some bytes)
-
-  -- whether a read of the file failed, which its store counts
-  abbrev pub IsUnreadable : (S → ℕ) → Option S → Option S → Bool → Type 0
-  IsUnreadable failed None later unreadable = unreadable ≡ false
-  IsUnreadable failed (Some store) None unreadable = ⊥
-  IsUnreadable failed (Some store) (Some read) unreadable = failed read ≡ count_if unreadable (failed store)
 
 -- the opened file: a read of it failed, or none did
 abbrev pub opened_file : {S : Type 0} → FoundFile S → Bool → IndexFile

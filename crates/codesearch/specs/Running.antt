@@ -1,15 +1,15 @@
 -- What the functions behind the program promise each other.
-use Rattle.std.specs.Prelude.{Bool, false, Result, Ok, Err}
-use Rattle.cs_tree.specs.declared.fault.IoFault.{IoFault}
-use Rattle.cs_tree.specs.Transfers.{is_io_failure}
+use Rattle.std.specs.Prelude.{ℕ, List, Option, Result, Ok, Err}
+use Rattle.cs_args.specs.declared.fault.WordFault.{WordFault}
 use Rattle.cs_args.specs.declared.jobs.Job.{Job}
 use Rattle.cs_args.specs.declared.jobs.Job.TheVariants.{Index, Search, Grep}
 use Rattle.cs_history.specs.Jobs.{HasAbsoluteFolder}
+use Rattle.codesearch.specs.Program.{Surroundings, IsUnreadBy, IsUntouched}
 
--- the index file could not be read
-abbrev pub has_failed : {A : Type 0} → Result A IoFault → Bool
-has_failed (Ok answer) = false
-has_failed (Err fault) = is_io_failure fault
+-- a read of the index file failed in the job, or before wrong arguments were reported
+abbrev pub IsUnreadIn : Result Job WordFault → (Option (List ℕ) → Type 0) → Surroundings → Surroundings → Type 0
+IsUnreadIn (Ok job) IsIndex old new = IsUnreadBy job IsIndex old new
+IsUnreadIn (Err fault) IsIndex old new = IsUntouched old new
 
 -- the current folder of a job of cindex is absolute
 abbrev pub HasFolder : Job → Type 0

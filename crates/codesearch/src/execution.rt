@@ -1,9 +1,9 @@
 // The program over any folder of the index file, any tree, input and outputs: what `main` calls.
 ghost use Rattle.std.specs.Prelude.{◌≡◌, ◌≢◌, IfErr};
-ghost use Rattle.std.specs.Mem.{FitsInMemory};
 ghost use Rattle.cs_storage.specs.FileAfter.{IsChange};
 ghost use Rattle.cs_storage.specs.Storing.{Moves, IsHeld, Updates};
-ghost use Rattle.codesearch.specs.Program.{Between, IsCall, IsIndex, exit_status, update_of};
+ghost use Rattle.cs_cindex.specs.OldIndex.{IsIndex};
+ghost use Rattle.codesearch.specs.Program.{Between, IsCall, exit_status, update_of};
 ghost use Rattle.codesearch.specs.Execution.{Executes, EndsWith, LeavesFile};
 ghost use Rattle.codesearch.specs.Opened.{ExecutesOpened, Finishes};
 
@@ -22,7 +22,6 @@ pub(crate) fn execute<'a, F: IndexFolder, T: Tree, R: Source, O: Sink, E: Sink>(
     world: &mut World<'a, F::Index, T, R, O, E>,
 ) -> Outcome<'a>
     requires call { IsCall call.now }
-    requires row { FitsInMemory T.row }
     ensures executes { Between T.snapshot T.failed R.model R.failed O.model O.failed E.model E.failed
         world.old world.new (λ old new.
         Executes call.now world.old.file.name.now world.old.file.temp.now
@@ -50,7 +49,6 @@ fn execute_opened<'a, F: IndexFolder, T: Tree, R: Source, O: Sink, E: Sink>(
     world: &mut World<'a, F::Index, T, R, O, E>,
 ) -> Outcome<'a>
     requires call { IsCall call.now }
-    requires row { FitsInMemory T.row }
     ensures executes { Between T.snapshot T.failed R.model R.failed O.model O.failed E.model E.failed
         world.old world.new (λ old new.
         ExecutesOpened call.now world.old.file.name.now world.old.file.temp.now

@@ -1,25 +1,20 @@
 // The program over any tree, input and outputs, and any store of the index file.
-ghost use Rattle.std.specs.Prelude.{◌≡◌, ◌≢◌, ℕ, List, [], map, slice_get, unwrap_or, string_bytes, Bool, Option, Result, Ok, Err, true, false, IfOk, IfErr, OnOk, OnErr};
-ghost use Rattle.std.specs.Mem.{FitsInMemory};
+ghost use Rattle.std.specs.Prelude.{◌≡◌, ◌≢◌, ℕ, List, [], map, slice_get, unwrap_or, string_bytes, Bool, Option, Ok, Err, true, false, IfOk, IfErr, OnErr};
 ghost use Rattle.cs_tree.specs.Failures.{count_if};
 ghost use Rattle.cs_history.specs.Jobs.{HasAbsoluteFolder};
-ghost use Rattle.cs_cindex.specs.Bytes.{index_bytes};
-ghost use Rattle.cs_cindex.specs.Refusals.{base};
-ghost use Rattle.cs_cindex.specs.Steps.{IsWholeStep};
-ghost use Rattle.cs_storage.specs.FileAfter.{file_after};
-ghost use Rattle.codesearch.specs.Program.{Between, tree_of, state_of, KeepsInput, IsUntouched, IsCall, IsUnreadable, IsIndex, opened_file, Runs, DoesGrep, DoesJob, DoesSearch, DoesIndexing, EndsSearch, IsReplied, may_update, update_of, exit_status, arg_at, path_at};
-ghost use Rattle.codesearch.specs.Running.{has_failed, HasFolder};
+ghost use Rattle.cs_cindex.specs.OldIndex.{IsIndex, IsUnreadable, has_failed};
+ghost use Rattle.codesearch.specs.Program.{Between, IsUntouched, IsUnreadBy, IsCall, opened_file, Runs, DoesGrep, DoesJob, DoesSearch, DoesIndexing, EndsSearch, may_update, update_of, exit_status, arg_at, path_at};
+ghost use Rattle.codesearch.specs.Running.{HasFolder, IsUnreadIn};
 
 use crate::call::Call;
 use crate::outcome::{Outcome, ProgramFault};
 use cs_storage::IndexUpdate;
 use cs_tools::{
-    CindexFault, GrepJob, IndexJob, Job, Refusal, Reply, SearchJob, Status, StoredIndex, Tool,
-    ToolFault, WordFault, cgrep, cindex, csearch, csearch_stored, list_stored,
+    CindexFault, GrepJob, IndexJob, Job, Refusal, SearchJob, Status, StoredIndex, Tool, ToolFault,
+    WordFault, cgrep, cindex_stored, csearch, csearch_stored,
 };
 use cs_tree::{IoFault, Sink, Source, Store, Tree, read_part};
 use std::alloc::Global;
-use std::slice;
 
 /// The index file as it was found.
 #[derive(Drop)]
@@ -50,7 +45,6 @@ pub(crate) fn run<'a, S: Store, T: Tree, R: Source, O: Sink, E: Sink>(
     world: &mut World<'a, S, T, R, O, E>,
 ) -> Outcome<'a>
     requires call { IsCall call.now }
-    requires row { FitsInMemory T.row }
     ensures runs { (unreadable : Bool)
         × IsUnreadable S.failed world.old.file.index world.new.file.index unreadable
         × Between T.snapshot T.failed R.model R.failed O.model O.failed E.model E.failed
@@ -74,7 +68,6 @@ fn run_call<'a, S: Store, T: Tree, R: Source, O: Sink, E: Sink>(
     world: &mut World<'a, S, T, R, O, E>,
 ) -> Result<Outcome<'a>, IoFault>
     requires call { IsCall call.now }
-    requires row { FitsInMemory T.row }
     ensures runs { IfOk result (λ outcome.
         Between T.snapshot T.failed R.model R.failed O.model O.failed E.model E.failed
         world.old world.new (λ old new.
@@ -85,7 +78,10 @@ fn run_call<'a, S: Store, T: Tree, R: Source, O: Sink, E: Sink>(
     ensures counted { IsUnreadable S.failed world.old.file.index world.new.file.index (has_failed result) }
     ensures unread { OnErr result (
         Between T.snapshot T.failed R.model R.failed O.model O.failed E.model E.failed
-        world.old world.new IsUntouched) }
+        world.old world.new (IsUnreadIn call.now.job (IsIndex S.model world.old.file.index))) }
+    ensures memory { result ≡ Err IoFault.Memory →
+        Between T.snapshot T.failed R.model R.failed O.model O.failed E.model E.failed
+        world.old world.new IsUntouched }
 {
     match &call.job {
         Ok(job) => run_job(job, world),
@@ -133,7 +129,6 @@ fn run_job<'a, S: Store, T: Tree, R: Source, O: Sink, E: Sink>(
     world: &mut World<'a, S, T, R, O, E>,
 ) -> Result<Outcome<'a>, IoFault>
     requires folder { HasFolder job.now }
-    requires row { FitsInMemory T.row }
     ensures does { IfOk result (λ outcome.
         Between T.snapshot T.failed R.model R.failed O.model O.failed E.model E.failed
         world.old world.new (λ old new.
@@ -144,11 +139,13 @@ fn run_job<'a, S: Store, T: Tree, R: Source, O: Sink, E: Sink>(
     ensures counted { IsUnreadable S.failed world.old.file.index world.new.file.index (has_failed result) }
     ensures unread { OnErr result (
         Between T.snapshot T.failed R.model R.failed O.model O.failed E.model E.failed
-        world.old world.new IsUntouched) }
+        world.old world.new (IsUnreadBy job.now (IsIndex S.model world.old.file.index))) }
+    ensures memory { result ≡ Err IoFault.Memory →
+        Between T.snapshot T.failed R.model R.failed O.model O.failed E.model E.failed
+        world.old world.new IsUntouched }
 {
     match job {
-        Job::Index(job) if job.list => list_paths(job, world),
-        Job::Index(job) => update_index(job, world),
+        Job::Index(job) => run_index(job, world),
         Job::Search(job) => search_index(job, world),
         Job::Grep(job) => Ok(search_files(job, world)),
     }
@@ -218,132 +215,36 @@ fn searched<'a>(tool: Tool, answer: Result<Status, ToolFault>) -> Outcome<'a>
     }
 }
 
-/// A job of `cindex -list`. Of an index in a store no posting list is read.
-fn list_paths<'a, S: Store, T: Tree, R: Source, O: Sink, E: Sink>(
+/// A job of `cindex`. Of an index in a store each posting list is read at most once, and none for `-list` and `-reset`.
+fn run_index<'a, S: Store, T: Tree, R: Source, O: Sink, E: Sink>(
     job: &'a IndexJob,
     world: &mut World<'a, S, T, R, O, E>,
 ) -> Result<Outcome<'a>, IoFault>
-    requires list { job.now.list ≡ true }
     requires folder { HasAbsoluteFolder job.now }
-    requires row { FitsInMemory T.row }
     ensures does { IfOk result (λ outcome.
         Between T.snapshot T.failed R.model R.failed O.model O.failed E.model E.failed
         world.old world.new (λ old new.
         (index : Option (List ℕ)) → IsIndex S.model world.old.file.index index →
         DoesIndexing job.now index old new outcome)) }
-    ensures kept { IfOk result (λ outcome. update_of outcome ≡ IndexUpdate.Keep) }
+    ensures unclaimed { IfOk result
+        (λ outcome. job.now.list ≡ true → update_of outcome ≡ IndexUpdate.Keep) }
     ensures counted { IsUnreadable S.failed world.old.file.index world.new.file.index (has_failed result) }
+    ensures failure { IfErr result (λ fault. fault ≡ IoFault.Failed) }
     ensures unread { OnErr result (
         Between T.snapshot T.failed R.model R.failed O.model O.failed E.model E.failed
-        world.old world.new IsUntouched) }
+        world.old world.new (IsUnreadBy (Job.Index job.now) (IsIndex S.model world.old.file.index))) }
 {
-    match &mut world.file.index {
-        Some(store) => {
-            let opened = StoredIndex::open(world.alloc, store)?;
-            let reply = list_stored(opened, &mut world.out, &mut world.err);
-            Ok(replied(job, reply, IndexUpdate::Keep))
-        }
-        None => {
-            let (_, reply) = do_job(job, None, world);
-            Ok(replied(job, reply, IndexUpdate::Keep))
-        }
-    }
-}
-
-/// A job of `cindex` that may update the index file.
-fn update_index<'a, S: Store, T: Tree, R: Source, O: Sink, E: Sink>(
-    job: &'a IndexJob,
-    world: &mut World<'a, S, T, R, O, E>,
-) -> Result<Outcome<'a>, IoFault>
-    requires update { job.now.list ≡ false }
-    requires folder { HasAbsoluteFolder job.now }
-    requires row { FitsInMemory T.row }
-    ensures does { IfOk result (λ outcome.
-        Between T.snapshot T.failed R.model R.failed O.model O.failed E.model E.failed
-        world.old world.new (λ old new.
-        (index : Option (List ℕ)) → IsIndex S.model world.old.file.index index →
-        DoesIndexing job.now index old new outcome)) }
-    ensures counted { IsUnreadable S.failed world.old.file.index world.new.file.index (has_failed result) }
-    ensures unread { OnErr result (
-        Between T.snapshot T.failed R.model R.failed O.model O.failed E.model E.failed
-        world.old world.new IsUntouched) }
-{
-    let old = base_index(job, world)?;
-    let (new, reply) = do_job(job, old, world);
-    Ok(replied(job, reply, update_to(new)))
-}
-
-/// All bytes of the index; those that `-reset` ignores are not read.
-fn base_index<S: Store, T: Tree, R: Source, O: Sink, E: Sink>(
-    job: &IndexJob,
-    world: &mut World<'_, S, T, R, O, E>,
-) -> Result<Option<Vec<u8>>, IoFault>
-    ensures base { IfOk result (λ old. (index : Option (List ℕ)) →
-        IsIndex S.model world.old.file.index index → index_bytes old ≡ base job.now index) }
-    ensures counted { IsUnreadable S.failed world.old.file.index world.new.file.index (has_failed result) }
-    ensures same { Between T.snapshot T.failed R.model R.failed O.model O.failed E.model E.failed
-        world.old world.new (λ old new. new ≡ old) }
-{
-    match &mut world.file.index {
-        Some(store) if !job.reset => {
-            let len = store.len();
-            let bytes = read_part(world.alloc, store, 0, len)?;
-            Ok(Some(bytes))
-        }
-        _ => Ok(None),
-    }
-}
-
-/// Does a job of `cindex` over the bytes of an index. Returns the index after it, and the reply.
-fn do_job<S: Store, T: Tree, R: Source, O: Sink, E: Sink>(
-    job: &IndexJob,
-    old: Option<Vec<u8>>,
-    world: &mut World<'_, S, T, R, O, E>,
-) -> (Option<Vec<u8>>, Reply)
-    requires folder { HasAbsoluteFolder job.now }
-    requires row { FitsInMemory T.row }
-    ensures step { Between T.snapshot T.failed R.model R.failed O.model O.failed E.model E.failed
-        world.old world.new (λ before after.
-        KeepsInput before after × IsWholeStep job.now (tree_of before after) result.1
-        (state_of (index_bytes old) before) (state_of (index_bytes result.0) after)) }
-    ensures file { world.new.file ≡ world.old.file }
-{
-    let mut reply = Reply::Done;
-    let index = cindex(
-        world.alloc,
-        old,
-        slice::from_ref(job),
-        slice::from_mut(&mut world.tree),
-        slice::from_mut(&mut reply),
-        &mut world.out,
-        &mut world.err,
-    );
-    (index, reply)
-}
-
-/// The update of the index file to this index, or to none.
-fn update_to(index: Option<Vec<u8>>) -> IndexUpdate
-    ensures { (old : Option (List ℕ)) → file_after result old ≡ index_bytes index }
-{
-    match index {
-        Some(bytes) => IndexUpdate::Write(bytes),
-        None => IndexUpdate::Remove,
-    }
-}
-
-/// How a job of `cindex` with this reply ends; `update` is for a job that is done.
-fn replied<'a>(job: &'a IndexJob, reply: Reply, update: IndexUpdate) -> Outcome<'a>
-    ensures done { reply ≡ Reply.Done → result ≡ Outcome.Done update }
-    ensures refused { reply ≢ Reply.Done → update_of result ≡ IndexUpdate.Keep }
-    ensures keep { update ≡ IndexUpdate.Keep → update_of result ≡ IndexUpdate.Keep }
-    ensures reply { (job.now.list ≡ true → update ≡ IndexUpdate.Keep) → IsReplied job.now reply result }
-{
-    match reply {
-        Reply::Done => Outcome::Done(update),
-        Reply::Refused(fault) => {
+    let alloc = world.alloc;
+    let index = &mut world.file.index;
+    let (tree, out, err) = (&mut world.tree, &mut world.out, &mut world.err);
+    match cindex_stored(alloc, index, job, tree, out, err) {
+        Ok(Ok(update)) => Ok(Outcome::Done(update)),
+        Ok(Err(fault)) => {
             let refusal = Refusal::Index(fault);
-            Outcome::Refused(ProgramFault::Refusal(Tool::Cindex, refusal, path_at(fault, job)))
+            let path = path_at(fault, job);
+            Ok(Outcome::Refused(ProgramFault::Refusal(Tool::Cindex, refusal, path)))
         }
+        Err(fault) => Err(fault),
     }
 }
 

@@ -1,6 +1,7 @@
 use Rattle.std.proofs.Common.{◌≡◌, Ok, true, false, rules, refl, inl, subst}
 use Rattle.cs_storage.specs.Storing.{Moves, Begins}
-use Rattle.codesearch.specs.Program.{surroundings, IsIndex, may_update, update_of}
+use Rattle.codesearch.specs.Program.{surroundings, may_update, update_of}
+use Rattle.cs_cindex.specs.OldIndex.{IsIndex}
 use Rattle.codesearch.specs.declared.outcome.Outcome.TheVariants.{Refused}
 use Rattle.codesearch.proofs.ExecutionLemmas.{executes_opened, executes_unclaimed, keeps_opened, claimed_stores, has_job, untouched}
 use Rattle.codesearch.proofs.execution.execute_opened.Goals as goal

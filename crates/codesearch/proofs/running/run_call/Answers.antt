@@ -1,13 +1,14 @@
 use Rattle.std.proofs.Common.{false, refl}
-use Rattle.codesearch.specs.Program.{surroundings, opened_file, IsIndex, Runs}
+use Rattle.codesearch.specs.Program.{surroundings, opened_file, Runs}
+use Rattle.cs_cindex.specs.OldIndex.{IsIndex}
 use Rattle.codesearch.specs.declared.outcome.Outcome.TheVariants.{Refused}
 use Rattle.codesearch.specs.declared.outcome.ProgramFault.TheVariants.{Refusal}
 use Rattle.cs_args.specs.declared.fault.Refusal.TheVariants.{Word}
 use Rattle.codesearch.proofs.CallLemmas.{has_folder, runs_job, refuses_words, if_ok}
 use Rattle.codesearch.proofs.running.run_call.Goals as goal
 
-pub run_job-requires-clause-folder : goal.run_job-requires-clause-folder
-run_job-requires-clause-folder g c = has_folder c.args.call.now c.in-Ok.job c.requires.call c.in-Ok.is
+pub run_job-requires : goal.run_job-requires
+run_job-requires g c = record { folder = has_folder c.args.call.now c.in-Ok.job c.requires.call c.in-Ok.is }
 
 pub returns-in-Ok-clause-runs : goal.returns-in-Ok-clause-runs
 returns-in-Ok-clause-runs g c =

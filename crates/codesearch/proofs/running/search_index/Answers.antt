@@ -1,7 +1,7 @@
 use Rattle.std.proofs.Common.{◌≡◌, Some, refl, sym, subst, rules}
 use Rattle.std.specs.Prelude.{IsSomeAnd}
 use Rattle.cs_search.specs.Searched.{IsSearch, search_outputs}
-use Rattle.codesearch.specs.Program.{IsIndex}
+use Rattle.cs_cindex.specs.OldIndex.{IsIndex}
 use Rattle.codesearch.proofs.CallLemmas.{of_known}
 use Rattle.codesearch.proofs.running.search_index.Goals as goal
 

@@ -23,10 +23,10 @@ mod-bit x i h =
 plus-zero : (x : ℕ) → x ≡ x + 0
 plus-zero x = omega arith
 
-shl-above : (word by i : ℕ) → i < 64 → by ≤ i → bit_at (word * 2 ^ by % 18446744073709551616) i ≡ bit_at word (i - by)
+pub shl-above : (word by i : ℕ) → i < 64 → by ≤ i → bit_at (word * 2 ^ by % 18446744073709551616) i ≡ bit_at word (i - by)
 shl-above word by i h le = mod-bit (word * 2 ^ by) i h ∙ ap (λ y. bit_at y i) (plus-zero (word * 2 ^ by)) ∙ bit_at_cat_high word by 0 i (pow_pos by) le
 
-shl-below : (word by i : ℕ) → i < 64 → i < by → bit_at (word * 2 ^ by % 18446744073709551616) i ≡ 0
+pub shl-below : (word by i : ℕ) → i < 64 → i < by → bit_at (word * 2 ^ by % 18446744073709551616) i ≡ 0
 shl-below word by i h lt = mod-bit (word * 2 ^ by) i h ∙ ap (λ y. bit_at y i) (plus-zero (word * 2 ^ by)) ∙ bit_at_cat_low word by 0 i lt ∙ bit_at-zero i
 
 shr-bit : (word by i : ℕ) → bit_at (word / 2 / 2 ^ by) i ≡ bit_at word (suc (by + i))

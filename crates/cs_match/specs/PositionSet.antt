@@ -1,5 +1,6 @@
 -- Position sets as bit vectors.
-use Rattle.std.specs.Prelude.{◌≡◌, ℕ, ◌+◌, ◌-◌, ◌/◌, ◌^◌, ◌<◌, ◌≤◌, All, Bool, false, ◌&&◌, ◌||◌, List, [], ◌∷◌, length, map, slice_index_or, nat_le}
+use Rattle.std.specs.Prelude.{◌≡◌, ℕ, suc, ◌+◌, ◌-◌, ◌/◌, ◌%◌, ◌^◌, ◌<◌, ◌≤◌, All, Bool, false, ◌&&◌, ◌||◌, List, [], ◌∷◌, length, map, slice_index_or, nat_le, nat_eq}
+use Rattle.std.specs.Int.{bit_at}
 use Rattle.std.specs.List.{range_with_len}
 use Rattle.cs_syntax.specs.Bits.{has_bit}
 
@@ -28,6 +29,10 @@ has_from positions from k = nat_le from k && slice_index_or positions (k - from)
 -- the same for the bits of words
 abbrev pub has_bit_from : List ℕ → ℕ → ℕ → Bool
 has_bit_from words from k = nat_le from k && has_bit words (k - from)
+
+-- position k is one of those from `from` up to `end` whose bit, the same in each word, is set
+abbrev pub is_of : ℕ → ℕ → ℕ → ℕ → Bool
+is_of which from end k = (nat_le from k && nat_le (suc k) end) && nat_eq (bit_at which (k % 64)) 1
 
 -- the sets have a position in common
 abbrev pub intersect : List Bool → List Bool → Bool

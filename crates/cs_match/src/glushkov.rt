@@ -2,7 +2,8 @@
 // once: the first, bottom-up, computes for each repeat whether its body is final; the second, top-down, finds which
 // positions are entered. Then all positions are moved over the byte at once. Cursors count the positions and repeats
 // that were visited.
-ghost use Rattle.std.specs.Prelude.{◌≡◌, ℕ, ◌+◌, ◌*◌, ◌<◌, ◌≤◌, ◌^◌, ◌&&◌, ◌||◌, IfOk, length, take, drop, min, true, false, ◌++◌, slice_set};
+ghost use Rattle.std.specs.Prelude.{◌≡◌, ℕ, ◌+◌, ◌*◌, ◌<◌, ◌≤◌, ◌^◌, ◌%◌, ◌==◌, ◌&&◌, ◌||◌, IfOk, length, take, drop, min, true, false, ◌++◌, slice_set};
+ghost use Rattle.std.specs.Int.{bit_at};
 ghost use Rattle.std.proofs.Math.Seq.{sets};
 ghost use Rattle.cs_syntax.specs.Node.{tree_of};
 ghost use Rattle.cs_syntax.specs.NodeList.{trees_of};
@@ -331,6 +332,16 @@ fn end_options(n: usize, count: usize, positions: &PositionSet, cursor: &mut Cur
     ensures position { cursor.new.position ≡ cursor.old.position + position_count (options n count) }
     ensures repeat { cursor.new.repeat ≡ cursor.old.repeat }
 {
+    if are_many(n, count) {
+        prove!(cursor.position <= positions.len());
+        let from = cursor.position;
+        let end = from + count * n;
+        cursor.position = end;
+        return Ends {
+            accepting: positions.first_in(from, end, option_bits(n, from + n - 1)) < end,
+            nullable: true,
+        };
+    }
     let mut all = Ends::within(true);
     for k in 0..count {
         let ends = end_run(n, positions, cursor);
@@ -358,11 +369,69 @@ fn enter_options(
     ensures position { cursor.new.position ≡ cursor.old.position + position_count (options n count) }
     ensures repeat { cursor.new.repeat ≡ cursor.old.repeat }
 {
+    if are_many(n, count) {
+        return enter_many(n, count, enter, positions, entries, cursor);
+    }
     let mut accepting = enter;
     for k in 0..count {
         accepting = enter_run(n, accepting, positions, entries, cursor) | accepting;
     }
     accepting
+}
+
+/// Enters options by words of 64 positions. All options after one that ends are entered.
+fn enter_many(
+    n: usize,
+    count: usize,
+    enter: bool,
+    positions: &PositionSet,
+    entries: &mut PositionSet,
+    cursor: &mut Cursor,
+) -> bool
+    requires some { 0 < n }
+    requires short { n ≤ 2 }
+    requires many { 0 < count }
+    requires room { cursor.old.position + position_count (options n count) ≤ length positions.now }
+    requires shifted { AreShifted cursor.old.position positions.now entries.old }
+    ensures accepting { (here : LookAround) → result
+        ≡ accepts (options n count) enter (drop cursor.old.position positions.now) here }
+    ensures entries { (here : LookAround) → entries.new ≡ take cursor.old.position entries.old
+        ++ (entered (options n count) enter (drop cursor.old.position positions.now) here
+        ++ drop (cursor.old.position + position_count (options n count)) entries.old) }
+    ensures position { cursor.new.position ≡ cursor.old.position + position_count (options n count) }
+    ensures repeat { cursor.new.repeat ≡ cursor.old.repeat }
+{
+    prove!(cursor.position < entries.len());
+    let from = cursor.position;
+    let end = from + count * n;
+    cursor.position = end;
+    let last = positions.first_in(from, end, option_bits(n, from + n - 1));
+    entries.put(from, enter);
+    let first = if enter { from } else { last + 1 };
+    entries.fill(first, end, option_bits(n, from));
+    enter | (last < end)
+}
+
+/// Whether options are entered by words: they have one or two positions, and are so many that it is faster.
+fn are_many(n: usize, count: usize) -> bool
+    ensures some { result ≡ true → 0 < n }
+    ensures short { result ≡ true → n ≤ 2 }
+    ensures many { result ≡ true → 0 < count }
+{
+    n > 0 && n <= 2 && count > 3
+}
+
+/// In each word the bits of every position, or of every other one, of which position `at` is one.
+fn option_bits(n: usize, at: usize) -> u64
+    requires some { 0 < n }
+    requires short { n ≤ 2 }
+    ensures { (k : ℕ) → (bit_at result (k % 64) == 1) ≡ ((at + k) % n == 0) }
+{
+    if n == 1 {
+        u64::MAX
+    } else {
+        0x5555_5555_5555_5555 << (at % 2)
+    }
 }
 
 /// The ends of an alternation of sequences: their last positions.

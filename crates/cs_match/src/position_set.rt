@@ -1,7 +1,7 @@
 // Sets of Glushkov positions as bit vectors.
-ghost use Rattle.std.specs.Prelude.{◌≡◌, ◌≢◌, ◌↔◌, ℕ, ◌+◌, ◌*◌, ◌<◌, ◌≤◌, ◌∷◌, ◌++◌, ◌==◌, ◌&&◌, false, IsTrue, IfOk, length, take, drop, replicate, slice_index_or, if◌then◌else◌};
+ghost use Rattle.std.specs.Prelude.{◌≡◌, ◌≢◌, ◌↔◌, ℕ, ◌+◌, ◌*◌, ◌<◌, ◌≤◌, ◌∷◌, ◌++◌, ◌==◌, ◌&&◌, ◌||◌, nat_le, true, false, IsTrue, IfOk, length, take, drop, replicate, slice_index_or, if◌then◌else◌};
 ghost use Rattle.std.specs.Int.{bit_at};
-ghost use Rattle.cs_match.specs.PositionSet.{has_from, has_bit_from, intersect, is_moved};
+ghost use Rattle.cs_match.specs.PositionSet.{has_from, has_bit_from, intersect, is_moved, is_of};
 ghost use Rattle.cs_match.specs.Work.{words};
 
 use crate::steps::Steps;
@@ -124,6 +124,35 @@ impl PositionSet {
         false
     }
 
+    /// The first position of the set from `from` up to `end` whose bit `which` has, or `end`.
+    pub(crate) fn first_in(&self, from: usize, end: usize, which: u64) -> usize
+        requires { end ≤ length self.now }
+        ensures within { result ≤ end }
+        ensures found { result < end → (is_of which from end result && slice_index_or self.now result false) ≡ true }
+        ensures first { (k : ℕ) → k < result → (is_of which from end k && slice_index_or self.now k false) ≡ false }
+    {
+        for index in from / 64..end.div_ceil(64) {
+            let found = self.words[index] & range_bits(which, from, end, index);
+            if found != 0 {
+                return index * 64 + found.trailing_zeros() as usize;
+            }
+        }
+        end
+    }
+
+    /// Adds the positions from `from` up to `end` whose bit `which` has.
+    pub(crate) fn fill(&mut self, from: usize, end: usize, which: u64)
+        requires { end ≤ length self.old }
+        ensures length { length self.new ≡ length self.old }
+        ensures each { (k : ℕ) → k < length self.old → slice_index_or self.new k false
+            ≡ (if is_of which from end k then true else slice_index_or self.old k false) }
+    {
+        for index in from / 64..end.div_ceil(64) {
+            let bits = range_bits(which, from, end, index);
+            self.words[index] = with_bits(self.words[index], bits, true);
+        }
+    }
+
     /// Makes this the set in which each position is moved to the next one. It has room for one position more.
     pub(crate) fn shift_from<L: Ledger>(&mut self, from: &PositionSet, steps: &mut Steps<L>)
         requires { length self.old ≡ length from.now + 1 }
@@ -234,4 +263,21 @@ fn word_from(words: &[u64], by: usize, index: usize) -> u64
         return low;
     }
     low | word_at(words, index - 1) >> 1 >> (63 - by)
+}
+
+/// The bits of `which` for the positions from `from` up to `end` that are in the word at an index.
+fn range_bits(which: u64, from: usize, end: usize, index: usize) -> u64
+    requires { index * 64 < end }
+    ensures { (i : ℕ) → i < 64 → (bit_at result i == 1) ≡ is_of which from end (index * 64 + i) }
+{
+    let start = index * 64;
+    let bits = bits_from(which, from.saturating_sub(start));
+    with_bits(bits, bits_from(which, end - start), false)
+}
+
+/// The bits of a word from `from` on.
+fn bits_from(word: u64, from: usize) -> u64
+    ensures { (i : ℕ) → i < 64 → (bit_at result i == 1) ≡ (nat_le from i && bit_at word i == 1) }
+{
+    if from < 64 { word >> from << from } else { 0 }
 }

@@ -1,4 +1,4 @@
-use Rattle.std.proofs.Common.{◌≡◌, suc, ◌+◌, ◌-◌, ◌||◌, drop, sym, ◌∙◌, ap, arith}
+use Rattle.std.proofs.Common.{◌≡◌, suc, ◌+◌, ◌-◌, ◌*◌, ◌||◌, drop, sym, ◌∙◌, ap, refl, arith}
 use Rattle.std.proofs.Math.Bool.{and_assoc, or-false, or-true}
 use Rattle.cs_syntax.specs.Matching.{none}
 use Rattle.cs_match.specs.declared.look_around.LookAround.{LookAround}
@@ -6,6 +6,7 @@ use Rattle.cs_match.specs.Expansion.{copies}
 use Rattle.cs_match.specs.Glushkov.{position_count, nullable, nullable_all, is_final}
 use Rattle.cs_match.specs.Parts.{optional_run, options}
 use Rattle.cs_match.proofs.TraversalLemmas.{position_count_optional, nullable_optional, is_final_optional, accepted_all}
+use Rattle.cs_match.proofs.OptionLemmas.{position_count_options, nullable_options, is_final_many}
 use Rattle.cs_match.proofs.glushkov.end_options.Goals as goal
 
 pub end_run-ends-requires : goal.end_run-ends-requires
@@ -39,3 +40,23 @@ loop-k-preserved c =
           rw (c.then-all.ensures.nullable, null here)
           (and_assoc c.loop-k.all.nullable (nullable t here) (nullable_all ts here) ∙ (rw one at i.nullable) here);
     }
+
+pub overflow_mul-end : goal.overflow_mul-end
+overflow_mul-end c = omega (arith, c.requires, position_count_options c.args.n c.args.count, c.len.ensures, c.len.type_inv)
+
+pub overflow_add-end : goal.overflow_add-end
+overflow_add-end c = omega (arith, c.requires, position_count_options c.args.n c.args.count, c.len.ensures, c.len.type_inv)
+
+pub first_in-requires : goal.first_in-requires
+first_in-requires c = omega (arith, c.requires, position_count_options c.args.n c.args.count)
+
+pub returns-then-are_many-clause-accepting : goal.returns-then-are_many-clause-accepting
+returns-then-are_many-clause-accepting c = λ here.
+    is_final_many c.args.n c.args.cursor.now.position c.args.count c.first_in.result c.option_bits.result c.args.positions.now (c.if-are_many.ensures.some refl) (c.if-are_many.ensures.short refl)
+    c.option_bits.ensures c.first_in.ensures.found c.first_in.ensures.first here
+
+pub returns-then-are_many-clause-nullable : goal.returns-then-are_many-clause-nullable
+returns-then-are_many-clause-nullable c = λ here. sym (nullable_options c.args.n c.args.count here)
+
+pub returns-then-are_many-clause-position : goal.returns-then-are_many-clause-position
+returns-then-are_many-clause-position c = ap (λ k. c.args.cursor.now.position + k) (sym (position_count_options c.args.n c.args.count))

@@ -1,5 +1,5 @@
 -- A row of options is entered at the first position of each, where the row is, or after an option that ends.
-use Rattle.std.proofs.Common.{◌≡◌, ℕ, zero, suc, ◌+◌, ◌-◌, ◌*◌, ◌/◌, ◌%◌, ◌<◌, ◌≤◌, ◌⊎◌, Bool, true, false, ◌&&◌, ◌||◌, eqb, leb, List, [], ◌∷◌, ◌++◌, take, drop, length, get_or, set, refl, sym, ◌∙◌, ap, ap₂, inl, inr, arith, length-append, length-take, length-drop, ext_get_or, length-set, get_or-set_same, get_or-set_other}
+use Rattle.std.proofs.Common.{◌≡◌, ℕ, zero, suc, ◌+◌, ◌-◌, ◌*◌, ◌/◌, ◌%◌, ◌<◌, ◌≤◌, ◌⊎◌, Bool, true, false, ◌&&◌, ◌||◌, eqb, leb, List, ◌∷◌, ◌++◌, take, drop, length, get_or, set, refl, sym, ◌∙◌, ap, ap₂, inl, inr, arith, length-append, length-take, length-drop, ext_get_or, length-set, get_or-set_same, get_or-set_other}
 use Rattle.std.proofs.Math.Bool.{and-true, and-false, or-false, or-true}
 use Rattle.std.proofs.Math.Seq.{take-take, get_or-take}
 use Rattle.std.proofs.lemmas.Bool.{cases_lt, cases_eq, le-leb, lt-leb, eq-eqb, ne_eqb, eqb-true, and_parts}
@@ -11,8 +11,8 @@ use Rattle.cs_match.specs.declared.look_around.LookAround.{LookAround}
 use Rattle.cs_match.specs.Expansion.{copies}
 use Rattle.cs_match.specs.Glushkov.{position_count, nullable, nullable_all, is_final, is_final_all, accepts}
 use Rattle.cs_match.specs.Entered.{entered, entered_all, AreShifted}
-use Rattle.cs_match.specs.Parts.{run, optional_run, options}
-use Rattle.cs_match.specs.PositionSet.{is_of}
+use Rattle.cs_match.specs.Parts.{optional_run, options}
+use Rattle.cs_match.specs.PositionSet.{is_selected}
 use Rattle.cs_match.proofs.EnteredLemmas.{length-entered}
 use Rattle.cs_match.proofs.ShapeLemmas.{is_final_run, entered_run}
 use Rattle.cs_match.proofs.TraversalLemmas.{position_count_optional, nullable_optional, is_final_optional, entered_optional}
@@ -168,9 +168,9 @@ place (suc (suc m)) count x h lt = absurd (omega (arith, h))
 
 -- `last` is the first of the last positions of options that is in the set, or the end of the row
 module _ (m p count last lasts : ℕ) (ms : List Bool) (short : m < 2) (bits : (k : ℕ) → eqb (bit_at lasts (k % 64)) 1 ≡ eqb ((p + suc m - 1 + k) % suc m) 0)
-    (found : last < p + count * suc m → is_of lasts p (p + count * suc m) last && get_or ms last false ≡ true)
-    (first : (k : ℕ) → k < last → is_of lasts p (p + count * suc m) k && get_or ms k false ≡ false) where
-  is-last : (i : ℕ) → i < count → is_of lasts p (p + count * suc m) (p + (i * suc m + m)) ≡ true
+    (found : last < p + count * suc m → is_selected lasts p (p + count * suc m) last && get_or ms last false ≡ true)
+    (first : (k : ℕ) → k < last → is_selected lasts p (p + count * suc m) k && get_or ms k false ≡ false) where
+  is-last : (i : ℕ) → i < count → is_selected lasts p (p + count * suc m) (p + (i * suc m + m)) ≡ true
   is-last i lt =
       rw (
         le-leb p (p + (i * suc m + m)) (omega arith),
@@ -208,7 +208,7 @@ module _ (m p count last lasts : ℕ) (ms : List Bool) (short : m < 2) (bits : (
       (at-once : enter ≡ true → from ≡ p) (after : enter ≡ false → from ≡ last + 1)
       (first-bits : (k : ℕ) → eqb (bit_at firsts (k % 64)) 1 ≡ eqb ((p + k) % suc m) 0)
       (is-put : put ≡ take p old ++ enter ∷ drop (p + 1) old) (size : length new ≡ length put)
-      (each : (k : ℕ) → k < length put → get_or new k false ≡ (if is_of firsts from (p + count * suc m) k then true else get_or put k false)) where
+      (each : (k : ℕ) → k < length put → get_or new k false ≡ (if is_selected firsts from (p + count * suc m) k then true else get_or put k false)) where
     abbrev end : ℕ
     end = p + count * suc m
 
@@ -234,7 +234,7 @@ module _ (m p count last lasts : ℕ) (ms : List Bool) (short : m < 2) (bits : (
         ∙ sym (get_or-drop (suc p) old x false) ∙ ap (λ xs. get_or xs x false) shifted.same ∙ get_or-drop p ms x false
 
     abbrev entry : ℕ → Bool
-    entry k = if is_of firsts from end k then true else get_or put k false
+    entry k = if is_selected firsts from end k then true else get_or put k false
 
     no-later : (j : ℕ) → j < count → p + j * suc m ≤ last → enter ≡ false → get_or put (p + j * suc m) false ≡ false
     no-later zero lt le out =
@@ -248,7 +248,7 @@ module _ (m p count last lasts : ℕ) (ms : List Bool) (short : m < 2) (bits : (
     first-entry j lt =
         rw (is, ended-at j (omega (arith, lt))) (by enter refl)
       where
-        is : is_of firsts from end (p + j * suc m) ≡ leb from (p + j * suc m)
+        is : is_selected firsts from end (p + j * suc m) ≡ leb from (p + j * suc m)
         is =
             rw (le-leb (suc (p + j * suc m)) end (omega (arith, last_within m j count short lt)), first-bits (p + j * suc m) ∙ eq-eqb _ 0 (first_place m p j short))
             (and-true _ ∙ and-true _)
@@ -271,7 +271,7 @@ module _ (m p count last lasts : ℕ) (ms : List Bool) (short : m < 2) (bits : (
         rw (other, and-false (leb from (p + (j * suc m + suc r)) && leb (suc (p + (j * suc m + suc r))) end))
         (ap (λ (k : ℕ). get_or put k false) index ∙ put-later (j * suc m + r))
 
-    out-of-row : (k : ℕ) → is_of firsts from end k ≡ false → (k ≡ p → ⊥) → entry k ≡ get_or old k false
+    out-of-row : (k : ℕ) → is_selected firsts from end k ≡ false → (k ≡ p → ⊥) → entry k ≡ get_or old k false
     out-of-row k out other = rw out (put-other k other)
 
     not-before : p ≤ from
@@ -336,25 +336,25 @@ module _ (m p count last lasts : ℕ) (ms : List Bool) (short : m < 2) (bits : (
 
 -- the same for options of one or two positions
 pub is_final_many : (n p count last lasts : ℕ) (ms : List Bool) → 0 < n → n ≤ 2 → ((k : ℕ) → eqb (bit_at lasts (k % 64)) 1 ≡ eqb ((p + n - 1 + k) % n) 0) →
-    (last < p + count * n → is_of lasts p (p + count * n) last && get_or ms last false ≡ true) →
-    ((k : ℕ) → k < last → is_of lasts p (p + count * n) k && get_or ms k false ≡ false) → (a : LookAround) →
+    (last < p + count * n → is_selected lasts p (p + count * n) last && get_or ms last false ≡ true) →
+    ((k : ℕ) → k < last → is_selected lasts p (p + count * n) k && get_or ms k false ≡ false) → (a : LookAround) →
     leb (suc last) (p + count * n) ≡ is_final (options n count) (drop p ms) a
 is_final_many zero p count last lasts ms some short bits found first a = absurd (omega (arith, some))
 is_final_many (suc m) p count last lasts ms some short bits found first a = is_final_row m p count last lasts ms (omega (arith, short)) bits found first a
 
 pub accepts_many : (n p count last lasts : ℕ) (ms : List Bool) → 0 < n → n ≤ 2 → ((k : ℕ) → eqb (bit_at lasts (k % 64)) 1 ≡ eqb ((p + n - 1 + k) % n) 0) →
-    (last < p + count * n → is_of lasts p (p + count * n) last && get_or ms last false ≡ true) →
-    ((k : ℕ) → k < last → is_of lasts p (p + count * n) k && get_or ms k false ≡ false) → (enter : Bool) (a : LookAround) →
+    (last < p + count * n → is_selected lasts p (p + count * n) last && get_or ms last false ≡ true) →
+    ((k : ℕ) → k < last → is_selected lasts p (p + count * n) k && get_or ms k false ≡ false) → (enter : Bool) (a : LookAround) →
     (leb (suc last) (p + count * n) || enter) ≡ accepts (options n count) enter (drop p ms) a
 accepts_many zero p count last lasts ms some short bits found first enter a = absurd (omega (arith, some))
 accepts_many (suc m) p count last lasts ms some short bits found first enter a = accepts_row m p count last lasts ms (omega (arith, short)) bits found first enter a
 
 pub entered_many : (n p count last lasts : ℕ) (ms : List Bool) → 0 < n → n ≤ 2 → ((k : ℕ) → eqb (bit_at lasts (k % 64)) 1 ≡ eqb ((p + n - 1 + k) % n) 0) →
-    (last < p + count * n → is_of lasts p (p + count * n) last && get_or ms last false ≡ true) →
-    ((k : ℕ) → k < last → is_of lasts p (p + count * n) k && get_or ms k false ≡ false) → (enter : Bool) (from firsts : ℕ) (old new put : List Bool) →
+    (last < p + count * n → is_selected lasts p (p + count * n) last && get_or ms last false ≡ true) →
+    ((k : ℕ) → k < last → is_selected lasts p (p + count * n) k && get_or ms k false ≡ false) → (enter : Bool) (from firsts : ℕ) (old new put : List Bool) →
     0 < count → p + count * n ≤ length ms → AreShifted p ms old → (enter ≡ true → from ≡ p) → (enter ≡ false → from ≡ last + 1) →
     ((k : ℕ) → eqb (bit_at firsts (k % 64)) 1 ≡ eqb ((p + k) % n) 0) → put ≡ take p old ++ enter ∷ drop (p + 1) old → length new ≡ length put →
-    ((k : ℕ) → k < length put → get_or new k false ≡ (if is_of firsts from (p + count * n) k then true else get_or put k false)) → (a : LookAround) →
+    ((k : ℕ) → k < length put → get_or new k false ≡ (if is_selected firsts from (p + count * n) k then true else get_or put k false)) → (a : LookAround) →
     new ≡ take p old ++ (entered (options n count) enter (drop p ms) a ++ drop (p + position_count (options n count)) old)
 entered_many zero p count last lasts ms some short = absurd (omega (arith, some))
 entered_many (suc m) p count last lasts ms some short = entered_row m p count last lasts ms (omega (arith, short))

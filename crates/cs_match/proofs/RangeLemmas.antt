@@ -1,17 +1,16 @@
 -- The positions of a range whose bit, the same in each word, is set.
 use Rattle.std.proofs.Common.{◌≡◌, ℕ, zero, suc, ◌+◌, ◌-◌, ◌*◌, ◌/◌, ◌%◌, ◌^◌, ◌<◌, ◌≤◌, Bool, true, false, ◌&&◌, eqb, leb, List, length, get_or, bit_and, refl, sym, ◌∙◌, ap, ap₂, inl, inr, arith, w64}
-use Rattle.std.proofs.Math.Bool.{and-false, and-true, or-false}
+use Rattle.std.proofs.Math.Bool.{and-false, and-true}
 use Rattle.std.proofs.lemmas.List.Elements.{All-from_get_or}
-use Rattle.std.proofs.lemmas.Bool.{cases_lt, cases_eq, and_parts, le-leb, lt-leb, leb-true, eq-eqb, ne_eqb, true≢false}
-use Rattle.std.proofs.lemmas.Nat.{pow_pos, shr-shr, and_le_l}
+use Rattle.std.proofs.lemmas.Bool.{cases_lt, cases_eq, and_parts, le-leb, lt-leb, leb-true, eq-eqb, ne_eqb}
+use Rattle.std.proofs.lemmas.Nat.{shr-shr, and_le_l}
 use Rattle.std.proofs.lemmas.Nat.Bits.{bit_at_cat_low, bit_at_cat_high, bit_at_ones, bit_at-zero, bit_at-trailing_zeros}
 use Rattle.std.specs.Prelude.{if◌then◌else◌}
 use Rattle.std.specs.Int.{bit_at, trailing_zeros}
 use Rattle.cs_syntax.specs.Bits.{has_bit}
-use Rattle.cs_match.specs.PositionSet.{positions_of, IsPositionSet, is_of}
+use Rattle.cs_match.specs.PositionSet.{positions_of, IsPositionSet, is_selected}
 use Rattle.cs_match.proofs.BitwiseLemmas.{bit-and, has_bit-at}
-use Rattle.cs_match.proofs.PositionSetLemmas.{length-positions_of, get_or-positions_of}
-use Rattle.cs_match.proofs.MoveLemmas.{past_words}
+use Rattle.cs_match.proofs.PositionSetLemmas.{get_or-positions_of}
 use Rattle.cs_match.proofs.OffsetLemmas.{shl-above, shl-below}
 
 -- the bits of a word from one on
@@ -26,14 +25,14 @@ high-bits word from i h = elim (cases_lt i from) [
 ]
 
 -- nothing is before or after the range
-pub none-before : (which from end k : ℕ) → k < from → is_of which from end k ≡ false
+pub none-before : (which from end k : ℕ) → k < from → is_selected which from end k ≡ false
 none-before which from end k lt = rw (lt-leb from k lt) refl
 
-pub none-after : (which from end k : ℕ) → end ≤ k → is_of which from end k ≡ false
+pub none-after : (which from end k : ℕ) → end ≤ k → is_selected which from end k ≡ false
 none-after which from end k le = rw (lt-leb (suc k) end (omega (arith, le)), and-false (leb from k)) refl
 
 -- what holds of a position of the range
-pub of-parts : (which from end k : ℕ) → is_of which from end k ≡ true → (from ≤ k) × (k < end) × (eqb (bit_at which (k % 64)) 1 ≡ true)
+pub of-parts : (which from end k : ℕ) → is_selected which from end k ≡ true → (from ≤ k) × (k < end) × (eqb (bit_at which (k % 64)) 1 ≡ true)
 of-parts which from end k e =
     let parts = and_parts _ _ e in
     let range = and_parts _ _ parts.0 in
@@ -76,35 +75,35 @@ other-bit at k = elim (cases_lt (k % 64) (at % 2)) [
 
 -- the positions of a range that are in the set: none is in the words before one, and `bits` are those of its range
 module _ (words : List ℕ) (count which from end index word bits : ℕ) (room : end ≤ count) (word-is : word ≡ get_or words index 0) (fits : word < 2 ^ 64)
-    (range : (i : ℕ) → i < 64 → eqb (bit_at bits i) 1 ≡ is_of which from end (index * 64 + i))
-    (before : (k : ℕ) → k < index * 64 → is_of which from end k && has_bit words k ≡ false) where
-  word-bit : (i : ℕ) → i < 64 → eqb (bit_at (bit_and word bits) i) 1 ≡ is_of which from end (index * 64 + i) && has_bit words (index * 64 + i)
+    (range : (i : ℕ) → i < 64 → eqb (bit_at bits i) 1 ≡ is_selected which from end (index * 64 + i))
+    (before : (k : ℕ) → k < index * 64 → is_selected which from end k && has_bit words k ≡ false) where
+  word-bit : (i : ℕ) → i < 64 → eqb (bit_at (bit_and word bits) i) 1 ≡ is_selected which from end (index * 64 + i) && has_bit words (index * 64 + i)
   word-bit i h =
       bit-and word bits i
       ∙ ap₂ (λ x y. x && y) (ap (λ x. eqb (bit_at x i) 1) word-is ∙ sym (has_bit-at words index i h)) (range i h)
-      ∙ swap (has_bit words (index * 64 + i)) (is_of which from end (index * 64 + i))
+      ∙ swap (has_bit words (index * 64 + i)) (is_selected which from end (index * 64 + i))
     where
       swap : (x y : Bool) → x && y ≡ y && x
       swap true y = sym (and-true y)
       swap false y = sym (and-false y)
 
   -- none is below this bit of the word
-  up-to : (n : ℕ) → n ≤ 64 → ((i : ℕ) → i < n → eqb (bit_at (bit_and word bits) i) 1 ≡ false) → (k : ℕ) → k < index * 64 + n → is_of which from end k && has_bit words k ≡ false
+  up-to : (n : ℕ) → n ≤ 64 → ((i : ℕ) → i < n → eqb (bit_at (bit_and word bits) i) 1 ≡ false) → (k : ℕ) → k < index * 64 + n → is_selected which from end k && has_bit words k ≡ false
   up-to n low none k h = elim (cases_lt k (index * 64)) [
     | inl lt ↦ before k lt
     | inr le ↦
         let place : index * 64 + (k - index * 64) ≡ k = omega (arith, le) in
-        ap (λ j. is_of which from end j && has_bit words j) (sym place)
+        ap (λ j. is_selected which from end j && has_bit words j) (sym place)
         ∙ sym (word-bit (k - index * 64) (omega (arith, le, h, low))) ∙ none (k - index * 64) (omega (arith, le, h))
   ]
 
-  in-set : (k : ℕ) → is_of which from end k && has_bit words k ≡ is_of which from end k && get_or (positions_of words count) k false
+  in-set : (k : ℕ) → is_selected which from end k && has_bit words k ≡ is_selected which from end k && get_or (positions_of words count) k false
   in-set k = elim (cases_lt k end) [
-    | inl within ↦ ap (λ x. is_of which from end k && x) (sym (get_or-positions_of words count k (omega (arith, within, room))))
+    | inl within ↦ ap (λ x. is_selected which from end k && x) (sym (get_or-positions_of words count k (omega (arith, within, room))))
     | inr past ↦ rw (none-after which from end k past) refl
   ]
 
-  pub none-in-word : bit_and word bits ≡ 0 → (k : ℕ) → k < (index + 1) * 64 → is_of which from end k && has_bit words k ≡ false
+  pub none-in-word : bit_and word bits ≡ 0 → (k : ℕ) → k < (index + 1) * 64 → is_selected which from end k && has_bit words k ≡ false
   none-in-word none k h =
       up-to 64 (omega arith) (λ i lt. ap (λ x. eqb (bit_at x i) 1) none ∙ ap (λ x. eqb x 1) (bit_at-zero i)) k (omega (arith, h))
 
@@ -116,35 +115,35 @@ module _ (words : List ℕ) (count which from end index word bits : ℕ) (room :
         × ((i : ℕ) → i < trailing_zeros w64 (bit_and word bits) → bit_at (bit_and word bits) i ≡ 0)
     found = bit_at-trailing_zeros w64 (bit_and word bits) (omega (arith, some)) (omega (arith, fits, and_le_l word bits))
 
-    bit-found : is_of which from end lowest && has_bit words lowest ≡ true
+    bit-found : is_selected which from end lowest && has_bit words lowest ≡ true
     bit-found = sym (word-bit _ found.0) ∙ eq-eqb _ 1 found.1
 
     pub found-within : lowest < end
     found-within = (of-parts which from end lowest (and_parts _ _ bit-found).0).1
 
-    pub found-in-set : is_of which from end lowest && get_or (positions_of words count) lowest false ≡ true
+    pub found-in-set : is_selected which from end lowest && get_or (positions_of words count) lowest false ≡ true
     found-in-set = sym (in-set lowest) ∙ bit-found
 
-    pub found-first : (k : ℕ) → k < lowest → is_of which from end k && get_or (positions_of words count) k false ≡ false
+    pub found-first : (k : ℕ) → k < lowest → is_selected which from end k && get_or (positions_of words count) k false ≡ false
     found-first k h =
         sym (in-set k) ∙ up-to (trailing_zeros w64 (bit_and word bits)) (omega (arith, found.0)) (λ i lt. ap (λ x. eqb x 1) (found.2 i lt)) k h
 
 -- none is in the set
-pub none-in-set : (words : List ℕ) (count which from end : ℕ) → end ≤ count → ((k : ℕ) → k < end → is_of which from end k && has_bit words k ≡ false) →
-    (k : ℕ) → k < end → is_of which from end k && get_or (positions_of words count) k false ≡ false
+pub none-in-set : (words : List ℕ) (count which from end : ℕ) → end ≤ count → ((k : ℕ) → k < end → is_selected which from end k && has_bit words k ≡ false) →
+    (k : ℕ) → k < end → is_selected which from end k && get_or (positions_of words count) k false ≡ false
 none-in-set words count which from end room none k h =
-    ap (λ x. is_of which from end k && x) (get_or-positions_of words count k (omega (arith, h, room))) ∙ none k h
+    ap (λ x. is_selected which from end k && x) (get_or-positions_of words count k (omega (arith, h, room))) ∙ none k h
 
 -- the positions of a range are added
 module _ (new old : List ℕ) (count which from end past : ℕ) (are : IsPositionSet old count) (size : length new ≡ length old) (room : end ≤ count)
     (fits : (k : ℕ) → get_or new k 0 < 18446744073709551616)
-    (done : (k i : ℕ) → k < past → i < 64 → eqb (bit_at (get_or new k 0) i) 1 ≡ (if is_of which from end (k * 64 + i) then true else eqb (bit_at (get_or old k 0) i) 1))
+    (done : (k i : ℕ) → k < past → i < 64 → eqb (bit_at (get_or new k 0) i) 1 ≡ (if is_selected which from end (k * 64 + i) then true else eqb (bit_at (get_or old k 0) i) 1))
     (pending : (k : ℕ) → past ≤ k → get_or new k 0 ≡ get_or old k 0) (ends : end ≤ past * 64) where
-  filled-at : (k : ℕ) → has_bit new k ≡ (if is_of which from end k then true else has_bit old k)
+  filled-at : (k : ℕ) → has_bit new k ≡ (if is_selected which from end k then true else has_bit old k)
   filled-at k = elim (cases_lt (k / 64) past) [
     | inl within ↦
         let index : k / 64 * 64 + k % 64 ≡ k = omega arith in
-        done (k / 64) (k % 64) within (omega arith) ∙ ap (λ j. if is_of which from end j then true else has_bit old k) index
+        done (k / 64) (k % 64) within (omega arith) ∙ ap (λ j. if is_selected which from end j then true else has_bit old k) index
     | inr beyond ↦
         ap (λ x. eqb (bit_at x (k % 64)) 1) (pending (k / 64) beyond) ∙ sym (rw (none-after which from end k (omega (arith, beyond, ends))) refl)
   ]
@@ -156,6 +155,6 @@ module _ (new old : List ℕ) (count which from end past : ℕ) (are : IsPositio
     no_other = λ k beyond. filled-at k ∙ rw (none-after which from end k (omega (arith, beyond, room))) (are.no_other k beyond);
   }
 
-  pub get_or-filled : (k : ℕ) → k < count → get_or (positions_of new count) k false ≡ (if is_of which from end k then true else get_or (positions_of old count) k false)
+  pub get_or-filled : (k : ℕ) → k < count → get_or (positions_of new count) k false ≡ (if is_selected which from end k then true else get_or (positions_of old count) k false)
   get_or-filled k h =
-      get_or-positions_of new count k h ∙ filled-at k ∙ ap (λ x. if is_of which from end k then true else x) (sym (get_or-positions_of old count k h))
+      get_or-positions_of new count k h ∙ filled-at k ∙ ap (λ x. if is_selected which from end k then true else x) (sym (get_or-positions_of old count k h))

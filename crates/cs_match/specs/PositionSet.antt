@@ -31,8 +31,8 @@ abbrev pub has_bit_from : List ℕ → ℕ → ℕ → Bool
 has_bit_from words from k = nat_le from k && has_bit words (k - from)
 
 -- position k is one of those from `from` up to `end` whose bit, the same in each word, is set
-abbrev pub is_of : ℕ → ℕ → ℕ → ℕ → Bool
-is_of which from end k = (nat_le from k && nat_le (suc k) end) && nat_eq (bit_at which (k % 64)) 1
+abbrev pub is_selected : ℕ → ℕ → ℕ → ℕ → Bool
+is_selected which from end k = (nat_le from k && nat_le (suc k) end) && nat_eq (bit_at which (k % 64)) 1
 
 -- the sets have a position in common
 abbrev pub intersect : List Bool → List Bool → Bool

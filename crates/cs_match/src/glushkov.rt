@@ -333,6 +333,7 @@ fn end_options(n: usize, count: usize, positions: &PositionSet, cursor: &mut Cur
     ensures repeat { cursor.new.repeat ≡ cursor.old.repeat }
 {
     if are_many(n, count) {
+        // The row is within the set, so its end does not overflow.
         prove!(cursor.position <= positions.len());
         let from = cursor.position;
         let end = from + count * n;
@@ -379,7 +380,7 @@ fn enter_options(
     accepting
 }
 
-/// Enters options by words of 64 positions. All options after one that ends are entered.
+/// Enters options by words of 64 positions. All options are optional, so those after one that ends are entered.
 fn enter_many(
     n: usize,
     count: usize,
@@ -401,6 +402,7 @@ fn enter_many(
     ensures position { cursor.new.position ≡ cursor.old.position + position_count (options n count) }
     ensures repeat { cursor.new.repeat ≡ cursor.old.repeat }
 {
+    // The row is within the entries, which have one position more, so neither its end nor the next offset overflows.
     prove!(cursor.position < entries.len());
     let from = cursor.position;
     let end = from + count * n;
@@ -412,7 +414,7 @@ fn enter_many(
     enter | (last < end)
 }
 
-/// Whether options are entered by words: they have one or two positions, and are so many that it is faster.
+/// Whether options are entered by words: they have one or two positions, and are so many that this is faster.
 fn are_many(n: usize, count: usize) -> bool
     ensures some { result ≡ true → 0 < n }
     ensures short { result ≡ true → n ≤ 2 }
@@ -421,7 +423,7 @@ fn are_many(n: usize, count: usize) -> bool
     n > 0 && n <= 2 && count > 3
 }
 
-/// In each word the bits of every position, or of every other one, of which position `at` is one.
+/// In each word of a set the bits of every nth position, of which position `at` is one.
 fn option_bits(n: usize, at: usize) -> u64
     requires some { 0 < n }
     requires short { n ≤ 2 }

@@ -1,7 +1,7 @@
 // Sets of Glushkov positions as bit vectors.
 ghost use Rattle.std.specs.Prelude.{◌≡◌, ◌≢◌, ◌↔◌, ℕ, ◌+◌, ◌*◌, ◌<◌, ◌≤◌, ◌∷◌, ◌++◌, ◌==◌, ◌&&◌, ◌||◌, nat_le, true, false, IsTrue, IfOk, length, take, drop, replicate, slice_index_or, if◌then◌else◌};
 ghost use Rattle.std.specs.Int.{bit_at};
-ghost use Rattle.cs_match.specs.PositionSet.{has_from, has_bit_from, intersect, is_moved, is_of};
+ghost use Rattle.cs_match.specs.PositionSet.{has_from, has_bit_from, intersect, is_moved, is_selected};
 ghost use Rattle.cs_match.specs.Work.{words};
 
 use crate::steps::Steps;
@@ -128,8 +128,8 @@ impl PositionSet {
     pub(crate) fn first_in(&self, from: usize, end: usize, which: u64) -> usize
         requires { end ≤ length self.now }
         ensures within { result ≤ end }
-        ensures found { result < end → (is_of which from end result && slice_index_or self.now result false) ≡ true }
-        ensures first { (k : ℕ) → k < result → (is_of which from end k && slice_index_or self.now k false) ≡ false }
+        ensures found { result < end → (is_selected which from end result && slice_index_or self.now result false) ≡ true }
+        ensures first { (k : ℕ) → k < result → (is_selected which from end k && slice_index_or self.now k false) ≡ false }
     {
         for index in from / 64..end.div_ceil(64) {
             let found = self.words[index] & range_bits(which, from, end, index);
@@ -145,7 +145,7 @@ impl PositionSet {
         requires { end ≤ length self.old }
         ensures length { length self.new ≡ length self.old }
         ensures each { (k : ℕ) → k < length self.old → slice_index_or self.new k false
-            ≡ (if is_of which from end k then true else slice_index_or self.old k false) }
+            ≡ (if is_selected which from end k then true else slice_index_or self.old k false) }
     {
         for index in from / 64..end.div_ceil(64) {
             let bits = range_bits(which, from, end, index);
@@ -268,7 +268,7 @@ fn word_from(words: &[u64], by: usize, index: usize) -> u64
 /// The bits of `which` for the positions from `from` up to `end` that are in the word at an index.
 fn range_bits(which: u64, from: usize, end: usize, index: usize) -> u64
     requires { index * 64 < end }
-    ensures { (i : ℕ) → i < 64 → (bit_at result i == 1) ≡ is_of which from end (index * 64 + i) }
+    ensures { (i : ℕ) → i < 64 → (bit_at result i == 1) ≡ is_selected which from end (index * 64 + i) }
 {
     let start = index * 64;
     let bits = bits_from(which, from.saturating_sub(start));

@@ -1,4 +1,4 @@
-use Rattle.std.proofs.Common.{◌≡◌, suc, ◌+◌, ◌-◌, ◌*◌, ◌||◌, drop, sym, ◌∙◌, ap, refl, arith}
+use Rattle.std.proofs.Common.{◌≡◌, suc, ◌+◌, ◌-◌, ◌||◌, drop, sym, ◌∙◌, ap, refl, arith}
 use Rattle.std.proofs.Math.Bool.{and_assoc, or-false, or-true}
 use Rattle.cs_syntax.specs.Matching.{none}
 use Rattle.cs_match.specs.declared.look_around.LookAround.{LookAround}

@@ -1,7 +1,5 @@
-use Rattle.std.proofs.Common.{◌≡◌, ◌+◌, ◌*◌, ◌<◌, ◌≤◌, ◌||◌, leb, suc, true, false, ◌∷◌, take, drop, length, sym, ◌∙◌, ap, arith, length-append, length-take, length-drop, true≢false}
+use Rattle.std.proofs.Common.{◌+◌, ◌∷◌, take, drop, length, sym, ◌∙◌, ap, arith, length-append, length-take, length-drop, true≢false}
 use Rattle.std.proofs.Math.Bool.{or_comm}
-use Rattle.cs_match.specs.Glushkov.{position_count}
-use Rattle.cs_match.specs.Parts.{options}
 use Rattle.cs_match.proofs.OptionLemmas.{position_count_options, accepts_many, entered_many}
 use Rattle.cs_match.proofs.glushkov.enter_many.Goals as goal
 use Rattle.cs_match.proofs.glushkov.enter_many.Goals.{then-enter, else-enter}

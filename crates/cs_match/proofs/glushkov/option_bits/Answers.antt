@@ -1,4 +1,4 @@
-use Rattle.std.proofs.Common.{◌≡◌, ◌+◌, ◌%◌, ◌*◌, ◌^◌, ◌∙◌, eqb, ap, sym, arith}
+use Rattle.std.proofs.Common.{◌≡◌, ◌+◌, ◌%◌, ◌∙◌, eqb, ap, sym, arith}
 use Rattle.cs_match.proofs.RangeLemmas.{every-bit, other-bit}
 use Rattle.cs_match.proofs.glushkov.option_bits.Goals as goal
 

@@ -3,7 +3,7 @@ use Rattle.std.proofs.lemmas.Bool.{cases_eq}
 use Rattle.std.proofs.lemmas.List.{get_or_read}
 use Rattle.std.specs.Prelude.{if◌then◌else◌}
 use Rattle.std.specs.Int.{bit_at}
-use Rattle.cs_match.specs.PositionSet.{positions_of, is_of}
+use Rattle.cs_match.specs.PositionSet.{positions_of, is_selected}
 use Rattle.cs_match.proofs.PositionSetLemmas.{length-positions_of}
 use Rattle.cs_match.proofs.RangeLemmas.{IsPositionSet-filled, get_or-filled}
 use Rattle.cs_match.proofs.position_set.PositionSet.fill.Goals as goal
@@ -23,7 +23,7 @@ loop-index-preserved c =
     let old = c.self.inside.words.items in
     let at = c.loop-index.index in
     let new = c.with_bits.result in
-    let there : ℕ → ℕ → Type 0 = λ k i. eqb (bit_at (get_or (set now at new) k 0) i) 1 ≡ (if is_of c.args.which c.args.from c.args.end (k * 64 + i) then true else eqb (bit_at (get_or old k 0) i) 1) in
+    let there : ℕ → ℕ → Type 0 = λ k i. eqb (bit_at (get_or (set now at new) k 0) i) 1 ≡ (if is_selected c.args.which c.args.from c.args.end (k * 64 + i) then true else eqb (bit_at (get_or old k 0) i) 1) in
     let in-now : at < length now =
     omega (arith, c.loop-index-test.true, c.div_ceil-index-end.ensures, c.requires, length-positions_of c.self.inside.words.items c.self.inside.count, ap length c.self.view_is, c.self.invariant.enough, c.loop-index.invariant.as_many) in
     let word : c.index.result.now ≡ get_or old at 0 = get_or_read now at _ in-now c.index.ensures 0 ∙ c.loop-index.invariant.pending at (omega arith) in
@@ -39,7 +39,7 @@ loop-index-preserved c =
             subst (λ k. there k i) (sym same)
             (ap (λ x. eqb (bit_at x i) 1) (get_or-set_same now at new 0 in-now) ∙ c.with_bits.ensures i h
             ∙ ap (λ x. if x then true else eqb (bit_at c.index.result.now i) 1) (c.range_bits-bits.ensures i h)
-            ∙ ap (λ x. if is_of c.args.which c.args.from c.args.end (at * 64 + i) then true else eqb (bit_at x i) 1) word)
+            ∙ ap (λ x. if is_selected c.args.which c.args.from c.args.end (at * 64 + i) then true else eqb (bit_at x i) 1) word)
         | inr other ↦ ap (λ x. eqb (bit_at x i) 1) (get_or-set_other now at k new 0 other) ∙ c.loop-index.invariant.done k i (omega (arith, lt, other)) h
       ];
       pending = λ k le. get_or-set_other now at k new 0 (λ same. omega (arith, le, same)) ∙ c.loop-index.invariant.pending k (omega (arith, le));
@@ -71,4 +71,4 @@ returns-clause-each c = λ k h.
     let within : k < count = omega (arith, h, length-positions_of old count, ap length c.self.view_is) in
     ap (λ n. get_or (positions_of c.loop-index.self-inside.words.items n) k false) i.position_count
     ∙ get_or-filled _ old count c.args.which c.args.from c.args.end c.loop-index.index c.self.invariant i.as_many (room c) i.fits i.done i.pending (ends c) k within
-    ∙ ap (λ ms. if is_of c.args.which c.args.from c.args.end k then true else get_or ms k false) c.self.view_is
+    ∙ ap (λ ms. if is_selected c.args.which c.args.from c.args.end k then true else get_or ms k false) c.self.view_is

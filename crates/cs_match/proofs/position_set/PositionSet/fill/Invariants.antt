@@ -1,7 +1,7 @@
 use Rattle.std.proofs.Common.{◌≡◌, ℕ, ◌+◌, ◌*◌, ◌<◌, ◌≤◌, eqb, length, get_or, true}
 use Rattle.std.specs.Prelude.{if◌then◌else◌}
 use Rattle.std.specs.Int.{bit_at}
-use Rattle.cs_match.specs.PositionSet.{is_of}
+use Rattle.cs_match.specs.PositionSet.{is_selected}
 use Rattle.cs_match.proofs.position_set.PositionSet.fill.Given as goal
 
 abbrev pub invariant-loop-index : goal.invariant-loop-index
@@ -13,6 +13,6 @@ invariant-loop-index l =
       as_many : length new ≡ length old;
       fits : (k : ℕ) → get_or new k 0 < 18446744073709551616;
       done : (k i : ℕ) → k < l.index → i < 64 →
-          eqb (bit_at (get_or new k 0) i) 1 ≡ (if is_of l.which l.from l.end (k * 64 + i) then true else eqb (bit_at (get_or old k 0) i) 1);
+          eqb (bit_at (get_or new k 0) i) 1 ≡ (if is_selected l.which l.from l.end (k * 64 + i) then true else eqb (bit_at (get_or old k 0) i) 1);
       pending : (k : ℕ) → l.index ≤ k → get_or new k 0 ≡ get_or old k 0;
     }

@@ -351,7 +351,7 @@ fn end_options(n: usize, count: usize, positions: &PositionSet, cursor: &mut Cur
     all
 }
 
-/// Enters options one after another, each where it can begin, and returns whether they accept.
+/// Enters options, each where it can begin, and returns whether they accept.
 fn enter_options(
     n: usize,
     count: usize,
@@ -380,7 +380,7 @@ fn enter_options(
     accepting
 }
 
-/// Enters options by words of 64 positions. All options are optional, so those after one that ends are entered.
+/// The same by words of 64 positions. Each option may be nothing, so all those after one that ends are entered.
 fn enter_many(
     n: usize,
     count: usize,

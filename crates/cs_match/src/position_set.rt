@@ -128,8 +128,10 @@ impl PositionSet {
     pub(crate) fn first_in(&self, from: usize, end: usize, which: u64) -> usize
         requires { end ≤ length self.now }
         ensures within { result ≤ end }
-        ensures found { result < end → (is_selected which from end result && slice_index_or self.now result false) ≡ true }
-        ensures first { (k : ℕ) → k < result → (is_selected which from end k && slice_index_or self.now k false) ≡ false }
+        ensures found { result < end
+            → (is_selected which from end result && slice_index_or self.now result false) ≡ true }
+        ensures first { (k : ℕ) → k < result
+            → (is_selected which from end k && slice_index_or self.now k false) ≡ false }
     {
         for index in from / 64..end.div_ceil(64) {
             let found = self.words[index] & range_bits(which, from, end, index);

@@ -121,25 +121,25 @@ entered_other n (suc count) (suc j) r enter ms a low lt room =
     ∙ get_or-drop (suc n) ms (j * suc n + r) false ∙ ap (λ (k : ℕ). get_or ms k false) back
 
 -- where the options of one or two positions are
-last_place : (m p i : ℕ) → m < 2 → (p + suc m - 1 + (p + (i * suc m + m))) % suc m ≡ 0
-last_place zero p i h = omega arith
-last_place (suc zero) p i h = omega arith
-last_place (suc (suc m)) p i h = absurd (omega (arith, h))
+last_offset : (m p i : ℕ) → m < 2 → (p + suc m - 1 + (p + (i * suc m + m))) % suc m ≡ 0
+last_offset zero p i h = omega arith
+last_offset (suc zero) p i h = omega arith
+last_offset (suc (suc m)) p i h = absurd (omega (arith, h))
 
 last_option : (m p k : ℕ) → m < 2 → p ≤ k → (p + suc m - 1 + k) % suc m ≡ 0 → p + ((k - p) / suc m * suc m + m) ≡ k
 last_option zero p k h le e = omega (arith, le)
 last_option (suc zero) p k h le e = omega (arith, le, e)
 last_option (suc (suc m)) p k h le e = absurd (omega (arith, h))
 
-first_place : (m p j : ℕ) → m < 2 → (p + (p + j * suc m)) % suc m ≡ 0
-first_place zero p j h = omega arith
-first_place (suc zero) p j h = omega arith
-first_place (suc (suc m)) p j h = absurd (omega (arith, h))
+first_offset : (m p j : ℕ) → m < 2 → (p + (p + j * suc m)) % suc m ≡ 0
+first_offset zero p j h = omega arith
+first_offset (suc zero) p j h = omega arith
+first_offset (suc (suc m)) p j h = absurd (omega (arith, h))
 
-other_place : (m p j r : ℕ) → m < 2 → r < m → (p + (p + (j * suc m + suc r))) % suc m ≡ suc r
-other_place zero p j r h low = absurd (omega (arith, low))
-other_place (suc zero) p j r h low = omega (arith, low)
-other_place (suc (suc m)) p j r h low = absurd (omega (arith, h))
+other_offset : (m p j r : ℕ) → m < 2 → r < m → (p + (p + (j * suc m + suc r))) % suc m ≡ suc r
+other_offset zero p j r h low = absurd (omega (arith, low))
+other_offset (suc zero) p j r h low = omega (arith, low)
+other_offset (suc (suc m)) p j r h low = absurd (omega (arith, h))
 
 last_within : (m i count : ℕ) → m < 2 → i < count → i * suc m + m < count * suc m
 last_within zero i count h lt = omega (arith, lt)
@@ -157,14 +157,14 @@ fewer (suc zero) j count h le = omega (arith, le)
 fewer (suc (suc m)) j count h le = absurd (omega (arith, h))
 
 -- a position of the row is the first of an option or another one
-place : (m count x : ℕ) → m < 2 → x < count * suc m →
+option_of : (m count x : ℕ) → m < 2 → x < count * suc m →
     ((j : ℕ) × (j < count) × (x ≡ j * suc m)) ⊎ ((j : ℕ) × (r : ℕ) × (j < count) × (r < m) × (x ≡ j * suc m + suc r))
-place zero count x h lt = inl (x, omega (arith, lt), omega arith)
-place (suc zero) count x h lt = elim (cases_eq (x % 2) 0) [
+option_of zero count x h lt = inl (x, omega (arith, lt), omega arith)
+option_of (suc zero) count x h lt = elim (cases_eq (x % 2) 0) [
   | inl even ↦ inl (x / 2, omega (arith, lt), omega (arith, even))
   | inr odd ↦ inr (x / 2, 0, omega (arith, lt), omega arith, omega (arith, odd))
 ]
-place (suc (suc m)) count x h lt = absurd (omega (arith, h))
+option_of (suc (suc m)) count x h lt = absurd (omega (arith, h))
 
 -- `last` is the first of the last positions of options that is in the set, or the end of the row
 module _ (m p count last lasts : ℕ) (ms : List Bool) (short : m < 2) (bits : (k : ℕ) → eqb (bit_at lasts (k % 64)) 1 ≡ eqb ((p + suc m - 1 + k) % suc m) 0)
@@ -176,7 +176,7 @@ module _ (m p count last lasts : ℕ) (ms : List Bool) (short : m < 2) (bits : (
         le-leb p (p + (i * suc m + m)) (omega arith),
         le-leb (suc (p + (i * suc m + m))) (p + count * suc m) (omega (arith, last_within m i count short lt)),
       )
-      (bits (p + (i * suc m + m)) ∙ eq-eqb _ 0 (last_place m p i short))
+      (bits (p + (i * suc m + m)) ∙ eq-eqb _ 0 (last_offset m p i short))
 
   before-last : (i : ℕ) → i < count → p + (i * suc m + m) < last → get_or ms (p + (i * suc m + m)) false ≡ false
   before-last i lt low = ap (λ x. x && get_or ms (p + (i * suc m + m)) false) (sym (is-last i lt)) ∙ first (p + (i * suc m + m)) low
@@ -250,7 +250,7 @@ module _ (m p count last lasts : ℕ) (ms : List Bool) (short : m < 2) (bits : (
       where
         is : is_selected firsts from end (p + j * suc m) ≡ leb from (p + j * suc m)
         is =
-            rw (le-leb (suc (p + j * suc m)) end (omega (arith, last_within m j count short lt)), first-bits (p + j * suc m) ∙ eq-eqb _ 0 (first_place m p j short))
+            rw (le-leb (suc (p + j * suc m)) end (omega (arith, last_within m j count short lt)), first-bits (p + j * suc m) ∙ eq-eqb _ 0 (first_offset m p j short))
             (and-true _ ∙ and-true _)
 
         by : (e : Bool) → enter ≡ e → (if leb from (p + j * suc m) then true else get_or put (p + j * suc m) false) ≡ (leb (suc last) (p + j * suc m) || e)
@@ -267,7 +267,7 @@ module _ (m p count last lasts : ℕ) (ms : List Bool) (short : m < 2) (bits : (
     other-entry j r lt low =
         let index : p + (j * suc m + suc r) ≡ p + suc (j * suc m + r) = omega arith in
         let other : eqb (bit_at firsts ((p + (j * suc m + suc r)) % 64)) 1 ≡ false =
-        first-bits (p + (j * suc m + suc r)) ∙ ne_eqb _ 0 (λ e. omega (arith, e, other_place m p j r short low)) in
+        first-bits (p + (j * suc m + suc r)) ∙ ne_eqb _ 0 (λ e. omega (arith, e, other_offset m p j r short low)) in
         rw (other, and-false (leb from (p + (j * suc m + suc r)) && leb (suc (p + (j * suc m + suc r))) end))
         (ap (λ (k : ℕ). get_or put k false) index ∙ put-later (j * suc m + r))
 
@@ -317,7 +317,7 @@ module _ (m p count last lasts : ℕ) (ms : List Bool) (short : m < 2) (bits : (
                 | inl within ↦
                     let there = rest ∙ get_or_append_left es (drop (p + n) old) false (k - p) (omega (arith, length-es, within)) in
                     let space : count * suc m ≤ length (drop p ms) = omega (arith, length-drop p ms, room) in
-                    elim (place m count (k - p) short (omega (arith, within, size-n))) [
+                    elim (option_of m count (k - p) short (omega (arith, within, size-n))) [
                       | inl start ↦
                           let index : p + start.0 * suc m ≡ k = omega (arith, start.2, high) in
                           ap entry (sym index) ∙ first-entry start.0 start.1

@@ -92,8 +92,8 @@ module _ (words : List ℕ) (count which from end index word bits : ℕ) (room :
   up-to n low none k h = elim (cases_lt k (index * 64)) [
     | inl lt ↦ before k lt
     | inr le ↦
-        let place : index * 64 + (k - index * 64) ≡ k = omega (arith, le) in
-        ap (λ j. is_selected which from end j && has_bit words j) (sym place)
+        let index_is : index * 64 + (k - index * 64) ≡ k = omega (arith, le) in
+        ap (λ j. is_selected which from end j && has_bit words j) (sym index_is)
         ∙ sym (word-bit (k - index * 64) (omega (arith, le, h, low))) ∙ none (k - index * 64) (omega (arith, le, h))
   ]
 

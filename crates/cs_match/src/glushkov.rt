@@ -423,7 +423,7 @@ fn are_many(n: usize, count: usize) -> bool
     n > 0 && n <= 2 && count > 3
 }
 
-/// In each word of a set the bits of every nth position, of which position `at` is one.
+/// The bits in each word of every nth position, position `at` included.
 fn option_bits(n: usize, at: usize) -> u64
     requires some { 0 < n }
     requires short { n ≤ 2 }

@@ -7,7 +7,7 @@ ghost use Rattle.cs_cindex.specs.Bytes.{index_bytes};
 ghost use Rattle.cs_cindex.specs.OldIndex.{IsIndex, IsUnreadable, has_failed};
 ghost use Rattle.cs_cindex.specs.Outcomes.{IsStepTo, IsWholeStepTo, RightAfter, reply_of};
 ghost use Rattle.cs_cindex.specs.Output.{job_tree};
-ghost use Rattle.cs_cindex.specs.Steps.{IsUnread, IsWholeStep, outputs, state};
+ghost use Rattle.cs_cindex.specs.Steps.{IsUnread, IsWholeStep, LeavesFlushed, outputs, state};
 ghost use Rattle.cs_history.specs.Jobs.{HasAbsoluteFolder};
 
 use crate::listing::list_old;
@@ -78,6 +78,8 @@ pub fn cindex_stored<S: Store, T: Tree, O: Sink, E: Sink>(
         IfOk result (λ update.
         IsWholeStepTo job.now (job_tree T.snapshot T.failed tree.old tree.new) update
         (state O.model O.failed E.model E.failed index out.old err.old)
+        (outputs O.model O.failed E.model E.failed out.new err.new)) }
+    ensures flushed { IfOk result (λ update. LeavesFlushed (reply_of update)
         (outputs O.model O.failed E.model E.failed out.new err.new)) }
     ensures lists { job.now.list ≡ true →
         IfOk result (λ update. IfOk update (λ kept. kept ≡ IndexUpdate.Keep)) }

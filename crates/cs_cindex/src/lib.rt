@@ -18,4 +18,3 @@ mod walked;
 
 pub use cindexing::cindex;
 pub use job::cindex_stored;
-pub use listing::list_stored;

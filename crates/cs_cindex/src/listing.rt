@@ -1,87 +1,17 @@
 // Lists the paths of an index.
-ghost use Rattle.std.specs.Prelude.{◌≡◌, ◌++◌, ℕ, List, Option, Some, Err, codes, true, IfErr, IfOk, option_map};
+ghost use Rattle.std.specs.Prelude.{◌≡◌, ◌++◌, ℕ, List, Option, Some, codes, IfErr, IfOk, option_map};
 ghost use Rattle.cs_tree.specs.FailureCount.{count_after};
 ghost use Rattle.cs_tree.specs.WritesBytes.{WritesBytes};
 ghost use Rattle.cs_index.specs.Stored.{OpensAs};
-ghost use Rattle.cs_args.specs.Faults.{index_refusal};
-ghost use Rattle.cs_args.specs.declared.jobs.IndexJob.{IndexJob as IndexJob'};
 ghost use Rattle.cs_cindex.specs.OldIndex.{IsIndex, IsUnreadable, has_failed};
-ghost use Rattle.cs_cindex.specs.Outcomes.{AnswersFor, reply_of};
-ghost use Rattle.cs_cindex.specs.Output.{JobTree, index_lines, output, path_lines, is_failed_write};
+ghost use Rattle.cs_cindex.specs.Outcomes.{AnswersFor};
+ghost use Rattle.cs_cindex.specs.Output.{index_lines, output, path_lines, is_failed_write};
 ghost use Rattle.cs_cindex.specs.Refusals.{IsOutputFault, list_fault};
-ghost use Rattle.cs_cindex.specs.Steps.{IsWholeStep, LeavesFlushed, outputs, state};
 
-use cs_args::{CindexFault, Reply};
+use cs_args::CindexFault;
 use cs_index::{IndexFault, StoredIndex, Texts};
 use cs_tree::{IoFault, Sink, Store, write_all};
 use std::alloc::Global;
-
-/// Runs a job of `-list` over a store, as `cindex` runs it over bytes; `opened` is what `StoredIndex::open` returned
-/// for the store. No posting list is read.
-pub fn list_stored<O: Sink, E: Sink>(
-    opened: Result<StoredIndex, IndexFault>,
-    out: &mut O,
-    err: &mut E,
-) -> Reply
-    ensures step { (job : IndexJob') (tree : JobTree) (bytes : List ℕ) → job.list ≡ true →
-        tree.failed_then ≡ tree.failed → OpensAs bytes opened → IsWholeStep job tree result
-        (state O.model O.failed E.model E.failed
-        (Some bytes) out.old err.old)
-        (state O.model O.failed E.model E.failed
-        (Some bytes) out.new err.new) }
-    ensures unopened { IfErr opened (λ fault. (result ≡ Reply.Refused (index_refusal fault)) ×
-        (outputs O.model O.failed E.model E.failed out.new err.new ≡
-        outputs O.model O.failed E.model E.failed out.old err.old)) }
-    ensures flushed { LeavesFlushed result
-        (outputs O.model O.failed E.model E.failed out.new err.new) }
-{
-    match list_opened(opened, out, err) {
-        Ok(()) => Reply::Done,
-        Err(fault) => Reply::Refused(fault),
-    }
-}
-
-/// Prints the paths and flushes the outputs, as a job of `-list` does.
-fn list_opened<O: Sink, E: Sink>(
-    opened: Result<StoredIndex, IndexFault>,
-    out: &mut O,
-    err: &mut E,
-) -> Result<(), CindexFault>
-    ensures step { (job : IndexJob') (tree : JobTree) (bytes : List ℕ) → job.list ≡ true →
-        tree.failed_then ≡ tree.failed → OpensAs bytes opened → IsWholeStep job tree
-        (reply_of result)
-        (state O.model O.failed E.model E.failed
-        (Some bytes) out.old err.old)
-        (state O.model O.failed E.model E.failed
-        (Some bytes) out.new err.new) }
-    ensures unopened { IfErr opened (λ fault. (result ≡ Err (index_refusal fault)) ×
-        (outputs O.model O.failed E.model E.failed out.new err.new ≡
-        outputs O.model O.failed E.model E.failed out.old err.old)) }
-    ensures flushed { LeavesFlushed (reply_of result)
-        (outputs O.model O.failed E.model E.failed out.new err.new) }
-{
-    print_opened(opened, out)?;
-    out.flush()?;
-    err.flush()?;
-    Ok(())
-}
-
-/// Prints each path of an index on a line, if it opens.
-fn print_opened<O: Sink>(
-    opened: Result<StoredIndex, IndexFault>,
-    out: &mut O,
-) -> Result<(), CindexFault>
-    ensures refusal { (bytes : List ℕ) → OpensAs bytes opened →
-        AnswersFor result (list_fault (Some bytes)) IsOutputFault }
-    ensures out { (bytes : List ℕ) → OpensAs bytes opened →
-        WritesBytes (index_lines (Some bytes)) (O.model out.old) (O.model out.new) result }
-    ensures unopened { IfErr opened (λ fault. (result ≡ Err (index_refusal fault)) ×
-        (output O.model O.failed out.new ≡ output O.model O.failed out.old)) }
-    ensures writes { O.failed out.new ≡ count_after is_failed_write result (O.failed out.old) }
-{
-    let index = opened?;
-    print_paths(index.paths(), out)
-}
 
 /// Prints each path of the old index on a line. No posting list is read.
 pub(crate) fn list_old<S: Store, O: Sink>(
@@ -111,6 +41,21 @@ pub(crate) fn list_old<S: Store, O: Sink>(
         Err(IoFault::Memory) => Ok(Err(CindexFault::Memory)),
         Err(IoFault::Failed) => Err(IoFault::Failed),
     }
+}
+
+/// Prints each path of an index on a line, if it opens.
+fn print_opened<O: Sink>(
+    opened: Result<StoredIndex, IndexFault>,
+    out: &mut O,
+) -> Result<(), CindexFault>
+    ensures refusal { (bytes : List ℕ) → OpensAs bytes opened →
+        AnswersFor result (list_fault (Some bytes)) IsOutputFault }
+    ensures out { (bytes : List ℕ) → OpensAs bytes opened →
+        WritesBytes (index_lines (Some bytes)) (O.model out.old) (O.model out.new) result }
+    ensures writes { O.failed out.new ≡ count_after is_failed_write result (O.failed out.old) }
+{
+    let index = opened?;
+    print_paths(index.paths(), out)
 }
 
 /// Prints each path on a line.

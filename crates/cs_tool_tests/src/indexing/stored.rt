@@ -1,46 +1,50 @@
 // The paths of a stored index, with a failing read.
-use crate::stores::{Changing, row_until};
-use cs_args::Reply;
-use cs_cindex::list_stored;
-use cs_index::StoredIndex;
-use cs_tree::{IoFault, MemSink, Store};
+use crate::indexing::job_of;
+use crate::stores::row_until;
+use cs_cindex::cindex_stored;
+use cs_tree::{IoFault, MemSink, MemTree, Store};
 use std::alloc::Global;
-
-/// The reply to `-list` over a store.
-fn list_by(alloc: Global, store: &mut Changing<'_>, out: &mut MemSink) -> Result<Reply, IoFault> {
-    let opened = StoredIndex::open(alloc, store)?;
-    let mut err = MemSink::new(alloc, 1000);
-    Ok(list_stored(opened, out, &mut err))
-}
+use std::test::Fail;
 
 /// The number of reads of a listing of `ONE_FILE`; no posting list is read.
 const READS: usize = 9;
 
-/// Whether a listing whose reads fail after this number gives this reply, this output and this
-/// number of failures.
+/// Whether a job of `-list` whose reads fail after this number gives this answer (whether it is
+/// done), this output and this number of failures.
 fn lists(
     alloc: Global,
     reads: usize,
-    reply: Result<Reply, IoFault>,
+    answer: Result<bool, IoFault>,
     printed: &str,
     failures: u64,
-) -> bool {
+) -> Result<bool, Fail> {
+    let job = job_of(alloc, &["-list"])?;
+    let mut store = Some(row_until(reads, None));
+    let mut tree = MemTree::new(alloc, 1)?;
     let mut out = MemSink::new(alloc, 1000);
-    let mut store = row_until(reads, None);
-    list_by(alloc, &mut store, &mut out) == reply
-        && out.bytes() == printed.as_bytes()
-        && store.failures() == failures
+    let mut err = MemSink::new(alloc, 1000);
+    let listed = cindex_stored(alloc, &mut store, &job, &mut tree, &mut out, &mut err);
+    let is_done = match listed {
+        Ok(update) => Ok(update.is_ok()),
+        Err(fault) => Err(fault),
+    };
+    let Some(read) = store else {
+        return Ok(false);
+    };
+    Ok(is_done == answer && out.bytes() == printed.as_bytes() && read.failures() == failures)
 }
 
 #[test]
-fn reads_that_fail(rt: HostRuntime) {
+fn reads_that_fail(rt: HostRuntime) -> Result<(), Fail> {
     for reads in 0..READS {
-        let fails = lists(rt.alloc(), reads, Err(IoFault::Failed), "", 1);
+        let fails = lists(rt.alloc(), reads, Err(IoFault::Failed), "", 1)?;
         assert!(rt; fails, "after {reads}");
     }
+    Ok(())
 }
 
 #[test]
-fn enough_reads(rt: HostRuntime) {
-    assert!(rt; lists(rt.alloc(), READS, Ok(Reply::Done), "/a\n", 0));
+fn enough_reads(rt: HostRuntime) -> Result<(), Fail> {
+    assert!(rt; lists(rt.alloc(), READS, Ok(true), "/a\n", 0)?);
+    Ok(())
 }

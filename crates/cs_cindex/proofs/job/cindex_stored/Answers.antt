@@ -1,5 +1,5 @@
 use Rattle.std.proofs.Common.{◌≡◌, refl, subst, Result}
-use Rattle.cs_tree.proofs.GrowsLemmas.{Grows-same}
+use Rattle.cs_tree.proofs.GrowsLemmas.{Grows-same, leaves_flushed}
 use Rattle.cs_args.specs.declared.fault.CindexFault.{CindexFault}
 use Rattle.cs_args.specs.declared.jobs.IndexJob.{IndexJob}
 use Rattle.cs_args.specs.declared.jobs.Reply.TheVariants.{Done, Refused}
@@ -34,3 +34,6 @@ pub returns-clause-replies : goal.returns-clause-replies
 returns-clause-replies g c = λ index is.
     let step = stepped _ _ _ _ _ _ c.in-Ok-Ok.field-0-is (c.in-Ok-Ok.ensures.step index is) in
     right_after c.args.job.now (g.T.Tree.snapshot c.args.tree.now) index (file_after c.in-Ok-Ok.update index) Done step.cause step.walked
+
+pub returns-clause-flushed : goal.returns-clause-flushed
+returns-clause-flushed g c = (leaves_flushed _ _ _ c.in_default.ensures.bytes, leaves_flushed _ _ _ c.in_default-flush.ensures.bytes)

@@ -1,5 +1,5 @@
 -- What an update makes of the index file.
-use Rattle.std.specs.Prelude.{◌≡◌, ℕ, List, Option, Some, None}
+use Rattle.std.specs.Prelude.{◌≡◌, ◌++◌, ℕ, List, Option, Some, None}
 use Rattle.cs_storage.specs.declared.update.IndexUpdate.{IndexUpdate}
 use Rattle.cs_storage.specs.declared.update.IndexUpdate.TheVariants.{Keep, Write, Remove}
 
@@ -9,11 +9,11 @@ file_after Keep file = file
 file_after (Write sent) file = Some sent.bytes
 file_after Remove file = None
 
--- FILE~ was given the bytes of the update, if it has some
-abbrev pub IsGiven : List ℕ → IndexUpdate → Type 0
-IsGiven given Keep = Unit {0}
-IsGiven given (Write sent) = given ≡ sent.bytes
-IsGiven given Remove = Unit {0}
+-- the bytes of the update, if it has some, were given to an output that has been given `old` before, and now `new`
+abbrev pub IsGiven : IndexUpdate → List ℕ → List ℕ → Type 0
+IsGiven Keep old new = Unit {0}
+IsGiven (Write sent) old new = new ≡ old ++ sent.bytes
+IsGiven Remove old new = Unit {0}
 
 -- an update that changes the file
 abbrev pub IsChange : IndexUpdate → Type 0

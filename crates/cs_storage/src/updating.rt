@@ -29,7 +29,7 @@ pub fn finish_update<F: IndexFolder>(
     update: &IndexUpdate,
 ) -> Result<(), StorageFault>
     requires held { IsHeld (F.model folder.old) }
-    requires given { IsGiven (F.given folder.old) update.now }
+    requires given { IsGiven update.now [] (F.given folder.old) }
     ensures tried { IfErr result (λ _. IsChange update.now) }
     ensures updates { Moves (Updates update.now result) (F.model folder.old) (F.model folder.new) }
 {

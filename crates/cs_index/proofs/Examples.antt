@@ -7,6 +7,7 @@ use Rattle.cs_index.specs.Built.{are_paths, is_above, is_storable}
 use Rattle.cs_tree.specs.Cover.{is_alone}
 use Rattle.cs_index.specs.Gathering.{lists_from}
 use Rattle.cs_index.specs.Buckets.{base_after, ids_in_buckets, postings_from, with_file, without_file}
+use Rattle.cs_index.specs.Sending.{all_sent, bytes_in, with_bytes, IsSentOn}
 use Rattle.cs_index.specs.Written.{Written, entries_written, last_ids, with_last_id, with_list}
 
 -- an empty folder at `/a`
@@ -90,6 +91,7 @@ three_written = with_list (record {
   names = codes "/t/0" ∷ codes "/t/1" ∷ codes "/t/2" ∷ [];
   lists = (0x616263, 0 ∷ 2 ∷ []) ∷ [];
   last_trigram = Some 0x616263;
+  sent = [];
 }) 0x616264
 
 no_trace : entries_written three_written ≡
@@ -104,6 +106,13 @@ no_ids = refl
 one_id : (with_last_id three_written 1).lists ≡ (0x616263, 0 ∷ 2 ∷ []) ∷ (0x616264, 1 ∷ []) ∷ []
 unfolding three_written
 one_id = refl
+
+-- two bytes are sent, and then one that follows them
+sent_in_parts : IsSentOn (7 ∷ []) (7 ∷ 8 ∷ 9 ∷ []) (5 ∷ []) (5 ∷ 8 ∷ 9 ∷ [])
+sent_in_parts = record { bytes = 8 ∷ 9 ∷ []; grew = refl; got = refl }
+
+bytes_after_send : bytes_in (with_bytes (all_sent (record { sent = 7 ∷ []; unsent = 8 ∷ [] })) (9 ∷ [])) ≡ 7 ∷ 8 ∷ 9 ∷ []
+bytes_after_send = refl
 
 -- another path is between `/a` and a path that it covers
 covered_apart : is_alone (codes "/a" ∷ codes "/a-b" ∷ codes "/a/b" ∷ []) (codes "/a/b") ≡ false

@@ -4,5 +4,6 @@ pub mod EntriesOfLists
 pub mod IdAdded
 pub mod ListsBelow
 pub mod SectionsSteps
+pub mod SentOn
 pub mod StringsPush
 pub mod WrittenSteps

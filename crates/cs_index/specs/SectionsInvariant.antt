@@ -7,6 +7,7 @@ use Rattle.cs_index.specs.Encoding.{PostingList, ListEntry, list_entries, magic,
 use Rattle.cs_index.specs.AscendingIds.{max_ids, next_after}
 use Rattle.cs_index.specs.PostingLists.{read_list}
 use Rattle.cs_index.specs.OpenedParts.{whole_ids}
+use Rattle.cs_index.specs.Sending.{bytes_in}
 use Rattle.cs_index.specs.Written.{Written, AllBelow}
 use Rattle.cs_index.specs.WrittenLists.{IsWritten}
 
@@ -45,7 +46,7 @@ current_list s = record { trigram = s.trigram; count = s.count; offset = s.start
 
 -- the bytes after the current list is closed
 abbrev pub bytes_at_close : Inside → List ℕ
-bytes_at_close s = s.out.items ++ 0 ∷ []
+bytes_at_close s = bytes_in s.out ++ 0 ∷ []
 
 -- none if no list has an id yet, otherwise the closed lists and the current one
 abbrev pub lists_of_fields : Inside → List PostingList
@@ -58,7 +59,13 @@ abbrev pub last_trigram_of : Inside → Option ℕ
 last_trigram_of s = option_map_or (λ trigram. Some trigram) s.pending (if nat_eq s.count 0 then None else Some s.trigram)
 
 abbrev pub written_of : Inside → Written
-written_of s = record { paths = s.paths; names = s.names; lists = lists_of_fields s; last_trigram = last_trigram_of s }
+written_of s = record {
+  paths = s.paths;
+  names = s.names;
+  lists = lists_of_fields s;
+  last_trigram = last_trigram_of s;
+  sent = s.out.sent;
+}
 
 -- a pending list comes after all others
 abbrev pub IsFresh : List PostingList → Option ℕ → Type 0
@@ -70,6 +77,7 @@ pub record IsSections (s : Inside) : Type 0 where
   pub output : IsWritten (written_of s)
   pub fresh : IsFresh (lists_of_fields s) s.pending
   pub unwritten : s.count ≡ 0 → s.entries.items ≡ []
+  pub silent : s.count ≡ 0 → bytes_in s.out ≡ []
   pub opened : s.count ≢ 0 →
-      IsOpen (prefix_of s.paths s.names) s.out.items s.entries.items (current_list s) s.next
+      IsOpen (prefix_of s.paths s.names) (bytes_in s.out) s.entries.items (current_list s) s.next
       (lists_at (bytes_at_close s) s.entries.items) (ids_at (bytes_at_close s) (current_list s))

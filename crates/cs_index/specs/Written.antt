@@ -6,13 +6,14 @@ use Rattle.std.specs.Option.{option_map_or}
 use Rattle.cs_index.specs.Encoding.{Entry, PostingList}
 use Rattle.cs_index.specs.PostingLists.{entries_of}
 
--- The paths, the names, the posting lists with at least one id, and the trigram of the list that was begun
--- last.
+-- The paths, the names, the posting lists with at least one id, the trigram of the list that was begun last, and the
+-- bytes of the index that were sent to an output.
 pub record Written : Type 0 where
   pub paths : List (List ℕ)
   pub names : List (List ℕ)
   pub lists : List PostingList
   pub last_trigram : Option ℕ
+  pub sent : List ℕ
 
 -- the ids of a trigram
 abbrev pub ids_of : List PostingList → ℕ → List ℕ
@@ -35,17 +36,33 @@ last_ids output = option_map_or (ids_of output.lists) output.last_trigram []
 
 -- with one more name
 abbrev pub with_written_name : Written → List ℕ → Written
-with_written_name output name = record
-    { paths = output.paths; names = output.names ++ name ∷ []; lists = output.lists; last_trigram = output.last_trigram }
+with_written_name output name = record {
+  paths = output.paths;
+  names = output.names ++ name ∷ [];
+  lists = output.lists;
+  last_trigram = output.last_trigram;
+  sent = output.sent;
+}
 
 -- with a list begun
 abbrev pub with_list : Written → ℕ → Written
-with_list output trigram = record { paths = output.paths; names = output.names; lists = output.lists; last_trigram = Some trigram }
+with_list output trigram = record {
+  paths = output.paths;
+  names = output.names;
+  lists = output.lists;
+  last_trigram = Some trigram;
+  sent = output.sent;
+}
 
 -- with an id appended to the list of a trigram
 abbrev pub with_written_id : Written → ℕ → ℕ → Written
-with_written_id output trigram id = record
-    { paths = output.paths; names = output.names; lists = with_id output.lists trigram id; last_trigram = output.last_trigram }
+with_written_id output trigram id = record {
+  paths = output.paths;
+  names = output.names;
+  lists = with_id output.lists trigram id;
+  last_trigram = output.last_trigram;
+  sent = output.sent;
+}
 
 -- with an id appended to the list that was begun last
 abbrev pub with_last_id : Written → ℕ → Written
@@ -55,6 +72,16 @@ with_last_id output id = option_map_or (λ trigram. with_written_id output trigr
 abbrev pub with_last_ids : Written → List ℕ → Written
 with_last_ids output [] = output
 with_last_ids output (id ∷ ids) = with_last_ids (with_last_id output id) ids
+
+-- with these bytes sent
+abbrev pub with_sent : Written → List ℕ → Written
+with_sent output sent = record {
+  paths = output.paths;
+  names = output.names;
+  lists = output.lists;
+  last_trigram = output.last_trigram;
+  sent = sent;
+}
 
 -- the trigrams of all lists are less than this one
 abbrev pub AllBelow : List PostingList → ℕ → Type 0

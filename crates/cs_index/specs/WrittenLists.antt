@@ -13,6 +13,7 @@ with_posting output (trigram, ids) = record {
   names = output.names;
   lists = output.lists ++ (trigram, ids) ∷ [];
   last_trigram = Some trigram;
+  sent = output.sent;
 }
 
 -- with several posting lists

@@ -7,6 +7,7 @@ mod builder;
 mod numbers;
 mod output;
 mod sections;
+mod send_buffer;
 mod storable_texts;
 mod stream;
 mod strings;

@@ -168,6 +168,7 @@ module _ (trigram : ℕ) (before now : Written) (older newer older_left newer_le
         paths = ap (λ (l : Written). l.paths) is ∙ state.paths;
         names = ap (λ (l : Written). l.names) is ∙ state.names;
         lists = ap (λ (l : Written). l.lists) is ∙ ap (λ lists. with_id lists trigram id) state.lists ∙ with_one_more trigram id before.lists state.given below;
+        sent = ap (λ (l : Written). l.sent) is ∙ state.sent;
         each = λ n. each_more state.given older_left newer_left id n least ∙ state.each n;
         older_rise = subst (λ m. AscendWithin (length before.names) m (without_number id older_left)) last (rise_without (length before.names) (next_after 0 state.given) id older_left state.older_rise least.some_from);
         newer_rise = subst (λ m. AscendWithin (length before.names) m (without_number id newer_left)) last (rise_without (length before.names) (next_after 0 state.given) id newer_left state.newer_rise least.others_from);
@@ -221,17 +222,18 @@ given_newer false true true newer = refl
 given_newer false true false newer = refl
 given_newer false false older newer = refl
 
-with_more : (trigram : ℕ) (now : Written) (lists : List PostingList) (given more : List ℕ) → now.last_trigram ≡ Some trigram → now.lists ≡ lists ++ list_of trigram given → AllBelow lists trigram → with_last_ids now more ≡ record { paths = now.paths; names = now.names; lists = lists ++ list_of trigram (given ++ more); last_trigram = now.last_trigram }
+with_more : (trigram : ℕ) (now : Written) (lists : List PostingList) (given more : List ℕ) → now.last_trigram ≡ Some trigram → now.lists ≡ lists ++ list_of trigram given → AllBelow lists trigram → with_last_ids now more ≡ record { paths = now.paths; names = now.names; lists = lists ++ list_of trigram (given ++ more); last_trigram = now.last_trigram; sent = now.sent }
 with_more trigram now lists given [] begun is below = λ i. record {
   paths = now.paths;
   names = now.names;
   lists = (is ∙ ap (λ ids. lists ++ list_of trigram ids) (sym (append-nil given))) i;
   last_trigram = now.last_trigram;
+  sent = now.sent;
 }
 with_more trigram now lists given (id ∷ more) begun is below =
     ap (λ (l : Written). with_last_ids l more) (ap (λ o. option_map_or (λ g. with_written_id now g id) o now) begun)
     ∙ with_more trigram (with_written_id now trigram id) lists (given ++ id ∷ []) more begun (ap (λ ps. with_id ps trigram id) is ∙ with_one_more trigram id lists given below) below
-    ∙ ap (λ ids. let l : Written = record { paths = now.paths; names = now.names; lists = lists ++ list_of trigram ids; last_trigram = now.last_trigram } in l) (append_assoc given (id ∷ []) more)
+    ∙ ap (λ ids. let l : Written = record { paths = now.paths; names = now.names; lists = lists ++ list_of trigram ids; last_trigram = now.last_trigram; sent = now.sent } in l) (append_assoc given (id ∷ []) more)
 
 -- the run of the lowest id is written
 module _ (trigram : ℕ) (before now written : Written) (older newer older_left newer_left : List ℕ) (state : IsMergedList trigram before now older newer older_left newer_left) (below : AllBelow before.lists trigram) (begun : now.last_trigram ≡ Some trigram) (id : ℕ) (next : lower_of (slice_get older_left 0) (slice_get newer_left 0) ≡ Some id) (is : written ≡ with_last_id now id) (run older_rest newer_rest : List ℕ) (are : IsRunOfEither id run older_left newer_left older_rest newer_rest) where
@@ -292,6 +294,7 @@ module _ (trigram : ℕ) (before now written : Written) (older newer older_left 
     paths = ap (λ (l : Written). l.paths) all ∙ one.paths;
     names = ap (λ (l : Written). l.names) all ∙ one.names;
     lists = ap (λ (l : Written). l.lists) all;
+    sent = ap (λ (l : Written). l.sent) all ∙ one.sent;
     each = λ n. by_each are n ∙ one.each n;
     older_rise = subst (λ m. AscendWithin (length before.names) m (without_number id older_rest)) (sym ends) (older_behind are);
     newer_rise = subst (λ m. AscendWithin (length before.names) m (without_number id newer_rest)) (sym ends) (newer_behind are);
@@ -300,7 +303,7 @@ module _ (trigram : ℕ) (before now written : Written) (older newer older_left 
       ids : List ℕ
       ids = ids_onward (id + 1) run
 
-      all : after ≡ record { paths = written.paths; names = written.names; lists = before.lists ++ list_of trigram (one.given ++ ids); last_trigram = written.last_trigram }
+      all : after ≡ record { paths = written.paths; names = written.names; lists = before.lists ++ list_of trigram (one.given ++ ids); last_trigram = written.last_trigram; sent = written.sent }
       all = e ∙ ap (λ n. with_last_ids written (ids_onward n run)) last_one ∙ with_more trigram written before.lists one.given ids begun_one one.lists below
 
       ends : next_after 0 (one.given ++ ids) ≡ next_after (id + 1) ids

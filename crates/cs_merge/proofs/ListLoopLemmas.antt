@@ -8,7 +8,7 @@ use Rattle.cs_index.specs.OpenedParts.{Parts}
 use Rattle.cs_index.specs.PostingLists.{Ids}
 use Rattle.cs_index.specs.Postings.{IsListFault}
 use Rattle.cs_index.specs.ValidParts.{AreValidParts}
-use Rattle.cs_index.specs.Written.{Written}
+use Rattle.cs_index.specs.Written.{Written, with_sent}
 use Rattle.cs_index.specs.declared.fault.IndexFault.{IndexFault}
 use Rattle.cs_merge.specs.declared.list_source.ListSource.{ListSource}
 use Rattle.cs_merge.specs.IdMap.{NewIds, new_ids_of, AreIdMaps}
@@ -41,6 +41,27 @@ module _ (model : Option (List ℕ)) (source : ListSource) (newer : Parts) (olde
         newer_sets = all_newer parts newer older_ids newer_ids before now a b state none;
         whole = all_whole parts newer older_ids newer_ids before now a b state none;
       }
+
+  -- more lists are merged, and bytes are sent
+  pub merged_on : (buffer later : BufferState) (before now next after : Written) (a b c d : ℕ) → Merging buffer before now a b → Merging later now next c d
+      → after ≡ with_sent next after.sent → Merging later before after c d
+  merged_on buffer later before now next after a b c d so_far more e = subst (λ (l : Written). Merging later before l c d) (sym e) (record {
+    paths = more.paths ∙ so_far.paths;
+    names = more.names ∙ so_far.names;
+    left = more.left;
+    buffered = more.buffered;
+    known = λ parts is.
+        let all = more.known parts is in
+        record {
+          paths = all.paths ∙ so_far.paths;
+          names = all.names ∙ so_far.names;
+          left = all.left;
+          older_sets = all.older_sets;
+          newer_sets = all.newer_sets;
+          older_whole = all.older_whole;
+          newer_whole = all.newer_whole;
+        };
+  })
 
   module _ (valid : AreValidParts (known_parts source)) (all_valid : (parts : Parts) → IsSourceOf model source parts → AreValidParts parts) (newer_valid : AreValidParts newer) (buffer : BufferState) (now : Written) (a b trigram : ℕ) (so_far : Merging buffer now now a b)
       (next : lower_of (list_trigram (known_parts source) a) (list_trigram newer b) ≡ Some trigram) where

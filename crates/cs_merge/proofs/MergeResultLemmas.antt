@@ -1,7 +1,8 @@
 -- Results of the merge.
-use Rattle.std.proofs.Common.{◌≡◌, ℕ, ◌<◌, true, List, length, Result, Ok, Err, ap, sym, subst, ◌∙◌, Vec, Global}
+use Rattle.std.proofs.Common.{◌≡◌, ℕ, ◌<◌, true, List, length, Result, Ok, Err, ap, sym, subst, ◌∙◌}
 use Rattle.std.proofs.lemmas.Bool.{and_from, and_parts}
 use Rattle.std.specs.Prelude.{IfOk, IfErr, MatchResult}
+use Rattle.cs_output.specs.declared.sent.Sent.{Sent}
 use Rattle.cs_tree.specs.Cover.{is_covered}
 use Rattle.cs_tree.specs.Folders.{are_distinct}
 use Rattle.cs_tree.specs.PathSet as set
@@ -25,10 +26,10 @@ use Rattle.cs_merge.proofs.SortedNamesLemmas.{sorted_distinct}
 -- ---- results
 
 module _ (old newer : Parts) (most : ℕ) where
-  abbrev pub Says : Result (Vec ℕ Global) MergeFault → Type 0
-  Says answer = MatchResult answer (λ index. IsMerged old newer most index.items) (λ fault. IsMergeFault old newer most fault)
+  abbrev pub Says : Result Sent MergeFault → Type 0
+  Says answer = MatchResult answer (λ index. IsMerged old newer most index.bytes) (λ fault. IsMergeFault old newer most fault)
 
-  pub built_says : (answer : Result (Vec ℕ Global) MergeFault) (index : List ℕ) → index ≡ merge_index old newer → AreTested old newer → are_whole old ≡ true → are_whole newer ≡ true → IfOk answer (λ bytes. IsIndexWithin most index bytes.items) → IfErr answer (λ fault. IsBuildFault most index fault) → Says answer
+  pub built_says : (answer : Result Sent MergeFault) (index : List ℕ) → index ≡ merge_index old newer → AreTested old newer → are_whole old ≡ true → are_whole newer ≡ true → IfOk answer (λ bytes. IsIndexWithin most index bytes.bytes) → IfErr answer (λ fault. IsBuildFault most index fault) → Says answer
   built_says (Ok bytes) index is tested a b ok err = record { mergeable = record { tested = tested; whole = and_from (are_whole old) (are_whole newer) a b }; index = record { are = ok.are ∙ is; short = ok.short } }
   built_says (Err fault) index is tested a b ok err = by_fault err
     where
@@ -71,8 +72,8 @@ module _ (old newer : Parts) (older_sorted newer_sorted : SortedNames) (tested :
       lists_fail fault is_fault = lists_say old newer most older_ids newer_ids output fault paths named are_tested is_fault
 
       -- its encoding, once all lists are merged
-      pub lists_built : (answer : Result (Vec ℕ Global) MergeFault) (now : Written) → now.paths ≡ output.paths → now.names ≡ output.names → AreAllMerged old newer older_ids newer_ids now.lists
-          → IfOk answer (λ bytes. IsIndexWithin most (encoding_of now.paths (entries_written now)) bytes.items) → IfErr answer (λ fault. IsBuildFault most (encoding_of now.paths (entries_written now)) fault) → Says old newer most answer
+      pub lists_built : (answer : Result Sent MergeFault) (now : Written) → now.paths ≡ output.paths → now.names ≡ output.names → AreAllMerged old newer older_ids newer_ids now.lists
+          → IfOk answer (λ bytes. IsIndexWithin most (encoding_of now.paths (entries_written now)) bytes.bytes) → IfErr answer (λ fault. IsBuildFault most (encoding_of now.paths (entries_written now)) fault) → Says old newer most answer
       lists_built answer now same_paths same_names all ok err =
           let whole = and_parts (are_whole old) (are_whole newer) all.whole in
           let written : AreWritten old newer output.names older_ids newer_ids now.lists = record { named = named; older_sets = all.older_sets; newer_sets = all.newer_sets } in

@@ -39,6 +39,7 @@ module _ (older newer : SortedNames) (older_is : AreSortedNames older) (newer_is
       named = subst (λ ids. AreNamesSoFar is_dropped (sorted_names older) (sorted_names newer) before.names ids newer_ids) (sym e) (named_dropped is_dropped (sorted_names older) (sorted_names newer) before.names older_ids newer_ids so_far.named name here drops);
       paths = refl;
       unlisted = so_far.unlisted;
+      sent = refl;
     }
 
     named_now : (now : Written) (first second : NewIds) → now ≡ with_written_name before name → AreNamesSoFar is_dropped (sorted_names older) (sorted_names newer) (before.names ++ name ∷ []) first second → IsMergingNames is_dropped older newer before now first second
@@ -46,6 +47,7 @@ module _ (older newer : SortedNames) (older_is : AreSortedNames older) (newer_is
       named = subst (λ (names : List (List ℕ)). AreNamesSoFar is_dropped (sorted_names older) (sorted_names newer) names first second) (sym (ap (λ (l : Written). l.names) e)) named;
       paths = ap (λ (l : Written). l.paths) e;
       unlisted = ap (λ (l : Written). l.lists) e ∙ so_far.unlisted;
+      sent = ap (λ (l : Written). l.sent) e;
     }
 
     pub naming_older : (now : Written) (id : ℕ) (more : NewIds) → slice_get (sorted_names older) (length older_ids) ≡ Some name → is_dropped name ≡ false → ((next : List ℕ) → slice_get (sorted_names newer) (length newer_ids) ≡ Some next → is_lt (bytes_cmp name next) ≡ true) → now ≡ with_written_name before name → id ≡ length before.names → more ≡ older_ids ++ Some id ∷ [] → IsMergingNames is_dropped older newer before now more newer_ids

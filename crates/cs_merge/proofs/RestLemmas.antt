@@ -104,6 +104,10 @@ module _ (older newer : Parts) (older_ids newer_ids : NewIds) (before : Written)
         names_with [] = refl
         names_with (id ∷ ids) = refl
 
+        sent_with : (ids : List ℕ) → (with_ids ids).sent ≡ now.sent
+        sent_with [] = refl
+        sent_with (id ∷ ids) = refl
+
         list_whole : (parts : Parts) (position : ℕ) → are_whole parts ≡ true → (list_ids parts position trigram).whole ≡ true
         list_whole parts position whole =
             elim (cases_Bool (list_ids parts position trigram).whole) [
@@ -121,6 +125,7 @@ module _ (older newer : Parts) (older_ids newer_ids : NewIds) (before : Written)
           paths = paths_with both;
           names = names_with both;
           lists = lists_with both;
+          sent = sent_with both;
           each = λ id. or_none (has both id) ∙ has-set_of_numbers id (some ++ others) ∙ has_both some others id;
           older_rise = tt;
           newer_rise = tt;

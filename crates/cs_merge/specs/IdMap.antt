@@ -151,3 +151,4 @@ pub record IsMergingNames (is_dropped : List ℕ → Bool) (older newer : Sorted
   pub named : AreNamesSoFar is_dropped (sorted_names older) (sorted_names newer) now.names older_ranks newer_ranks
   pub paths : now.paths ≡ before.paths
   pub unlisted : now.lists ≡ []
+  pub sent : now.sent ≡ before.sent

@@ -67,6 +67,7 @@ pub record IsMergedList (trigram : ℕ) (before now : Written) (older newer olde
   pub paths : now.paths ≡ before.paths
   pub names : now.names ≡ before.names
   pub lists : now.lists ≡ before.lists ++ list_of trigram given
+  pub sent : now.sent ≡ before.sent
   pub each : (id : ℕ) → (has given id || (has older_left id || has newer_left id)) ≡ (has older id || has newer id)
   pub older_rise : AscendWithin (length before.names) (next_after 0 given) older_left
   pub newer_rise : AscendWithin (length before.names) (next_after 0 given) newer_left

@@ -20,10 +20,12 @@ use crate::covering::{Cover, is_under};
 use crate::fault::MergeFault;
 use crate::id_map::IdMaps;
 use crate::list_source::ListSource;
+use crate::merging_lists::BothRuns;
 use crate::merging_names::merge_names;
-use crate::merging_trigrams::merge_lists;
+use crate::merging_trigrams::{Sides, merge_lists};
 use crate::sorted_names::SortedNames;
 use cs_index::{Index, NameTable, Sections, StoredTables, Texts};
+use cs_output::{Output, Sent};
 use cs_tree::{IoFault, MemStore, Store, reduce};
 use std::alloc::{AllocError, Global};
 
@@ -54,71 +56,87 @@ pub fn merge_within(
 {
     // An index in memory is read in place, so the store is never read.
     let mut store = MemStore::new(&[], 1);
-    match merge_source(alloc, &mut store, most, &ListSource::InMemory(old), newer) {
-        Ok(merged) => merged,
+    let mut index = Vec::new(alloc);
+    let source = ListSource::InMemory(old);
+    match merge_source(alloc, &mut store, most, &source, newer, &mut index) {
+        Ok(Ok(_sent)) => Ok(index),
+        Ok(Err(fault)) => Err(fault),
         Err(_) => Err(MergeFault::Memory),
     }
 }
 
 /// Does what `merge` does, with an old index in a store: only its tables are in memory. Each of its lists is
-/// read once and to its end, in the order of the list index, so that each byte is read once.
+/// read once and to its end, in the order of the list index, so that each byte is read once. The merged index
+/// is sent to an output as it is made.
 ///
 /// A failed read is an error of its own, and so is an allocation that fails while a list is read. Both come after the
 /// tests for `Unsorted` and `Uncovered`.
-pub fn merge_stored<S: Store>(
+pub fn merge_stored<S: Store, O: Output>(
     alloc: Global,
     store: &mut S,
     old: &StoredTables,
     newer: &Index<'_>,
-) -> Result<Result<Vec<u8>, MergeFault>, IoFault>
+    out: &mut O,
+) -> Result<Result<Sent, MergeFault>, IoFault>
     ensures merged { (bytes : List ℕ) → S.model store.old ≡ Some bytes → (parts : Parts) →
         TablesIn bytes old.now parts → IfOk result (λ merged. MatchResult merged
-        (λ index. IsMerged parts newer.now most_bytes index.items)
+        (λ index. IsMerged parts newer.now most_bytes index.bytes)
         (λ fault. IsMergeFault parts newer.now most_bytes fault)) }
     ensures tested { (bytes : List ℕ) → S.model store.old ≡ Some bytes → (parts : Parts) →
         TablesIn bytes old.now parts → IfErr result (λ _. AreTested parts newer.now) }
+    ensures given { IfOk result (λ merged. IfOk merged
+        (λ index. O.given out.new ≡ O.given out.old ++ index.bytes)) }
+    ensures keeps_out { O.Keeps out.old out.new }
     ensures keeps { S.model store.new ≡ S.model store.old }
     ensures size { S.size store.new ≡ S.size store.old }
     ensures failed { S.failed store.new ≡ count_after is_io_failure result (S.failed store.old) }
 {
-    merge_stored_within(alloc, store, u32::MAX, old, newer)
+    merge_stored_within(alloc, store, u32::MAX, old, newer, out)
 }
 
 /// `merge_stored` with a maximum length of the index, in bytes, as a parameter.
-pub fn merge_stored_within<S: Store>(
+pub fn merge_stored_within<S: Store, O: Output>(
     alloc: Global,
     store: &mut S,
     most: u32,
     old: &StoredTables,
     newer: &Index<'_>,
-) -> Result<Result<Vec<u8>, MergeFault>, IoFault>
+    out: &mut O,
+) -> Result<Result<Sent, MergeFault>, IoFault>
     ensures merged { (bytes : List ℕ) → S.model store.old ≡ Some bytes → (parts : Parts) →
         TablesIn bytes old.now parts → IfOk result (λ merged. MatchResult merged
-        (λ index. IsMerged parts newer.now most index.items)
+        (λ index. IsMerged parts newer.now most index.bytes)
         (λ fault. IsMergeFault parts newer.now most fault)) }
     ensures tested { (bytes : List ℕ) → S.model store.old ≡ Some bytes → (parts : Parts) →
         TablesIn bytes old.now parts → IfErr result (λ _. AreTested parts newer.now) }
+    ensures given { IfOk result (λ merged. IfOk merged
+        (λ index. O.given out.new ≡ O.given out.old ++ index.bytes)) }
+    ensures keeps_out { O.Keeps out.old out.new }
     ensures keeps { S.model store.new ≡ S.model store.old }
     ensures size { S.size store.new ≡ S.size store.old }
     ensures failed { S.failed store.new ≡ count_after is_io_failure result (S.failed store.old) }
 {
-    merge_source(alloc, store, most, &ListSource::InStore(old), newer)
+    merge_source(alloc, store, most, &ListSource::InStore(old), newer, out)
 }
 
 /// Merges an old index that is in memory or in a store.
-fn merge_source<S: Store>(
+fn merge_source<'a, S: Store, O: Output>(
     alloc: Global,
     store: &mut S,
     most: u32,
-    old: &ListSource<'_>,
-    newer: &Index<'_>,
-) -> Result<Result<Vec<u8>, MergeFault>, IoFault>
+    old: &'a ListSource<'a>,
+    newer: &'a Index<'a>,
+    out: &mut O,
+) -> Result<Result<Sent, MergeFault>, IoFault>
     ensures merged { (parts : Parts) → IsSourceOf (S.model store.old) old.now parts →
         IfOk result (λ merged. MatchResult merged
-        (λ index. IsMerged parts newer.now most index.items)
+        (λ index. IsMerged parts newer.now most index.bytes)
         (λ fault. IsMergeFault parts newer.now most fault)) }
     ensures tested { (parts : Parts) → IsSourceOf (S.model store.old) old.now parts →
         IfErr result (λ _. AreTested parts newer.now) }
+    ensures given { IfOk result (λ merged. IfOk merged
+        (λ index. O.given out.new ≡ O.given out.old ++ index.bytes)) }
+    ensures keeps_out { O.Keeps out.old out.new }
     ensures keeps { S.model store.new ≡ S.model store.old }
     ensures size { S.size store.new ≡ S.size store.old }
     ensures failed { S.failed store.new ≡ count_after is_io_failure result (S.failed store.old) }
@@ -133,8 +151,14 @@ fn merge_source<S: Store>(
         Ok(begun) => begun,
         Err(fault) => return Ok(Err(fault)),
     };
-    match merge_lists(alloc, store, &mut sections, most, old, newer, &ids)? {
-        Ok(()) => Ok(finish(sections, most)),
+    let runs = BothRuns::new(alloc, &ids)?;
+    let sides = Sides {
+        older: old,
+        newer,
+        runs,
+    };
+    match merge_lists(alloc, store, &mut sections, &sides, most, out)? {
+        Ok(()) => Ok(finish(sections, most, out)),
         Err(fault) => Ok(Err(fault)),
     }
 }
@@ -186,6 +210,7 @@ fn begin_merged(
     ensures paths { IfOk result (λ begun. begun.0.paths
         ≡ set.items (merge_paths (set.from_list paths.entry) (paths_in newer.now))) }
     ensures unlisted { IfOk result (λ begun. begun.0.lists ≡ []) }
+    ensures sent { IfOk result (λ begun. begun.0.sent ≡ []) }
     ensures ids { IfOk result (λ begun. AreMergedNames (is_covered (paths_in newer.now))
         names.now.old.names newer.now.names begun.0.names begun.1.older begun.1.newer) }
     ensures fault { IfErr result (λ fault. fault ≡ MergeFault.Memory) }

@@ -1,5 +1,5 @@
 // The merge of the posting lists of one trigram: a two-way merge by id that copies whole runs.
-ghost use Rattle.std.specs.Prelude.{◌≡◌, ◌⊎◌, ◌<◌, ◌&&◌, ◌++◌, [], true, Some, length, slice_get, MatchResult, OnOk};
+ghost use Rattle.std.specs.Prelude.{◌≡◌, ◌⊎◌, ◌<◌, ◌^◌, ◌&&◌, ◌++◌, [], true, Some, length, slice_get, IfOk, MatchResult, OnOk};
 ghost use Rattle.cs_trigram.specs.Trigram.{closing_trigram};
 ghost use Rattle.cs_index.specs.Written.{AllBelow};
 ghost use Rattle.cs_index.specs.Postings.{IsListFault};
@@ -7,6 +7,7 @@ ghost use Rattle.cs_index.specs.AscendingIds.{AscendWithin};
 ghost use Rattle.cs_merge.specs.IdMap.{AreUnique, IsIncreasing, AreNewIdsFrom};
 ghost use Rattle.cs_merge.specs.ListMerge.{lower_of, runs_ids, AreGathered, AreDistinctIds, IsRunOfEither, IsMergedList};
 
+use crate::id_map::IdMaps;
 use crate::id_runs::IdRuns;
 use crate::mapped_postings::MappedPostings;
 use cs_index::{EncodedRun, IndexFault, Sections};
@@ -17,6 +18,20 @@ use std::alloc::{AllocError, Global};
 pub(crate) struct BothRuns<'a> {
     pub(crate) older: IdRuns<'a>,
     pub(crate) newer: IdRuns<'a>,
+}
+
+impl<'a> BothRuns<'a> {
+    /// Finds the runs of both maps.
+    pub(crate) fn new(alloc: Global, ids: &'a IdMaps) -> Result<BothRuns<'a>, AllocError>
+        requires older_bound { length ids.now.older < 2 ^ 32 }
+        requires newer_bound { length ids.now.newer < 2 ^ 32 }
+        ensures older { IfOk result (λ runs. runs.older ≡ ids.now.older) }
+        ensures newer { IfOk result (λ runs. runs.newer ≡ ids.now.newer) }
+    {
+        let older = IdRuns::new(alloc, &ids.older)?;
+        let newer = IdRuns::new(alloc, &ids.newer)?;
+        Ok(BothRuns { older, newer })
+    }
 }
 
 /// The new ids of both lists of a trigram.

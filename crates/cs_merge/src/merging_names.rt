@@ -33,6 +33,7 @@ pub(crate) fn merge_names(
     requires unlisted { sections.old.lists ≡ [] }
     ensures paths { OnOk result (sections.new.paths ≡ sections.old.paths) }
     ensures unlisted { OnOk result (sections.new.lists ≡ []) }
+    ensures sent { OnOk result (sections.new.sent ≡ sections.old.sent) }
     ensures ids { IfOk result (λ ids. AreMergedNames (is_covered (set.from_list cover.now))
         old.now.names newer.now.names sections.new.names ids.older ids.newer) }
 {

@@ -5,6 +5,7 @@ ghost use Rattle.cs_tree.specs.FailureCount.{count_after};
 ghost use Rattle.cs_tree.specs.Transfers.{is_io_failure};
 ghost use Rattle.cs_index.specs.OpenedParts.{Parts};
 ghost use Rattle.cs_index.specs.Postings.{IsListFault};
+ghost use Rattle.cs_index.specs.Sending.{IsSentOn};
 ghost use Rattle.cs_merge.specs.IdMap.{new_ids_of, new_ids_read, AreIdMaps};
 ghost use Rattle.cs_merge.specs.ListMerge.{list_ids, list_trigram, lower_of, position_after, AreLeft, IsMergedList};
 ghost use Rattle.cs_merge.specs.ListSources.{known_parts, source_ids, AreAllMerged, HasBuffer, IsMergingLists, IsSourceOf};
@@ -12,22 +13,22 @@ ghost use Rattle.cs_merge.specs.ListsFault.{are_whole_from, rest_fault, IsListsF
 ghost use Rattle.cs_merge.specs.Mergeable.{both_whole};
 
 use crate::fault::MergeFault;
-use crate::id_map::IdMaps;
 use crate::id_runs::IdRuns;
 use crate::list_source::ListSource;
 use crate::mapped_postings::MappedPostings;
 use crate::merging_lists::{BothLists, BothRuns, lower, merge_list};
-use crate::replacing::{is_whole_from, is_whole_onward};
+use crate::replacing::is_whole_from;
 use cs_index::{Index, IndexFault, ListBuffer, Sections};
+use cs_output::Output;
 use cs_tree::{IoFault, Store};
 use std::alloc::Global;
 
 /// Both indexes, and the id maps of both.
 #[derive(Drop)]
-struct Sides<'a> {
-    older: &'a ListSource<'a>,
-    newer: &'a Index<'a>,
-    runs: BothRuns<'a>,
+pub(crate) struct Sides<'a> {
+    pub(crate) older: &'a ListSource<'a>,
+    pub(crate) newer: &'a Index<'a>,
+    pub(crate) runs: BothRuns<'a>,
 }
 
 /// The position of the next list of each index, and the bytes of the old lists that were read last.
@@ -38,58 +39,52 @@ struct Progress {
     newer: u32,
 }
 
-/// Writes the merged posting lists in ascending order of trigrams. Each list is read once and to
-/// its end, even if all of its files are dropped, so that damage is always found. Once the lists
-/// have more than `most` bytes, the others are only read for damage.
-pub(crate) fn merge_lists<S: Store>(
+/// Writes the merged posting lists in ascending order of trigrams, and sends them as they are made.
+/// Each list is read once and to its end, even if all of its files are dropped, so that damage is
+/// always found. Once the lists have more than `most` bytes, the others are only read for damage.
+pub(crate) fn merge_lists<S: Store, O: Output>(
     alloc: Global,
     store: &mut S,
     sections: &mut Sections,
+    sides: &Sides<'_>,
     most: u32,
-    old: &ListSource<'_>,
-    newer: &Index<'_>,
-    ids: &IdMaps,
+    out: &mut O,
 ) -> Result<Result<(), MergeFault>, IoFault>
-    requires ids { AreIdMaps (length sections.old.names) ids.now.older ids.now.newer }
-    requires older_bound { length ids.now.older < 2 ^ 32 }
-    requires newer_bound { length ids.now.newer < 2 ^ 32 }
+    requires ids { AreIdMaps (length sections.old.names) sides.now.runs.older sides.now.runs.newer }
     requires unlisted { sections.old.lists ≡ [] }
     ensures paths { IfOk result (λ merged. OnOk merged (sections.new.paths ≡ sections.old.paths)) }
     ensures names { IfOk result (λ merged. OnOk merged (sections.new.names ≡ sections.old.names)) }
-    ensures merged { (parts : Parts) → IsSourceOf (S.model store.old) old.now parts →
+    ensures merged { (parts : Parts) → IsSourceOf (S.model store.old) sides.now.older.now parts →
         IfOk result (λ merged. MatchResult merged
-        (λ _. AreAllMerged parts newer.now ids.now.older ids.now.newer sections.new.lists)
-        (IsListsFault parts newer.now ids.now.older ids.now.newer sections.old most)) }
+        (λ _. AreAllMerged parts sides.now.newer.now
+        sides.now.runs.older sides.now.runs.newer sections.new.lists)
+        (IsListsFault parts sides.now.newer.now
+        sides.now.runs.older sides.now.runs.newer sections.old most)) }
+    ensures given { IfOk result (λ merged. OnOk merged
+        (IsSentOn sections.old.sent sections.new.sent (O.given out.old) (O.given out.new))) }
+    ensures keeps_out { O.Keeps out.old out.new }
     ensures keeps { S.model store.new ≡ S.model store.old }
     ensures size { S.size store.new ≡ S.size store.old }
     ensures failed { S.failed store.new ≡ count_after is_io_failure result (S.failed store.old) }
 {
-    old.are_valid();
-    newer.are_valid();
-    let older_runs = IdRuns::new(alloc, &ids.older)?;
-    let newer_runs = IdRuns::new(alloc, &ids.newer)?;
-    let runs = BothRuns {
-        older: older_runs,
-        newer: newer_runs,
-    };
-    let sides = Sides {
-        older: old,
-        newer,
-        runs,
-    };
+    sides.older.are_valid();
+    sides.newer.are_valid();
     let mut progress = Progress {
         buffer: ListBuffer::new(alloc),
         older: 0,
         newer: 0,
     };
     'lists: while sections.list_bytes() <= most as usize {
-        match merge_next(alloc, store, sections, &sides, &mut progress)? {
+        match merge_next(alloc, store, sections, sides, &mut progress)? {
             Ok(true) => {}
             Ok(false) => return Ok(Ok(())),
             Err(fault) => return Ok(Err(MergeFault::from(fault))),
         }
+        let Ok(()) = sections.send(out) else {
+            return Ok(Err(MergeFault::Memory));
+        };
     }
-    let fault = fault_of_rest(alloc, store, &sides, &mut progress)?;
+    let fault = fault_of_rest(alloc, store, sides, &mut progress)?;
     Ok(Err(fault))
 }
 
@@ -111,6 +106,7 @@ fn merge_next<S: Store>(
         progress.new.older progress.new.newer)) }
     ensures more { IfOk result (λ merged. IfOk merged (λ more. more ≡ true →
         progress.old.older + progress.old.newer < progress.new.older + progress.new.newer)) }
+    ensures sent { IfOk result (λ merged. OnOk merged (sections.new.sent ≡ sections.old.sent)) }
     ensures all { IfOk result (λ merged. IfOk merged (λ more. more ≡ false → lower_of
         (list_trigram (known_parts sides.now.older.now) progress.new.older)
         (list_trigram sides.now.newer.now progress.new.newer) ≡ None)) }
@@ -241,9 +237,11 @@ fn fault_of_rest<S: Store>(
     ensures size { S.size store.new ≡ S.size store.old }
     ensures failed { S.failed store.new ≡ count_after is_io_failure result (S.failed store.old) }
 {
+    let newer = ListSource::InMemory(sides.newer);
     let buffer = &mut progress.buffer;
-    let whole = is_whole_onward(alloc, store, sides.older, buffer, progress.older)?;
-    if whole && is_whole_from(sides.newer, progress.newer) {
+    let older_whole = is_whole_from(alloc, store, sides.older, buffer, progress.older)?;
+    let newer_whole = is_whole_from(alloc, store, &newer, buffer, progress.newer)?;
+    if older_whole && newer_whole {
         Ok(MergeFault::TooLarge)
     } else {
         Ok(MergeFault::Index(IndexFault::BadList))

@@ -1,5 +1,5 @@
 // Where the merge is the newer index as a whole.
-ghost use Rattle.std.specs.Prelude.{◌≡◌, ◌&&◌, ℕ, List, true, Some, slice_get, IfOk};
+ghost use Rattle.std.specs.Prelude.{◌≡◌, ◌&&◌, ℕ, List, true, Some, slice_get, IfOk, OnOk};
 ghost use Rattle.std.specs.List.{list_all};
 ghost use Rattle.std.specs.Option.{option_map_or};
 ghost use Rattle.cs_tree.specs.Cover.{is_covered};
@@ -21,14 +21,15 @@ use cs_tree::{IoFault, Store};
 use std::alloc::{AllocError, Global};
 
 /// Whether the newer paths cover all paths and names of the old index. Then the merge is the newer
-/// index, as `laws::what_is_covered_is_replaced` says, unless a list is damaged: see `is_whole`.
+/// index, as `laws::what_is_covered_is_replaced` says, unless a list is damaged: see
+/// `is_whole_stored`.
 pub fn is_replaced(alloc: Global, old: &Index<'_>, newer: &Index<'_>) -> Result<bool, AllocError>
     ensures { IfOk result (λ replaced. replaced ≡ is_replaced' (paths_in newer.now) old.now) }
 {
     covers_both(alloc, newer, old.paths(), old.names())
 }
 
-/// Does what `is_replaced` does, for an old index in a store: see `is_whole_stored`.
+/// Does what `is_replaced` does, for an old index in a store.
 pub fn is_replaced_stored(
     alloc: Global,
     tables: &StoredTables,
@@ -69,26 +70,8 @@ fn covers_all(cover: &Cover<'_>, texts: Texts<'_>) -> bool
     true
 }
 
-/// Whether no posting list is damaged. Each list is read to its end; no id is kept.
-pub fn is_whole(index: &Index<'_>) -> bool
-    ensures { result ≡ are_whole index.now }
-{
-    is_whole_from(index, 0)
-}
-
-/// Whether the lists from a position on are whole.
-pub(crate) fn is_whole_from(index: &Index<'_>, start: u32) -> bool
-    ensures { result ≡ are_whole_from index.now start }
-{
-    'positions: for position in start..index.lists() {
-        if !is_whole_list(index.list_at(position)) {
-            return false;
-        }
-    }
-    true
-}
-
-/// Does what `is_whole` does, for an index in a store.
+/// Whether no posting list of an index in a store is damaged. Each list is read to its end; no id is
+/// kept.
 pub fn is_whole_stored<S: Store>(
     alloc: Global,
     store: &mut S,
@@ -101,11 +84,11 @@ pub fn is_whole_stored<S: Store>(
     ensures failed { S.failed store.new ≡ count_after is_io_failure result (S.failed store.old) }
 {
     let mut buffer = ListBuffer::new(alloc);
-    is_whole_onward(alloc, store, &ListSource::InStore(tables), &mut buffer, 0)
+    is_whole_from(alloc, store, &ListSource::InStore(tables), &mut buffer, 0)
 }
 
-/// Does what `is_whole_from` does; each list is read first.
-pub(crate) fn is_whole_onward<S: Store>(
+/// Whether the lists from a position on are whole. Each one is read first.
+pub(crate) fn is_whole_from<S: Store>(
     alloc: Global,
     store: &mut S,
     source: &ListSource<'_>,
@@ -115,6 +98,8 @@ pub(crate) fn is_whole_onward<S: Store>(
     ensures whole { HasBuffer (S.model store.old) buffer.old → (parts : Parts) →
         IsSourceOf (S.model store.old) source.now parts →
         IfOk result (λ whole. whole ≡ are_whole_from parts start) }
+    ensures buffer { HasBuffer (S.model store.old) buffer.old →
+        OnOk result (HasBuffer (S.model store.old) buffer.new) }
     ensures keeps { S.model store.new ≡ S.model store.old }
     ensures size { S.size store.new ≡ S.size store.old }
     ensures failed { S.failed store.new ≡ count_after is_io_failure result (S.failed store.old) }

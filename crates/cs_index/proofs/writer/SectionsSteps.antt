@@ -1,5 +1,5 @@
 -- The representation invariant of `Sections` after each operation.
-use Rattle.std.proofs.Common.{◌≡◌, ◌≢◌, ◌||◌, ℕ, ◌+◌, ◌-◌, ◌^◌, ◌<◌, ◌≤◌, false, cond, eqb, List, [], ◌∷◌, ◌++◌, length, map, get_or, Option, None, Some, Ok, Err, Vec, Global, refl, sym, ap, subst, ◌∙◌, inl, inr, arith, append_assoc, length-append}
+use Rattle.std.proofs.Common.{◌≡◌, ◌≢◌, ◌||◌, ℕ, ◌+◌, ◌-◌, ◌^◌, ◌<◌, ◌≤◌, false, cond, eqb, List, [], ◌∷◌, ◌++◌, length, map, get_or, Option, None, Some, Vec, Global, refl, sym, ap, subst, ◌∙◌, inl, inr, arith, append_assoc, length-append}
 use Rattle.cs_trigram.specs.Trigram.{has, Ascends}
 use Rattle.cs_trigram.proofs.SetLemmas.{Above, ascends_tail, ascends_head}
 use Rattle.std.proofs.lemmas.Bool.{cases_Bool, eqb-true, eq-eqb, ne_eqb, or_parts}
@@ -7,15 +7,15 @@ use Rattle.std.proofs.lemmas.List.{append-nil, length-map, length_push}
 use Rattle.std.specs.List.{AllByRecursion, concat}
 use Rattle.std.specs.Option.{option_map_or}
 use Rattle.cs_index.specs.declared.writing.sections.Sections.TheInside.{Inside}
-use Rattle.std.specs.Prelude.{Result, IfOk, flat_map}
-use Rattle.cs_index.specs.declared.fault.BuildFault.{BuildFault}
+use Rattle.std.specs.Prelude.{flat_map}
 use Rattle.cs_index.specs.Indexable.{IsIndexable}
 use Rattle.cs_index.specs.Encoding.{PostingList, ListEntry, four_bytes, encoding_of, layout, list_entries, posting_list_bytes, sections_of, three_bytes, varint, deltas_from, stream_of}
 use Rattle.cs_index.specs.IdStream.{ids_in, IsStream}
-use Rattle.cs_index.specs.AscendingIds.{ids_onward, max_ids, next_after, IsPostingList, AscendWithin}
+use Rattle.cs_index.specs.AscendingIds.{ids_onward, max_ids, next_after, ArePostingLists, IsPostingList, AscendWithin}
 use Rattle.cs_index.specs.Gathering.{trigrams_in}
-use Rattle.cs_index.specs.Written.{ids_of, with_id, Written, entries_written, last_ids, with_written_id, with_last_id, with_last_ids, AllBelow}
-use Rattle.cs_index.specs.WrittenLists.{IsWritten, with_posting}
+use Rattle.cs_index.specs.Written.{ids_of, with_id, Written, entries_written, last_ids, with_written_id, with_last_id, with_last_ids, with_sent, AllBelow}
+use Rattle.cs_index.specs.Sending.{Outgoing, bytes_in, with_bytes}
+use Rattle.cs_index.specs.WrittenLists.{IsLastList, IsWritten, with_posting}
 use Rattle.cs_index.specs.SectionsInvariant.{prefix_of, ids_at, first_of, lists_at, IsFresh, IsOpen, IsSections, current_list, bytes_at_close, lists_of_fields, last_trigram_of, written_of}
 use Rattle.cs_index.proofs.postings.StreamPush.{decoded-stream_of, stream_from, written_push, next_push, rise_push, rise_length, rise_append}
 use Rattle.cs_index.proofs.postings.EncodedRuns.{onward_from, onward_last, onward_stream}
@@ -150,7 +150,7 @@ abbrev current_ids : Inside → List ℕ
 current_ids s = ids_at (bytes_at_close s) (current_list s)
 
 abbrev IsOpenAs : Inside → List PostingList → List ℕ → Type 0
-IsOpenAs s closed ids = IsOpen (prefix_of s.paths s.names) s.out.items s.entries.items (current_list s) s.next closed ids
+IsOpenAs s closed ids = IsOpen (prefix_of s.paths s.names) (bytes_in s.out) s.entries.items (current_list s) s.next closed ids
 
 pub some_lists : (s : Inside) → s.count ≢ 0 → lists_of_fields s ≡ closed_of s ++ (s.trigram, current_ids s) ∷ []
 some_lists s some = ap (λ b. cond b [] (closed_of s ++ (s.trigram, current_ids s) ∷ [])) (ne_eqb s.count 0 some)
@@ -175,7 +175,7 @@ pub record Stated (s : Inside) (closed : List PostingList) (ids : List ℕ) : Ty
 pub stated : (s : Inside) (closed : List PostingList) (ids : List ℕ) → s.count ≢ 0 → IsOpenAs s closed ids → Rise closed →
     AscendWithin max_ids 0 ids → Stated s closed ids
 stated s closed ids some is up rise =
-    let read = read_open (prefix_of s.paths s.names) s.out.items s.entries.items (current_list s) s.next closed ids is up
+    let read = read_open (prefix_of s.paths s.names) (bytes_in s.out) s.entries.items (current_list s) s.next closed ids is up
     rise in
     record {
       lists = some_lists s some ∙ (λ i. read.closed_are i ++ (s.trigram, read.ids_are i) ∷ []);
@@ -183,10 +183,24 @@ stated s closed ids some is up rise =
           (subst (IsOpenAs s closed) (sym read.ids_are) is);
     }
 
+bytes_more : (buffer : Outgoing) (bytes : List ℕ) → bytes_in (with_bytes buffer bytes) ≡ bytes_in buffer ++ bytes
+bytes_more buffer bytes = sym (append_assoc buffer.sent buffer.unsent bytes)
+
+none_before : (xs ys : List ℕ) → xs ++ ys ≡ [] → xs ≡ []
+none_before [] ys e = refl
+none_before (x ∷ xs) ys e = absurd (not_none x (xs ++ ys) e)
+  where
+    not_none : (x : ℕ) (xs : List ℕ) → x ∷ xs ≡ [] → ⊥
+    not_none x xs e = cc
+
+-- nothing is sent before the first list
+pub no_sent : (s : Inside) → IsSections s → s.count ≡ 0 → s.out.sent ≡ []
+no_sent s is zero = none_before s.out.sent s.out.unsent (is.silent zero)
+
 -- ---- one more id
 
 -- the fields after one more id
-abbrev pub after_id : Inside → Vec ℕ Global → ℕ → Inside
+abbrev pub after_id : Inside → Outgoing → ℕ → Inside
 after_id s out id = record {
   alloc = s.alloc;
   paths = s.paths;
@@ -263,13 +277,13 @@ at_current s now id view is none begun above named =
     below : s.next ≤ id
     below = subst (λ n. n ≤ id) (sym open_list.follows) (subst (λ ids. next_after 0 ids ≤ id) last_is above)
 
-pub record Given (s : Inside) (now : Written) (out : Vec ℕ Global) (id : ℕ) : Type 0 where
+pub record Given (s : Inside) (now : Written) (out : Outgoing) (id : ℕ) : Type 0 where
   pub are_sections : IsSections (after_id s out id)
   pub is : written_of (after_id s out id) ≡ with_last_id now id
 
-pub given : (s : Inside) (now : Written) (out : Vec ℕ Global) (id : ℕ) → written_of s ≡ now → IsSections s →
+pub given : (s : Inside) (now : Written) (out : Outgoing) (id : ℕ) → written_of s ≡ now → IsSections s →
     s.pending ≡ None → now.last_trigram ≢ None → next_after 0 (last_ids now) ≤ id → id < length now.names →
-    out.items ≡ s.out.items ++ varint (id + 1 - s.next) → Given s now out id
+    out ≡ with_bytes s.out (varint (id + 1 - s.next)) → Given s now out id
 given s now out id view is none begun above named written =
     record {
       are_sections = record {
@@ -279,6 +293,7 @@ given s now out id view is none begun above named written =
             (subst (λ (output : Written). id < length output.names) (sym view) named));
         fresh = subst (IsFresh (lists_of_fields t)) (sym none) tt;
         unwritten = λ zero. absurd (omega (arith, zero));
+        silent = λ zero. absurd (omega (arith, zero));
         opened = λ _. now_open.opened;
       };
       is = same ∙ sym (ap (λ (output : Written). with_last_id output id) (sym view)
@@ -303,10 +318,10 @@ given s now out id view is none begun above named written =
     last : List ℕ
     last = varint (id + 1 - next_after 0 ids)
 
-    bytes : out.items ≡ prefix_of s.paths s.names
+    bytes : bytes_in out ≡ prefix_of s.paths s.names
         ++ (concat (map posting_list_bytes (closed_of s)) ++ (three_bytes s.trigram ++ stream_of (ids ++ id ∷ [])))
     bytes =
-        written
+        ap bytes_in written ∙ bytes_more s.out (varint (id + 1 - s.next))
         ∙ (λ i. open_list.written i ++ varint (id + 1 - open_list.follows i))
         ∙ append_assoc (prefix_of s.paths s.names) (output ++ (three_bytes s.trigram ++ stream_of ids)) last
         ∙ ap (λ bs. prefix_of s.paths s.names ++ bs) (append_assoc output (three_bytes s.trigram ++ stream_of ids) last
@@ -329,12 +344,13 @@ given s now out id view is none begun above named written =
       lists = (now_open.lists ∙ sym known.more) i;
       last_trigram = (ap (λ b. option_map_or (λ trigram. Some trigram) s.pending (cond b None (Some s.trigram)))
           (ne_eqb (s.count + 1) 0 (λ zero. absurd (omega (arith, zero))) ∙ sym (ne_eqb s.count 0 known.some))) i;
+      sent = (written i).sent;
     }
 
 -- ---- several ids after the last one
 
 -- the fields after several ids
-abbrev pub after_ids : Inside → Vec ℕ Global → ℕ → ℕ → Inside
+abbrev pub after_ids : Inside → Outgoing → ℕ → ℕ → Inside
 after_ids s out count next = record {
   alloc = s.alloc;
   paths = s.paths;
@@ -427,20 +443,31 @@ count_all s now more view is has_last named rise =
 
 -- the last list with several ids
 with_all : (output : Written) (closed : List PostingList) (g : ℕ) (ids more : List ℕ) → output.last_trigram ≡ Some g →
-    output.lists ≡ closed ++ (g, ids) ∷ [] → has (trigrams_in closed) g ≡ false → with_last_ids output more ≡ record
-    { paths = output.paths; names = output.names; lists = closed ++ (g, ids ++ more) ∷ []; last_trigram = output.last_trigram }
+    output.lists ≡ closed ++ (g, ids) ∷ [] → has (trigrams_in closed) g ≡ false → with_last_ids output more ≡ record {
+      paths = output.paths;
+      names = output.names;
+      lists = closed ++ (g, ids ++ more) ∷ [];
+      last_trigram = output.last_trigram;
+      sent = output.sent;
+    }
 with_all output closed g ids [] begun lists apart = λ i. record {
   paths = output.paths;
   names = output.names;
   lists = (lists ∙ ap (λ is. closed ++ (g, is) ∷ []) (sym (append-nil ids))) i;
   last_trigram = output.last_trigram;
+  sent = output.sent;
 }
 with_all output closed g ids (id ∷ more) begun lists apart =
     ap (λ (l : Written). with_last_ids l more) (ap (λ o. option_map_or (λ trigram. with_written_id output trigram id) o output) begun)
     ∙ with_all (with_written_id output g id) closed g (ids ++ id ∷ []) more begun
     (ap (λ ps. with_id ps g id) lists ∙ with_last closed g id ids apart) apart
-    ∙ ap (λ is. let l : Written = record
-    { paths = output.paths; names = output.names; lists = closed ++ (g, is) ∷ []; last_trigram = output.last_trigram } in l)
+    ∙ ap (λ is. let l : Written = record {
+      paths = output.paths;
+      names = output.names;
+      lists = closed ++ (g, is) ∷ [];
+      last_trigram = output.last_trigram;
+      sent = output.sent;
+    } in l)
     (append_assoc ids (id ∷ []) more)
 
 written_all : (output : Written) (closed : List PostingList) (g : ℕ) (ids more : List ℕ) → IsWritten output → output.last_trigram ≡ Some g →
@@ -470,13 +497,13 @@ next_more : (next : ℕ) (ids more : List ℕ) →
 next_more next [] more = onward_last next more
 next_more next (id ∷ ids) more = next_more (id + 1) ids more
 
-pub record GivenAll (s : Inside) (now : Written) (out : Vec ℕ Global) (count next : ℕ) (more : List ℕ) : Type 0 where
+pub record GivenAll (s : Inside) (now : Written) (out : Outgoing) (count next : ℕ) (more : List ℕ) : Type 0 where
   pub are_sections : IsSections (after_ids s out count next)
   pub is : written_of (after_ids s out count next) ≡ with_last_ids now (ids_onward (next_after 0 (last_ids now)) more)
 
-pub given_all : (s : Inside) (now : Written) (out : Vec ℕ Global) (count next : ℕ) (more : List ℕ) → written_of s ≡ now →
+pub given_all : (s : Inside) (now : Written) (out : Outgoing) (count next : ℕ) (more : List ℕ) → written_of s ≡ now →
     IsSections s → last_ids now ≢ [] → next_after 0 (last_ids now) + next_after 0 more ≤ length now.names →
-    AscendWithin max_ids 0 more → out.items ≡ s.out.items ++ stream_of more → count ≡ s.count + length more →
+    AscendWithin max_ids 0 more → out ≡ with_bytes s.out (stream_of more) → count ≡ s.count + length more →
     next ≡ s.next + next_after 0 more → GivenAll s now out count next more
 given_all s now out count next more view is has_last named rise written counted follows =
     record {
@@ -485,6 +512,7 @@ given_all s now out count next more view is has_last named rise written counted 
             (some_lists s known.some) known.apart new_rise);
         fresh = subst (IsFresh (lists_of_fields t)) (sym known.none) tt;
         unwritten = λ zero. absurd (some zero);
+        silent = λ zero. absurd (some zero);
         opened = λ _. now_open.opened;
       };
       is = same ∙ ap (λ (l : Written). with_last_ids l new) view
@@ -518,9 +546,9 @@ given_all s now out count next more view is has_last named rise written counted 
     output : List ℕ
     output = concat (map posting_list_bytes (closed_of s))
 
-    bytes : out.items ≡ prefix_of s.paths s.names ++ (output ++ (three_bytes s.trigram ++ stream_of (ids ++ new)))
+    bytes : bytes_in out ≡ prefix_of s.paths s.names ++ (output ++ (three_bytes s.trigram ++ stream_of (ids ++ new)))
     bytes =
-        written
+        ap bytes_in written ∙ bytes_more s.out (stream_of more)
         ∙ (λ i. known.open_list.written i ++ stream_of more)
         ∙ append_assoc (prefix_of s.paths s.names) (output ++ (three_bytes s.trigram ++ stream_of ids)) (stream_of more)
         ∙ ap (λ bs. prefix_of s.paths s.names ++ bs) (append_assoc output (three_bytes s.trigram ++ stream_of ids) (stream_of more)
@@ -546,6 +574,7 @@ given_all s now out count next more view is has_last named rise written counted 
           lists = now_open.lists i;
           last_trigram = (ap (λ b. option_map_or (λ trigram. Some trigram) s.pending (cond b None (Some s.trigram)))
               (ne_eqb count 0 some ∙ sym (ne_eqb s.count 0 known.some))) i;
+          sent = (written i).sent;
         })
         ∙ sym (with_all (written_of s) (closed_of s) s.trigram ids new known.begun (some_lists s known.some) known.apart)
 
@@ -573,7 +602,7 @@ entries_push at (q ∷ ps) p =
     { trigram = p.0; count = length p.1; offset = there i } ∷ []))
 
 -- the fields after a list is begun
-abbrev pub after_list : Inside → Vec ℕ Global → Vec ListEntry Global → ℕ → ℕ → ℕ → ℕ → Inside
+abbrev pub after_list : Inside → Outgoing → Vec ListEntry Global → ℕ → ℕ → ℕ → ℕ → Inside
 after_list s out entries trigram count start next = record {
   alloc = s.alloc;
   paths = s.paths;
@@ -599,14 +628,15 @@ pub record Begun (s : Inside) (now : Written) (p : PostingList) : Type 0 where
   pub are_sections : IsSections s
   pub is : written_of s ≡ with_posting now p
 
-begun : (s : Inside) (now : Written) (out : Vec ℕ Global) (entries : Vec ListEntry Global) (trigram count start next : ℕ)
+begun : (s : Inside) (now : Written) (out : Outgoing) (entries : Vec ListEntry Global) (trigram count start next : ℕ)
     (bytes : List ℕ) (closed : List PostingList) → written_of s ≡ now → IsSections s → AllBelow now.lists trigram →
     AreFirst (length now.names) trigram count next bytes → lists_of_fields s ≡ closed →
-    out.items ≡ prefix_of s.paths s.names ++ (concat (map posting_list_bytes closed) ++ (three_bytes trigram ++ bytes)) →
+    bytes_in out ≡ prefix_of s.paths s.names ++ (concat (map posting_list_bytes closed) ++ (three_bytes trigram ++ bytes)) →
+    out.sent ≡ s.out.sent →
     entries.items ≡ list_entries (length (prefix_of s.paths s.names)) closed →
     start ≡ length (prefix_of s.paths s.names) + length (concat (map posting_list_bytes closed)) →
     Begun (after_list s out entries trigram count start next) now (trigram, ids_in bytes count)
-begun s now out entries trigram count start next bytes closed view is above first known written output starts =
+begun s now out entries trigram count start next bytes closed view is above first known written sent output starts =
     record {
       are_sections = record {
         output = subst IsWritten (sym same)
@@ -614,6 +644,7 @@ begun s now out entries trigram count start next bytes closed view is above firs
             (subst (λ (l : Written). AllBelow l.lists trigram) (sym view) above) posting);
         fresh = tt;
         unwritten = λ zero. absurd (first.some zero);
+        silent = λ zero. absurd (first.some zero);
         opened = λ _. now_open_list.opened;
       };
       is = same ∙ ap (λ (l : Written). with_posting l (trigram, ids)) view;
@@ -647,6 +678,7 @@ begun s now out entries trigram count start next bytes closed view is above firs
       names = s.names;
       lists = (now_open_list.lists ∙ ap (λ ps. ps ++ (trigram, ids) ∷ []) (sym known)) i;
       last_trigram = ap (λ b. cond b None (Some trigram)) (ne_eqb count 0 first.some) i;
+      sent = sent i;
     }
 
     posting : IsPostingList (length s.names) (trigram, ids)
@@ -657,26 +689,27 @@ begun s now out entries trigram count start next bytes closed view is above firs
           (arith, at, first.named, first.stream.follows)) first.stream.rise,
     )
 
-pub begun_first : (s : Inside) (now : Written) (out : Vec ℕ Global) (trigram count start next : ℕ) (bytes : List ℕ) →
+pub begun_first : (s : Inside) (now : Written) (out : Outgoing) (trigram count start next : ℕ) (bytes : List ℕ) →
     written_of s ≡ now → IsSections s → now.lists ≡ [] → AreFirst (length now.names) trigram count next bytes →
-    out.items ≡ prefix_of s.paths s.names ++ (three_bytes trigram ++ bytes) →
+    out ≡ record { sent = []; unsent = prefix_of s.paths s.names ++ (three_bytes trigram ++ bytes) } →
     start ≡ length (prefix_of s.paths s.names) →
     Begun (after_list s out s.entries trigram count start next) now (trigram, ids_in bytes count)
 begun_first s now out trigram count start next bytes view is none first written starts =
     let known : lists_of_fields s ≡ [] = ap (λ (l : Written). l.lists) view ∙ none in
     begun s now out s.entries trigram count start next bytes [] view is
-    (subst (λ ps. AllBelow ps trigram) (sym none) tt) first known written (is.unwritten (no_count s known))
+    (subst (λ ps. AllBelow ps trigram) (sym none) tt) first known (ap bytes_in written)
+    (ap (λ (o : Outgoing). o.sent) written ∙ sym (no_sent s is (no_count s known))) (is.unwritten (no_count s known))
     (omega (arith, starts))
 
-pub begun_next : (s : Inside) (now : Written) (out : Vec ℕ Global) (entries : Vec ListEntry Global)
+pub begun_next : (s : Inside) (now : Written) (out : Outgoing) (entries : Vec ListEntry Global)
     (trigram count start next : ℕ) (bytes : List ℕ) → written_of s ≡ now → IsSections s → now.lists ≢ [] →
     AllBelow now.lists trigram → AreFirst (length now.names) trigram count next bytes →
-    out.items ≡ s.out.items ++ (four_bytes trigram ++ bytes) → entries.items ≡ s.entries.items ++ current_list s ∷ [] →
-    start ≡ length s.out.items + 1 →
+    out ≡ with_bytes s.out (four_bytes trigram ++ bytes) → entries.items ≡ s.entries.items ++ current_list s ∷ [] →
+    start ≡ length (bytes_in s.out) + 1 →
     Begun (after_list s out entries trigram count start next) now (trigram, ids_in bytes count)
 begun_next s now out entries trigram count start next bytes view is later above first written pushed starts =
     begun s now out entries trigram count start next bytes (closed_of s ++ last ∷ []) view is above first
-    (some_lists s some) written_out all_entries all_long
+    (some_lists s some) written_out (ap (λ (o : Outgoing). o.sent) written) all_entries all_long
   where
     some : s.count ≢ 0
     some zero = later (ap (λ (l : Written). l.lists) (sym view)
@@ -691,16 +724,16 @@ begun_next s now out entries trigram count start next bytes view is later above 
     open_list : IsOpenAs s (closed_of s) (current_ids s)
     open_list = is.opened some
 
-    closed : s.out.items ++ 0 ∷ [] ≡ prefix ++ concat (map posting_list_bytes (closed_of s ++ last ∷ []))
-    closed = closed_at prefix s.out.items (closed_of s) s.trigram (current_ids s) open_list.written
+    closed : bytes_in s.out ++ 0 ∷ [] ≡ prefix ++ concat (map posting_list_bytes (closed_of s ++ last ∷ []))
+    closed = closed_at prefix (bytes_in s.out) (closed_of s) s.trigram (current_ids s) open_list.written
         ∙ ap (λ bs. prefix ++ bs) (sym (concat_push (closed_of s) last))
 
-    written_out : out.items ≡ prefix
+    written_out : bytes_in out ≡ prefix
         ++ (concat (map posting_list_bytes (closed_of s ++ last ∷ [])) ++ (three_bytes trigram ++ bytes))
     written_out =
-        written
-        ∙ ap (λ bs. s.out.items ++ (bs ++ bytes)) (top_zero trigram (omega (arith, first.below)))
-        ∙ sym (append_assoc s.out.items (0 ∷ []) (three_bytes trigram ++ bytes))
+        ap bytes_in written ∙ bytes_more s.out (four_bytes trigram ++ bytes)
+        ∙ ap (λ bs. bytes_in s.out ++ (bs ++ bytes)) (top_zero trigram (omega (arith, first.below)))
+        ∙ sym (append_assoc (bytes_in s.out) (0 ∷ []) (three_bytes trigram ++ bytes))
         ∙ ap (λ bs. bs ++ (three_bytes trigram ++ bytes)) closed
         ∙ append_assoc prefix (concat (map posting_list_bytes (closed_of s ++ last ∷ []))) (three_bytes trigram ++ bytes)
 
@@ -712,20 +745,20 @@ begun_next s now out entries trigram count start next bytes view is later above 
         ∙ sym (entries_push (length prefix) (closed_of s) last)
 
     all_long : start ≡ length prefix + length (concat (map posting_list_bytes (closed_of s ++ last ∷ [])))
-    all_long = starts ∙ sym (length_push s.out.items 0) ∙ ap length closed
+    all_long = starts ∙ sym (length_push (bytes_in s.out) 0) ∙ ap length closed
         ∙ length-append prefix (concat (map posting_list_bytes (closed_of s ++ last ∷ [])))
 
 -- ---- the end
 
-pub record Ended (s : Inside) (now : Written) (bytes : List ℕ) (entries : List ListEntry) : Type 0 where
-  pub lists : bytes ≡ prefix_of s.paths s.names ++ concat (map posting_list_bytes (lists_at bytes entries))
-  pub entries_are : entries ≡ list_entries (length (prefix_of s.paths s.names)) (lists_at bytes entries)
-  pub encoding : layout (sections_of s.paths s.names (lists_at bytes entries)) ≡ encoding_of now.paths (entries_written now)
+pub record Ended (paths names : List (List ℕ)) (now : Written) (bytes : List ℕ) (entries : List ListEntry) : Type 0 where
+  pub lists : bytes ≡ prefix_of paths names ++ concat (map posting_list_bytes (lists_at bytes entries))
+  pub entries_are : entries ≡ list_entries (length (prefix_of paths names)) (lists_at bytes entries)
+  pub encoding : layout (sections_of paths names (lists_at bytes entries)) ≡ encoding_of now.paths (entries_written now)
 
 ended : (s : Inside) (now : Written) (bytes : List ℕ) (entries : List ListEntry) → written_of s ≡ now → IsSections s →
     lists_at bytes entries ≡ lists_of_fields s →
     bytes ≡ prefix_of s.paths s.names ++ concat (map posting_list_bytes (lists_of_fields s)) →
-    entries ≡ list_entries (length (prefix_of s.paths s.names)) (lists_of_fields s) → Ended s now bytes entries
+    entries ≡ list_entries (length (prefix_of s.paths s.names)) (lists_of_fields s) → Ended s.paths s.names now bytes entries
 ended s now bytes entries view is read written output = record {
   lists = written ∙ ap (λ ps. prefix_of s.paths s.names ++ concat (map posting_list_bytes ps)) (sym read);
   entries_are = output ∙ ap (list_entries (length (prefix_of s.paths s.names))) (sym read);
@@ -733,8 +766,8 @@ ended s now bytes entries view is read written output = record {
       ∙ ap (λ (l : Written). encoding_of l.paths (entries_written l)) view;
 }
 
-pub ended_none : (s : Inside) (now : Written) (bytes : List ℕ) → written_of s ≡ now → IsSections s → s.count ≡ 0 →
-    bytes ≡ prefix_of s.paths s.names → Ended s now bytes []
+ended_none : (s : Inside) (now : Written) (bytes : List ℕ) → written_of s ≡ now → IsSections s → s.count ≡ 0 →
+    bytes ≡ prefix_of s.paths s.names → Ended s.paths s.names now bytes []
 ended_none s now bytes view is zero written =
     let none : lists_of_fields s ≡ [] = ap (λ b. cond b [] (closed_of s ++ (s.trigram, current_ids s) ∷ []))
     (eq-eqb s.count 0 zero) in
@@ -748,14 +781,14 @@ lists_push : (bytes : List ℕ) (entries : List ListEntry) (e : ListEntry) →
 lists_push bytes [] e = refl
 lists_push bytes (d ∷ entries) e = ap (λ ps. (d.trigram, ids_at bytes d) ∷ ps) (lists_push bytes entries e)
 
-pub ended_some : (s : Inside) (now : Written) (bytes : List ℕ) (entries : List ListEntry) → written_of s ≡ now →
-    IsSections s → s.count ≢ 0 → bytes ≡ s.out.items ++ 0 ∷ [] → entries ≡ s.entries.items ++ current_list s ∷ [] →
-    Ended s now bytes entries
+ended_some : (s : Inside) (now : Written) (bytes : List ℕ) (entries : List ListEntry) → written_of s ≡ now →
+    IsSections s → s.count ≢ 0 → bytes ≡ bytes_in s.out ++ 0 ∷ [] → entries ≡ s.entries.items ++ current_list s ∷ [] →
+    Ended s.paths s.names now bytes entries
 ended_some s now bytes entries view is some written pushed =
     ended s now bytes entries view is
     ((λ i. lists_at (written i) (pushed i)) ∙ lists_push (bytes_at_close s) s.entries.items (current_list s)
     ∙ sym (some_lists s some))
-    (written ∙ closed_at prefix s.out.items (closed_of s) s.trigram (current_ids s) open_list.written
+    (written ∙ closed_at prefix (bytes_in s.out) (closed_of s) s.trigram (current_ids s) open_list.written
     ∙ ap (λ bs. prefix ++ bs) (sym (concat_push (closed_of s) last))
     ∙ ap (λ ps. prefix ++ concat (map posting_list_bytes ps)) (sym (some_lists s some)))
     (pushed ∙ (λ i. open_list.entries_are i ++ record
@@ -772,6 +805,42 @@ ended_some s now bytes entries view is some written pushed =
     open_list : IsOpenAs s (closed_of s) (current_ids s)
     open_list = is.opened some
 
+-- the fields after the lists are closed
+abbrev pub after_close : Inside → Outgoing → Vec ListEntry Global → Inside
+after_close s out entries = record {
+  alloc = s.alloc;
+  paths = s.paths;
+  names = s.names;
+  out = out;
+  entries = entries;
+  pending = s.pending;
+  trigram = s.trigram;
+  count = s.count;
+  start = s.start;
+  next = s.next;
+}
+
+-- All lists are closed.
+pub record Closed (now : Written) (s : Inside) (entries : List ListEntry) : Type 0 where
+  pub end : Ended s.paths s.names now (bytes_in s.out) entries
+  pub sent : s.out.sent ≡ now.sent
+
+pub closed_none : (s : Inside) (now : Written) (out : Outgoing) → written_of s ≡ now → IsSections s → s.count ≡ 0 →
+    out ≡ record { sent = []; unsent = prefix_of s.paths s.names } → Closed now (after_close s out s.entries) s.entries.items
+closed_none s now out view is zero written = record {
+  end = subst (Ended s.paths s.names now (bytes_in out)) (sym (is.unwritten zero))
+      (ended_none s now (bytes_in out) view is zero (ap bytes_in written));
+  sent = ap (λ (o : Outgoing). o.sent) written ∙ sym (no_sent s is zero) ∙ ap (λ (l : Written). l.sent) view;
+}
+
+pub closed_some : (s : Inside) (now : Written) (out : Outgoing) (entries : Vec ListEntry Global) → written_of s ≡ now →
+    IsSections s → s.count ≢ 0 → out ≡ with_bytes s.out (0 ∷ []) → entries.items ≡ s.entries.items ++ current_list s ∷ [] →
+    Closed now (after_close s out entries) entries.items
+closed_some s now out entries view is some written pushed = record {
+  end = ended_some s now (bytes_in out) entries.items view is some (ap bytes_in written ∙ bytes_more s.out (0 ∷ [])) pushed;
+  sent = ap (λ (o : Outgoing). o.sent) written ∙ ap (λ (l : Written). l.sent) view;
+}
+
 -- ---- the bytes of the lists
 
 pub none_lists : (s : Inside) → s.count ≡ 0 → lists_of_fields s ≡ []
@@ -783,28 +852,78 @@ first_at at last [] e = omega (arith, e)
 first_at at last (p ∷ ps) e = refl
 
 pub lists_long : (s : Inside) (first : ℕ) → IsSections s → s.count ≢ 0 → first ≡ first_of s.entries.items s.start →
-    length s.out.items + 1 ≡ first + length (concat (map posting_list_bytes (lists_of_fields s)))
+    length (bytes_in s.out) + 1 ≡ first + length (concat (map posting_list_bytes (lists_of_fields s)))
 lists_long s first is some e =
     let open_list : IsOpenAs s (closed_of s) (current_ids s) = is.opened some in
     let prefix : List ℕ = prefix_of s.paths s.names in
-    let written : s.out.items ++ 0 ∷ [] ≡ prefix ++ concat (map posting_list_bytes (lists_of_fields s)) =
-    closed_at prefix s.out.items (closed_of s) s.trigram (current_ids s) open_list.written
+    let written : bytes_in s.out ++ 0 ∷ [] ≡ prefix ++ concat (map posting_list_bytes (lists_of_fields s)) =
+    closed_at prefix (bytes_in s.out) (closed_of s) s.trigram (current_ids s) open_list.written
     ∙ ap (λ bs. prefix ++ bs) (sym (concat_push (closed_of s) (s.trigram, current_ids s)))
     ∙ ap (λ ps. prefix ++ concat (map posting_list_bytes ps)) (sym (some_lists s some)) in
     let starts : first ≡ length prefix = e ∙ ap (λ es. first_of es s.start) open_list.entries_are
     ∙ first_at (length prefix) s.start (closed_of s) open_list.starts in
     let long = ap length written in
-    let pushed = length_push s.out.items 0 in
+    let pushed = length_push (bytes_in s.out) 0 in
     let both = length-append prefix (concat (map posting_list_bytes (lists_of_fields s))) in
     omega (arith, starts, long, pushed, both)
 
--- the result
-pub short : (result : Result (Vec ℕ Global) BuildFault) (s : Inside) (now : Written) (limit : ℕ) → written_of s ≡ now →
-    IsSections s → limit < 2 ^ 32 → IfOk result (λ index. index.items ≡ encoding_of now.paths (entries_written now)) →
-    IfOk result (λ index. length index.items ≤ limit) → IfOk result (λ _. IsIndexable now.paths (entries_written now))
-short (Ok index) s now limit view is bound encoding within = written_indexable now (subst IsWritten view is.output)
+-- the encoding of what is written is an index
+pub short : (s : Inside) (now : Written) (bytes : List ℕ) (limit : ℕ) → written_of s ≡ now → IsSections s →
+    limit < 2 ^ 32 → bytes ≡ encoding_of now.paths (entries_written now) → length bytes ≤ limit →
+    IsIndexable now.paths (entries_written now)
+short s now bytes limit view is bound encoding within = written_indexable now (subst IsWritten view is.output)
     (let long = ap length encoding in omega (arith, bound, within, long))
-short (Err fault) s now limit view is bound encoding within = tt
+
+-- ---- the bytes are sent
+
+-- the fields after the bytes are sent
+abbrev pub after_send : Inside → Outgoing → Inside
+after_send s out = record {
+  alloc = s.alloc;
+  paths = s.paths;
+  names = s.names;
+  out = out;
+  entries = s.entries;
+  pending = s.pending;
+  trigram = s.trigram;
+  count = s.count;
+  start = s.start;
+  next = s.next;
+}
+
+pub record AfterSend (s : Inside) (now : Written) (out : Outgoing) : Type 0 where
+  pub are_sections : IsSections (after_send s out)
+  pub is : written_of (after_send s out) ≡ with_sent now out.sent
+
+pub after_sent : (s : Inside) (now : Written) (out : Outgoing) → written_of s ≡ now → IsSections s →
+    bytes_in out ≡ bytes_in s.out → AfterSend s now out
+after_sent s now out view is same = record {
+  are_sections = record {
+    output = record {
+      each_path = is.output.each_path;
+      each_name = is.output.each_name;
+      bound = is.output.bound;
+      postings = subst (ArePostingLists (length s.names)) lists is.output.postings;
+      last = subst (λ ps. IsLastList ps (last_trigram_of s)) lists is.output.last;
+    };
+    fresh = subst (λ ps. IsFresh ps s.pending) lists is.fresh;
+    unwritten = is.unwritten;
+    silent = λ zero. same ∙ is.silent zero;
+    opened = λ some. subst (λ bs. IsOpen (prefix_of s.paths s.names) bs s.entries.items (current_list s) s.next
+        (lists_at (bs ++ 0 ∷ []) s.entries.items) (ids_at (bs ++ 0 ∷ []) (current_list s))) (sym same) (is.opened some);
+  };
+  is = (λ i. record {
+    paths = s.paths;
+    names = s.names;
+    lists = sym lists i;
+    last_trigram = last_trigram_of s;
+    sent = out.sent;
+  }) ∙ ap (λ (l : Written). with_sent l out.sent) view;
+}
+  where
+    lists : lists_of_fields s ≡ lists_of_fields (after_send s out)
+    lists = ap (λ bs. cond (eqb s.count 0) [] (lists_at (bs ++ 0 ∷ []) s.entries.items
+        ++ (s.trigram, ids_at (bs ++ 0 ∷ []) (current_list s)) ∷ [])) (sym same)
 
 -- ---- the first id of a list
 
@@ -832,6 +951,7 @@ one_posting now trigram id bytes begun above small is =
       lists = sym
           (gathered_new now.lists trigram id (below_lacks now.lists trigram above)) i;
       last_trigram = sym begun i;
+      sent = now.sent;
     })
     ∙ sym (ap (λ o. option_map_or (λ t. with_written_id now t id) o now) begun)
 

@@ -9,7 +9,7 @@ use Rattle.std.specs.List.{AllByRecursion, concat}
 use Rattle.cs_index.specs.Encoding.{Entry, PostingList, IsString, encoding_of, layout, posting_list_bytes, postings_of, sections_of, with_nul, starts_from, four_bytes, name_offsets}
 use Rattle.cs_index.specs.AscendingIds.{next_after, IsPostingList}
 use Rattle.cs_index.specs.Gathering.{trigrams_in}
-use Rattle.cs_index.specs.Written.{ids_of, with_id, Written, entries_written, with_written_id, AllBelow}
+use Rattle.cs_index.specs.Written.{ids_of, with_id, Written, entries_written, with_written_id, with_sent, AllBelow}
 use Rattle.cs_index.specs.WrittenLists.{IsWritten, IsLastList, with_posting, with_postings}
 use Rattle.cs_index.specs.Indexable.{IsIndexable}
 use Rattle.cs_index.specs.PostingLists.{entries_of, set_at}
@@ -192,3 +192,12 @@ pub postings_append : (output : Written) (ps qs : List PostingList) →
     with_postings output (ps ++ qs) ≡ with_postings (with_postings output ps) qs
 postings_append output [] qs = refl
 postings_append output (p ∷ ps) qs = postings_append (with_posting output p) ps qs
+
+pub postings_sent : (output : Written) (ps : List PostingList) → (with_postings output ps).sent ≡ output.sent
+postings_sent output [] = refl
+postings_sent output (p ∷ ps) = postings_sent (with_posting output p) ps
+
+pub sent_postings : (output : Written) (sent : List ℕ) (ps : List PostingList) →
+    with_postings (with_sent output sent) ps ≡ with_sent (with_postings output ps) sent
+sent_postings output sent [] = refl
+sent_postings output sent (p ∷ ps) = sent_postings (with_posting output p) sent ps

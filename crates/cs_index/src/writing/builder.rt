@@ -1,5 +1,5 @@
 // The index builder: postings are distributed to buckets, and the lists are written at the end.
-ghost use Rattle.std.specs.Prelude.{◌≡◌, ◌≢◌, ◌<◌, ◌≤◌, ◌^◌, ◌⊎◌, ◌↔◌, [], true, false, length, map, string_bytes, Err, IfOk, IfErr, OnOk, OnErr};
+ghost use Rattle.std.specs.Prelude.{◌≡◌, ◌≢◌, ◌<◌, ◌≤◌, ◌^◌, ◌++◌, ◌⊎◌, ◌↔◌, [], true, false, length, map, string_bytes, Err, IfOk, IfErr, OnOk, OnErr};
 ghost use Rattle.cs_trigram.specs.Trigram.{set_of_numbers, closing_trigram};
 ghost use Rattle.cs_trigram.specs.Scans.{AreDistinctTrigrams};
 ghost use Rattle.std.specs.List.{AllByRecursion};
@@ -14,6 +14,7 @@ use crate::writing::buckets::{empty_buckets, pop_file, push_file, write_buckets}
 use crate::writing::sections::Sections;
 use crate::writing::storable_texts::{are_index_paths, is_text};
 use crate::writing::strings::{Strings, strings_of};
+use cs_output::{Output, Sent};
 use std::alloc::{AllocError, Global};
 use std::marker::Model;
 
@@ -95,7 +96,7 @@ impl Builder {
     }
 
     /// `finish` with a maximum length of the index, in bytes, as a parameter.
-    pub fn finish_within(mut self, limit: u32) -> Result<Vec<u8>, BuildFault>
+    pub fn finish_within(self, limit: u32) -> Result<Vec<u8>, BuildFault>
         ensures ok { IfOk result (λ index. index.items ≡ encoding_of self.paths self.entries) }
         ensures within { IfOk result (λ index. length index.items ≤ limit) }
         ensures built { IsBuilt self }
@@ -104,9 +105,28 @@ impl Builder {
         ensures other { IfErr result
             (λ fault. (fault ≡ BuildFault.TooLarge) ⊎ (fault ≡ BuildFault.Memory)) }
     {
+        let mut index = Vec::new(self.alloc);
+        self.finish_into(&mut index, limit)?;
+        Ok(index)
+    }
+
+    /// Encodes the index and sends it to an output as it is made. `TooLarge` if it would be longer
+    /// than `limit` bytes.
+    pub fn finish_into<O: Output>(mut self, out: &mut O, limit: u32) -> Result<Sent, BuildFault>
+        ensures ok { IfOk result (λ index. index.bytes ≡ encoding_of self.paths self.entries) }
+        ensures within { IfOk result (λ index. length index.bytes ≤ limit) }
+        ensures built { IsBuilt self }
+        ensures too_large { result ≡ Err BuildFault.TooLarge →
+            limit < length (encoding_of self.paths self.entries) }
+        ensures other { IfErr result
+            (λ fault. (fault ≡ BuildFault.TooLarge) ⊎ (fault ≡ BuildFault.Memory)) }
+        ensures given { IfOk result
+            (λ index. O.given out.new ≡ O.given out.old ++ index.bytes) }
+        ensures keeps { O.Keeps out.old out.new }
+    {
         let mut sections = Sections::of(self.alloc, self.paths, self.names);
-        write_buckets(self.alloc, &mut self.buckets, &mut sections)?;
-        sections.finish_within(limit)
+        write_buckets(self.alloc, &mut self.buckets, &mut sections, out)?;
+        sections.finish_into(out, limit)
     }
 
     /// `add` with a maximum number of names as a parameter.

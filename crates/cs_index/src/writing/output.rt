@@ -3,10 +3,12 @@ ghost use Rattle.std.specs.Prelude.{◌≡◌, ◌<◌, ◌≤◌, ◌⊎◌, �
 ghost use Rattle.std.specs.List.{AllByRecursion, concat};
 ghost use Rattle.cs_index.specs.Encoding.{entry_bytes, four_bytes, layout, list_entries, posting_list_bytes, sections_of, trailer_magic, ListEntry};
 ghost use Rattle.cs_index.specs.SectionsInvariant.{entry_from, prefix_of, lists_at};
+ghost use Rattle.cs_index.specs.Sending.{bytes_in};
 
 use crate::fault::BuildFault;
 use crate::format::{MAGIC, TRAILER_LEN, TRAILER_MAGIC};
 use crate::writing::numbers::{write_entry, write_numbers};
+use crate::writing::send_buffer::SendBuffer;
 use crate::writing::strings::Strings;
 use std::alloc::{AllocError, Global};
 use std::marker::Model;
@@ -42,60 +44,49 @@ pub(crate) fn write_prefix(
     Ok(out)
 }
 
-/// Appends two slices. On error nothing is appended.
-pub(crate) fn append_both(out: &mut Vec<u8>, header: &[u8], ids: &[u8]) -> Result<(), AllocError>
-    ensures ok { OnOk result (out.new.items ≡ out.old.items ++ (header.now ++ ids.now)) }
-    ensures err { OnErr result (out.new.items ≡ out.old.items) }
-{
-    let len = out.len();
-    out.extend_from_slice(header)?;
-    if out.extend_from_slice(ids).is_err() {
-        out.truncate(len);
-        return Err(AllocError);
-    }
-    Ok(())
-}
-
-/// Completes the output after the posting lists: the closing list, the name index, the list index
-/// and the trailer. `TooLarge` if the index would be longer than `limit` bytes.
+/// What follows the posting lists: the closing list, the name index, the list index and the trailer.
+/// `TooLarge` if the index would be longer than `limit` bytes.
 pub(crate) fn write_tables(
-    out: Vec<u8>,
+    alloc: Global,
+    out: &SendBuffer,
     paths: &Strings,
     names: &Strings,
     entries: &[WrittenList],
     limit: u32,
 ) -> Result<Vec<u8>, BuildFault>
-    requires lists { out.items ≡ prefix_of paths.now names.now ++
-        concat (map posting_list_bytes (lists_at out.items entries.now)) }
-    requires entries { entries.now ≡
-        list_entries (length (prefix_of paths.now names.now)) (lists_at out.items entries.now) }
-    ensures ok { IfOk result (λ index. index.items ≡
-        layout (sections_of paths.now names.now (lists_at out.items entries.now))) }
-    ensures within { IfOk result (λ index. length index.items ≤ limit) }
+    requires lists { bytes_in out.now ≡ prefix_of paths.now names.now ++
+        concat (map posting_list_bytes (lists_at (bytes_in out.now) entries.now)) }
+    requires entries { entries.now ≡ list_entries
+        (length (prefix_of paths.now names.now)) (lists_at (bytes_in out.now) entries.now) }
+    ensures ok { IfOk result (λ tables. bytes_in out.now ++ tables.items ≡
+        layout (sections_of paths.now names.now (lists_at (bytes_in out.now) entries.now))) }
+    ensures within { IfOk result (λ tables. length (bytes_in out.now ++ tables.items) ≤ limit) }
     ensures too_large { result ≡ Err BuildFault.TooLarge →
-        limit < length (layout (sections_of paths.now names.now (lists_at out.items entries.now))) }
+        limit < length (layout
+        (sections_of paths.now names.now (lists_at (bytes_in out.now) entries.now))) }
     ensures other { IfErr result
         (λ fault. (fault ≡ BuildFault.TooLarge) ⊎ (fault ≡ BuildFault.Memory)) }
 {
-    let mut out = out;
+    let start = out.len();
     let names_at = MAGIC.len() + paths.bytes().len() + 1;
     let lists_start = names_at + names.bytes().len() + 1;
-    out.extend_from_slice(&[0xff, 0xff, 0xff, 0])?;
-    let name_index_at = out.len();
-    if out.len() > limit as usize {
+    let mut tables = Vec::new(alloc);
+    tables.extend_from_slice(&[0xff, 0xff, 0xff, 0])?;
+    let name_index_at = start + tables.len();
+    if name_index_at > limit as usize {
         return Err(BuildFault::TooLarge);
     }
-    names.write_starts(&mut out)?;
-    let list_index_at = out.len();
-    write_entries(&mut out, entries, lists_start)?;
-    if out.len() + TRAILER_LEN > limit as usize {
+    names.write_starts(&mut tables)?;
+    let list_index_at = start + tables.len();
+    write_entries(&mut tables, entries, lists_start)?;
+    if start + tables.len() + TRAILER_LEN > limit as usize {
         return Err(BuildFault::TooLarge);
     }
     write_trailer(
-        &mut out,
+        &mut tables,
         &[16, names_at, lists_start, name_index_at, list_index_at],
     )?;
-    Ok(out)
+    Ok(tables)
 }
 
 /// Appends the list index. Offsets are relative to `start`, where the posting lists begin.

@@ -7,18 +7,24 @@ ghost use Rattle.std.specs.List.{AllByRecursion, concat};
 ghost use Rattle.cs_index.specs.Encoding.{encoding_of, posting_list_bytes, IsString};
 ghost use Rattle.cs_index.specs.Indexable.{IsIndexable};
 ghost use Rattle.cs_index.specs.Built.{are_paths, is_above, is_storable};
-ghost use Rattle.cs_index.specs.Written.{entries_written, last_ids, with_written_name, with_last_id, with_last_ids, with_list, AllBelow};
+ghost use Rattle.cs_index.specs.Written.{entries_written, last_ids, with_written_name, with_last_id, with_last_ids, with_list, with_sent, AllBelow};
+ghost use Rattle.cs_index.specs.Sending.{IsSentOn};
 ghost use Rattle.cs_index.specs.SectionsInvariant.{first_of};
 ghost use Rattle.cs_index.specs.WrittenLists.{with_posting, IsWritten};
 
 use crate::encoded_run::EncodedRun;
 use crate::fault::BuildFault;
-use crate::writing::output::{WrittenList, append_both, write_prefix, write_tables};
+use crate::writing::output::{WrittenList, write_prefix, write_tables};
+use crate::writing::send_buffer::{SendBuffer, append_both};
 use crate::writing::storable_texts::are_index_paths;
 use crate::writing::strings::{Strings, strings_of};
-use crate::writing::varint::{encode_varint, push_varint};
+use crate::writing::varint::encode_varint;
+use cs_output::{Output, Sent};
 use std::alloc::{AllocError, Global};
 use std::marker::Model;
+
+/// The number of bytes from which on `send` sends them.
+const SEND_AT: usize = 1 << 16;
 
 /// Writes an index in the order of its bytes: all names, then one posting list after the other.
 ///
@@ -30,7 +36,7 @@ pub struct Sections {
     alloc: Global,
     paths: Strings,
     names: Strings,
-    out: Vec<u8>,
+    out: SendBuffer,
     entries: Vec<WrittenList>,
     pending: Option<u32>,
     trigram: u32,
@@ -54,7 +60,8 @@ impl Sections {
     /// A writer with these paths and no names.
     pub fn new(alloc: Global, paths: &[String]) -> Result<Sections, BuildFault>
         ensures ok { IfOk result (λ sections. (sections.paths ≡ map string_bytes paths.now)
-            × (sections.names ≡ []) × (sections.lists ≡ []) × (sections.last_trigram ≡ None)) }
+            × (sections.names ≡ []) × (sections.lists ≡ []) × (sections.last_trigram ≡ None)
+            × (sections.sent ≡ [])) }
         ensures bad_paths { (result ≡ Err BuildFault.BadPaths) ↔
             (are_paths (map string_bytes paths.now) ≡ false) }
         ensures other { IfErr result
@@ -73,13 +80,13 @@ impl Sections {
         requires each_name { AllByRecursion IsString names }
         requires bound { length names ≤ max_ids }
         ensures { result ≡
-            record { paths = paths; names = names; lists = []; last_trigram = None } }
+            record { paths = paths; names = names; lists = []; last_trigram = None; sent = [] } }
     {
         Sections {
             alloc,
             paths,
             names,
-            out: Vec::new(alloc),
+            out: SendBuffer::new(Vec::new(alloc)),
             entries: Vec::new(alloc),
             pending: None,
             trigram: 0,
@@ -124,7 +131,7 @@ impl Sections {
     {
         match self.pending {
             None => {
-                push_varint(&mut self.out, id + 1 - self.next)?;
+                self.out.append_varint(id + 1 - self.next)?;
                 self.count += 1;
                 self.next = id + 1;
                 Ok(())
@@ -147,7 +154,7 @@ impl Sections {
             with_last_ids self.old (ids_onward (next_after 0 (last_ids self.old)) ids.now)) }
         ensures err { OnErr result (self.new ≡ self.old) }
     {
-        self.out.extend_from_slice(ids.bytes())?;
+        self.out.append(ids.bytes())?;
         self.next += ids.next();
         self.count += ids.len();
         Ok(())
@@ -210,7 +217,7 @@ impl Sections {
         let mut out = write_prefix(self.alloc, &self.paths, &self.names)?;
         let start = out.len();
         append_both(&mut out, &trigram.to_be_bytes()[1..], ids)?;
-        self.out = out;
+        self.out = SendBuffer::new(out);
         self.pending = None;
         self.trigram = trigram;
         self.count = count;
@@ -240,7 +247,7 @@ impl Sections {
     {
         self.entries.reserve(1)?;
         let start = self.out.len() + 1;
-        append_both(&mut self.out, &trigram.to_be_bytes(), ids)?;
+        self.out.append_both(&trigram.to_be_bytes(), ids)?;
         self.entries.push_reserved(WrittenList {
             trigram: self.trigram,
             count: self.count,
@@ -254,41 +261,58 @@ impl Sections {
         Ok(())
     }
 
-    /// Encodes the index. `TooLarge` if it would be longer than 2^32 - 1 bytes.
-    pub fn finish(self) -> Result<Vec<u8>, BuildFault>
-        ensures ok { IfOk result (λ index. index.items ≡ encoding_of self.paths (entries_written self)) }
-        ensures indexable { IfOk result (λ _. IsIndexable self.paths (entries_written self)) }
-        ensures too_large { result ≡ Err BuildFault.TooLarge →
-            2 ^ 32 ≤ length (encoding_of self.paths (entries_written self)) }
-        ensures other { IfErr result
-            (λ fault. (fault ≡ BuildFault.TooLarge) ⊎ (fault ≡ BuildFault.Memory)) }
+    /// Sends the bytes so far, if they are many, so that they need no memory. On error nothing
+    /// changes.
+    pub fn send<O: Output>(&mut self, out: &mut O) -> Result<(), AllocError>
+        ensures ok { OnOk result (self.new ≡ with_sent self.old self.new.sent) }
+        ensures given { OnOk result
+            (IsSentOn self.old.sent self.new.sent (O.given out.old) (O.given out.new)) }
+        ensures err { OnErr result (self.new ≡ self.old) }
+        ensures keeps { O.Keeps out.old out.new }
     {
-        self.finish_within(u32::MAX)
+        if self.out.unsent_len() < SEND_AT {
+            return Ok(());
+        }
+        self.out.send(out)
     }
 
-    /// `finish` with a maximum length of the index, in bytes, as a parameter.
-    pub fn finish_within(mut self, limit: u32) -> Result<Vec<u8>, BuildFault>
-        ensures ok { IfOk result (λ index. index.items ≡ encoding_of self.paths (entries_written self)) }
-        ensures within { IfOk result (λ index. length index.items ≤ limit) }
+    /// Encodes the index and sends what is not sent yet. `TooLarge` if the index would be longer
+    /// than `limit` bytes.
+    pub fn finish_into<O: Output>(mut self, out: &mut O, limit: u32) -> Result<Sent, BuildFault>
+        ensures ok { IfOk result
+            (λ index. index.bytes ≡ encoding_of self.paths (entries_written self)) }
+        ensures within { IfOk result (λ index. length index.bytes ≤ limit) }
         ensures indexable { IfOk result (λ _. IsIndexable self.paths (entries_written self)) }
         ensures too_large { result ≡ Err BuildFault.TooLarge →
             limit < length (encoding_of self.paths (entries_written self)) }
         ensures other { IfErr result
             (λ fault. (fault ≡ BuildFault.TooLarge) ⊎ (fault ≡ BuildFault.Memory)) }
+        ensures given { IfOk result
+            (λ index. IsSentOn self.sent index.bytes (O.given out.old) (O.given out.new)) }
+        ensures keeps { O.Keeps out.old out.new }
     {
         if self.count == 0 {
-            let out = write_prefix(self.alloc, &self.paths, &self.names)?;
-            return write_tables(out, &self.paths, &self.names, &[], limit);
+            self.out = SendBuffer::new(write_prefix(self.alloc, &self.paths, &self.names)?);
+        } else {
+            self.out.append(&[0])?;
+            self.entries.reserve(1)?;
+            self.entries.push_reserved(WrittenList {
+                trigram: self.trigram,
+                count: self.count,
+                start: self.start,
+            });
         }
-        self.out.reserve(1)?;
-        self.entries.reserve(1)?;
-        self.out.push_reserved(0);
-        self.entries.push_reserved(WrittenList {
-            trigram: self.trigram,
-            count: self.count,
-            start: self.start,
-        });
-        write_tables(self.out, &self.paths, &self.names, &self.entries, limit)
+        let tables = write_tables(
+            self.alloc,
+            &self.out,
+            &self.paths,
+            &self.names,
+            &self.entries,
+            limit,
+        )?;
+        self.out.append(&tables)?;
+        self.out.send(out)?;
+        Ok(self.out.into_sent())
     }
 }
 

@@ -1,34 +1,49 @@
-use Rattle.std.proofs.Common.{◌≡◌, ℕ, ◌+◌, ◌<◌, ◌&&◌, length, sym, ap, refl, ◌∙◌, drop, arith, true, Option, Some, None, slice_get}
-use Rattle.std.specs.Prelude.{option_map}
-use Rattle.std.specs.Option.{option_map_or}
-use Rattle.cs_index.specs.Encoding.{ListEntry}
-use Rattle.cs_index.specs.OpenedParts.{Parts, ids_read}
-use Rattle.cs_index.specs.PostingLists.{Ids}
+use Rattle.std.proofs.Common.{◌≡◌, ◌∙◌, ◌+◌, ◌<◌, ◌&&◌, sym, ap, subst, ℕ, List, Bool, true, length, Option, slice_get, drop, arith, rules}
 use Rattle.std.proofs.lemmas.List.{drop_all}
 use Rattle.std.specs.List.{list_all}
-use Rattle.cs_merge.proofs.WholeListLemmas.{whole, whole_at, one_less}
+use Rattle.std.specs.Option.{option_map_or}
+use Rattle.cs_index.specs.Encoding.{ListEntry}
+use Rattle.cs_index.specs.ListBuffers.{BufferState}
+use Rattle.cs_index.specs.OpenedParts.{Parts}
+use Rattle.cs_merge.specs.declared.list_source.ListSource.{ListSource}
+use Rattle.cs_merge.specs.ListSources.{ids_from, known_parts, HasBuffer, IsListRead, IsSourceOf}
+use Rattle.cs_merge.specs.ListsFault.{are_whole_from}
+use Rattle.cs_merge.proofs.ListSourceLemmas.{entries_known, whole_read}
+use Rattle.cs_merge.proofs.WholeListLemmas.{whole, one_less}
 use Rattle.cs_merge.proofs.replacing.is_whole_from.Goals as goal
 
--- the list that is found is that of the entry
-found_at : (parts : Parts) (position : ℕ) {list : Option (ℕ × Ids)} → list ≡ option_map (λ (e : ListEntry). (e.trigram, ids_read parts e)) (slice_get parts.entries position) → option_map_or (λ (found : ℕ × Ids). found.1.whole) list true ≡ whole_at parts (slice_get parts.entries position)
-found_at parts position e = ap (λ list. option_map_or (λ (found : ℕ × Ids). found.1.whole) list true) e ∙ by_entry (slice_get parts.entries position)
-  where
-    by_entry : (o : Option ListEntry) → option_map_or (λ (found : ℕ × Ids). found.1.whole) (option_map (λ (e : ListEntry). (e.trigram, ids_read parts e)) o) true ≡ whole_at parts o
-    by_entry None = refl
-    by_entry (Some e) = refl
+-- whether the list that was read is whole, and the lists after it
+one_read : (model : Option (List ℕ)) (source : ListSource) (parts : Parts) (is : IsSourceOf model source parts) (buffer : BufferState) (position count : ℕ) → IsListRead source buffer parts position → count ≡ length (known_parts source).entries → position < count
+    → (b : Bool) → b ≡ option_map_or (λ (e : ListEntry). (ids_from source buffer e).whole) (slice_get (known_parts source).entries position) true → are_whole_from parts position ≡ (b && are_whole_from parts (position + 1))
+one_read model source parts is buffer position count read long less b e =
+    let same = ap length (entries_known model source parts is) in
+    let within : position < length parts.entries = omega (arith, less, long, same) in
+    one_less parts position within
+    ∙ ap (λ t. t && list_all (whole parts) (drop (position + 1) parts.entries)) (sym (e ∙ whole_read model source parts is buffer position read within))
 
-pub returns-then-not-is_whole_list : goal.returns-then-not-is_whole_list
-returns-then-not-is_whole_list c =
-    let parts = c.args.index.now in
-    let within : c.positions.position < length parts.entries = (let less = c.positions-test.true in omega (arith, less, c.lists-position-end.ensures)) in
-    sym (sym c.positions.invariant ∙ one_less parts c.positions.position within ∙ ap (λ t. t && list_all (whole parts) (drop (c.positions.position + 1) parts.entries)) (sym (found_at parts c.positions.position c.list_at.ensures) ∙ sym c.is_whole_list.ensures ∙ c.if-not-is_whole_list.true))
+pub returns-then-not-is_whole_at-clause-whole : goal.returns-then-not-is_whole_at-clause-whole
+returns-then-not-is_whole_at-clause-whole g c has parts is =
+    let source = c.args.source.now in
+    let model = g.S.Store.model c.args.store.now in
+    let read = subst (λ m. HasBuffer m c.positions.buffer → IsSourceOf m source parts → IsListRead source c.read.new.buffer parts c.positions.position) c.positions.invariant.keeps (λ h there. c.in_ok-read.ensures.list h parts there) (c.positions.invariant.buffer has) is in
+    let one = one_read model source parts is c.read.new.buffer c.positions.position c.lists-position-end.result read c.lists-position-end.ensures c.positions-test.true c.is_whole_at.result c.is_whole_at.ensures in
+    sym (sym (c.positions.invariant.whole has parts is) ∙ one ∙ ap (λ t. t && are_whole_from parts (c.positions.position + 1)) c.if-not-is_whole_at.true)
 
 pub positions-preserved : goal.positions-preserved
-positions-preserved c =
-    let parts = c.args.index.now in
-    let within : c.positions.position < length parts.entries = (let less = c.positions-test.true in omega (arith, less, c.lists-position-end.ensures)) in
-    sym (one_less parts c.positions.position within ∙ ap (λ t. t && list_all (whole parts) (drop (c.positions.position + 1) parts.entries)) (sym (found_at parts c.positions.position c.list_at.ensures) ∙ sym c.is_whole_list.ensures ∙ c.if-not-is_whole_list.false)) ∙ c.positions.invariant
+positions-preserved g c = record {
+  whole = λ has parts is.
+      let source = c.args.source.now in
+      let model = g.S.Store.model c.args.store.now in
+      let read = subst (λ m. HasBuffer m c.positions.buffer → IsSourceOf m source parts → IsListRead source c.read.new.buffer parts c.positions.position) c.positions.invariant.keeps (λ h there. c.in_ok-read.ensures.list h parts there) (c.positions.invariant.buffer has) is in
+      let one = one_read model source parts is c.read.new.buffer c.positions.position c.lists-position-end.result read c.lists-position-end.ensures c.positions-test.true c.is_whole_at.result c.is_whole_at.ensures in
+      ap (λ t. t && are_whole_from parts (c.positions.position + 1)) (sym c.if-not-is_whole_at.false) ∙ sym one ∙ c.positions.invariant.whole has parts is;
+  buffer = λ has. subst (λ m. HasBuffer m c.positions.buffer → HasBuffer m c.read.new.buffer) c.positions.invariant.keeps c.in_ok-read.ensures.buffer (c.positions.invariant.buffer has);
+  keeps = search rules;
+  size = search rules;
+  failed = search rules;
+}
 
-pub returns : goal.returns
-returns c =
-    sym (sym c.positions.invariant ∙ ap (list_all (whole c.args.index.now)) (drop_all c.positions.position c.args.index.now.entries (let past = c.positions-test.false in omega (arith, past, c.lists-position-end.ensures))))
+pub returns-clause-whole : goal.returns-clause-whole
+returns-clause-whole g c has parts is =
+    let same = ap length (entries_known (g.S.Store.model c.args.store.now) c.args.source.now parts is) in
+    sym (sym (c.positions.invariant.whole has parts is) ∙ ap (list_all (whole parts)) (drop_all c.positions.position parts.entries (let past = c.positions-test.false in omega (arith, past, c.lists-position-end.ensures, same))))

@@ -1,4 +1,4 @@
-use Rattle.std.proofs.Common.{ap, sym, subst}
+use Rattle.std.proofs.Common.{ap, subst}
 use Rattle.cs_index.specs.StoredOpening.{AreAscendingOffsets}
 use Rattle.cs_index.specs.StoredTables.{AreValidTables, TableParts}
 use Rattle.cs_index.proofs.stored.StoredTables.{parts_valid, tables_valid}

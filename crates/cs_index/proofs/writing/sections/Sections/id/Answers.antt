@@ -17,13 +17,13 @@ overflow_add-self c =
 
 pub invariant_of-self-in-None : goal.invariant_of-self-in-None
 invariant_of-self-in-None c =
-    (given c.self.inside c.args.self.now c.push_varint.new.out c.args.id c.self.view_is c.self.invariant c.in-None.is
-    c.requires.begun c.requires.above c.requires.named c.in_ok-push_varint-in-None.ensures.ok).are_sections
+    (given c.self.inside c.args.self.now c.append_varint.new.self c.args.id c.self.view_is c.self.invariant c.in-None.is
+    c.requires.begun c.requires.above c.requires.named c.in_ok-append_varint-in-None.ensures.ok).are_sections
 
-pub returns-in_ok-push_varint-in-None-clause-ok : goal.returns-in_ok-push_varint-in-None-clause-ok
-returns-in_ok-push_varint-in-None-clause-ok c =
-    (given c.self.inside c.args.self.now c.push_varint.new.out c.args.id c.self.view_is c.self.invariant c.in-None.is
-    c.requires.begun c.requires.above c.requires.named c.in_ok-push_varint-in-None.ensures.ok).is
+pub returns-in_ok-append_varint-in-None-clause-ok : goal.returns-in_ok-append_varint-in-None-clause-ok
+returns-in_ok-append_varint-in-None-clause-ok c =
+    (given c.self.inside c.args.self.now c.append_varint.new.self c.args.id c.self.view_is c.self.invariant c.in-None.is
+    c.requires.begun c.requires.above c.requires.named c.in_ok-append_varint-in-None.ensures.ok).is
 
 pub begin-requires-clause-stream : goal.begin-requires-clause-stream
 begin-requires-clause-stream c =
@@ -44,5 +44,5 @@ returns-in-Some-clause-ok c =
 pub invariant_of-self : goal.invariant_of-self
 invariant_of-self c = search rules
 
-pub returns-in_err-push_varint-in-None-clause-err : goal.returns-in_err-push_varint-in-None-clause-err
-returns-in_err-push_varint-in-None-clause-err c = search rules
+pub returns-in_err-append_varint-in-None-clause-err : goal.returns-in_err-append_varint-in-None-clause-err
+returns-in_err-append_varint-in-None-clause-err c = search rules

@@ -17,13 +17,13 @@ returns-then-self-eq0-clause-written c = subst IsWritten c.self.view_is c.self.i
 pub overflow_sub-result : goal.overflow_sub-result
 overflow_sub-result c =
     let long = lists_long c.self.inside c.first_start-first.result c.self.invariant c.if-self-eq0.false (c.first_start-first.ensures ∙ ap (λ es. first_of es c.self.inside.start) c.deref.ensures.value) in
-    omega (arith, long, c.len.ensures)
+    omega (arith, long, c.len.ensures.value)
 
 pub returns-clause-bytes : goal.returns-clause-bytes
 returns-clause-bytes c =
     let long = lists_long c.self.inside c.first_start-first.result c.self.invariant c.if-self-eq0.false (c.first_start-first.ensures ∙ ap (λ es. first_of es c.self.inside.start) c.deref.ensures.value) in
     let same = ap (λ (w : Written). length (concat (map posting_list_bytes w.lists))) c.self.view_is in
-    omega (arith, long, same, c.len.ensures)
+    omega (arith, long, same, c.len.ensures.value)
 
 pub returns-clause-written : goal.returns-clause-written
 returns-clause-written c = subst IsWritten c.self.view_is c.self.invariant.output

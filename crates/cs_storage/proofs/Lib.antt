@@ -1,2 +1,3 @@
+pub mod FillLemmas
 mod RightsLemmas
 mod ScheduleLemmas

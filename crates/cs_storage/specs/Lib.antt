@@ -2,6 +2,7 @@
 pub mod FileAfter
 pub mod Storing
 pub mod MemFolders
+pub mod NewFiles
 pub mod Rights
 pub mod Schedules
 -- Definitions that only private contracts cite.

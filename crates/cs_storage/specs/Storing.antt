@@ -4,7 +4,7 @@
 -- changes FILE only while it holds FILE~; so while a run holds FILE~, FILE changes by its own calls alone, and while
 -- it does not, FILE may be anything after each call.
 -- docs/PROMISES.md, "Storing"; docs/DECISIONS.md, "The index file".
-use Rattle.std.specs.Prelude.{◌≡◌, ◌⊎◌, ℕ, Bool, true, false, List, [], ◌∷◌, ◌++◌, Option, Some, None, IsSome, IsSomeAnd, IfSome, MatchOption, IfOk, IfErr, IsTrue, Result, Ok, Err, option_map, if◌then◌else◌}
+use Rattle.std.specs.Prelude.{◌≡◌, ◌⊎◌, ℕ, Bool, true, false, List, [], ◌∷◌, ◌++◌, Option, Some, None, IsSome, IsSomeAnd, IfSome, MatchOption, IfOk, IfErr, IsTrue, Result, Ok, Err, if◌then◌else◌}
 use Rattle.cs_tree.specs.Failures.{next_count}
 use Rattle.cs_storage.specs.declared.fault.StorageFault.{StorageFault}
 use Rattle.cs_storage.specs.declared.update.IndexUpdate.{IndexUpdate}
@@ -83,17 +83,18 @@ Claims (Err fault) old new = (new.seen ≡ old.seen) × (new.replaced ≡ old.re
 abbrev pub Compares : Bool → Folder → Folder → Type 0
 Compares unchanged old new = ChangesNothing old new × (IsTrue unchanged → new.seen ≡ Some (Ok new.file))
 
--- FILE~ gets these bytes, not yet synced; after an error it has any bytes
-abbrev pub FillsOwn : List ℕ → Result (Unit {0}) StorageFault → Folder → Folder → Type 0
-FillsOwn bytes (Ok _) old new = new ≡ record old { own = Some (record { bytes = bytes; synced = false }) }
-FillsOwn bytes (Err fault) old new = (own : OwnFile) × (new ≡ record old { own = Some own })
+-- FILE~ is held and has any bytes; nothing else changes
+abbrev pub FillsOwn : Folder → Folder → Type 0
+FillsOwn old new = (own : OwnFile) × (new ≡ record old { own = Some own })
 
-abbrev pub synced : OwnFile → OwnFile
-synced own = record own { synced = true }
+-- Bytes are appended to FILE~. Until it is synced, it may have any bytes.
+abbrev pub Fills : Folder → Folder → Type 0
+Fills old new = MatchOption old.own (ChangesNothing old new) (λ _. FillsOwn old new)
 
-abbrev pub Syncs : Result (Unit {0}) StorageFault → Folder → Folder → Type 0
-Syncs (Ok _) old new = new ≡ record old { own = option_map synced old.own }
-Syncs (Err fault) old new = new ≡ old
+-- FILE~ has exactly these bytes, synced; after an error it has any bytes
+abbrev pub Syncs : List ℕ → Result (Unit {0}) StorageFault → Folder → Folder → Type 0
+Syncs bytes (Ok _) old new = new ≡ record old { own = Some (record { bytes = bytes; synced = true }) }
+Syncs bytes (Err fault) old new = FillsOwn old new
 
 -- what a crash may leave of a file that is renamed to FILE: all its bytes if they are synced
 abbrev pub left_renamed : OwnFile → Left

@@ -1,6 +1,6 @@
 // The index file and its surroundings.
-ghost use Rattle.std.specs.Prelude.{◌≡◌, Option, None};
-ghost use Rattle.cs_storage.specs.Storing.{Folder, Moves, Looks, Claims, Compares, FillsOwn, Syncs, Renames, Removes, Releases, IsHeld};
+ghost use Rattle.std.specs.Prelude.{◌≡◌, ◌++◌, ℕ, List, [], Option, None, OnOk};
+ghost use Rattle.cs_storage.specs.Storing.{Folder, Moves, Looks, Claims, Compares, Fills, Syncs, Renames, Removes, Releases, IsHeld};
 
 use crate::fault::StorageFault;
 use cs_tree::Store;
@@ -13,27 +13,32 @@ pub trait IndexFolder {
     /// The model. None if the type is unmodelled.
     ghost model: { Self → Option Folder } = { λ _. None };
 
+    /// The bytes that FILE~ was given since it was made.
+    ghost given: { Self → List ℕ };
+
     /// Opens FILE; None if there is no file.
     fn look(&mut self) -> Result<Option<Self::Index>, StorageFault>
         ensures { Moves (Looks Self.Index.model result) (model self.old) (model self.new) };
 
     /// Makes FILE~ and locks it. Returns an error if another run holds it, or if it cannot be made.
     fn claim(&mut self) -> Result<(), StorageFault>
-        ensures { Moves (Claims result) (model self.old) (model self.new) };
+        ensures claims { Moves (Claims result) (model self.old) (model self.new) }
+        ensures given { OnOk result (given self.new ≡ []) };
 
     /// Whether FILE is still what `look` opened, or is still missing.
     fn is_unchanged(&mut self) -> bool
-        ensures { Moves (Compares result) (model self.old) (model self.new) };
+        ensures compares { Moves (Compares result) (model self.old) (model self.new) }
+        ensures given { given self.new ≡ given self.old };
 
-    /// Writes the bytes to FILE~.
-    fn fill(&mut self, bytes: &[u8]) -> Result<(), StorageFault>
-        requires { IsHeld (model self.old) }
-        ensures { Moves (FillsOwn bytes.now result) (model self.old) (model self.new) };
+    /// Appends bytes to FILE~. The first error is kept for `sync`.
+    fn append(&mut self, bytes: &[u8])
+        ensures fills { Moves Fills (model self.old) (model self.new) }
+        ensures given { given self.new ≡ given self.old ++ bytes.now };
 
-    /// Syncs FILE~.
+    /// Syncs FILE~. Returns an error also if an append failed.
     fn sync(&mut self) -> Result<(), StorageFault>
         requires { IsHeld (model self.old) }
-        ensures { Moves (Syncs result) (model self.old) (model self.new) };
+        ensures { Moves (Syncs (given self.old) result) (model self.old) (model self.new) };
 
     /// Renames FILE~ to FILE.
     fn rename(&mut self) -> Result<(), StorageFault>

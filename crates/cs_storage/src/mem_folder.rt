@@ -6,6 +6,7 @@ ghost use Rattle.cs_storage.specs.MemFolders.{folder_view, bytes_view, left_view
 use crate::fault::StorageFault;
 use crate::folder::IndexFolder;
 use crate::mem_types::{MemFile, MemFolder, MemIndex, MemLeft, MemOpened, MemVisit};
+use cs_output::Sent;
 use std::alloc::{AllocError, Global};
 
 impl MemFolder {
@@ -24,6 +25,8 @@ impl MemFolder {
             file,
             seen: None,
             own: None,
+            given: Sent::new(),
+            failure: None,
             lefts,
             now_at: 0,
             since_at: 0,
@@ -81,7 +84,8 @@ impl MemFolder {
 
     /// Another run acts, unless FILE~ is held. After the crash, returns an error.
     fn step(&mut self) -> Result<(), StorageFault>
-        ensures { ChangesNothing (folder_view self.old) (folder_view self.new) }
+        ensures changes { ChangesNothing (folder_view self.old) (folder_view self.new) }
+        ensures given { self.new.given ≡ self.old.given }
     {
         if self.own.is_none() {
             self.be_visited()?;
@@ -130,7 +134,8 @@ impl MemFolder {
     /// Another run changes FILE.
     fn be_visited(&mut self) -> Result<(), AllocError>
         requires { (folder_view self.old).own ≡ None }
-        ensures { ChangesNothing (folder_view self.old) (folder_view self.new) }
+        ensures changes { ChangesNothing (folder_view self.old) (folder_view self.new) }
+        ensures given { self.new.given ≡ self.old.given }
     {
         if let Some(MemVisit { file, left }) = self.next.take() {
             self.now_at = self.lefts.len();
@@ -145,6 +150,8 @@ impl IndexFolder for MemFolder {
     type Index = MemIndex;
 
     ghost model = { λ m. Some (folder_view m) };
+
+    ghost given = { λ m. m.given.bytes };
 
     fn look(&mut self) -> Result<Option<MemIndex>, StorageFault> {
         match self.open() {
@@ -169,6 +176,8 @@ impl IndexFolder for MemFolder {
             bytes: Vec::new(self.alloc),
             synced: false,
         });
+        self.given = Sent::new();
+        self.failure = None;
         self.since_at = self.now_at;
         Ok(())
     }
@@ -177,17 +186,26 @@ impl IndexFolder for MemFolder {
         self.step().is_ok() && self.is_seen()
     }
 
-    fn fill(&mut self, bytes: &[u8]) -> Result<(), StorageFault> {
-        self.step()?;
-        self.own = Some(MemFile {
-            bytes: bytes.to_vec(self.alloc)?,
-            synced: false,
-        });
-        Ok(())
+    fn append(&mut self, bytes: &[u8]) {
+        let stepped = self.step();
+        let mut failure = self.failure.or(stepped.err());
+        if let (Some(own), None) = (&mut self.own, failure) {
+            own.synced = false;
+            failure = own
+                .bytes
+                .extend_from_slice(bytes)
+                .err()
+                .map(StorageFault::from);
+        }
+        self.given.push(bytes);
+        self.failure = failure;
     }
 
     fn sync(&mut self) -> Result<(), StorageFault> {
         self.step()?;
+        if let Some(fault) = self.failure {
+            return Err(fault);
+        }
         if let Some(own) = &mut self.own {
             own.synced = true;
         }

@@ -1,7 +1,9 @@
 // The types of a folder in memory. They have a module of their own because `specs/MemFolders.antt` cites them.
-ghost use Rattle.std.specs.Prelude.{◌≤◌, vec_len};
+ghost use Rattle.std.specs.Prelude.{◌≡◌, ◌≤◌, vec_len};
+ghost use Rattle.std.specs.Option.{ForNone, ForSome};
 
 use crate::fault::StorageFault;
+use cs_output::Sent;
 use std::alloc::Global;
 
 /// An index file in memory, with FILE~ beside it. It can crash after any call, and another run can act before any call
@@ -13,6 +15,10 @@ pub struct MemFolder {
     /// What stood at FILE when it was opened, or why it could not be opened.
     pub(crate) seen: Option<Result<Option<Vec<u8>>, StorageFault>>,
     pub(crate) own: Option<MemFile>,
+    /// The bytes that FILE~ was given.
+    pub(crate) given: Sent,
+    /// Why the first append that failed did so.
+    pub(crate) failure: Option<StorageFault>,
     /// What a crash may have left at FILE, in order of time.
     pub(crate) lefts: Vec<MemLeft>,
     /// Where in `lefts` the outcomes of a crash at this moment begin.
@@ -29,6 +35,7 @@ pub struct MemFolder {
     /// The number of calls before the crash, from which on every call fails.
     pub(crate) calls: usize,
     ghost now_within: { now_at ≤ vec_len lefts },
+    ghost own_whole: { ForNone failure (ForSome own (λ own. own.bytes.items ≡ given.bytes)) },
     ghost since_within: { since_at ≤ vec_len lefts },
 }
 

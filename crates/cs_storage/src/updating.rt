@@ -1,8 +1,8 @@
 // The update of the index file, safe against crashes and other runs.
-ghost use Rattle.std.specs.Prelude.{Some, None, IfErr};
-ghost use Rattle.cs_storage.specs.FileAfter.{IsChange};
+ghost use Rattle.std.specs.Prelude.{◌≡◌, [], Some, None, OnOk, IfErr};
+ghost use Rattle.cs_storage.specs.FileAfter.{IsGiven, IsChange};
 ghost use Rattle.cs_storage.specs.Storing.{Moves, IsHeld, Begins, Updates};
-ghost use Rattle.cs_storage.specs.Steps.{Replaces, RenamesFilled};
+ghost use Rattle.cs_storage.specs.Steps.{Replaces, RenamesSynced};
 
 use crate::fault::StorageFault;
 use crate::folder::IndexFolder;
@@ -11,7 +11,8 @@ use crate::update::IndexUpdate;
 /// Makes and locks FILE~, and tests that FILE is still what was opened. So a second run, and a folder that cannot be
 /// written, are found before the job. Returns an error if FILE has changed.
 pub fn begin_update<F: IndexFolder>(folder: &mut F) -> Result<(), StorageFault>
-    ensures { Moves (Begins result) (F.model folder.old) (F.model folder.new) }
+    ensures begins { Moves (Begins result) (F.model folder.old) (F.model folder.new) }
+    ensures given { OnOk result (F.given folder.new ≡ []) }
 {
     folder.claim()?;
     if folder.is_unchanged() {
@@ -21,13 +22,14 @@ pub fn begin_update<F: IndexFolder>(folder: &mut F) -> Result<(), StorageFault>
     Err(StorageFault::Failed)
 }
 
-/// Updates FILE, and takes FILE~ away. FILE is tested again, since a program that knows nothing of FILE~ may have
-/// changed it.
+/// Updates FILE, and takes FILE~ away, which was given the bytes of the update. FILE is tested again, since a program
+/// that knows nothing of FILE~ may have changed it.
 pub fn finish_update<F: IndexFolder>(
     folder: &mut F,
     update: &IndexUpdate,
 ) -> Result<(), StorageFault>
-    requires { IsHeld (F.model folder.old) }
+    requires held { IsHeld (F.model folder.old) }
+    requires given { IsGiven update.now [] (F.given folder.old) }
     ensures tried { IfErr result (λ _. IsChange update.now) }
     ensures updates { Moves (Updates update.now result) (F.model folder.old) (F.model folder.new) }
 {
@@ -36,17 +38,18 @@ pub fn finish_update<F: IndexFolder>(
             folder.release();
             Ok(())
         }
-        IndexUpdate::Write(bytes) => replace(folder, bytes),
+        IndexUpdate::Write(_) => replace(folder),
         IndexUpdate::Remove => remove(folder),
     }
 }
 
-/// Writes the bytes to FILE.
-fn replace<F: IndexFolder>(folder: &mut F, bytes: &[u8]) -> Result<(), StorageFault>
+/// Replaces FILE by FILE~.
+fn replace<F: IndexFolder>(folder: &mut F) -> Result<(), StorageFault>
     requires { IsHeld (F.model folder.old) }
-    ensures { Moves (Replaces (Some bytes.now) result) (F.model folder.old) (F.model folder.new) }
+    ensures { Moves (Replaces (Some (F.given folder.old)) result)
+        (F.model folder.old) (F.model folder.new) }
 {
-    let replaced = rename_filled(folder, bytes);
+    let replaced = rename_synced(folder);
     // A renamed FILE~ is held no more.
     if replaced.is_err() {
         folder.release();
@@ -54,15 +57,16 @@ fn replace<F: IndexFolder>(folder: &mut F, bytes: &[u8]) -> Result<(), StorageFa
     replaced
 }
 
-/// Fills FILE~ and renames it to FILE. On error FILE~ stays.
-fn rename_filled<F: IndexFolder>(folder: &mut F, bytes: &[u8]) -> Result<(), StorageFault>
+/// Syncs FILE~ and renames it to FILE. On error FILE~ stays.
+fn rename_synced<F: IndexFolder>(folder: &mut F) -> Result<(), StorageFault>
     requires { IsHeld (F.model folder.old) }
-    ensures { Moves (RenamesFilled bytes.now result) (F.model folder.old) (F.model folder.new) }
+    ensures { Moves (RenamesSynced (F.given folder.old) result)
+        (F.model folder.old) (F.model folder.new) }
 {
     if !folder.is_unchanged() {
         return Err(StorageFault::Failed);
     }
-    folder.fill(bytes)?;
+    // An append that failed is an error of the sync.
     folder.sync()?;
     folder.rename()
 }

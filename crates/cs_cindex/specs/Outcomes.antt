@@ -1,5 +1,5 @@
 -- Inside a job: its reply, the index after it, and what it printed.
-use Rattle.std.specs.Prelude.{◌≡◌, ℕ, List, [], ◌∷◌, ◌++◌, Option, None, Result, Ok, Err, MatchResult}
+use Rattle.std.specs.Prelude.{◌≡◌, ℕ, List, [], ◌∷◌, Option, None, Result, Ok, Err, MatchResult}
 use Rattle.cs_tree.specs.Snapshot.{Snapshot}
 use Rattle.cs_args.specs.declared.jobs.Reply.{Reply}
 use Rattle.cs_args.specs.declared.jobs.Reply.TheVariants.{Done, Refused}
@@ -7,7 +7,6 @@ use Rattle.cs_args.specs.declared.jobs.IndexJob.{IndexJob}
 use Rattle.cs_args.specs.declared.fault.CindexFault.{CindexFault}
 use Rattle.cs_storage.specs.FileAfter.{file_after}
 use Rattle.cs_storage.specs.declared.update.IndexUpdate.{IndexUpdate}
-use Rattle.cs_storage.specs.declared.update.IndexUpdate.TheVariants.{Keep, Write, Remove}
 use Rattle.cs_history.specs.History.{History}
 use Rattle.cs_history.specs.Premises.{modelled_snapshot, Premises}
 use Rattle.cs_history.specs.Replies.{IsRightReply}
@@ -25,12 +24,6 @@ index_from old (Err fault) = old
 abbrev pub reply_of : {A : Type 0} → Result A CindexFault → Reply
 reply_of (Ok answer) = Done
 reply_of (Err fault) = Refused fault
-
--- An output was given the bytes of the new index, if there is one, and nothing else.
-abbrev pub AppendsIndex : IndexUpdate → List ℕ → List ℕ → Type 0
-AppendsIndex Keep given later = later ≡ given
-AppendsIndex (Write index) given later = later ≡ given ++ index.bytes
-AppendsIndex Remove given later = later ≡ given
 
 -- the job has done its step, with the index and the reply of this update
 abbrev pub IsStepTo : IndexJob → JobTree → Result IndexUpdate CindexFault → State → Outputs → Type 0

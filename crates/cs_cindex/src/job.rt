@@ -3,9 +3,10 @@ ghost use Rattle.std.specs.Prelude.{◌≡◌, ℕ, List, Option, true, option_m
 ghost use Rattle.std.specs.Option.{option_copied};
 ghost use Rattle.cs_tree.specs.Clean.{longest_path};
 ghost use Rattle.cs_tree.specs.Walks.{RequestsWithin};
+ghost use Rattle.cs_storage.specs.FileAfter.{IsGiven};
 ghost use Rattle.cs_cindex.specs.Bytes.{index_bytes};
 ghost use Rattle.cs_cindex.specs.OldIndex.{IsIndex, IsUnreadable, has_failed};
-ghost use Rattle.cs_cindex.specs.Outcomes.{AppendsIndex, IsStepTo, IsWholeStepTo, RightAfter, reply_of};
+ghost use Rattle.cs_cindex.specs.Outcomes.{IsStepTo, IsWholeStepTo, RightAfter, reply_of};
 ghost use Rattle.cs_cindex.specs.Output.{job_tree};
 ghost use Rattle.cs_cindex.specs.Steps.{IsUnread, IsWholeStep, LeavesFlushed, outputs, state};
 ghost use Rattle.cs_history.specs.Jobs.{HasAbsoluteFolder};
@@ -86,7 +87,7 @@ pub fn cindex_stored<S: Store, T: Tree, W: Output, O: Sink, E: Sink>(
     ensures flushed { IfOk result (λ update. LeavesFlushed (reply_of update)
         (outputs O.model O.failed E.model E.failed out.new err.new)) }
     ensures given { IfOk result (λ update. IfOk update
-        (λ update. AppendsIndex update (W.given new.old) (W.given new.new))) }
+        (λ update. IsGiven update (W.given new.old) (W.given new.new))) }
     ensures keeps_new { W.Keeps new.old new.new }
     ensures lists { job.now.list ≡ true →
         IfOk result (λ update. IfOk update (λ kept. kept ≡ IndexUpdate.Keep)) }
@@ -135,7 +136,7 @@ fn update_of<S: Store, T: Tree, W: Output, O: Sink, E: Sink>(
         (state O.model O.failed E.model E.failed index out.old err.old)
         (outputs O.model O.failed E.model E.failed out.new err.new)) }
     ensures given { IfOk result (λ update. IfOk update
-        (λ update. AppendsIndex update (W.given new.old) (W.given new.new))) }
+        (λ update. IsGiven update (W.given new.old) (W.given new.new))) }
     ensures keeps_new { W.Keeps new.old new.new }
     ensures lists { job.now.list ≡ true →
         IfOk result (λ update. IfOk update (λ kept. kept ≡ IndexUpdate.Keep)) }

@@ -1,7 +1,8 @@
 // The index after a job.
 ghost use Rattle.std.specs.Prelude.{◌≡◌, [], IfOk};
+ghost use Rattle.cs_storage.specs.FileAfter.{IsGiven};
 ghost use Rattle.cs_cindex.specs.Bytes.{index_bytes};
-ghost use Rattle.cs_cindex.specs.Outcomes.{AppendsIndex, index_from, reply_of};
+ghost use Rattle.cs_cindex.specs.Outcomes.{index_from, reply_of};
 
 use cs_args::{CindexFault, Reply};
 use cs_storage::IndexUpdate;
@@ -12,7 +13,7 @@ pub(crate) fn index_and_reply(
     update: Result<IndexUpdate, CindexFault>,
     new: Vec<u8>,
 ) -> (Option<Vec<u8>>, Reply)
-    requires { IfOk update (λ update. AppendsIndex update [] new.items) }
+    requires { IfOk update (λ update. IsGiven update [] new.items) }
     ensures index { index_bytes result.0 ≡ index_from (index_bytes old) update }
     ensures reply { result.1 ≡ reply_of update }
 {

@@ -19,6 +19,7 @@ use crate::printing::{print_fault, print_skipped};
 use crate::verdicts::{Verdict, read_file};
 use cs_args::{CindexFault, FileFault};
 use cs_index::{BuildFault, Builder};
+use cs_output::{Output, Sent};
 use cs_tree::{Sink, Tree};
 use cs_trigram::{Reason, Scan, Scanner};
 use std::alloc::Global;
@@ -163,18 +164,20 @@ impl Indexer {
         }
     }
 
-    /// Writes the index of the added files.
-    pub(crate) fn finish(self) -> Result<Vec<u8>, CindexFault>
+    /// Sends the index of the added files to `new`.
+    pub(crate) fn finish_into<W: Output>(self, new: &mut W) -> Result<Sent, CindexFault>
         ensures is { IfOk result
-            (λ index. index.items ≡ encoding_of self.builder.paths self.builder.entries) }
+            (λ index. index.bytes ≡ encoding_of self.builder.paths self.builder.entries) }
         ensures built { IsBuilt self.builder }
-        ensures short { IfOk result (λ index. IsShort (Some index.items)) }
+        ensures short { IfOk result (λ index. IsShort (Some index.bytes)) }
         ensures too_large { result ≡ Err CindexFault.TooLarge →
             IsLong (Some (encoding_of self.builder.paths self.builder.entries)) }
         ensures only { IfErr result
             (λ fault. (fault ≡ CindexFault.TooLarge) ⊎ (fault ≡ CindexFault.Memory)) }
+        ensures given { IfOk result (λ index. W.given new.new ≡ W.given new.old ++ index.bytes) }
+        ensures keeps { W.Keeps new.old new.new }
     {
-        match self.builder.finish_within(u32::MAX) {
+        match self.builder.finish_into(new, u32::MAX) {
             Ok(index) => Ok(index),
             Err(BuildFault::TooLarge) => Err(CindexFault::TooLarge),
             Err(_) => Err(CindexFault::Memory),

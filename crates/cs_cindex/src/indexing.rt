@@ -1,5 +1,5 @@
 // The index of the files below some paths.
-ghost use Rattle.std.specs.Prelude.{◌≡◌, ◌⊎◌, true, map, string_bytes, IfOk, IfErr, Some};
+ghost use Rattle.std.specs.Prelude.{◌≡◌, ◌⊎◌, ◌++◌, true, map, string_bytes, IfOk, IfErr, Some};
 ghost use Rattle.cs_tree.specs.Clean.{longest_path};
 ghost use Rattle.cs_tree.specs.FailureCount.{count_after};
 ghost use Rattle.cs_tree.specs.Walks.{RequestsWithin};
@@ -14,11 +14,12 @@ ghost use Rattle.cs_cindex.specs.Diagnostics.{PrintsLines, PrintsLinesPrefix};
 use crate::indexer::Indexer;
 use crate::printing::print_walk_faults;
 use cs_args::CindexFault;
+use cs_output::{Output, Sent};
 use cs_tree::{Sink, Tree, walk};
 use cs_trigram::Scanner;
 use std::alloc::Global;
 
-/// Writes an index of the paths and of the text files that a walk from them finds.
+/// Sends an index of the paths and of the text files that a walk from them finds to `new`.
 ///
 /// The diagnostics go to `err`: one for each path that the walk cannot read, ascending; then, in name order, one for
 /// each file that cannot be read to its end, and with `log_skip` one for each other file that is skipped. A name that
@@ -28,19 +29,20 @@ use std::alloc::Global;
 ///
 /// `Write` if a diagnostic cannot be written, `TooLarge` if the index would have more than 2^32 - 1 bytes, `Memory`
 /// if an allocation fails.
-pub(crate) fn index_paths<T: Tree, E: Sink>(
+pub(crate) fn index_paths<T: Tree, W: Output, E: Sink>(
     alloc: Global,
     tree: &mut T,
     paths: &[String],
     log_skip: bool,
+    new: &mut W,
     err: &mut E,
-) -> Result<Vec<u8>, CindexFault>
+) -> Result<Sent, CindexFault>
     requires { are_paths (map string_bytes paths.now) ≡ true }
     ensures encoding { IfOk result (λ index.
-        IsIndexOf (T.snapshot tree.old) (set.from_list (map string_bytes paths.now)) index.items) }
-    ensures short { IfOk result (λ index. IsShort (Some index.items)) }
+        IsIndexOf (T.snapshot tree.old) (set.from_list (map string_bytes paths.now)) index.bytes) }
+    ensures short { IfOk result (λ index. IsShort (Some index.bytes)) }
     ensures well_formed { IfOk result
-        (λ index. IsIndex (set.from_list (map string_bytes paths.now)) index.items) }
+        (λ index. IsIndex (set.from_list (map string_bytes paths.now)) index.bytes) }
     ensures prints { IfOk result (λ _. PrintsLines
         log_skip (T.snapshot tree.old) (set.from_list (map string_bytes paths.now))
         (T.failed tree.old) (T.failed tree.new) (E.model err.old) (E.model err.new)) }
@@ -54,6 +56,8 @@ pub(crate) fn index_paths<T: Tree, E: Sink>(
     ensures prefix { IfErr result (λ _. PrintsLinesPrefix
         log_skip (T.snapshot tree.old) (set.from_list (map string_bytes paths.now))
         (T.failed tree.old) (T.failed tree.new) (E.model err.old) (E.model err.new)) }
+    ensures given { IfOk result (λ index. W.given new.new ≡ W.given new.old ++ index.bytes) }
+    ensures keeps_new { W.Keeps new.old new.new }
     ensures writes { E.failed err.new ≡ count_after is_failed_write result (E.failed err.old) }
     ensures requested { RequestsWithin longest_path (T.longest_requested tree.old)
         (T.longest_requested tree.new) }
@@ -64,6 +68,6 @@ pub(crate) fn index_paths<T: Tree, E: Sink>(
     let walked = walk(alloc, tree, paths)?;
     print_walk_faults(alloc, &walked.faults, err)?;
     indexer.index_files(&mut scanner, tree, &walked.names, err)?;
-    let index = indexer.finish()?;
+    let index = indexer.finish_into(new)?;
     Ok(index)
 }

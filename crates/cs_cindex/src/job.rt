@@ -3,6 +3,7 @@ ghost use Rattle.std.specs.Prelude.{◌≡◌, ℕ, List, Option, true, option_m
 ghost use Rattle.std.specs.Option.{option_copied};
 ghost use Rattle.cs_tree.specs.Clean.{longest_path};
 ghost use Rattle.cs_tree.specs.Walks.{RequestsWithin};
+ghost use Rattle.cs_storage.specs.FileAfter.{IsGiven};
 ghost use Rattle.cs_cindex.specs.Bytes.{index_bytes};
 ghost use Rattle.cs_cindex.specs.OldIndex.{IsIndex, IsUnreadable, has_failed};
 ghost use Rattle.cs_cindex.specs.Outcomes.{IsStepTo, IsWholeStepTo, RightAfter, reply_of};
@@ -14,6 +15,7 @@ use crate::listing::list_old;
 use crate::outcome::index_and_reply;
 use crate::walked::walked_index;
 use cs_args::{CindexFault, IndexJob, Reply};
+use cs_output::Output;
 use cs_storage::IndexUpdate;
 use cs_tree::{IoFault, MemStore, Sink, Store, Tree};
 use std::alloc::Global;
@@ -39,8 +41,9 @@ pub(crate) fn do_job<T: Tree, O: Sink, E: Sink>(
     ensures tree_keeps { T.snapshot tree.new ≡ T.snapshot tree.old }
 {
     let mut store = stored(old.as_deref());
-    match cindex_stored(alloc, &mut store, job, tree, out, err) {
-        Ok(update) => index_and_reply(old, update),
+    let mut new = Vec::new(alloc);
+    match cindex_stored(alloc, &mut store, job, tree, &mut new, out, err) {
+        Ok(update) => index_and_reply(old, update, new),
         // No read of a store in memory fails.
         Err(_) => unreachable!(),
     }
@@ -56,18 +59,20 @@ fn stored<'a>(old: Option<&'a [u8]>) -> Option<MemStore<'a>>
     }
 }
 
-/// Runs a job as `cindex` does, over an old index in a store. Only its paths, names and tables are in memory. Each of its
-/// posting lists is read once, after the walk; `-list` and `-reset` read none.
+/// Runs a job as `cindex` does, over an old index in a store, and sends the bytes of the new index to `new`. Only the
+/// paths, names and tables of the old index are in memory. Each of its posting lists is read once, after the walk;
+/// `-list` and `-reset` read none. A job that fails may have sent any bytes.
 ///
 /// # Errors
 ///
 /// The outer result is that of the store. If a read of it fails, nothing was printed, or all diagnostics of the walk; the
 /// outputs are not flushed then.
-pub fn cindex_stored<S: Store, T: Tree, O: Sink, E: Sink>(
+pub fn cindex_stored<S: Store, T: Tree, W: Output, O: Sink, E: Sink>(
     alloc: Global,
     old: &mut Option<S>,
     job: &IndexJob,
     tree: &mut T,
+    new: &mut W,
     out: &mut O,
     err: &mut E,
 ) -> Result<Result<IndexUpdate, CindexFault>, IoFault>
@@ -81,6 +86,9 @@ pub fn cindex_stored<S: Store, T: Tree, O: Sink, E: Sink>(
         (outputs O.model O.failed E.model E.failed out.new err.new)) }
     ensures flushed { IfOk result (λ update. LeavesFlushed (reply_of update)
         (outputs O.model O.failed E.model E.failed out.new err.new)) }
+    ensures given { IfOk result (λ update. IfOk update
+        (λ update. IsGiven update (W.given new.old) (W.given new.new))) }
+    ensures keeps_new { W.Keeps new.old new.new }
     ensures lists { job.now.list ≡ true →
         IfOk result (λ update. IfOk update (λ kept. kept ≡ IndexUpdate.Keep)) }
     ensures unread { IfErr result (λ _.
@@ -96,7 +104,7 @@ pub fn cindex_stored<S: Store, T: Tree, O: Sink, E: Sink>(
         (T.longest_requested tree.new) }
     ensures tree_keeps { T.snapshot tree.new ≡ T.snapshot tree.old }
 {
-    let update = match update_of(alloc, old, job, tree, out, err) {
+    let update = match update_of(alloc, old, job, tree, new, out, err) {
         Ok(Ok(update)) => update,
         Ok(Err(fault)) => return Ok(Err(fault)),
         Err(fault) => return Err(fault),
@@ -112,11 +120,12 @@ pub fn cindex_stored<S: Store, T: Tree, O: Sink, E: Sink>(
 }
 
 /// The change of the index by a job, before the outputs are flushed.
-fn update_of<S: Store, T: Tree, O: Sink, E: Sink>(
+fn update_of<S: Store, T: Tree, W: Output, O: Sink, E: Sink>(
     alloc: Global,
     old: &mut Option<S>,
     job: &IndexJob,
     tree: &mut T,
+    new: &mut W,
     out: &mut O,
     err: &mut E,
 ) -> Result<Result<IndexUpdate, CindexFault>, IoFault>
@@ -126,6 +135,9 @@ fn update_of<S: Store, T: Tree, O: Sink, E: Sink>(
         IsStepTo job.now (job_tree T.snapshot T.failed tree.old tree.new) update
         (state O.model O.failed E.model E.failed index out.old err.old)
         (outputs O.model O.failed E.model E.failed out.new err.new)) }
+    ensures given { IfOk result (λ update. IfOk update
+        (λ update. IsGiven update (W.given new.old) (W.given new.new))) }
+    ensures keeps_new { W.Keeps new.old new.new }
     ensures lists { job.now.list ≡ true →
         IfOk result (λ update. IfOk update (λ kept. kept ≡ IndexUpdate.Keep)) }
     ensures unread { IfErr result (λ _.
@@ -151,7 +163,7 @@ fn update_of<S: Store, T: Tree, O: Sink, E: Sink>(
     if job.reset && job.paths.is_empty() {
         return Ok(Ok(IndexUpdate::Remove));
     }
-    match walked_index(alloc, old, job, tree, err) {
+    match walked_index(alloc, old, job, tree, new, err) {
         Ok(Ok(index)) => Ok(Ok(IndexUpdate::Write(index))),
         Ok(Err(fault)) => Ok(Err(fault)),
         Err(fault) => Err(fault),

@@ -1,5 +1,5 @@
 // Jobs that walk.
-ghost use Rattle.std.specs.Prelude.{◌≡◌, ℕ, List, Option, false, true, Some, None, Ok, map, option_map, string_bytes, IfOk, IfErr, MatchResult};
+ghost use Rattle.std.specs.Prelude.{◌≡◌, ◌++◌, ℕ, List, Option, false, true, Some, None, Ok, map, option_map, string_bytes, IfOk, IfErr, MatchResult};
 ghost use Rattle.cs_tree.specs.Clean.{longest_path};
 ghost use Rattle.cs_tree.specs.Walks.{RequestsWithin};
 ghost use Rattle.cs_tree.specs.FailureCount.{count_after};
@@ -24,21 +24,23 @@ use crate::old::{copied, open_old};
 use cs_args::{CindexFault, IndexJob};
 use cs_index::{Index, IndexFault, StoredTables};
 use cs_merge::{MergeFault, is_replaced_stored, is_whole_stored, merge_stored};
+use cs_output::{Output, Sent};
 use cs_tree::{IoFault, Sink, Store, Tree, reduce};
 use std::alloc::{AllocError, Global};
 
-/// The index after a job that walks, over the old index, or over none with `-reset`.
-pub(crate) fn walked_index<S: Store, T: Tree, E: Sink>(
+/// Sends the index after a job that walks, over the old index, or over none with `-reset`.
+pub(crate) fn walked_index<S: Store, T: Tree, W: Output, E: Sink>(
     alloc: Global,
     old: &mut Option<S>,
     job: &IndexJob,
     tree: &mut T,
+    new: &mut W,
     err: &mut E,
-) -> Result<Result<Vec<u8>, CindexFault>, IoFault>
+) -> Result<Result<Sent, CindexFault>, IoFault>
     requires { HasAbsoluteFolder job.now }
     ensures next { (index : Option (List ℕ)) → IsIndex S.model old.old index → IfOk result (λ walked.
-        IfOk walked (λ bytes. IsNext job.now (T.snapshot tree.old) (base job.now index)
-        (Some bytes.items))) }
+        IfOk walked (λ sent. IsNext job.now (T.snapshot tree.old) (base job.now index)
+        (Some sent.bytes))) }
     ensures refusal { (index : Option (List ℕ)) → IsIndex S.model old.old index → IfOk result (λ walked.
         AnswersFor walked (early_walk_fault job.now (base job.now index))
         (IsWalkFault job.now (T.snapshot tree.old) (base job.now index))) }
@@ -53,6 +55,9 @@ pub(crate) fn walked_index<S: Store, T: Tree, E: Sink>(
         (output E.model E.failed err.old) (output E.model E.failed err.new)
         × (E.failed err.new ≡ E.failed err.old)) }
     ensures failure { IfErr result (λ fault. fault ≡ IoFault.Failed) }
+    ensures given { IfOk result (λ walked. IfOk walked
+        (λ index. W.given new.new ≡ W.given new.old ++ index.bytes)) }
+    ensures keeps_new { W.Keeps new.old new.new }
     ensures failed { IsUnreadable S.failed old.old old.new (has_failed result) }
     ensures keeps { option_map S.model old.new ≡ option_map S.model old.old }
     ensures size { option_map S.size old.new ≡ option_map S.size old.old }
@@ -65,28 +70,31 @@ pub(crate) fn walked_index<S: Store, T: Tree, E: Sink>(
         Err(fault) => return Ok(Err(fault)),
     };
     match old {
-        Some(store) if !job.reset => extended_index(alloc, store, &given, job, tree, err),
-        _ => Ok(new_index(alloc, &given, job, tree, err)),
+        Some(store) if !job.reset => extended_index(alloc, store, &given, job, tree, new, err),
+        _ => Ok(new_index(alloc, &given, job, tree, new, err)),
     }
 }
 
-/// The index of what the job finds below its cleaned paths, without a base index.
+/// Sends the index of what the job finds below its cleaned paths, without a base index.
 #[tactic(auto, using(crate::proofs::JobOutputLemmas::nothing_printed))]
-fn new_index<T: Tree, E: Sink>(
+fn new_index<T: Tree, W: Output, E: Sink>(
     alloc: Global,
     given: &[String],
     job: &IndexJob,
     tree: &mut T,
+    new: &mut W,
     err: &mut E,
-) -> Result<Vec<u8>, CindexFault>
+) -> Result<Sent, CindexFault>
     requires { AreCleaned job.now (map string_bytes given.now) }
     ensures next { IfOk result
-        (λ index. IsNext job.now (T.snapshot tree.old) None (Some index.items)) }
+        (λ index. IsNext job.now (T.snapshot tree.old) None (Some index.bytes)) }
     ensures refusal { AnswersFor result (base_fault job.now None)
         (IsWalkFault job.now (T.snapshot tree.old) None) }
     ensures prints { WalkPrintsFor result (base_fault job.now None)
         job.now (job_tree T.snapshot T.failed tree.old tree.new) None
         (output E.model E.failed err.old) (output E.model E.failed err.new) }
+    ensures given { IfOk result (λ index. W.given new.new ≡ W.given new.old ++ index.bytes) }
+    ensures keeps_new { W.Keeps new.old new.new }
     ensures writes { E.failed err.new ≡ count_after is_failed_write result (E.failed err.old) }
     ensures requested { RequestsWithin longest_path (T.longest_requested tree.old)
         (T.longest_requested tree.new) }
@@ -96,23 +104,24 @@ fn new_index<T: Tree, E: Sink>(
         return Err(CindexFault::NoIndex);
     }
     let paths = reduce(alloc, given)?;
-    let index = index_paths(alloc, tree, &paths, job.log_skip, err)?;
+    let index = index_paths(alloc, tree, &paths, job.log_skip, new, err)?;
     Ok(index)
 }
 
-/// The base index, merged with what the job finds below its cleaned paths, or, if it has none, below those of the base
-/// index.
-fn extended_index<S: Store, T: Tree, E: Sink>(
+/// Sends the base index, merged with what the job finds below its cleaned paths, or, if it has none, below those of the
+/// base index.
+fn extended_index<S: Store, T: Tree, W: Output, E: Sink>(
     alloc: Global,
     store: &mut S,
     given: &[String],
     job: &IndexJob,
     tree: &mut T,
+    new: &mut W,
     err: &mut E,
-) -> Result<Result<Vec<u8>, CindexFault>, IoFault>
+) -> Result<Result<Sent, CindexFault>, IoFault>
     requires { AreCleaned job.now (map string_bytes given.now) }
     ensures next { (old : List ℕ) → S.model store.old ≡ Some old → IfOk result (λ walked.
-        IfOk walked (λ index. IsNext job.now (T.snapshot tree.old) (Some old) (Some index.items))) }
+        IfOk walked (λ index. IsNext job.now (T.snapshot tree.old) (Some old) (Some index.bytes))) }
     ensures refusal { (old : List ℕ) → S.model store.old ≡ Some old → IfOk result (λ walked.
         AnswersFor walked (base_fault job.now (Some old))
         (IsWalkFault job.now (T.snapshot tree.old) (Some old))) }
@@ -120,6 +129,9 @@ fn extended_index<S: Store, T: Tree, E: Sink>(
         WalkPrintsFor walked (base_fault job.now (Some old))
         job.now (job_tree T.snapshot T.failed tree.old tree.new) (Some old)
         (output E.model E.failed err.old) (output E.model E.failed err.new)) }
+    ensures given { IfOk result (λ walked. IfOk walked
+        (λ index. W.given new.new ≡ W.given new.old ++ index.bytes)) }
+    ensures keeps_new { W.Keeps new.old new.new }
     ensures writes { IfOk result
         (λ walked. E.failed err.new ≡ count_after is_failed_write walked (E.failed err.old)) }
     ensures unread { IfErr result (λ _.
@@ -143,11 +155,11 @@ fn extended_index<S: Store, T: Tree, E: Sink>(
     let Ok(paths) = paths_to_walk(alloc, &tables, given) else {
         return Ok(Err(CindexFault::Memory));
     };
-    let newer = match index_paths(alloc, tree, &paths, job.log_skip, err) {
-        Ok(newer) => newer,
-        Err(fault) => return Ok(Err(fault)),
-    };
-    merge_old(alloc, store, &tables, newer)
+    let mut newer = Vec::new(alloc);
+    if let Err(fault) = index_paths(alloc, tree, &paths, job.log_skip, &mut newer, err) {
+        return Ok(Err(fault));
+    }
+    merge_old(alloc, store, &tables, &newer, new)
 }
 
 /// The reduced paths that a job walks: its own, or, if it has none, those of the index.
@@ -168,27 +180,31 @@ fn paths_to_walk(
     Ok(paths)
 }
 
-/// Merges the base index with that of a walk. Where the walked paths cover the base index, the bytes of the walk are
-/// the merged index, and the lists of the base are only read for damage.
-fn merge_old<S: Store>(
+/// Sends the base index, merged with that of a walk. Where the walked paths cover the base index, the bytes of the walk
+/// are the merged index, and the lists of the base are only read for damage.
+fn merge_old<S: Store, W: Output>(
     alloc: Global,
     store: &mut S,
     old: &StoredTables,
-    newer: Vec<u8>,
-) -> Result<Result<Vec<u8>, CindexFault>, IoFault>
+    newer: &[u8],
+    new: &mut W,
+) -> Result<Result<Sent, CindexFault>, IoFault>
     requires fit { IsFit old.now }
-    requires newer { IsReducedIndex newer.items }
+    requires newer { IsReducedIndex newer.now }
     ensures merged { (bytes : List ℕ) → S.model store.old ≡ Some bytes → (parts : Parts) →
         TablesIn bytes old.now parts → IfOk result (λ merged.
-        MatchResult merged (λ index. MergesShort parts (opening newer.items) index.items)
-        (IsMergeRefusal parts (opening newer.items))) }
+        MatchResult merged (λ index. MergesShort parts (opening newer.now) index.bytes)
+        (IsMergeRefusal parts (opening newer.now))) }
+    ensures given { IfOk result (λ merged. IfOk merged
+        (λ index. W.given new.new ≡ W.given new.old ++ index.bytes)) }
+    ensures keeps_new { W.Keeps new.old new.new }
     ensures writes { IfOk result (λ merged. IfErr merged (λ fault. is_failed_write fault ≡ false)) }
     ensures failure { IfErr result (λ fault. fault ≡ IoFault.Failed) }
     ensures keeps { S.model store.new ≡ S.model store.old }
     ensures size { S.size store.new ≡ S.size store.old }
     ensures failed { S.failed store.new ≡ count_after is_io_failure result (S.failed store.old) }
 {
-    let index = match Index::open(&newer) {
+    let index = match Index::open(newer) {
         Ok(index) => index,
         Err(fault) => return Ok(Err(CindexFault::from(fault))),
     };
@@ -196,35 +212,52 @@ fn merge_old<S: Store>(
         return Ok(Err(CindexFault::Memory));
     };
     if !replaced {
-        return merge_both(alloc, store, old, &index);
+        return merge_both(alloc, store, old, &index, new);
     }
     match is_whole_stored(alloc, store, old) {
-        Ok(true) => Ok(Ok(newer)),
+        Ok(true) => Ok(send(newer, new)),
         Ok(false) => Ok(Err(CindexFault::BadIndex(IndexFault::BadList))),
         Err(IoFault::Memory) => Ok(Err(CindexFault::Memory)),
         Err(IoFault::Failed) => Err(IoFault::Failed),
     }
 }
 
-/// Merges the base index with a newer one, whose names are distinct and lie under its paths.
-fn merge_both<S: Store>(
+/// Sends the bytes of an index in memory.
+fn send<W: Output>(index: &[u8], new: &mut W) -> Result<Sent, CindexFault>
+    ensures bytes { IfOk result (λ sent. sent.bytes ≡ index.now) }
+    ensures memory { IfErr result (λ fault. fault ≡ CindexFault.Memory) }
+    ensures given { IfOk result (λ sent. W.given new.new ≡ W.given new.old ++ sent.bytes) }
+    ensures keeps { W.Keeps new.old new.new }
+{
+    new.append(index)?;
+    let mut sent = Sent::new();
+    sent.push(index);
+    Ok(sent)
+}
+
+/// Sends the base index, merged with a newer one, whose names are distinct and lie under its paths.
+fn merge_both<S: Store, W: Output>(
     alloc: Global,
     store: &mut S,
     old: &StoredTables,
     newer: &Index<'_>,
-) -> Result<Result<Vec<u8>, CindexFault>, IoFault>
+    new: &mut W,
+) -> Result<Result<Sent, CindexFault>, IoFault>
     requires { IsFit old.now }
     ensures merged { (bytes : List ℕ) → S.model store.old ≡ Some bytes → (parts : Parts) →
         TablesIn bytes old.now parts → IfOk result (λ merged.
-        MatchResult merged (λ index. MergesShort parts (Ok newer.now) index.items)
+        MatchResult merged (λ index. MergesShort parts (Ok newer.now) index.bytes)
         (IsMergeRefusal parts (Ok newer.now))) }
+    ensures given { IfOk result (λ merged. IfOk merged
+        (λ index. W.given new.new ≡ W.given new.old ++ index.bytes)) }
+    ensures keeps_new { W.Keeps new.old new.new }
     ensures writes { IfOk result (λ merged. IfErr merged (λ fault. is_failed_write fault ≡ false)) }
     ensures failure { IfErr result (λ fault. fault ≡ IoFault.Failed) }
     ensures keeps { S.model store.new ≡ S.model store.old }
     ensures size { S.size store.new ≡ S.size store.old }
     ensures failed { S.failed store.new ≡ count_after is_io_failure result (S.failed store.old) }
 {
-    match merge_stored(alloc, store, old, newer) {
+    match merge_stored(alloc, store, old, newer, new) {
         Ok(Ok(index)) => Ok(Ok(index)),
         Ok(Err(fault)) => Ok(Err(merge_refusal(fault))),
         Err(IoFault::Memory) => Ok(Err(CindexFault::Memory)),

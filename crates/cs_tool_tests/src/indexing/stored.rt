@@ -21,9 +21,12 @@ fn lists(
     let job = job_of(alloc, &["-list"])?;
     let mut store = Some(row_until(reads, None));
     let mut tree = MemTree::new(alloc, 1)?;
+    let mut new = Vec::new(alloc);
     let mut out = MemSink::new(alloc, 1000);
     let mut err = MemSink::new(alloc, 1000);
-    let listed = cindex_stored(alloc, &mut store, &job, &mut tree, &mut out, &mut err);
+    let listed = cindex_stored(
+        alloc, &mut store, &job, &mut tree, &mut new, &mut out, &mut err,
+    );
     let is_done = match listed {
         Ok(update) => Ok(update.is_ok()),
         Err(fault) => Err(fault),

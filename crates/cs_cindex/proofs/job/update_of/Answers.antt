@@ -1,8 +1,9 @@
-use Rattle.std.proofs.Common.{◌≡◌, ◌∙◌, ◌&&◌, ℕ, [], false, sym, ap, refl, subst, Some, Result, Vec, Global}
+use Rattle.std.proofs.Common.{◌≡◌, ◌∙◌, ◌&&◌, ℕ, [], false, sym, ap, refl, subst, Some, Result}
 use Rattle.std.specs.Prelude.{IfOk, nat_eq}
 use Rattle.std.proofs.lemmas.Bool.{true≢false}
 use Rattle.cs_tree.specs.Sinks.{Grows}
 use Rattle.cs_tree.proofs.GrowsLemmas.{Grows-same}
+use Rattle.cs_output.specs.declared.sent.Sent.{Sent}
 use Rattle.cs_args.specs.declared.fault.CindexFault.{CindexFault}
 use Rattle.cs_history.specs.Jobs.{has_no_path}
 use Rattle.cs_cindex.specs.Next.{IsNext}
@@ -35,11 +36,11 @@ returns-in-Ok-Ok-walked_index-clause-step g c = λ index is.
       | else-job-2-via-then-job-2+else-is_empty w ↦ ap (λ b. b && has_no_path job) w.if-job-2.true ∙ ap (λ n. nat_eq n 0) (sym job.paths.ok.0) ∙ sym w.if-is_empty.ensures
       | else-job-2-via-else-job-2 w ↦ ap (λ b. b && has_no_path job) w.if-job-2.false
     ] in
-    walk_done job tree _ _ (c.if-job.false, walks) (base job index) refl (Grows-same _) refl c.in-Ok-Ok-walked_index.index.items
-    (subst (λ (r : Result (Vec ℕ Global) CindexFault). AnswersFor r (early_walk_fault job (base job index)) (IsWalkFault job snapshot (base job index))) c.in-Ok-Ok-walked_index.field-0-is (part.refusal index is))
-    (subst (λ (r : Result (Vec ℕ Global) CindexFault). IfOk r (λ bytes. IsNext job snapshot (base job index) (Some bytes.items))) c.in-Ok-Ok-walked_index.field-0-is (part.next index is))
-    (subst (λ (r : Result (Vec ℕ Global) CindexFault). WalkPrintsFor r (early_walk_fault job (base job index)) job tree (base job index) err later) c.in-Ok-Ok-walked_index.field-0-is (part.prints index is))
-    (subst (λ (r : Result (Vec ℕ Global) CindexFault). later.failed ≡ count_after is_failed_write r err.failed) c.in-Ok-Ok-walked_index.field-0-is part.writes)
+    walk_done job tree _ _ (c.if-job.false, walks) (base job index) refl (Grows-same _) refl c.in-Ok-Ok-walked_index.index.bytes
+    (subst (λ (r : Result Sent CindexFault). AnswersFor r (early_walk_fault job (base job index)) (IsWalkFault job snapshot (base job index))) c.in-Ok-Ok-walked_index.field-0-is (part.refusal index is))
+    (subst (λ (r : Result Sent CindexFault). IfOk r (λ sent. IsNext job snapshot (base job index) (Some sent.bytes))) c.in-Ok-Ok-walked_index.field-0-is (part.next index is))
+    (subst (λ (r : Result Sent CindexFault). WalkPrintsFor r (early_walk_fault job (base job index)) job tree (base job index) err later) c.in-Ok-Ok-walked_index.field-0-is (part.prints index is))
+    (subst (λ (r : Result Sent CindexFault). later.failed ≡ count_after is_failed_write r err.failed) c.in-Ok-Ok-walked_index.field-0-is part.writes)
 
 pub returns-in-Err-walked_index-clause-unread : goal.returns-in-Err-walked_index-clause-unread
 returns-in-Err-walked_index-clause-unread g c =

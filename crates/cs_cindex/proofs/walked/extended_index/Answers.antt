@@ -1,16 +1,17 @@
-use Rattle.std.proofs.Common.{◌≡◌, ◌∙◌, ℕ, List, map, ap, sym, subst, refl, false, Option, Some, None, Result, Ok, Err, Vec, Global}
+use Rattle.std.proofs.Common.{◌≡◌, ◌∙◌, ◌++◌, ℕ, List, [], map, ap, sym, subst, refl, false, Option, Some, None, Result, Ok, Err}
 use Rattle.std.specs.Prelude.{string_bytes, IfErr, IfOk, MatchResult}
 use Rattle.cs_tree.specs.declared.fault.IoFault.{IoFault}
 use Rattle.cs_tree.specs.PathSet as set
 use Rattle.cs_tree.specs.Cover.{least}
 use Rattle.cs_tree.specs.Snapshot.{Snapshot}
 use Rattle.cs_index.specs.Opening.{opening}
+use Rattle.cs_output.specs.declared.sent.Sent.{Sent}
 use Rattle.cs_args.specs.declared.fault.CindexFault.{CindexFault}
 use Rattle.cs_args.specs.declared.fault.CindexFault.TheVariants.{NoIndex, BadIndex, Unsorted, TooLarge, BadPath, Write, Memory}
 use Rattle.cs_args.specs.declared.jobs.IndexJob.{IndexJob}
 use Rattle.cs_cindex.specs.JobPaths.{AreCleaned, starts}
 use Rattle.cs_cindex.specs.Merges.{IsMergeRefusal, MergesShort}
-use Rattle.cs_cindex.specs.Next.{IsNext, IsOwnIndex, paths_of_job}
+use Rattle.cs_cindex.specs.Next.{IsNext, IsOwnIndex, IsReducedIndex, paths_of_job}
 use Rattle.cs_cindex.specs.OldIndex.{IsFit, IsFitFor, IsIndex}
 use Rattle.cs_index.specs.StoredTables.{TableParts}
 use Rattle.cs_cindex.specs.Outcomes.{AnswersFor, WalkPrintsFor}
@@ -42,21 +43,21 @@ module _ (job : IndexJob) (old : List ℕ) (tables : TableParts) (fit : IsFitFor
 
   -- ---- after the merge
 
-  abbrev Merged : List ℕ → Result (Result (Vec ℕ Global) CindexFault) IoFault → Type 0
-  Merged newer r = IfOk r (λ merged. MatchResult merged (λ index. MergesShort fit.parts (opening newer) index.items) (IsMergeRefusal fit.parts (opening newer)))
+  abbrev Merged : List ℕ → Result (Result Sent CindexFault) IoFault → Type 0
+  Merged newer r = IfOk r (λ merged. MatchResult merged (λ index. MergesShort fit.parts (opening newer) index.bytes) (IsMergeRefusal fit.parts (opening newer)))
 
   module _ (tree : Option Snapshot) (newer : List ℕ) (own : IsOwnIndex job tree (Some old) newer) where
-    merged_next : (r : Result (Result (Vec ℕ Global) CindexFault) IoFault) → Merged newer r → IfOk r (λ walked. IfOk walked (λ index. IsNext job tree (Some old) (Some index.items)))
-    merged_next (Ok (Ok index)) m = next_extended job tree old fit.parts newer index.items opens own m.merges m.short
+    merged_next : (r : Result (Result Sent CindexFault) IoFault) → Merged newer r → IfOk r (λ walked. IfOk walked (λ index. IsNext job tree (Some old) (Some index.bytes)))
+    merged_next (Ok (Ok index)) m = next_extended job tree old fit.parts newer index.bytes opens own m.merges m.short
     merged_next (Ok (Err fault)) m = tt
     merged_next (Err fault) m = tt
 
-    merged_answers : (r : Result (Result (Vec ℕ Global) CindexFault) IoFault) → Merged newer r → IfOk r (λ walked. AnswersFor walked (base_fault job (Some old)) (IsWalkFault job tree (Some old)))
+    merged_answers : (r : Result (Result Sent CindexFault) IoFault) → Merged newer r → IfOk r (λ walked. AnswersFor walked (base_fault job (Some old)) (IsWalkFault job tree (Some old)))
     merged_answers (Ok (Ok index)) m = good
     merged_answers (Ok (Err fault)) m = late tree fault (merge_refused job tree old fit.parts newer opens own (sound_own (paths_of_job job (Some old)) newer own.index own.short) fault m)
     merged_answers (Err fault) m = tt
 
-  merged_prints : (tree : JobTree) (err later : Output) → WalkPrints job tree (Some old) err later → (r : Result (Result (Vec ℕ Global) CindexFault) IoFault) → IfOk r (λ walked. WalkPrintsFor walked (base_fault job (Some old)) job tree (Some old) err later)
+  merged_prints : (tree : JobTree) (err later : Output) → WalkPrints job tree (Some old) err later → (r : Result (Result Sent CindexFault) IoFault) → IfOk r (λ walked. WalkPrintsFor walked (base_fault job (Some old)) job tree (Some old) err later)
   merged_prints tree err later all (Ok (Ok index)) = all
   merged_prints tree err later all (Ok (Err fault)) = whole_over job tree (paths_of_job job (Some old)) (Some old) err later refl (base_fault job (Some old)) fault good all
   merged_prints tree err later all (Err fault) = tt
@@ -116,12 +117,19 @@ returns-in-Err-index_paths-clause-prints g c = λ old known.
     prefix_over job (job_tree g.T.Tree.snapshot g.T.Tree.failed c.args.tree.now c.index_paths.new.tree) (set.from_list (map string_bytes c.deref.result.now)) (Some old) (output g.E.Sink.model g.E.Sink.failed c.args.err.now) (output g.E.Sink.model g.E.Sink.failed c.index_paths.new.err) walked (base_fault job (Some old)) c.in-Err-index_paths.fault (good job old c.in-Ok-Ok.tables fit)
     part.only part.writes (λ e. part.whole (ap Err e)) part.prefix
 
+-- the index of the walk, in memory
+in_memory : (sent before bytes given : List ℕ) → before ≡ [] → bytes ≡ before ++ sent → given ≡ bytes → sent ≡ given
+in_memory sent before bytes given none appended is = sym (is ∙ appended ∙ ap (λ first. first ++ sent) none)
+
 pub merge_old-requires-clause-newer : goal.merge_old-requires-clause-newer
 merge_old-requires-clause-newer g c =
     let started = starts (map string_bytes c.args.given.now) c.in-Ok-Ok.tables.paths in
-    reduced_index (set.from_list (map string_bytes c.deref.result.now)) (set.from_list started) c.in-Ok-index_paths.newer.items
+    let part = c.in_default-index_paths.ensures in
+    let sent = c.in_default-index_paths.field-0.bytes in
+    subst IsReducedIndex (in_memory sent c.new-newer.result.items c.index_paths.new.new.items c.deref-2.result.now c.new-newer.ensures.items part.given c.deref-2.ensures.value)
+    (reduced_index (set.from_list (map string_bytes c.deref.result.now)) (set.from_list started) sent
     (walk_as_set (map string_bytes c.deref.result.now) started (ap (λ ps. map string_bytes ps) c.deref.ensures.value ∙ c.in-Ok.ensures))
-    c.in-Ok-index_paths.ensures.well_formed c.in-Ok-index_paths.ensures.short
+    part.well_formed part.short)
 
 pub returns-clause-next : goal.returns-clause-next
 returns-clause-next g c = λ old known.
@@ -129,9 +137,11 @@ returns-clause-next g c = λ old known.
     let snapshot = g.T.Tree.snapshot c.args.tree.now in
     let fit = subst (Opened old) c.in-Ok-Ok.field-0-is (c.in-Ok-Ok.ensures.opened old known) in
     let walked = walked_as job old c.in-Ok-Ok.tables fit (map string_bytes c.args.given.now) (map string_bytes c.deref.result.now) c.requires (ap (λ ps. map string_bytes ps) c.deref.ensures.value ∙ c.in-Ok.ensures) in
-    let part = c.in-Ok-index_paths.ensures in
-    merged_next job old c.in-Ok-Ok.tables fit snapshot c.in-Ok-index_paths.newer.items
-    (own_index job snapshot (Some old) (set.from_list (map string_bytes c.deref.result.now)) c.in-Ok-index_paths.newer.items walked part.well_formed part.encoding part.short)
+    let part = c.in_default-index_paths.ensures in
+    let sent = c.in_default-index_paths.field-0.bytes in
+    merged_next job old c.in-Ok-Ok.tables fit snapshot c.deref-2.result.now
+    (subst (IsOwnIndex job snapshot (Some old)) (in_memory sent c.new-newer.result.items c.index_paths.new.new.items c.deref-2.result.now c.new-newer.ensures.items part.given c.deref-2.ensures.value)
+    (own_index job snapshot (Some old) (set.from_list (map string_bytes c.deref.result.now)) sent walked part.well_formed part.encoding part.short))
     c.merge_old.result (c.merge_old.ensures.merged old (c.open_old.ensures.keeps ∙ known) fit.parts fit.are)
 
 pub returns-clause-refusal : goal.returns-clause-refusal
@@ -140,9 +150,11 @@ returns-clause-refusal g c = λ old known.
     let snapshot = g.T.Tree.snapshot c.args.tree.now in
     let fit = subst (Opened old) c.in-Ok-Ok.field-0-is (c.in-Ok-Ok.ensures.opened old known) in
     let walked = walked_as job old c.in-Ok-Ok.tables fit (map string_bytes c.args.given.now) (map string_bytes c.deref.result.now) c.requires (ap (λ ps. map string_bytes ps) c.deref.ensures.value ∙ c.in-Ok.ensures) in
-    let part = c.in-Ok-index_paths.ensures in
-    merged_answers job old c.in-Ok-Ok.tables fit snapshot c.in-Ok-index_paths.newer.items
-    (own_index job snapshot (Some old) (set.from_list (map string_bytes c.deref.result.now)) c.in-Ok-index_paths.newer.items walked part.well_formed part.encoding part.short)
+    let part = c.in_default-index_paths.ensures in
+    let sent = c.in_default-index_paths.field-0.bytes in
+    merged_answers job old c.in-Ok-Ok.tables fit snapshot c.deref-2.result.now
+    (subst (IsOwnIndex job snapshot (Some old)) (in_memory sent c.new-newer.result.items c.index_paths.new.new.items c.deref-2.result.now c.new-newer.ensures.items part.given c.deref-2.ensures.value)
+    (own_index job snapshot (Some old) (set.from_list (map string_bytes c.deref.result.now)) sent walked part.well_formed part.encoding part.short))
     c.merge_old.result (c.merge_old.ensures.merged old (c.open_old.ensures.keeps ∙ known) fit.parts fit.are)
 
 pub returns-clause-prints : goal.returns-clause-prints
@@ -154,9 +166,9 @@ returns-clause-prints g c = λ old known.
     let err = output g.E.Sink.model g.E.Sink.failed c.args.err.now in
     let later = output g.E.Sink.model g.E.Sink.failed c.index_paths.new.err in
     merged_prints job old c.in-Ok-Ok.tables fit tree err later
-    (prints_over job tree (set.from_list (map string_bytes c.deref.result.now)) (Some old) err later walked c.in-Ok-index_paths.ensures.prints) c.merge_old.result
+    (prints_over job tree (set.from_list (map string_bytes c.deref.result.now)) (Some old) err later walked c.in_default-index_paths.ensures.prints) c.merge_old.result
 
-unread_after : (job : IndexJob) (tree : JobTree) (IsOld : Option (List ℕ) → Type 0) (err later : Output) → UnreadPrints job tree IsOld err later → later.failed ≡ err.failed → (r : Result (Result (Vec ℕ Global) CindexFault) IoFault) → IfErr r (λ _. UnreadPrints job tree IsOld err later × (later.failed ≡ err.failed))
+unread_after : (job : IndexJob) (tree : JobTree) (IsOld : Option (List ℕ) → Type 0) (err later : Output) → UnreadPrints job tree IsOld err later → later.failed ≡ err.failed → (r : Result (Result Sent CindexFault) IoFault) → IfErr r (λ _. UnreadPrints job tree IsOld err later × (later.failed ≡ err.failed))
 unread_after job tree IsOld err later prints writes (Ok merged) = tt
 unread_after job tree IsOld err later prints writes (Err fault) = (prints, writes)
 
@@ -171,5 +183,5 @@ returns-clause-unread g c =
     let fit = subst (Opened k.bytes) c.in-Ok-Ok.field-0-is (c.in-Ok-Ok.ensures.opened k.bytes k.model_is) in
     walked_as job k.bytes c.in-Ok-Ok.tables fit (map string_bytes c.args.given.now) (map string_bytes c.deref.result.now) c.requires (ap (λ ps. map string_bytes ps) c.deref.ensures.value ∙ c.in-Ok.ensures)
     ∙ ap (paths_of_job job) (sym k.index_is))
-    c.in-Ok-index_paths.ensures.prints)
-    c.in-Ok-index_paths.ensures.writes c.merge_old.result
+    c.in_default-index_paths.ensures.prints)
+    c.in_default-index_paths.ensures.writes c.merge_old.result

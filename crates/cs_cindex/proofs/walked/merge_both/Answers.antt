@@ -1,8 +1,9 @@
-use Rattle.std.proofs.Common.{◌≡◌, ◌≤◌, ◌<◌, ◌^◌, true, false, ℕ, List, Ok, Result, Vec, Global, length, refl, ap, sym, subst, ◌∙◌, arith}
+use Rattle.std.proofs.Common.{◌≡◌, ◌≤◌, ◌<◌, ◌^◌, true, false, ℕ, List, Ok, Result, length, refl, ap, sym, subst, ◌∙◌, arith}
 use Rattle.std.specs.Prelude.{MatchResult}
 use Rattle.std.proofs.lemmas.Bool.{true≢false, and_from, false_from_ne_true}
 use Rattle.cs_tree.specs.Folders.{are_distinct}
 use Rattle.cs_index.specs.OpenedParts.{Parts, are_whole, are_covered}
+use Rattle.cs_output.specs.declared.sent.Sent.{Sent}
 use Rattle.cs_merge.specs.declared.fault.MergeFault.{MergeFault}
 use Rattle.cs_merge.specs.Mergeable.{both_distinct, both_whole, merge_index}
 use Rattle.cs_merge.specs.MergeResult.{most_bytes, IsMerged, IsMergeFault, unsorted, uncovered, damaged, long, refused}
@@ -32,8 +33,8 @@ module _ (old newer : Parts) (once : are_distinct old.names ≡ true) where
   refusal fault (refused is tested) = subst Refuses (sym is) tt
 
 -- an answer of the merge
-abbrev Answers : Parts → Parts → Result (Vec ℕ Global) MergeFault → Type 0
-Answers old newer answer = MatchResult answer (λ index. IsMerged old newer most_bytes index.items) (λ fault. IsMergeFault old newer most_bytes fault)
+abbrev Answers : Parts → Parts → Result Sent MergeFault → Type 0
+Answers old newer answer = MatchResult answer (λ index. IsMerged old newer most_bytes index.bytes) (λ fault. IsMergeFault old newer most_bytes fault)
 
 merged_short : (old newer : Parts) (index : List ℕ) → IsMerged old newer most_bytes index → MergesShort old (Ok newer) index
 merged_short old newer index merged = record {
@@ -43,7 +44,7 @@ merged_short old newer index merged = record {
 
 pub returns-in-Ok-Ok-clause-merged : goal.returns-in-Ok-Ok-clause-merged
 returns-in-Ok-Ok-clause-merged g c = λ bytes known parts are.
-    merged_short parts c.args.newer.now c.in-Ok-Ok.index.items (subst (Answers parts c.args.newer.now) c.in-Ok-Ok.field-0-is (c.in-Ok-Ok.ensures.merged bytes known parts are))
+    merged_short parts c.args.newer.now c.in-Ok-Ok.index.bytes (subst (Answers parts c.args.newer.now) c.in-Ok-Ok.field-0-is (c.in-Ok-Ok.ensures.merged bytes known parts are))
 
 pub returns-in-Ok-Err-clause-merged : goal.returns-in-Ok-Err-clause-merged
 returns-in-Ok-Err-clause-merged g c = λ bytes known parts are.

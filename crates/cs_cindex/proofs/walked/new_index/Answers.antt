@@ -34,8 +34,8 @@ returns-clause-next g c =
     let some = some_path c.args.job.now c.args.given.now c.requires (eqb-false (length c.args.given.now) 0 (sym c.if-is_empty.ensures)) in
     let walked = own_walked c.args.job.now (map string_bytes c.args.given.now) (map string_bytes c.deref.result.now) None c.requires some (ap (λ ps. map string_bytes ps) c.deref.ensures.value ∙ c.in_ok-paths.ensures) in
     let snapshot = g.T.Tree.snapshot c.args.tree.now in
-    next_new c.args.job.now snapshot c.in_ok-index.index.items
-    (own_index c.args.job.now snapshot None (set.from_list (map string_bytes c.deref.result.now)) c.in_ok-index.index.items walked c.in_ok-index.ensures.well_formed c.in_ok-index.ensures.encoding c.in_ok-index.ensures.short)
+    next_new c.args.job.now snapshot c.in_ok-index.index.bytes
+    (own_index c.args.job.now snapshot None (set.from_list (map string_bytes c.deref.result.now)) c.in_ok-index.index.bytes walked c.in_ok-index.ensures.well_formed c.in_ok-index.ensures.encoding c.in_ok-index.ensures.short)
 
 pub returns-in_err-index-clause-prints : goal.returns-in_err-index-clause-prints
 returns-in_err-index-clause-prints g c =

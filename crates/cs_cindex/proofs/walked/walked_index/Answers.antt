@@ -1,10 +1,11 @@
-use Rattle.std.proofs.Common.{◌≡◌, ◌∙◌, ℕ, List, false, cond, refl, ap, sym, map, subst, Option, Some, None, Result, Ok, Err, Vec, Global}
+use Rattle.std.proofs.Common.{◌≡◌, ◌∙◌, ℕ, List, false, cond, refl, ap, sym, map, subst, Option, Some, None, Result, Ok, Err}
 use Rattle.std.specs.Prelude.{string_bytes, option_map, IfErr, IfOk}
 use Rattle.std.specs.Option.{option_or}
 use Rattle.cs_tree.specs.Snapshot.{Snapshot}
 use Rattle.cs_tree.specs.declared.fault.IoFault.{IoFault}
 use Rattle.cs_history.specs.Jobs.{given_texts}
 use Rattle.cs_history.specs.Replies.{first_bad}
+use Rattle.cs_output.specs.declared.sent.Sent.{Sent}
 use Rattle.cs_args.specs.declared.jobs.IndexJob.{IndexJob}
 use Rattle.cs_args.specs.declared.fault.CindexFault.{CindexFault}
 use Rattle.cs_args.specs.declared.fault.CindexFault.TheVariants.{NoIndex, BadIndex, Unsorted, TooLarge, BadPath, Write, Memory}
@@ -37,7 +38,7 @@ returns-in-Err-clause-prints g c = λ index is.
 -- ---- the old index is the base index
 
 abbrev Answer : Type 0
-Answer = Result (Result (Vec ℕ Global) CindexFault) IoFault
+Answer = Result (Result Sent CindexFault) IoFault
 
 module _ (job : IndexJob) (index : Option (List ℕ)) (bytes : List ℕ) (kept : job.reset ≡ false) (is : index ≡ Some bytes) (good : first_bad (string_bytes job.cwd) (given_texts job) ≡ None) where
   base_is : Some bytes ≡ base job index
@@ -48,8 +49,8 @@ module _ (job : IndexJob) (index : Option (List ℕ)) (bytes : List ℕ) (kept :
       sym (ap (λ b. option_or (option_map (λ path_index. BadPath path_index) b) (base_fault job (Some bytes))) good)
       ∙ ap (early_walk_fault job) base_is
 
-  next_on : (tree : Option Snapshot) (r : Answer) → IfOk r (λ walked. IfOk walked (λ new. IsNext job tree (Some bytes) (Some new.items))) → IfOk r (λ walked. IfOk walked (λ new. IsNext job tree (base job index) (Some new.items)))
-  next_on tree r h = subst (λ old. IfOk r (λ walked. IfOk walked (λ new. IsNext job tree old (Some new.items)))) base_is h
+  next_on : (tree : Option Snapshot) (r : Answer) → IfOk r (λ walked. IfOk walked (λ new. IsNext job tree (Some bytes) (Some new.bytes))) → IfOk r (λ walked. IfOk walked (λ new. IsNext job tree (base job index) (Some new.bytes)))
+  next_on tree r h = subst (λ old. IfOk r (λ walked. IfOk walked (λ new. IsNext job tree old (Some new.bytes)))) base_is h
 
   answers_on : (tree : Option Snapshot) (r : Answer) → IfOk r (λ walked. AnswersFor walked (base_fault job (Some bytes)) (IsWalkFault job tree (Some bytes))) → IfOk r (λ walked. AnswersFor walked (early_walk_fault job (base job index)) (IsWalkFault job tree (base job index)))
   answers_on tree r h =

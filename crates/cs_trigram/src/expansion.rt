@@ -94,38 +94,7 @@ pub(crate) fn strings_of_chars(alloc: Global, set: &CharSet) -> Result<Vec<Exact
     Ok(strings)
 }
 
-/// The exact set of at most `most` iterations of a finite tree.
-fn strings_up_to(alloc: Global, once: &ExactSet, most: u32) -> Result<ExactSet, AllocError>
-    ensures { IfOk result (λ strings. (t : Tree) → IsExactSetOf once.now t → is_finite t ≡ true →
-        IsExactSetOf strings (rep t 0 (Some most))) }
-{
-    let mut strings = ExactSet::of(empty_string(alloc)?);
-    for _iteration in 0..most {
-        let more = once.concatenate(alloc, &strings)?;
-        strings = more.union(alloc, &ExactSet::of(empty_string(alloc)?))?;
-    }
-    Ok(strings)
-}
-
-/// The exact set of `count` more iterations of a finite tree.
-fn strings_repeated(
-    alloc: Global,
-    once: &ExactSet,
-    count: u32,
-    suffixes: ExactSet,
-) -> Result<ExactSet, AllocError>
-    ensures { IfOk result (λ strings. (t : Tree) (least most : ℕ) → IsExactSetOf once.now t →
-        is_finite t ≡ true → least ≤ most → IsExactSetOf suffixes (rep t least (Some most)) →
-        IsExactSetOf strings (rep t (least + count) (Some (most + count)))) }
-{
-    let mut strings = suffixes;
-    for _iteration in 0..count {
-        strings = once.concatenate(alloc, &strings)?;
-    }
-    Ok(strings)
-}
-
-/// The exact set of a repeat.
+/// The exact set of a repeat, from its last iteration to its first: the last ones are optional.
 pub(crate) fn strings_of_repeat(
     alloc: Global,
     once: &ExactSet,
@@ -141,6 +110,12 @@ pub(crate) fn strings_of_repeat(
     if most < least || once.is_infinite() {
         return Ok(ExactSet::Infinite);
     }
-    let beyond = strings_up_to(alloc, once, most - least)?;
-    strings_repeated(alloc, once, least, beyond)
+    let mut strings = ExactSet::of(empty_string(alloc)?);
+    for iteration in 0..most {
+        strings = once.concatenate(alloc, &strings)?;
+        if iteration < most - least {
+            strings = strings.union(alloc, &ExactSet::of(empty_string(alloc)?))?;
+        }
+    }
+    Ok(strings)
 }

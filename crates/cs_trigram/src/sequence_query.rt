@@ -15,7 +15,7 @@ use crate::connectives::{add_conjunct, any_string};
 use crate::cross_product::cross_product_query;
 use crate::end_strings::{EndString, are_empty};
 use crate::exact_set::ExactSet;
-use crate::exact_string::{ExactString, MAX_EXACT, are_longer, copies, cross_product};
+use crate::exact_string::{ExactString, MAX_EXACT, are_longer, cross_product, prepended};
 use crate::expansion::empty_string;
 use crate::queries::Query;
 use std::alloc::{AllocError, Global};
@@ -164,12 +164,8 @@ impl SequenceQuery {
         ensures { IfOk result (λ query.
             (ts : Trees) → IsSequenceQueryOf self ts → IsMatchQuery query (cat ts)) }
     {
-        let SequenceQuery {
-            leading,
-            mut conjuncts,
-            parts: _,
-        } = self;
-        let last = any_string(alloc, &leading)?;
+        let mut conjuncts = self.conjuncts;
+        let last = any_string(alloc, &self.leading)?;
         add_conjunct(&mut conjuncts, last)?;
         Ok(Query::And(conjuncts))
     }
@@ -210,7 +206,7 @@ pub(crate) fn longest_leading_run(
     ensures { IfOk result (λ leading. (t : Tree) (ts : Trees) → AreExactStrings strings.now t →
         AreExactSetsReversed following.now ts → IsLongestLeadingRun (more t ts) leading.items) }
 {
-    let mut leading = copies(alloc, strings)?;
+    let mut leading = prepended(alloc, &[], strings)?;
     let mut index = following.len();
     'parts: while index > 0 {
         index -= 1;

@@ -4,11 +4,18 @@ use Rattle.std.specs.Prelude.{None, slice_range}
 use Rattle.std.proofs.lemmas.Bool.{false≢true}
 use Rattle.std.proofs.lemmas.List.{append-nil, take-append-drop}
 use Rattle.cs_syntax.specs.Matching.{Tree, Trees, empty, one_of, one_char, cat, alt, rep, line_start, line_end, word_edge, not_word_edge, none, more, Chain, MatchesSpan, MatchesSequence, MatchesBranch}
-use Rattle.cs_trigram.specs.EndStrings.{concatenation, HasEndString, HasSomeEndString, any_end}
+use Rattle.cs_trigram.specs.EndStrings.{concatenation, HasEndString, HasSomeEndString}
 use Rattle.cs_trigram.specs.declared.end_strings.Side.{Side}
 use Rattle.cs_trigram.specs.declared.end_strings.Side.TheVariants.{Prefix, Suffix}
 use Rattle.cs_trigram.specs.declared.end_strings.EndString.{EndString}
 use Rattle.cs_trigram.proofs.ExactStringLemmas.{part_split, part_empty}
+
+-- the end string of every text, and that of the empty text
+abbrev pub any_end : EndString
+any_end = record { string = []; whole = false }
+
+abbrev pub empty_end : EndString
+empty_end = record { string = []; whole = true }
 
 pub concatenation-assoc : (side : Side) (a b c : List ℕ) → concatenation side (concatenation side a b) c ≡ concatenation side a (concatenation side b c)
 concatenation-assoc Prefix a b c = append_assoc a b c

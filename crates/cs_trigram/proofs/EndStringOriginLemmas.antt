@@ -8,11 +8,11 @@ use Rattle.cs_syntax.specs.Matching.{Tree, Trees, alt, rep, none, more}
 use Rattle.cs_trigram.specs.ExactStrings.{IsRepeated}
 use Rattle.cs_trigram.specs.MayMatch.{MayMatch, MayMatchSequence, MayMatchBranch}
 use Rattle.cs_trigram.specs.Analysis.{AreExactStrings}
-use Rattle.cs_trigram.specs.EndStrings.{concatenation, HasEndString, HasSomeEndString, Subsumes, AreUnion, IsConcatenation, AreConcatenations, with_end_strings, any_end, empty_end, IsEndStringOf, AreEndStrings, AreEndStringsOfAll, AreEndStringsOfSome}
+use Rattle.cs_trigram.specs.EndStrings.{concatenation, HasEndString, HasSomeEndString, Subsumes, AreUnion, IsConcatenation, AreConcatenations, with_end_strings, IsEndStringOf, AreEndStrings, AreEndStringsOfAll, AreEndStringsOfSome}
 use Rattle.cs_trigram.specs.declared.end_strings.Side.{Side}
 use Rattle.cs_trigram.specs.declared.end_strings.Side.TheVariants.{Prefix, Suffix}
 use Rattle.cs_trigram.specs.declared.end_strings.EndString.{EndString}
-use Rattle.cs_trigram.proofs.EndStringLemmas.{concatenation-assoc, concatenation-none, any_has, end_strings_none, end_strings_before, iteration_more, iterations_any}
+use Rattle.cs_trigram.proofs.EndStringLemmas.{concatenation-assoc, concatenation-none, any_has, end_strings_none, end_strings_before, iteration_more, iterations_any, any_end, empty_end}
 use Rattle.cs_trigram.proofs.TruncationLemmas.{none_contained, only_contained, with_end_strings_has, with_end_strings_contains, whole_end, wholes_have, contained_in_wholes}
 use Rattle.cs_trigram.proofs.ExactStringLemmas.{match_is_exact}
 use Rattle.cs_trigram.proofs.MayMatchLemmas.{exact_may_match, repeated_text, repeated_empty, repeated_both, some_empty, text_of, text_of_all, branches_have_members}

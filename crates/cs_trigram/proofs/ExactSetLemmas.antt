@@ -9,7 +9,7 @@ use Rattle.std.proofs.lemmas.Bool.{and_from, le-leb, both_ways}
 use Rattle.std.specs.Prelude.{Some, nat_le, nat_eq}
 use Rattle.cs_syntax.specs.Matching.{Tree, Trees, cat, alt, rep, empty, none, more}
 use Rattle.cs_trigram.specs.ExactStrings.{HaveFewExactStrings, IsRepeated, is_finite, are_finite, HasExactString, ConcatenatesExactStrings, SomeHasExactString}
-use Rattle.cs_trigram.specs.Analysis.{with_strings, concatenations, IsEnumeration, EnumeratesTree, EnumeratesRun, EnumeratesAlternation}
+use Rattle.cs_trigram.specs.Analysis.{with_strings, concatenations, IsEnumeration, EnumeratesTree}
 use Rattle.cs_trigram.specs.ExactSet.{HasMany, HasNoString, HasAString, TellsEmpty, IsExactSetOf, AreExactSetsOf, AreExactSetsReversed}
 use Rattle.cs_trigram.specs.declared.exact_set.ExactSet.{ExactSet}
 use Rattle.cs_trigram.specs.declared.exact_set.ExactSet.TheVariants.{Strings, Many, Infinite}
@@ -17,7 +17,7 @@ use Rattle.cs_trigram.proofs.MemberLemmas.{first_member, only_member, no_member,
 use Rattle.cs_trigram.proofs.EnumerationLemmas.{enumeration_same}
 use Rattle.cs_trigram.specs.declared.exact_string.ExactString.{ExactString}
 use Rattle.cs_trigram.proofs.RepeatLemmas.{longer_iterations, iterations_longer}
-use Rattle.cs_trigram.proofs.LeadingRunLemmas.{concatenates_one, exact_of_one, run_step, alternation_step, tree_not_finite}
+use Rattle.cs_trigram.proofs.LeadingRunLemmas.{concatenates_one, exact_of_one, run_step, alternation_step, tree_not_finite, EnumeratesRun, EnumeratesAlternation}
 
 abbrev pub pair : Tree → Tree → Trees
 pair t u = more t (more u none)

@@ -7,12 +7,12 @@ use Rattle.std.proofs.lemmas.List.{take-append-drop, length-take}
 use Rattle.std.proofs.lemmas.List.Elements.{Contains-push_cases, Contains-append_left, Contains-append_right, Contains-append_cases}
 use Rattle.std.proofs.lemmas.Slice.Eq.{bytes_eq-Decides}
 use Rattle.cs_tree.specs.Cover.{is_among}
-use Rattle.cs_trigram.specs.EndStrings.{concatenation, near_part, HasEndString, HasSomeEndString, Subsumes, subsumes, with_end_string, with_end_strings, truncated, end_of_two, joined, all_joined, EachSubsumes, AreCoarser, AreUnion, IsConcatenation, AreConcatenations, any_end}
+use Rattle.cs_trigram.specs.EndStrings.{concatenation, near_part, HasEndString, HasSomeEndString, Subsumes, subsumes, with_end_string, with_end_strings, truncated, end_of_two, joined, EachSubsumes, AreCoarser, AreUnion, IsConcatenation, AreConcatenations}
 use Rattle.cs_trigram.specs.declared.end_strings.Side.{Side}
 use Rattle.cs_trigram.specs.declared.end_strings.Side.TheVariants.{Prefix, Suffix}
 use Rattle.cs_trigram.specs.declared.end_strings.EndString.{EndString}
 use Rattle.cs_trigram.proofs.MemberLemmas.{no_member, first_member, later_member, member_cases}
-use Rattle.cs_trigram.proofs.EndStringLemmas.{concatenation-assoc, concatenation-none, any_has, fits_whole}
+use Rattle.cs_trigram.proofs.EndStringLemmas.{concatenation-assoc, concatenation-none, any_has, fits_whole, any_end}
 
 -- ---- members
 
@@ -232,6 +232,11 @@ module _ (side : Side) (n : ℕ) (near : EndString) where
           subst (λ (z : EndString). IsConcatenation side near fars z) y.2
           (inr (y.0, y.1, two_has is y.0, omega (arith, le, near_short side n (concatenation side near.string y.0.string))))
       by false is m = subst (λ (z : EndString). IsConcatenation side near fars z) (only_contained (truncated side n near) x m) (inl (open_has is))
+
+-- the same for each of several near ones
+abbrev pub all_joined : Side → ℕ → List EndString → List EndString → List EndString
+all_joined side n [] fars = []
+all_joined side n (near ∷ nears) fars = joined side n near fars ++ all_joined side n nears fars
 
 module _ (side : Side) (n : ℕ) (fars : List EndString) where
   all_joined_has : (nears : List EndString) (u v : List ℕ) → HasSomeEndString side nears u → HasSomeEndString side fars v → HasSomeEndString side (all_joined side n nears fars) (concatenation side u v)

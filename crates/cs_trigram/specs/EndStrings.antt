@@ -56,7 +56,10 @@ with_end_strings end_strings (x ∷ xs) = with_end_strings (with_end_string end_
 -- the end string truncated to n bytes
 abbrev pub truncated : Side → ℕ → EndString → EndString
 truncated side n end_string =
-    record { string = near_part side n end_string.string; whole = end_string.whole && nat_le (length end_string.string) n }
+    record {
+      string = near_part side n end_string.string;
+      whole = end_string.whole && nat_le (length end_string.string) n;
+    }
 
 -- the end string of a near text that is the first one and a far text with the second, truncated to n bytes
 abbrev pub end_of_two : Side → ℕ → EndString → EndString → EndString
@@ -67,10 +70,6 @@ end_of_two side n near far =
 abbrev pub joined : Side → ℕ → EndString → List EndString → List EndString
 joined side n near fars =
     if near.whole then map (end_of_two side n near) fars else truncated side n near ∷ []
-
-abbrev pub all_joined : Side → ℕ → List EndString → List EndString → List EndString
-all_joined side n [] fars = []
-all_joined side n (near ∷ nears) fars = joined side n near fars ++ all_joined side n nears fars
 
 -- each of these end strings subsumes one of the others
 abbrev pub EachSubsumes : Side → List EndString → List EndString → Type 0
@@ -104,20 +103,12 @@ pub record AreConcatenations (side : Side) (nears fars end_strings : List EndStr
   pub each : (x : EndString) → Contains end_strings x →
       (near : EndString) × Contains nears near × IsConcatenation side near fars x
 
--- the end string of every text, and that of the empty text
-abbrev pub any_end : EndString
-any_end = record { string = []; whole = false }
-
-abbrev pub empty_end : EndString
-empty_end = record { string = []; whole = true }
-
--- A text with the property begins or ends with the near text, and is equal to it if it has less than three bytes.
-abbrev pub IsNearPart : Side → (List ℕ → Type 0) → List ℕ → Type 0
-IsNearPart side P near = (rest : List ℕ) × P (concatenation side near rest) × (length near < 3 → rest ≡ [])
-
--- the end string is one of a near text of a text with the property
+-- The end string is one of a near text of a text with the property, which is equal to the near text if this has
+-- less than three bytes.
 abbrev pub IsEndStringOf : Side → (List ℕ → Type 0) → EndString → Type 0
-IsEndStringOf side P end_string = (near : List ℕ) × IsNearPart side P near × HasEndString side end_string near
+IsEndStringOf side P end_string =
+    (near : List ℕ) × ((rest : List ℕ) × P (concatenation side near rest) × (length near < 3 → rest ≡ []))
+    × HasEndString side end_string near
 
 -- Each match has one of the end strings. If A holds, each end string is one of a text with the property.
 pub record AreEndStringsOf (side : Side) (end_strings : List EndString) (Matches : List ℕ → ℕ → ℕ → Type 0)
@@ -138,12 +129,3 @@ AreEndStringsOfAll side end_strings ts =
 abbrev pub AreEndStringsOfSome : Side → List EndString → Trees → Type 0
 AreEndStringsOfSome side end_strings ts =
     AreEndStringsOf side end_strings (λ s. MatchesBranch s ts) (HaveMembers ts) (MayMatchBranch ts)
-
--- the same for at least `least` iterations of the tree
-abbrev pub AreEndStringsOfRepeat : Side → List EndString → Tree → ℕ → Type 0
-AreEndStringsOfRepeat side end_strings t least =
-    (most : Option ℕ) → AreEndStrings side end_strings (rep t least most)
-
--- the string occurs in the text
-abbrev pub OccursIn : List ℕ → List ℕ → Type 0
-OccursIn string text = (before after : List ℕ) × (text ≡ before ++ (string ++ after))

@@ -2,11 +2,11 @@
 // truncation (`cross`, `union` and `simplifySet` in Go's codesearch). An end string is a prefix or
 // a suffix, depending on the side. Of two adjacent strings, the *near* one is at that side of both:
 // the first one for prefixes, the last one for suffixes.
-ghost use Rattle.std.specs.Prelude.{Contains, ◌≡◌, ◌≤◌, [], ◌∷◌, length, IfOk, MatchOption, OnOk};
+ghost use Rattle.std.specs.Prelude.{Contains, ◌≡◌, ◌≤◌, [], ◌∷◌, length, IfOk, MatchOption, OnOk, Option, ℕ};
 ghost use Rattle.std.specs.List.{list_any};
-ghost use Rattle.cs_syntax.specs.Matching.{Tree};
+ghost use Rattle.cs_syntax.specs.Matching.{Tree, rep};
 ghost use Rattle.cs_trigram.specs.Analysis.{AreExactStrings};
-ghost use Rattle.cs_trigram.specs.EndStrings.{AreEndStringsOfRepeat, concatenation, near_part, are_all_empty, subsumes, AreUnion, AreCoarser, AreConcatenations, AreEndStrings, truncated, with_end_string, with_end_strings, joined};
+ghost use Rattle.cs_trigram.specs.EndStrings.{concatenation, near_part, are_all_empty, subsumes, AreUnion, AreCoarser, AreConcatenations, AreEndStrings, truncated, with_end_string, with_end_strings, joined};
 
 use crate::exact_string::ExactString;
 use std::alloc::{AllocError, Global};
@@ -273,7 +273,7 @@ pub(crate) fn end_strings_of_repeat(
     least: u32,
 ) -> Result<Vec<EndString>, AllocError>
     ensures { IfOk result (λ end_strings. (t : Tree) → AreEndStrings side once.now t →
-        AreEndStringsOfRepeat side end_strings.items t least) }
+        (most : Option ℕ) → AreEndStrings side end_strings.items (rep t least most)) }
 {
     let begun = concatenate_end_strings(alloc, side, once, &bare_end_string(alloc, false)?)?;
     let mut end_strings = union_of_end_strings(alloc, side, begun, &bare_end_string(alloc, true)?)?;

@@ -1,8 +1,8 @@
 // The exact sets of character classes and repeats, by expansion.
-ghost use Rattle.std.specs.Prelude.{◌≡◌, ◌≤◌, ◌+◌, [], ◌∷◌, IfOk, OnOk, Some, ℕ, true};
-ghost use Rattle.cs_syntax.specs.Matching.{Tree, one_of, one_char, rep};
+ghost use Rattle.std.specs.Prelude.{◌≡◌, ◌≤◌, ◌+◌, [], ◌∷◌, if◌then◌else◌, IfOk, OnOk, Some, ℕ, true};
+ghost use Rattle.cs_syntax.specs.Matching.{Tree, member, one_of, one_char, rep};
 ghost use Rattle.cs_trigram.specs.ExactStrings.{is_finite, HasExactString};
-ghost use Rattle.cs_trigram.specs.Analysis.{with_byte_string, with_strings, IsEnumeration};
+ghost use Rattle.cs_trigram.specs.Analysis.{with_string, with_strings, IsEnumeration};
 ghost use Rattle.cs_trigram.specs.CharStrings.{range_forms, with_form};
 ghost use Rattle.cs_syntax.specs.CharRanges.{IsCharRange};
 ghost use Rattle.cs_trigram.specs.ExactSet.{IsExactSetOf};
@@ -28,7 +28,8 @@ fn add_byte(
     byte: u8,
     strings: &mut Vec<ExactString>,
 ) -> Result<(), AllocError>
-    ensures { OnOk result (strings.new.items ≡ with_byte_string strings.old.items set.now byte) }
+    ensures { OnOk result (strings.new.items ≡
+        (if member set.now byte then with_string strings.old.items (byte ∷ []) else strings.old.items)) }
 {
     if set.contains(byte) {
         add_string(strings, ExactString::of(alloc, &[byte])?)?;

@@ -1,10 +1,10 @@
 use Rattle.std.proofs.Common.{◌+◌, List, drop, sym, ap, ◌∙◌, subst, arith, drop_of_length-le, get_or}
 use Rattle.std.specs.Prelude.{Contains}
 use Rattle.std.proofs.lemmas.List.Elements.{Contains-get_or}
-use Rattle.cs_trigram.specs.EndStrings.{AreConcatenations, with_end_strings, joined, all_joined}
+use Rattle.cs_trigram.specs.EndStrings.{AreConcatenations, with_end_strings, joined}
 use Rattle.cs_trigram.specs.declared.end_strings.EndString.{EndString}
 use Rattle.cs_trigram.proofs.EndStringLemmas.{item_from}
-use Rattle.cs_trigram.proofs.TruncationLemmas.{with_end_strings_append, joined_concatenations}
+use Rattle.cs_trigram.proofs.TruncationLemmas.{with_end_strings_append, joined_concatenations, all_joined}
 use Rattle.cs_trigram.proofs.end_strings.few_concatenations.Goals as goal
 
 pub loop-near-preserved : goal.loop-near-preserved

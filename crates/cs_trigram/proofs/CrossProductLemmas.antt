@@ -9,7 +9,8 @@ use Rattle.cs_trigram.specs.SequenceQuery.{IsAcross, pairs}
 use Rattle.std.specs.Prelude.{Contains, slice_range}
 use Rattle.std.proofs.lemmas.List.Elements.{Contains-append_left, Contains-append_right, Contains-push}
 use Rattle.std.proofs.lemmas.List.Folds.{list_any-append}
-use Rattle.cs_trigram.specs.EndStrings.{HasEndString, HasSomeEndString, AreCoarser, OccursIn}
+use Rattle.cs_trigram.specs.EndStrings.{HasEndString, HasSomeEndString, AreCoarser}
+use Rattle.cs_trigram.proofs.MayMatchLemmas.{OccursIn}
 use Rattle.cs_trigram.specs.declared.end_strings.Side.{Side}
 use Rattle.cs_trigram.specs.declared.end_strings.Side.TheVariants.{Prefix, Suffix}
 use Rattle.cs_trigram.specs.declared.end_strings.EndString.{EndString}

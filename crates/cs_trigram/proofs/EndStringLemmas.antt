@@ -4,11 +4,18 @@ use Rattle.std.specs.Prelude.{None, slice_range}
 use Rattle.std.proofs.lemmas.Bool.{false≢true}
 use Rattle.std.proofs.lemmas.List.{append-nil, take-append-drop}
 use Rattle.cs_syntax.specs.Matching.{Tree, Trees, empty, one_of, one_char, cat, alt, rep, line_start, line_end, word_edge, not_word_edge, none, more, Chain, MatchesSpan, MatchesSequence, MatchesBranch}
-use Rattle.cs_trigram.specs.EndStrings.{concatenation, near_part, HasEndString, HasSomeEndString, IsEndStringOfText}
+use Rattle.cs_trigram.specs.EndStrings.{concatenation, HasEndString, HasSomeEndString}
 use Rattle.cs_trigram.specs.declared.end_strings.Side.{Side}
 use Rattle.cs_trigram.specs.declared.end_strings.Side.TheVariants.{Prefix, Suffix}
 use Rattle.cs_trigram.specs.declared.end_strings.EndString.{EndString}
 use Rattle.cs_trigram.proofs.ExactStringLemmas.{part_split, part_empty}
+
+-- the end string of every text, and that of the empty text
+abbrev pub any_end : EndString
+any_end = record { string = []; whole = false }
+
+abbrev pub empty_end : EndString
+empty_end = record { string = []; whole = true }
 
 pub concatenation-assoc : (side : Side) (a b c : List ℕ) → concatenation side (concatenation side a b) c ≡ concatenation side a (concatenation side b c)
 concatenation-assoc Prefix a b c = append_assoc a b c
@@ -22,35 +29,15 @@ pub none_concatenation : (side : Side) (a : List ℕ) → concatenation side [] 
 none_concatenation Prefix a = refl
 none_concatenation Suffix a = append-nil a
 
--- one more end string
-pub fits_push : (side : Side) (end_strings : List EndString) (end_string : EndString) (text : List ℕ) → HasEndString side end_string text ⊎ HasSomeEndString side end_strings text → HasSomeEndString side (end_strings ++ end_string ∷ []) text
-fits_push side [] end_string text h = h
-fits_push side (e ∷ end_strings) end_string text h =
-    elim h [
-      | inl a ↦ inr (fits_push side end_strings end_string text (inl a))
-      | inr b ↦ elim b [ inl c ↦ inl c | inr d ↦ inr (fits_push side end_strings end_string text (inr d)) ]
-    ]
-
 -- the end strings from an index on
 pub item_from : (end_strings : List EndString) (i : ℕ) (item : EndString) → i < length end_strings → item ≡ get_or end_strings i item → drop i end_strings ≡ item ∷ drop (i + 1) end_strings
 item_from end_strings i item lt is =
     let next : suc i ≡ i + 1 = omega arith in
     drop-cons end_strings i item lt ∙ ap (λ (e : EndString). e ∷ drop (suc i) end_strings) (sym is) ∙ ap (λ n. item ∷ drop n end_strings) next
 
-pub fits_from : (side : Side) (end_strings : List EndString) (i : ℕ) (item : EndString) (text : List ℕ) → i < length end_strings → item ≡ get_or end_strings i item →
-    HasSomeEndString side (drop i end_strings) text → HasEndString side item text ⊎ HasSomeEndString side (drop (i + 1) end_strings) text
-fits_from side end_strings i item text lt is h = subst (λ (es : List EndString). HasSomeEndString side es text) (item_from end_strings i item lt is) h
-
-pub fits_at : (side : Side) (end_strings : List EndString) (i : ℕ) (item : EndString) (text : List ℕ) → i < length end_strings → item ≡ get_or end_strings i item →
-    HasEndString side item text → HasSomeEndString side end_strings text
-fits_at side [] i item text lt is h = absurd (omega arith)
-fits_at side (e ∷ end_strings) zero item text lt is h = inl (subst (λ (x : EndString). HasEndString side x text) is h)
-fits_at side (e ∷ end_strings) (suc i) item text lt is h = inr (fits_at side end_strings i item text (omega arith) is h)
-
--- the end string of every text, and that of the empty text
-pub fits_any : (side : Side) (end_string : EndString) (text : List ℕ) → end_string.string ≡ [] → end_string.whole ≡ false → HasSomeEndString side (end_string ∷ []) text
-fits_any side end_string text string loose =
-    inl (text, sym (none_concatenation side text) ∙ ap (λ (x : List ℕ). concatenation side x text) (sym string), λ e. let odd : false ≡ true = sym loose ∙ e in (cc))
+-- each text has the end string of every text
+pub any_has : (side : Side) (text : List ℕ) → HasEndString side any_end text
+any_has side text = (text, sym (none_concatenation side text), λ odd. absurd (false≢true odd))
 
 pub fits_whole : (side : Side) (end_string : EndString) (text : List ℕ) → text ≡ end_string.string → HasEndString side end_string text
 fits_whole side end_string text e = ([], e ∙ sym (concatenation-none side end_string.string), λ w. refl)
@@ -130,40 +117,3 @@ iterations_any side some end_strings t none_fits keep a s i j h = by h.0 h.3
     by : (k : ℕ) → Chain (MatchesSpan s t) k i j → HasSomeEndString side end_strings (slice_range s i j)
     by zero c = subst (HasSomeEndString side end_strings) (sym (part_empty s i) ∙ ap (slice_range s i) c) none_fits
     by (suc k) c = keep (slice_range s i j) (a s i j (suc k, omega arith, tt, c))
-
--- a text that has an end string of a list has one of an equal list
-pub fits_via : (side : Side) (xs ys : List EndString) (text : List ℕ) → ys ≡ xs → HasSomeEndString side xs text → HasSomeEndString side ys text
-fits_via side xs ys text e h = subst (λ (es : List EndString). HasSomeEndString side es text) (sym e) h
-
--- no end string is left after the last
-pub fits_end : (side : Side) (end_strings : List EndString) (i : ℕ) (text : List ℕ) → length end_strings ≤ i → HasSomeEndString side (drop i end_strings) text → ⊥
-fits_end side end_strings i text le h = subst (λ (es : List EndString). HasSomeEndString side es text) (drop_of_length-le end_strings {i = i} le) h
-
--- the rest of a truncated string
-abbrev pub far_part : Side → ℕ → List ℕ → List ℕ
-far_part Prefix n text = drop n text
-far_part Suffix n text = take (length text - n) text
-
-pub near_far : (side : Side) (n : ℕ) (text : List ℕ) → text ≡ concatenation side (near_part side n text) (far_part side n text)
-near_far Prefix n text = sym (take-append-drop n text)
-near_far Suffix n text = sym (take-append-drop (length text - n) text)
-
--- the end string of a text: of the text itself, of texts with another end string, and of concatenations
-module _ (side : Side) (e : EndString) where
-  pub of_itself : (text : List ℕ) → IsEndStringOfText side text true e → HasEndString side e text
-  of_itself text of = subst (HasEndString side e) (concatenation-none side text) (of [] (λ _. refl))
-
-  pub of_end_string : (old : EndString) → IsEndStringOfText side old.string old.whole e → (text : List ℕ) → HasEndString side old text → HasEndString side e text
-  of_end_string old of text a = subst (HasEndString side e) (sym a.1) (of a.0 a.2)
-
-  pub of_open : (near : EndString) → IsEndStringOfText side near.string false e → (u v : List ℕ) → HasEndString side near u → HasEndString side e (concatenation side u v)
-  of_open near of u v a =
-      subst (HasEndString side e) (sym (ap (λ (x : List ℕ). concatenation side x v) a.1 ∙ concatenation-assoc side near.string a.0 v)) (of (concatenation side a.0 v) (λ odd. absurd (false≢true odd)))
-
-  pub of_two : (near far : EndString) (string : List ℕ) → string ≡ concatenation side near.string far.string → near.whole ≡ true → IsEndStringOfText side string far.whole e →
-      (u v : List ℕ) → HasEndString side near u → HasEndString side far v → HasEndString side e (concatenation side u v)
-  of_two near far string is whole of u v a b =
-      let same : u ≡ near.string = a.1 ∙ ap (concatenation side near.string) (a.2 whole) ∙ concatenation-none side near.string in
-      let all : concatenation side u v ≡ concatenation side string b.0 =
-      ap (λ (x : List ℕ). concatenation side x v) same ∙ ap (concatenation side near.string) b.1 ∙ sym (concatenation-assoc side near.string far.string b.0) ∙ ap (λ (x : List ℕ). concatenation side x b.0) (sym is) in
-      subst (HasEndString side e) (sym all) (of b.0 b.2)

@@ -1,5 +1,5 @@
 -- Each end string of a tree is one of a text that the tree may match.
-use Rattle.std.proofs.Common.{◌≡◌, ℕ, suc, ◌+◌, ◌≤◌, ◌⊎◌, List, [], ◌∷◌, ◌++◌, length, refl, sym, ◌∙◌, ap, subst, inl, inr, arith, append_assoc, length-append}
+use Rattle.std.proofs.Common.{◌≡◌, ℕ, suc, ◌+◌, ◌≤◌, ◌⊎◌, List, [], ◌∷◌, ◌++◌, length, map, refl, sym, ◌∙◌, ap, subst, inl, inr, arith, append_assoc, length-append}
 use Rattle.std.specs.Prelude.{Contains, Option, None, slice_range}
 use Rattle.std.proofs.lemmas.Bool.{cases_lt}
 use Rattle.std.proofs.lemmas.List.{append-nil}
@@ -7,13 +7,15 @@ use Rattle.std.proofs.lemmas.List.Elements.{Contains-append_cases}
 use Rattle.cs_syntax.specs.Matching.{Tree, Trees, alt, rep, none, more}
 use Rattle.cs_trigram.specs.ExactStrings.{IsRepeated}
 use Rattle.cs_trigram.specs.MayMatch.{MayMatch, MayMatchSequence, MayMatchBranch}
-use Rattle.cs_trigram.specs.EndStrings.{concatenation, HasEndString, HasSomeEndString, Subsumes, EachSubsumes, IsConcatenation, AreConcatenations, any_end, empty_end, IsEndStringOf, AreEndStrings, AreEndStringsOfAll, AreEndStringsOfSome}
+use Rattle.cs_trigram.specs.Analysis.{AreExactStrings}
+use Rattle.cs_trigram.specs.EndStrings.{concatenation, HasEndString, HasSomeEndString, Subsumes, AreUnion, IsConcatenation, AreConcatenations, with_end_strings, IsEndStringOf, AreEndStrings, AreEndStringsOfAll, AreEndStringsOfSome}
 use Rattle.cs_trigram.specs.declared.end_strings.Side.{Side}
 use Rattle.cs_trigram.specs.declared.end_strings.Side.TheVariants.{Prefix, Suffix}
 use Rattle.cs_trigram.specs.declared.end_strings.EndString.{EndString}
-use Rattle.cs_trigram.proofs.EndStringLemmas.{concatenation-assoc, concatenation-none, fits_any, end_strings_none, end_strings_before, iteration_more, iterations_any}
-use Rattle.cs_trigram.proofs.TruncationLemmas.{only_contained, any_has}
-use Rattle.cs_trigram.proofs.MayMatchLemmas.{repeated_text, repeated_empty, repeated_both, some_empty, text_of, text_of_all, branches_have_members}
+use Rattle.cs_trigram.proofs.EndStringLemmas.{concatenation-assoc, concatenation-none, any_has, end_strings_none, end_strings_before, iteration_more, iterations_any, any_end, empty_end}
+use Rattle.cs_trigram.proofs.TruncationLemmas.{none_contained, only_contained, with_end_strings_has, with_end_strings_contains, whole_end, wholes_have, contained_in_wholes}
+use Rattle.cs_trigram.proofs.ExactStringLemmas.{match_is_exact}
+use Rattle.cs_trigram.proofs.MayMatchLemmas.{exact_may_match, repeated_text, repeated_empty, repeated_both, some_empty, text_of, text_of_all, branches_have_members}
 
 -- ---- origins
 
@@ -91,11 +93,26 @@ module _ (side : Side) (P Q R : List ℕ → Type 0) (both : (u v : List ℕ) �
 -- ---- any text, and no text
 
 pub any_end_strings : (side : Side) (end_strings : List EndString) (t : Tree) → end_strings ≡ any_end ∷ [] → AreEndStrings side end_strings t
-any_end_strings side end_strings t is = record {
-  matching = λ s i j h. subst (λ (es : List EndString). HasSomeEndString side es (slice_range s i j)) (sym is) (fits_any side any_end (slice_range s i j) refl refl);
+any_end_strings side end_strings t is = subst (λ (es : List EndString). AreEndStrings side es t) (sym is) (record {
+  matching = λ s i j h. inl (any_has side (slice_range s i j));
   each = λ h x m.
       let some = text_of t h in
-      origin_whole side (MayMatch t) x some.0 some.1 (any_has side x some.0 (only_contained any_end x (subst (λ (es : List EndString). Contains es x) is m)));
+      origin_whole side (MayMatch t) x some.0 some.1 (subst (λ (y : EndString). HasEndString side y some.0) (only_contained any_end x m) (any_has side some.0));
+})
+
+-- the end strings of exact strings
+pub end_strings_of_exact : (side : Side) (texts : List (List ℕ)) (t : Tree) → AreExactStrings texts t → AreEndStrings side (with_end_strings [] (map (whole_end side) texts)) t
+end_strings_of_exact side texts t exact = record {
+  matching = λ s i j h.
+      let text = slice_range s i j in
+      with_end_strings_has side [] (map (whole_end side) texts) text (inr (wholes_have side texts text ((exact.1.each text).0 (match_is_exact s t i j exact.0 h).1)));
+  each = λ h x m.
+      elim (with_end_strings_contains [] (map (whole_end side) texts) x m) [
+        | inl bare ↦ absurd (none_contained x bare)
+        | inr there ↦
+            let w = contained_in_wholes side texts x there in
+            origin_whole side (MayMatch t) x w.0 (exact_may_match t w.0 ((exact.1.each w.0).1 w.1)) w.2
+      ];
 }
 
 -- the end strings of the empty text
@@ -132,12 +149,11 @@ module _ (nears fars end_strings : List EndString) (t : Tree) (ts : Trees) where
   }
 
 pub end_strings_of_branches : (side : Side) (others these both : List EndString) (t : Tree) (ts : Trees) →
-    ((text : List ℕ) → HasSomeEndString side others text ⊎ HasSomeEndString side these text → HasSomeEndString side both text) → EachSubsumes side both (others ++ these) →
-    AreEndStrings side these t → AreEndStringsOfSome side others ts → AreEndStringsOfSome side both (more t ts)
-end_strings_of_branches side others these both t ts all each a b = record {
-  matching = λ s i j h. elim h [ inl x ↦ all (slice_range s i j) (inr (a.matching s i j x)) | inr y ↦ all (slice_range s i j) (inl (b.matching s i j y)) ];
+    AreUnion side others these both → AreEndStrings side these t → AreEndStringsOfSome side others ts → AreEndStringsOfSome side both (more t ts)
+end_strings_of_branches side others these both t ts union a b = record {
+  matching = λ s i j h. union.all (slice_range s i j) (elim h [ inl x ↦ inr (a.matching s i j x) | inr y ↦ inl (b.matching s i j y) ]);
   each = λ h x m.
-      let y = each x m in
+      let y = union.each x m in
       origin_subsuming side (MayMatchBranch (more t ts)) x y.0 y.2
       (elim (Contains-append_cases others these y.0 y.1) [
         | inl o ↦ origin_as side (MayMatchBranch ts) (MayMatchBranch (more t ts)) y.0 (λ w p. inr p) (b.each h.1 y.0 o)
@@ -166,12 +182,11 @@ end_strings_of_iteration side once fars end_strings t n c a b = record {
 
 -- any number of iterations: none, or at least one
 pub end_strings_of_any_iterations : (side : Side) (some empty both : List EndString) (t : Tree) → empty ≡ empty_end ∷ [] →
-    ((text : List ℕ) → HasSomeEndString side some text ⊎ HasSomeEndString side empty text → HasSomeEndString side both text) → EachSubsumes side both (some ++ empty) →
-    AreEndStrings side some (rep t 1 None) → AreEndStrings side both (rep t 0 None)
-end_strings_of_any_iterations side some empty both t is all each a = record {
-  matching = iterations_any side some both t (all [] (inr (subst (λ (es : List EndString). HasSomeEndString side es []) (sym is) (inl (empty_has side))))) (λ text h. all text (inl h)) a.matching;
+    AreUnion side some empty both → AreEndStrings side some (rep t 1 None) → AreEndStrings side both (rep t 0 None)
+end_strings_of_any_iterations side some empty both t is union a = record {
+  matching = iterations_any side some both t (union.all [] (inr (subst (λ (es : List EndString). HasSomeEndString side es []) (sym is) (inl (empty_has side))))) (λ text h. union.all text (inl h)) a.matching;
   each = λ h x m.
-      let y = each x m in
+      let y = union.each x m in
       origin_subsuming side (MayMatch (rep t 0 None)) x y.0 y.2
       (elim (Contains-append_cases some empty y.0 y.1) [
         | inl o ↦ origin_as side (MayMatch (rep t 1 None)) (MayMatch (rep t 0 None)) y.0 (λ w p. (p.0, omega arith, p.2)) (a.each h y.0 o)

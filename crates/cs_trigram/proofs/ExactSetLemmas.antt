@@ -2,14 +2,14 @@
 use Rattle.std.proofs.Math.Bool.{and-true}
 use Rattle.std.proofs.Math.Dec.{eqb-suc-zero}
 use Rattle.std.proofs.Math.Seq.{take-suc}
-use Rattle.std.proofs.Common.{get_or, take, reverse, ◌≡◌, ℕ, zero, suc, ◌+◌, ◌<◌, ◌≤◌, ◌&&◌, ◌⊎◌, inl, inr, true, map, List, [], ◌∷◌, length, refl, sym, ◌∙◌, ap, subst, arith, Vec, Global, ◌++◌}
+use Rattle.std.proofs.Common.{get_or, take, reverse, ◌≡◌, ℕ, zero, suc, ◌+◌, ◌-◌, ◌<◌, ◌≤◌, ◌&&◌, ◌⊎◌, inl, inr, true, map, List, [], ◌∷◌, length, refl, sym, ◌∙◌, ap, subst, arith, Vec, Global, ◌++◌}
 use Rattle.std.proofs.lemmas.List.{reverse-append, append_cancel_left, append_cancel_right, length-map}
 use Rattle.cs_tree.specs.Cover.{is_among}
 use Rattle.std.proofs.lemmas.Bool.{and_from, le-leb, both_ways}
 use Rattle.std.specs.Prelude.{Some, nat_le, nat_eq}
 use Rattle.cs_syntax.specs.Matching.{Tree, Trees, cat, alt, rep, empty, none, more}
 use Rattle.cs_trigram.specs.ExactStrings.{HaveFewExactStrings, IsRepeated, is_finite, are_finite, HasExactString, ConcatenatesExactStrings, SomeHasExactString}
-use Rattle.cs_trigram.specs.Analysis.{with_strings, concatenations, IsEnumeration, EnumeratesTree, EnumeratesRun, EnumeratesAlternation}
+use Rattle.cs_trigram.specs.Analysis.{with_strings, concatenations, IsEnumeration, EnumeratesTree}
 use Rattle.cs_trigram.specs.ExactSet.{HasMany, HasNoString, HasAString, TellsEmpty, IsExactSetOf, AreExactSetsOf, AreExactSetsReversed}
 use Rattle.cs_trigram.specs.declared.exact_set.ExactSet.{ExactSet}
 use Rattle.cs_trigram.specs.declared.exact_set.ExactSet.TheVariants.{Strings, Many, Infinite}
@@ -17,7 +17,7 @@ use Rattle.cs_trigram.proofs.MemberLemmas.{first_member, only_member, no_member,
 use Rattle.cs_trigram.proofs.EnumerationLemmas.{enumeration_same}
 use Rattle.cs_trigram.specs.declared.exact_string.ExactString.{ExactString}
 use Rattle.cs_trigram.proofs.RepeatLemmas.{longer_iterations, iterations_longer}
-use Rattle.cs_trigram.proofs.LeadingRunLemmas.{concatenates_one, exact_of_one, run_step, alternation_step, tree_not_finite}
+use Rattle.cs_trigram.proofs.LeadingRunLemmas.{concatenates_one, exact_of_one, run_step, alternation_step, tree_not_finite, EnumeratesRun, EnumeratesAlternation}
 
 abbrev pub pair : Tree → Tree → Trees
 pair t u = more t (more u none)
@@ -170,6 +170,18 @@ exact_set_iterations c t k f h =
     by w (suc n) le q =
         let l = iterations_longer (HasExactString t) 0 k w (suc n) (omega arith) le q in
         inl (l.0, l.1, l.2, concatenates_one (rep t 0 (Some k)) l.1 l.3, l.4)
+
+-- one more of i iterations, at most o of them optional
+pub required_iteration : (c : ExactSet) (t : Tree) (i o : ℕ) → is_finite t ≡ true → o ≤ i → IsExactSetOf c (cat (pair t (rep t (i - o) (Some i)))) → IsExactSetOf c (rep t (i + 1 - o) (Some (i + 1)))
+required_iteration c t i o f le h =
+    let next : i - o + 1 ≡ i + 1 - o = omega arith in
+    subst (λ n. IsExactSetOf c (rep t n (Some (i + 1)))) next (exact_set_iteration c t (i - o) i f (omega arith) h)
+
+pub optional_iteration : (c : ExactSet) (t : Tree) (i o : ℕ) → is_finite t ≡ true → i < o → IsExactSetOf c (alt (pair (cat (pair t (rep t (i - o) (Some i)))) empty)) → IsExactSetOf c (rep t (i + 1 - o) (Some (i + 1)))
+optional_iteration c t i o f lt h =
+    let before : i - o ≡ 0 = omega arith in
+    let after : 0 ≡ i + 1 - o = omega arith in
+    subst (λ n. IsExactSetOf c (rep t n (Some (i + 1)))) after (exact_set_iterations c t i f (subst (λ n. IsExactSetOf c (alt (pair (cat (pair t (rep t n (Some i)))) empty))) before h))
 
 -- an exact set that does not have few strings
 pub exact_set_not_few : (c : ExactSet) (t : Tree) → IsExactSetOf c t → ((strings : Vec ExactString Global) → c ≡ Strings strings → length strings.items ≡ 0) → HaveFewExactStrings (more t none) → ⊥

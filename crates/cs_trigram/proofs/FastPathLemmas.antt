@@ -8,7 +8,7 @@ use Rattle.cs_trigram.specs.declared.scan.Reason.TheVariants.{Nul, Utf8, TooLong
 use Rattle.cs_trigram.specs.Text.{valid_utf8_pair, last_byte, line_so_far, rule_broken, first_broken}
 use Rattle.std.specs.Option.{option_or}
 use Rattle.cs_trigram.proofs.PositionLemmas.{last_byte-push, length-line-push}
-use Rattle.cs_trigram.specs.FastPath.{IsAsciiByte, AreValidPairs, next_column, column_after, LinesFit}
+use Rattle.cs_trigram.specs.FastPath.{AreValidPairs, next_column, column_after, LinesFit}
 
 next_column_le : (column b : ℕ) → next_column column b ≤ column + 1
 next_column_le column b = elim (eqb b 10) as (λ t. cond t 0 (column + 1) ≤ column + 1) [ true ↦ omega arith | false ↦ omega arith ]
@@ -64,7 +64,7 @@ ascii_pair_valid before b early some low =
     ]
 
 -- ASCII bytes may follow each other
-pub ascii_pairs_valid : (before : ℕ) (bytes : List ℕ) → before < 192 → AllByRecursion IsAsciiByte bytes → AreValidPairs before bytes
+pub ascii_pairs_valid : (before : ℕ) (bytes : List ℕ) → before < 192 → AllByRecursion (λ b. (0 < b) × (b < 128)) bytes → AreValidPairs before bytes
 ascii_pairs_valid before [] early plain = tt
 ascii_pairs_valid before (b ∷ rest) early plain =
     (plain.0.0, ascii_pair_valid before b early plain.0.0 plain.0.1, ascii_pairs_valid b rest (omega (arith, plain.0.1)) plain.1)

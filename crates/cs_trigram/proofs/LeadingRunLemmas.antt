@@ -9,9 +9,16 @@ use Rattle.cs_syntax.specs.Matching.{Tree, Trees, none, more}
 use Rattle.cs_syntax.proofs.TreeListLemmas.{append_assoc_trees}
 use Rattle.cs_tree.specs.Cover.{is_among}
 use Rattle.cs_trigram.specs.ExactStrings.{is_finite, are_finite, HasExactString, ConcatenatesExactStrings, SomeHasExactString, HaveFewExactStrings}
-use Rattle.cs_trigram.specs.Analysis.{with_strings, concatenations, IsEnumeration, AreFewStrings, IsBlocked, IsLongestLeadingRun, EnumeratesTree, EnumeratesRun, EnumeratesAlternation, AreExactStrings, AreExactStringsOfRun}
+use Rattle.cs_trigram.specs.Analysis.{with_strings, concatenations, IsEnumeration, AreFewStrings, IsBlocked, IsLongestLeadingRun, EnumeratesTree, AreExactStrings, AreExactStringsOfRun}
 use Rattle.cs_trigram.proofs.MemberLemmas.{map_member, different_within, no_member, first_member, only_member}
 use Rattle.cs_trigram.proofs.EnumerationLemmas.{enumeration_same, enumeration_strings, enumeration_of_concatenations}
+
+-- the strings enumerate the exact strings of a run, and of an alternation
+abbrev pub EnumeratesRun : List (List ℕ) → Trees → Type 0
+EnumeratesRun strings ts = (are_finite ts ≡ true) × IsEnumeration strings (ConcatenatesExactStrings ts)
+
+abbrev pub EnumeratesAlternation : List (List ℕ) → Trees → Type 0
+EnumeratesAlternation strings ts = (are_finite ts ≡ true) × IsEnumeration strings (SomeHasExactString ts)
 
 pub finite_append : (a b : Trees) → are_finite (append a b) ≡ (are_finite a && are_finite b)
 finite_append none b = refl

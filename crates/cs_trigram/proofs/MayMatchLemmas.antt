@@ -5,8 +5,11 @@ use Rattle.std.proofs.lemmas.List.{append-nil}
 use Rattle.cs_syntax.specs.TreeList.{append}
 use Rattle.cs_syntax.specs.Matching.{Tree, Trees, empty, one_of, one_char, cat, alt, rep, line_start, line_end, word_edge, not_word_edge, none, more}
 use Rattle.cs_trigram.specs.ExactStrings.{IsRepeated, HasExactString, ConcatenatesExactStrings, SomeHasExactString}
-use Rattle.cs_trigram.specs.EndStrings.{OccursIn}
 use Rattle.cs_trigram.specs.MayMatch.{MayMatch, MayMatchSequence, MayMatchBranch, HasMembers, HaveMembers}
+
+-- the string occurs in the text
+abbrev pub OccursIn : List ℕ → List ℕ → Type 0
+OccursIn string text = (before after : List ℕ) × (text ≡ before ++ (string ++ after))
 
 -- ---- repeats
 

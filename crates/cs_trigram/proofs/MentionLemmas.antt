@@ -9,7 +9,7 @@ use Rattle.cs_trigram.specs.Trigram.{trigram, trigram_sequence, tri, has}
 use Rattle.cs_trigram.specs.TrigramSets.{trigram_count}
 use Rattle.cs_trigram.specs.Query.{matches_set, mentions}
 use Rattle.cs_trigram.specs.MayMatch.{IsTrigramOf}
-use Rattle.cs_trigram.specs.EndStrings.{OccursIn}
+use Rattle.cs_trigram.proofs.MayMatchLemmas.{OccursIn}
 use Rattle.cs_trigram.specs.Analysis.{AreTrigramsOf, all_match}
 use Rattle.cs_trigram.specs.declared.queries.Query.{Query}
 use Rattle.cs_trigram.specs.declared.queries.Query.TheVariants.{All, Tri}

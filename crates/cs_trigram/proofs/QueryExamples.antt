@@ -16,7 +16,7 @@ use Rattle.cs_trigram.specs.ExactRuns.{HasExactRuns, IsSelective}
 use Rattle.cs_trigram.specs.declared.queries.Query.TheVariants.{All, Tri}
 use Rattle.cs_trigram.proofs.QueryLemmas.{matches_set-All, matches_set-Tri, mentions-Tri}
 use Rattle.cs_trigram.proofs.LeadingRunLemmas.{concatenates_one, exact_of_one}
-use Rattle.cs_trigram.proofs.ExactRunLemmas.{match_has_exact_runs}
+use Rattle.cs_trigram.proofs.ExactStringLemmas.{exact_match_has_runs}
 
 -- the set of one byte
 abbrev only : ℕ → List Bool
@@ -63,32 +63,13 @@ hello_is_a_run = (
   ),
 )
 
-hello_matches_hello : MatchesSequence hello (letters hello) 0 5
-hello_matches_hello = (
-  1,
-  (omega arith, refl, refl),
-  (
-    2,
-    (omega arith, refl, refl),
-    (
-      3,
-      (omega arith, refl, refl),
-      (
-        4,
-        (omega arith, refl, refl),
-        (5, (omega arith, refl, refl), refl),
-      ),
-    ),
-  ),
-)
-
 trigrams_of_hello : tri hello ≡ 6646892 ∷ 6841708 ∷ 7105647 ∷ []
 trigrams_of_hello = refl
 
 exact_runs_of_hello : (set : ℕ → Bool) → HasExactRuns set (cat (letters hello)) ↔ (list_all set (6646892 ∷ 6841708 ∷ 7105647 ∷ []) ≡ true)
 exact_runs_of_hello set = (
   λ has_run. let has_runs = has_run.1.0 none (letters hello) none refl hello_is_a_run in subst (HasTrigrams set) (concatenates_no_other hello has_runs.0 has_runs.1) has_runs.2,
-  λ known. match_has_exact_runs hello set known (cat (letters hello)) 0 5 hello_matches_hello,
+  λ known. exact_match_has_runs set (cat (letters hello)) hello (concatenates hello) known,
 )
 
 -- ---- `(ab|cd)ef`: a query that requires nothing is not selective
@@ -127,24 +108,13 @@ requiring_nothing_is_not_selective selective =
 -- ---- `abc?`: a query that requires `abc` loses the line `ab`
 
 abbrev optional : Tree
-optional = cat (more (one_of (only 97)) (more (one_of (only 98)) (more (rep (one_of (only 99)) 0 (Some 1)) none)))
+optional = cat (more (cat (letters (codes "ab"))) (more (rep (one_of (only 99)) 0 (Some 1)) none))
+
+ab_matches : MatchesSequence (codes "ab") (letters (codes "ab")) 0 2
+ab_matches = (1, (omega arith, refl, refl), (2, (omega arith, refl, refl), refl))
 
 ab_is_found : HasMatch optional (codes "ab")
-ab_is_found = (
-  0,
-  2,
-  omega arith,
-  omega arith,
-  (
-    1,
-    (omega arith, refl, refl),
-    (
-      2,
-      (omega arith, refl, refl),
-      (2, (0, omega arith, omega arith, refl), refl),
-    ),
-  ),
-)
+ab_is_found = (0, 2, omega arith, omega arith, (2, ab_matches, (2, (0, omega arith, omega arith, refl), refl)))
 
 requiring_an_optional_letter_loses_a_line : LosesNoLine (Tri 6382179) optional → ⊥
 requiring_an_optional_letter_loses_a_line loses =
@@ -156,34 +126,22 @@ abbrev past_the_end : Trees
 past_the_end = more line_end (letters (codes "d"))
 
 abbrev past_a_line : Tree
-past_a_line = cat (more (one_of (only 97)) (more (one_of (only 98)) (more (one_of (only 99)) past_the_end)))
+past_a_line = cat (more (cat (letters (codes "abc"))) past_the_end)
 
 no_line_goes_on : (line : List ℕ) (i j : ℕ) → MatchesSequence line past_the_end i j → ⊥
 no_line_goes_on line i j m = omega (arith, m.1.1, m.2.1.0)
 
 no_line_matches : (line : List ℕ) → HasMatch past_a_line line → ⊥
-no_line_matches line m = let abc : MatchesSequence line (more (one_of (only 97)) (more (one_of (only 98)) (more (one_of (only 99)) past_the_end))) m.0 m.1 = m.4 in no_line_goes_on line abc.2.2.0 m.1 abc.2.2.2
+no_line_matches line m = no_line_goes_on line m.4.0 m.1 m.4.2
+
+letters_may_match : (text : List ℕ) → MayMatchSequence (letters text) text
+letters_may_match [] = refl
+letters_may_match (b ∷ text) = (b ∷ [], text, (b, has_it b, refl), letters_may_match text, refl)
 
 abcd_may_match : MayMatch past_a_line (codes "abcd")
-abcd_may_match = (
-  codes "a",
-  codes "bcd",
-  (97, refl, refl),
-  (
-    codes "b",
-    codes "cd",
-    (98, refl, refl),
-    (
-      codes "c",
-      codes "d",
-      (99, refl, refl),
-      ([], codes "d", refl, (codes "d", [], (100, refl, refl), refl, refl), refl),
-      refl,
-    ),
-    refl,
-  ),
-  refl,
-)
+abcd_may_match =
+    let d_may_match = letters_may_match (codes "d") in
+    (codes "abc", codes "d", letters_may_match (codes "abc"), ([], codes "d", refl, d_may_match, refl), refl)
 
 -- two iterations of `a?` may match
 aa_may_match : MayMatch (rep (one_of (only 97)) 0 (Some 1)) (codes "aa")
@@ -191,18 +149,14 @@ aa_may_match = (2, omega arith, (codes "a", codes "a", (97, refl, refl), (codes 
 
 -- ---- `abc`: its query may not mention `zzz`
 
-letters_may_match_no_other : (text string : List ℕ) → MayMatchSequence (letters text) string → string ≡ text
-letters_may_match_no_other [] string j = j
-letters_may_match_no_other (b ∷ text) string j =
-    let letter = j.2 in
-    let first : j.0 ≡ b ∷ [] = letter.2 ∙ ap (λ n. n ∷ []) (has_no_other b letter.0 letter.1) in
-    let rest = letters_may_match_no_other text j.1 j.3 in
-    j.4 ∙ (λ i. first i ++ rest i)
+letters_are_exact : (text string : List ℕ) → MayMatchSequence (letters text) string → ConcatenatesExactStrings (letters text) string
+letters_are_exact [] string j = j
+letters_are_exact (b ∷ text) string j = (j.0, j.1, j.2, letters_are_exact text j.1 j.3, j.4)
 
 abc_has_no_other_trigram : MentionsTrigramsOf (Tri 8026746) (cat (letters (codes "abc"))) → ⊥
 abc_has_no_other_trigram only =
     let zzz = only ((97, refl), ((98, refl), ((99, refl), tt))) 8026746 (mentions-Tri 8026746 8026746) in
-    let is = letters_may_match_no_other (codes "abc") zzz.0 zzz.1 in
+    let is = concatenates_no_other (codes "abc") zzz.0 (letters_are_exact (codes "abc") zzz.0 zzz.1) in
     true≢false (sym (subst (λ (text : List ℕ). has (tri text) 8026746 ≡ true) is zzz.2))
 
 -- a set without a member, and an alternation without a branch

@@ -4,13 +4,13 @@ use Rattle.cs_tree.specs.Cover.{is_among}
 use Rattle.cs_syntax.specs.Matching.{Tree, Trees, more}
 use Rattle.cs_trigram.specs.Query.{mentions}
 use Rattle.cs_trigram.specs.MayMatch.{MayMatch, MayMatchSequence, HasMembers, HaveMembers}
-use Rattle.cs_trigram.specs.EndStrings.{AreEndStrings, AreEndStringsOfAll, OccursIn}
+use Rattle.cs_trigram.specs.EndStrings.{AreEndStrings, AreEndStringsOfAll}
 use Rattle.cs_trigram.specs.SequenceQuery.{IsAcross}
 use Rattle.cs_trigram.specs.Analysis.{IsLongestLeadingRun, AreTrigramsOf, MentionsOnly}
 use Rattle.cs_trigram.specs.declared.queries.Query.{Query}
 use Rattle.cs_trigram.specs.declared.end_strings.Side.TheVariants.{Prefix, Suffix}
 use Rattle.cs_trigram.specs.declared.end_strings.EndString.{EndString}
-use Rattle.cs_trigram.proofs.MayMatchLemmas.{run_within, rest_within, first_within}
+use Rattle.cs_trigram.proofs.MayMatchLemmas.{run_within, rest_within, first_within, OccursIn}
 use Rattle.cs_trigram.proofs.MentionLemmas.{trigrams_within}
 use Rattle.cs_trigram.proofs.CrossProductLemmas.{occurs_across}
 

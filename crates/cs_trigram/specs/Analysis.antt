@@ -62,17 +62,9 @@ all_match queries set = list_all (λ q. matches_set q set) queries
 abbrev pub some_matches : List Query → (ℕ → Bool) → Bool
 some_matches queries set = list_any (λ q. matches_set q set) queries
 
--- the conjunction of the new queries is that of the old ones and of this test of sets
-abbrev pub RequiresToo : List Query → List Query → ((ℕ → Bool) → Bool) → Type 0
-RequiresToo old queries test = (set : ℕ → Bool) → all_match queries set ≡ (all_match old set && test set)
-
 -- whether the trigram occurs in one of the queries
 abbrev pub some_mentions : List Query → ℕ → Bool
 some_mentions queries g = list_any (λ q. mentions q g) queries
-
--- the new queries mention what the old ones mention and the numbers that pass the test, and nothing else
-abbrev pub MentionToo : List Query → List Query → (ℕ → Bool) → Type 0
-MentionToo old queries test = (g : ℕ) → some_mentions queries g ≡ (some_mentions old g || test g)
 
 -- each number that passes the test is a trigram and, if A holds, one of a text with the property
 abbrev pub AreTrigramsOf : (ℕ → Bool) → Type 0 → (List ℕ → Type 0) → Type 0
@@ -101,19 +93,9 @@ pub record AreCorrect (queries : List Query) (ts : Trees) : Type 0 where
 abbrev pub IsMatchQuery : Query → Tree → Type 0
 IsMatchQuery query t = (HasFewExactStrings t → ⊥) → IsCorrect query t
 
--- the strings enumerate the exact strings of a finite tree, of a run and of an alternation
+-- the strings enumerate the exact strings of a finite tree
 abbrev pub EnumeratesTree : List (List ℕ) → Tree → Type 0
 EnumeratesTree strings t = (is_finite t ≡ true) × IsEnumeration strings (HasExactString t)
-
-abbrev pub EnumeratesRun : List (List ℕ) → Trees → Type 0
-EnumeratesRun strings ts = (are_finite ts ≡ true) × IsEnumeration strings (ConcatenatesExactStrings ts)
-
-abbrev pub EnumeratesAlternation : List (List ℕ) → Trees → Type 0
-EnumeratesAlternation strings ts = (are_finite ts ≡ true) × IsEnumeration strings (SomeHasExactString ts)
-
--- adds the string of the byte, if the set has the byte
-abbrev pub with_byte_string : List (List ℕ) → List Bool → ℕ → List (List ℕ)
-with_byte_string strings set byte = if member set byte then with_string strings (byte ∷ []) else strings
 
 -- the strings are the exact strings of a finite tree or of a run, which are few
 abbrev pub AreExactStrings : List (List ℕ) → Tree → Type 0
@@ -130,12 +112,9 @@ has_trigrams set text = list_all set (tri text)
 abbrev pub has_any : (ℕ → Bool) → List (List ℕ) → Bool
 has_any set strings = list_any (λ w. has_trigrams set w) strings
 
--- the query requires exactly the trigrams of the text, or of one of the strings
+-- the query requires exactly the trigrams of the text
 abbrev pub RequiresText : Query → List ℕ → Type 0
 RequiresText query text = (set : ℕ → Bool) → matches_set query set ≡ has_trigrams set text
-
-abbrev pub RequiresSomeString : Query → List (List ℕ) → Type 0
-RequiresSomeString query strings = (set : ℕ → Bool) → matches_set query set ≡ has_any set strings
 
 -- The requirements of a sequence other than its longest leading run. Each set with the trigrams of a matching
 -- line satisfies them. If a set satisfies them and has a string of that run, it has all runs within the sequence.

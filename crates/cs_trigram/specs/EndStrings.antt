@@ -1,7 +1,7 @@
 -- Prefixes and suffixes of matches. An end string is a prefix or a suffix, depending on the side.
 -- Cox, "Regular Expression Matching with a Trigram Index".
-use Rattle.std.specs.Prelude.{ℕ, ◌≡◌, ◌-◌, ◌<◌, ◌≤◌, ◌⊎◌, ◌++◌, ◌∷◌, [], Bool, true, false, List, Contains, length, take, drop, nat_eq, slice_range, Option}
-use Rattle.std.specs.List.{list_all}
+use Rattle.std.specs.Prelude.{ℕ, ◌≡◌, ◌-◌, ◌<◌, ◌≤◌, ◌⊎◌, ◌++◌, ◌∷◌, [], Bool, true, false, List, Contains, length, take, drop, map, not, ◌&&◌, ◌||◌, if◌then◌else◌, nat_eq, nat_le, bytes_eq, slice_range, Option}
+use Rattle.std.specs.List.{list_all, list_any}
 use Rattle.cs_syntax.specs.Matching.{Tree, Trees, rep, MatchesSpan, MatchesSequence, MatchesBranch}
 use Rattle.cs_trigram.specs.MayMatch.{MayMatch, MayMatchSequence, MayMatchBranch, HasMembers, HaveMembers}
 use Rattle.cs_trigram.specs.declared.end_strings.Side.{Side}
@@ -39,31 +39,37 @@ abbrev pub Subsumes : Side → EndString → EndString → Type 0
 Subsumes side end_string other =
     (text : List ℕ) → HasEndString side other text → HasEndString side end_string text
 
--- each text with the end string has one of these
-abbrev pub SomeSubsumes : Side → List EndString → EndString → Type 0
-SomeSubsumes side end_strings end_string =
-    (text : List ℕ) → HasEndString side end_string text → HasSomeEndString side end_strings text
+-- sufficient for this: the strings are equal, and the other one is whole if this one is
+abbrev pub subsumes : EndString → EndString → Bool
+subsumes end_string other = bytes_eq end_string.string other.string && (not end_string.whole || other.whole)
 
--- each text with one of the others has one of these
-abbrev pub SubsumeAll : Side → List EndString → List EndString → Type 0
-SubsumeAll side end_strings others =
-    (text : List ℕ) → HasSomeEndString side others text → HasSomeEndString side end_strings text
+-- adds an end string, unless one subsumes it
+abbrev pub with_end_string : List EndString → EndString → List EndString
+with_end_string end_strings end_string =
+    if list_any (λ other. subsumes other end_string) end_strings then end_strings
+    else end_strings ++ end_string ∷ []
 
--- each text with these bytes on the near side, or if `whole` this text alone, has the end string
-abbrev pub IsEndStringOfText : Side → List ℕ → Bool → EndString → Type 0
-IsEndStringOfText side text whole end_string =
-    (rest : List ℕ) → (whole ≡ true → rest ≡ []) → HasEndString side end_string (concatenation side text rest)
+abbrev pub with_end_strings : List EndString → List EndString → List EndString
+with_end_strings end_strings [] = end_strings
+with_end_strings end_strings (x ∷ xs) = with_end_strings (with_end_string end_strings x) xs
 
--- the concatenation of a near text with the first end string and a far text with the second has this one
-abbrev pub IsEndStringOfTwo : Side → EndString → EndString → EndString → Type 0
-IsEndStringOfTwo side near far end_string =
-    (u v : List ℕ) → HasEndString side near u → HasEndString side far v →
-    HasEndString side end_string (concatenation side u v)
+-- the end string truncated to n bytes
+abbrev pub truncated : Side → ℕ → EndString → EndString
+truncated side n end_string =
+    record {
+      string = near_part side n end_string.string;
+      whole = end_string.whole && nat_le (length end_string.string) n;
+    }
 
-abbrev pub AreEndStringsOfTwo : Side → List EndString → List EndString → List EndString → Type 0
-AreEndStringsOfTwo side nears fars end_strings =
-    (u v : List ℕ) → HasSomeEndString side nears u → HasSomeEndString side fars v →
-    HasSomeEndString side end_strings (concatenation side u v)
+-- the end string of a near text that is the first one and a far text with the second, truncated to n bytes
+abbrev pub end_of_two : Side → ℕ → EndString → EndString → EndString
+end_of_two side n near far =
+    truncated side n (record { string = concatenation side near.string far.string; whole = far.whole })
+
+-- the end strings of a near text with the first one and a far text with one of the others
+abbrev pub joined : Side → ℕ → EndString → List EndString → List EndString
+joined side n near fars =
+    if near.whole then map (end_of_two side n near) fars else truncated side n near ∷ []
 
 -- each of these end strings subsumes one of the others
 abbrev pub EachSubsumes : Side → List EndString → List EndString → Type 0
@@ -72,41 +78,37 @@ EachSubsumes side end_strings others =
 
 -- the end strings are the others, truncated
 pub record AreCoarser (side : Side) (end_strings others : List EndString) : Type 0 where
-  pub all : SubsumeAll side end_strings others
+  pub all : (text : List ℕ) → HasSomeEndString side others text → HasSomeEndString side end_strings text
   pub each : EachSubsumes side end_strings others
 
--- each new end string is an old one or has the property
-abbrev pub AddsOnly : List EndString → List EndString → (EndString → Type 0) → Type 0
-AddsOnly old end_strings P = (x : EndString) → Contains end_strings x → Contains old x ⊎ P x
+-- the end strings are those of two lists, truncated
+pub record AreUnion (side : Side) (one other both : List EndString) : Type 0 where
+  pub all : (text : List ℕ) → HasSomeEndString side one text ⊎ HasSomeEndString side other text →
+      HasSomeEndString side both text
+  pub each : EachSubsumes side both (one ++ other)
 
 -- The end string is that of a near text with the first one, whatever the far text is, or if the far text has one of
 -- the others.
 abbrev pub IsConcatenation : Side → EndString → List EndString → EndString → Type 0
 IsConcatenation side near fars end_string =
     ((u v : List ℕ) → HasEndString side near u → HasEndString side end_string (concatenation side u v))
-    ⊎ ((far : EndString) × Contains fars far × IsEndStringOfTwo side near far end_string
+    ⊎ ((far : EndString) × Contains fars far × ((u v : List ℕ) → HasEndString side near u →
+    HasEndString side far v → HasEndString side end_string (concatenation side u v))
     × (length end_string.string ≤ 3))
 
 -- the end strings are those of a near text with one of the first and a far text with one of the others
 pub record AreConcatenations (side : Side) (nears fars end_strings : List EndString) : Type 0 where
-  pub all : AreEndStringsOfTwo side nears fars end_strings
+  pub all : (u v : List ℕ) → HasSomeEndString side nears u → HasSomeEndString side fars v →
+      HasSomeEndString side end_strings (concatenation side u v)
   pub each : (x : EndString) → Contains end_strings x →
       (near : EndString) × Contains nears near × IsConcatenation side near fars x
 
--- the end string of every text, and that of the empty text
-abbrev pub any_end : EndString
-any_end = record { string = []; whole = false }
-
-abbrev pub empty_end : EndString
-empty_end = record { string = []; whole = true }
-
--- A text with the property begins or ends with the near text, and is equal to it if it has less than three bytes.
-abbrev pub IsNearPart : Side → (List ℕ → Type 0) → List ℕ → Type 0
-IsNearPart side P near = (rest : List ℕ) × P (concatenation side near rest) × (length near < 3 → rest ≡ [])
-
--- the end string is one of a near text of a text with the property
+-- The end string is one of a near text of a text with the property, which is equal to the near text if this has
+-- less than three bytes.
 abbrev pub IsEndStringOf : Side → (List ℕ → Type 0) → EndString → Type 0
-IsEndStringOf side P end_string = (near : List ℕ) × IsNearPart side P near × HasEndString side end_string near
+IsEndStringOf side P end_string =
+    (near : List ℕ) × ((rest : List ℕ) × P (concatenation side near rest) × (length near < 3 → rest ≡ []))
+    × HasEndString side end_string near
 
 -- Each match has one of the end strings. If A holds, each end string is one of a text with the property.
 pub record AreEndStringsOf (side : Side) (end_strings : List EndString) (Matches : List ℕ → ℕ → ℕ → Type 0)
@@ -127,12 +129,3 @@ AreEndStringsOfAll side end_strings ts =
 abbrev pub AreEndStringsOfSome : Side → List EndString → Trees → Type 0
 AreEndStringsOfSome side end_strings ts =
     AreEndStringsOf side end_strings (λ s. MatchesBranch s ts) (HaveMembers ts) (MayMatchBranch ts)
-
--- the same for at least `least` iterations of the tree
-abbrev pub AreEndStringsOfRepeat : Side → List EndString → Tree → ℕ → Type 0
-AreEndStringsOfRepeat side end_strings t least =
-    (most : Option ℕ) → AreEndStrings side end_strings (rep t least most)
-
--- the string occurs in the text
-abbrev pub OccursIn : List ℕ → List ℕ → Type 0
-OccursIn string text = (before after : List ℕ) × (text ≡ before ++ (string ++ after))

@@ -2,10 +2,6 @@
 use Rattle.std.specs.Prelude.{◌≡◌, ℕ, ◌+◌, ◌<◌, true, nat_eq, if◌then◌else◌, List, [], ◌∷◌}
 use Rattle.cs_trigram.specs.Text.{valid_utf8_pair}
 
--- an ASCII byte other than 00
-abbrev pub IsAsciiByte : ℕ → Type 0
-IsAsciiByte b = (0 < b) × (b < 128)
-
 -- no byte is 00, and each may follow the one before it; `before` is the one before the first
 abbrev pub AreValidPairs : ℕ → List ℕ → Type 0
 AreValidPairs before [] = Unit {0}

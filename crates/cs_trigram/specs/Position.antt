@@ -1,14 +1,15 @@
 -- A position in a file that is being scanned.
-use Rattle.std.specs.Prelude.{◌≡◌, ℕ, ◌+◌, ◌<◌, ◌≤◌, List, ◌++◌, length, Result, Some, None, MatchResult}
+use Rattle.std.specs.Prelude.{◌≡◌, ℕ, ◌+◌, ◌^◌, ◌<◌, ◌≤◌, List, ◌++◌, length, Result, Some, None, MatchResult}
 use Rattle.cs_trigram.specs.declared.limits.Limits.{Limits}
 use Rattle.cs_trigram.specs.declared.position.Position.{Position}
 use Rattle.cs_trigram.specs.declared.scan.Reason.{Reason}
 use Rattle.cs_trigram.specs.Text.{last_byte, line_so_far, first_broken}
 
--- one more byte is within the limits of bytes and columns
-pub record IsWithinLimits (most : Limits) (position : Position) : Type 0 where
-  pub count : position.count < most.bytes
-  pub column : position.column < most.line
+-- the limits are so small that sums of them do not overflow
+pub record IsSmall (most : Limits) : Type 0 where
+  pub bytes : most.bytes < 2 ^ 32
+  pub line : most.line < 2 ^ 32
+  pub trigrams : most.trigrams < 2 ^ 32
 
 -- the position is the one after these bytes
 pub record IsPositionAfter (position : Position) (prefix : List ℕ) : Type 0 where

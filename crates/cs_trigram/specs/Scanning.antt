@@ -3,7 +3,7 @@ use Rattle.std.specs.Prelude.{◌≡◌, ◌+◌, length}
 use Rattle.cs_trigram.specs.declared.limits.Limits.{Limits}
 use Rattle.cs_trigram.specs.declared.seen_trigrams.TheConstants.{WITH_TWO}
 use Rattle.cs_trigram.specs.declared.gatherer.Gatherer.{Gatherer}
-use Rattle.cs_trigram.specs.Small.{IsSmall}
+use Rattle.cs_trigram.specs.Position.{IsSmall}
 use Rattle.cs_trigram.specs.SeenTrigrams.{IsSound}
 
 pub record IsPrepared (gatherer : Gatherer) : Type 0 where

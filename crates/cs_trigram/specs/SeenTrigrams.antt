@@ -35,9 +35,3 @@ HasSeenBytes most found prefix = HasSeen most found (trigram_sequence prefix)
 abbrev pub SeesMore : SeenTrigrams → SeenTrigrams → List ℕ → Type 0
 SeesMore old found more =
     (most : ℕ) (trigrams : List ℕ) → HasSeen most old trigrams → HasSeen most found (trigrams ++ more)
-
--- there are more trigrams than the limit
-abbrev pub IsOverLimit : SeenTrigrams → Bool → Type 0
-IsOverLimit found over =
-    (most : ℕ) (trigrams : List ℕ) → HasSeen most found trigrams →
-    IsTrue over ↔ (most < length (set_of_numbers trigrams))

@@ -21,14 +21,6 @@ abbrev pub goes_two_past : List (List ℕ) → EndString → Bool
 goes_two_past leading suffix =
     suffix.whole && list_all (λ string. nat_lt (length suffix.string + 1) (length string)) leading
 
--- the leading run has all trigrams across the end of the first part, which has these suffixes, into the parts
--- after it, which have these prefixes
-abbrev pub has_cross_trigrams : SequenceQuery → List EndString → List EndString → Bool
-has_cross_trigrams sequence_query suffixes prefixes =
-    are_all_empty suffixes
-    || (are_all_empty prefixes
-    || list_all (λ suffix. goes_two_past sequence_query.leading.items suffix) suffixes)
-
 -- The query matches each set that has the trigrams of two adjacent texts, the first with one of the suffixes
 -- and the second with one of the prefixes.
 abbrev pub MatchesAcross : Query → List EndString → List EndString → Type 0

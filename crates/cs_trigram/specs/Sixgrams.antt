@@ -39,3 +39,7 @@ pub record AreMisses (file : ℕ) (earlier tags bytes : List ℕ) (offset : ℕ)
   pub covers :
       AreMembers (trigram_sequence (take (offset + 2) bytes)) (earlier ++ trigrams_of_sixgrams sixgrams)
   pub inside : AreMembers (trigrams_of_sixgrams sixgrams) (trigram_sequence bytes)
+
+-- no cached 6-gram is of this file or a later one
+abbrev pub IsEmptyCache : ℕ → List ℕ → Type 0
+IsEmptyCache file tags = CachesOnly file tags [] × HasNoLaterFile file tags

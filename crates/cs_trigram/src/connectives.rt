@@ -1,10 +1,10 @@
 // Conjunctions of queries, and queries for strings (`and` and `andTrigrams` in Go's codesearch).
-ghost use Rattle.std.specs.Prelude.{◌≡◌, ◌<◌, ℕ, Bool, length, IsTrue, IfOk, OnOk};
+ghost use Rattle.std.specs.Prelude.{◌≡◌, ◌<◌, ◌&&◌, ◌||◌, ℕ, Bool, length, IsTrue, IfOk, OnOk};
 ghost use Rattle.cs_trigram.specs.Trigram.{trigram};
 ghost use Rattle.cs_trigram.specs.TrigramSets.{trigram_count};
 ghost use Rattle.cs_tree.specs.Cover.{is_among};
 ghost use Rattle.cs_trigram.specs.Query.{matches_set, mentions};
-ghost use Rattle.cs_trigram.specs.Analysis.{some_matches, some_mentions, RequiresToo, MentionToo, MentionsOnly, RequiresText, RequiresSomeString};
+ghost use Rattle.cs_trigram.specs.Analysis.{all_match, some_matches, some_mentions, has_any, MentionsOnly, RequiresText};
 
 use crate::exact_string::ExactString;
 use crate::queries::Query;
@@ -20,8 +20,10 @@ pub(crate) fn trigram(a: u8, b: u8, c: u8) -> u32
 
 /// Adds a query to a conjunction. `All` adds nothing.
 pub(crate) fn add_conjunct(conjuncts: &mut Vec<Query>, query: Query) -> Result<(), AllocError>
-    ensures required { OnOk result (RequiresToo conjuncts.old.items conjuncts.new.items (matches_set query)) }
-    ensures mentioned { OnOk result (MentionToo conjuncts.old.items conjuncts.new.items (mentions query)) }
+    ensures required { OnOk result ((set : ℕ → Bool) → all_match conjuncts.new.items set ≡
+        (all_match conjuncts.old.items set && matches_set query set)) }
+    ensures mentioned { OnOk result ((g : ℕ) → some_mentions conjuncts.new.items g ≡
+        (some_mentions conjuncts.old.items g || mentions query g)) }
 {
     match query {
         Query::All => Ok(()),
@@ -32,22 +34,13 @@ pub(crate) fn add_conjunct(conjuncts: &mut Vec<Query>, query: Query) -> Result<(
     }
 }
 
-/// The trigram of a text of three bytes.
-fn only_trigram(text: &[u8]) -> Query
-    requires { length text.now ≡ 3 }
-    ensures required { RequiresText result text.now }
-    ensures mentioned { MentionsOnly result (λ part. part ≡ text.now) }
-{
-    Query::Tri(trigram(text[0], text[1], text[2]))
-}
-
 /// The conjunction of the trigrams of a text. A single one is not wrapped.
 fn all_trigrams(alloc: Global, text: &[u8]) -> Result<Query, AllocError>
     ensures required { IfOk result (λ query. RequiresText query text.now) }
     ensures mentioned { IfOk result (λ query. MentionsOnly query (λ part. part ≡ text.now)) }
 {
     if text.len() == 3 {
-        return Ok(only_trigram(text));
+        return Ok(Query::Tri(trigram(text[0], text[1], text[2])));
     }
     let mut members = Vec::with_capacity(alloc, text.len().saturating_sub(2))?;
     let mut offset = 0;
@@ -62,7 +55,8 @@ fn all_trigrams(alloc: Global, text: &[u8]) -> Result<Query, AllocError>
 /// The disjunction over the strings, each as the conjunction of its trigrams; `All` if some string
 /// has no trigram.
 pub(crate) fn any_string(alloc: Global, strings: &[ExactString]) -> Result<Query, AllocError>
-    ensures required { IfOk result (λ query. RequiresSomeString query strings.now) }
+    ensures required { IfOk result (λ query. (set : ℕ → Bool) →
+        matches_set query set ≡ has_any set strings.now) }
     ensures mentioned { IfOk result (λ query.
         MentionsOnly query (λ string. IsTrue (is_among strings.now string))) }
 {

@@ -2,11 +2,11 @@
 // truncation (`cross`, `union` and `simplifySet` in Go's codesearch). An end string is a prefix or
 // a suffix, depending on the side. Of two adjacent strings, the *near* one is at that side of both:
 // the first one for prefixes, the last one for suffixes.
-ghost use Rattle.std.specs.Prelude.{Contains, ◌≡◌, ◌<◌, ◌≤◌, ◌⊎◌, ◌++◌, [], ◌∷◌, ℕ, true, List, length, IfOk, MatchOption, OnOk};
-ghost use Rattle.cs_syntax.specs.Matching.{Tree};
+ghost use Rattle.std.specs.Prelude.{Contains, ◌≡◌, ◌≤◌, [], ◌∷◌, length, IfOk, MatchOption, OnOk, Option, ℕ};
+ghost use Rattle.std.specs.List.{list_any};
+ghost use Rattle.cs_syntax.specs.Matching.{Tree, rep};
 ghost use Rattle.cs_trigram.specs.Analysis.{AreExactStrings};
-ghost use Rattle.cs_trigram.specs.declared.end_strings.EndString.{EndString};
-ghost use Rattle.cs_trigram.specs.EndStrings.{AreEndStringsOfRepeat, concatenation, near_part, are_all_empty, HasEndString, HasSomeEndString, Subsumes, SomeSubsumes, SubsumeAll, EachSubsumes, AreCoarser, AddsOnly, IsConcatenation, AreConcatenations, IsEndStringOfTwo, IsEndStringOfText, AreEndStrings};
+ghost use Rattle.cs_trigram.specs.EndStrings.{concatenation, near_part, are_all_empty, subsumes, AreUnion, AreCoarser, AreConcatenations, AreEndStrings, truncated, with_end_string, with_end_strings, joined};
 
 use crate::exact_string::ExactString;
 use std::alloc::{AllocError, Global};
@@ -48,37 +48,32 @@ impl EndString {
     }
 }
 
-/// The first or last `len` bytes of a longer text.
+/// The first or last `len` bytes of a text, or all if there are fewer.
 fn near_bytes(side: Side, text: &[u8], len: usize) -> &[u8]
-    requires { len < length text.now }
     ensures { result.now ≡ near_part side len text.now }
 {
     match side {
-        Side::Prefix => &text[..len],
-        Side::Suffix => &text[text.len() - len..],
+        Side::Prefix => &text[..len.min(text.len())],
+        Side::Suffix => &text[text.len().saturating_sub(len)..],
     }
 }
 
 /// The end string of the texts with these bytes on the near side, or if `whole` of this text alone,
 /// truncated to `longest` bytes.
-fn end_string_of_text(
+fn truncated_end_string(
     alloc: Global,
     side: Side,
     text: &[u8],
     whole: bool,
     longest: usize,
 ) -> Result<EndString, AllocError>
-    ensures is { IfOk result (λ end_string. IsEndStringOfText side text.now whole end_string) }
-    ensures short { IfOk result (λ end_string. length end_string.string ≤ longest) }
+    ensures { IfOk result (λ end_string.
+        end_string ≡ truncated side longest (record { string = text.now; whole = whole })) }
 {
-    if text.len() <= longest {
-        let string = ExactString::of(alloc, text)?;
-        return Ok(EndString { string, whole });
-    }
     let string = ExactString::of(alloc, near_bytes(side, text, longest))?;
     Ok(EndString {
         string,
-        whole: false,
+        whole: whole && text.len() <= longest,
     })
 }
 
@@ -97,48 +92,24 @@ fn string_of_two(
     }
 }
 
-/// The end string of the concatenation of two texts with these end strings, the near one whole,
-/// truncated to `longest` bytes.
-fn end_string_of_two(
-    alloc: Global,
-    side: Side,
-    near: &EndString,
-    far: &EndString,
-    longest: usize,
-) -> Result<EndString, AllocError>
-    requires { near.now.whole ≡ true }
-    ensures two { IfOk result (IsEndStringOfTwo side near.now far.now) }
-    ensures short { IfOk result (λ end_string. length end_string.string ≤ longest) }
-{
-    let string = string_of_two(alloc, side, &near.string, &far.string)?;
-    end_string_of_text(alloc, side, string.bytes(), far.whole, longest)
-}
-
 /// Whether each text with the other end string certainly has this one: the strings are equal, and
 /// the other one is whole if this one is.
 fn subsumes(end_string: &EndString, other: &EndString) -> bool
-    ensures { result ≡ true → (side : Side) → Subsumes side end_string.now other.now }
+    ensures { result ≡ subsumes end_string.now other.now }
 {
     end_string.string.bytes() == other.string.bytes() && (!end_string.whole || other.whole)
 }
 
 /// Whether one of the end strings subsumes this one.
 fn has_subsuming(end_strings: &[EndString], end_string: &EndString) -> bool
-    ensures { result ≡ true → (side : Side) → SomeSubsumes side end_strings.now end_string.now }
+    ensures { result ≡ list_any (λ other. subsumes other end_string.now) end_strings.now }
 {
-    for other in end_strings {
-        if subsumes(other, end_string) {
-            return true;
-        }
-    }
-    false
+    end_strings.iter().any(|other| subsumes(other, end_string))
 }
 
 /// Adds an end string, unless one subsumes it.
 fn add_end_string(end_strings: &mut Vec<EndString>, end_string: EndString) -> Result<(), AllocError>
-    ensures all { OnOk result ((side : Side) →
-        SubsumeAll side end_strings.new.items (end_string ∷ end_strings.old.items)) }
-    ensures each { OnOk result (AddsOnly end_strings.old.items end_strings.new.items (λ x. end_string ≡ x)) }
+    ensures { OnOk result (end_strings.new.items ≡ with_end_string end_strings.old.items end_string) }
 {
     if !has_subsuming(end_strings, &end_string) {
         end_strings.push(end_string)?;
@@ -158,7 +129,7 @@ pub(crate) fn truncated_end_strings(
     let mut short = Vec::with_capacity(alloc, end_strings.len())?;
     for end_string in end_strings {
         let text = end_string.string.bytes();
-        let shorter = end_string_of_text(alloc, side, text, end_string.whole, longest)?;
+        let shorter = truncated_end_string(alloc, side, text, end_string.whole, longest)?;
         add_end_string(&mut short, shorter)?;
     }
     Ok(short)
@@ -191,16 +162,11 @@ fn add_concatenations(
     longest: usize,
     end_strings: &mut Vec<EndString>,
 ) -> Result<(), AllocError>
-    requires { longest ≤ 3 }
-    ensures keeps { OnOk result (SubsumeAll side end_strings.new.items end_strings.old.items) }
-    ensures concatenates { OnOk result (length end_strings.new.items ≤ 20 → (u v : List ℕ) →
-        HasEndString side near.now u → HasSomeEndString side fars.now v →
-        HasSomeEndString side end_strings.new.items (concatenation side u v)) }
-    ensures each { OnOk result (
-        AddsOnly end_strings.old.items end_strings.new.items (IsConcatenation side near.now fars.now)) }
+    ensures { OnOk result (length end_strings.new.items ≤ 20 → end_strings.new.items ≡
+        with_end_strings end_strings.old.items (joined side longest near.now fars.now)) }
 {
     if !near.whole {
-        let alone = end_string_of_text(alloc, side, near.string.bytes(), false, longest)?;
+        let alone = truncated_end_string(alloc, side, near.string.bytes(), near.whole, longest)?;
         add_end_string(end_strings, alone)?;
         return Ok(());
     }
@@ -208,7 +174,8 @@ fn add_concatenations(
         if end_strings.len() > MAX_SET {
             return Ok(());
         }
-        let both = end_string_of_two(alloc, side, near, far, longest)?;
+        let string = string_of_two(alloc, side, &near.string, &far.string)?;
+        let both = truncated_end_string(alloc, side, string.bytes(), far.whole, longest)?;
         add_end_string(end_strings, both)?;
     }
     Ok(())
@@ -262,10 +229,7 @@ pub(crate) fn union_of_end_strings(
     end_strings: Vec<EndString>,
     more: &[EndString],
 ) -> Result<Vec<EndString>, AllocError>
-    ensures all { IfOk result (λ both. (text : List ℕ) →
-        HasSomeEndString side end_strings.items text ⊎ HasSomeEndString side more.now text →
-        HasSomeEndString side both.items text) }
-    ensures each { IfOk result (λ both. EachSubsumes side both.items (end_strings.items ++ more.now)) }
+    ensures { IfOk result (λ both. AreUnion side end_strings.items more.now both.items) }
 {
     let mut both = end_strings;
     for end_string in more {
@@ -295,7 +259,7 @@ pub(crate) fn end_strings_of(
 {
     let mut end_strings = Vec::with_capacity(alloc, strings.len())?;
     for string in strings {
-        let end_string = end_string_of_text(alloc, side, string.bytes(), true, MAX_LEN)?;
+        let end_string = truncated_end_string(alloc, side, string.bytes(), true, MAX_LEN)?;
         add_end_string(&mut end_strings, end_string)?;
     }
     Ok(end_strings)
@@ -309,7 +273,7 @@ pub(crate) fn end_strings_of_repeat(
     least: u32,
 ) -> Result<Vec<EndString>, AllocError>
     ensures { IfOk result (λ end_strings. (t : Tree) → AreEndStrings side once.now t →
-        AreEndStringsOfRepeat side end_strings.items t least) }
+        (most : Option ℕ) → AreEndStrings side end_strings.items (rep t least most)) }
 {
     let begun = concatenate_end_strings(alloc, side, once, &bare_end_string(alloc, false)?)?;
     let mut end_strings = union_of_end_strings(alloc, side, begun, &bare_end_string(alloc, true)?)?;

@@ -6,7 +6,7 @@ ghost use Rattle.cs_trigram.specs.ExactQuery.{HasFewExactStrings};
 ghost use Rattle.cs_trigram.specs.Analysis.{AreExactStrings, EnumeratesTree};
 ghost use Rattle.cs_trigram.specs.ExactSet.{IsExactSetOf, TellsEmpty};
 
-use crate::exact_string::{ExactString, MAX_EXACT, add_strings, copies, cross_product};
+use crate::exact_string::{ExactString, MAX_EXACT, add_concatenations, cross_product, prepended};
 use std::alloc::{AllocError, Global};
 
 /// The exact strings of a tree. More than twenty are not kept, so that those of a long sequence are
@@ -101,8 +101,8 @@ impl ExactSet {
         let ExactSet::Strings(others) = others else {
             return Ok(ExactSet::Many);
         };
-        let mut all = copies(alloc, others)?;
-        add_strings(alloc, &mut all, strings)?;
+        let mut all = prepended(alloc, &[], others)?;
+        add_concatenations(alloc, &[], strings, &mut all)?;
         Ok(ExactSet::of(all))
     }
 }

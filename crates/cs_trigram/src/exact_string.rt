@@ -82,36 +82,11 @@ pub(crate) fn add_string(
     Ok(())
 }
 
-/// A copy of the list.
-pub(crate) fn copies(alloc: Global, strings: &[ExactString]) -> Result<Vec<ExactString>, AllocError>
-    ensures { IfOk result (λ copies. copies.items ≡ strings.now) }
-{
-    let mut copies = Vec::with_capacity(alloc, strings.len())?;
-    for string in strings {
-        copies.push(ExactString::of(alloc, string.bytes())?)?;
-    }
-    Ok(copies)
-}
-
-/// Adds the strings that are not in the list, up to 21 strings.
-pub(crate) fn add_strings(
-    alloc: Global,
-    strings: &mut Vec<ExactString>,
-    more: &[ExactString],
-) -> Result<(), AllocError>
-    ensures { OnOk result (strings.new.items ≡ with_strings strings.old.items more.now) }
-{
-    for string in more {
-        add_string(strings, ExactString::of(alloc, string.bytes())?)?;
-    }
-    Ok(())
-}
-
 /// Adds the concatenations of the prefix with each of the suffixes that are not in the list, up to
 /// 21 strings.
-fn add_concatenations(
+pub(crate) fn add_concatenations(
     alloc: Global,
-    prefix: &ExactString,
+    prefix: &[u8],
     suffixes: &[ExactString],
     strings: &mut Vec<ExactString>,
 ) -> Result<(), AllocError>
@@ -122,23 +97,23 @@ fn add_concatenations(
         if strings.len() > MAX_EXACT {
             return Ok(());
         }
-        let string = ExactString::concatenation(alloc, prefix.bytes(), suffix.bytes())?;
+        let string = ExactString::concatenation(alloc, prefix, suffix.bytes())?;
         add_string(strings, string)?;
     }
     Ok(())
 }
 
 /// The prefix followed by each of the suffixes.
-fn prepended(
+pub(crate) fn prepended(
     alloc: Global,
-    prefix: &ExactString,
+    prefix: &[u8],
     suffixes: &[ExactString],
 ) -> Result<Vec<ExactString>, AllocError>
     ensures { IfOk result (λ strings. strings.items ≡ map (λ v. prefix.now ++ v) suffixes.now) }
 {
     let mut strings = Vec::with_capacity(alloc, suffixes.len())?;
     for suffix in suffixes {
-        strings.push(ExactString::concatenation(alloc, prefix.bytes(), suffix.bytes())?)?;
+        strings.push(ExactString::concatenation(alloc, prefix, suffix.bytes())?)?;
     }
     Ok(strings)
 }
@@ -155,14 +130,14 @@ pub(crate) fn cross_product(
         strings.items ≡ with_strings [] (concatenations prefixes.now suffixes.now)) }
 {
     if prefixes.len() == 1 {
-        return prepended(alloc, &prefixes[0], suffixes);
+        return prepended(alloc, prefixes[0].bytes(), suffixes);
     }
     let mut strings = Vec::new(alloc);
     for prefix in prefixes {
         if strings.len() > MAX_EXACT {
             return Ok(strings);
         }
-        add_concatenations(alloc, prefix, suffixes, &mut strings)?;
+        add_concatenations(alloc, prefix.bytes(), suffixes, &mut strings)?;
     }
     Ok(strings)
 }

@@ -1,8 +1,8 @@
 // The exact sets of character classes and repeats, by expansion.
-ghost use Rattle.std.specs.Prelude.{◌≡◌, ◌≤◌, ◌+◌, [], ◌∷◌, IfOk, OnOk, Some, ℕ, true};
-ghost use Rattle.cs_syntax.specs.Matching.{Tree, one_of, one_char, rep};
+ghost use Rattle.std.specs.Prelude.{◌≡◌, ◌≤◌, ◌+◌, [], ◌∷◌, if◌then◌else◌, IfOk, OnOk, Some, ℕ, true};
+ghost use Rattle.cs_syntax.specs.Matching.{Tree, member, one_of, one_char, rep};
 ghost use Rattle.cs_trigram.specs.ExactStrings.{is_finite, HasExactString};
-ghost use Rattle.cs_trigram.specs.Analysis.{with_byte_string, with_strings, IsEnumeration};
+ghost use Rattle.cs_trigram.specs.Analysis.{with_string, with_strings, IsEnumeration};
 ghost use Rattle.cs_trigram.specs.CharStrings.{range_forms, with_form};
 ghost use Rattle.cs_syntax.specs.CharRanges.{IsCharRange};
 ghost use Rattle.cs_trigram.specs.ExactSet.{IsExactSetOf};
@@ -28,7 +28,8 @@ fn add_byte(
     byte: u8,
     strings: &mut Vec<ExactString>,
 ) -> Result<(), AllocError>
-    ensures { OnOk result (strings.new.items ≡ with_byte_string strings.old.items set.now byte) }
+    ensures { OnOk result (strings.new.items ≡
+        (if member set.now byte then with_string strings.old.items (byte ∷ []) else strings.old.items)) }
 {
     if set.contains(byte) {
         add_string(strings, ExactString::of(alloc, &[byte])?)?;
@@ -94,38 +95,7 @@ pub(crate) fn strings_of_chars(alloc: Global, set: &CharSet) -> Result<Vec<Exact
     Ok(strings)
 }
 
-/// The exact set of at most `most` iterations of a finite tree.
-fn strings_up_to(alloc: Global, once: &ExactSet, most: u32) -> Result<ExactSet, AllocError>
-    ensures { IfOk result (λ strings. (t : Tree) → IsExactSetOf once.now t → is_finite t ≡ true →
-        IsExactSetOf strings (rep t 0 (Some most))) }
-{
-    let mut strings = ExactSet::of(empty_string(alloc)?);
-    for _iteration in 0..most {
-        let more = once.concatenate(alloc, &strings)?;
-        strings = more.union(alloc, &ExactSet::of(empty_string(alloc)?))?;
-    }
-    Ok(strings)
-}
-
-/// The exact set of `count` more iterations of a finite tree.
-fn strings_repeated(
-    alloc: Global,
-    once: &ExactSet,
-    count: u32,
-    suffixes: ExactSet,
-) -> Result<ExactSet, AllocError>
-    ensures { IfOk result (λ strings. (t : Tree) (least most : ℕ) → IsExactSetOf once.now t →
-        is_finite t ≡ true → least ≤ most → IsExactSetOf suffixes (rep t least (Some most)) →
-        IsExactSetOf strings (rep t (least + count) (Some (most + count)))) }
-{
-    let mut strings = suffixes;
-    for _iteration in 0..count {
-        strings = once.concatenate(alloc, &strings)?;
-    }
-    Ok(strings)
-}
-
-/// The exact set of a repeat.
+/// The exact set of a repeat, from its last iteration to its first: the last ones are optional.
 pub(crate) fn strings_of_repeat(
     alloc: Global,
     once: &ExactSet,
@@ -141,6 +111,12 @@ pub(crate) fn strings_of_repeat(
     if most < least || once.is_infinite() {
         return Ok(ExactSet::Infinite);
     }
-    let beyond = strings_up_to(alloc, once, most - least)?;
-    strings_repeated(alloc, once, least, beyond)
+    let mut strings = ExactSet::of(empty_string(alloc)?);
+    for iteration in 0..most {
+        strings = once.concatenate(alloc, &strings)?;
+        if iteration < most - least {
+            strings = strings.union(alloc, &ExactSet::of(empty_string(alloc)?))?;
+        }
+    }
+    Ok(strings)
 }

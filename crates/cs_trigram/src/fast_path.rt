@@ -2,9 +2,8 @@
 // chunk that fails is tested byte by byte.
 ghost use Rattle.std.specs.Prelude.{◌≡◌, ◌+◌, ◌-◌, ◌<◌, ◌≤◌, ◌^◌, ℕ, List, [], ◌++◌, length, IsTrue, IfSome, IfOk, Ok};
 ghost use Rattle.std.specs.List.{AllByRecursion};
-ghost use Rattle.cs_trigram.specs.Small.{IsSmall};
-ghost use Rattle.cs_trigram.specs.Position.{IsAdvancedBy, ValidatesFrom};
-ghost use Rattle.cs_trigram.specs.FastPath.{LinesFit, column_after, IsAsciiByte, AreValidPairs};
+ghost use Rattle.cs_trigram.specs.Position.{IsSmall, IsAdvancedBy, ValidatesFrom};
+ghost use Rattle.cs_trigram.specs.FastPath.{LinesFit, column_after, AreValidPairs};
 
 use crate::limits::Limits;
 use crate::position::{Position, valid_utf8_pair, validate_bytes};
@@ -13,7 +12,7 @@ use memchr::{memchr, memrchr};
 
 /// Whether all bytes are ASCII and not 00.
 fn is_ascii(bytes: &[u8]) -> bool
-    ensures { IsTrue result → AllByRecursion IsAsciiByte bytes.now }
+    ensures { IsTrue result → AllByRecursion (λ b. (0 < b) × (b < 128)) bytes.now }
 {
     bytes.is_ascii() && memchr(0, bytes).is_none()
 }

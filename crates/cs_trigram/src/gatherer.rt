@@ -7,7 +7,7 @@ ghost use Rattle.cs_trigram.specs.Scans.{AreDistinctTrigrams, IfText, IsScanOf, 
 ghost use Rattle.cs_trigram.specs.Text.{first_broken};
 ghost use Rattle.cs_trigram.specs.Trigram.{set_of_numbers};
 ghost use Rattle.cs_trigram.specs.TrigramSets.{AreDistinct};
-ghost use Rattle.cs_trigram.specs.Small.{IsSmall};
+ghost use Rattle.cs_trigram.specs.Position.{IsSmall};
 ghost use Rattle.cs_trigram.specs.declared.seen_trigrams.TheConstants.{WITH_TWO};
 ghost use Rattle.cs_trigram.specs.SeenTrigrams.{HasSeenBytes, IsSound, numbers_of};
 

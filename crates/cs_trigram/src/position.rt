@@ -1,8 +1,7 @@
 // The text rules, byte by byte.
 ghost use Rattle.std.specs.Prelude.{◌≡◌, ◌+◌, ◌<◌, ◌≤◌, ◌^◌, ◌&&◌, nat_le, ℕ, List, [], ◌∷◌, ◌++◌, None, length, IfOk};
 ghost use Rattle.cs_trigram.specs.Text.{valid_utf8_pair, rule_broken};
-ghost use Rattle.cs_trigram.specs.Small.{IsSmall};
-ghost use Rattle.cs_trigram.specs.Position.{IsWithinLimits, IsPositionAfter, IsAdvancedBy, ValidatesFrom};
+ghost use Rattle.cs_trigram.specs.Position.{IsSmall, IsPositionAfter, IsAdvancedBy, ValidatesFrom};
 
 use crate::limits::Limits;
 use crate::scan::Reason;
@@ -52,7 +51,8 @@ pub(crate) fn valid_utf8_pair(before: u8, byte: u8) -> bool
 fn rule_broken(limits: &Limits, position: Position, byte: u8) -> Option<Reason>
     ensures rule { (prefix : List ℕ) → IsPositionAfter position prefix →
         result ≡ rule_broken limits.now prefix byte }
-    ensures within { result ≡ None → IsWithinLimits limits.now position }
+    ensures within { result ≡ None →
+        (position.count < limits.now.bytes) × (position.column < limits.now.line) }
 {
     if byte == 0 {
         Some(Reason::Nul)

@@ -86,19 +86,13 @@ impl RegexpInfo {
     ) -> Result<RegexpInfo, AllocError>
         ensures { IfOk result (λ info. (t : Tree) → IsInfoOf once t → IsInfoOf info (rep t least most)) }
     {
-        let RegexpInfo {
-            exact,
-            prefix,
-            suffix,
-            query,
-        } = once;
-        let exact = strings_of_repeat(alloc, &exact, least, most)?;
-        let prefix = end_strings_of_repeat(alloc, Side::Prefix, &prefix, least)?;
-        let suffix = end_strings_of_repeat(alloc, Side::Suffix, &suffix, least)?;
+        let exact = strings_of_repeat(alloc, &once.exact, least, most)?;
+        let prefix = end_strings_of_repeat(alloc, Side::Prefix, &once.prefix, least)?;
+        let suffix = end_strings_of_repeat(alloc, Side::Suffix, &once.suffix, least)?;
         if least == 0 {
             return RegexpInfo::new(alloc, exact, prefix, suffix, Query::All);
         }
-        RegexpInfo::new(alloc, exact, prefix, suffix, query)
+        RegexpInfo::new(alloc, exact, prefix, suffix, once.query)
     }
 }
 
@@ -133,17 +127,11 @@ impl SequenceInfo {
         ensures { OnOk result ((t : Tree) (ts : Trees) → IsInfoOf part t → IsSequence self.old ts →
             IsSequence self.new (more t ts)) }
     {
-        let RegexpInfo {
-            exact,
-            prefix,
-            suffix,
-            query,
-        } = part;
-        self.exact = exact.concatenate(alloc, &self.exact)?;
+        self.exact = part.exact.concatenate(alloc, &self.exact)?;
         self.sequence_query
-            .add(alloc, query, exact, &suffix, &self.prefix)?;
-        self.prefix = concatenate_end_strings(alloc, Side::Prefix, &prefix, &self.prefix)?;
-        self.suffix = concatenate_end_strings(alloc, Side::Suffix, &self.suffix, &suffix)?;
+            .add(alloc, part.query, part.exact, &part.suffix, &self.prefix)?;
+        self.prefix = concatenate_end_strings(alloc, Side::Prefix, &part.prefix, &self.prefix)?;
+        self.suffix = concatenate_end_strings(alloc, Side::Suffix, &self.suffix, &part.suffix)?;
         Ok(())
     }
 
@@ -152,14 +140,8 @@ impl SequenceInfo {
         ensures { IfOk result (λ info. (ts : Trees) → IsSequence self ts →
             IsInfoOf info (cat ts)) }
     {
-        let SequenceInfo {
-            exact,
-            prefix,
-            suffix,
-            sequence_query,
-        } = self;
-        let query = sequence_query.finish(alloc)?;
-        RegexpInfo::new(alloc, exact, prefix, suffix, query)
+        let query = self.sequence_query.finish(alloc)?;
+        RegexpInfo::new(alloc, self.exact, self.prefix, self.suffix, query)
     }
 }
 
@@ -191,18 +173,12 @@ impl AlternationInfo {
         ensures { OnOk result ((t : Tree) (ts : Trees) → IsInfoOf branch t → IsAlternation self.old ts →
             IsAlternation self.new (more t ts)) }
     {
-        let RegexpInfo {
-            exact,
-            prefix,
-            suffix,
-            query,
-        } = branch;
-        self.exact = exact.union(alloc, &self.exact)?;
+        self.exact = branch.exact.union(alloc, &self.exact)?;
         let prefixes = mem::replace(&mut self.prefix, Vec::new(alloc));
-        self.prefix = union_of_end_strings(alloc, Side::Prefix, prefixes, &prefix)?;
+        self.prefix = union_of_end_strings(alloc, Side::Prefix, prefixes, &branch.prefix)?;
         let suffixes = mem::replace(&mut self.suffix, Vec::new(alloc));
-        self.suffix = union_of_end_strings(alloc, Side::Suffix, suffixes, &suffix)?;
-        self.members.push(query)?;
+        self.suffix = union_of_end_strings(alloc, Side::Suffix, suffixes, &branch.suffix)?;
+        self.members.push(branch.query)?;
         Ok(())
     }
 
@@ -210,12 +186,7 @@ impl AlternationInfo {
     pub(crate) fn finish(self, alloc: Global) -> Result<RegexpInfo, AllocError>
         ensures { IfOk result (λ info. (ts : Trees) → IsAlternation self ts → IsInfoOf info (alt ts)) }
     {
-        let AlternationInfo {
-            exact,
-            prefix,
-            suffix,
-            members,
-        } = self;
-        RegexpInfo::new(alloc, exact, prefix, suffix, Query::Or(members))
+        let query = Query::Or(self.members);
+        RegexpInfo::new(alloc, self.exact, self.prefix, self.suffix, query)
     }
 }

@@ -1,7 +1,7 @@
 // The set of the trigrams of a file: a bitmap of all 2^24 numbers, and the list of the members. It
 // is like `sparse.Set` in Go's codesearch, with a bitmap in place of the sparse array.
 ghost use Rattle.std.specs.Prelude.{◌≡◌, ◌+◌, ◌*◌, ◌-◌, ◌<◌, ◌≤◌, ◌^◌, ℕ, List, [], ◌∷◌, ◌++◌, length, vec_len, IfOk, IsTrue, ◌↔◌, nat_lt};
-ghost use Rattle.cs_trigram.specs.Trigram.{trigram_sequence};
+ghost use Rattle.cs_trigram.specs.Trigram.{set_of_numbers, trigram_sequence};
 ghost use Rattle.cs_trigram.specs.TrigramSets.{trigram_count};
 ghost use Rattle.cs_trigram.specs.TrigramBitmap.{IsBitmapOf, Collects, CollectsOn};
 ghost use Rattle.cs_trigram.specs.declared.seen_trigrams.TheConstants.{WITH_TWO};
@@ -139,7 +139,7 @@ fn clear_bits(bitmap: &mut [u64], numbers: &[u32])
 }
 
 impl SeenTrigrams {
-    ghost use Rattle.cs_trigram.specs.SeenTrigrams.{HasSeenBytes, SeesMore, IsSound, IsOverLimit, numbers_of};
+    ghost use Rattle.cs_trigram.specs.SeenTrigrams.{HasSeen, HasSeenBytes, SeesMore, IsSound, numbers_of};
 
     /// An empty set, with room for `most` trigrams.
     pub(crate) fn new(alloc: Global, most: usize) -> Result<SeenTrigrams, AllocError>
@@ -170,7 +170,8 @@ impl SeenTrigrams {
 
     /// Whether there are more trigrams than the limit.
     pub(crate) fn is_over_limit(&self) -> bool
-        ensures over { IsOverLimit self.now result }
+        ensures over { (most : ℕ) (trigrams : List ℕ) → HasSeen most self.now trigrams →
+            IsTrue result ↔ (most < length (set_of_numbers trigrams)) }
         ensures room { result ≡ nat_lt (length self.now.list.items) (self.now.len + WITH_TWO) }
     {
         self.list.len() < self.len + WITH_TWO

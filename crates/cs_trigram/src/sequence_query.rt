@@ -1,10 +1,10 @@
 // The query of a sequence, part by part from the last to the first: a string of each exact run, and
 // what the other parts require.
-ghost use Rattle.std.specs.Prelude.{◌≡◌, List, IfOk, OnOk, MatchOption};
+ghost use Rattle.std.specs.Prelude.{◌≡◌, ◌||◌, List, IfOk, OnOk, MatchOption};
 ghost use Rattle.std.specs.List.{list_all};
 ghost use Rattle.cs_syntax.specs.Matching.{Tree, Trees, none, more, cat};
 ghost use Rattle.cs_trigram.specs.ExactQuery.{HasFewExactStrings};
-ghost use Rattle.cs_trigram.specs.EndStrings.{AreEndStrings, AreEndStringsOfAll};
+ghost use Rattle.cs_trigram.specs.EndStrings.{are_all_empty, AreEndStrings, AreEndStringsOfAll};
 ghost use Rattle.cs_trigram.specs.ExactSet.{IsExactSetOf, AreExactSetsReversed};
 ghost use Rattle.cs_trigram.specs.Analysis.{IsCorrect, IsMatchQuery, AreExactStrings, AreExactStringsOfRun, IsLongestLeadingRun};
 ghost use Rattle.cs_trigram.specs.declared.end_strings.Side.TheVariants.{Prefix, Suffix};
@@ -15,7 +15,7 @@ use crate::connectives::{add_conjunct, any_string};
 use crate::cross_product::cross_product_query;
 use crate::end_strings::{EndString, are_empty};
 use crate::exact_set::ExactSet;
-use crate::exact_string::{ExactString, MAX_EXACT, are_longer, copies, cross_product};
+use crate::exact_string::{ExactString, MAX_EXACT, are_longer, cross_product, prepended};
 use crate::expansion::empty_string;
 use crate::queries::Query;
 use std::alloc::{AllocError, Global};
@@ -33,7 +33,7 @@ pub(crate) struct SequenceQuery {
 }
 
 impl SequenceQuery {
-    ghost use Rattle.cs_trigram.specs.SequenceQuery.{IsSequenceQueryOf, ExtendsSequenceQuery, goes_two_past, has_cross_trigrams};
+    ghost use Rattle.cs_trigram.specs.SequenceQuery.{IsSequenceQueryOf, ExtendsSequenceQuery, goes_two_past};
 
     /// The query of no parts.
     pub(crate) fn new(alloc: Global) -> Result<SequenceQuery, AllocError>
@@ -111,7 +111,8 @@ impl SequenceQuery {
     /// Whether the leading run has all trigrams across the end of its first part, which has these
     /// suffixes, into the parts after it, which have these prefixes.
     fn covers_cross(&self, suffixes: &[EndString], prefixes: &[EndString]) -> bool
-        ensures { result ≡ has_cross_trigrams self.now suffixes.now prefixes.now }
+        ensures { result ≡ (are_all_empty suffixes.now || (are_all_empty prefixes.now
+            || list_all (goes_two_past self.now.leading.items) suffixes.now)) }
     {
         are_empty(suffixes) || are_empty(prefixes) || self.extend_past_all(suffixes)
     }
@@ -164,12 +165,8 @@ impl SequenceQuery {
         ensures { IfOk result (λ query.
             (ts : Trees) → IsSequenceQueryOf self ts → IsMatchQuery query (cat ts)) }
     {
-        let SequenceQuery {
-            leading,
-            mut conjuncts,
-            parts: _,
-        } = self;
-        let last = any_string(alloc, &leading)?;
+        let mut conjuncts = self.conjuncts;
+        let last = any_string(alloc, &self.leading)?;
         add_conjunct(&mut conjuncts, last)?;
         Ok(Query::And(conjuncts))
     }
@@ -210,7 +207,7 @@ pub(crate) fn longest_leading_run(
     ensures { IfOk result (λ leading. (t : Tree) (ts : Trees) → AreExactStrings strings.now t →
         AreExactSetsReversed following.now ts → IsLongestLeadingRun (more t ts) leading.items) }
 {
-    let mut leading = copies(alloc, strings)?;
+    let mut leading = prepended(alloc, &[], strings)?;
     let mut index = following.len();
     'parts: while index > 0 {
         index -= 1;

@@ -3,7 +3,7 @@
 ghost use Rattle.std.specs.Prelude.{◌≡◌, ◌+◌, ◌*◌, ◌<◌, ◌≤◌, ◌^◌, ◌++◌, ◌∷◌, [], ℕ, List, length, vec_len, take, drop, IfOk};
 ghost use Rattle.cs_trigram.specs.Trigram.{trigram_sequence};
 ghost use Rattle.cs_trigram.specs.declared.seen_trigrams.TheConstants.{WITH_TWO};
-ghost use Rattle.cs_trigram.specs.Sixgrams.{sixgram_trigrams, trigrams_of_sixgrams, file_of, CachesOnly, HasNoLaterFile, AreMisses, AreMembers};
+ghost use Rattle.cs_trigram.specs.Sixgrams.{sixgram_trigrams, trigrams_of_sixgrams, file_of, CachesOnly, HasNoLaterFile, AreMisses, AreMembers, IsEmptyCache};
 
 use std::alloc::{AllocError, Global};
 
@@ -111,11 +111,9 @@ fn clear_slots(tags: &mut [u64])
 }
 
 impl SixgramCache {
-    ghost use Rattle.cs_trigram.specs.SixgramCache.{IsEmptyCache, IsSplitOf, KeepsNoLaterFile};
-
     /// An empty cache, for the first file.
     pub(crate) fn new(alloc: Global) -> Result<SixgramCache, AllocError>
-        ensures { IfOk result IsEmptyCache }
+        ensures { IfOk result (λ sixgrams. IsEmptyCache sixgrams.file sixgrams.tags.items) }
     {
         Ok(SixgramCache {
             tags: empty_slots(alloc, 4096)?,
@@ -127,8 +125,12 @@ impl SixgramCache {
     /// Splits bytes of the file into 6-grams that were cached, misses, and the bytes at the end.
     pub(crate) fn split(&mut self, bytes: &[u8]) -> Split
         requires { length bytes.now ≤ WITH_TWO }
-        ensures splits { IsSplitOf self.old self.new bytes.now result }
-        ensures last { KeepsNoLaterFile self.old self.new }
+        ensures misses { (earlier : List ℕ) → CachesOnly self.old.file self.old.tags.items earlier →
+            AreMisses self.old.file earlier self.new.tags.items bytes.now result.offset
+            (take result.count self.new.misses.items) }
+        ensures file { self.new.file ≡ self.old.file }
+        ensures last { HasNoLaterFile self.old.file self.old.tags.items →
+            HasNoLaterFile self.old.file self.new.tags.items }
         ensures counted { 4 * result.count ≤ result.offset }
         ensures within { result.offset ≤ length bytes.now }
     {
@@ -146,7 +148,7 @@ impl SixgramCache {
     /// Starts the next file.
     pub(crate) fn next_file(&mut self)
         requires { HasNoLaterFile self.old.file self.old.tags.items }
-        ensures { IsEmptyCache self.new }
+        ensures { IsEmptyCache self.new.file self.new.tags.items }
     {
         let mut last = self.file;
         if last == 65_535 {

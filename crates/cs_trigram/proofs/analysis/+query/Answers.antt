@@ -24,13 +24,6 @@ analyze_sequence-parts-preserved t c =
     let next = trees_before parts c.parts.index c.index-parts-index.result (omega arith) c.parts.invariant.0 c.index-parts-index.is in
     (omega arith, subst (IsSequence c.add.new.self) (sym next) (c.in_ok-add.ensures part rest c.in_ok-analyze.ensures c.parts.invariant.1))
 
-pub analyze_alternation-returns : goal.analyze_alternation-returns
-analyze_alternation-returns t c =
-    let parts = c.args.parts.now in
-    let start : c.parts.index ≡ 0 = omega arith in
-    if_ok c.finish.result _ _ c.finish.ensures
-    (λ _ right. right (trees_of parts) (subst (λ n. IsAlternation c.parts.alternation (trees_of (drop n parts))) start c.parts.invariant.1))
-
 pub analyze-returns-in_ok-strings_of_chars-in-Chars : goal.analyze-returns-in_ok-strings_of_chars-in-Chars
 analyze-returns-in_ok-strings_of_chars-in-Chars t c =
     let leaf = one_char c.in-Chars.set in

@@ -19,17 +19,6 @@ returns-then-bytes-lt3-clause-required c = λ set.
     ∙ ap (λ (ws : List (List ℕ)). some || has_any set ws) (sym (strings_from strings i w c.loop-string-test.true c.string-item.is))
     ∙ c.loop-string.invariant.0 set
 
-pub returns-clause-required : goal.returns-clause-required
-returns-clause-required c = λ set.
-    let strings = c.args.strings.now in
-    let some = some_matches c.loop-string.members.items set in
-    c.any_of.ensures.required set ∙ sym (end_of_text set c.loop-string.members.items)
-    ∙ ap (λ (ws : List (List ℕ)). some || has_any set ws) (sym (drop_of_length-le strings {i = c.loop-string.string-index} (omega arith)))
-    ∙ c.loop-string.invariant.0 set
-
-pub returns-then-bytes-lt3-clause-mentioned : goal.returns-then-bytes-lt3-clause-mentioned
-returns-then-bytes-lt3-clause-mentioned c = all_mentions_none (Unit {0}) (λ string. is_among c.args.strings.now string ≡ true)
-
 pub returns-clause-mentioned : goal.returns-clause-mentioned
 returns-clause-mentioned c = λ g h. c.loop-string.invariant.1 g (sym (c.any_of.ensures.mentioned g) ∙ h)
 

@@ -37,8 +37,8 @@ returns-clause-mentioned c =
     let none = no_trigrams (some_mentions c.new-conjuncts.result.items) (Unit {0}) P (λ g. ap (λ (qs : List Query). some_mentions qs g) c.new-conjuncts.ensures.items) in
     let before =
     trigrams_of_both _ (mentions one) (some_mentions c.add_conjunct.new.conjuncts.items) (Unit {0}) P c.in_ok-add_conjunct.ensures.mentioned none
-    (mentions_coarser one suffixes c.deref.result.now suffixes prefixes (coarser_same Suffix suffixes suffixes refl) first c.in_ok-product_query.ensures.mentioned) in
+    (mentions_coarser one suffixes c.deref.result.now suffixes prefixes (coarser_same Suffix suffixes) first c.in_ok-product_query.ensures.mentioned) in
     let both =
     trigrams_of_both _ (mentions other) (some_mentions c.add_conjunct-2.new.conjuncts.items) (Unit {0}) P c.in_ok-add_conjunct-2.ensures.mentioned before
-    (mentions_coarser other c.deref-2.result.now prefixes suffixes prefixes last (coarser_same Prefix prefixes prefixes refl) c.in_ok-product_query-2.ensures.mentioned) in
+    (mentions_coarser other c.deref-2.result.now prefixes suffixes prefixes last (coarser_same Prefix prefixes) c.in_ok-product_query-2.ensures.mentioned) in
     λ g h. both g (sym (mentions-And g c.add_conjunct-2.new.conjuncts) ∙ h)

@@ -15,7 +15,7 @@ loop-iteration-init c = λ t a.
     end_strings_of_iteration side c.args.once.now any begun t 0 (concatenations_via side _ _ c.args.once.now any begun refl c.deref.ensures.value c.in_ok-begun.ensures) a
     (any_end_strings side any (rep t 0 None) c.in_ok-bare_end_string.ensures) in
     end_strings_of_any_iterations side begun c.deref-2.result.now c.in_ok-end_strings.end_strings.items t (c.deref-2.ensures.value ∙ c.in_ok-bare_end_string-2.ensures)
-    c.in_ok-end_strings.ensures.all c.in_ok-end_strings.ensures.each some
+    c.in_ok-end_strings.ensures some
 
 pub loop-iteration-preserved : goal.loop-iteration-preserved
 loop-iteration-preserved c = λ t a.

@@ -12,7 +12,7 @@ loop-prefix-preserved c =
     let u = c.prefix-item.result in
     let rest = concatenations (drop (c.loop-prefix.prefix-index + 1) prefixes) suffixes in
     let next = strings_from prefixes c.loop-prefix.prefix-index u c.loop-prefix-test.true c.prefix-item.is in
-    ap (λ (ws : List (List ℕ)). with_strings ws rest) c.in_ok-add_concatenations.ensures
+    ap (λ (ws : List (List ℕ)). with_strings ws rest) (rw c.bytes-in-loop-prefix.ensures at c.in_ok-add_concatenations.ensures)
     ∙ sym (with_strings_append strings (map (λ v. u ++ v) suffixes) rest)
     ∙ ap (λ (us : List (List ℕ)). with_strings strings (concatenations us suffixes)) (sym next)
     ∙ c.loop-prefix.invariant
@@ -21,13 +21,7 @@ pub returns-then-len-gt-MAX_EXACT : goal.returns-then-len-gt-MAX_EXACT
 returns-then-len-gt-MAX_EXACT c = λ _ _.
     sym (with_strings_full c.loop-prefix.strings.items (concatenations (drop c.loop-prefix.prefix-index c.args.prefixes.now) c.args.suffixes.now) (omega arith)) ∙ c.loop-prefix.invariant
 
-pub returns : goal.returns
-returns c = λ _ _.
-    ap (λ (us : List (List ℕ)). with_strings c.loop-prefix.strings.items (concatenations us c.args.suffixes.now))
-    (sym (drop_of_length-le c.args.prefixes.now {i = c.loop-prefix.prefix-index} (omega arith)))
-    ∙ c.loop-prefix.invariant
-
 pub returns-then-prefixes-eq1 : goal.returns-then-prefixes-eq1
 returns-then-prefixes-eq1 c =
     if_ok c.prepended.result _ _ c.prepended.ensures
-    (λ strings is. λ distinct few. is ∙ single_prefix c.args.prefixes.now c.args.suffixes.now c.index-prefixes-0.result (omega arith) c.index-prefixes-0.is distinct few)
+    (λ strings is. λ distinct few. (rw c.bytes.ensures at is) ∙ single_prefix c.args.prefixes.now c.args.suffixes.now c.index-prefixes-0.result (omega arith) c.index-prefixes-0.is distinct few)

@@ -3,14 +3,8 @@ use Rattle.cs_syntax.proofs.CharSetLemmas.{char_range_within}
 use Rattle.cs_trigram.proofs.CharStringLemmas.{run_more, run_end, run_full}
 use Rattle.cs_trigram.proofs.expansion.add_range.Goals as goal
 
-pub overflow_add-n-end : goal.overflow_add-n-end
-overflow_add-n-end c = omega (arith, char_range_within c.args.range c.requires)
-
 pub loop-n-preserved : goal.loop-n-preserved
 loop-n-preserved c = run_more _ _ _ _ _ c.loop-n-test.true c.loop-n.invariant c.in_ok-add_char.ensures
-
-pub returns : goal.returns
-returns c = run_end _ _ _ _ c.loop-n-test.false c.loop-n.invariant
 
 pub returns-then-len-gt-MAX_EXACT : goal.returns-then-len-gt-MAX_EXACT
 returns-then-len-gt-MAX_EXACT c = run_full _ c.loop-n.n (c.args.range.1 + 1) _ (omega arith) c.loop-n.invariant

@@ -8,9 +8,6 @@ use Rattle.cs_trigram.specs.CharStrings.{all_forms}
 use Rattle.cs_trigram.proofs.CharStringLemmas.{runs_more, runs_end, chars_enumeration}
 use Rattle.cs_trigram.proofs.expansion.strings_of_chars.Goals as goal
 
-pub loop-range-init : goal.loop-range-init
-loop-range-init c = ap (λ ws. with_strings ws (all_forms c.runs-range-items.result.now)) c.new-strings.ensures.items
-
 pub add_range-requires : goal.add_range-requires
 add_range-requires c =
     canonical_range_at 0 _ c.loop-range.range-index (subst AreCanonical (sym c.runs-range-items.ensures.runs) c.runs-range-items.ensures.maximal) c.loop-range-test.true

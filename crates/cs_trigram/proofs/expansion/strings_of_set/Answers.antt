@@ -10,6 +10,3 @@ loop-byte-preserved c =
 
 pub returns : goal.returns
 returns c = set_whole c.args.set.now c.loop-byte.strings.items c.loop-byte.byte (omega arith) c.loop-byte.invariant
-
-pub returns-then-len-gt-MAX_EXACT : goal.returns-then-len-gt-MAX_EXACT
-returns-then-len-gt-MAX_EXACT c = set_many c.args.set.now c.loop-byte.strings.items c.loop-byte.byte (omega arith) c.loop-byte.invariant

@@ -1,5 +1,6 @@
 use Rattle.std.proofs.Common.{◌≡◌, ◌+◌, ◌-◌, ◌<◌, ℕ, get_or, length, take, refl, sym, ap, ◌∙◌, subst, List, arith}
 use Rattle.std.proofs.Math.Seq.{take-length}
+use Rattle.std.proofs.lemmas.List.{map-id}
 use Rattle.cs_syntax.specs.TreeList.{append}
 use Rattle.cs_syntax.specs.Matching.{Tree, Trees, none, more}
 use Rattle.cs_trigram.specs.ExactSet.{IsExactSetOf, AreExactSetsReversed}
@@ -26,7 +27,7 @@ parts-init c =
         more t none,
         ts,
         refl,
-        subst (λ (ws : List (List ℕ)). AreExactStringsOfRun ws (more t none)) (sym c.in_ok-leading.ensures) (run_strings c.args.strings.now t strings),
+        subst (λ (ws : List (List ℕ)). AreExactStringsOfRun ws (more t none)) (sym (c.in_ok-leading.ensures ∙ map-id c.args.strings.now)) (run_strings c.args.strings.now t strings),
         subst (λ (cs : List ExactSet). AreExactSetsReversed cs ts) (sym (take-length following)) counts,
       ),
     )
@@ -58,11 +59,3 @@ parts-preserved c = (
         next.4,
       ),
 )
-
-pub returns : goal.returns
-returns c = λ t ts strings counts.
-    let h = c.parts.invariant.1 t ts strings counts in
-    let start : c.parts.index ≡ 0 = omega arith in
-    let empty = ap (λ n. take n c.args.following.now) start in
-    let end = exact_set_none (take c.parts.index c.args.following.now) h.1 empty h.4 in
-    run_is_leading h.0 h.1 (more t ts) c.parts.leading.items h.2 h.3 (subst (IsBlocked h.0) (sym end) tt)

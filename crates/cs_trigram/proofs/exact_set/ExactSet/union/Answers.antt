@@ -1,4 +1,5 @@
 use Rattle.std.proofs.Common.{◌≡◌, List, ℕ, sym, ap, ◌∙◌, subst}
+use Rattle.std.proofs.lemmas.List.{map-id}
 use Rattle.cs_syntax.specs.Matching.{alt}
 use Rattle.cs_trigram.specs.Analysis.{EnumeratesTree, with_strings}
 use Rattle.cs_trigram.specs.ExactSet.{IsExactSetOf}
@@ -10,8 +11,9 @@ pub returns : goal.returns
 returns c = λ t u strings others.
     let us = c.in-Strings.strings.items in
     let vs = c.in-Strings-others.others.items in
-    let same : c.add_strings.new.strings.items ≡ with_strings vs us =
-    c.in_ok-add_strings.ensures ∙ ap (λ (ws : List (List ℕ)). with_strings ws c.deref-2.result.now) (c.in_ok-all.ensures ∙ c.deref.ensures.value) ∙ ap (with_strings vs) c.deref-2.ensures.value in
+    let others_copied = c.in_ok-all.ensures ∙ map-id c.deref.result.now ∙ c.deref.ensures.value in
+    let more = map-id c.deref-2.result.now ∙ c.deref-2.ensures.value in
+    let same : c.add_concatenations.new.strings.items ≡ with_strings vs us = c.in_ok-add_concatenations.ensures ∙ (λ i. with_strings (others_copied i) (more i)) in
     c.of.ensures (alt (pair t u))
     (subst (λ (ws : List (List ℕ)). EnumeratesTree ws (alt (pair t u))) (sym same)
     (enumerates_either us vs t u (subst (λ (x : ExactSet). IsExactSetOf x t) c.in-Strings.is strings).1 (subst (λ (x : ExactSet). IsExactSetOf x u) c.in-Strings-others.is others).1))

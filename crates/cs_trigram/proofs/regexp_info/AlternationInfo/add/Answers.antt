@@ -16,9 +16,9 @@ returns c = λ t ts branch info.
     let suffixes = subst (λ (v : Vec EndString Global). AreEndStringsOfSome Suffix v.items ts) (sym c.replace-suffixes.ensures.value) info.suffix in
     record {
       exact = exact_set_alt c.in_ok-self.field-0 t ts (c.in_ok-self.ensures t (alt ts) branch.exact info.exact);
-      prefix = end_strings_of_branches Prefix c.replace-prefixes.result.items c.deref.result.now c.in_ok-self-2.field-0.items t ts c.in_ok-self-2.ensures.all c.in_ok-self-2.ensures.each
+      prefix = end_strings_of_branches Prefix c.replace-prefixes.result.items c.deref.result.now c.in_ok-self-2.field-0.items t ts c.in_ok-self-2.ensures
           (subst (λ (es : List EndString). AreEndStrings Prefix es t) (sym c.deref.ensures.value) branch.prefix) prefixes;
-      suffix = end_strings_of_branches Suffix c.replace-suffixes.result.items c.deref-2.result.now c.in_ok-self-3.field-0.items t ts c.in_ok-self-3.ensures.all c.in_ok-self-3.ensures.each
+      suffix = end_strings_of_branches Suffix c.replace-suffixes.result.items c.deref-2.result.now c.in_ok-self-3.field-0.items t ts c.in_ok-self-3.ensures
           (subst (λ (es : List EndString). AreEndStrings Suffix es t) (sym c.deref-2.ensures.value) branch.suffix) suffixes;
       members = subst (λ (qs : List Query). AreCorrect qs (more t ts)) (sym c.in_ok-push.ensures.items) (right_more _ _ t ts branch.query info.members);
     }

@@ -15,6 +15,3 @@ returns-clause-required c = (
       (query_of_none (λ set. all_match c.new.result.items set) (λ set. ap (λ (qs : List Query). all_match qs set) c.new.ensures.items)),
   no_trigrams (some_mentions c.new.result.items) (HaveMembers none) (MayMatchSequence none) (λ g. ap (λ (qs : List Query). some_mentions qs g) c.new.ensures.items),
 )
-
-pub returns-clause-parts : goal.returns-clause-parts
-returns-clause-parts c = subst (λ (cs : List ExactSet). AreExactSetsReversed cs none) (sym c.new-2.ensures.items) tt

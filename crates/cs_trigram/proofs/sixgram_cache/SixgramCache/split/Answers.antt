@@ -3,8 +3,8 @@ use Rattle.cs_trigram.specs.Sixgrams.{CachesOnly}
 use Rattle.cs_trigram.proofs.SixgramCacheLemmas.{whole-write}
 use Rattle.cs_trigram.proofs.sixgram_cache.SixgramCache.split.Goals as goal
 
-pub returns-clause-splits : goal.returns-clause-splits
-returns-clause-splits c = λ earlier caches_only.
+pub returns-clause-misses : goal.returns-clause-misses
+returns-clause-misses c = λ earlier caches_only.
     let self = c.args.self.now in
     rw (
       whole-write self.tags.len c.split_bytes.new.tags self.tags.items (omega (arith, self.tags.ok.0)) (omega (arith, c.split_bytes.auto.tags, c.deref_mut.ensures.len, self.tags.ok.0)),

@@ -1,9 +1,0 @@
-use Rattle.std.proofs.Common.{◌≡◌, true}
-use Rattle.std.specs.Prelude.{Some}
-use Rattle.cs_syntax.specs.Matching.{Tree, rep}
-use Rattle.cs_trigram.specs.ExactStrings.{is_finite}
-use Rattle.cs_trigram.specs.ExactSet.{IsExactSetOf}
-use Rattle.cs_trigram.proofs.expansion.strings_up_to.Given as goal
-
-abbrev pub invariant-loop-iteration : goal.invariant-loop-iteration
-invariant-loop-iteration l = (t : Tree) → IsExactSetOf l.once t → is_finite t ≡ true → IsExactSetOf l.strings (rep t 0 (Some l._iteration))

@@ -6,7 +6,8 @@ use Rattle.cs_tree.proofs.GrowsLemmas.{Grows-same}
 use Rattle.cs_args.specs.declared.jobs.Tool.{Tool}
 use Rattle.cs_args.specs.declared.jobs.Tool.TheVariants.{Cindex, Csearch, Cgrep}
 use Rattle.cs_storage.specs.FileAfter.{file_after, IsChange}
-use Rattle.cs_storage.specs.Storing.{Folder, Moves, LeavesFiles, HasBytesOf, Looks, IsFree, Begins, Updates, replaced_after}
+use Rattle.cs_storage.specs.Storing.{Folder, Moves, LeavesFiles, HasBytesOf, Looks, IsFree, Fills, Begins, Updates, replaced_after}
+use Rattle.cs_storage.proofs.FillLemmas.{fills_keeps}
 use Rattle.cs_storage.specs.declared.fault.StorageFault.{StorageFault}
 use Rattle.cs_storage.specs.declared.update.IndexUpdate.{IndexUpdate}
 use Rattle.cs_storage.specs.declared.update.IndexUpdate.TheVariants.{Keep, Write, Remove}
@@ -36,24 +37,10 @@ moves_twice P Q R (Some f) None new on first second = absurd first
 moves_twice P Q R (Some f) (Some g) None on first second = absurd second
 moves_twice P Q R (Some f) (Some g) (Some h) on first second = on f g h first second
 
-pub moves_in_place : (P : Folder → Folder → Type 0) (folder : Option Folder) → ((f : Folder) → P f f) → Moves P folder folder
-moves_in_place P None on = refl
-moves_in_place P (Some f) on = on f
-
 -- ---- what becomes of FILE
 
 stores_nothing : (old new : Folder) → LeavesFiles old new → Stores Keep old new
 stores_nothing old new leaves = record { file = leaves.replaced; free = λ none. inl (leaves.own ∙ none) }
-
-same_folder : (f : Folder) → LeavesFiles f f
-same_folder f = record { own = refl; stuck = refl; replaced = refl }
-
--- without an update nothing changes
-pub keeps_folder : (folder : Option Folder) {update : IndexUpdate} → update ≡ Keep → Moves (Stores update) folder folder
-keeps_folder folder is = subst (λ update. Moves (Stores update) folder folder) (sym is) (moves_in_place (Stores Keep) folder (λ f. stores_nothing f f (same_folder f)))
-
-pub keeps_opened : (folder : Option Folder) {update : IndexUpdate} → update ≡ Keep → Moves (StoresOpened update) folder folder
-keeps_opened folder is = subst (λ update. Moves (StoresOpened update) folder folder) (sym is) (moves_in_place (StoresOpened Keep) folder (λ f. record { seen = refl; stores = stores_nothing f f (same_folder f) }))
 
 pub unread_stores : {I : Type 0} (model : I → Option (List ℕ)) (fault : StorageFault) (old new : Option Folder) → Moves (Looks model (Err fault)) old new → Moves (Stores Keep) old new
 unread_stores model fault old new looks = moves_on (Looks model (Err fault)) (Stores Keep) old new (λ f g l. stores_nothing f g l.0) looks
@@ -64,6 +51,20 @@ unclaimed_at fault old new begins = record { seen = begins.0; stores = record { 
 pub unclaimed_stores : (fault : StorageFault) (old new : Option Folder) → Moves (Begins (Err fault)) old new → Moves (StoresOpened Keep) old new
 unclaimed_stores fault old new begins = moves_on (Begins (Err fault)) (StoresOpened Keep) old new (unclaimed_at fault) begins
 
+-- ---- what an output over FILE~ has done
+
+filled_at : (old new : Folder) → Fills old new → StoresOpened Keep old new
+filled_at old new filled = let keeps = fills_keeps old new filled in record { seen = keeps.0; stores = record { file = keeps.2; free = λ none. inl (keeps.3 none) } }
+
+pub filled_opened : (old new : Option Folder) {update : IndexUpdate} → update ≡ Keep → Moves Fills old new → Moves (StoresOpened update) old new
+filled_opened old new is filled = subst (λ update. Moves (StoresOpened update) old new) (sym is) (moves_on Fills (StoresOpened Keep) old new filled_at filled)
+
+pub filled_stores : (old new : Option Folder) {update : IndexUpdate} → update ≡ Keep → Moves Fills old new → Moves (Stores update) old new
+filled_stores old new is filled = subst (λ update. Moves (Stores update) old new) (sym is) (moves_on Fills (Stores Keep) old new (λ f g fills. (filled_at f g fills).stores) filled)
+
+pub filled_leaves : (old new : Option Folder) → Moves Fills old new → Moves LeavesFile old new
+filled_leaves old new filled = moves_on Fills LeavesFile old new (λ f g fills. (filled_at f g fills).stores.file) filled
+
 replaces_from : (update : IndexUpdate) (first old new : Folder) → old.replaced ≡ first.replaced → ReplacesFile update old new → ReplacesFile update first new
 replaces_from Keep first old new same file = file ∙ same
 replaces_from (Write bytes) first old new same file = file
@@ -72,6 +73,12 @@ replaces_from Remove first old new same file = file
 free_from : (first old new : Folder) → old.stuck ≡ first.stuck → IsFree old new → IsFree first new
 free_from first old new same (inl none) = inl none
 free_from first old new same (inr stuck) = inr (stuck ∙ ap next_count same)
+
+finishes_at : (update : IndexUpdate) (old mid new : Folder) → Fills old mid → Finishes update mid new → Finishes update old new
+finishes_at update old mid new filled ends = let keeps = fills_keeps old mid filled in record { seen = ends.seen ∙ keeps.0; file = replaces_from update old mid new keeps.2 ends.file; free = free_from old mid new keeps.1 ends.free }
+
+pub filled_finishes : (update : IndexUpdate) (old mid new : Option Folder) → Moves Fills old mid → Moves (Finishes update) mid new → Moves (Finishes update) old new
+filled_finishes update old mid new filled ends = moves_twice Fills (Finishes update) (Finishes update) old mid new (finishes_at update) filled ends
 
 claimed_at : (update : IndexUpdate) (old mid new : Folder) → Begins (Ok tt) old mid → Finishes update mid new → StoresOpened update old new
 claimed_at update old mid new begins ends = record {
@@ -173,17 +180,17 @@ module _ {I : Type 0} (model : I → Option (List ℕ)) where
   }
 
 -- `cgrep` opens no index file
-pub executes_grep : {S : Type 0} (model : S → Option (List ℕ)) (call : Call) (file : FoundFile S) (unreadable : Bool) (folder : Option Folder) (old new : Surroundings) (outcome : Outcome) → IsCall call → call.tool ≡ Cgrep → file.index ≡ None → update_of outcome ≡ Keep → Runs call.given.now (opened_file file unreadable) (IsIndex model file.index) old new outcome → Executes call file.name.now file.temp.now folder folder old new outcome
-executes_grep model call file unreadable folder old new outcome is grep none keeps runs = record {
+pub executes_grep : {S : Type 0} (model : S → Option (List ℕ)) (call : Call) (file : FoundFile S) (unreadable : Bool) (before after : Option Folder) (old new : Surroundings) (outcome : Outcome) → IsCall call → call.tool ≡ Cgrep → file.index ≡ None → update_of outcome ≡ Keep → Moves Fills before after → Runs call.given.now (opened_file file unreadable) (IsIndex model file.index) old new outcome → Executes call file.name.now file.temp.now before after old new outcome
+executes_grep model call file unreadable before after old new outcome is grep none keeps filled runs = record {
   file = opened_file file unreadable;
   names = (refl, refl);
   opened = λ other. absurd (other grep);
   claimed = λ some. absurd (let e = some in cc);
   job = outcome;
-  runs = runs_over call.given.now (opened_file file unreadable) (IsIndex model file.index) (IsReadIndex call.tool folder) old new outcome
-      (λ index read. subst (λ found. IsIndex model found index) (sym none) (subst (λ tool. IsReadIndex tool folder index) grep read)) runs;
+  runs = runs_over call.given.now (opened_file file unreadable) (IsIndex model file.index) (IsReadIndex call.tool after) old new outcome
+      (λ index read. subst (λ found. IsIndex model found index) (sym none) (subst (λ tool. IsReadIndex tool after index) grep read)) runs;
   ends = inl refl;
-  stores = keeps_folder folder keeps;
+  stores = filled_stores before after keeps filled;
 }
 
 -- ---- over the opened file

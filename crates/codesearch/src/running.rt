@@ -1,6 +1,7 @@
 // The program over any tree, input and outputs, and any store of the index file.
 ghost use Rattle.std.specs.Prelude.{◌≡◌, ◌≢◌, ℕ, List, [], map, slice_get, unwrap_or, string_bytes, Bool, Option, Ok, Err, true, false, IfOk, IfErr, OnErr};
 ghost use Rattle.cs_tree.specs.Failures.{count_if};
+ghost use Rattle.cs_storage.specs.FileAfter.{IsGiven};
 ghost use Rattle.cs_history.specs.Jobs.{HasAbsoluteFolder};
 ghost use Rattle.cs_cindex.specs.OldIndex.{IsIndex, IsUnreadable, has_failed};
 ghost use Rattle.codesearch.specs.Program.{Between, IsUntouched, IsUnreadBy, IsCall, opened_file, Runs, DoesGrep, DoesJob, DoesSearch, DoesIndexing, EndsSearch, may_update, update_of, exit_status, arg_at, path_at};
@@ -8,6 +9,7 @@ ghost use Rattle.codesearch.specs.Running.{HasFolder, IsUnreadIn};
 
 use crate::call::Call;
 use crate::outcome::{Outcome, ProgramFault};
+use cs_output::Output;
 use cs_storage::IndexUpdate;
 use cs_tools::{
     CindexFault, GrepJob, IndexJob, Job, Refusal, SearchJob, Status, StoredIndex, Tool, ToolFault,
@@ -39,10 +41,11 @@ pub(crate) struct World<'a, S, T, R, O, E> {
 }
 
 /// Does what the arguments mean. Nothing but the job of the tool is printed; the line of an error is still to be
-/// printed, and the index file to be updated.
-pub(crate) fn run<'a, S: Store, T: Tree, R: Source, O: Sink, E: Sink>(
+/// printed, and the index file to be updated. A new index goes to `new`.
+pub(crate) fn run<'a, S: Store, T: Tree, R: Source, O: Sink, E: Sink, W: Output>(
     call: &'a Call<'a>,
     world: &mut World<'a, S, T, R, O, E>,
+    new: &mut W,
 ) -> Outcome<'a>
     requires call { IsCall call.now }
     ensures runs { (unreadable : Bool)
@@ -53,9 +56,11 @@ pub(crate) fn run<'a, S: Store, T: Tree, R: Source, O: Sink, E: Sink>(
         (IsIndex S.model world.old.file.index) old new result) }
     ensures unclaimed { may_update call.now.job ≡ false → update_of result ≡ IndexUpdate.Keep }
     ensures kept { exit_status result ≢ 0 → update_of result ≡ IndexUpdate.Keep }
+    ensures given { IsGiven (update_of result) (W.given new.old) (W.given new.new) }
+    ensures keeps_new { W.Keeps new.old new.new }
 {
     let name = world.file.name;
-    match run_call(call, world) {
+    match run_call(call, world, new) {
         Ok(outcome) => outcome,
         Err(IoFault::Failed) => Outcome::Refused(ProgramFault::Unreadable(name)),
         Err(IoFault::Memory) => Outcome::Refused(ProgramFault::Memory),
@@ -63,9 +68,10 @@ pub(crate) fn run<'a, S: Store, T: Tree, R: Source, O: Sink, E: Sink>(
 }
 
 /// The same, if the index file can be read.
-fn run_call<'a, S: Store, T: Tree, R: Source, O: Sink, E: Sink>(
+fn run_call<'a, S: Store, T: Tree, R: Source, O: Sink, E: Sink, W: Output>(
     call: &'a Call<'a>,
     world: &mut World<'a, S, T, R, O, E>,
+    new: &mut W,
 ) -> Result<Outcome<'a>, IoFault>
     requires call { IsCall call.now }
     ensures runs { IfOk result (λ outcome.
@@ -82,9 +88,12 @@ fn run_call<'a, S: Store, T: Tree, R: Source, O: Sink, E: Sink>(
     ensures memory { result ≡ Err IoFault.Memory →
         Between T.snapshot T.failed R.model R.failed O.model O.failed E.model E.failed
         world.old world.new IsUntouched }
+    ensures given { IfOk result
+        (λ outcome. IsGiven (update_of outcome) (W.given new.old) (W.given new.new)) }
+    ensures keeps_new { W.Keeps new.old new.new }
 {
     match &call.job {
-        Ok(job) => run_job(job, world),
+        Ok(job) => run_job(job, world, new),
         Err(fault) => {
             // The index file is read first, whatever the other arguments are.
             read_index(call.tool, world)?;
@@ -124,9 +133,10 @@ fn read_store<S: Store>(alloc: Global, tool: Tool, store: &mut S) -> Result<(), 
 }
 
 /// Does the job of the tool.
-fn run_job<'a, S: Store, T: Tree, R: Source, O: Sink, E: Sink>(
+fn run_job<'a, S: Store, T: Tree, R: Source, O: Sink, E: Sink, W: Output>(
     job: &'a Job,
     world: &mut World<'a, S, T, R, O, E>,
+    new: &mut W,
 ) -> Result<Outcome<'a>, IoFault>
     requires folder { HasFolder job.now }
     ensures does { IfOk result (λ outcome.
@@ -143,9 +153,12 @@ fn run_job<'a, S: Store, T: Tree, R: Source, O: Sink, E: Sink>(
     ensures memory { result ≡ Err IoFault.Memory →
         Between T.snapshot T.failed R.model R.failed O.model O.failed E.model E.failed
         world.old world.new IsUntouched }
+    ensures given { IfOk result
+        (λ outcome. IsGiven (update_of outcome) (W.given new.old) (W.given new.new)) }
+    ensures keeps_new { W.Keeps new.old new.new }
 {
     match job {
-        Job::Index(job) => run_index(job, world),
+        Job::Index(job) => run_index(job, world, new),
         Job::Search(job) => search_index(job, world),
         Job::Grep(job) => Ok(search_files(job, world)),
     }
@@ -216,9 +229,11 @@ fn searched<'a>(tool: Tool, answer: Result<Status, ToolFault>) -> Outcome<'a>
 }
 
 /// A job of `cindex`. Of an index in a store each posting list is read at most once, and none for `-list` and `-reset`.
-fn run_index<'a, S: Store, T: Tree, R: Source, O: Sink, E: Sink>(
+/// A new index goes to `new`.
+fn run_index<'a, S: Store, T: Tree, R: Source, O: Sink, E: Sink, W: Output>(
     job: &'a IndexJob,
     world: &mut World<'a, S, T, R, O, E>,
+    new: &mut W,
 ) -> Result<Outcome<'a>, IoFault>
     requires folder { HasAbsoluteFolder job.now }
     ensures does { IfOk result (λ outcome.
@@ -233,11 +248,14 @@ fn run_index<'a, S: Store, T: Tree, R: Source, O: Sink, E: Sink>(
     ensures unread { OnErr result (
         Between T.snapshot T.failed R.model R.failed O.model O.failed E.model E.failed
         world.old world.new (IsUnreadBy (Job.Index job.now) (IsIndex S.model world.old.file.index))) }
+    ensures given { IfOk result
+        (λ outcome. IsGiven (update_of outcome) (W.given new.old) (W.given new.new)) }
+    ensures keeps_new { W.Keeps new.old new.new }
 {
     let alloc = world.alloc;
     let index = &mut world.file.index;
     let (tree, out, err) = (&mut world.tree, &mut world.out, &mut world.err);
-    match cindex_stored(alloc, index, job, tree, out, err) {
+    match cindex_stored(alloc, index, job, tree, new, out, err) {
         Ok(Ok(update)) => Ok(Outcome::Done(update)),
         Ok(Err(fault)) => {
             let refusal = Refusal::Index(fault);

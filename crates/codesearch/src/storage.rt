@@ -1,6 +1,7 @@
 // The index file on the disk: its name, its opening, and FILE~ beside it.
 ghost use Rattle.std.specs.Prelude.{◌≡◌, length};
 
+use cs_output::Sent;
 use cs_storage::{IndexFolder, StorageFault, kept_mode};
 use cs_tree::{DiskStore, IoFault, Store, covers, is_absolute};
 use std::alloc::AllocError;
@@ -112,6 +113,10 @@ pub(crate) struct DiskFolder {
     seen: Option<Metadata>,
     /// FILE~, if this process made it and locked it.
     temp: Option<File>,
+    /// The bytes that FILE~ was given.
+    given: Sent,
+    /// Why the first append that failed did so. After it nothing more is written.
+    failure: Option<StorageFault>,
 }
 
 impl DiskFolder {
@@ -121,6 +126,8 @@ impl DiskFolder {
             paths,
             seen: None,
             temp: None,
+            given: Sent::new(),
+            failure: None,
         }
     }
 
@@ -130,6 +137,12 @@ impl DiskFolder {
             Some(temp) => Ok(temp),
             None => Err(StorageFault::Failed),
         }
+    }
+
+    /// Appends bytes to FILE~, which has to be held.
+    fn write(&self, bytes: &[u8]) -> Result<(), StorageFault> {
+        write_bytes(self.temp()?, bytes)?;
+        Ok(())
     }
 
     /// Renames FILE~, which has to be held, to FILE.
@@ -144,6 +157,8 @@ impl DiskFolder {
 
 impl IndexFolder for DiskFolder {
     type Index = DiskIndex;
+
+    ghost given = { λ d. d.given.bytes };
 
     /// Only a regular file is opened: opening a pipe would block, and opening a device may have side effects.
     fn look(&mut self) -> Result<Option<DiskIndex>, StorageFault> {
@@ -182,6 +197,8 @@ impl IndexFolder for DiskFolder {
         }
         check_same_file(&self.rt, path, &temp)?;
         self.temp = Some(temp);
+        self.given = Sent::new();
+        self.failure = None;
         Ok(())
     }
 
@@ -201,15 +218,20 @@ impl IndexFolder for DiskFolder {
         }
     }
 
-    fn fill(&mut self, bytes: &[u8]) -> Result<(), StorageFault> {
-        let temp = self.temp()?;
-        write_bytes(temp, bytes)?;
-        copy_rights(temp, self.seen.as_ref())?;
-        Ok(())
+    fn append(&mut self, bytes: &[u8]) {
+        if self.failure.is_none() {
+            self.failure = self.write(bytes).err();
+        }
+        self.given.push(bytes);
     }
 
     fn sync(&mut self) -> Result<(), StorageFault> {
-        self.temp()?.sync_all()?;
+        if let Some(fault) = self.failure {
+            return Err(fault);
+        }
+        let temp = self.temp()?;
+        copy_rights(temp, self.seen.as_ref())?;
+        temp.sync_all()?;
         Ok(())
     }
 

@@ -4,7 +4,7 @@ use Rattle.cs_storage.specs.Storing.{Moves, Looks}
 use Rattle.codesearch.specs.Program.{surroundings}
 use Rattle.codesearch.specs.declared.outcome.Outcome.TheVariants.{Refused}
 use Rattle.codesearch.proofs.CallLemmas.{grep_keeps}
-use Rattle.codesearch.proofs.ExecutionLemmas.{executes, executes_unread, executes_grep, untouched}
+use Rattle.codesearch.proofs.ExecutionLemmas.{executes, executes_unread, executes_grep, filled_leaves, untouched}
 use Rattle.codesearch.proofs.execution.execute.Goals as goal
 
 pub returns-then-eq-clause-executes : goal.returns-then-eq-clause-executes
@@ -13,8 +13,11 @@ returns-then-eq-clause-executes g c =
     let world = c.args.world.now in
     let grep : call.tool ≡ Cgrep = search rules in
     let old = surroundings g.T.Tree.snapshot g.T.Tree.failed g.R.Source.model g.R.Source.failed g.O.Sink.model g.O.Sink.failed g.E.Sink.model g.E.Sink.failed world in
-    let new = surroundings g.T.Tree.snapshot g.T.Tree.failed g.R.Source.model g.R.Source.failed g.O.Sink.model g.O.Sink.failed g.E.Sink.model g.E.Sink.failed c.run.new.world in
-    executes_grep g.F.Index.Store.model call (record world.file { index = None }) c.run.ensures.runs.0 (g.F.IndexFolder.model c.args.folder.now) old new c.run.result c.requires.call grep refl (c.run.ensures.unclaimed (grep_keeps call c.requires.call grep)) c.run.ensures.runs.2
+    let new = surroundings g.T.Tree.snapshot g.T.Tree.failed g.R.Source.model g.R.Source.failed g.O.Sink.model g.O.Sink.failed g.E.Sink.model g.E.Sink.failed c.run_over.new.world in
+    executes_grep g.F.Index.Store.model call (record world.file { index = None }) c.run_over.ensures.runs.0 (g.F.IndexFolder.model c.args.folder.now) (g.F.IndexFolder.model c.run_over.new.folder) old new c.run_over.result c.requires.call grep refl (c.run_over.ensures.unclaimed (grep_keeps call c.requires.call grep)) c.run_over.ensures.fills c.run_over.ensures.runs.1
+
+pub returns-then-eq-clause-kept : goal.returns-then-eq-clause-kept
+returns-then-eq-clause-kept g c = λ failed. filled_leaves _ _ c.run_over.ensures.fills
 
 pub returns-in-Ok-clause-executes : goal.returns-in-Ok-clause-executes
 returns-in-Ok-clause-executes g c =

@@ -63,11 +63,6 @@ module _ (P : ℕ → Type 0) where
   all_weaker Q h [] all = tt
   all_weaker Q h (n ∷ ns) all = (h n all.0, all_weaker Q h ns all.1)
 
-  pub all_filter : (test : ℕ → Bool) (ns : List ℕ) → AllByRecursion P ns → AllByRecursion P (filter test ns)
-  all_filter test [] all = tt
-  all_filter test (n ∷ ns) all =
-      cond_both (test n) (n ∷ filter test ns) (filter test ns) (AllByRecursion P) (λ _. (all.0, all_filter test ns all.1)) (λ _. all_filter test ns all.1)
-
 -- ---- membership
 
 or_swap : (a b c : Bool) → (a || (b || c)) ≡ (b || (a || c))

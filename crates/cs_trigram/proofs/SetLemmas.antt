@@ -211,11 +211,6 @@ all_above n (m ∷ ms) up = (up.0, all_above n ms (skip ms up.0 up.1))
     skip [] h up = tt
     skip (k ∷ ks) h up = (let g = up.0 in omega (arith, h, g), up.1)
 
--- ascending numbers below a bound are at most as many as the bound
-pub ascends-short : (n : ℕ) (ms : List ℕ) (bound : ℕ) → Ascends (n ∷ ms) → AllByRecursion (λ m. m < bound) (n ∷ ms) → n + length (n ∷ ms) ≤ bound
-ascends-short n [] bound up all = omega (arith, all.0)
-ascends-short n (m ∷ ms) bound up all = omega (arith, up.0, ascends-short m ms bound up.1 all.1)
-
 -- ---- filters
 
 above_filter : (p : ℕ → Bool) (n : ℕ) (xs : List ℕ) → Above n xs → Ascends xs → Above n (filter p xs)

@@ -33,11 +33,6 @@ run_more strings new c end whole lt h is =
     ∙ sym (char_more strings c (end - (c + 1)))
     ∙ ap (λ n. with_strings strings (forms_from c n)) (sym one) ∙ h
 
-pub run_end : (strings : List (List ℕ)) (c end : ℕ) (whole : List (List ℕ)) → end ≤ c → with_strings strings (forms_from c (end - c)) ≡ whole → strings ≡ whole
-run_end strings c end whole le h =
-    let none : end - c ≡ 0 = omega arith in
-    sym (ap (λ n. with_strings strings (forms_from c n)) none) ∙ h
-
 pub run_full : (strings : List (List ℕ)) (c end : ℕ) (whole : List (List ℕ)) → 20 < length strings → with_strings strings (forms_from c (end - c)) ≡ whole → strings ≡ whole
 run_full strings c end whole many h = sym (with_strings_full strings (forms_from c (end - c)) many) ∙ h
 

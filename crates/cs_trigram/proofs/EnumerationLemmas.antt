@@ -225,14 +225,6 @@ set_whole set ws n le s =
       | inr ge ↦ absurd (both_ways (member set p.0) (beyond set p.0 (omega arith)) p.1)
     ])
 
--- an enumeration of the members below n that has more than twenty strings is one of all members
-pub set_many : (set : List Bool) (ws : List (List ℕ)) (n : ℕ) → 20 < length ws → IsEnumeration ws (IsByteBelow set n) → IsEnumeration ws (HasExactString (one_of set))
-set_many set ws n lt s = record {
-  right = λ v m. let p = s.right v m in (p.0, p.2, p.3);
-  different = s.different;
-  whole = λ le v h. absurd (omega (arith, le, lt));
-}
-
 pub set_next : (set : List Bool) (ws : List (List ℕ)) (n : ℕ) → IsEnumeration ws (IsByteBelow set n) →
     IsEnumeration (if member set n then with_string ws (n ∷ []) else ws) (IsByteBelow set (n + 1))
 set_next set ws n s = by (member set n) refl

@@ -190,10 +190,6 @@ exact_set_not_few (Strings strings) t h bare few =
 exact_set_not_few Many t h bare few = many_not_few t h.1 few
 exact_set_not_few Infinite t h bare few = tree_not_finite t h few
 
--- the exact sets of the parts, that of the first part last
-pub exact_set_more : (counts : List ExactSet) (c : ExactSet) (t : Tree) (ts : Trees) → IsExactSetOf c t → AreExactSetsReversed counts ts → AreExactSetsReversed (counts ++ c ∷ []) (more t ts)
-exact_set_more counts c t ts h k = subst (λ (cs : List ExactSet). AreExactSetsOf cs (more t ts)) (sym (reverse-append counts (c ∷ []))) (h, k)
-
 pub exact_set_first : (counts : List ExactSet) (n : ℕ) (c : ExactSet) (ts : Trees) → n < length counts → c ≡ get_or counts n c → AreExactSetsReversed (take (n + 1) counts) ts →
     (t : Tree) × (rest : Trees) × (ts ≡ more t rest) × IsExactSetOf c t × AreExactSetsReversed (take n counts) rest
 exact_set_first counts n c ts lt is h =
@@ -207,7 +203,3 @@ exact_set_first counts n c ts lt is h =
     by : (us : Trees) → AreExactSetsOf (c ∷ reverse (take n counts)) us → (t : Tree) × (rest : Trees) × (us ≡ more t rest) × IsExactSetOf c t × AreExactSetsReversed (take n counts) rest
     by none k = absurd k
     by (more t rest) k = (t, rest, refl, k.0, k.1)
-
-pub exact_set_none : (counts : List ExactSet) (ts : Trees) → counts ≡ [] → AreExactSetsReversed counts ts → ts ≡ none
-exact_set_none counts none e h = refl
-exact_set_none counts (more t ts) e h = absurd (subst (λ (cs : List ExactSet). AreExactSetsReversed cs (more t ts)) e h)

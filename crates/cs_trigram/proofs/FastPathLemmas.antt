@@ -73,13 +73,6 @@ above_zero : (n : ℕ) → (n ≡ 0 → ⊥) → 0 < n
 above_zero zero some = absurd (some refl)
 above_zero (suc n) some = omega arith
 
--- one more byte before bytes that may follow it
-pub AreValidPairs-more : (before b : ℕ) (fit may : Bool) (rest : List ℕ) → (fit && not (eqb b 0)) && may ≡ true → may ≡ valid_utf8_pair before b → AreValidPairs b rest → (fit ≡ true) × AreValidPairs before (b ∷ rest)
-AreValidPairs-more before b fit may rest all is pairs_are_valid =
-    let parts = and_parts (fit && not (eqb b 0)) may all in
-    let first = and_parts fit (not (eqb b 0)) parts.0 in
-    (first.0, (above_zero b (eqb-false b 0 (not-true (eqb b 0) first.1)), sym is ∙ parts.1, pairs_are_valid))
-
 valid_pairs_unbroken : (most : Limits) (prefix : List ℕ) (b : ℕ) → 0 < b → valid_utf8_pair (last_byte prefix) b ≡ true → length prefix < most.bytes → length (line_so_far prefix) < most.line → rule_broken most prefix b ≡ None
 valid_pairs_unbroken most prefix b some may room fits =
     ap (λ t. cond t (Some Nul) (cond (not (valid_utf8_pair (last_byte prefix) b)) (Some Utf8) (cond (leb most.bytes (length prefix)) (Some TooLong) (cond (leb most.line (length (line_so_far prefix))) (Some LongLine) None)))) (ne_eqb b 0 (λ is. omega (arith, is, some)))

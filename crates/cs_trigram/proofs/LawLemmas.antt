@@ -61,21 +61,3 @@ has-only bytes n h = has-sequence bytes n (sym (has-set_of_numbers n (trigram_se
 -- the trigrams of a file that is not skipped
 abbrev pub none_skipped : Option Reason → List ℕ → Option (List ℕ)
 none_skipped why trigrams = if is_none why then Some trigrams else None
-
-found_text : (o : Option Reason) (set trigrams : List ℕ) (long count : ℕ) → text trigrams count ≡ skipped_or o (text set long) → (none_skipped o set ≡ Some trigrams) × (count ≡ long)
-found_text None set trigrams long count h =
-    let same : trigrams ≡ set = cc in
-    (ap Some (sym same), cc)
-found_text (Some r) set trigrams long count h = absurd (cc)
-
-pub text-found : (most : Limits) (bytes trigrams : List ℕ) (count : ℕ) → text trigrams count ≡ scan_outcome_of most bytes ends → (text_trigrams most bytes ≡ Some trigrams) × (count ≡ length bytes)
-text-found most bytes trigrams count h = found_text (skip most bytes) (tri bytes) trigrams (length bytes) count h
-
-found_left_out : (o : Option Reason) (set : List ℕ) (long : ℕ) (reason : Reason) → skipped_for reason ≡ skipped_or o (text set long) → (o ≡ Some reason) × (none_skipped o set ≡ None)
-found_left_out None set long reason h = absurd (cc)
-found_left_out (Some r) set long reason h =
-    let same : reason ≡ r = cc in
-    (ap Some (sym same), refl)
-
-pub skipped_for-found : (most : Limits) (bytes : List ℕ) (reason : Reason) → skipped_for reason ≡ scan_outcome_of most bytes ends → (skip most bytes ≡ Some reason) × (text_trigrams most bytes ≡ None)
-skipped_for-found most bytes reason h = found_left_out (skip most bytes) (tri bytes) (length bytes) reason h

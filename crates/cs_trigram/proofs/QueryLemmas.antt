@@ -79,9 +79,6 @@ text_step set members q w ws e =
     ap (λ b. b || has_any set ws) (some_matches_push set members q ∙ ap (λ b. some_matches members set || b) e)
     ∙ or_assoc (some_matches members set) (has_trigrams set w) (has_any set ws)
 
-pub end_of_text : (set : ℕ → Bool) (members : List Query) → (some_matches members set || has_any set []) ≡ some_matches members set
-end_of_text set members = or-false (some_matches members set)
-
 -- a string without a trigram is required trivially
 pub short_there : (set : ℕ → Bool) (rest : List (List ℕ)) (w : List ℕ) (b : Bool) → length w ≤ 2 → (b || has_any set (w ∷ rest)) ≡ true
 short_there set rest w b le =

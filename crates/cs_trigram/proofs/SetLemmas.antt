@@ -63,11 +63,6 @@ module _ (P : ℕ → Type 0) where
   all_weaker Q h [] all = tt
   all_weaker Q h (n ∷ ns) all = (h n all.0, all_weaker Q h ns all.1)
 
-  pub all_filter : (test : ℕ → Bool) (ns : List ℕ) → AllByRecursion P ns → AllByRecursion P (filter test ns)
-  all_filter test [] all = tt
-  all_filter test (n ∷ ns) all =
-      cond_both (test n) (n ∷ filter test ns) (filter test ns) (AllByRecursion P) (λ _. (all.0, all_filter test ns all.1)) (λ _. all_filter test ns all.1)
-
 -- ---- membership
 
 or_swap : (a b c : Bool) → (a || (b || c)) ≡ (b || (a || c))
@@ -215,11 +210,6 @@ all_above n (m ∷ ms) up = (up.0, all_above n ms (skip ms up.0 up.1))
     skip : (ks : List ℕ) → n < m → Ascends (m ∷ ks) → Ascends (n ∷ ks)
     skip [] h up = tt
     skip (k ∷ ks) h up = (let g = up.0 in omega (arith, h, g), up.1)
-
--- ascending numbers below a bound are at most as many as the bound
-pub ascends-short : (n : ℕ) (ms : List ℕ) (bound : ℕ) → Ascends (n ∷ ms) → AllByRecursion (λ m. m < bound) (n ∷ ms) → n + length (n ∷ ms) ≤ bound
-ascends-short n [] bound up all = omega (arith, all.0)
-ascends-short n (m ∷ ms) bound up all = omega (arith, up.0, ascends-short m ms bound up.1 all.1)
 
 -- ---- filters
 

@@ -1,11 +1,11 @@
 -- The bitmap and the list after one more number.
 use Rattle.std.proofs.Common.{◌≡◌, ◌≢◌, ◌≤◌, ◌<◌, ℕ, suc, ◌+◌, ◌*◌, ◌/◌, ◌%◌, ◌^◌, Bool, true, false, ◌||◌, eqb, List, [], ◌∷◌, ◌++◌, length, take, get_or, set, refl, sym, ap, subst, ◌∙◌, inl, inr, ◌⊎◌, arith, length-append, drop, get_or-set_same, get_or-set_other, w64, bit_or, bit_and, not}
 use Rattle.std.proofs.Math.Bool.{or-false, or-true}
-use Rattle.std.proofs.lemmas.List.{append_assoc, take-set-le, take_more_set, drop_all}
+use Rattle.std.proofs.lemmas.List.{append_assoc, take-set-le, take_more_set}
 use Rattle.std.proofs.lemmas.Nat.{one_shl}
 use Rattle.std.proofs.lemmas.Nat.Bits.{and_pow, bit_at_set_same, bit_at_set_other}
 use Rattle.std.specs.Int.Bits.{or_add_and}
-use Rattle.std.proofs.lemmas.Bool.{false≢true, cases_eq, eq-eqb, ne_eqb}
+use Rattle.std.proofs.lemmas.Bool.{cases_eq, eq-eqb, ne_eqb}
 use Rattle.std.specs.Int.{bit_at, from_bool}
 use Rattle.cs_syntax.specs.Bits.{has_bit}
 use Rattle.std.specs.List.{AllByRecursion}
@@ -133,19 +133,6 @@ Collects-chain bitmap list len mid_bitmap mid_list mid_len more_bitmap more_list
 -- the bits that remain when those of the first i numbers are cleared belong to the others
 pub record IsPartlyCleared (bitmap numbers : List ℕ) (i : ℕ) : Type 0 where
   pub left : (n : ℕ) → has_bit bitmap n ≡ true → has (drop i numbers) n ≡ true
-
-pub IsPartlyCleared-start : (bitmap numbers : List ℕ) → IsBitmapOf bitmap numbers → IsPartlyCleared bitmap numbers 0
-IsPartlyCleared-start bitmap numbers is_bitmap = record { left = λ n one. sym (is_bitmap n) ∙ one }
-
-pub IsPartlyCleared-end : (bitmap numbers : List ℕ) (i : ℕ) → length numbers ≤ i → IsPartlyCleared bitmap numbers i → IsBitmapOf bitmap []
-IsPartlyCleared-end bitmap numbers i over cleared n = by_case (has_bit bitmap n) refl
-  where
-    nothing : drop i numbers ≡ []
-    nothing = drop_all i numbers over
-
-    by_case : (there : Bool) → has_bit bitmap n ≡ there → has_bit bitmap n ≡ false
-    by_case true one = absurd (false≢true (ap (λ ns. has ns n) (sym nothing) ∙ cleared.left n one))
-    by_case false none = none
 
 -- ---- numbers with a bit are small
 

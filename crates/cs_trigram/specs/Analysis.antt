@@ -1,16 +1,16 @@
 -- The query analysis: enumerations of exact strings up to twenty-one, and correct queries.
-use Rattle.std.specs.Prelude.{ℕ, ◌≡◌, ◌≤◌, ◌<◌, ◌↔◌, ◌&&◌, ◌||◌, ◌++◌, ◌∷◌, [], Bool, true, not, List, length, map, nat_le, if◌then◌else◌, IsTrue}
+use Rattle.std.specs.Prelude.{ℕ, ◌≡◌, ◌≤◌, ◌<◌, ◌↔◌, ◌&&◌, ◌++◌, ◌∷◌, [], Bool, true, not, List, length, map, nat_le, if◌then◌else◌, IsTrue}
 use Rattle.cs_trigram.specs.TrigramSets.{trigram_count}
 use Rattle.cs_trigram.specs.MayMatch.{MayMatch, MayMatchBranch, HasMembers, HaveMembers, IsTrigramOf}
 use Rattle.cs_syntax.specs.TreeList.{append}
 use Rattle.std.specs.List.{list_any, list_all}
 use Rattle.cs_tree.specs.Cover.{is_among}
 use Rattle.cs_tree.specs.Folders.{are_distinct}
-use Rattle.cs_syntax.specs.Matching.{Tree, Trees, none, more, cat, member, MatchesSpan, MatchesSequence, MatchesBranch}
+use Rattle.cs_syntax.specs.Matching.{Tree, Trees, none, more, cat, MatchesSpan, MatchesSequence, MatchesBranch}
 use Rattle.cs_trigram.specs.Trigram.{tri}
 use Rattle.cs_trigram.specs.Query.{matches_set, mentions, HasTrigrams}
 use Rattle.cs_trigram.specs.ExactRuns.{HasRunsWithin, SomeHasExactRuns, IsSelective}
-use Rattle.cs_trigram.specs.ExactStrings.{HasExactString, ConcatenatesExactStrings, SomeHasExactString, HaveFewExactStrings, is_finite, are_finite}
+use Rattle.cs_trigram.specs.ExactStrings.{HasExactString, ConcatenatesExactStrings, HaveFewExactStrings, is_finite, are_finite}
 use Rattle.cs_trigram.specs.ExactQuery.{HasFewExactStrings}
 use Rattle.cs_trigram.specs.declared.queries.Query.{Query}
 

@@ -1,8 +1,8 @@
 -- Prefixes and suffixes of matches. An end string is a prefix or a suffix, depending on the side.
 -- Cox, "Regular Expression Matching with a Trigram Index".
-use Rattle.std.specs.Prelude.{ℕ, ◌≡◌, ◌-◌, ◌<◌, ◌≤◌, ◌⊎◌, ◌++◌, ◌∷◌, [], Bool, true, false, List, Contains, length, take, drop, map, not, ◌&&◌, ◌||◌, if◌then◌else◌, nat_eq, nat_le, bytes_eq, slice_range, Option}
+use Rattle.std.specs.Prelude.{ℕ, ◌≡◌, ◌-◌, ◌<◌, ◌≤◌, ◌⊎◌, ◌++◌, ◌∷◌, [], Bool, true, List, Contains, length, take, drop, map, not, ◌&&◌, ◌||◌, if◌then◌else◌, nat_eq, nat_le, bytes_eq, slice_range}
 use Rattle.std.specs.List.{list_all, list_any}
-use Rattle.cs_syntax.specs.Matching.{Tree, Trees, rep, MatchesSpan, MatchesSequence, MatchesBranch}
+use Rattle.cs_syntax.specs.Matching.{Tree, Trees, MatchesSpan, MatchesSequence, MatchesBranch}
 use Rattle.cs_trigram.specs.MayMatch.{MayMatch, MayMatchSequence, MayMatchBranch, HasMembers, HaveMembers}
 use Rattle.cs_trigram.specs.declared.end_strings.Side.{Side}
 use Rattle.cs_trigram.specs.declared.end_strings.Side.TheVariants.{Prefix, Suffix}

@@ -1,5 +1,5 @@
 -- The set of the trigrams of the bytes read so far.
-use Rattle.std.specs.Prelude.{◌≡◌, ℕ, ◌+◌, ◌<◌, ◌≤◌, ◌++◌, ◌↔◌, Bool, IsTrue, List, length, take}
+use Rattle.std.specs.Prelude.{◌≡◌, ℕ, ◌+◌, ◌<◌, ◌≤◌, ◌++◌, List, length, take}
 use Rattle.cs_trigram.specs.declared.seen_trigrams.TheConstants.{WITH_TWO}
 use Rattle.cs_trigram.specs.declared.seen_trigrams.SeenTrigrams.{SeenTrigrams}
 use Rattle.cs_trigram.specs.Trigram.{set_of_numbers, trigram_sequence}

@@ -1,10 +1,10 @@
 -- The query of a sequence.
-use Rattle.std.specs.Prelude.{Contains, ℕ, ◌≡◌, ◌+◌, ◌&&◌, ◌||◌, ◌++◌, Bool, true, List, [], ◌∷◌, length, map, nat_lt}
+use Rattle.std.specs.Prelude.{Contains, ℕ, ◌≡◌, ◌+◌, ◌&&◌, ◌++◌, Bool, true, List, [], ◌∷◌, length, map, nat_lt}
 use Rattle.std.specs.List.{list_all}
 use Rattle.cs_syntax.specs.Matching.{Tree, Trees, more}
 use Rattle.cs_trigram.specs.Query.{matches_set, HasTrigrams}
 use Rattle.cs_trigram.specs.MayMatch.{MayMatchSequence, HaveMembers}
-use Rattle.cs_trigram.specs.EndStrings.{are_all_empty, HasSomeEndString}
+use Rattle.cs_trigram.specs.EndStrings.{HasSomeEndString}
 use Rattle.cs_trigram.specs.Analysis.{IsQueryBeyondRun, AreTrigramsOf, all_match, some_mentions}
 use Rattle.cs_trigram.specs.declared.queries.Query.{Query}
 use Rattle.cs_trigram.specs.declared.end_strings.EndString.{EndString}

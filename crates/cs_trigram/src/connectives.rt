@@ -1,5 +1,5 @@
 // Conjunctions of queries, and queries for strings (`and` and `andTrigrams` in Go's codesearch).
-ghost use Rattle.std.specs.Prelude.{◌≡◌, ◌<◌, ◌&&◌, ◌||◌, ℕ, Bool, length, IsTrue, IfOk, OnOk};
+ghost use Rattle.std.specs.Prelude.{◌≡◌, ◌<◌, ◌&&◌, ◌||◌, ℕ, Bool, IsTrue, IfOk, OnOk};
 ghost use Rattle.cs_trigram.specs.Trigram.{trigram};
 ghost use Rattle.cs_trigram.specs.TrigramSets.{trigram_count};
 ghost use Rattle.cs_tree.specs.Cover.{is_among};

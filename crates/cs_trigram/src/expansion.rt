@@ -1,7 +1,7 @@
 // The exact sets of character classes and repeats, by expansion.
-ghost use Rattle.std.specs.Prelude.{◌≡◌, ◌≤◌, ◌+◌, [], ◌∷◌, if◌then◌else◌, IfOk, OnOk, Some, ℕ, true};
+ghost use Rattle.std.specs.Prelude.{◌≡◌, ◌+◌, [], ◌∷◌, if◌then◌else◌, IfOk, OnOk, Some};
 ghost use Rattle.cs_syntax.specs.Matching.{Tree, member, one_of, one_char, rep};
-ghost use Rattle.cs_trigram.specs.ExactStrings.{is_finite, HasExactString};
+ghost use Rattle.cs_trigram.specs.ExactStrings.{HasExactString};
 ghost use Rattle.cs_trigram.specs.Analysis.{with_string, with_strings, IsEnumeration};
 ghost use Rattle.cs_trigram.specs.CharStrings.{range_forms, with_form};
 ghost use Rattle.cs_syntax.specs.CharRanges.{IsCharRange};

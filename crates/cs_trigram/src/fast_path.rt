@@ -1,6 +1,6 @@
 // A fast path of the text rules: chunks of bytes are tested without a branch for each byte. Only a
 // chunk that fails is tested byte by byte.
-ghost use Rattle.std.specs.Prelude.{◌≡◌, ◌+◌, ◌-◌, ◌<◌, ◌≤◌, ◌^◌, ℕ, List, [], ◌++◌, length, IsTrue, IfSome, IfOk, Ok};
+ghost use Rattle.std.specs.Prelude.{◌≡◌, ◌+◌, ◌-◌, ◌<◌, ◌≤◌, ◌^◌, length, IsTrue, IfSome, IfOk, Ok};
 ghost use Rattle.std.specs.List.{AllByRecursion};
 ghost use Rattle.cs_trigram.specs.Position.{IsSmall, IsAdvancedBy, ValidatesFrom};
 ghost use Rattle.cs_trigram.specs.FastPath.{LinesFit, column_after, AreValidPairs};

@@ -1,6 +1,6 @@
 //! Laws of the definitions: these functions do nothing, and their contracts follow from the
 //! definitions alone.
-ghost use Rattle.std.specs.Prelude.{◌≡◌, ◌<◌, ◌++◌, ◌∷◌, ℕ, Bool, List, [], Option, Some, None, length, true, false};
+ghost use Rattle.std.specs.Prelude.{◌≡◌, ◌<◌, ◌++◌, ◌∷◌, ℕ, Bool, List, [], Some, None, length, true};
 ghost use Rattle.cs_trigram.specs.Scans.{scan_outcome_of, text, skipped_for};
 ghost use Rattle.std.specs.List.{AllByRecursion};
 ghost use Rattle.cs_tree.specs.StreamModels.{ends};

@@ -3,7 +3,7 @@
 ghost use Rattle.std.specs.Prelude.{◌≡◌, ◌+◌, ◌*◌, ◌-◌, ◌<◌, ◌≤◌, ◌^◌, ℕ, List, [], ◌∷◌, ◌++◌, length, vec_len, IfOk, IsTrue, ◌↔◌, nat_lt};
 ghost use Rattle.cs_trigram.specs.Trigram.{set_of_numbers, trigram_sequence};
 ghost use Rattle.cs_trigram.specs.TrigramSets.{trigram_count};
-ghost use Rattle.cs_trigram.specs.TrigramBitmap.{IsBitmapOf, Collects, CollectsOn};
+ghost use Rattle.cs_trigram.specs.TrigramBitmap.{IsBitmapOf, CollectsOn};
 ghost use Rattle.cs_trigram.specs.declared.seen_trigrams.TheConstants.{WITH_TWO};
 ghost use Rattle.cs_trigram.specs.Sixgrams.{sixgram_trigrams, trigrams_of_sixgrams};
 

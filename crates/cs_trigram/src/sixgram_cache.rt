@@ -1,9 +1,9 @@
 // A cache of the 6-grams of a file, direct-mapped, so that repeated text is not looked up in the
 // bitmap again.
-ghost use Rattle.std.specs.Prelude.{◌≡◌, ◌+◌, ◌*◌, ◌<◌, ◌≤◌, ◌^◌, ◌++◌, ◌∷◌, [], ℕ, List, length, vec_len, take, drop, IfOk};
+ghost use Rattle.std.specs.Prelude.{◌≡◌, ◌+◌, ◌*◌, ◌<◌, ◌≤◌, ◌^◌, ℕ, List, length, vec_len, take, drop, IfOk};
 ghost use Rattle.cs_trigram.specs.Trigram.{trigram_sequence};
 ghost use Rattle.cs_trigram.specs.declared.seen_trigrams.TheConstants.{WITH_TWO};
-ghost use Rattle.cs_trigram.specs.Sixgrams.{sixgram_trigrams, trigrams_of_sixgrams, file_of, CachesOnly, HasNoLaterFile, AreMisses, AreMembers, IsEmptyCache};
+ghost use Rattle.cs_trigram.specs.Sixgrams.{sixgram_trigrams, file_of, CachesOnly, HasNoLaterFile, AreMisses, IsEmptyCache};
 
 use std::alloc::{AllocError, Global};
 

@@ -1,10 +1,10 @@
-use Rattle.std.proofs.Common.{◌≡◌, true, ◌+◌, ◌||◌, ℕ, List, ◌≤◌, drop, length, sym, ◌∙◌, ap, arith, drop_of_length-le}
+use Rattle.std.proofs.Common.{◌≡◌, true, ◌+◌, ◌||◌, ℕ, List, ◌≤◌, drop, length, sym, ◌∙◌, ap, arith}
 use Rattle.cs_tree.specs.Cover.{is_among}
 use Rattle.cs_trigram.specs.Analysis.{has_trigrams, some_matches, some_mentions, has_any}
 use Rattle.cs_trigram.specs.Query.{mentions}
 use Rattle.cs_trigram.specs.declared.queries.Query.{Query}
-use Rattle.cs_trigram.proofs.MentionLemmas.{all_mentions_none, trigrams_of_both, trigrams_within, occurs_itself}
-use Rattle.cs_trigram.proofs.QueryLemmas.{matches_set-All, mentions_push, end_of_text, short_there, text_step}
+use Rattle.cs_trigram.proofs.MentionLemmas.{trigrams_of_both, trigrams_within, occurs_itself}
+use Rattle.cs_trigram.proofs.QueryLemmas.{matches_set-All, mentions_push, short_there, text_step}
 use Rattle.cs_trigram.proofs.EnumerationLemmas.{strings_from, string_at}
 use Rattle.cs_trigram.proofs.connectives.any_string.Goals as goal
 

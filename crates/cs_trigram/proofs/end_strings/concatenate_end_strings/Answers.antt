@@ -1,6 +1,6 @@
 use Rattle.std.proofs.Common.{inl, inr, arith, sym, subst}
 use Rattle.cs_trigram.specs.EndStrings.{AreConcatenations}
-use Rattle.cs_trigram.proofs.NodeListLemmas.{if_ok, some_of, none_of}
+use Rattle.cs_trigram.proofs.NodeListLemmas.{if_ok}
 use Rattle.cs_trigram.proofs.TruncationLemmas.{any_concatenations}
 use Rattle.cs_trigram.proofs.end_strings.concatenate_end_strings.Goals as goal
 

@@ -1,6 +1,4 @@
-use Rattle.std.proofs.Common.{◌+◌, List, drop, sym, ap, ◌∙◌, subst, arith, drop_of_length-le, get_or}
-use Rattle.std.specs.Prelude.{Contains}
-use Rattle.std.proofs.lemmas.List.Elements.{Contains-get_or}
+use Rattle.std.proofs.Common.{◌+◌, List, drop, sym, ap, ◌∙◌, subst, arith, drop_of_length-le}
 use Rattle.cs_trigram.specs.EndStrings.{AreConcatenations, with_end_strings, joined}
 use Rattle.cs_trigram.specs.declared.end_strings.EndString.{EndString}
 use Rattle.cs_trigram.proofs.EndStringLemmas.{item_from}

@@ -1,6 +1,5 @@
-use Rattle.std.proofs.Common.{List, sym, ap, ◌∙◌, subst, arith, drop_of_length-le}
-use Rattle.cs_trigram.specs.EndStrings.{with_end_strings, AreUnion, AreCoarser}
-use Rattle.cs_trigram.specs.declared.end_strings.EndString.{EndString}
+use Rattle.std.proofs.Common.{sym, ap, ◌∙◌, subst, arith, drop_of_length-le}
+use Rattle.cs_trigram.specs.EndStrings.{with_end_strings, AreCoarser}
 use Rattle.cs_trigram.proofs.NodeListLemmas.{if_ok}
 use Rattle.cs_trigram.proofs.TruncationLemmas.{union_coarser}
 use Rattle.cs_trigram.proofs.end_strings.union_of_end_strings.Goals as goal

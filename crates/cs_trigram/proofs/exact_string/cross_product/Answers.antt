@@ -1,4 +1,4 @@
-use Rattle.std.proofs.Common.{ℕ, List, ◌+◌, ◌++◌, drop, map, sym, ◌∙◌, ap, arith, drop_of_length-le}
+use Rattle.std.proofs.Common.{ℕ, List, ◌+◌, ◌++◌, drop, map, sym, ◌∙◌, ap, arith}
 use Rattle.cs_trigram.specs.Analysis.{with_strings, concatenations}
 use Rattle.cs_trigram.proofs.EnumerationLemmas.{with_strings_append, with_strings_full, strings_from, single_prefix}
 use Rattle.cs_trigram.proofs.NodeListLemmas.{if_ok}

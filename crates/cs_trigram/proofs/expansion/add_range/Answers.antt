@@ -1,6 +1,5 @@
 use Rattle.std.proofs.Common.{◌+◌, arith}
-use Rattle.cs_syntax.proofs.CharSetLemmas.{char_range_within}
-use Rattle.cs_trigram.proofs.CharStringLemmas.{run_more, run_end, run_full}
+use Rattle.cs_trigram.proofs.CharStringLemmas.{run_more, run_full}
 use Rattle.cs_trigram.proofs.expansion.add_range.Goals as goal
 
 pub loop-n-preserved : goal.loop-n-preserved

@@ -1,4 +1,4 @@
-use Rattle.std.proofs.Common.{◌≡◌, ◌+◌, ◌-◌, refl, sym, subst, arith}
+use Rattle.std.proofs.Common.{◌+◌, ◌-◌, refl, sym, subst, arith}
 use Rattle.std.specs.Prelude.{Some}
 use Rattle.cs_syntax.specs.Matching.{rep, cat, empty}
 use Rattle.cs_trigram.specs.ExactStrings.{HasExactString}

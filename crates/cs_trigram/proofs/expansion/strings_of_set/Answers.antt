@@ -1,6 +1,6 @@
 use Rattle.std.proofs.Common.{ℕ, List, ◌+◌, subst, sym, arith}
 use Rattle.cs_trigram.specs.Analysis.{IsEnumeration}
-use Rattle.cs_trigram.proofs.EnumerationLemmas.{IsByteBelow, set_next, set_many, set_whole}
+use Rattle.cs_trigram.proofs.EnumerationLemmas.{IsByteBelow, set_next, set_whole}
 use Rattle.cs_trigram.proofs.expansion.strings_of_set.Goals as goal
 
 pub loop-byte-preserved : goal.loop-byte-preserved

@@ -6,7 +6,7 @@ use Rattle.cs_syntax.specs.Matching.{Tree, Trees, none, more}
 use Rattle.cs_trigram.specs.ExactSet.{IsExactSetOf, AreExactSetsReversed}
 use Rattle.cs_trigram.specs.Analysis.{AreExactStringsOfRun, IsBlocked}
 use Rattle.cs_trigram.specs.declared.exact_set.ExactSet.{ExactSet}
-use Rattle.cs_trigram.proofs.ExactSetLemmas.{exact_set_first, exact_set_none}
+use Rattle.cs_trigram.proofs.ExactSetLemmas.{exact_set_first}
 use Rattle.cs_trigram.proofs.LeadingRunLemmas.{run_is_leading, run_strings}
 use Rattle.cs_syntax.proofs.TreeListLemmas.{append_assoc_trees}
 use Rattle.cs_trigram.proofs.NodeListLemmas.{none_of, some_of}

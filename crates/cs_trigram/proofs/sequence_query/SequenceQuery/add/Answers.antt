@@ -1,8 +1,3 @@
-use Rattle.std.proofs.Common.{List, ap, sym, ◌∙◌, subst}
-use Rattle.cs_syntax.specs.Matching.{more}
-use Rattle.cs_trigram.specs.ExactSet.{AreExactSetsReversed}
-use Rattle.cs_trigram.specs.declared.exact_set.ExactSet.{ExactSet}
-use Rattle.cs_trigram.proofs.ExactSetLemmas.{exact_set_more}
 use Rattle.cs_trigram.proofs.sequence_query.SequenceQuery.add.Goals as goal
 
 pub returns-clause-required : goal.returns-clause-required

@@ -1,10 +1,8 @@
 use Rattle.std.proofs.Common.{ℕ, List, sym, ap, subst}
 use Rattle.cs_syntax.specs.Matching.{none}
-use Rattle.cs_trigram.specs.ExactSet.{AreExactSetsReversed}
 use Rattle.cs_trigram.specs.Analysis.{IsQueryBeyondRun, all_match, some_mentions}
 use Rattle.cs_trigram.specs.MayMatch.{MayMatchSequence, HaveMembers}
 use Rattle.cs_trigram.specs.declared.queries.Query.{Query}
-use Rattle.cs_trigram.specs.declared.exact_set.ExactSet.{ExactSet}
 use Rattle.cs_trigram.proofs.MentionLemmas.{no_trigrams}
 use Rattle.cs_trigram.proofs.SequenceQueryLemmas.{query_of_none}
 use Rattle.cs_trigram.proofs.sequence_query.SequenceQuery.new.Goals as goal

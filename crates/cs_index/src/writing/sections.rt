@@ -23,7 +23,8 @@ use cs_output::{Output, Sent};
 use std::alloc::{AllocError, Global};
 use std::marker::Model;
 
-/// The number of bytes from which on `send` sends them.
+/// The number of bytes from which on `send` sends them. Then few writes are made, and little memory
+/// is taken.
 const SEND_AT: usize = 1 << 16;
 
 /// Writes an index in the order of its bytes: all names, then one posting list after the other.
@@ -261,8 +262,7 @@ impl Sections {
         Ok(())
     }
 
-    /// Sends the bytes so far, if they are many, so that they need no memory. On error nothing
-    /// changes.
+    /// Sends the bytes that are in memory if they are `SEND_AT` or more. On error nothing changes.
     pub fn send<O: Output>(&mut self, out: &mut O) -> Result<(), AllocError>
         ensures ok { OnOk result (self.new ≡ with_sent self.old self.new.sent) }
         ensures given { OnOk result

@@ -1,4 +1,4 @@
-use Rattle.std.proofs.Common.{◌≡◌, ◌∙◌, ◌&&◌, ℕ, [], false, sym, ap, refl, subst, Some, Result}
+use Rattle.std.proofs.Common.{◌≡◌, ◌∙◌, ◌&&◌, [], false, sym, ap, refl, subst, Some, Result}
 use Rattle.std.specs.Prelude.{IfOk, nat_eq}
 use Rattle.std.proofs.lemmas.Bool.{true≢false}
 use Rattle.cs_tree.specs.Sinks.{Grows}

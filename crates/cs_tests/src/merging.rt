@@ -3,9 +3,10 @@ use crate::fixtures::{Files, ROW, UNSORTED, changed, index_of};
 use crate::index::lists::Failing;
 use cs_index::{Index, IndexFault, StoredTables};
 use cs_merge::{
-    MergeFault, is_replaced, is_replaced_stored, is_whole, is_whole_stored, merge, merge_stored,
+    MergeFault, is_replaced, is_replaced_stored, is_whole_stored, merge, merge_stored,
     merge_stored_within, merge_within,
 };
+use cs_output::Sent;
 use cs_tree::{IoFault, MemStore, Store};
 use std::alloc::Global;
 use std::test::Fail;
@@ -208,6 +209,13 @@ fn an_index_is_replaced_where_all_is_covered(rt: HostRuntime) -> Result<(), Fail
     Ok(())
 }
 
+/// Whether no list of the index with these bytes is damaged.
+fn is_whole(alloc: Global, bytes: &[u8]) -> Option<bool> {
+    let mut store = MemStore::new(bytes, 7);
+    let tables = StoredTables::open(alloc, &mut store).ok()?.ok()?;
+    is_whole_stored(alloc, &mut store, &tables).ok()
+}
+
 #[test]
 fn damage_is_found_in_each_list(rt: HostRuntime) {
     for (offset, want) in [
@@ -218,8 +226,7 @@ fn damage_is_found_in_each_list(rt: HostRuntime) {
         (40, false),
     ] {
         let bytes = changed(ROW, &[(offset, if offset == 0 { b'c' } else { 2 })]);
-        let whole = Index::open(&bytes).is_ok_and(|index| is_whole(&index));
-        assert!(rt; whole == want, "{offset}");
+        assert!(rt; is_whole(rt.alloc(), &bytes) == Some(want), "{offset}");
     }
 }
 
@@ -240,6 +247,20 @@ fn damage_goes_before_the_limit(rt: HostRuntime) -> Result<(), Fail> {
     Ok(())
 }
 
+/// Whether no list of an index is damaged.
+fn has_whole_lists(index: &Index<'_>) -> bool {
+    for position in 0..index.lists() {
+        if let Some((_trigram, ids)) = index.list_at(position) {
+            for id in ids {
+                if id.is_err() {
+                    return false;
+                }
+            }
+        }
+    }
+    true
+}
+
 /// Whether the old index merges alike from a store, whose reads give at most `step` bytes, and from memory; and whether
 /// it is replaced and whole alike.
 fn merges_alike(
@@ -255,10 +276,11 @@ fn merges_alike(
     let tables = StoredTables::open(alloc, &mut store)??;
     let replaced = is_replaced_stored(alloc, &tables, &later)?
         == is_replaced(alloc, &older, &later)?;
-    let whole = is_whole_stored(alloc, &mut store, &tables)? == is_whole(&older);
-    let stored = merge_stored_within(alloc, &mut store, most, &tables, &later)?;
+    let whole = is_whole_stored(alloc, &mut store, &tables)? == has_whole_lists(&older);
+    let mut index = Vec::new(alloc);
+    let stored = merge_stored_within(alloc, &mut store, most, &tables, &later, &mut index)?;
     let merged = match (merge_within(alloc, most, &older, &later), stored) {
-        (Ok(want), Ok(index)) => index.as_slice() == want.as_slice(),
+        (Ok(want), Ok(_sent)) => index.as_slice() == want.as_slice(),
         (Err(want), Err(fault)) => fault == want,
         _ => false,
     };
@@ -292,13 +314,13 @@ fn merge_failing(
     alloc: Global,
     store: &mut Failing,
     newer: &[u8],
-) -> Result<Result<Vec<u8>, MergeFault>, IoFault> {
+) -> Result<Result<Sent, MergeFault>, IoFault> {
     let tables = match StoredTables::open(alloc, store)? {
         Ok(tables) => tables,
         Err(fault) => return Ok(Err(MergeFault::Index(fault))),
     };
     match Index::open(newer) {
-        Ok(newer) => merge_stored(alloc, store, &tables, &newer),
+        Ok(newer) => merge_stored(alloc, store, &tables, &newer, &mut Vec::new(alloc)),
         Err(fault) => Ok(Err(MergeFault::Index(fault))),
     }
 }

@@ -2,6 +2,7 @@
 use crate::fixtures::{Files, ROW, builder_of, index_of, strings};
 use crate::index::reading::EMPTY;
 use cs_index::{BuildFault, Builder};
+use cs_output::Output;
 use std::alloc::{AllocError, Global};
 use std::str::from_utf8;
 use std::test::Fail;
@@ -152,9 +153,9 @@ fn add_some(builder: &mut Builder, name: &str, has_some: bool) -> Result<u32, Bu
     }
 }
 
-/// The index of this many names, from `0000000` on. Those with these ids have trigrams. An
+/// A builder with this many names, from `0000000` on. Those with these ids have trigrams. An
 /// allocation that fails is tried again.
-fn sparse(alloc: Global, count: u32, ids: &[u32]) -> Result<Vec<u8>, BuildFault> {
+fn sparse_builder(alloc: Global, count: u32, ids: &[u32]) -> Result<Builder, BuildFault> {
     let mut builder = builder_of(alloc, &["/a"])?;
     for id in 0..count {
         let text = digits(id);
@@ -166,7 +167,62 @@ fn sparse(alloc: Global, count: u32, ids: &[u32]) -> Result<Vec<u8>, BuildFault>
             let _id = add_some(&mut builder, name, has_some)?;
         }
     }
-    builder.finish()
+    Ok(builder)
+}
+
+/// The index of these names.
+fn sparse(alloc: Global, count: u32, ids: &[u32]) -> Result<Vec<u8>, BuildFault> {
+    sparse_builder(alloc, count, ids)?.finish()
+}
+
+/// The appends to an output that has room for this many more.
+#[derive(Drop)]
+struct Pieces {
+    bytes: Vec<u8>,
+    count: usize,
+    room: usize,
+}
+
+impl Output for Pieces {
+    ghost given = { λ pieces. pieces.bytes.items };
+
+    ghost keeps_refl = { λ _. tt };
+
+    ghost keeps_trans = { λ _ _ _ _ _. tt };
+
+    fn append(&mut self, bytes: &[u8]) -> Result<(), AllocError> {
+        if self.room == 0 {
+            return Err(AllocError);
+        }
+        self.bytes.extend_from_slice(bytes)?;
+        self.room -= 1;
+        self.count = self.count.saturating_add(1);
+        Ok(())
+    }
+}
+
+/// The number of appends of an index of 10000 names, and whether the bytes are the index.
+fn appends(alloc: Global, room: usize) -> Result<(usize, bool), BuildFault> {
+    let mut pieces = Pieces {
+        bytes: Vec::new(alloc),
+        count: 0,
+        room,
+    };
+    let _sent = sparse_builder(alloc, 10_000, &[7, 9_999])?.finish_into(&mut pieces, u32::MAX)?;
+    let index = sparse(alloc, 10_000, &[7, 9_999])?;
+    Ok((pieces.count, pieces.bytes.as_slice() == index.as_slice()))
+}
+
+/// The names and the first lists have more than 64 KB.
+#[test]
+fn indexes_are_sent_in_pieces(rt: HostRuntime) {
+    assert!(rt; appends(rt.alloc(), 2) == Ok((2, true)));
+    for room in [0, 1] {
+        assert!(rt;
+            appends(rt.alloc(), room) == Err(BuildFault::Memory),
+            "{room}"
+        );
+    }
 }
 
 /// Whether the two lists of the sparse index have these deltas.

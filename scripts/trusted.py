@@ -28,6 +28,7 @@ TRAITS = {
     "Source": "cs_tree/src/source.rt",
     "Sink": "cs_tree/src/sink.rt",
     "Store": "cs_tree/src/store.rt",
+    "Output": "cs_output/src/output.rt",
     "IndexFolder": "cs_storage/src/folder.rt",
 }
 

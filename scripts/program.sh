@@ -29,7 +29,7 @@ run() {
     shown=0
     while kill -0 $running 2> /dev/null; do
         sleep 1
-        crates=$(sed -n 's/^== //p' "$log")
+        crates=$(sed -n '/^== summary/d; s/^== //p' "$log")
         number=$(echo "$crates" | grep -c .)
         [ "$number" -le "$shown" ] && continue
         now=$(($(date +%s) - start))

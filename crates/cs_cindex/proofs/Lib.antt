@@ -1,3 +1,4 @@
+mod Common
 mod JobSequenceLemmas
 mod Examples
 mod IndexedFileLemmas

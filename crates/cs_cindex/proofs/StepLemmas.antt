@@ -1,46 +1,26 @@
 -- The step of one job, from the clauses of its parts.
-use Rattle.std.proofs.Common.{◌≡◌, ℕ, ◌&&◌, Bool, true, false, cond, List, [], ◌∷◌, length, refl, sym, ap, subst, ◌∙◌, inl, inr, arith, Option, Some, None}
+use Rattle.std.proofs.Common.{◌≡◌, ℕ, ◌&&◌, Bool, true, false, cond, List, [], ◌∷◌, length, refl, sym, ap, subst, ◌∙◌, inl, inr, arith, Option, Some, None, string_bytes}
 use Rattle.cs_tree.specs.Transfers.{is_io_failure}
-use Rattle.std.specs.Prelude.{string_bytes}
-use Rattle.cs_tree.specs.Cleaning.{clean_fault}
-use Rattle.std.specs.List.{AllByRecursion}
-use Rattle.std.proofs.lemmas.Bool.{true≢false, eqb-true}
-use Rattle.std.proofs.lemmas.List.{length-map}
-use Rattle.cs_tree.specs.Failures.{count_if}
-use Rattle.cs_tree.specs.Sinks.{CountsOne, Grows, GrowsFlushed}
-use Rattle.cs_tree.specs.Snapshot.{Snapshot}
-use Rattle.cs_tree.specs.declared.fault.IoFault.{IoFault}
+use Rattle.cs_cindex.proofs.Common.{clean_fault, AllByRecursion, true≢false, eqb-true, length-map, count_if, CountsOne, Grows, GrowsFlushed, Snapshot, IoFault, IndexJob, Done, Refused, CindexFault, nothing, ◌⊳◌, index_of, given_texts, has_no_path, update_of, modelled_snapshot, Indexes, JobKind, lists, clears, walks, job_kind, TakesPrefix, MayEnd, IsNext, JobTree, IsSilent, JobPrintsBy, WalkPrints, WalkPrintsSome, index_lines, list_lines, is_failed_write, base, list_fault, early_walk_fault, early_fault_of, IsOutputFault, IsWalkFault, IsLateFault, EarlyOr, Outputs, State, IsStep, IsWholeStep, prefix_all}
 use Rattle.cs_tree.specs.declared.fault.IoFault.TheVariants as io
 use Rattle.cs_args.specs.Faults.{write_refusal}
-use Rattle.cs_args.specs.declared.jobs.IndexJob.{IndexJob}
-use Rattle.cs_args.specs.declared.jobs.Reply.TheVariants.{Done, Refused}
-use Rattle.cs_args.specs.declared.fault.CindexFault.{CindexFault}
-use Rattle.cs_history.specs.History.{nothing, ◌⊳◌, index_of}
-use Rattle.cs_history.specs.Jobs.{given_texts, has_no_path, update_of}
-use Rattle.cs_history.specs.Premises.{modelled_snapshot}
-use Rattle.cs_history.specs.Headline.{Indexes}
-use Rattle.cs_history.specs.JobKinds.{JobKind, lists, clears, walks, job_kind}
-use Rattle.cs_tree.specs.TakesPrefix.{TakesPrefix, MayEnd}
-use Rattle.cs_cindex.specs.Next.{IsNext}
-use Rattle.cs_cindex.specs.Output.{JobTree, IsSilent, JobPrintsBy, WalkPrints, WalkPrintsSome, index_lines, list_lines, is_failed_write}
-use Rattle.cs_cindex.specs.Refusals.{base, list_fault, early_walk_fault, early_fault_of, IsOutputFault, IsWalkFault, IsLateFault, EarlyOr}
-use Rattle.cs_cindex.specs.Steps.{Outputs, State, IsStep, IsWholeStep}
-use Rattle.cs_tree.proofs.PrefixLemmas.{prefix_none, prefix_all}
-use Rattle.cs_tree.proofs.GrowsLemmas.{Grows-same}
 use Rattle.cs_cindex.proofs.JobOutputLemmas.{prints_refused}
 use Rattle.cs_cindex.proofs.OutcomeLemmas.{walk_indexes}
 use Rattle.cs_cindex.proofs.RefusedJobLemmas.{walks_kind, walks_parts}
 
 -- ---- the index after a job that does not walk
 
-refused_indexes : (job : IndexJob) (tree : Option Snapshot) (fault : CindexFault) (old : Option (List ℕ)) → Indexes (job ∷ []) (tree ∷ []) (Refused fault ∷ []) old old
+refused_indexes : (job : IndexJob) (tree : Option Snapshot) (fault : CindexFault) (old : Option (List ℕ)) →
+    Indexes (job ∷ []) (tree ∷ []) (Refused fault ∷ []) old old
 refused_indexes job tree fault old = record { index = λ earlier p. sym p.is_index; fitting = (tt, tt); short = λ h. h }
 
-list_indexes : (job : IndexJob) (tree : Option Snapshot) (old : Option (List ℕ)) → job.list ≡ true → Indexes (job ∷ []) (tree ∷ []) (Done ∷ []) old old
+list_indexes : (job : IndexJob) (tree : Option Snapshot) (old : Option (List ℕ)) → job.list ≡ true →
+    Indexes (job ∷ []) (tree ∷ []) (Done ∷ []) old old
 list_indexes job tree old l = record {
   index = λ earlier p.
       let update = update_of job (modelled_snapshot tree) in
-      sym p.is_index ∙ ap (λ b. index_of (cond b earlier (cond job.reset (cond (has_no_path job) nothing (update ⊳ nothing)) (update ⊳ earlier)))) (sym l);
+      sym p.is_index ∙ ap (λ b. index_of (cond b earlier
+      (cond job.reset (cond (has_no_path job) nothing (update ⊳ nothing)) (update ⊳ earlier)))) (sym l);
   fitting = ((λ f. absurd (true≢false (sym l ∙ f))), tt);
   short = λ h. h;
 }
@@ -49,14 +29,19 @@ none_accepted : (folder : List ℕ) (texts : List (List ℕ)) → length texts �
 none_accepted folder [] e = tt
 none_accepted folder (t ∷ ts) e = absurd (omega (arith, e))
 
-clear_indexes : (job : IndexJob) (tree : Option Snapshot) (old : Option (List ℕ)) → job.list ≡ false → job.reset ≡ true → has_no_path job ≡ true → Indexes (job ∷ []) (tree ∷ []) (Done ∷ []) old None
+clear_indexes : (job : IndexJob) (tree : Option Snapshot) (old : Option (List ℕ)) → job.list ≡ false → job.reset
+    ≡ true → has_no_path job ≡ true → Indexes (job ∷ []) (tree ∷ []) (Done ∷ []) old None
 clear_indexes job tree old l r n = record {
   index = λ earlier p.
       let update = update_of job (modelled_snapshot tree) in
       sym (ap (λ b. index_of (cond b earlier (cond job.reset (cond (has_no_path job) nothing (update ⊳ nothing)) (update ⊳ earlier)))) l
       ∙ ap (λ b. index_of (cond b (cond (has_no_path job) nothing (update ⊳ nothing)) (update ⊳ earlier))) r
       ∙ ap (λ b. index_of (cond b nothing (update ⊳ nothing))) n);
-  fitting = ((λ _. none_accepted (string_bytes job.cwd) (given_texts job) (length-map job.paths.items string_bytes ∙ eqb-true (length job.paths.items) 0 n)), tt);
+  fitting = (
+    (λ _. none_accepted (string_bytes job.cwd) (given_texts job) (length-map job.paths.items string_bytes
+        ∙ eqb-true (length job.paths.items) 0 n)),
+    tt,
+  );
   short = λ _. tt;
 }
 
@@ -76,7 +61,10 @@ never_done fault e = cc
 -- ---- a job, before the outputs are flushed
 
 module _ (job : IndexJob) (tree : JobTree) (old : State) (later : Outputs) where
-  pub list_done : job.list ≡ true → list_fault old.index ≡ None → Grows old.outputs.out.model later.out.model (index_lines old.index) → IsSilent tree old.outputs.err later.err → later.out.failed ≡ old.outputs.out.failed → later.err.failed ≡ old.outputs.err.failed → IsStep job tree Done old (record { index = old.index; outputs = later })
+  pub list_done : job.list ≡ true → list_fault old.index ≡ None → Grows old.outputs.out.model later.out.model
+      (index_lines old.index) → IsSilent tree old.outputs.err later.err → later.out.failed ≡ old.outputs.out.failed →
+      later.err.failed ≡ old.outputs.err.failed →
+      IsStep job tree Done old (record { index = old.index; outputs = later })
   list_done l none out err o e =
       let kind = ap (λ b. cond b lists (cond (job.reset && has_no_path job) clears walks)) l in
       record {
@@ -89,12 +77,17 @@ module _ (job : IndexJob) (tree : JobTree) (old : State) (later : Outputs) where
         writes = (o, e);
       }
 
-  pub list_refused : (fault : CindexFault) → job.list ≡ true → EarlyOr (list_fault old.index) (IsOutputFault fault) fault → TakesPrefix (index_lines old.index) old.outputs.out.model later.out.model → IsSilent tree old.outputs.err later.err → later.out.failed ≡ count_if (is_failed_write fault) old.outputs.out.failed → later.err.failed ≡ old.outputs.err.failed → IsStep job tree (Refused fault) old (record { index = old.index; outputs = later })
+  pub list_refused : (fault : CindexFault) → job.list ≡ true → EarlyOr (list_fault old.index) (IsOutputFault fault)
+      fault → TakesPrefix (index_lines old.index) old.outputs.out.model later.out.model →
+      IsSilent tree old.outputs.err later.err → later.out.failed ≡ count_if (is_failed_write fault)
+      old.outputs.out.failed → later.err.failed ≡ old.outputs.err.failed → IsStep job tree (Refused fault) old
+      (record { index = old.index; outputs = later })
   list_refused fault l cause out err o e =
       let kind = ap (λ b. cond b lists (cond (job.reset && has_no_path job) clears walks)) l in
       record {
         index = refused_indexes job tree.snapshot fault old.index;
-        cause = subst (λ k. EarlyOr (early_fault_of k job old.index) (IsLateFault k job tree.snapshot old.index fault) fault) (sym kind) cause;
+        cause = subst (λ k. EarlyOr (early_fault_of k job old.index) (IsLateFault k job tree.snapshot old.index fault)
+            fault) (sym kind) cause;
         keeps = refl;
         walked = λ h. absurd (never_done fault h);
         out = subst (λ k. TakesPrefix (list_lines k old.index) old.outputs.out.model later.out.model) (sym kind) out;
@@ -102,7 +95,10 @@ module _ (job : IndexJob) (tree : JobTree) (old : State) (later : Outputs) where
         writes = counts_out (is_failed_write fault) old.outputs.out.failed later.out.failed old.outputs.err.failed later.err.failed o e;
       }
 
-  pub clear_done : job.list ≡ false → job.reset ≡ true → has_no_path job ≡ true → Grows old.outputs.out.model later.out.model [] → IsSilent tree old.outputs.err later.err → later.out.failed ≡ old.outputs.out.failed → later.err.failed ≡ old.outputs.err.failed → IsStep job tree Done old (record { index = None; outputs = later })
+  pub clear_done : job.list ≡ false → job.reset ≡ true → has_no_path job ≡ true →
+      Grows old.outputs.out.model later.out.model [] → IsSilent tree old.outputs.err later.err → later.out.failed
+      ≡ old.outputs.out.failed → later.err.failed ≡ old.outputs.err.failed →
+      IsStep job tree Done old (record { index = None; outputs = later })
   clear_done l r n out err o e =
       let alone = ap (λ b. b && has_no_path job) r ∙ n in
       let kind = ap (λ b. cond b lists (cond (job.reset && has_no_path job) clears walks)) l ∙ ap (λ b. cond b clears walks) alone in
@@ -116,8 +112,12 @@ module _ (job : IndexJob) (tree : JobTree) (old : State) (later : Outputs) where
         writes = (o, e);
       }
 
-  module _ (w : (job.list ≡ false) × ((job.reset && has_no_path job) ≡ false)) (from : Option (List ℕ)) (is : base job old.index ≡ from) (out : Grows old.outputs.out.model later.out.model []) (o : later.out.failed ≡ old.outputs.out.failed) where
-    pub walk_done : (bytes : List ℕ) → early_walk_fault job from ≡ None → IsNext job tree.snapshot from (Some bytes) → WalkPrints job tree from old.outputs.err later.err → later.err.failed ≡ old.outputs.err.failed → IsStep job tree Done old (record { index = Some bytes; outputs = later })
+  module _ (w : (job.list ≡ false) × ((job.reset && has_no_path job) ≡ false)) (from : Option (List ℕ))
+      (is : base job old.index ≡ from) (out : Grows old.outputs.out.model later.out.model [])
+      (o : later.out.failed ≡ old.outputs.out.failed) where
+    pub walk_done : (bytes : List ℕ) → early_walk_fault job from ≡ None → IsNext job tree.snapshot from (Some bytes) →
+        WalkPrints job tree from old.outputs.err later.err → later.err.failed ≡ old.outputs.err.failed →
+        IsStep job tree Done old (record { index = Some bytes; outputs = later })
     walk_done bytes none next err e =
         let kind = walks_kind job w in
         let early = ap (early_walk_fault job) is ∙ none in
@@ -125,7 +125,10 @@ module _ (job : IndexJob) (tree : JobTree) (old : State) (later : Outputs) where
         record {
           index = walk_indexes job tree.snapshot old.index bytes kind early next';
           cause = ap (λ k. early_fault_of k job old.index) kind ∙ early;
-          keeps = ((λ f. absurd (true≢false (sym f ∙ w.0))), (λ f r n. absurd (true≢false (sym (ap (λ b. b && has_no_path job) r ∙ n) ∙ w.1))));
+          keeps = (
+            (λ f. absurd (true≢false (sym f ∙ w.0))),
+            (λ f r n. absurd (true≢false (sym (ap (λ b. b && has_no_path job) r ∙ n) ∙ w.1))),
+          );
           walked = λ _ _. next';
           out = subst (λ k. Grows old.outputs.out.model later.out.model (list_lines k old.index)) (sym kind) out;
           err = subst (λ k. JobPrintsBy k Done job tree old.index old.outputs.err later.err) (sym kind)
@@ -133,7 +136,10 @@ module _ (job : IndexJob) (tree : JobTree) (old : State) (later : Outputs) where
           writes = (o, e);
         }
 
-    pub walk_refused : (fault : CindexFault) → EarlyOr (early_walk_fault job from) (IsWalkFault job tree.snapshot from fault) fault → WalkPrintsSome (early_walk_fault job from) fault job tree from old.outputs.err later.err → later.err.failed ≡ count_if (is_failed_write fault) old.outputs.err.failed → IsStep job tree (Refused fault) old (record { index = old.index; outputs = later })
+    pub walk_refused : (fault : CindexFault) → EarlyOr (early_walk_fault job from)
+        (IsWalkFault job tree.snapshot from fault) fault → WalkPrintsSome (early_walk_fault job from) fault job tree
+        from old.outputs.err later.err → later.err.failed ≡ count_if (is_failed_write fault) old.outputs.err.failed →
+        IsStep job tree (Refused fault) old (record { index = old.index; outputs = later })
     walk_refused fault cause err e =
         let kind = walks_kind job w in
         record {
@@ -142,7 +148,8 @@ module _ (job : IndexJob) (tree : JobTree) (old : State) (later : Outputs) where
               (subst (λ b. EarlyOr (early_walk_fault job b) (IsWalkFault job tree.snapshot b fault) fault) (sym is) cause);
           keeps = refl;
           walked = λ h. absurd (never_done fault h);
-          out = subst (λ k. TakesPrefix (list_lines k old.index) old.outputs.out.model later.out.model) (sym kind) (prefix_all [] old.outputs.out.model later.out.model out);
+          out = subst (λ k. TakesPrefix (list_lines k old.index) old.outputs.out.model later.out.model) (sym kind)
+              (prefix_all [] old.outputs.out.model later.out.model out);
           err = subst (λ k. JobPrintsBy k (Refused fault) job tree old.index old.outputs.err later.err) (sym kind)
               (subst (λ b. WalkPrintsSome (early_walk_fault job b) fault job tree b old.outputs.err later.err) (sym is) err);
           writes = counts_err (is_failed_write fault) old.outputs.out.failed later.out.failed old.outputs.err.failed later.err.failed o e;
@@ -150,7 +157,8 @@ module _ (job : IndexJob) (tree : JobTree) (old : State) (later : Outputs) where
 
 -- ---- the flushes
 
-late_output : (kind : JobKind) (job : IndexJob) (tree : Option Snapshot) (old : Option (List ℕ)) (fault : IoFault) → IsLateFault kind job tree old (write_refusal fault)
+late_output : (kind : JobKind) (job : IndexJob) (tree : Option Snapshot) (old : Option (List ℕ)) (fault : IoFault) →
+    IsLateFault kind job tree old (write_refusal fault)
 late_output lists job tree old io.Failed = tt
 late_output lists job tree old io.Memory = tt
 late_output clears job tree old io.Failed = tt
@@ -162,18 +170,11 @@ is_write : (fault : IoFault) → is_io_failure fault ≡ is_failed_write (write_
 is_write io.Failed = refl
 is_write io.Memory = refl
 
--- an error before the outputs are flushed
-pub step_refused : (job : IndexJob) (tree : JobTree) (old : State) (later : Outputs) (fault : CindexFault) → IsStep job tree (Refused fault) old (record { index = old.index; outputs = later }) → IsWholeStep job tree (Refused fault) old (record { index = old.index; outputs = later })
-step_refused job tree old later fault step = record {
-  printed = later;
-  step = step;
-  flushes = (inl (prefix_none [] later.out.model), Grows-same later.err.model);
-  out_failed = refl;
-  err_failed = refl;
-}
-
-module _ (job : IndexJob) (tree : JobTree) (old : State) (index : Option (List ℕ)) (mid later : Outputs) (done : IsStep job tree Done old (record { index = index; outputs = mid })) where
-  pub step_flushed : GrowsFlushed mid.out.model later.out.model [] → GrowsFlushed mid.err.model later.err.model [] → later.out.failed ≡ mid.out.failed → later.err.failed ≡ mid.err.failed → IsWholeStep job tree Done old (record { index = index; outputs = later })
+module _ (job : IndexJob) (tree : JobTree) (old : State) (index : Option (List ℕ)) (mid later : Outputs)
+    (done : IsStep job tree Done old (record { index = index; outputs = mid })) where
+  pub step_flushed : GrowsFlushed mid.out.model later.out.model [] → GrowsFlushed mid.err.model later.err.model [] →
+      later.out.failed ≡ mid.out.failed → later.err.failed ≡ mid.err.failed →
+      IsWholeStep job tree Done old (record { index = index; outputs = later })
   step_flushed out err o e = record { printed = mid; step = done; flushes = (out, err); out_failed = o; err_failed = e }
 
   -- a flush failed: the output before it, with the failure counted
@@ -184,16 +185,22 @@ module _ (job : IndexJob) (tree : JobTree) (old : State) (index : Option (List �
       err = record { model = mid.err.model; failed = later.err.failed };
     }
 
-    unflushed : CountsOne (is_failed_write (write_refusal why)) old.outputs.out.failed later.out.failed old.outputs.err.failed later.err.failed → MayEnd [] mid.out.model later.out.model → Grows mid.err.model later.err.model [] → IsWholeStep job tree (Refused fault) old (record { index = old.index; outputs = later })
+    unflushed : CountsOne (is_failed_write (write_refusal why)) old.outputs.out.failed later.out.failed
+        old.outputs.err.failed later.err.failed → MayEnd [] mid.out.model later.out.model →
+        Grows mid.err.model later.err.model [] → IsWholeStep job tree (Refused fault) old
+        (record { index = old.index; outputs = later })
     unflushed counts out err = rw is (record {
       printed = printed;
       step = record {
         index = refused_indexes job tree.snapshot (write_refusal why) old.index;
-        cause = subst (λ early. EarlyOr early (IsLateFault (job_kind job) job tree.snapshot old.index (write_refusal why)) (write_refusal why)) (sym done.cause) (late_output (job_kind job) job tree.snapshot old.index why);
+        cause = subst (λ early. EarlyOr early (IsLateFault (job_kind job) job tree.snapshot old.index
+            (write_refusal why)) (write_refusal why)) (sym done.cause)
+            (late_output (job_kind job) job tree.snapshot old.index why);
         keeps = refl;
         walked = λ h. absurd (never_done (write_refusal why) h);
         out = prefix_all (list_lines (job_kind job) old.index) old.outputs.out.model mid.out.model done.out;
-        err = prints_refused (job_kind job) job tree old.index old.outputs.err mid.err later.err.failed (write_refusal why) done.cause done.err;
+        err = prints_refused (job_kind job) job tree old.index old.outputs.err mid.err later.err.failed
+            (write_refusal why) done.cause done.err;
         writes = counts;
       };
       flushes = (out, err);
@@ -201,12 +208,20 @@ module _ (job : IndexJob) (tree : JobTree) (old : State) (index : Option (List �
       err_failed = refl;
     })
 
-    pub out_unflushed : later.out.failed ≡ count_if (is_io_failure why) mid.out.failed → later.err.failed ≡ mid.err.failed → Grows mid.out.model later.out.model [] → Grows mid.err.model later.err.model [] → IsWholeStep job tree (Refused fault) old (record { index = old.index; outputs = later })
-    out_unflushed o e out err = unflushed (counts_out (is_failed_write (write_refusal why)) old.outputs.out.failed later.out.failed old.outputs.err.failed later.err.failed
-        (o ∙ ap (λ b. count_if b mid.out.failed) (is_write why) ∙ ap (count_if (is_failed_write (write_refusal why))) done.writes.0) (e ∙ done.writes.1))
+    pub out_unflushed : later.out.failed ≡ count_if (is_io_failure why) mid.out.failed → later.err.failed
+        ≡ mid.err.failed → Grows mid.out.model later.out.model [] → Grows mid.err.model later.err.model [] →
+        IsWholeStep job tree (Refused fault) old (record { index = old.index; outputs = later })
+    out_unflushed o e out err = unflushed (counts_out (is_failed_write (write_refusal why)) old.outputs.out.failed
+        later.out.failed old.outputs.err.failed later.err.failed
+        (o ∙ ap (λ b. count_if b mid.out.failed) (is_write why) ∙ ap (count_if (is_failed_write (write_refusal why)))
+        done.writes.0) (e ∙ done.writes.1))
         (inl (prefix_all [] mid.out.model later.out.model out)) err
 
-    pub err_unflushed : later.out.failed ≡ mid.out.failed → later.err.failed ≡ count_if (is_io_failure why) mid.err.failed → GrowsFlushed mid.out.model later.out.model [] → Grows mid.err.model later.err.model [] → IsWholeStep job tree (Refused fault) old (record { index = old.index; outputs = later })
-    err_unflushed o e out err = unflushed (counts_err (is_failed_write (write_refusal why)) old.outputs.out.failed later.out.failed old.outputs.err.failed later.err.failed
-        (o ∙ done.writes.0) (e ∙ ap (λ b. count_if b mid.err.failed) (is_write why) ∙ ap (count_if (is_failed_write (write_refusal why))) done.writes.1))
+    pub err_unflushed : later.out.failed ≡ mid.out.failed → later.err.failed ≡ count_if (is_io_failure why)
+        mid.err.failed → GrowsFlushed mid.out.model later.out.model [] → Grows mid.err.model later.err.model [] →
+        IsWholeStep job tree (Refused fault) old (record { index = old.index; outputs = later })
+    err_unflushed o e out err = unflushed (counts_err (is_failed_write (write_refusal why)) old.outputs.out.failed
+        later.out.failed old.outputs.err.failed later.err.failed
+        (o ∙ done.writes.0) (e ∙ ap (λ b. count_if b mid.err.failed) (is_write why)
+        ∙ ap (count_if (is_failed_write (write_refusal why))) done.writes.1))
         (inr out) err

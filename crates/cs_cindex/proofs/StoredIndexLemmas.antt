@@ -1,19 +1,9 @@
 -- The base index in a store.
-use Rattle.std.proofs.Common.{◌≡◌, ℕ, true, false, cond, not, List, refl, sym, ap, subst, ◌∙◌, inl, Option, Some, None, Ok}
-use Rattle.std.specs.Prelude.{IsSomeAnd}
-use Rattle.std.specs.List.{list_all}
-use Rattle.cs_tree.specs.Cleaning.{is_normalized}
-use Rattle.cs_tree.specs.Folders.{are_distinct}
+use Rattle.std.proofs.Common.{◌≡◌, ℕ, true, false, cond, not, List, refl, sym, ap, subst, ◌∙◌, inl, Option, Some, None, Ok, IsSomeAnd}
+use Rattle.cs_cindex.proofs.Common.{list_all, is_normalized, are_distinct, Parts, StandsIn, StoredParts, OpensAsTables, TableParts, CindexFault, BadIndex, Unsorted, IsFit, IsFitFor, opening_fault, unfit_parts_fault, EarlyOr}
 use Rattle.cs_index.specs.Opening.{opening}
-use Rattle.cs_index.specs.OpenedParts.{Parts}
-use Rattle.cs_index.specs.Stored.{StandsIn, StoredParts}
-use Rattle.cs_index.specs.StoredTables.{OpensAsTables, TableParts}
 use Rattle.cs_index.specs.ValidSections.{read_split}
 use Rattle.cs_index.specs.declared.fault.IndexFault.TheVariants.{BadPaths}
-use Rattle.cs_args.specs.declared.fault.CindexFault.{CindexFault}
-use Rattle.cs_args.specs.declared.fault.CindexFault.TheVariants.{BadIndex, Unsorted}
-use Rattle.cs_cindex.specs.OldIndex.{IsFit, IsFitFor}
-use Rattle.cs_cindex.specs.Refusals.{opening_fault, unfit_parts_fault, EarlyOr}
 
 -- ---- what stands in the bytes is what they open as
 
@@ -24,21 +14,28 @@ stands_open bytes stored parts stands = ap read_split stands.split ∙ stands.re
 -- ---- the tests of tables are those of the index
 
 module _ (bytes : List ℕ) (tables : TableParts) (opens : OpensAsTables bytes (Ok tables)) where
-  faulted : (fault : CindexFault) (Late : Type 0) → unfit_parts_fault opens.0 ≡ Some fault → EarlyOr (Some fault) Late fault → EarlyOr (opening_fault unfit_parts_fault (opening bytes)) Late fault
-  faulted fault Late is early = subst (λ (o : Option CindexFault). EarlyOr o Late fault) (sym (ap (opening_fault unfit_parts_fault) (stands_open bytes _ opens.0 opens.1.stands) ∙ is)) early
+  faulted : (fault : CindexFault) (Late : Type 0) → unfit_parts_fault opens.0 ≡ Some fault →
+      EarlyOr (Some fault) Late fault → EarlyOr (opening_fault unfit_parts_fault (opening bytes)) Late fault
+  faulted fault Late is early = subst (λ (o : Option CindexFault). EarlyOr o Late fault)
+      (sym (ap (opening_fault unfit_parts_fault) (stands_open bytes _ opens.0 opens.1.stands) ∙ is)) early
 
   paths_fault : list_all is_normalized tables.paths ≡ false → unfit_parts_fault opens.0 ≡ Some (BadIndex BadPaths)
-  paths_fault bad = ap (λ b. cond (not b) (Some (BadIndex BadPaths)) (cond (not (are_distinct opens.0.names)) (Some Unsorted) None)) (ap (list_all is_normalized) (sym opens.1.stands.paths) ∙ bad)
+  paths_fault bad = ap (λ b. cond (not b) (Some (BadIndex BadPaths))
+      (cond (not (are_distinct opens.0.names)) (Some Unsorted) None))
+      (ap (list_all is_normalized) (sym opens.1.stands.paths) ∙ bad)
 
   names_fault : list_all is_normalized tables.paths ≡ true → are_distinct tables.names ≡ false → unfit_parts_fault opens.0 ≡ Some Unsorted
   names_fault good twice =
-      ap (λ b. cond (not b) (Some (BadIndex BadPaths)) (cond (not (are_distinct opens.0.names)) (Some Unsorted) None)) (ap (list_all is_normalized) (sym opens.1.stands.paths) ∙ good)
+      ap (λ b. cond (not b) (Some (BadIndex BadPaths)) (cond (not (are_distinct opens.0.names)) (Some Unsorted) None))
+      (ap (list_all is_normalized) (sym opens.1.stands.paths) ∙ good)
       ∙ ap (λ b. cond (not b) (Some Unsorted) None) (ap are_distinct (sym opens.1.names) ∙ twice)
 
-  pub bad_paths : (Late : Type 0) → list_all is_normalized tables.paths ≡ false → EarlyOr (opening_fault unfit_parts_fault (opening bytes)) Late (BadIndex BadPaths)
+  pub bad_paths : (Late : Type 0) → list_all is_normalized tables.paths ≡ false →
+      EarlyOr (opening_fault unfit_parts_fault (opening bytes)) Late (BadIndex BadPaths)
   bad_paths Late bad = faulted (BadIndex BadPaths) Late (paths_fault bad) (inl refl)
 
-  pub unsorted : (Late : Type 0) → list_all is_normalized tables.paths ≡ true → are_distinct tables.names ≡ false → EarlyOr (opening_fault unfit_parts_fault (opening bytes)) Late Unsorted
+  pub unsorted : (Late : Type 0) → list_all is_normalized tables.paths ≡ true → are_distinct tables.names ≡ false →
+      EarlyOr (opening_fault unfit_parts_fault (opening bytes)) Late Unsorted
   unsorted Late good twice = faulted Unsorted Late (names_fault good twice) (inl refl)
 
   pub fit_for : IsFit tables → IsFitFor bytes tables
@@ -46,7 +43,8 @@ module _ (bytes : List ℕ) (tables : TableParts) (opens : OpensAsTables bytes (
     parts = opens.0;
     are = opens.1;
     fit =
-        ap (λ b. cond (not b) (Some (BadIndex BadPaths)) (cond (not (are_distinct opens.0.names)) (Some Unsorted) None)) (ap (list_all is_normalized) (sym opens.1.stands.paths) ∙ fit.normalized)
+        ap (λ b. cond (not b) (Some (BadIndex BadPaths)) (cond (not (are_distinct opens.0.names)) (Some Unsorted) None))
+        (ap (list_all is_normalized) (sym opens.1.stands.paths) ∙ fit.normalized)
         ∙ ap (λ b. cond (not b) (Some Unsorted) None) (ap are_distinct (sym opens.1.names) ∙ fit.distinct);
   }
 

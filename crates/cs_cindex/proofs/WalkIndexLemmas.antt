@@ -1,50 +1,27 @@
 -- The index of the files that a walk finds.
-use Rattle.std.proofs.Common.{◌≡◌, ℕ, ◌*◌, ◌^◌, ◌≤◌, Bool, true, false, cond, ◌&&◌, ◌||◌, List, [], ◌∷◌, ◌++◌, map, length, refl, sym, ap, subst, ◌∙◌, arith, Option, Some, None, length-append, inl, inr}
+use Rattle.std.proofs.Common.{◌+◌, ◌≡◌, ℕ, ◌*◌, ◌^◌, ◌≤◌, Bool, true, false, cond, ◌&&◌, ◌||◌, List, [], ◌∷◌, length, refl, sym, ap, subst, ◌∙◌, arith, Option, Some, None, inl, inr, nat_le, bytes_eq}
 use Rattle.cs_history.specs.JobIndex.{tree_index}
-use Rattle.cs_history.specs.Replies.{IsLong}
+use Rattle.cs_cindex.proofs.Common.{IsLong, IsTree, Paths, bytes_cmp, are_ascending, true≢false, and_parts, and_from, cases_Bool, list_any, list_all, cons_option, AllByRecursion, is_lt, eq_by_cmp, nat_list_cmp_total, bytes_decides, below_all, find, longest_path, is_covered, Snapshot, Item, folder, item_at, reachable_files, read_item, is_reachable, FaultEntry, Finds, FindsIn, is_among, is_file, alike, entries_in_order, from_list_all, Entry, IsString, encoding_of, names_of, Built, IsBuilt, are_paths, are_reduced, is_storable, tail_up, AreTooMany, IsIndex, IsIndexOf, IsTreeTooLarge, texts_at, are_storable, AreTextsIn, AreTooManyIn, HaveNamesOf}
 use Rattle.cs_history.specs.FileTrigrams.{file_trigrams}
 use Rattle.cs_history.proofs.StartIndexLemmas.{find_all}
-use Rattle.cs_tree.specs.Folders.{IsTree}
-use Rattle.cs_tree.specs.PathSet.{Paths}
-use Rattle.cs_tree.specs.NameOrder.{bytes_cmp}
-use Rattle.cs_tree.specs.NamesAscending.{are_ascending}
-use Rattle.std.proofs.lemmas.List.{length-map}
-use Rattle.std.proofs.lemmas.Bool.{true≢false, and_parts, and_from, cases_Bool}
-use Rattle.std.specs.Prelude.{nat_le, bytes_eq}
-use Rattle.std.specs.List.{list_any, list_all, cons_option, AllByRecursion, concat}
-use Rattle.std.specs.Ordering.{is_lt, eq_by_cmp}
-use Rattle.std.specs.Cmp.Lexicographic.{nat_list_cmp_total, bytes_decides}
 use Rattle.std.specs.FinMap as map'
-use Rattle.std.specs.FinMap.Entries.{below_all, find}
 use Rattle.cs_tree.specs.PathSet as set
-use Rattle.cs_tree.specs.Clean.{longest_path}
-use Rattle.cs_tree.specs.Cover.{is_covered}
-use Rattle.cs_tree.specs.Snapshot.{Snapshot, Item, folder, file, cut, other, bad, item_at}
-use Rattle.cs_tree.specs.Reachability.{reachable_files, read_item, is_reachable}
-use Rattle.cs_tree.specs.Walks.{FaultEntry, Finds, FindsIn, is_among, is_file}
-use Rattle.cs_tree.proofs.PathSetLemmas.{alike, entries_in_order}
 use Rattle.cs_tree.proofs.CollectLemmas.{get-collected}
 use Rattle.cs_tree.proofs.FoundLemmas.{get-found}
 use Rattle.cs_trigram.specs.Text.{limits, text_trigrams}
 use Rattle.cs_trigram.specs.TrigramSets.{IsTrigramSet}
 use Rattle.cs_merge.specs.Content.{IsContent, LieUnder}
-use Rattle.cs_merge.proofs.DecodedContentLemmas.{from_list_all}
-use Rattle.cs_index.specs.Encoding.{Entry, IsString, encoding, encoding_of, names_of, with_nul, four_bytes, starts_from, name_offsets, magic, trailer, sections_of, postings_of}
-use Rattle.cs_index.specs.Built.{Built, IsBuilt, are_paths, are_reduced, is_storable}
-use Rattle.cs_index.proofs.writer.StringsPush.{length-starts_from}
-use Rattle.cs_index.proofs.encoding.FixedWidthFields.{length-fours}
+use Rattle.cs_index.specs.Encoding.{encoding}
 use Rattle.cs_index.proofs.encoding.FileMapEncoding.{encoding_in_order, sorted_named, true_T}
-use Rattle.cs_index.proofs.names.ReducedPaths.{tail_up}
-use Rattle.cs_cindex.specs.Output.{AreTooMany}
-use Rattle.cs_cindex.specs.Next.{IsIndex, IsIndexOf, IsTreeTooLarge}
-use Rattle.cs_cindex.specs.Files.{texts_at, are_storable, AreTextsIn, AreTooManyIn, HaveNamesOf}
 use Rattle.cs_cindex.proofs.IndexedFileLemmas.{AreAfter, ascend_after, with_name}
 use Rattle.cs_cindex.proofs.WalkNameLemmas.{found_storable}
 use Rattle.cs_cindex.proofs.WalkOrderLemmas.{same_tied}
+use Rattle.cs_merge.proofs.ContentLemmas.{many_names}
 
 -- ---- sorted texts
 
-below_texts : (tree : Snapshot) (name : List ℕ) (rest : List (List ℕ)) → AreAfter name rest → below_all bytes_cmp name (texts_at tree rest) ≡ true
+below_texts : (tree : Snapshot) (name : List ℕ) (rest : List (List ℕ)) → AreAfter name rest →
+    below_all bytes_cmp name (texts_at tree rest) ≡ true
 below_texts tree name [] h = refl
 below_texts tree name (next ∷ rest) h =
     let later = below_texts tree name rest h.1 in
@@ -53,41 +30,46 @@ below_texts tree name (next ∷ rest) h =
       | Some trigrams ↦ and_from (is_lt (bytes_cmp name next)) (below_all bytes_cmp name (texts_at tree rest)) h.0 later
     ]
 
-texts_sorted : (tree : Snapshot) (names : List (List ℕ)) → are_ascending names ≡ true → map'.is_sorted bytes_cmp (texts_at tree names) ≡ true
+texts_sorted : (tree : Snapshot) (names : List (List ℕ)) → are_ascending names ≡ true →
+    map'.is_sorted bytes_cmp (texts_at tree names) ≡ true
 texts_sorted tree [] h = refl
 texts_sorted tree (name ∷ rest) h =
     let later = texts_sorted tree rest (tail_up name rest h) in
     elim (file_trigrams tree name) as (λ o. map'.is_sorted bytes_cmp (cons_option (with_name name o) (texts_at tree rest)) ≡ true) [
       | None ↦ later
-      | Some trigrams ↦ and_from (below_all bytes_cmp name (texts_at tree rest)) (map'.is_sorted bytes_cmp (texts_at tree rest)) (below_texts tree name rest (ascend_after name rest h)) later
+      | Some trigrams ↦ and_from (below_all bytes_cmp name (texts_at tree rest))
+          (map'.is_sorted bytes_cmp (texts_at tree rest)) (below_texts tree name rest (ascend_after name rest h)) later
     ]
 
 -- ---- the texts that a walk finds
 
 tied_among : (names : List (List ℕ)) (q : List ℕ) → list_any (eq_by_cmp bytes_cmp q) names ≡ is_among names q
 tied_among [] q = refl
-tied_among (name ∷ names) q = ap (λ b. b || list_any (eq_by_cmp bytes_cmp q) names) (same_tied name q) ∙ ap (λ b. bytes_eq name q || b) (tied_among names q)
+tied_among (name ∷ names) q = ap (λ b. b || list_any (eq_by_cmp bytes_cmp q) names) (same_tied name q)
+    ∙ ap (λ b. bytes_eq name q || b) (tied_among names q)
 
 file_or_none : {X : Type 0} (read : List ℕ → Option X) (item : Item) → cond (is_file item) (read_item read item) None ≡ read_item read item
 file_or_none read (folder names unnamed) = refl
-file_or_none read (file bytes) = refl
-file_or_none read (cut bytes) = refl
-file_or_none read other = refl
-file_or_none read (bad fault) = refl
+file_or_none read _ = refl
 
 by_tests : {X : Type 0} (a b c : Bool) (x : Option X) → cond c x None ≡ x → cond (a && (b && c)) x None ≡ cond (a && b) x None
 by_tests true true c x h = h
 by_tests true false c x h = refl
 by_tests false b c x h = refl
 
-texts_found : (tree : Snapshot) (paths : Paths) (names : List (List ℕ)) (faults : List FaultEntry) → Finds tree paths names faults → map'.from_entries (texts_at tree names) ≡ reachable_files (text_trigrams limits) tree paths
-texts_found tree paths names faults finds = map'.same_map nat_list_cmp_total alike (map'.from_entries (texts_at tree names)) (reachable_files (text_trigrams limits) tree paths) (λ q.
+texts_found : (tree : Snapshot) (paths : Paths) (names : List (List ℕ)) (faults : List FaultEntry) →
+    Finds tree paths names faults → map'.from_entries (texts_at tree names) ≡ reachable_files (text_trigrams limits)
+    tree paths
+texts_found tree paths names faults finds = map'.same_map nat_list_cmp_total alike
+    (map'.from_entries (texts_at tree names)) (reachable_files (text_trigrams limits) tree paths) (λ q.
     get-collected (file_trigrams tree) names q
     ∙ ap (λ b. cond b (file_trigrams tree q) None) (tied_among names q ∙ finds.names_are q)
-    ∙ by_tests (is_reachable tree paths q) (nat_le (length q) longest_path) (is_file (item_at tree q)) (read_item (text_trigrams limits) (item_at tree q)) (file_or_none (text_trigrams limits) (item_at tree q))
+    ∙ by_tests (is_reachable tree paths q) (nat_le (length q) longest_path) (is_file (item_at tree q))
+    (read_item (text_trigrams limits) (item_at tree q)) (file_or_none (text_trigrams limits) (item_at tree q))
     ∙ sym (get-found (text_trigrams limits) tree paths q))
 
-module _ (tree : Snapshot) (paths names : List (List ℕ)) (faults : List FaultEntry) (ok : are_paths paths ≡ true) (finds : Finds tree (set.from_list paths) names faults) where
+module _ (tree : Snapshot) (paths names : List (List ℕ)) (faults : List FaultEntry) (ok : are_paths paths ≡ true)
+    (finds : Finds tree (set.from_list paths) names faults) where
   encoding_found : encoding_of paths (texts_at tree names) ≡ tree_index tree (set.from_list paths)
   encoding_found =
       encoding_in_order paths (texts_at tree names) ok (texts_sorted tree names finds.names_ascend)
@@ -96,74 +78,62 @@ module _ (tree : Snapshot) (paths names : List (List ℕ)) (faults : List FaultE
   pub names_stored : IsTree tree → are_storable names ≡ true
   names_stored is = found_storable tree paths names faults is (and_parts (list_all is_storable paths) (are_reduced paths) ok).0 finds
 
--- ---- the size of an index
-
-within : (a b c d e f g : List ℕ) → length d ≤ length (a ++ ((b ++ (c ++ (e ++ (d ++ (f ++ []))))) ++ g))
-within a b c d e f g =
-    omega (arith, length-append a ((b ++ (c ++ (e ++ (d ++ (f ++ []))))) ++ g), length-append (b ++ (c ++ (e ++ (d ++ (f ++ []))))) g, length-append b (c ++ (e ++ (d ++ (f ++ [])))), length-append c (e ++ (d ++ (f ++ []))), length-append e (d ++ (f ++ [])), length-append d (f ++ []))
-
-offsets_within : (paths : List (List ℕ)) (entries : List Entry) → length (name_offsets (names_of entries)) ≤ length (encoding_of paths entries)
-offsets_within paths entries =
-    let s = sections_of paths (names_of entries) (postings_of entries) in
-    let name_index : length (name_offsets (names_of entries)) ≤ length s.name_index = within_append (name_offsets (names_of entries)) (four_bytes (length (concat (map with_nul (names_of entries))))) in
-    let whole : length s.name_index ≤ length (encoding_of paths entries) = within magic s.paths s.names s.name_index s.postings s.list_index (trailer s) in
-    chained (length (name_offsets (names_of entries))) (length s.name_index) (length (encoding_of paths entries)) name_index whole
-  where
-    within_append : (a b : List ℕ) → length a ≤ length (a ++ b)
-    within_append a b = omega (arith, length-append a b)
-
-    chained : (a b c : ℕ) → a ≤ b → b ≤ c → a ≤ c
-    chained a b c h g = omega (arith, h, g)
-
-length-encoding : (paths : List (List ℕ)) (entries : List Entry) → 4 * length entries ≤ length (encoding_of paths entries)
-length-encoding paths entries =
-    let size : length (name_offsets (names_of entries)) ≡ 4 * length entries =
-    length-fours (starts_from 0 (map with_nul (names_of entries)))
-    ∙ ap (λ n. 4 * n) (length-starts_from 0 (map with_nul (names_of entries)) ∙ length-map (names_of entries) with_nul ∙ length-map entries (λ (e : Entry). e.0)) in
-    subst (λ n. n ≤ length (encoding_of paths entries)) size (offsets_within paths entries)
-
 -- ---- what is built
 
-module _ (model : Option Snapshot) (paths names : List (List ℕ)) (faults : List FaultEntry) (ok : are_paths paths ≡ true) (finds : FindsIn model (set.from_list paths) names faults) where
-  pub index_is : (built : List (List ℕ)) (entries : List Entry) (bytes : List ℕ) → built ≡ paths → AreTextsIn model names entries → bytes ≡ encoding_of built entries → IsIndexOf model (set.from_list paths) bytes
+module _ (model : Option Snapshot) (paths names : List (List ℕ)) (faults : List FaultEntry)
+    (ok : are_paths paths ≡ true) (finds : FindsIn model (set.from_list paths) names faults) where
+  pub index_is : (built : List (List ℕ)) (entries : List Entry) (bytes : List ℕ) → built ≡ paths →
+      AreTextsIn model names entries → bytes ≡ encoding_of built entries → IsIndexOf model (set.from_list paths) bytes
   index_is built entries bytes same are is = by_tree model finds are
     where
-      by_tree : (model : Option Snapshot) → FindsIn model (set.from_list paths) names faults → AreTextsIn model names entries → IsIndexOf model (set.from_list paths) bytes
+      by_tree : (model : Option Snapshot) → FindsIn model (set.from_list paths) names faults →
+          AreTextsIn model names entries → IsIndexOf model (set.from_list paths) bytes
       by_tree None finds are = λ modelled. absurd modelled
       by_tree (Some tree) finds are = λ tree_is.
-          is ∙ ap (λ ps. encoding_of ps entries) same ∙ ap (encoding_of paths) (are (names_stored tree paths names faults ok (finds tree_is) tree_is)) ∙ encoding_found tree paths names faults ok (finds tree_is)
+          is ∙ ap (λ ps. encoding_of ps entries) same
+          ∙ ap (encoding_of paths) (are (names_stored tree paths names faults ok (finds tree_is) tree_is))
+          ∙ encoding_found tree paths names faults ok (finds tree_is)
 
-  pub too_large : (built : List (List ℕ)) (entries : List Entry) → built ≡ paths → AreTextsIn model names entries → IsLong (Some (encoding_of built entries)) → IsTreeTooLarge model (set.from_list paths)
+  pub too_large : (built : List (List ℕ)) (entries : List Entry) → built ≡ paths → AreTextsIn model names entries →
+      IsLong (Some (encoding_of built entries)) → IsTreeTooLarge model (set.from_list paths)
   too_large built entries same are large = by_tree model finds are
     where
-      by_tree : (model : Option Snapshot) → FindsIn model (set.from_list paths) names faults → AreTextsIn model names entries → IsTreeTooLarge model (set.from_list paths)
+      by_tree : (model : Option Snapshot) → FindsIn model (set.from_list paths) names faults →
+          AreTextsIn model names entries → IsTreeTooLarge model (set.from_list paths)
       by_tree None finds are = λ modelled. absurd modelled
       by_tree (Some tree) finds are = λ tree_is.
-          subst (λ bytes. IsLong (Some bytes)) (ap (λ ps. encoding_of ps entries) same ∙ ap (encoding_of paths) (are (names_stored tree paths names faults ok (finds tree_is) tree_is)) ∙ encoding_found tree paths names faults ok (finds tree_is)) large
+          subst (λ bytes. IsLong (Some bytes)) (ap (λ ps. encoding_of ps entries) same
+          ∙ ap (encoding_of paths) (are (names_stored tree paths names faults ok (finds tree_is) tree_is))
+          ∙ encoding_found tree paths names faults ok (finds tree_is)) large
 
   -- 2^30 names take four bytes each in the name index alone
   pub too_many : AreTooManyIn model names → IsTreeTooLarge model (set.from_list paths)
   too_many many = by_tree model finds many
     where
-      larger : (n m : ℕ) → 2 ^ 30 ≤ n → 4 * n ≤ m → 2 ^ 32 ≤ m
+      larger : (n m : ℕ) → 2 ^ 30 ≤ n → 4 * n + 4 ≤ m → 2 ^ 32 ≤ m
       larger n m h g = omega (arith, h, g)
 
-      by_tree : (model : Option Snapshot) → FindsIn model (set.from_list paths) names faults → AreTooManyIn model names → IsTreeTooLarge model (set.from_list paths)
+      by_tree : (model : Option Snapshot) → FindsIn model (set.from_list paths) names faults →
+          AreTooManyIn model names → IsTreeTooLarge model (set.from_list paths)
       by_tree None finds many = λ modelled. absurd modelled
       by_tree (Some tree) finds many = λ tree_is.
           subst (λ bytes. IsLong (Some bytes)) (encoding_found tree paths names faults ok (finds tree_is))
-          (larger (length (texts_at tree names)) (length (encoding_of paths (texts_at tree names))) (many (names_stored tree paths names faults ok (finds tree_is) tree_is)) (length-encoding paths (texts_at tree names)))
+          (larger (length (texts_at tree names)) (length (encoding_of paths (texts_at tree names)))
+          (many (names_stored tree paths names faults ok (finds tree_is) tree_is))
+          (many_names paths (texts_at tree names)))
 
   -- so there are at least as many text files as an index can have names
   pub many_found : AreTooManyIn model names → AreTooMany model (set.from_list paths)
   many_found many = by_tree model finds many
     where
-      by_tree : (model : Option Snapshot) → FindsIn model (set.from_list paths) names faults → AreTooManyIn model names → AreTooMany model (set.from_list paths)
+      by_tree : (model : Option Snapshot) → FindsIn model (set.from_list paths) names faults →
+          AreTooManyIn model names → AreTooMany model (set.from_list paths)
       by_tree None finds many = tt
       by_tree (Some tree) finds many = λ tree_is.
           let found_here = finds tree_is in
           subst (λ (entries : List Entry). 2 ^ 30 ≤ length entries)
-          (sym (ap map'.entries (sym (texts_found tree (set.from_list paths) names faults found_here)) ∙ entries_in_order (texts_at tree names) (true_T _ (texts_sorted tree names found_here.names_ascend))))
+          (sym (ap map'.entries (sym (texts_found tree (set.from_list paths) names faults found_here))
+          ∙ entries_in_order (texts_at tree names) (true_T _ (texts_sorted tree names found_here.names_ascend))))
           (many (names_stored tree paths names faults ok found_here tree_is))
 
 -- ---- over any tree
@@ -174,12 +144,15 @@ each_string (e ∷ entries) all = (all.0, each_string entries all.1)
 
 built_content : (built : Built) → IsBuilt built → IsContent (set.from_list built.paths) (map'.from_entries built.entries)
 built_content built is =
-    let read : (name trigrams : List ℕ) → map'.get (map'.from_entries built.entries) name ≡ Some trigrams → find bytes_cmp name built.entries ≡ Some trigrams =
+    let read : (name trigrams : List ℕ) → map'.get (map'.from_entries built.entries) name ≡ Some trigrams →
+    find bytes_cmp name built.entries ≡ Some trigrams =
     λ name trigrams there. sym (map'.get-from_entries nat_list_cmp_total built.entries name) ∙ there in
     record {
       paths_are = from_list_all IsString built.paths is.each_path;
-      names_are = λ name trigrams there. find_all (λ n (t : List ℕ). IsString n) built.entries name trigrams (each_string built.entries is.each_name) (read name trigrams there);
-      sets_are = λ name trigrams there. find_all (λ (n : List ℕ) t. IsTrigramSet t) built.entries name trigrams is.sets (read name trigrams there);
+      names_are = λ name trigrams there. find_all (λ n (t : List ℕ). IsString n) built.entries name trigrams
+          (each_string built.entries is.each_name) (read name trigrams there);
+      sets_are = λ name trigrams there. find_all (λ (n : List ℕ) t. IsTrigramSet t) built.entries name trigrams is.sets
+          (read name trigrams there);
     }
 
 -- what holds of all names holds of those of the entries
@@ -191,18 +164,24 @@ member P (one ∷ names) name all h =
       | inr apart ↦ member P names name all.1 (sym (ap (λ b. b || is_among names name) apart) ∙ h)
     ]
 
-pub lies_under : (paths : Paths) (names : List (List ℕ)) (entries : List Entry) → AllByRecursion (λ name. is_covered paths name ≡ true) names → HaveNamesOf names entries → LieUnder paths (map'.from_entries entries)
+pub lies_under : (paths : Paths) (names : List (List ℕ)) (entries : List Entry) →
+    AllByRecursion (λ name. is_covered paths name ≡ true) names → HaveNamesOf names entries →
+    LieUnder paths (map'.from_entries entries)
 lies_under paths names entries covered have = λ name trigrams there.
-    find_all (λ n (t : List ℕ). is_covered paths n ≡ true) entries name trigrams (each entries have) (sym (map'.get-from_entries nat_list_cmp_total entries name) ∙ there)
+    find_all (λ n (t : List ℕ). is_covered paths n ≡ true) entries name trigrams (each entries have)
+    (sym (map'.get-from_entries nat_list_cmp_total entries name) ∙ there)
   where
     each : (es : List Entry) → HaveNamesOf names es → AllByRecursion (λ (e : Entry). is_covered paths e.0 ≡ true) es
     each [] all = tt
     each (e ∷ es) all = (member (λ n. is_covered paths n ≡ true) names e.0 covered all.0, each es all.1)
 
-pub index_built : (paths : List (List ℕ)) (built : Built) (bytes : List ℕ) → built.paths ≡ paths → IsBuilt built → LieUnder (set.from_list paths) (map'.from_entries built.entries) → bytes ≡ encoding_of built.paths built.entries → IsIndex (set.from_list paths) bytes
+pub index_built : (paths : List (List ℕ)) (built : Built) (bytes : List ℕ) → built.paths ≡ paths → IsBuilt built →
+    LieUnder (set.from_list paths) (map'.from_entries built.entries) → bytes ≡ encoding_of built.paths built.entries →
+    IsIndex (set.from_list paths) bytes
 index_built paths built bytes same is under bytes_are = record {
   files = map'.from_entries built.entries;
   content = subst (λ ps. IsContent (set.from_list ps) (map'.from_entries built.entries)) same (built_content built is);
   under = under;
-  is = bytes_are ∙ encoding_in_order built.paths built.entries is.paths (sorted_named built.entries is.ascend) ∙ ap (λ ps. encoding (set.from_list ps) (map'.from_entries built.entries)) same;
+  is = bytes_are ∙ encoding_in_order built.paths built.entries is.paths (sorted_named built.entries is.ascend)
+      ∙ ap (λ ps. encoding (set.from_list ps) (map'.from_entries built.entries)) same;
 }

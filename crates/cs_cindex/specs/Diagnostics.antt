@@ -1,6 +1,6 @@
 -- The diagnostics of indexing: one for each path that a walk could not read, in path order, then one for each skipped
 -- file, in name order. docs/PROMISES.md, "Jobs of cindex"; docs/FORMAT.md, "Which files are text".
-use Rattle.std.specs.Prelude.{◌≡◌, ◌≢◌, ℕ, Bool, false, if◌then◌else◌, List, [], ◌∷◌, ◌++◌, map, filter_map, take, length, Option, Some, None, Result, Ok, Err}
+use Rattle.std.specs.Prelude.{◌≡◌, ◌≢◌, ℕ, Bool, false, if◌then◌else◌, List, [], ◌∷◌, ◌++◌, map, filter_map, take, length, Option, Some, None, Result, Ok, Err, flat_map}
 use Rattle.cs_args.specs.SkipLines.{skip_line_of}
 use Rattle.cs_tree.specs.TreeAnswers.{opening_of}
 use Rattle.cs_tree.specs.Folders.{IsTree}
@@ -8,7 +8,6 @@ use Rattle.cs_tree.specs.PathSet.{Paths}
 use Rattle.cs_args.specs.FileFaults.{fault_line_of, file_fault_of, is_file_failure}
 use Rattle.cs_trigram.specs.Scans.{ScanOutcome, scan_outcome, text, skipped_for, read_failed}
 use Rattle.cs_tree.specs.Failures.{count_if}
-use Rattle.std.specs.List.{flat_map}
 use Rattle.cs_tree.specs.Snapshot.{Snapshot, item_at}
 use Rattle.cs_tree.specs.StreamModels.{SourceModel}
 use Rattle.cs_tree.specs.Sinks.{Grows, SinkModel}

@@ -1,6 +1,5 @@
 -- How the base index is merged with that of a walk.
-use Rattle.std.specs.Prelude.{◌≡◌, ℕ, false, List, Some, Result}
-use Rattle.std.specs.Result.{IsOkAnd}
+use Rattle.std.specs.Prelude.{◌≡◌, ℕ, false, List, Some, Result, IsOkAnd}
 use Rattle.cs_index.specs.OpenedParts.{Parts, are_whole}
 use Rattle.cs_index.specs.declared.fault.IndexFault.{IndexFault}
 use Rattle.cs_index.specs.declared.fault.IndexFault.TheVariants.{BadNames, BadList}

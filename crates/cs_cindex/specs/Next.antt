@@ -1,7 +1,6 @@
 -- The paths that a job walks, and the index after it, over any base index.
 -- docs/PROMISES.md, "Jobs of cindex".
-use Rattle.std.specs.Prelude.{◌≡◌, ℕ, true, if◌then◌else◌, List, Option, Some, None, Result, Ok, Err}
-use Rattle.std.specs.Result.{IsOkAnd}
+use Rattle.std.specs.Prelude.{◌≡◌, ℕ, true, if◌then◌else◌, List, Option, Some, None, Result, Ok, Err, IsOkAnd}
 use Rattle.cs_history.specs.JobIndex.{tree_index}
 use Rattle.cs_tree.specs.Folders.{IsModelled}
 use Rattle.cs_tree.specs.PathSet.{Paths}

@@ -1,6 +1,5 @@
 -- What a job prints. docs/PROMISES.md, "Jobs of cindex".
-use Rattle.std.specs.Prelude.{◌≡◌, ◌≤◌, ◌⊎◌, ℕ, length, List, [], ◌++◌, codes, Option, Some, None, Result, Ok, Err, Bool, true, false}
-use Rattle.std.specs.List.{flat_map}
+use Rattle.std.specs.Prelude.{◌≡◌, ◌≤◌, ◌⊎◌, ℕ, length, List, [], ◌++◌, codes, Option, Some, None, Result, Ok, Err, Bool, true, false, flat_map}
 use Rattle.cs_tree.specs.Snapshot.{Snapshot}
 use Rattle.cs_tree.specs.Sinks.{SinkModel, Grows}
 use Rattle.cs_tree.specs.Failures.{next_count}

@@ -1,10 +1,9 @@
 -- Why a job fails, for any bytes of the old index.
 -- docs/PROMISES.md, "Jobs of cindex"; the comment of Go's command cindex.
-use Rattle.std.specs.Prelude.{◌≡◌, ◌⊎◌, ℕ, false, not, if◌then◌else◌, List, Option, Some, None, option_map, Result, Ok, Err, string_bytes}
+use Rattle.std.specs.Prelude.{◌≡◌, ◌⊎◌, ℕ, false, not, if◌then◌else◌, List, Option, Some, None, option_map, Result, Ok, Err, string_bytes, IsOkAnd}
 use Rattle.cs_tree.specs.Folders.{are_distinct}
 use Rattle.std.specs.List.{list_all}
 use Rattle.std.specs.Option.{option_or}
-use Rattle.std.specs.Result.{IsOkAnd}
 use Rattle.cs_tree.specs.Cleaning.{is_normalized}
 use Rattle.cs_tree.specs.Snapshot.{Snapshot}
 use Rattle.cs_index.specs.Opening.{opening}

@@ -1,7 +1,6 @@
 -- What one job does, and what jobs do one after another, over any old index.
 -- docs/PROMISES.md, "Jobs of cindex".
-use Rattle.std.specs.Prelude.{◌≡◌, ℕ, true, false, List, [], ◌∷◌, map, Option, None}
-use Rattle.std.specs.List.{zip}
+use Rattle.std.specs.Prelude.{◌≡◌, ℕ, true, false, List, [], ◌∷◌, map, Option, None, zip}
 use Rattle.cs_tree.specs.Sinks.{CountsOne, SinkModel, Grows, HasFlushed, GrowsFlushed}
 use Rattle.cs_tree.specs.TakesPrefix.{MayEnd}
 use Rattle.cs_tree.specs.Snapshot.{Snapshot}

@@ -1,6 +1,6 @@
 // Lists of jobs.
-ghost use Rattle.std.specs.Prelude.{◌≡◌, map, length, All};
-ghost use Rattle.std.specs.List.{AllZip, zip};
+ghost use Rattle.std.specs.Prelude.{◌≡◌, map, length, All, zip};
+ghost use Rattle.std.specs.List.{AllZip};
 ghost use Rattle.cs_tree.specs.Clean.{longest_path};
 ghost use Rattle.cs_tree.specs.Walks.{RequestsWithin};
 ghost use Rattle.cs_history.specs.Headline.{Indexes};
@@ -32,12 +32,9 @@ pub fn cindex<T: Tree, O: Sink, E: Sink>(
     ensures indexes { Indexes jobs.now (map T.snapshot trees.old) replies.new
         (index_bytes old) (index_bytes result) }
     ensures replies { RightAll (map T.snapshot trees.old) (index_bytes old) jobs.now replies.new }
-    ensures steps { Steps
-        (zip jobs.now (zip (job_trees T.snapshot T.failed trees.old trees.new) replies.new))
-        (state O.model O.failed E.model E.failed
-        (index_bytes old) out.old err.old)
-        (state O.model O.failed E.model E.failed
-        (index_bytes result) out.new err.new) }
+    ensures steps { Steps (zip jobs.now (zip (job_trees T.snapshot T.failed trees.old trees.new) replies.new))
+        (state O.model O.failed E.model E.failed (index_bytes old) out.old err.old)
+        (state O.model O.failed E.model E.failed (index_bytes result) out.new err.new) }
     ensures requested { AllZip (RequestsWithin longest_path)
         (map T.longest_requested trees.old) (map T.longest_requested trees.new) }
     ensures keeps { map T.snapshot trees.new ≡ map T.snapshot trees.old }

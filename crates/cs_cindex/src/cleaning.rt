@@ -23,8 +23,7 @@ pub(crate) fn clean_all(
     requires { is_absolute folder.now ≡ true }
     ensures cleaned { IfOk result (λ given. map string_bytes given.items ≡
         map (λ text. clean_path folder.now text) (map string_bytes paths.now)) }
-    ensures fault { MatchResult result
-        (λ _. first_bad folder.now (map string_bytes paths.now) ≡ None)
+    ensures fault { MatchResult result (λ _. first_bad folder.now (map string_bytes paths.now) ≡ None)
         (λ fault. AreCleanFault folder.now (map string_bytes paths.now) fault) }
 {
     let mut given = Vec::new(alloc);

@@ -11,7 +11,6 @@ ghost use Rattle.cs_index.specs.Encoding.{encoding_of, names_of};
 ghost use Rattle.cs_history.specs.Premises.{IsShort};
 ghost use Rattle.cs_history.specs.Replies.{IsLong};
 ghost use Rattle.cs_cindex.specs.Output.{is_failed_write};
-ghost use Rattle.cs_cindex.specs.Refusals.{IsOutputFault};
 ghost use Rattle.cs_cindex.specs.Verdicts.{HasTrigramsOnce, added_entries, added_line, noted_entries, noted_line, PrintsAll};
 ghost use Rattle.cs_cindex.specs.Files.{AreTextsIn, AreTooManyIn, HaveNamesOf, IsIndexingFault, PrintsFiles, PrintsFilesPrefix};
 
@@ -21,7 +20,7 @@ use cs_args::{CindexFault, FileFault};
 use cs_index::{BuildFault, Builder};
 use cs_output::{Output, Sent};
 use cs_tree::{Sink, Tree};
-use cs_trigram::{Reason, Scan, Scanner};
+use cs_trigram::{Scan, Scanner};
 use std::alloc::Global;
 
 /// The state of indexing.
@@ -39,8 +38,7 @@ impl Indexer {
         log_skip: bool,
     ) -> Result<Indexer, CindexFault>
         requires { are_paths (map string_bytes paths.now) ≡ true }
-        ensures paths { IfOk result
-            (λ indexer. indexer.builder.paths ≡ map string_bytes paths.now) }
+        ensures paths { IfOk result (λ indexer. indexer.builder.paths ≡ map string_bytes paths.now) }
         ensures empty { IfOk result (λ indexer. indexer.builder.entries ≡ []) }
         ensures log_skip { IfOk result (λ indexer. indexer.log_skip ≡ log_skip) }
         ensures refused { IfErr result (λ fault. fault ≡ CindexFault.Memory) }
@@ -69,8 +67,7 @@ impl Indexer {
         requires empty { self.old.builder.entries ≡ [] }
         ensures texts { OnOk result (AreTextsIn
             (T.snapshot tree.old) (map string_bytes names.now) self.new.builder.entries) }
-        ensures names { OnOk result
-            (HaveNamesOf (map string_bytes names.now) self.new.builder.entries) }
+        ensures names { OnOk result (HaveNamesOf (map string_bytes names.now) self.new.builder.entries) }
         ensures prints { OnOk result (PrintsFiles
             self.old.log_skip (T.snapshot tree.old) (map string_bytes names.now)
             (T.failed tree.old) (T.failed tree.new) (E.model err.old) (E.model err.new)) }
@@ -104,11 +101,9 @@ impl Indexer {
         requires above { is_above (names_of self.old.builder.entries) name.now ≡ true }
         ensures entries { OnOk result (self.new.builder.entries ≡
             self.old.builder.entries ++ noted_entries name.now verdict.entry) }
-        ensures prints { PrintsAll
-            (option_to_list (noted_line self.old.log_skip name.now verdict.entry))
+        ensures prints { PrintsAll (option_to_list (noted_line self.old.log_skip name.now verdict.entry))
             (E.model err.old) (E.model err.new) result }
-        ensures too_large { result ≡ Err CindexFault.TooLarge →
-            max_names ≤ length self.old.builder.entries }
+        ensures too_large { result ≡ Err CindexFault.TooLarge → max_names ≤ length self.old.builder.entries }
         ensures paths { self.new.builder.paths ≡ self.old.builder.paths }
         ensures log_skip { self.new.log_skip ≡ self.old.log_skip }
         ensures writes { E.failed err.new ≡ count_after is_failed_write result (E.failed err.old) }
@@ -116,28 +111,10 @@ impl Indexer {
     {
         match verdict {
             Ok(Scan::Text { trigrams, .. }) => self.add(name, trigrams, err),
-            Ok(Scan::Skip(reason)) => self.note_skipped(name, reason, err),
+            Ok(Scan::Skip(reason)) if self.log_skip => print_skipped(self.alloc, name, reason, err),
+            Ok(Scan::Skip(_)) => Ok(()),
             Err(fault) => print_fault(self.alloc, name, fault, err),
         }
-    }
-
-    /// Prints the diagnostic of a non-text file, with `-logskip`.
-    fn note_skipped<E: Sink>(
-        &self,
-        name: &str,
-        reason: Reason,
-        err: &mut E,
-    ) -> Result<(), CindexFault>
-        ensures prints { PrintsAll
-            (option_to_list (noted_line self.now.log_skip name.now (Ok (Scan.Skip reason))))
-            (E.model err.old) (E.model err.new) result }
-        ensures writes { E.failed err.new ≡ count_after is_failed_write result (E.failed err.old) }
-        ensures only { IfErr result IsOutputFault }
-    {
-        if self.log_skip {
-            print_skipped(self.alloc, name, reason, err)?;
-        }
-        Ok(())
     }
 
     /// Adds a text file, or prints a diagnostic if no index can store its name.
@@ -148,8 +125,7 @@ impl Indexer {
             self.old.builder.entries ++ added_entries name.now (set_of_numbers trigrams.now)) }
         ensures prints { PrintsAll (option_to_list (added_line name.now))
             (E.model err.old) (E.model err.new) result }
-        ensures too_large { result ≡ Err CindexFault.TooLarge →
-            max_names ≤ length self.old.builder.entries }
+        ensures too_large { result ≡ Err CindexFault.TooLarge → max_names ≤ length self.old.builder.entries }
         ensures paths { self.new.builder.paths ≡ self.old.builder.paths }
         ensures log_skip { self.new.log_skip ≡ self.old.log_skip }
         ensures writes { E.failed err.new ≡ count_after is_failed_write result (E.failed err.old) }
@@ -172,8 +148,7 @@ impl Indexer {
         ensures short { IfOk result (λ index. IsShort (Some index.bytes)) }
         ensures too_large { result ≡ Err CindexFault.TooLarge →
             IsLong (Some (encoding_of self.builder.paths self.builder.entries)) }
-        ensures only { IfErr result
-            (λ fault. (fault ≡ CindexFault.TooLarge) ⊎ (fault ≡ CindexFault.Memory)) }
+        ensures only { IfErr result (λ fault. (fault ≡ CindexFault.TooLarge) ⊎ (fault ≡ CindexFault.Memory)) }
         ensures given { IfOk result (λ index. W.given new.new ≡ W.given new.old ++ index.bytes) }
         ensures keeps { W.Keeps new.old new.new }
     {

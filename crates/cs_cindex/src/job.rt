@@ -1,6 +1,5 @@
 // One job.
-ghost use Rattle.std.specs.Prelude.{◌≡◌, ℕ, List, Option, true, option_map, IfOk, IfErr};
-ghost use Rattle.std.specs.Option.{option_copied};
+ghost use Rattle.std.specs.Prelude.{◌≡◌, ℕ, List, Option, true, option_map, IfOk, IfErr, option_copied};
 ghost use Rattle.cs_tree.specs.Clean.{longest_path};
 ghost use Rattle.cs_tree.specs.Walks.{RequestsWithin};
 ghost use Rattle.cs_storage.specs.FileAfter.{IsGiven};
@@ -12,7 +11,6 @@ ghost use Rattle.cs_cindex.specs.Steps.{IsUnread, IsWholeStep, LeavesFlushed, ou
 ghost use Rattle.cs_history.specs.Jobs.{HasAbsoluteFolder};
 
 use crate::listing::list_old;
-use crate::outcome::index_and_reply;
 use crate::walked::walked_index;
 use cs_args::{CindexFault, IndexJob, Reply};
 use cs_output::Output;
@@ -32,10 +30,8 @@ pub(crate) fn do_job<T: Tree, O: Sink, E: Sink>(
     requires { HasAbsoluteFolder job.now }
     ensures replies { RightAfter (T.snapshot tree.old) (index_bytes old) job.now result.1 }
     ensures step { IsWholeStep job.now (job_tree T.snapshot T.failed tree.old tree.new) result.1
-        (state O.model O.failed E.model E.failed
-        (index_bytes old) out.old err.old)
-        (state O.model O.failed E.model E.failed
-        (index_bytes result.0) out.new err.new) }
+        (state O.model O.failed E.model E.failed (index_bytes old) out.old err.old)
+        (state O.model O.failed E.model E.failed (index_bytes result.0) out.new err.new) }
     ensures requested { RequestsWithin longest_path (T.longest_requested tree.old)
         (T.longest_requested tree.new) }
     ensures tree_keeps { T.snapshot tree.new ≡ T.snapshot tree.old }
@@ -43,7 +39,11 @@ pub(crate) fn do_job<T: Tree, O: Sink, E: Sink>(
     let mut store = stored(old.as_deref());
     let mut new = Vec::new(alloc);
     match cindex_stored(alloc, &mut store, job, tree, &mut new, out, err) {
-        Ok(update) => index_and_reply(old, update, new),
+        Ok(Ok(IndexUpdate::Keep)) => (old, Reply::Done),
+        Ok(Ok(IndexUpdate::Remove)) => (None, Reply::Done),
+        Ok(Ok(IndexUpdate::Write(_))) => (Some(new), Reply::Done),
+        // A job that fails leaves the old index.
+        Ok(Err(fault)) => (old, Reply::Refused(fault)),
         // No read of a store in memory fails.
         Err(_) => unreachable!(),
     }
@@ -79,8 +79,7 @@ pub fn cindex_stored<S: Store, T: Tree, W: Output, O: Sink, E: Sink>(
     requires { HasAbsoluteFolder job.now }
     ensures replies { (index : Option (List ℕ)) → IsIndex S.model old.old index →
         IfOk result (λ update. RightAfter (T.snapshot tree.old) index job.now (reply_of update)) }
-    ensures step { (index : Option (List ℕ)) → IsIndex S.model old.old index →
-        IfOk result (λ update.
+    ensures step { (index : Option (List ℕ)) → IsIndex S.model old.old index → IfOk result (λ update.
         IsWholeStepTo job.now (job_tree T.snapshot T.failed tree.old tree.new) update
         (state O.model O.failed E.model E.failed index out.old err.old)
         (outputs O.model O.failed E.model E.failed out.new err.new)) }
@@ -91,10 +90,8 @@ pub fn cindex_stored<S: Store, T: Tree, W: Output, O: Sink, E: Sink>(
     ensures keeps_new { W.Keeps new.old new.new }
     ensures lists { job.now.list ≡ true →
         IfOk result (λ update. IfOk update (λ kept. kept ≡ IndexUpdate.Keep)) }
-    ensures unread { IfErr result (λ _.
-        IsUnread job.now (job_tree T.snapshot T.failed tree.old tree.new)
-        (IsIndex S.model old.old)
-        (outputs O.model O.failed E.model E.failed out.old err.old)
+    ensures unread { IfErr result (λ _. IsUnread job.now (job_tree T.snapshot T.failed tree.old tree.new)
+        (IsIndex S.model old.old) (outputs O.model O.failed E.model E.failed out.old err.old)
         (outputs O.model O.failed E.model E.failed out.new err.new)) }
     ensures failure { IfErr result (λ fault. fault ≡ IoFault.Failed) }
     ensures failed { IsUnreadable S.failed old.old old.new (has_failed result) }
@@ -130,8 +127,7 @@ fn update_of<S: Store, T: Tree, W: Output, O: Sink, E: Sink>(
     err: &mut E,
 ) -> Result<Result<IndexUpdate, CindexFault>, IoFault>
     requires { HasAbsoluteFolder job.now }
-    ensures step { (index : Option (List ℕ)) → IsIndex S.model old.old index →
-        IfOk result (λ update.
+    ensures step { (index : Option (List ℕ)) → IsIndex S.model old.old index → IfOk result (λ update.
         IsStepTo job.now (job_tree T.snapshot T.failed tree.old tree.new) update
         (state O.model O.failed E.model E.failed index out.old err.old)
         (outputs O.model O.failed E.model E.failed out.new err.new)) }
@@ -140,10 +136,8 @@ fn update_of<S: Store, T: Tree, W: Output, O: Sink, E: Sink>(
     ensures keeps_new { W.Keeps new.old new.new }
     ensures lists { job.now.list ≡ true →
         IfOk result (λ update. IfOk update (λ kept. kept ≡ IndexUpdate.Keep)) }
-    ensures unread { IfErr result (λ _.
-        IsUnread job.now (job_tree T.snapshot T.failed tree.old tree.new)
-        (IsIndex S.model old.old)
-        (outputs O.model O.failed E.model E.failed out.old err.old)
+    ensures unread { IfErr result (λ _. IsUnread job.now (job_tree T.snapshot T.failed tree.old tree.new)
+        (IsIndex S.model old.old) (outputs O.model O.failed E.model E.failed out.old err.old)
         (outputs O.model O.failed E.model E.failed out.new err.new)) }
     ensures failure { IfErr result (λ fault. fault ≡ IoFault.Failed) }
     ensures failed { IsUnreadable S.failed old.old old.new (has_failed result) }

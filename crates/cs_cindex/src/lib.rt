@@ -11,7 +11,6 @@ mod indexing;
 mod job;
 mod listing;
 mod old;
-mod outcome;
 mod printing;
 mod verdicts;
 mod walked;

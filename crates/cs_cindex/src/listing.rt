@@ -21,13 +21,11 @@ pub(crate) fn list_old<S: Store, O: Sink>(
 ) -> Result<Result<(), CindexFault>, IoFault>
     ensures refusal { (index : Option (List ℕ)) → IsIndex S.model old.old index →
         IfOk result (λ listed. AnswersFor listed (list_fault index) IsOutputFault) }
-    ensures out { (index : Option (List ℕ)) → IsIndex S.model old.old index →
-        IfOk result (λ listed.
+    ensures out { (index : Option (List ℕ)) → IsIndex S.model old.old index → IfOk result (λ listed.
         WritesBytes (index_lines index) (O.model out.old) (O.model out.new) listed) }
     ensures writes { IfOk result
         (λ listed. O.failed out.new ≡ count_after is_failed_write listed (O.failed out.old)) }
-    ensures unread { IfErr result
-        (λ _. output O.model O.failed out.new ≡ output O.model O.failed out.old) }
+    ensures unread { IfErr result (λ _. output O.model O.failed out.new ≡ output O.model O.failed out.old) }
     ensures failure { IfErr result (λ fault. fault ≡ IoFault.Failed) }
     ensures failed { IsUnreadable S.failed old.old old.new (has_failed result) }
     ensures keeps { option_map S.model old.new ≡ option_map S.model old.old }

@@ -36,8 +36,7 @@ pub(crate) fn print_fault<E: Sink>(
     fault: FileFault,
     err: &mut E,
 ) -> Result<(), CindexFault>
-    ensures prints { PrintsAll (faulted name.now fault ∷ [])
-        (E.model err.old) (E.model err.new) result }
+    ensures prints { PrintsAll (faulted name.now fault ∷ []) (E.model err.old) (E.model err.new) result }
     ensures writes { E.failed err.new ≡ count_after is_failed_write result (E.failed err.old) }
     ensures only { IfErr result IsOutputFault }
 {
@@ -53,8 +52,7 @@ pub(crate) fn print_skipped<E: Sink>(
     reason: Reason,
     err: &mut E,
 ) -> Result<(), CindexFault>
-    ensures prints { PrintsAll (skipped name.now reason ∷ [])
-        (E.model err.old) (E.model err.new) result }
+    ensures prints { PrintsAll (skipped name.now reason ∷ []) (E.model err.old) (E.model err.new) result }
     ensures writes { E.failed err.new ≡ count_after is_failed_write result (E.failed err.old) }
     ensures only { IfErr result IsOutputFault }
 {

@@ -20,8 +20,7 @@ pub(crate) fn read_file<'a, T: Tree>(
     ensures model { IfOk result (λ verdict. IsVerdictIn (T.snapshot tree.old) name.now verdict) }
     ensures once { IfOk result HasTrigramsOnce }
     ensures counted { T.failed tree.new ≡ count_read result (T.failed tree.old) }
-    ensures requested { RequestsPath (T.longest_requested tree.old)
-        (T.longest_requested tree.new) name.now }
+    ensures requested { RequestsPath (T.longest_requested tree.old) (T.longest_requested tree.new) name.now }
     ensures keeps { T.snapshot tree.new ≡ T.snapshot tree.old }
 {
     if let Err(fault) = tree.open(name) {

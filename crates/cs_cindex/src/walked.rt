@@ -39,8 +39,7 @@ pub(crate) fn walked_index<S: Store, T: Tree, W: Output, E: Sink>(
 ) -> Result<Result<Sent, CindexFault>, IoFault>
     requires { HasAbsoluteFolder job.now }
     ensures next { (index : Option (List ℕ)) → IsIndex S.model old.old index → IfOk result (λ walked.
-        IfOk walked (λ sent. IsNext job.now (T.snapshot tree.old) (base job.now index)
-        (Some sent.bytes))) }
+        IfOk walked (λ sent. IsNext job.now (T.snapshot tree.old) (base job.now index) (Some sent.bytes))) }
     ensures refusal { (index : Option (List ℕ)) → IsIndex S.model old.old index → IfOk result (λ walked.
         AnswersFor walked (early_walk_fault job.now (base job.now index))
         (IsWalkFault job.now (T.snapshot tree.old) (base job.now index))) }
@@ -86,8 +85,7 @@ fn new_index<T: Tree, W: Output, E: Sink>(
     err: &mut E,
 ) -> Result<Sent, CindexFault>
     requires { AreCleaned job.now (map string_bytes given.now) }
-    ensures next { IfOk result
-        (λ index. IsNext job.now (T.snapshot tree.old) None (Some index.bytes)) }
+    ensures next { IfOk result (λ index. IsNext job.now (T.snapshot tree.old) None (Some index.bytes)) }
     ensures refusal { AnswersFor result (base_fault job.now None)
         (IsWalkFault job.now (T.snapshot tree.old) None) }
     ensures prints { WalkPrintsFor result (base_fault job.now None)
@@ -134,10 +132,8 @@ fn extended_index<S: Store, T: Tree, W: Output, E: Sink>(
     ensures keeps_new { W.Keeps new.old new.new }
     ensures writes { IfOk result
         (λ walked. E.failed err.new ≡ count_after is_failed_write walked (E.failed err.old)) }
-    ensures unread { IfErr result (λ _.
-        UnreadPrints job.now (job_tree T.snapshot T.failed tree.old tree.new)
-        (IsIndex S.model (Some store.old))
-        (output E.model E.failed err.old) (output E.model E.failed err.new)
+    ensures unread { IfErr result (λ _. UnreadPrints job.now (job_tree T.snapshot T.failed tree.old tree.new)
+        (IsIndex S.model (Some store.old)) (output E.model E.failed err.old) (output E.model E.failed err.new)
         × (E.failed err.new ≡ E.failed err.old)) }
     ensures failure { IfErr result (λ fault. fault ≡ IoFault.Failed) }
     ensures keeps { S.model store.new ≡ S.model store.old }
@@ -212,7 +208,12 @@ fn merge_old<S: Store, W: Output>(
         return Ok(Err(CindexFault::Memory));
     };
     if !replaced {
-        return merge_both(alloc, store, old, &index, new);
+        return match merge_stored(alloc, store, old, &index, new) {
+            Ok(Ok(index)) => Ok(Ok(index)),
+            Ok(Err(fault)) => Ok(Err(merge_refusal(fault))),
+            Err(IoFault::Memory) => Ok(Err(CindexFault::Memory)),
+            Err(IoFault::Failed) => Err(IoFault::Failed),
+        };
     }
     match is_whole_stored(alloc, store, old) {
         Ok(true) => Ok(send(newer, new)),
@@ -233,36 +234,6 @@ fn send<W: Output>(index: &[u8], new: &mut W) -> Result<Sent, CindexFault>
     let mut sent = Sent::new();
     sent.push(index);
     Ok(sent)
-}
-
-/// Sends the base index, merged with a newer one, whose names are distinct and lie under its paths.
-fn merge_both<S: Store, W: Output>(
-    alloc: Global,
-    store: &mut S,
-    old: &StoredTables,
-    newer: &Index<'_>,
-    new: &mut W,
-) -> Result<Result<Sent, CindexFault>, IoFault>
-    requires { IsFit old.now }
-    ensures merged { (bytes : List ℕ) → S.model store.old ≡ Some bytes → (parts : Parts) →
-        TablesIn bytes old.now parts → IfOk result (λ merged.
-        MatchResult merged (λ index. MergesShort parts (Ok newer.now) index.bytes)
-        (IsMergeRefusal parts (Ok newer.now))) }
-    ensures given { IfOk result (λ merged. IfOk merged
-        (λ index. W.given new.new ≡ W.given new.old ++ index.bytes)) }
-    ensures keeps_new { W.Keeps new.old new.new }
-    ensures writes { IfOk result (λ merged. IfErr merged (λ fault. is_failed_write fault ≡ false)) }
-    ensures failure { IfErr result (λ fault. fault ≡ IoFault.Failed) }
-    ensures keeps { S.model store.new ≡ S.model store.old }
-    ensures size { S.size store.new ≡ S.size store.old }
-    ensures failed { S.failed store.new ≡ count_after is_io_failure result (S.failed store.old) }
-{
-    match merge_stored(alloc, store, old, newer, new) {
-        Ok(Ok(index)) => Ok(Ok(index)),
-        Ok(Err(fault)) => Ok(Err(merge_refusal(fault))),
-        Err(IoFault::Memory) => Ok(Err(CindexFault::Memory)),
-        Err(IoFault::Failed) => Err(IoFault::Failed),
-    }
 }
 
 /// An error of the merge, as that of a job. `Unsorted` and `Uncovered` do not occur: the names of the base index were

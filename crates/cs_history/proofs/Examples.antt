@@ -1,15 +1,10 @@
 -- Worked examples of histories. Each history is given with its paths, its files with their trigrams, the length of
 -- its index and the offsets of the five sections. The newest job comes first.
-use Rattle.std.proofs.Common.{◌≡◌, ℕ, false, List, [], ◌∷◌, ◌++◌, length, take, drop, ap, sym, ◌∙◌, Option, Some, None}
-use Rattle.std.specs.Prelude.{codes, option_map, ◌-◌, flat_map}
+use Rattle.std.proofs.Common.{◌≡◌, ℕ, false, List, [], ◌∷◌, ◌++◌, length, take, drop, ap, sym, ◌∙◌, Option, Some, None, codes, option_map, ◌-◌, flat_map}
+use Rattle.cs_history.proofs.Common.{Item, folder, file, four_bytes, paths_of, files_of, index_of, merge_files, files_of_both, Parts}
 use Rattle.std.specs.FinMap as map'
 use Rattle.cs_tree.specs.PathSet as set
-use Rattle.cs_tree.specs.Snapshot.{Item, folder, file}
-use Rattle.cs_index.specs.Encoding.{four_bytes, varint}
-use Rattle.cs_history.specs.History.{paths_of, files_of, index_of}
-use Rattle.cs_merge.specs.Merge.{merge_files}
-use Rattle.cs_history.specs.Shards.{files_of_both}
-use Rattle.cs_index.specs.OpenedParts.{Parts}
+use Rattle.cs_index.specs.Encoding.{varint}
 use Rattle.cs_history.proofs.PairListLemmas.{Job, history_from, history_of, paths_computed, files_computed, index_computed, entries_merged, entries_of_both}
 
 -- ---- snapshots
@@ -42,33 +37,24 @@ framed n offsets = Some (n, flat_map four_bytes offsets)
 
 -- ---- a path that is a prefix of another one's text
 
+-- `/a/b/f` and `/a/bc/y` with these texts
+abbrev in_two_folders : List ℕ → List ℕ → List (List ℕ × Item)
+in_two_folders f y =
+    folder_at (codes "/") (codes "a" ∷ [])
+    ∷ folder_at (codes "/a") (codes "b" ∷ codes "bc" ∷ [])
+    ∷ folder_at (codes "/a/b") (codes "f" ∷ [])
+    ∷ file_at (codes "/a/b/f") f
+    ∷ folder_at (codes "/a/bc") (codes "y" ∷ [])
+    ∷ file_at (codes "/a/bc/y") y
+    ∷ []
+
 -- `cindex /a/b /a/bc`
 abbrev both_folders : Job
-both_folders = record {
-  paths = codes "/a/b" ∷ codes "/a/bc" ∷ [];
-  items =
-      folder_at (codes "/") (codes "a" ∷ [])
-      ∷ folder_at (codes "/a") (codes "b" ∷ codes "bc" ∷ [])
-      ∷ folder_at (codes "/a/b") (codes "f" ∷ [])
-      ∷ file_at (codes "/a/b/f") (codes "one")
-      ∷ folder_at (codes "/a/bc") (codes "y" ∷ [])
-      ∷ file_at (codes "/a/bc/y") (codes "two")
-      ∷ [];
-}
+both_folders = record { paths = codes "/a/b" ∷ codes "/a/bc" ∷ []; items = in_two_folders (codes "one") (codes "two") }
 
 -- both files have changed: `cindex /a/b`
 abbrev one_folder : Job
-one_folder = record {
-  paths = codes "/a/b" ∷ [];
-  items =
-      folder_at (codes "/") (codes "a" ∷ [])
-      ∷ folder_at (codes "/a") (codes "b" ∷ codes "bc" ∷ [])
-      ∷ folder_at (codes "/a/b") (codes "f" ∷ [])
-      ∷ file_at (codes "/a/b/f") (codes "six")
-      ∷ folder_at (codes "/a/bc") (codes "y" ∷ [])
-      ∷ file_at (codes "/a/bc/y") (codes "ten")
-      ∷ [];
-}
+one_folder = record { paths = codes "/a/b" ∷ []; items = in_two_folders (codes "six") (codes "ten") }
 
 paths_beside : set.items (paths_of (history_of (one_folder ∷ both_folders ∷ []))) ≡ codes "/a/b" ∷ codes "/a/bc" ∷ []
 paths_beside = paths_computed None (one_folder ∷ both_folders ∷ [])
@@ -82,17 +68,18 @@ index_beside = ap (option_map frame) (index_computed None one_folder (both_folde
 
 -- ---- a file that becomes a folder, and a file again
 
+-- `/a/b` with this text
+abbrev one_file : List ℕ → List (List ℕ × Item)
+one_file b =
+    folder_at (codes "/") (codes "a" ∷ [])
+    ∷ folder_at (codes "/a") (codes "b" ∷ codes "b-x" ∷ [])
+    ∷ file_at (codes "/a/b") b
+    ∷ file_at (codes "/a/b-x") (codes "two")
+    ∷ []
+
 -- `cindex /a`
 abbrev as_a_file : Job
-as_a_file = record {
-  paths = codes "/a" ∷ [];
-  items =
-      folder_at (codes "/") (codes "a" ∷ [])
-      ∷ folder_at (codes "/a") (codes "b" ∷ codes "b-x" ∷ [])
-      ∷ file_at (codes "/a/b") (codes "one")
-      ∷ file_at (codes "/a/b-x") (codes "two")
-      ∷ [];
-}
+as_a_file = record { paths = codes "/a" ∷ []; items = one_file (codes "one") }
 
 -- `cindex /a/b`
 abbrev as_a_folder : Job
@@ -109,15 +96,7 @@ as_a_folder = record {
 
 -- `cindex /a/b`
 abbrev as_a_file_again : Job
-as_a_file_again = record {
-  paths = codes "/a/b" ∷ [];
-  items =
-      folder_at (codes "/") (codes "a" ∷ [])
-      ∷ folder_at (codes "/a") (codes "b" ∷ codes "b-x" ∷ [])
-      ∷ file_at (codes "/a/b") (codes "ten")
-      ∷ file_at (codes "/a/b-x") (codes "two")
-      ∷ [];
-}
+as_a_file_again = record { paths = codes "/a/b" ∷ []; items = one_file (codes "ten") }
 
 paths_of_a_folder : set.items (paths_of (history_of (as_a_folder ∷ as_a_file ∷ []))) ≡ codes "/a" ∷ []
 paths_of_a_folder = paths_computed None (as_a_folder ∷ as_a_file ∷ [])
@@ -128,49 +107,33 @@ files_of_a_folder = files_computed None (as_a_folder ∷ as_a_file ∷ [])
 paths_of_a_file_again : set.items (paths_of (history_of (as_a_file_again ∷ as_a_folder ∷ as_a_file ∷ []))) ≡ codes "/a" ∷ []
 paths_of_a_file_again = paths_computed None (as_a_file_again ∷ as_a_folder ∷ as_a_file ∷ [])
 
-files_of_a_file_again : map'.entries (files_of (history_of (as_a_file_again ∷ as_a_folder ∷ as_a_file ∷ []))) ≡ (codes "/a/b", ten) ∷ (codes "/a/b-x", two) ∷ []
+files_of_a_file_again : map'.entries (files_of (history_of (as_a_file_again ∷ as_a_folder ∷ as_a_file ∷ [])))
+    ≡ (codes "/a/b", ten) ∷ (codes "/a/b-x", two) ∷ []
 files_of_a_file_again = files_computed None (as_a_file_again ∷ as_a_folder ∷ as_a_file ∷ [])
 
 -- ---- a folder below a path, and then the path again
 
+-- `/a/b/f` and `/a/g` with these texts
+abbrev in_both : List ℕ → List ℕ → List (List ℕ × Item)
+in_both f g =
+    folder_at (codes "/") (codes "a" ∷ [])
+    ∷ folder_at (codes "/a") (codes "b" ∷ codes "g" ∷ [])
+    ∷ folder_at (codes "/a/b") (codes "f" ∷ [])
+    ∷ file_at (codes "/a/b/f") f
+    ∷ file_at (codes "/a/g") g
+    ∷ []
+
 -- `cindex /a`
 abbrev whole : Job
-whole = record {
-  paths = codes "/a" ∷ [];
-  items =
-      folder_at (codes "/") (codes "a" ∷ [])
-      ∷ folder_at (codes "/a") (codes "b" ∷ codes "g" ∷ [])
-      ∷ folder_at (codes "/a/b") (codes "f" ∷ [])
-      ∷ file_at (codes "/a/b/f") (codes "one")
-      ∷ file_at (codes "/a/g") (codes "two")
-      ∷ [];
-}
+whole = record { paths = codes "/a" ∷ []; items = in_both (codes "one") (codes "two") }
 
 -- both files have changed: `cindex /a/b`
 abbrev below : Job
-below = record {
-  paths = codes "/a/b" ∷ [];
-  items =
-      folder_at (codes "/") (codes "a" ∷ [])
-      ∷ folder_at (codes "/a") (codes "b" ∷ codes "g" ∷ [])
-      ∷ folder_at (codes "/a/b") (codes "f" ∷ [])
-      ∷ file_at (codes "/a/b/f") (codes "six")
-      ∷ file_at (codes "/a/g") (codes "ten")
-      ∷ [];
-}
+below = record { paths = codes "/a/b" ∷ []; items = in_both (codes "six") (codes "ten") }
 
 -- nothing has changed: `cindex`
 abbrev again : Job
-again = record {
-  paths = [];
-  items =
-      folder_at (codes "/") (codes "a" ∷ [])
-      ∷ folder_at (codes "/a") (codes "b" ∷ codes "g" ∷ [])
-      ∷ folder_at (codes "/a/b") (codes "f" ∷ [])
-      ∷ file_at (codes "/a/b/f") (codes "six")
-      ∷ file_at (codes "/a/g") (codes "ten")
-      ∷ [];
-}
+again = record { paths = []; items = in_both (codes "six") (codes "ten") }
 
 paths_below_a_path : set.items (paths_of (history_of (below ∷ whole ∷ []))) ≡ codes "/a" ∷ []
 paths_below_a_path = paths_computed None (below ∷ whole ∷ [])
@@ -194,21 +157,12 @@ files_read_again = files_computed None (again ∷ below ∷ whole ∷ [])
 abbrev there : Job
 there = record {
   paths = codes "/v" ∷ [];
-  items =
-      folder_at (codes "/") (codes "v" ∷ [])
-      ∷ folder_at (codes "/v") (codes "f" ∷ [])
-      ∷ file_at (codes "/v/f") (codes "one")
-      ∷ [];
+  items = folder_at (codes "/") (codes "v" ∷ []) ∷ folder_at (codes "/v") (codes "f" ∷ []) ∷ file_at (codes "/v/f") (codes "one") ∷ [];
 }
 
 -- `cindex`
 abbrev gone : Job
-gone = record {
-  paths = [];
-  items =
-      folder_at (codes "/") []
-      ∷ [];
-}
+gone = record { paths = []; items = folder_at (codes "/") [] ∷ [] }
 
 paths_of_what_was_there : set.items (paths_of (history_of (there ∷ []))) ≡ codes "/v" ∷ []
 paths_of_what_was_there = paths_computed None (there ∷ [])
@@ -264,22 +218,12 @@ go_again = record {
 abbrev go_on : Job
 go_on = record {
   paths = codes "/a/b-x" ∷ [];
-  items =
-      folder_at (codes "/") (codes "a" ∷ [])
-      ∷ folder_at (codes "/a") (codes "b-x" ∷ [])
-      ∷ file_at (codes "/a/b-x") (codes "six")
-      ∷ [];
+  items = folder_at (codes "/") (codes "a" ∷ []) ∷ folder_at (codes "/a") (codes "b-x" ∷ []) ∷ file_at (codes "/a/b-x") (codes "six") ∷ [];
 }
 
 -- `cindex /c`, an empty folder
 abbrev go_beside : Job
-go_beside = record {
-  paths = codes "/c" ∷ [];
-  items =
-      folder_at (codes "/") (codes "c" ∷ [])
-      ∷ folder_at (codes "/c") []
-      ∷ [];
-}
+go_beside = record { paths = codes "/c" ∷ []; items = folder_at (codes "/") (codes "c" ∷ []) ∷ folder_at (codes "/c") [] ∷ [] }
 
 index_read_again : option_map frame (index_of (history_from by_the_go_tool (go_again ∷ []))) ≡ framed 104 (16 ∷ 20 ∷ 35 ∷ 45 ∷ 57 ∷ [])
 unfolding varint
@@ -305,12 +249,18 @@ index_beside_it = ap (option_map frame) (index_computed by_the_go_tool go_beside
 -- ---- merges
 
 -- the files of the newer index are not the first
-shards_merge_in_name_order : map'.entries (merge_files (set.from_list (codes "/a" ∷ [])) (map'.from_entries ((codes "/b/f", one) ∷ [])) (map'.from_entries ((codes "/a/g", two) ∷ []))) ≡ (codes "/a/g", two) ∷ (codes "/b/f", one) ∷ []
+shards_merge_in_name_order : map'.entries
+    (merge_files (set.from_list (codes "/a" ∷ [])) (map'.from_entries ((codes "/b/f", one) ∷ []))
+    (map'.from_entries ((codes "/a/g", two) ∷ []))) ≡ (codes "/a/g", two) ∷ (codes "/b/f", one) ∷ []
 shards_merge_in_name_order = entries_merged (codes "/a" ∷ []) ((codes "/b/f", one) ∷ []) ((codes "/a/g", two) ∷ [])
 
 -- if a path of the newer index covers a name of the old one, the merge lacks that file
-a_covered_name_is_lost : map'.entries (merge_files (set.from_list (codes "/a" ∷ [])) (map'.from_entries ((codes "/a/f", one) ∷ [])) (map'.from_entries ((codes "/a/g", two) ∷ []))) ≡ (codes "/a/g", two) ∷ []
+a_covered_name_is_lost : map'.entries (merge_files (set.from_list (codes "/a" ∷ []))
+    (map'.from_entries ((codes "/a/f", one) ∷ [])) (map'.from_entries ((codes "/a/g", two) ∷ []))) ≡ (codes "/a/g", two)
+    ∷ []
 a_covered_name_is_lost = entries_merged (codes "/a" ∷ []) ((codes "/a/f", one) ∷ []) ((codes "/a/g", two) ∷ [])
 
-both_have_the_covered_name : map'.entries (files_of_both (map'.from_entries ((codes "/a/f", one) ∷ [])) (map'.from_entries ((codes "/a/g", two) ∷ []))) ≡ (codes "/a/f", one) ∷ (codes "/a/g", two) ∷ []
+both_have_the_covered_name : map'.entries
+    (files_of_both (map'.from_entries ((codes "/a/f", one) ∷ [])) (map'.from_entries ((codes "/a/g", two) ∷ [])))
+    ≡ (codes "/a/f", one) ∷ (codes "/a/g", two) ∷ []
 both_have_the_covered_name = entries_of_both ((codes "/a/f", one) ∷ []) ((codes "/a/g", two) ∷ [])

@@ -1,20 +1,14 @@
 -- Lists of jobs: one more job, and one call after another.
-use Rattle.std.proofs.Common.{◌≡◌, ℕ, zero, suc, ◌+◌, ◌<◌, List, [], ◌∷◌, ◌++◌, length, take, set, get_or, refl, sym, ap, subst, ◌∙◌, arith, Option, Some, None, map}
-use Rattle.cs_tree.specs.Folders.{IsTree, IsModelled}
-use Rattle.std.proofs.lemmas.List.{take_more, take_more_set, length-take-le, get_or-map, length-map}
-use Rattle.std.specs.List.{AllByRecursion, AllZip}
-use Rattle.cs_tree.specs.Snapshot.{Snapshot}
-use Rattle.cs_index.specs.OpenedParts.{Parts}
-use Rattle.cs_history.specs.History.{History, nothing, existing, index_of}
-use Rattle.cs_history.specs.WellFormed.{IsStartIndex, IsHistory}
-use Rattle.cs_history.specs.Jobs.{after, history_after, IsFitting}
+use Rattle.std.proofs.Common.{◌≡◌, ℕ, zero, suc, ◌<◌, List, [], ◌∷◌, ◌++◌, length, get_or, refl, sym, arith, Option, Some, None, map}
+use Rattle.cs_history.proofs.Common.{IsTree, IsModelled, AllByRecursion, AllZip, Snapshot, Parts, History, nothing, existing, IsStartIndex, after, history_after, IndexJob, Reply}
 use Rattle.cs_history.specs.Premises.{modelled_snapshot, Premises}
 use Rattle.cs_history.specs.Headline.{Indexes}
 use Rattle.cs_history.proofs.JobLemmas.{followed_history}
-use Rattle.cs_args.specs.declared.jobs.IndexJob.{IndexJob}
-use Rattle.cs_args.specs.declared.jobs.Reply.{Reply}
 
-pub followed-push : (before : History) (jobs : List IndexJob) (trees : List Snapshot) (replies : List Reply) (job : IndexJob) (tree : Snapshot) (reply : Reply) → length trees ≡ length jobs → length replies ≡ length jobs → history_after before (jobs ++ job ∷ []) (trees ++ tree ∷ []) (replies ++ reply ∷ []) ≡ after (history_after before jobs trees replies) job tree reply
+pub followed-push : (before : History) (jobs : List IndexJob) (trees : List Snapshot) (replies : List Reply)
+    (job : IndexJob) (tree : Snapshot) (reply : Reply) → length trees ≡ length jobs → length replies ≡ length jobs →
+    history_after before (jobs ++ job ∷ []) (trees ++ tree ∷ []) (replies ++ reply ∷ [])
+    ≡ after (history_after before jobs trees replies) job tree reply
 followed-push before [] [] [] job tree reply e f = refl
 followed-push before [] [] (r ∷ rs) job tree reply e f = absurd (omega (arith, f))
 followed-push before [] (t ∷ ts) rs job tree reply e f = absurd (omega (arith, e))
@@ -30,29 +24,30 @@ modelled_trees [] all = tt
 modelled_trees (None ∷ trees) all = absurd all.0
 modelled_trees (Some tree ∷ trees) all = (all.0, modelled_trees trees all.1)
 
-all_take : {A : Type 0} (P : A → Type 0) (n : ℕ) (xs : List A) → AllByRecursion P xs → AllByRecursion P (take n xs)
-all_take P zero xs all = tt
-all_take P (suc n) [] all = tt
-all_take P (suc n) (x ∷ xs) all = (all.0, all_take P n xs all.1)
-
-pub zip_push : {A B : Type 0} (R : A → B → Type 0) (xs : List A) (ys : List B) (x : A) (y : B) → AllZip R xs ys → R x y → AllZip R (xs ++ x ∷ []) (ys ++ y ∷ [])
+pub zip_push : {A B : Type 0} (R : A → B → Type 0) (xs : List A) (ys : List B) (x : A) (y : B) → AllZip R xs ys →
+    R x y → AllZip R (xs ++ x ∷ []) (ys ++ y ∷ [])
 zip_push R [] [] x y all h = (h, tt)
 zip_push R [] (b ∷ ys) x y all h = absurd all
 zip_push R (a ∷ xs) [] x y all h = absurd all
 zip_push R (a ∷ xs) (b ∷ ys) x y all h = (all.0, zip_push R xs ys x y all.1 h)
 
 -- each tree is modelled
-pub modelled_at : {T : Type 0} (snapshot : T → Option Snapshot) (trees : List T) (i : ℕ) (d : T) → AllByRecursion IsModelled (map snapshot trees) → i < length trees → IsModelled (snapshot (get_or trees i d))
+pub modelled_at : {T : Type 0} (snapshot : T → Option Snapshot) (trees : List T) (i : ℕ) (d : T) →
+    AllByRecursion IsModelled (map snapshot trees) → i < length trees → IsModelled (snapshot (get_or trees i d))
 modelled_at snapshot [] i d all within = absurd (omega (arith, within))
 modelled_at snapshot (t ∷ trees) zero d all within = all.0
 modelled_at snapshot (t ∷ trees) (suc i) d all within = modelled_at snapshot trees i d all.1 (omega (arith, within))
 
 -- ---- one call after another
 
-pub later_premises : (jobs : List IndexJob) (trees later : List (Option Snapshot)) (replies : List Reply) (old new : Option (List ℕ)) (earlier : History) → Premises trees old earlier → Indexes jobs trees replies old new → AllByRecursion IsModelled later → Premises later new (history_after earlier jobs (map modelled_snapshot trees) replies)
+pub later_premises : (jobs : List IndexJob) (trees later : List (Option Snapshot)) (replies : List Reply)
+    (old new : Option (List ℕ)) (earlier : History) → Premises trees old earlier → Indexes jobs trees replies old new →
+    AllByRecursion IsModelled later → Premises later new
+    (history_after earlier jobs (map modelled_snapshot trees) replies)
 later_premises jobs trees later replies old new earlier p h models = record {
   trees_modelled = models;
-  is_history = followed_history earlier jobs (map modelled_snapshot trees) replies p.is_history (modelled_trees trees p.trees_modelled) h.fitting;
+  is_history = followed_history earlier jobs (map modelled_snapshot trees) replies p.is_history
+      (modelled_trees trees p.trees_modelled) h.fitting;
   is_index = sym (h.index earlier p);
   short = h.short p.short;
 }
@@ -60,5 +55,7 @@ later_premises jobs trees later replies old new earlier p h models = record {
 pub first_premises : (trees : List (Option Snapshot)) → AllByRecursion IsModelled trees → Premises trees None nothing
 first_premises trees models = record { trees_modelled = models; is_history = tt; is_index = refl; short = tt }
 
-pub existing_premises : (trees : List (Option Snapshot)) (bytes : List ℕ) (parts : Parts) → AllByRecursion IsModelled trees → IsStartIndex bytes parts → Premises trees (Some bytes) (existing bytes parts)
-existing_premises trees bytes parts models is = record { trees_modelled = models; is_history = is; is_index = refl; short = is.decoded.is_layout.short }
+pub existing_premises : (trees : List (Option Snapshot)) (bytes : List ℕ) (parts : Parts) →
+    AllByRecursion IsModelled trees → IsStartIndex bytes parts → Premises trees (Some bytes) (existing bytes parts)
+existing_premises trees bytes parts models is =
+    record { trees_modelled = models; is_history = is; is_index = refl; short = is.decoded.is_layout.short }

@@ -5,6 +5,7 @@ pub mod IndexLemmas
 pub mod JobLemmas
 pub mod MergedHistoryLemmas
 pub mod ReplyLemmas
+mod Common
 mod CleanedPathLemmas
 mod Examples
 mod PathElementLemmas

@@ -1,54 +1,30 @@
 -- The merge of the index of a history with what a job found is the index of the history with the job.
-use Rattle.std.proofs.Common.{◌≡◌, ℕ, Bool, true, false, not, cond, ◌||◌, eqb, List, [], ◌∷◌, ◌++◌, refl, sym, ap, ◌∙◌, inl, inr, Option, Some, None}
-use Rattle.cs_tree.specs.PathSet.{Paths}
-use Rattle.cs_tree.specs.NameOrder.{bytes_cmp}
-use Rattle.std.proofs.lemmas.Bool.{true≢false, cases_Bool, eqb-true}
-use Rattle.std.specs.Cmp.Lexicographic.{nat_list_cmp_total}
-use Rattle.std.specs.Prelude.{is_some}
-use Rattle.std.specs.List.{list_any}
-use Rattle.std.specs.Ordering.{eq_by_cmp}
+use Rattle.std.proofs.Common.{◌≡◌, ℕ, Bool, true, false, not, cond, ◌||◌, eqb, List, refl, sym, ap, ◌∙◌, inl, inr, Option, Some, None, is_some}
+use Rattle.cs_history.proofs.Common.{Paths, bytes_cmp, true≢false, cases_Bool, eqb-true, nat_list_cmp_total, list_any, eq_by_cmp, is_covered, least, alike, same_set, contains-union, contains-empty, least-union, least_is_unique, covered-union, covered-least, found_under, merge_files, merge_paths, get-merge_files, text_trigrams, limits, Files, Parts, files_in, Update, History, nothing, existing, ◌⊳◌, all_given_paths, paths_of, walked_paths, files_found, kept_at, names_found, files_of, or_parts}
 use Rattle.std.specs.FinMap as map
 use Rattle.cs_tree.specs.PathSet as set
-use Rattle.cs_tree.specs.Cover.{is_covered, least}
-use Rattle.cs_tree.proofs.PathSetLemmas.{alike, same_set, contains-union, contains-empty}
 use Rattle.std.specs.Option.{option_or}
-use Rattle.cs_tree.proofs.LeastLemmas.{least-union, least_is_unique, covered-union, covered-least}
 use Rattle.cs_tree.proofs.CollectLemmas.{get-collected}
-use Rattle.cs_tree.proofs.FoundLemmas.{found_under}
-use Rattle.cs_merge.specs.Merge.{merge_files, merge_paths}
-use Rattle.cs_merge.proofs.MergeLemmas.{get-merge_files}
-use Rattle.cs_trigram.specs.Text.{text_trigrams, limits}
-use Rattle.cs_index.specs.Encoding.{Files}
-use Rattle.cs_index.specs.OpenedParts.{Parts, files_in}
-use Rattle.cs_history.specs.History.{Update, History, nothing, existing, ◌⊳◌, all_given_paths, paths_of, walked_paths, files_found, kept_at, names_found, files_of}
-
-list_any-append : (test : List ℕ → Bool) (xs ys : List (List ℕ)) → list_any test (xs ++ ys) ≡ (list_any test xs || list_any test ys)
-list_any-append test [] ys = refl
-list_any-append test (x ∷ xs) ys = elim (test x) as (λ b. (b || list_any test (xs ++ ys)) ≡ ((b || list_any test xs) || list_any test ys)) [ true ↦ refl | false ↦ list_any-append test xs ys ]
+use Rattle.std.proofs.Math.Bool.{or-false}
+use Rattle.std.proofs.lemmas.List.Folds.{list_any-append}
 
 absent : (o : Option (List ℕ)) → is_some o ≡ false → o ≡ None
 absent None h = refl
 absent (Some x) h = absurd (true≢false h)
 
 -- the files of a history have names that some job found
-kept_found : (history : History) (name : List ℕ) → list_any (eq_by_cmp bytes_cmp name) (names_found history) ≡ false → kept_at history name ≡ None
+kept_found : (history : History) (name : List ℕ) → list_any (eq_by_cmp bytes_cmp name) (names_found history) ≡ false →
+    kept_at history name ≡ None
 kept_found nothing name h = refl
 kept_found (existing bytes parts) name h = absent (map.get (files_in parts) name) (map.contains_key-keys (files_in parts) name ∙ h)
 kept_found (update ⊳ before) name h =
     let here : Files = files_found update before in
     let split = sym (list_any-append (eq_by_cmp bytes_cmp name) (map.keys here) (names_found before)) ∙ h in
     elim (cases_Bool (is_covered (walked_paths update before) name)) [
-      | inl under ↦ ap (λ b. cond b (map.get here name) (kept_at before name)) under ∙ absent (map.get here name) (map.contains_key-keys here name ∙ left_false _ _ split)
-      | inr outside ↦ ap (λ b. cond b (map.get here name) (kept_at before name)) outside ∙ kept_found before name (right_false _ _ split)
+      | inl under ↦ ap (λ b. cond b (map.get here name) (kept_at before name)) under
+          ∙ absent (map.get here name) (map.contains_key-keys here name ∙ (or_parts _ _ split).0)
+      | inr outside ↦ ap (λ b. cond b (map.get here name) (kept_at before name)) outside ∙ kept_found before name ((or_parts _ _ split).1)
     ]
-  where
-    left_false : (a b : Bool) → (a || b) ≡ false → a ≡ false
-    left_false true b h = absurd (true≢false h)
-    left_false false b h = refl
-
-    right_false : (a b : Bool) → (a || b) ≡ false → b ≡ false
-    right_false true b h = absurd (true≢false h)
-    right_false false b h = h
 
 pub get-kept : (history : History) (name : List ℕ) → map.get (files_of history) name ≡ kept_at history name
 get-kept history name =
@@ -59,7 +35,10 @@ get-kept history name =
     ]
 
 -- the merge has at a name what the history has there
-kept_merged : (history : History) (update : Update) (name : List ℕ) (b : Bool) → is_covered (walked_paths update history) name ≡ b → option_or (map.get (files_found update history) name) (cond (not b) (kept_at history name) None) ≡ cond b (map.get (files_found update history) name) (kept_at history name)
+kept_merged : (history : History) (update : Update) (name : List ℕ) (b : Bool) →
+    is_covered (walked_paths update history) name ≡ b → option_or (map.get (files_found update history) name)
+    (cond (not b) (kept_at history name) None) ≡ cond b (map.get (files_found update history) name)
+    (kept_at history name)
 kept_merged history update name true h = or_none (map.get (files_found update history) name)
   where
     or_none : (o : Option (List ℕ)) → option_or o None ≡ o
@@ -68,11 +47,13 @@ kept_merged history update name true h = or_none (map.get (files_found update hi
 kept_merged history update name false h =
     ap (λ o. option_or o (kept_at history name)) (found_under (text_trigrams limits) update.tree (walked_paths update history) name h)
 
-pub merge_kept : (history : History) (update : Update) → merge_files (walked_paths update history) (files_of history) (files_found update history) ≡ files_of (update ⊳ history)
+pub merge_kept : (history : History) (update : Update) → merge_files (walked_paths update history) (files_of history)
+    (files_found update history) ≡ files_of (update ⊳ history)
 merge_kept history update =
     map.same_map nat_list_cmp_total alike _ _ (λ name.
     get-merge_files (walked_paths update history) (files_of history) (files_found update history) name
-    ∙ ap (λ o. option_or (map.get (files_found update history) name) (cond (not (is_covered (walked_paths update history) name)) o None)) (get-kept history name)
+    ∙ ap (λ o. option_or (map.get (files_found update history) name)
+    (cond (not (is_covered (walked_paths update history) name)) o None)) (get-kept history name)
     ∙ kept_merged history update name (is_covered (walked_paths update history) name) refl
     ∙ sym (get-kept (update ⊳ history) name))
 
@@ -94,17 +75,16 @@ no_paths given none a =
     ∙ ap (λ s. set.contains a q || set.contains s q) (map.empty_of_len given none)
     ∙ ap (λ t. set.contains a q || t) (contains-empty q)
     ∙ or-false (set.contains a q))
-  where
-    or-false : (t : Bool) → (t || false) ≡ t
-    or-false true = refl
-    or-false false = refl
 
-pub merge_paths_of : (history : History) (update : Update) → merge_paths (paths_of history) (walked_paths update history) ≡ paths_of (update ⊳ history)
+pub merge_paths_of : (history : History) (update : Update) →
+    merge_paths (paths_of history) (walked_paths update history) ≡ paths_of (update ⊳ history)
 merge_paths_of history update =
     elim (cases_Bool (eqb (map.len update.given) 0)) [
       | inl none ↦
           ap (λ b. merge_paths (paths_of history) (cond b (paths_of history) (least update.given))) none
-          ∙ least_is_unique _ _ (λ name. ap (λ f. f name) (union_itself (paths_of history) (paths_of history) (λ n. refl)) ∙ covered-least (all_given_paths history) name)
+          ∙ least_is_unique _ _ (λ name. ap (λ f. f name)
+          (union_itself (paths_of history) (paths_of history) (λ n. refl)) ∙ covered-least (all_given_paths history)
+          name)
           ∙ sym (ap least (no_paths update.given (eqb-true _ _ none) (all_given_paths history)))
       | inr some ↦
           ap (λ b. merge_paths (paths_of history) (cond b (paths_of history) (least update.given))) some
@@ -117,16 +97,19 @@ union_none given =
     same_set _ _ (λ q.
     contains-union map.empty given q ∙ ap (λ t. t || set.contains given q) (contains-empty q))
 
-kept_alone : (update : Update) (name : List ℕ) (b : Bool) → is_covered (walked_paths update nothing) name ≡ b → cond b (map.get (files_found update nothing) name) None ≡ map.get (files_found update nothing) name
+kept_alone : (update : Update) (name : List ℕ) (b : Bool) → is_covered (walked_paths update nothing) name ≡ b →
+    cond b (map.get (files_found update nothing) name) None ≡ map.get (files_found update nothing) name
 kept_alone update name true h = refl
 kept_alone update name false h = sym (found_under (text_trigrams limits) update.tree (walked_paths update nothing) name h)
 
 pub kept_first : (update : Update) → files_of (update ⊳ nothing) ≡ files_found update nothing
-kept_first update = map.same_map nat_list_cmp_total alike _ _ (λ name. get-kept (update ⊳ nothing) name ∙ kept_alone update name (is_covered (walked_paths update nothing) name) refl)
+kept_first update = map.same_map nat_list_cmp_total alike _ _ (λ name. get-kept (update ⊳ nothing) name
+    ∙ kept_alone update name (is_covered (walked_paths update nothing) name) refl)
 
 pub paths_first : (update : Update) → paths_of (update ⊳ nothing) ≡ walked_paths update nothing
 paths_first update =
     elim (cases_Bool (eqb (map.len update.given) 0)) [
-      | inl none ↦ ap least (no_paths update.given (eqb-true _ _ none) map.empty) ∙ ap (λ b. cond b (paths_of nothing) (least update.given)) (sym none)
+      | inl none ↦ ap least (no_paths update.given (eqb-true _ _ none) map.empty)
+          ∙ ap (λ b. cond b (paths_of nothing) (least update.given)) (sym none)
       | inr some ↦ ap least (union_none update.given) ∙ ap (λ b. cond b (paths_of nothing) (least update.given)) (sym some)
     ]

@@ -1,26 +1,10 @@
 -- Sets, maps and histories as lists of pairs, which worked examples evaluate.
-use Rattle.std.proofs.Common.{◌≡◌, ℕ, Bool, true, false, not, cond, ◌&&◌, List, [], ◌∷◌, ◌++◌, length, map, filter, refl, sym, ap, ◌∙◌, Option, Some, None}
-use Rattle.std.specs.Prelude.{nat_eq, nat_le, option_map, filter_map, unwrap_or, bytes_eq}
-use Rattle.std.specs.Cmp.Lexicographic.{nat_list_cmp_total}
-use Rattle.std.specs.List.{list_any}
+use Rattle.std.proofs.Common.{◌≡◌, ℕ, Bool, true, false, not, cond, ◌&&◌, List, [], ◌∷◌, ◌++◌, length, map, filter, refl, sym, ap, ◌∙◌, Option, Some, None, nat_eq, nat_le, option_map, filter_map, unwrap_or, bytes_eq}
+use Rattle.cs_history.proofs.Common.{nat_list_cmp_total, list_any, find, put, Paths, bytes_cmp, covers, least, is_covered, longest_path, child, lists, last_element, Snapshot, Item, bad, missing, item_at, is_excluded, elements_under, descends, reaches, read_item, found_at, reachable_files, alike, entries_in_order, text_trigrams, limits, Entry, encoding_of, merge_files, files_of_both, Parts, files_read, Update, History, nothing, existing, ◌⊳◌, all_given_paths, paths_of, walked_paths, files_found, kept_at, names_found, files_of, index_of}
 use Rattle.std.specs.FinMap as map'
-use Rattle.std.specs.FinMap.{find, put}
 use Rattle.std.specs.FinMap.Entries.{is_sorted-where_key, find-where_key}
 use Rattle.cs_tree.specs.PathSet as set
-use Rattle.cs_tree.specs.PathSet.{Paths}
-use Rattle.cs_tree.specs.NameOrder.{bytes_cmp}
-use Rattle.cs_tree.specs.Cover.{covers, least, is_covered}
-use Rattle.cs_tree.specs.Clean.{longest_path}
-use Rattle.cs_tree.specs.Folders.{child, lists, last_element}
-use Rattle.cs_tree.specs.Snapshot.{Snapshot, Item, bad, missing, item_at}
-use Rattle.cs_tree.specs.Reachability.{is_excluded, elements_under, descends, reaches, read_item, found_at, reachable_files}
-use Rattle.cs_tree.proofs.PathSetLemmas.{alike, entries_in_order}
-use Rattle.cs_trigram.specs.Text.{text_trigrams, limits}
-use Rattle.cs_index.specs.Encoding.{Entry, encoding, encoding_of}
-use Rattle.cs_merge.specs.Merge.{merge_files}
-use Rattle.cs_history.specs.Shards.{files_of_both}
-use Rattle.cs_index.specs.OpenedParts.{Parts, files_read}
-use Rattle.cs_history.specs.History.{Update, History, nothing, existing, ◌⊳◌, all_given_paths, paths_of, walked_paths, files_found, kept_at, names_found, files_of, index_of}
+use Rattle.cs_index.specs.Encoding.{encoding}
 
 -- ---- maps
 
@@ -32,9 +16,11 @@ module _ {X : Type 0} where
 
   pub entries-sorted_pairs : (es : List (List ℕ × X)) → map'.entries (map'.from_entries {R = bytes_cmp} es) ≡ sorted_pairs es
   entries-sorted_pairs [] = entries_in_order [] tt
-  entries-sorted_pairs (e ∷ es) = map'.entries-insert nat_list_cmp_total (map'.from_entries es) e.0 e.1 ∙ ap (put bytes_cmp e.0 e.1) (entries-sorted_pairs es)
+  entries-sorted_pairs (e ∷ es) = map'.entries-insert nat_list_cmp_total (map'.from_entries es) e.0 e.1
+      ∙ ap (put bytes_cmp e.0 e.1) (entries-sorted_pairs es)
 
-  entries-retained : (m : map'.FinMap bytes_cmp X) (p : List ℕ → Bool) → map'.entries (map'.retain_keys m p) ≡ filter (λ e. p e.0) (map'.entries m)
+  entries-retained : (m : map'.FinMap bytes_cmp X) (p : List ℕ → Bool) → map'.entries (map'.retain_keys m p)
+      ≡ filter (λ e. p e.0) (map'.entries m)
   entries-retained m p =
       let kept : List (List ℕ × X) = filter (λ e. p e.0) (map'.entries m) in
       let up = is_sorted-where_key bytes_cmp p (map'.entries m) (map'.entries_sorted m) in
@@ -60,20 +46,29 @@ abbrev least_pairs : PathPairs → PathPairs
 least_pairs pairs = filter (λ e. not (list_any (λ other. covers other e.0 && not (bytes_eq other e.0)) (names_in pairs))) pairs
 
 entries-least : (paths : Paths) → map'.entries (least paths) ≡ least_pairs (map'.entries paths)
-entries-least paths = entries-retained paths (λ path. not (list_any (λ other. covers other path && not (bytes_eq other path)) (set.items paths)))
+entries-least paths = entries-retained paths
+    (λ path. not (list_any (λ other. covers other path && not (bytes_eq other path)) (set.items paths)))
 
 -- ---- merges
 
-pub entries_merged : (paths : List (List ℕ)) (old newer : List Entry) → map'.entries (merge_files (set.from_list paths) (map'.from_entries old) (map'.from_entries newer)) ≡ sorted_pairs (sorted_pairs newer ++ filter (λ e. not (list_any (λ path. covers path e.0) (names_in (sorted_pairs (set.unit_entries paths))))) (sorted_pairs old))
+pub entries_merged : (paths : List (List ℕ)) (old newer : List Entry) →
+    map'.entries (merge_files (set.from_list paths) (map'.from_entries old) (map'.from_entries newer))
+    ≡ sorted_pairs (sorted_pairs newer ++ filter
+    (λ e. not (list_any (λ path. covers path e.0) (names_in (sorted_pairs (set.unit_entries paths)))))
+    (sorted_pairs old))
 entries_merged paths old newer =
     let given : Paths = set.from_list paths in
     let before : map'.FinMap bytes_cmp (List ℕ) = map'.from_entries old in
     let after : map'.FinMap bytes_cmp (List ℕ) = map'.from_entries newer in
     entries-sorted_pairs (map'.entries after ++ map'.entries (map'.retain_keys before (λ name. not (is_covered given name))))
     ∙ ap (λ es. sorted_pairs (map'.entries after ++ es)) (entries-retained before (λ name. not (is_covered given name)))
-    ∙ (λ i. sorted_pairs (entries-sorted_pairs newer i ++ filter (λ e. not (list_any (λ path. covers path e.0) (names_in (entries-sorted_pairs (set.unit_entries paths) i)))) (entries-sorted_pairs old i)))
+    ∙ (λ i. sorted_pairs (entries-sorted_pairs newer i
+    ++ filter (λ e. not (list_any (λ path. covers path e.0)
+    (names_in (entries-sorted_pairs (set.unit_entries paths) i)))) (entries-sorted_pairs old i)))
 
-pub entries_of_both : (files others : List Entry) → map'.entries (files_of_both (map'.from_entries files) (map'.from_entries others)) ≡ sorted_pairs (sorted_pairs files ++ sorted_pairs others)
+pub entries_of_both : (files others : List Entry) →
+    map'.entries (files_of_both (map'.from_entries files) (map'.from_entries others))
+    ≡ sorted_pairs (sorted_pairs files ++ sorted_pairs others)
 entries_of_both files others =
     entries-sorted_pairs (map'.entries (map'.from_entries files) ++ map'.entries (map'.from_entries others))
     ∙ (λ i. sorted_pairs (entries-sorted_pairs files i ++ entries-sorted_pairs others i))
@@ -98,24 +93,31 @@ module _ (tree : Snapshot) where
   descends-pairs : (at : List ℕ) (names : List (List ℕ)) → descends tree at names ≡ leads_in (map'.entries tree) at names
   descends-pairs at [] = refl
   descends-pairs at (name ∷ names) = λ i.
-      not (is_excluded name) && (nat_le (length at) longest_path && (lists (item-pairs at i) name && descends-pairs (child at name) names i))
+      not (is_excluded name) && (nat_le (length at) longest_path
+      && (lists (item-pairs at i) name && descends-pairs (child at name) names i))
 
   reaches-pairs : (path name : List ℕ) → reaches tree path name ≡ reaches_in (map'.entries tree) path name
-  reaches-pairs path name = ap (λ b. covers path name && (not (is_excluded (last_element path)) && b)) (descends-pairs path (elements_under path name))
+  reaches-pairs path name = ap (λ b. covers path name && (not (is_excluded (last_element path)) && b))
+      (descends-pairs path (elements_under path name))
 
 module _ {X : Type 0} (read : List ℕ → Option X) where
   abbrev found_in : TreePairs → PathPairs → List ℕ → Option X
   found_in pairs paths name =
-      cond (list_any (λ path. reaches_in pairs path name) (names_in paths) && nat_le (length name) longest_path) (read_item read (item_in pairs name)) None
+      cond (list_any (λ path. reaches_in pairs path name) (names_in paths) && nat_le (length name) longest_path)
+      (read_item read (item_in pairs name)) None
 
   abbrev reached_in : TreePairs → PathPairs → List (List ℕ × X)
-  reached_in pairs paths = sorted_pairs (filter_map (λ name. option_map (λ (x : X). (name, x)) (found_in pairs paths name)) (names_in pairs))
+  reached_in pairs paths = sorted_pairs (filter_map
+      (λ name. option_map (λ (x : X). (name, x)) (found_in pairs paths name)) (names_in pairs))
 
-  found-pairs : (tree : Snapshot) (paths : Paths) (name : List ℕ) → found_at read tree paths name ≡ found_in (map'.entries tree) (map'.entries paths) name
+  found-pairs : (tree : Snapshot) (paths : Paths) (name : List ℕ) → found_at read tree paths name
+      ≡ found_in (map'.entries tree) (map'.entries paths) name
   found-pairs tree paths name = λ i.
-      cond (list_any (λ path. reaches-pairs tree path name i) (set.items paths) && nat_le (length name) longest_path) (read_item read (item-pairs tree name i)) None
+      cond (list_any (λ path. reaches-pairs tree path name i) (set.items paths) && nat_le (length name) longest_path)
+      (read_item read (item-pairs tree name i)) None
 
-  reached-pairs : (tree : Snapshot) (paths : Paths) → map'.entries (reachable_files read tree paths) ≡ reached_in (map'.entries tree) (map'.entries paths)
+  reached-pairs : (tree : Snapshot) (paths : Paths) → map'.entries (reachable_files read tree paths)
+      ≡ reached_in (map'.entries tree) (map'.entries paths)
   reached-pairs tree paths =
       entries-sorted_pairs (filter_map (λ name. option_map (λ (x : X). (name, x)) (found_at read tree paths name)) (map'.keys tree))
       ∙ (λ i. sorted_pairs (filter_map (λ name. option_map (λ (x : X). (name, x)) (found-pairs tree paths name i)) (map'.keys tree)))
@@ -153,15 +155,19 @@ given-pairs : (history : History) → map'.entries (all_given_paths history) ≡
 given-pairs nothing = entries_in_order [] tt
 given-pairs (existing bytes parts) = entries-sorted_pairs (set.unit_entries parts.paths)
 given-pairs (update ⊳ before) =
-    entries-sorted_pairs (map'.entries (all_given_paths before) ++ map'.entries update.given) ∙ ap (λ es. sorted_pairs (es ++ map'.entries update.given)) (given-pairs before)
+    entries-sorted_pairs (map'.entries (all_given_paths before) ++ map'.entries update.given)
+    ∙ ap (λ es. sorted_pairs (es ++ map'.entries update.given)) (given-pairs before)
 
 paths-pairs : (history : History) → map'.entries (paths_of history) ≡ least_pairs (given_in (start_of history) (jobs_of history))
 paths-pairs history = entries-least (all_given_paths history) ∙ ap least_pairs (given-pairs history)
 
-walked-pairs : (update : Update) (before : History) → map'.entries (walked_paths update before) ≡ walked_in (start_of before) (record { given = map'.entries update.given; tree = map'.entries update.tree }) (jobs_of before)
+walked-pairs : (update : Update) (before : History) → map'.entries (walked_paths update before)
+    ≡ walked_in (start_of before) (record { given = map'.entries update.given; tree = map'.entries update.tree })
+    (jobs_of before)
 walked-pairs update before =
     let old : PathPairs = given_in (start_of before) (jobs_of before) in
-    elim (nat_eq (map'.len update.given) 0) as (λ b. map'.entries (cond b (paths_of before) (least update.given)) ≡ cond b (least_pairs old) (least_pairs (map'.entries update.given))) [
+    elim (nat_eq (map'.len update.given) 0) as (λ b. map'.entries (cond b (paths_of before) (least update.given))
+    ≡ cond b (least_pairs old) (least_pairs (map'.entries update.given))) [
       | true ↦ paths-pairs before
       | false ↦ entries-least update.given
     ]
@@ -178,33 +184,44 @@ module _ {X : Type 0} (read : List ℕ → Option X) (listed : Parts → List (L
   abbrev kept_in : Option Parts → List JobPairs → List ℕ → Option X
   kept_in start [] name = find bytes_cmp name (files_first start)
   kept_in start (pairs ∷ before) name =
-      cond (list_any (λ path. covers path name) (names_in (walked_in start pairs before))) (find bytes_cmp name (reached_in read pairs.tree (walked_in start pairs before))) (kept_in start before name)
+      cond (list_any (λ path. covers path name) (names_in (walked_in start pairs before)))
+      (find bytes_cmp name (reached_in read pairs.tree (walked_in start pairs before))) (kept_in start before name)
 
   abbrev names_found_in : Option Parts → List JobPairs → List (List ℕ)
   names_found_in start [] = names_in (files_first start)
-  names_found_in start (pairs ∷ before) = names_in (reached_in read pairs.tree (walked_in start pairs before)) ++ names_found_in start before
+  names_found_in start (pairs ∷ before) = names_in (reached_in read pairs.tree (walked_in start pairs before))
+      ++ names_found_in start before
 
   abbrev files_in : Option Parts → List JobPairs → List (List ℕ × X)
-  files_in start pairs = sorted_pairs (filter_map (λ name. option_map (λ (x : X). (name, x)) (kept_in start pairs name)) (names_found_in start pairs))
+  files_in start pairs = sorted_pairs (filter_map (λ name. option_map (λ (x : X). (name, x)) (kept_in start pairs name))
+      (names_found_in start pairs))
 
-walk-pairs : (update : Update) (before : History) → map'.entries (files_found update before) ≡ reached_in (text_trigrams limits) (map'.entries update.tree) (walked_in (start_of before) (record { given = map'.entries update.given; tree = map'.entries update.tree }) (jobs_of before))
-walk-pairs update before = reached-pairs (text_trigrams limits) update.tree (walked_paths update before) ∙ ap (reached_in (text_trigrams limits) (map'.entries update.tree)) (walked-pairs update before)
+walk-pairs : (update : Update) (before : History) → map'.entries (files_found update before)
+    ≡ reached_in (text_trigrams limits) (map'.entries update.tree)
+    (walked_in (start_of before) (record { given = map'.entries update.given; tree = map'.entries update.tree })
+    (jobs_of before))
+walk-pairs update before = reached-pairs (text_trigrams limits) update.tree (walked_paths update before)
+    ∙ ap (reached_in (text_trigrams limits) (map'.entries update.tree)) (walked-pairs update before)
 
-kept-pairs : (history : History) (name : List ℕ) → kept_at history name ≡ kept_in (text_trigrams limits) files_read (start_of history) (jobs_of history) name
+kept-pairs : (history : History) (name : List ℕ) → kept_at history name ≡ kept_in (text_trigrams limits) files_read
+    (start_of history) (jobs_of history) name
 kept-pairs nothing name = refl
-kept-pairs (existing bytes parts) name = map'.get-entries (decoded (text_trigrams limits) files_read parts) name ∙ ap (find bytes_cmp name) (entries-sorted_pairs (files_read parts))
+kept-pairs (existing bytes parts) name = map'.get-entries (decoded (text_trigrams limits) files_read parts) name
+    ∙ ap (find bytes_cmp name) (entries-sorted_pairs (files_read parts))
 kept-pairs (update ⊳ before) name =
     let paths : Paths = walked_paths update before in
     λ i. cond (list_any (λ path. covers path name) (names_in (walked-pairs update before i)))
     ((map'.get-entries (files_found update before) name ∙ ap (find bytes_cmp name) (walk-pairs update before)) i)
     (kept-pairs before name i)
 
-names-pairs : (history : History) → names_found history ≡ names_found_in (text_trigrams limits) files_read (start_of history) (jobs_of history)
+names-pairs : (history : History) → names_found history ≡ names_found_in (text_trigrams limits) files_read
+    (start_of history) (jobs_of history)
 names-pairs nothing = refl
 names-pairs (existing bytes parts) = ap names_in (entries-sorted_pairs (files_read parts))
 names-pairs (update ⊳ before) = λ i. names_in (walk-pairs update before i) ++ names-pairs before i
 
-files-pairs : (history : History) → map'.entries (files_of history) ≡ files_in (text_trigrams limits) files_read (start_of history) (jobs_of history)
+files-pairs : (history : History) → map'.entries (files_of history) ≡ files_in (text_trigrams limits) files_read
+    (start_of history) (jobs_of history)
 files-pairs history =
     entries-sorted_pairs (filter_map (λ name. option_map (λ (x : List ℕ). (name, x)) (kept_at history name)) (names_found history))
     ∙ (λ i. sorted_pairs (filter_map (λ name. option_map (λ (x : List ℕ). (name, x)) (kept-pairs history name i)) (names-pairs history i)))
@@ -241,7 +258,11 @@ made start [] = none_yet start
     none_yet : (start : Option Parts) → jobs_of (start_with start) ≡ []
     none_yet None = refl
     none_yet (Some parts) = refl
-made start (job ∷ before) = λ i. record { given = entries-sorted_pairs (set.unit_entries job.paths) i; tree = entries-sorted_pairs job.items i } ∷ made start before i
+made start (job ∷ before) = λ i. record {
+  given = entries-sorted_pairs (set.unit_entries job.paths) i;
+  tree =
+      entries-sorted_pairs job.items i;
+} ∷ made start before i
 
 start_made : (start : Option Parts) (jobs : List Job) → start_of (history_from start jobs) ≡ start
 start_made start [] = alone start
@@ -260,11 +281,14 @@ module _ (start : Option Parts) where
   files_after jobs = files_in (text_trigrams limits) files_read start (pairs_made jobs)
 
   pub paths_computed : (jobs : List Job) → set.items (paths_of (history_from start jobs)) ≡ paths_after jobs
-  paths_computed jobs = ap names_in (paths-pairs (history_from start jobs)) ∙ (λ i. names_in (least_pairs (given_in (start_made start jobs i) (made start jobs i))))
+  paths_computed jobs = ap names_in (paths-pairs (history_from start jobs))
+      ∙ (λ i. names_in (least_pairs (given_in (start_made start jobs i) (made start jobs i))))
 
   pub files_computed : (jobs : List Job) → map'.entries (files_of (history_from start jobs)) ≡ files_after jobs
-  files_computed jobs = files-pairs (history_from start jobs) ∙ (λ i. files_in (text_trigrams limits) files_read (start_made start jobs i) (made start jobs i))
+  files_computed jobs = files-pairs (history_from start jobs)
+      ∙ (λ i. files_in (text_trigrams limits) files_read (start_made start jobs i) (made start jobs i))
 
-  pub index_computed : (job : Job) (before : List Job) → index_of (history_from start (job ∷ before)) ≡ Some (encoding_of (paths_after (job ∷ before)) (files_after (job ∷ before)))
+  pub index_computed : (job : Job) (before : List Job) → index_of (history_from start (job ∷ before))
+      ≡ Some (encoding_of (paths_after (job ∷ before)) (files_after (job ∷ before)))
   unfolding encoding
   index_computed job before = λ i. Some (encoding_of (paths_computed (job ∷ before) i) (files_computed (job ∷ before) i))

@@ -1,13 +1,7 @@
 -- Paths as their elements, joined by slashes.
-use Rattle.std.proofs.Common.{◌≡◌, ℕ, suc, ◌+◌, ◌<◌, cond, eqb, List, [], ◌∷◌, ◌++◌, length, drop, get_or, refl, sym, ap, subst, ◌∙◌, inl, inr, arith, append_assoc, length-append}
-use Rattle.std.proofs.lemmas.Bool.{cases_Bool, cond_both, eqb-true}
-use Rattle.std.proofs.lemmas.List.{take_at, drop_at}
+use Rattle.std.proofs.Common.{◌≡◌, ℕ, suc, ◌+◌, ◌<◌, cond, eqb, List, [], ◌∷◌, ◌++◌, length, drop, get_or, refl, sym, ap, subst, ◌∙◌, inl, inr, arith, append_assoc, length-append, IsUtf8}
+use Rattle.cs_history.proofs.Common.{cases_Bool, cond_both, eqb-true, take_at, drop_at, slash, AllByRecursion, onto_first, NoNul, elements}
 use Rattle.std.proofs.lemmas.Str.{IsUtf8-append, IsUtf8-nil, IsUtf8-take, IsUtf8-drop, encode_ascii, IsCharBoundary-before_ascii, IsCharBoundary-after_ascii}
-use Rattle.std.specs.Prelude.{IsUtf8}
-use Rattle.std.specs.Path.{slash}
-use Rattle.std.specs.List.{AllByRecursion, onto_first}
-use Rattle.cs_index.proofs.decoding.StringSections.{NoNul}
-use Rattle.cs_tree.specs.Clean.{elements}
 
 -- the elements joined by slashes
 abbrev pub text_of : List (List ℕ) → List ℕ
@@ -24,7 +18,8 @@ text_onto b (name ∷ next ∷ names) = refl
 
 text_empty : (text : List ℕ) → text_of ([] ∷ elements text) ≡ slash ∷ text_of (elements text)
 text_empty [] = refl
-text_empty (b ∷ rest) = cond_both (eqb b slash) ([] ∷ elements rest) (onto_first b (elements rest)) (λ es. text_of ([] ∷ es) ≡ slash ∷ text_of es) (λ _. refl) (λ _. onto b (elements rest))
+text_empty (b ∷ rest) = cond_both (eqb b slash) ([] ∷ elements rest) (onto_first b (elements rest))
+    (λ es. text_of ([] ∷ es) ≡ slash ∷ text_of es) (λ _. refl) (λ _. onto b (elements rest))
   where
     onto : (b : ℕ) (es : List (List ℕ)) → text_of ([] ∷ onto_first b es) ≡ slash ∷ text_of (onto_first b es)
     onto b [] = refl
@@ -70,14 +65,18 @@ utf8_prefix : (a b : List ℕ) → IsUtf8 (a ++ slash ∷ b) → IsUtf8 a
 utf8_prefix a b h =
     let long : length (a ++ slash ∷ b) ≡ length a + suc (length b) = length-append a (slash ∷ b) in
     let ascii : get_or (a ++ slash ∷ b) (length a) 0 < 128 = let e = at_seam a b in omega (arith, e) in
-    subst IsUtf8 (take_at a (slash ∷ b) (length a) refl) (IsUtf8-take (a ++ slash ∷ b) (length a) h (IsCharBoundary-before_ascii (a ++ slash ∷ b) (length a) (omega (arith, long)) ascii))
+    subst IsUtf8 (take_at a (slash ∷ b) (length a) refl)
+    (IsUtf8-take (a ++ slash ∷ b) (length a) h
+    (IsCharBoundary-before_ascii (a ++ slash ∷ b) (length a) (omega (arith, long)) ascii))
 
 utf8_back : (a b : List ℕ) → IsUtf8 (a ++ slash ∷ b) → IsUtf8 b
 utf8_back a b h =
     let long : length (a ++ slash ∷ b) ≡ length a + suc (length b) = length-append a (slash ∷ b) in
     let ascii : get_or (a ++ slash ∷ b) (length a) 0 < 128 = let e = at_seam a b in omega (arith, e) in
-    let rest : drop (length a + 1) (a ++ slash ∷ b) ≡ b = ap (drop (length a + 1)) (sym (append_assoc a (slash ∷ []) b)) ∙ drop_at (a ++ slash ∷ []) b (length a + 1) (length-append a (slash ∷ [])) in
-    subst IsUtf8 rest (IsUtf8-drop (a ++ slash ∷ b) (length a + 1) h (IsCharBoundary-after_ascii (a ++ slash ∷ b) (length a) h (omega (arith, long)) ascii))
+    let rest : drop (length a + 1) (a ++ slash ∷ b) ≡ b = ap (drop (length a + 1)) (sym (append_assoc a (slash ∷ []) b))
+    ∙ drop_at (a ++ slash ∷ []) b (length a + 1) (length-append a (slash ∷ [])) in
+    subst IsUtf8 rest (IsUtf8-drop (a ++ slash ∷ b) (length a + 1) h
+    (IsCharBoundary-after_ascii (a ++ slash ∷ b) (length a) h (omega (arith, long)) ascii))
 
 -- UTF-8 without NUL, as the elements of a path and the path itself
 pub record IsPart (text : List ℕ) : Type 0 where
@@ -107,7 +106,11 @@ parts_text (name ∷ next ∷ names) all = part_appended name (text_of (next ∷
 text_parts : (names : List (List ℕ)) → IsPart (text_of names) → AllByRecursion IsPart names
 text_parts [] h = tt
 text_parts (name ∷ []) h = (h, tt)
-text_parts (name ∷ next ∷ names) h = (part_prefix name (text_of (next ∷ names)) h, text_parts (next ∷ names) (part_back name (text_of (next ∷ names)) h))
+text_parts (name ∷ next ∷ names) h = (
+  part_prefix name (text_of (next ∷ names)) h,
+  text_parts (next ∷ names)
+      (part_back name (text_of (next ∷ names)) h),
+)
 
 pub text_from_parts : (text : List ℕ) → AllByRecursion IsPart (elements text) → IsPart text
 text_from_parts text all = subst IsPart (text_back text) (parts_text (elements text) all)

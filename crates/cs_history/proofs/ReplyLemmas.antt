@@ -1,18 +1,14 @@
 -- Errors of jobs, one after another.
-use Rattle.std.proofs.Common.{◌≡◌, ℕ, ◌<◌, List, [], ◌∷◌, ◌++◌, length, Some, sym, ◌∙◌, inl, inr, arith}
-use Rattle.std.proofs.lemmas.Bool.{true≢false, eqb-true}
-use Rattle.std.proofs.lemmas.List.{length-map}
+use Rattle.std.proofs.Common.{◌≡◌, ℕ, ◌<◌, List, [], ◌∷◌, ◌++◌, length, sym, ◌∙◌, inl, inr, arith, is_some, string_bytes}
+use Rattle.cs_history.proofs.Common.{true≢false, eqb-true, length-map, clean_fault, Snapshot, History, given_texts, after, history_after, IndexJob, Reply}
 use Rattle.std.proofs.lemmas.List.Quantifiers.{position-Some}
-use Rattle.std.specs.Prelude.{is_some, string_bytes}
-use Rattle.cs_tree.specs.Cleaning.{clean_fault}
-use Rattle.cs_tree.specs.Snapshot.{Snapshot}
-use Rattle.cs_history.specs.History.{History}
-use Rattle.cs_history.specs.Jobs.{given_texts, after, history_after}
 use Rattle.cs_history.specs.Replies.{NeedsIndex, IsFirstBad, IsRightReply, AreRightReplies}
-use Rattle.cs_args.specs.declared.jobs.IndexJob.{IndexJob}
-use Rattle.cs_args.specs.declared.jobs.Reply.{Reply}
+use Rattle.std.proofs.lemmas.Option.{same_Some}
 
-pub right_more : (before : History) (jobs : List IndexJob) (trees : List Snapshot) (replies : List Reply) (job : IndexJob) (tree : Snapshot) (reply : Reply) → length trees ≡ length jobs → length replies ≡ length jobs → AreRightReplies before jobs trees replies → IsRightReply (history_after before jobs trees replies) job tree reply → AreRightReplies before (jobs ++ job ∷ []) (trees ++ tree ∷ []) (replies ++ reply ∷ [])
+pub right_more : (before : History) (jobs : List IndexJob) (trees : List Snapshot) (replies : List Reply)
+    (job : IndexJob) (tree : Snapshot) (reply : Reply) → length trees ≡ length jobs → length replies ≡ length jobs →
+    AreRightReplies before jobs trees replies → IsRightReply (history_after before jobs trees replies) job tree reply →
+    AreRightReplies before (jobs ++ job ∷ []) (trees ++ tree ∷ []) (replies ++ reply ∷ [])
 right_more before [] [] [] job tree reply e f right h = (h, tt)
 right_more before [] [] (r ∷ rs) job tree reply e f right h = absurd (omega (arith, f))
 right_more before [] (t ∷ ts) rs job tree reply e f right h = absurd (omega (arith, e))
@@ -26,11 +22,10 @@ index_or_path job path_index (inl lists) bad = true≢false (sym lists ∙ bad.u
 index_or_path job path_index (inr alone) bad =
     let none : length job.paths.items ≡ 0 = eqb-true (length job.paths.items) 0 alone.1 in
     let bound : length (given_texts job) ≡ length job.paths.items = length-map job.paths.items string_bytes in
-    let within : path_index < length (given_texts job) = (position-Some (λ text. is_some (clean_fault (string_bytes job.cwd) text)) (given_texts job) path_index [] bad.first).0 in
+    let within : path_index < length (given_texts job) =
+    (position-Some (λ text. is_some (clean_fault (string_bytes job.cwd) text)) (given_texts job) path_index []
+    bad.first).0 in
     omega (arith, none, bound, within)
 
 pub one_path : (job : IndexJob) (path_index other : ℕ) → IsFirstBad job path_index → IsFirstBad job other → path_index ≡ other
-one_path job path_index other a b = same (sym a.first ∙ b.first)
-  where
-    same : Some path_index ≡ Some other → path_index ≡ other
-    same e = cc
+one_path job path_index other a b = same_Some path_index other (sym a.first ∙ b.first)

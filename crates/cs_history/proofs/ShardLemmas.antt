@@ -1,31 +1,17 @@
 -- Indexes of disjoint trees: their merge has the files of both, and a search visits the names of both.
-use Rattle.std.proofs.Common.{◌≡◌, ℕ, Bool, true, false, not, cond, ◌&&◌, ◌||◌, List, [], ◌∷◌, ◌++◌, map, filter, refl, sym, ap, subst, ◌∙◌, inl, inr, Option, Some, None}
-use Rattle.std.specs.Prelude.{T, is_some}
-use Rattle.std.proofs.lemmas.Bool.{true≢false, cases_Bool}
+use Rattle.std.proofs.Common.{◌≡◌, ℕ, Bool, true, false, not, cond, ◌&&◌, ◌||◌, List, [], ◌∷◌, ◌++◌, map, filter, refl, sym, ap, subst, ◌∙◌, inl, inr, Option, Some, None, T, is_some}
+use Rattle.cs_history.proofs.Common.{true≢false, cases_Bool, eq_by_cmp, is_eq, is_lt, nat_list_cmp_total, list_any, find, is_sorted, Paths, bytes_cmp, is_covered, alike, tied_is, find-append, same_set, items_in_order, has, Entry, Files, merge_files, merge_paths, DecodesAsContent, get-merge_files, decoded_names, AreShards, files_of_both, sorted_by_name, searched_names}
 use Rattle.std.proofs.lemmas.List.Folds.{list_any-append}
 use Rattle.std.specs.declared.cmp.Ordering.TheVariants.{Less, Equal}
-use Rattle.std.specs.Ordering.{eq_by_cmp, is_eq, is_lt}
-use Rattle.std.specs.Cmp.Lexicographic.{nat_list_cmp_total}
-use Rattle.std.specs.List.{list_any}
 use Rattle.std.specs.FinMap as map'
-use Rattle.std.specs.FinMap.{find, is_sorted}
 use Rattle.std.specs.FinMap.Entries.{below_all}
 use Rattle.cs_tree.specs.PathSet as set
-use Rattle.cs_tree.specs.PathSet.{Paths}
-use Rattle.cs_tree.specs.NameOrder.{bytes_cmp}
-use Rattle.cs_tree.specs.Cover.{is_covered}
-use Rattle.cs_tree.proofs.PathSetLemmas.{alike, tied_is, find-append, same_set, items_in_order}
 use Rattle.std.specs.Option.{option_or}
-use Rattle.cs_trigram.specs.Trigram.{has}
 use Rattle.cs_trigram.specs.Query.{matches_set}
 use Rattle.cs_trigram.specs.declared.queries.Query.{Query}
-use Rattle.cs_index.specs.Encoding.{Entry, Files}
-use Rattle.cs_merge.specs.Merge.{merge_files, merge_paths}
-use Rattle.cs_merge.specs.Content.{DecodesAsContent}
-use Rattle.cs_merge.proofs.MergeLemmas.{get-merge_files}
-use Rattle.cs_merge.proofs.DecodedContentLemmas.{decoded_names}
 use Rattle.cs_history.specs.MatchingFiles.{names_matching}
-use Rattle.cs_history.specs.Shards.{AreShards, files_of_both, sorted_by_name, searched_names}
+use Rattle.std.proofs.Math.Bool.{or-false}
+use Rattle.cs_tree.proofs.ReduceLemmas.{contains-from_list}
 
 -- ---- the files of the merge
 
@@ -33,8 +19,10 @@ module _ (p : Paths) (f : Files) (q : Paths) (g : Files) (apart : AreShards p f 
   not_both : (name : List ℕ) (b : Bool) → is_covered q name ≡ b → (t u : List ℕ) → map'.get f name ≡ Some t → map'.get g name ≡ Some u → ⊥
   not_both name b e t u here there = true≢false (sym (apart.other_under name u there) ∙ apart.outside name t here)
 
-  at_name : (name : List ℕ) (x y : Option (List ℕ)) → map'.get f name ≡ x → map'.get g name ≡ y → option_or y (cond (not (is_covered q name)) x None) ≡ option_or x y
-  at_name name None None e h = elim (not (is_covered q name)) as (λ b. cond {A = Option (List ℕ)} b None None ≡ None) [ true ↦ refl | false ↦ refl ]
+  at_name : (name : List ℕ) (x y : Option (List ℕ)) → map'.get f name ≡ x → map'.get g name ≡ y →
+      option_or y (cond (not (is_covered q name)) x None) ≡ option_or x y
+  at_name name None None e h = elim (not (is_covered q name)) as (λ b. cond {A = Option (List ℕ)} b None None ≡ None)
+      [ true ↦ refl | false ↦ refl ]
   at_name name None (Some u) e h = refl
   at_name name (Some t) None e h = ap (λ b. cond (not b) (Some t) None) (apart.outside name t e)
   at_name name (Some t) (Some u) e h = absurd (not_both name (is_covered q name) refl t u e h)
@@ -62,7 +50,8 @@ module _ (p : Paths) (f : Files) (q : Paths) (g : Files) (apart : AreShards p f 
 -- ---- the names of selected entries
 
 less_not_tied : (q x : List ℕ) → T (is_lt (bytes_cmp q x)) → eq_by_cmp bytes_cmp q x ≡ false
-less_not_tied q x h = elim (bytes_cmp q x) as (λ r. T (is_lt r) → is_eq r ≡ false) [ Less ↦ λ _. refl | Equal ↦ λ k. absurd k | _ ↦ λ k. absurd k ] h
+less_not_tied q x h = elim (bytes_cmp q x) as (λ r. T (is_lt r) → is_eq r ≡ false)
+    [ Less ↦ λ _. refl | Equal ↦ λ k. absurd k | _ ↦ λ k. absurd k ] h
 
 and_T : (a b : Bool) → T (a && b) → T a × T b
 and_T true b h = (tt, h)
@@ -85,12 +74,14 @@ module _ (selects : Entry → Bool) where
   none_below x [] h = refl
   none_below x (e ∷ es) h =
       let parts = and_T (is_lt (bytes_cmp x e.0)) (below_all bytes_cmp x es) h in
-      elim (selects e) as (λ b. list_any (eq_by_cmp bytes_cmp x) (map (λ (e : Entry). e.0) (cond b (e ∷ filter selects es) (filter selects es))) ≡ false) [
+      elim (selects e) as (λ b. list_any (eq_by_cmp bytes_cmp x)
+      (map (λ (e : Entry). e.0) (cond b (e ∷ filter selects es) (filter selects es))) ≡ false) [
         | true ↦ λ i. less_not_tied x e.0 parts.0 i || none_below x es parts.1 i
         | false ↦ none_below x es parts.1
       ]
 
-  among_selected : (name : List ℕ) (es : List Entry) → T (is_sorted bytes_cmp es) → list_any (eq_by_cmp bytes_cmp name) (selected es) ≡ selects_at name (find bytes_cmp name es)
+  among_selected : (name : List ℕ) (es : List Entry) → T (is_sorted bytes_cmp es) → list_any (eq_by_cmp bytes_cmp name)
+      (selected es) ≡ selects_at name (find bytes_cmp name es)
   among_selected name [] h = refl
   among_selected name (e ∷ es) h =
       let parts = and_T (below_all bytes_cmp e.0 es) (is_sorted bytes_cmp es) h in
@@ -98,13 +89,18 @@ module _ (selects : Entry → Bool) where
       elim (cases_Bool (eq_by_cmp bytes_cmp name e.0)) [
         | inl here ↦
             let is : name ≡ e.0 = tied_is name e.0 here in
-            elim (selects e) as (λ b. selects e ≡ b → list_any (eq_by_cmp bytes_cmp name) (map (λ (e : Entry). e.0) (cond b (e ∷ filter selects es) (filter selects es))) ≡ selects (name, e.1)) [
-              | true ↦ λ k. ap (λ t. t || list_any (eq_by_cmp bytes_cmp name) (selected es)) here ∙ sym k ∙ ap (λ n. selects (n, e.1)) (sym is)
-              | false ↦ λ k. subst (λ n. list_any (eq_by_cmp bytes_cmp n) (selected es) ≡ false) (sym is) (none_below e.0 es parts.0) ∙ sym k ∙ ap (λ n. selects (n, e.1)) (sym is)
+            elim (selects e) as (λ b. selects e ≡ b → list_any (eq_by_cmp bytes_cmp name)
+            (map (λ (e : Entry). e.0) (cond b (e ∷ filter selects es) (filter selects es))) ≡ selects (name, e.1)) [
+              | true ↦ λ k. ap (λ t. t || list_any (eq_by_cmp bytes_cmp name) (selected es)) here ∙ sym k
+                  ∙ ap (λ n. selects (n, e.1)) (sym is)
+              | false ↦ λ k. subst (λ n. list_any (eq_by_cmp bytes_cmp n) (selected es) ≡ false) (sym is)
+                  (none_below e.0 es parts.0) ∙ sym k ∙ ap (λ n. selects (n, e.1)) (sym is)
             ] refl
             ∙ sym (ap (λ t. selects_at name (cond t (Some e.1) (find bytes_cmp name es))) here)
         | inr outside ↦
-            elim (selects e) as (λ b. list_any (eq_by_cmp bytes_cmp name) (map (λ (e : Entry). e.0) (cond b (e ∷ filter selects es) (filter selects es))) ≡ list_any (eq_by_cmp bytes_cmp name) (selected es)) [
+            elim (selects e) as (λ b. list_any (eq_by_cmp bytes_cmp name)
+            (map (λ (e : Entry). e.0) (cond b (e ∷ filter selects es) (filter selects es)))
+            ≡ list_any (eq_by_cmp bytes_cmp name) (selected es)) [
               | true ↦ ap (λ t. t || list_any (eq_by_cmp bytes_cmp name) (selected es)) outside
               | false ↦ refl
             ]
@@ -112,11 +108,13 @@ module _ (selects : Entry → Bool) where
             ∙ sym (ap (λ t. selects_at name (cond t (Some e.1) (find bytes_cmp name es))) outside)
       ]
 
-  below_selected : (x : List ℕ) (es : List Entry) → T (below_all bytes_cmp x es) → T (below_all bytes_cmp x (set.unit_entries (selected es)))
+  below_selected : (x : List ℕ) (es : List Entry) → T (below_all bytes_cmp x es) →
+      T (below_all bytes_cmp x (set.unit_entries (selected es)))
   below_selected x [] h = tt
   below_selected x (e ∷ es) h =
       let parts = and_T (is_lt (bytes_cmp x e.0)) (below_all bytes_cmp x es) h in
-      elim (selects e) as (λ b. T (below_all bytes_cmp x (set.unit_entries (map (λ (e : Entry). e.0) (cond b (e ∷ filter selects es) (filter selects es)))))) [
+      elim (selects e) as (λ b. T (below_all bytes_cmp x
+      (set.unit_entries (map (λ (e : Entry). e.0) (cond b (e ∷ filter selects es) (filter selects es)))))) [
         | true ↦ T_and (is_lt (bytes_cmp x e.0)) _ parts.0 (below_selected x es parts.1)
         | false ↦ below_selected x es parts.1
       ]
@@ -125,57 +123,60 @@ module _ (selects : Entry → Bool) where
   sorted_selected [] h = tt
   sorted_selected (e ∷ es) h =
       let parts = and_T (below_all bytes_cmp e.0 es) (is_sorted bytes_cmp es) h in
-      elim (selects e) as (λ b. T (is_sorted bytes_cmp (set.unit_entries (map (λ (e : Entry). e.0) (cond b (e ∷ filter selects es) (filter selects es)))))) [
-        | true ↦ T_and (below_all bytes_cmp e.0 (set.unit_entries (selected es))) _ (below_selected e.0 es parts.0) (sorted_selected es parts.1)
+      elim (selects e) as (λ b. T (is_sorted bytes_cmp
+      (set.unit_entries (map (λ (e : Entry). e.0) (cond b (e ∷ filter selects es) (filter selects es)))))) [
+        | true ↦ T_and (below_all bytes_cmp e.0 (set.unit_entries (selected es))) _ (below_selected e.0 es parts.0)
+            (sorted_selected es parts.1)
         | false ↦ sorted_selected es parts.1
       ]
 
   abbrev selected_in : Files → List (List ℕ)
   selected_in files = selected (map'.entries files)
 
-  among_files : (name : List ℕ) (files : Files) → list_any (eq_by_cmp bytes_cmp name) (selected_in files) ≡ selects_at name (map'.get files name)
-  among_files name files = among_selected name (map'.entries files) (map'.entries_sorted files) ∙ ap (selects_at name) (sym (map'.get-entries files name))
-
-  names_again : (names : List (List ℕ)) (name : List ℕ) → set.contains (set.from_list names) name ≡ list_any (eq_by_cmp bytes_cmp name) names
-  names_again names name = ap is_some (map'.get-from_entries nat_list_cmp_total (set.unit_entries names) name) ∙ in_units names
-    where
-      in_units : (ns : List (List ℕ)) → is_some (find bytes_cmp name (set.unit_entries ns)) ≡ list_any (eq_by_cmp bytes_cmp name) ns
-      in_units [] = refl
-      in_units (n ∷ ns) =
-          elim (eq_by_cmp bytes_cmp name n) as (λ b. is_some (cond b (Some tt) (find bytes_cmp name (set.unit_entries ns))) ≡ (b || list_any (eq_by_cmp bytes_cmp name) ns)) [ true ↦ refl | false ↦ in_units ns ]
+  among_files : (name : List ℕ) (files : Files) → list_any (eq_by_cmp bytes_cmp name) (selected_in files)
+      ≡ selects_at name (map'.get files name)
+  among_files name files = among_selected name (map'.entries files) (map'.entries_sorted files)
+      ∙ ap (selects_at name) (sym (map'.get-entries files name))
 
   module _ (p : Paths) (f : Files) (q : Paths) (g : Files) (apart : AreShards p f q g) where
-    either : (name : List ℕ) (x y : Option (List ℕ)) → map'.get f name ≡ x → map'.get g name ≡ y → selects_at name (option_or x y) ≡ (selects_at name x || selects_at name y)
+    either : (name : List ℕ) (x y : Option (List ℕ)) → map'.get f name ≡ x → map'.get g name ≡ y →
+        selects_at name (option_or x y) ≡ (selects_at name x || selects_at name y)
     either name None y e h = refl
-    either name (Some t) None e h = sym (or_false (selects (name, t)))
-      where
-        or_false : (b : Bool) → (b || false) ≡ b
-        or_false true = refl
-        or_false false = refl
+    either name (Some t) None e h = sym (or-false (selects (name, t)))
     either name (Some t) (Some u) e h = absurd (not_both p f q g apart name (is_covered q name) refl t u e h)
 
-    members : (name : List ℕ) → list_any (eq_by_cmp bytes_cmp name) (selected_in (merge_files q f g)) ≡ list_any (eq_by_cmp bytes_cmp name) (selected_in f ++ selected_in g)
+    members : (name : List ℕ) → list_any (eq_by_cmp bytes_cmp name) (selected_in (merge_files q f g))
+        ≡ list_any (eq_by_cmp bytes_cmp name) (selected_in f ++ selected_in g)
     members name =
         among_files name (merge_files q f g)
         ∙ ap (selects_at name) (get-merge p f q g apart name)
         ∙ either name (map'.get f name) (map'.get g name) refl refl
-        ∙ sym (list_any-append (eq_by_cmp bytes_cmp name) (selected_in f) (selected_in g) ∙ (λ i. among_files name f i || among_files name g i))
+        ∙ sym (list_any-append (eq_by_cmp bytes_cmp name) (selected_in f) (selected_in g)
+        ∙ (λ i. among_files name f i || among_files name g i))
 
     selected_merged : selected_in (merge_files q f g) ≡ sorted_by_name (selected_in f ++ selected_in g)
     selected_merged =
-        sym (items_in_order (selected_in (merge_files q f g)) (sorted_selected (map'.entries (merge_files q f g)) (map'.entries_sorted (merge_files q f g))))
+        sym (items_in_order (selected_in (merge_files q f g))
+        (sorted_selected (map'.entries (merge_files q f g)) (map'.entries_sorted (merge_files q f g))))
         ∙ ap set.items (same_set (set.from_list (selected_in (merge_files q f g))) (set.from_list (selected_in f ++ selected_in g)) (λ name.
-        names_again (selected_in (merge_files q f g)) name ∙ members name ∙ sym (names_again (selected_in f ++ selected_in g) name)))
+        contains-from_list (selected_in (merge_files q f g)) name ∙ members name
+        ∙ sym (contains-from_list (selected_in f ++ selected_in g) name)))
 
 -- ---- the names that a search visits
 
-one_test : (h : Entry → Bool) (keeps : List ℕ → Bool) (es : List Entry) → filter keeps (map (λ (e : Entry). e.0) (filter h es)) ≡ map (λ (e : Entry). e.0) (filter (λ (e : Entry). h e && keeps e.0) es)
+one_test : (h : Entry → Bool) (keeps : List ℕ → Bool) (es : List Entry) →
+    filter keeps (map (λ (e : Entry). e.0) (filter h es))
+    ≡ map (λ (e : Entry). e.0) (filter (λ (e : Entry). h e && keeps e.0) es)
 one_test h keeps [] = refl
 one_test h keeps (e ∷ es) =
     let kept : List (List ℕ) = filter keeps (map (λ (e : Entry). e.0) (filter h es)) in
-    elim (h e) as (λ b. filter keeps (map (λ (e : Entry). e.0) (cond b (e ∷ filter h es) (filter h es))) ≡ map (λ (e : Entry). e.0) (cond (b && keeps e.0) (e ∷ filter (λ (e : Entry). h e && keeps e.0) es) (filter (λ (e : Entry). h e && keeps e.0) es))) [
+    elim (h e) as (λ b. filter keeps (map (λ (e : Entry). e.0) (cond b (e ∷ filter h es) (filter h es)))
+    ≡ map (λ (e : Entry). e.0) (cond (b && keeps e.0) (e ∷ filter (λ (e : Entry). h e && keeps e.0) es)
+    (filter (λ (e : Entry). h e && keeps e.0) es))) [
       | true ↦
-          elim (keeps e.0) as (λ k. cond k (e.0 ∷ kept) kept ≡ map (λ (e : Entry). e.0) (cond k (e ∷ filter (λ (e : Entry). h e && keeps e.0) es) (filter (λ (e : Entry). h e && keeps e.0) es))) [
+          elim (keeps e.0) as (λ k. cond k (e.0 ∷ kept) kept
+          ≡ map (λ (e : Entry). e.0) (cond k (e ∷ filter (λ (e : Entry). h e && keeps e.0) es)
+          (filter (λ (e : Entry). h e && keeps e.0) es))) [
             | true ↦ ap (λ ns. e.0 ∷ ns) (one_test h keeps es)
             | false ↦ one_test h keeps es
           ]
@@ -187,7 +188,8 @@ all_satisfy [] = refl
 all_satisfy (e ∷ es) = ap (λ rest. e ∷ rest) (all_satisfy es)
 
 module _ (p : Paths) (f : Files) (q : Paths) (g : Files) (apart : AreShards p f q g) where
-  pub searched_merged : (query : Query) (keeps : List ℕ → Bool) → searched_names query keeps (merge_files q f g) ≡ sorted_by_name (searched_names query keeps f ++ searched_names query keeps g)
+  pub searched_merged : (query : Query) (keeps : List ℕ → Bool) → searched_names query keeps (merge_files q f g)
+      ≡ sorted_by_name (searched_names query keeps f ++ searched_names query keeps g)
   unfolding names_matching
   searched_merged query keeps =
       let h : Entry → Bool = λ (e : Entry). matches_set query (has e.1) in
@@ -202,5 +204,6 @@ module _ (p : Paths) (f : Files) (q : Paths) (g : Files) (apart : AreShards p f 
       ∙ selected_merged (λ (e : Entry). true) p f q g apart
       ∙ (λ i. sorted_by_name (names (all_satisfy (map'.entries f) i) ++ names (all_satisfy (map'.entries g) i)))
 
-  pub names_merged : (bytes : List ℕ) (decoded : DecodesAsContent bytes (merge_paths p q) (merge_files q f g)) → decoded.parts.names ≡ sorted_by_name (map'.keys f ++ map'.keys g)
+  pub names_merged : (bytes : List ℕ) (decoded : DecodesAsContent bytes (merge_paths p q) (merge_files q f g)) →
+      decoded.parts.names ≡ sorted_by_name (map'.keys f ++ map'.keys g)
   names_merged bytes decoded = sym (decoded_names bytes (merge_paths p q) (merge_files q f g) decoded) ∙ keys_merged

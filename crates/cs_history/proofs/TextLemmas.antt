@@ -1,8 +1,8 @@
 -- The trigrams of a text are a trigram set of an index.
 use Rattle.std.proofs.Common.{◌≡◌, ℕ, List, [], ◌∷◌, refl, subst, Option, Some, None}
-use Rattle.cs_trigram.specs.Trigram.{trigram_sequence, tri, Ascends as Rises, Ascends}
+use Rattle.cs_trigram.specs.Trigram.{Ascends as Rises}
 use Rattle.cs_trigram.specs.TrigramSets.{IsTrigramSet}
-use Rattle.cs_trigram.specs.Text.{first_broken, too_many, skip, text_trigrams}
+use Rattle.cs_history.proofs.Common.{trigram_sequence, tri, Ascends, first_broken, too_many, skip, text_trigrams}
 use Rattle.cs_trigram.specs.declared.limits.Limits.{Limits}
 use Rattle.cs_trigram.specs.declared.scan.Reason.{Reason}
 use Rattle.cs_trigram.proofs.SetLemmas.{ascends_set}
@@ -22,4 +22,7 @@ text_set most bytes trigrams h = by_skip (skip most bytes) refl h
     by_skip (Some reason) e h = cc
     by_skip None e h =
         let is : tri bytes ≡ trigrams = cc in
-        subst IsTrigramSet is (rises (tri bytes) (ascends_set (trigram_sequence bytes)), tri_below most bytes (option_or-none (first_broken most [] bytes) (too_many most (tri bytes)) e).0)
+        subst IsTrigramSet is (
+          rises (tri bytes) (ascends_set (trigram_sequence bytes)),
+          tri_below most bytes (option_or-none (first_broken most [] bytes) (too_many most (tri bytes)) e).0,
+        )

@@ -1,30 +1,14 @@
 -- What a walk finds is valid content, and the walked paths cover its names.
-use Rattle.std.proofs.Common.{◌≡◌, ◌≢◌, ℕ, ◌+◌, ◌<◌, Bool, true, false, cond, not, eqb, leb, ◌&&◌, List, [], ◌∷◌, ◌++◌, length, drop, refl, sym, ap, subst, ◌∙◌, inl, inr, Option, Some, None, arith, length-append, append_assoc}
+use Rattle.std.proofs.Common.{◌≡◌, ◌≢◌, ℕ, ◌+◌, ◌<◌, Bool, true, false, cond, not, eqb, leb, ◌&&◌, List, [], ◌∷◌, ◌++◌, length, drop, refl, sym, ap, subst, ◌∙◌, inl, inr, Option, Some, None, arith, length-append, append_assoc, IsUtf8, bytes_eq}
 use Rattle.cs_tree.specs.Covering.{Covers, itself, below, root}
-use Rattle.cs_tree.specs.Folders.{child, lists, is_element, ListsElements, IsTree, last_element}
-use Rattle.cs_tree.specs.PathSet.{Paths}
-use Rattle.cs_index.specs.Encoding.{IsString}
-use Rattle.std.proofs.lemmas.Bool.{true≢false, cases_Bool, and_parts, or_cases, or_parts, not-true, eqb-false, both_ways}
-use Rattle.std.proofs.lemmas.List.{drop_at}
-use Rattle.std.specs.Prelude.{IsUtf8, bytes_eq}
-use Rattle.std.specs.Path.{slash}
-use Rattle.std.specs.Cmp.Lexicographic.{bytes_decides}
-use Rattle.std.specs.List.{AllByRecursion, list_any, list_all}
+use Rattle.cs_history.proofs.Common.{child, lists, is_element, ListsElements, IsTree, last_element, Paths, IsString, true≢false, cases_Bool, and_parts, or_cases, or_parts, not-true, eqb-false, both_ways, drop_at, slash, bytes_decides, AllByRecursion, list_any, list_all, covers, is_covered, Snapshot, Item, folder, file, item_at, elements, longest_path, elements_under, descends, reaches, is_reachable, is_excluded, reachable_files, read_item, some_member, get-found, found_under, text_trigrams, IsContent, NoNul, none-some}
 use Rattle.std.specs.FinMap as map
 use Rattle.cs_tree.specs.PathSet as set
-use Rattle.cs_tree.specs.Cover.{covers, is_covered}
-use Rattle.cs_tree.specs.Snapshot.{Snapshot, Item, folder, file, cut, other, bad, item_at}
-use Rattle.cs_tree.specs.Clean.{elements, longest_path}
-use Rattle.cs_tree.specs.Reachability.{elements_under, descends, reaches, is_reachable, is_excluded, reachable_files, read_item}
 use Rattle.cs_tree.proofs.CoverLemmas.{covers_says}
-use Rattle.cs_tree.proofs.PathSetLemmas.{some_member}
-use Rattle.cs_tree.proofs.FoundLemmas.{get-found, found_under}
-use Rattle.cs_trigram.specs.Text.{text_trigrams}
 use Rattle.cs_trigram.specs.declared.limits.Limits.{Limits}
-use Rattle.cs_merge.specs.Content.{IsContent}
-use Rattle.cs_index.proofs.decoding.StringSections.{NoNul}
 use Rattle.cs_history.proofs.PathElementLemmas.{IsPart, part_appended, part_empty, text_from_parts}
 use Rattle.cs_history.proofs.TextLemmas.{text_set}
+use Rattle.std.proofs.lemmas.Bool.{true_from_ne_false}
 
 -- ---- strings
 
@@ -51,7 +35,8 @@ name_part name h utf8 =
     let more = and_parts (not (list_any (λ b. eqb b slash) name)) (not (list_any (λ b. eqb b 0) name)) parts.1 in
     record { no_nul = no_zero name (not-true _ more.1); utf8 = utf8 }
 
-listed_part : (names : List (List ℕ)) (name : List ℕ) → list_all is_element names ≡ true → AllByRecursion IsUtf8 names → list_any (λ listed. bytes_eq listed name) names ≡ true → IsPart name
+listed_part : (names : List (List ℕ)) (name : List ℕ) → list_all is_element names ≡ true → AllByRecursion IsUtf8 names →
+    list_any (λ listed. bytes_eq listed name) names ≡ true → IsPart name
 listed_part [] name h utf8 there = absurd (true≢false (sym there))
 listed_part (x ∷ names) name h utf8 there =
     let parts = and_parts (is_element x) (list_all is_element names) h in
@@ -62,14 +47,12 @@ listed_part (x ∷ names) name h utf8 there =
 
 lists_part : (item : Item) (name : List ℕ) → ListsElements item → lists item name ≡ true → IsPart name
 lists_part (folder names unnamed) name h there = listed_part names name (and_parts (list_all is_element names) _ h.0).0 h.1 there
-lists_part (file bytes) name h there = absurd (true≢false (sym there))
-lists_part (cut bytes) name h there = absurd (true≢false (sym there))
-lists_part other name h there = absurd (true≢false (sym there))
-lists_part (bad fault) name h there = absurd (true≢false (sym there))
+lists_part _ name h there = absurd (true≢false (sym there))
 
 -- ---- names that a walk reaches
 
-leads_parts : (tree : Snapshot) (at : List ℕ) (names : List (List ℕ)) → IsTree tree → descends tree at names ≡ true → AllByRecursion IsPart names
+leads_parts : (tree : Snapshot) (at : List ℕ) (names : List (List ℕ)) → IsTree tree → descends tree at names ≡ true →
+    AllByRecursion IsPart names
 leads_parts tree at [] is h = tt
 leads_parts tree at (name ∷ names) is h =
     let a = and_parts (not (is_excluded name)) _ h in
@@ -78,7 +61,8 @@ leads_parts tree at (name ∷ names) is h =
     (lists_part (item_at tree at) name (is at) c.0, leads_parts tree (child at name) names is c.1)
 
 -- the part of a name after a path and a slash, and the part after the root
-rest_part : (path name rest : List ℕ) (tree : Snapshot) → IsTree tree → descends tree path (elements_under path name) ≡ true → bytes_eq path name ≡ false → name ≡ path ++ slash ∷ rest → bytes_eq path (slash ∷ []) ≡ false → IsPart rest
+rest_part : (path name rest : List ℕ) (tree : Snapshot) → IsTree tree → descends tree path (elements_under path name)
+    ≡ true → bytes_eq path name ≡ false → name ≡ path ++ slash ∷ rest → bytes_eq path (slash ∷ []) ≡ false → IsPart rest
 rest_part path name rest tree is h apart e inner =
     let under : elements_under path name ≡ elements rest =
     ap (λ t. cond t [] (elements (drop (cond (bytes_eq path (slash ∷ [])) 1 (length path + 1)) name))) apart
@@ -87,7 +71,8 @@ rest_part path name rest tree is h apart e inner =
     ∙ ap elements (drop_at (path ++ slash ∷ []) rest (length path + 1) (length-append path (slash ∷ []))) in
     text_from_parts rest (leads_parts tree path (elements rest) is (subst (λ es. descends tree path es ≡ true) under h))
 
-root_part : (path name rest : List ℕ) (tree : Snapshot) → IsTree tree → descends tree path (elements_under path name) ≡ true → bytes_eq path name ≡ false → name ≡ slash ∷ rest → bytes_eq path (slash ∷ []) ≡ true → IsPart rest
+root_part : (path name rest : List ℕ) (tree : Snapshot) → IsTree tree → descends tree path (elements_under path name)
+    ≡ true → bytes_eq path name ≡ false → name ≡ slash ∷ rest → bytes_eq path (slash ∷ []) ≡ true → IsPart rest
 root_part path name rest tree is h apart e outer =
     let under : elements_under path name ≡ elements rest =
     ap (λ t. cond t [] (elements (drop (cond (bytes_eq path (slash ∷ [])) 1 (length path + 1)) name))) apart
@@ -108,8 +93,11 @@ reached_string tree path name is text h =
     longer [] rest e = cc
     longer (x ∷ prefix) rest e = cc
 
-    by_root : descends tree path (elements_under path name) ≡ true → bytes_eq path name ≡ false → (rest : List ℕ) → bytes_eq path (slash ∷ []) ≡ true → name ≡ slash ∷ rest → IsString name
-    by_root h apart rest outer e = subst IsString (sym e) (part_string (slash ∷ rest) (longer [] rest) (part_appended [] rest part_empty (root_part path name rest tree is h apart e outer)))
+    by_root : descends tree path (elements_under path name) ≡ true → bytes_eq path name ≡ false → (rest : List ℕ) →
+        bytes_eq path (slash ∷ []) ≡ true → name ≡ slash ∷ rest → IsString name
+    by_root h apart rest outer e = subst IsString (sym e)
+        (part_string (slash ∷ rest) (longer [] rest)
+        (part_appended [] rest part_empty (root_part path name rest tree is h apart e outer)))
 
     by_covers : descends tree path (elements_under path name) ≡ true → bytes_eq path name ≡ false → Covers path name → IsString name
     by_covers h apart (itself e) = absurd (both_ways (bytes_eq path name) apart ((bytes_decides path name).1 e))
@@ -117,7 +105,8 @@ reached_string tree path name is text h =
     by_covers h apart (below rest e) =
         elim (cases_Bool (bytes_eq path (slash ∷ []))) [
           | inl outer ↦ by_root h apart (slash ∷ rest) outer (e ∙ ap (λ p. p ++ slash ∷ rest) ((bytes_decides path (slash ∷ [])).0 outer))
-          | inr inner ↦ subst IsString (sym e) (part_string (path ++ slash ∷ rest) (longer path rest) (part_appended path rest (string_part path text) (rest_part path name rest tree is h apart e inner)))
+          | inr inner ↦ subst IsString (sym e) (part_string (path ++ slash ∷ rest) (longer path rest)
+              (part_appended path rest (string_part path text) (rest_part path name rest tree is h apart e inner)))
         ]
 
 -- ---- files that a walk finds
@@ -127,46 +116,45 @@ record IsFound {X : Type 0} (read : List ℕ → Option X) (tree : Snapshot) (pa
   reached : is_reachable tree paths name ≡ true
   reads : read_item read (item_at tree name) ≡ Some x
 
-found_says : {X : Type 0} (read : List ℕ → Option X) (tree : Snapshot) (paths : Paths) (name : List ℕ) (x : X) → map.get (reachable_files read tree paths) name ≡ Some x → IsFound read tree paths name x
+found_says : {X : Type 0} (read : List ℕ → Option X) (tree : Snapshot) (paths : Paths) (name : List ℕ) (x : X) →
+    map.get (reachable_files read tree paths) name ≡ Some x → IsFound read tree paths name x
 found_says read tree paths name x h =
     by_test (is_reachable tree paths name) (leb (length name) longest_path) refl (sym (get-found read tree paths name) ∙ h)
   where
-    by_test : (r s : Bool) → is_reachable tree paths name ≡ r → cond (r && s) (read_item read (item_at tree name)) None ≡ Some x → IsFound read tree paths name x
+    by_test : (r s : Bool) → is_reachable tree paths name ≡ r → cond (r && s) (read_item read (item_at tree name)) None
+        ≡ Some x → IsFound read tree paths name x
     by_test true true e h = record { reached = e; reads = h }
     by_test true false e h = cc
     by_test false s e h = cc
 
-read_file : {X : Type 0} (read : List ℕ → Option X) (item : Item) (x : X) → read_item read item ≡ Some x → (bytes : List ℕ) × (read bytes ≡ Some x)
+read_file : {X : Type 0} (read : List ℕ → Option X) (item : Item) (x : X) → read_item read item ≡ Some x →
+    (bytes : List ℕ) × (read bytes ≡ Some x)
 read_file read (folder names unnamed) x h = cc
 read_file read (file bytes) x h = (bytes, h)
-read_file read (cut bytes) x h = cc
-read_file read other x h = cc
-read_file read (bad fault) x h = cc
+read_file read _ x h = cc
 
 -- each path of the set is a string
 abbrev pub AreStrings : Paths → Type 0
 AreStrings paths = (path : List ℕ) → set.contains paths path ≡ true → IsString path
 
-pub found_string : {X : Type 0} (read : List ℕ → Option X) (tree : Snapshot) (paths : Paths) (name : List ℕ) (x : X) → IsTree tree → AreStrings paths → map.get (reachable_files read tree paths) name ≡ Some x → IsString name
+pub found_string : {X : Type 0} (read : List ℕ → Option X) (tree : Snapshot) (paths : Paths) (name : List ℕ) (x : X) →
+    IsTree tree → AreStrings paths → map.get (reachable_files read tree paths) name ≡ Some x → IsString name
 found_string read tree paths name x is strings h =
     let member = some_member paths (λ p. reaches tree p name) (found_says read tree paths name x h).reached in
     reached_string tree member.path name is (strings member.path member.member) member.accepts
 
-pub found_content : (most : Limits) (tree : Snapshot) (paths : Paths) → IsTree tree → AreStrings paths → IsContent paths (reachable_files (text_trigrams most) tree paths)
+pub found_content : (most : Limits) (tree : Snapshot) (paths : Paths) → IsTree tree → AreStrings paths →
+    IsContent paths (reachable_files (text_trigrams most) tree paths)
 found_content most tree paths is strings = record {
   paths_are = strings;
   names_are = λ name trigrams h. found_string (text_trigrams most) tree paths name trigrams is strings h;
   sets_are = λ name trigrams h.
-      let read = read_file (text_trigrams most) (item_at tree name) trigrams (found_says (text_trigrams most) tree paths name trigrams h).reads in
+      let read = read_file (text_trigrams most) (item_at tree name) trigrams
+      (found_says (text_trigrams most) tree paths name trigrams h).reads in
       text_set most read.0 trigrams read.1;
 }
 
-pub found_lies : {X : Type 0} (read : List ℕ → Option X) (tree : Snapshot) (paths : Paths) (name : List ℕ) (x : X) → map.get (reachable_files read tree paths) name ≡ Some x → is_covered paths name ≡ true
-found_lies read tree paths name x h =
-    elim (cases_Bool (is_covered paths name)) [
-      | inl under ↦ under
-      | inr outside ↦ absurd (none_some (sym (found_under read tree paths name outside) ∙ h))
-    ]
-  where
-    none_some : None ≡ Some x → ⊥
-    none_some e = cc
+pub found_lies : {X : Type 0} (read : List ℕ → Option X) (tree : Snapshot) (paths : Paths) (name : List ℕ) (x : X) →
+    map.get (reachable_files read tree paths) name ≡ Some x → is_covered paths name ≡ true
+found_lies read tree paths name x h = true_from_ne_false (is_covered paths name)
+    (λ outside. none-some x (sym (found_under read tree paths name outside) ∙ h))

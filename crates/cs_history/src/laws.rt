@@ -37,12 +37,10 @@ ghost use Rattle.cs_args.specs.declared.jobs.Reply.TheVariants.{Done, Refused};
 /// An existing index counts as a first job: its paths were given, its trigram sets were read, and
 /// until a later job its bytes are the index.
 pub fn histories_may_begin_with_an_index()
-    ensures index { (bytes : List ℕ) (parts : Parts) →
-        index_of (existing bytes parts) ≡ Some bytes }
+    ensures index { (bytes : List ℕ) (parts : Parts) → index_of (existing bytes parts) ≡ Some bytes }
     ensures paths { (bytes : List ℕ) (parts : Parts) →
         paths_of (existing bytes parts) ≡ least (paths_in parts) }
-    ensures files { (bytes : List ℕ) (parts : Parts) →
-        files_of (existing bytes parts) ≡ files_in parts }
+    ensures files { (bytes : List ℕ) (parts : Parts) → files_of (existing bytes parts) ≡ files_in parts }
 {}
 
 /// Merging the files and paths of a history with those that one more job found gives those of the
@@ -63,8 +61,7 @@ pub fn first_job()
 /// The index after one more job is the encoding of the merge of the content before it with what the
 /// job found.
 pub fn one_job_more()
-    ensures { (before : History) (update : Update) →
-        index_of (update ⊳ before) ≡
+    ensures { (before : History) (update : Update) → index_of (update ⊳ before) ≡
         Some (encoding (merge_paths (paths_of before) (walked_paths update before))
         (merge_files (walked_paths update before) (files_of before) (files_found update before))) }
 {}
@@ -78,13 +75,11 @@ pub fn merging_gives_the_next_index()
         index_of before ≡ Some old → length old < 2 ^ 32 →
         newer ≡ update_index update before → length newer < 2 ^ 32 →
         ((p q : Paths) (f g : Files) → DecodesAsContent old p f → DecodesAsContent newer q g →
-        bytes ≡ encoding (merge_paths p q) (merge_files q f g)) →
-        Some bytes ≡ index_of (update ⊳ before) }
+        bytes ≡ encoding (merge_paths p q) (merge_files q f g)) → Some bytes ≡ index_of (update ⊳ before) }
     ensures opened { (before : History) (update : Update) (old newer bytes : List ℕ) →
         IsHistory (update ⊳ before) → index_of before ≡ Some old → length old < 2 ^ 32 →
         newer ≡ update_index update before → length newer < 2 ^ 32 →
-        ((a b : Parts) → opening old ≡ Ok a → opening newer ≡ Ok b →
-        bytes ≡ merge_index a b) →
+        ((a b : Parts) → opening old ≡ Ok a → opening newer ≡ Ok b → bytes ≡ merge_index a b) →
         Some bytes ≡ index_of (update ⊳ before) }
 {}
 
@@ -234,8 +229,7 @@ pub fn calls_establish_premises()
         Premises trees (Some bytes) (existing bytes parts) }
     ensures next { (jobs : List IndexJob) (trees later : List (Option Snapshot))
         (replies : List Reply) (old new : Option (List ℕ)) (earlier : History) →
-        Premises trees old earlier → Indexes jobs trees replies old new →
-        AllByRecursion IsModelled later →
+        Premises trees old earlier → Indexes jobs trees replies old new → AllByRecursion IsModelled later →
         Premises later new (history_after earlier jobs (map modelled_snapshot trees) replies) }
 {}
 
@@ -244,8 +238,7 @@ pub fn calls_establish_premises()
 /// merged by name. For two histories the rest of the premise holds, since their paths cover their
 /// names.
 pub fn shards_merge_by_name()
-    ensures files { (p q : Paths) (f g : Files) → AreShards p f q g →
-        merge_files q f g ≡ files_of_both f g }
+    ensures files { (p q : Paths) (f g : Files) → AreShards p f q g → merge_files q f g ≡ files_of_both f g }
     ensures once { (p q : Paths) (f g : Files) (name : List ℕ) → AreShards p f q g →
         map'.contains_key f name ≡ true → map'.contains_key g name ≡ false }
     ensures names { (p q : Paths) (f g : Files) (bytes : List ℕ) → AreShards p f q g →

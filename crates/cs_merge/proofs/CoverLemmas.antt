@@ -1,34 +1,34 @@
 -- Which names the paths of an index cover.
 use Rattle.std.proofs.Common.{◌≡◌, ℕ, Bool, true, false, ◌&&◌, ◌||◌, List, [], ◌∷◌, ◌++◌, sym, ap, ◌∙◌, inl, inr}
-use Rattle.cs_tree.specs.PathSet.{Paths}
-use Rattle.cs_tree.specs.NameOrder.{bytes_cmp}
-use Rattle.std.proofs.lemmas.Bool.{true≢false, or_cases, or_left, or_right}
+use Rattle.cs_merge.proofs.Common.{Paths, bytes_cmp, true≢false, or_cases, or_left, or_right, AllByRecursion, list_all, list_any, eq_by_cmp, covers, is_covered, least, contains-from_list, some_member, member_satisfies, tied_same, same_set, contains-union, Parts, paths_in, merge_paths}
 use Rattle.std.proofs.lemmas.List.Folds.{list_any-append}
 use Rattle.std.specs.Cmp.{both_ways as same_tests}
-use Rattle.std.specs.List.{AllByRecursion, list_all, list_any}
-use Rattle.std.specs.Ordering.{eq_by_cmp}
 use Rattle.cs_tree.specs.PathSet as set
-use Rattle.cs_tree.specs.Cover.{covers, is_covered, least}
-use Rattle.cs_tree.proofs.ReduceLemmas.{contains-from_list}
-use Rattle.cs_tree.proofs.PathSetLemmas.{some_member, member_satisfies, tied_same, same_set, contains-union}
-use Rattle.cs_index.specs.OpenedParts.{Parts, paths_in}
-use Rattle.cs_merge.specs.Merge.{merge_paths}
 use Rattle.cs_merge.proofs.DecodedContentLemmas.{from_list_all}
 
 -- ---- sets made from lists
 
 -- if some member of `ps` passes the test whenever one of `qs` does, it does so for each member of `qs`
-each_counts : (test : List ℕ → Bool) (ps qs : List (List ℕ)) → (list_any test qs ≡ true → list_any test ps ≡ true) → AllByRecursion (λ q. test q ≡ true → list_any test ps ≡ true) qs
+each_counts : (test : List ℕ → Bool) (ps qs : List (List ℕ)) → (list_any test qs ≡ true → list_any test ps ≡ true) →
+    AllByRecursion (λ q. test q ≡ true → list_any test ps ≡ true) qs
 each_counts test ps [] up = tt
-each_counts test ps (q ∷ qs) up = ((λ t. up (or_left (test q) (list_any test qs) t)), each_counts test ps qs (λ t. up (or_right (test q) (list_any test qs) t)))
+each_counts test ps (q ∷ qs) up = (
+  (λ t. up (or_left (test q) (list_any test qs) t)),
+  each_counts test ps qs
+      (λ t. up (or_right (test q) (list_any test qs) t)),
+)
 
 -- a list whose members are all in the set
-passes_on : (paths : Paths) (test : List ℕ → Bool) (qs : List (List ℕ)) → ((q : List ℕ) → list_any (eq_by_cmp bytes_cmp q) qs ≡ true → set.contains paths q ≡ true) → list_any test qs ≡ true → list_any test (set.items paths) ≡ true
+passes_on : (paths : Paths) (test : List ℕ → Bool) (qs : List (List ℕ)) →
+    ((q : List ℕ) → list_any (eq_by_cmp bytes_cmp q) qs ≡ true → set.contains paths q ≡ true) → list_any test qs
+    ≡ true → list_any test (set.items paths) ≡ true
 passes_on paths test [] member h = absurd (true≢false (sym h))
 passes_on paths test (q ∷ qs) member h =
     elim (or_cases (test q) (list_any test qs) h) [
-      | inl here ↦ member_satisfies paths test q (member q (or_left (eq_by_cmp bytes_cmp q q) (list_any (eq_by_cmp bytes_cmp q) qs) (tied_same q))) here
-      | inr there ↦ passes_on paths test qs (λ r m. member r (or_right (eq_by_cmp bytes_cmp r q) (list_any (eq_by_cmp bytes_cmp r) qs) m)) there
+      | inl here ↦ member_satisfies paths test q
+          (member q (or_left (eq_by_cmp bytes_cmp q q) (list_any (eq_by_cmp bytes_cmp q) qs) (tied_same q))) here
+      | inr there ↦ passes_on paths test qs (λ r m. member r
+          (or_right (eq_by_cmp bytes_cmp r q) (list_any (eq_by_cmp bytes_cmp r) qs) m)) there
     ]
 
 covered_list : (ps : List (List ℕ)) (name : List ℕ) → is_covered (set.from_list ps) name ≡ list_any (λ path. covers path name) ps
@@ -37,7 +37,8 @@ covered_list ps name = same_tests _ _ down up
     down : is_covered (set.from_list ps) name ≡ true → list_any (λ path. covers path name) ps ≡ true
     down h =
         let found = some_member (set.from_list ps) (λ path. covers path name) h in
-        from_list_all (λ q. covers q name ≡ true → list_any (λ path. covers path name) ps ≡ true) ps (each_counts (λ path. covers path name) ps ps (λ t. t)) found.path found.member found.accepts
+        from_list_all (λ q. covers q name ≡ true → list_any (λ path. covers path name) ps ≡ true) ps
+        (each_counts (λ path. covers path name) ps ps (λ t. t)) found.path found.member found.accepts
 
     up : list_any (λ path. covers path name) ps ≡ true → is_covered (set.from_list ps) name ≡ true
     up h = passes_on (set.from_list ps) (λ path. covers path name) ps (λ q m. contains-from_list ps q ∙ m) h
@@ -47,10 +48,8 @@ covered_in parts name = covered_list parts.paths name
 
 -- ---- list tests, step by step
 
-pub any_first : (test : List ℕ → Bool) (rest later : List (List ℕ)) (text : List ℕ) → rest ≡ text ∷ later → test text ≡ true → list_any test rest ≡ true
-any_first test rest later text e t = ap (list_any test) e ∙ or_left (test text) (list_any test later) t
-
-pub all_first : (test : List ℕ → Bool) (rest later : List (List ℕ)) (text : List ℕ) → rest ≡ text ∷ later → test text ≡ false → list_all test rest ≡ false
+pub all_first : (test : List ℕ → Bool) (rest later : List (List ℕ)) (text : List ℕ) → rest ≡ text ∷ later → test text
+    ≡ false → list_all test rest ≡ false
 all_first test rest later text e t = ap (list_all test) e ∙ ap (λ b. b && list_all test later) t
 
 -- ---- merged paths
@@ -62,5 +61,6 @@ listed_union ps qs = same_set (set.from_list (ps ++ qs)) (set.union (set.from_li
     ∙ (λ i. sym (contains-from_list ps q) i || sym (contains-from_list qs q) i)
     ∙ sym (contains-union (set.from_list ps) (set.from_list qs) q))
 
-pub paths_merged : (old newer : List (List ℕ)) → least (set.from_list (old ++ newer)) ≡ merge_paths (set.from_list old) (set.from_list newer)
+pub paths_merged : (old newer : List (List ℕ)) → least (set.from_list (old ++ newer)) ≡ merge_paths (set.from_list old)
+    (set.from_list newer)
 paths_merged old newer = ap least (listed_union old newer)

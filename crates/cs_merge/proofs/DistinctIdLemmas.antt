@@ -1,18 +1,10 @@
 -- New ids of a list are distinct, and stay so when they are sorted.
-use Rattle.std.proofs.Common.{◌≡◌, ℕ, ◌+◌, ◌<◌, ◌≤◌, Bool, true, false, cond, ◌||◌, eqb, ltb, List, [], ◌∷◌, ◌++◌, length, refl, sym, ap, ◌∙◌, inl, inr, Option, Some, None, arith}
-use Rattle.std.proofs.lemmas.Bool.{true≢false, cases_Bool, eqb-true, eq-eqb, ne_eqb, lt-ltb, or_cases}
-use Rattle.std.proofs.lemmas.List.{append-nil}
+use Rattle.std.proofs.Common.{◌≡◌, ℕ, ◌+◌, ◌<◌, ◌≤◌, true, false, cond, ◌||◌, eqb, ltb, List, [], ◌∷◌, ◌++◌, refl, sym, ap, ◌∙◌, inl, inr, Option, Some, None, arith}
+use Rattle.cs_merge.proofs.Common.{true≢false, cases_Bool, eqb-true, eq-eqb, ne_eqb, lt-ltb, or_cases, cons_option, sum_by, has, Written, AscendWithin, NewIds, new_id, new_ids_of, AreDisjoint, IsInjective, StayBelow, AreDistinctIds, IsMergedList, AreDistinct, or-true}
 use Rattle.std.proofs.lemmas.List.Sums.{sum_by-cons}
-use Rattle.std.specs.List.{cons_option, sum_by}
-use Rattle.cs_trigram.specs.Trigram.{has}
-use Rattle.cs_index.specs.Written.{Written, with_list}
-use Rattle.cs_index.specs.AscendingIds.{AscendWithin}
-use Rattle.cs_merge.specs.IdMap.{NewIds, new_id, new_ids_of, AreDisjoint, IsInjective, StayBelow}
-use Rattle.cs_merge.specs.ListMerge.{AreDistinctIds, IsMergedList}
-use Rattle.cs_trigram.specs.TrigramSets.{AreDistinct}
 use Rattle.cs_merge.proofs.IdMergeLemmas.{has_both}
 use Rattle.cs_merge.proofs.IdMapLemmas.{has_no_mapped, has_mapped, mapped_from}
-use Rattle.std.proofs.Math.Bool.{or-true}
+use Rattle.std.proofs.Math.Bool.{or-false}
 
 -- ---- how often a number occurs
 
@@ -72,70 +64,50 @@ none_before count next id (other ∷ ids) up h =
     ap (λ b. b || has ids id) (ne_eqb other id (λ e. absurd (omega (arith, e, from, h))))
     ∙ none_before count (other + 1) id ids up.2 (omega (arith, from, h))
 
-once_mapped : (new_ids : NewIds) (count next : ℕ) (ids : List ℕ) → IsInjective new_ids → AscendWithin count next ids → AreDistinct (new_ids_of new_ids ids)
+once_mapped : (new_ids : NewIds) (count next : ℕ) (ids : List ℕ) → IsInjective new_ids → AscendWithin count next ids →
+    AreDistinct (new_ids_of new_ids ids)
 once_mapped new_ids count next [] once up = tt
 once_mapped new_ids count next (id ∷ ids) once up = by_new (new_id new_ids id) refl (once_mapped new_ids count (id + 1) ids once up.2)
   where
-    by_new : (o : Option ℕ) → new_id new_ids id ≡ o → AreDistinct (new_ids_of new_ids ids) → AreDistinct (cons_option o (new_ids_of new_ids ids))
+    by_new : (o : Option ℕ) → new_id new_ids id ≡ o → AreDistinct (new_ids_of new_ids ids) →
+        AreDistinct (cons_option o (new_ids_of new_ids ids))
     by_new None e rest = rest
     by_new (Some new) e rest = (has_mapped new_ids ids id new once e ∙ none_before count (id + 1) id ids up.2 (omega arith), rest)
 
-once_both : (ns more : List ℕ) → AreDistinct ns → AreDistinct more → ((n : ℕ) → has ns n ≡ true → has more n ≡ false) → AreDistinct (ns ++ more)
+once_both : (ns more : List ℕ) → AreDistinct ns → AreDistinct more → ((n : ℕ) → has ns n ≡ true → has more n ≡ false) →
+    AreDistinct (ns ++ more)
 once_both [] more once again apart = again
 once_both (m ∷ ns) more once again apart = (
   has_both ns more m ∙ ap (λ b. b || has more m) once.0 ∙ apart m (ap (λ b. b || has ns m) (eq-eqb m m refl)),
   once_both ns more once.1 again (λ n h. apart n (ap (λ b. eqb m n || b) h ∙ or-true (eqb m n))),
 )
 
-pub new_ids_of_both : (count some others : ℕ) (older newer : NewIds) (ids more : List ℕ) → IsInjective older → IsInjective newer → AreDisjoint older newer → StayBelow count older → StayBelow count newer → AscendWithin some 0 ids → AscendWithin others 0 more → AreDistinctIds count (new_ids_of older ids ++ new_ids_of newer more)
+pub new_ids_of_both : (count some others : ℕ) (older newer : NewIds) (ids more : List ℕ) → IsInjective older →
+    IsInjective newer → AreDisjoint older newer → StayBelow count older → StayBelow count newer →
+    AscendWithin some 0 ids → AscendWithin others 0 more →
+    AreDistinctIds count (new_ids_of older ids ++ new_ids_of newer more)
 new_ids_of_both count some others older newer ids more once newer_once apart below newer_below up newer_up = record {
-  below = λ id h. elim (or_cases (has (new_ids_of older ids) id) (has (new_ids_of newer more) id) (sym (has_both (new_ids_of older ids) (new_ids_of newer more) id) ∙ h)) [
-    | inl here ↦ let from = mapped_from older ids id here in below from.0 id from.1
-    | inr there ↦ let from = mapped_from newer more id there in newer_below from.0 id from.1
-  ];
-  once = once_both (new_ids_of older ids) (new_ids_of newer more) (once_mapped older some 0 ids once up) (once_mapped newer others 0 more newer_once newer_up)
+  below = λ id h. elim (or_cases (has (new_ids_of older ids) id) (has (new_ids_of newer more) id)
+      (sym (has_both (new_ids_of older ids) (new_ids_of newer more) id) ∙ h)) [
+        | inl here ↦ let from = mapped_from older ids id here in below from.0 id from.1
+        | inr there ↦ let from = mapped_from newer more id there in newer_below from.0 id from.1
+      ];
+  once = once_both (new_ids_of older ids) (new_ids_of newer more) (once_mapped older some 0 ids once up)
+      (once_mapped newer others 0 more newer_once newer_up)
       (λ n h. let from = mapped_from older ids n h in has_no_mapped newer more n (λ other e. apart from.0 other n from.1 e));
 }
 
--- ---- ids written one by one
-
-pub given_none : (trigram : ℕ) (before now : Written) (ids : List ℕ) → AscendWithin (length before.names) 0 ids → now ≡ with_list before trigram → IsMergedList trigram before now ids [] ids []
-given_none trigram before now ids up e = record {
-  given = [];
-  paths = ap (λ (l : Written). l.paths) e;
-  names = ap (λ (l : Written). l.names) e;
-  lists = ap (λ (l : Written). l.lists) e ∙ sym (append-nil before.lists);
-  sent = ap (λ (l : Written). l.sent) e;
-  each = λ id. refl;
-  older_rise = up;
-  newer_rise = tt;
-}
-
-pub nothing_given : (trigram : ℕ) (written : Written) (ids : List ℕ) → ids ≡ [] → IsMergedList trigram written written ids [] [] []
-nothing_given trigram written ids e = record {
-  given = [];
-  paths = refl;
-  names = refl;
-  lists = sym (append-nil written.lists);
-  sent = refl;
-  each = λ id. sym (ap (λ ns. has ns id || false) e);
-  older_rise = tt;
-  newer_rise = tt;
-}
-
 -- sorted ids are the ids of both lists
-pub given_sorted : (trigram : ℕ) (before now : Written) (sorted older newer : List ℕ) → ((n : ℕ) → has sorted n ≡ has (older ++ newer) n) → IsMergedList trigram before now sorted [] [] [] → IsMergedList trigram before now older newer [] []
+pub given_sorted : (trigram : ℕ) (before now : Written) (sorted older newer : List ℕ) →
+    ((n : ℕ) → has sorted n ≡ has (older ++ newer) n) → IsMergedList trigram before now sorted [] [] [] →
+    IsMergedList trigram before now older newer [] []
 given_sorted trigram before now sorted older newer same given = record {
   given = given.given;
   paths = given.paths;
   names = given.names;
   lists = given.lists;
   sent = given.sent;
-  each = λ id. given.each id ∙ or_none (has sorted id) ∙ same id ∙ has_both older newer id;
+  each = λ id. given.each id ∙ or-false (has sorted id) ∙ same id ∙ has_both older newer id;
   older_rise = tt;
   newer_rise = tt;
 }
-  where
-    or_none : (b : Bool) → (b || false) ≡ b
-    or_none true = refl
-    or_none false = refl

@@ -1,10 +1,6 @@
 -- Worked examples of the merge.
-use Rattle.std.proofs.Common.{◌≡◌, ℕ, true, false, List, [], ◌∷◌, Some, None, refl}
-use Rattle.std.specs.Prelude.{codes}
-use Rattle.cs_tree.specs.Folders.{are_distinct}
-use Rattle.cs_tree.specs.NamesAscending.{are_ascending}
-use Rattle.cs_merge.specs.SortedNames.{names_in_order}
-use Rattle.cs_merge.specs.IdMap.{NewIds, new_ids_of}
+use Rattle.std.proofs.Common.{◌≡◌, ℕ, true, false, List, [], ◌∷◌, Some, None, refl, codes}
+use Rattle.cs_merge.proofs.Common.{are_distinct, are_ascending, names_in_order, NewIds, new_ids_of}
 
 -- the names of an index in the order of a walk
 abbrev walk_order : List (List ℕ)

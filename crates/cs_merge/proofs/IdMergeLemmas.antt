@@ -1,26 +1,12 @@
 -- The merge of two lists by id.
 use Rattle.std.proofs.Common.{◌≡◌, ◌≢◌, ℕ, ◌+◌, ◌<◌, ◌≤◌, Bool, true, false, cond, ◌||◌, eqb, ltb, List, [], ◌∷◌, ◌++◌, length, refl, sym, ap, subst, ◌∙◌, ◌⊎◌, inl, inr, Option, Some, None, arith, slice_get, append_assoc, length-append}
-use Rattle.std.proofs.lemmas.Bool.{cases_Bool, cases_eq, eqb-true, eq-eqb, ne_eqb, ltb-true, ltb-false}
-use Rattle.std.proofs.lemmas.Option.{same_Some}
-use Rattle.std.proofs.lemmas.List.{append-nil}
-use Rattle.std.specs.List.{AllByRecursion}
-use Rattle.std.specs.Option.{option_map_or}
-use Rattle.cs_index.specs.Encoding.{PostingList}
+use Rattle.cs_merge.proofs.Common.{cases_Bool, cases_eq, eqb-true, eq-eqb, ne_eqb, ltb-true, ltb-false, same_Some, append-nil, AllByRecursion, option_map_or, PostingList, has, ids_of, with_id, Written, AllBelow, last_ids, with_written_id, with_last_id, with_last_ids, next_after, AscendWithin, ids_onward, list_of, lower_of, without_number, IsRunOfEither, of_older, of_newer, IsMergedList, or-true, none-some}
 use Rattle.cs_index.proofs.postings.EncodedRuns.{onward_last}
-use Rattle.cs_trigram.specs.Trigram.{has}
-use Rattle.cs_index.specs.Written.{ids_of, with_id, Written, AllBelow, last_ids, with_written_id, with_last_id, with_last_ids}
-use Rattle.cs_index.specs.AscendingIds.{next_after, AscendWithin, ids_onward}
-use Rattle.cs_index.specs.Gathering.{list_of}
-use Rattle.cs_merge.specs.ListMerge.{lower_of, without_number, IsRunOfEither, of_older, of_newer, IsMergedList}
 use Rattle.cs_merge.proofs.TrigramSetLemmas.{with_one_more, ids_of_more}
 use Rattle.cs_index.proofs.postings.StreamPush.{next_append}
-use Rattle.std.proofs.Math.Bool.{or-true}
-
--- what follows ascending ids begins after them
-rise_behind : (name_count next : ℕ) (xs ys : List ℕ) → AscendWithin name_count next (xs ++ ys) →
-    AscendWithin name_count (next_after next xs) ys
-rise_behind name_count next [] ys up = up
-rise_behind name_count next (x ∷ xs) ys up = rise_behind name_count (x + 1) xs ys up.2
+use Rattle.std.proofs.Math.Bool.{or-false}
+use Rattle.cs_trigram.proofs.SetLemmas.{has-append}
+use Rattle.cs_index.proofs.writer.ListsBelow.{rise_behind}
 
 -- ---- the lower of two first ids
 
@@ -61,21 +47,21 @@ none_left [] (b ∷ bs) e = cc
 none_left (a ∷ xs) [] e = cc
 none_left (a ∷ xs) (b ∷ bs) e =
     elim (cases_Bool (ltb b a)) [
-      | inl lower ↦ absurd (some_none b (sym (ap (λ t. cond t (Some b) (Some a)) lower) ∙ e))
-      | inr from ↦ absurd (some_none a (sym (ap (λ t. cond t (Some b) (Some a)) from) ∙ e))
+      | inl lower ↦ absurd (none-some b (sym (sym (ap (λ t. cond t (Some b) (Some a)) lower) ∙ e)))
+      | inr from ↦ absurd (none-some a (sym (sym (ap (λ t. cond t (Some b) (Some a)) from) ∙ e)))
     ]
-  where
-    some_none : (n : ℕ) → Some n ≡ None → ⊥
-    some_none n f = cc
 
 -- ---- a list without its first id
 
-rise_without : (count next id : ℕ) (ids : List ℕ) → AscendWithin count next ids → AtLeast id ids → AscendWithin count (id + 1) (without_number id ids)
+rise_without : (count next id : ℕ) (ids : List ℕ) → AscendWithin count next ids → AtLeast id ids →
+    AscendWithin count (id + 1) (without_number id ids)
 rise_without count next id [] up from = tt
 rise_without count next id (one ∷ ids) up from =
     elim (cases_eq one id) [
-      | inl is ↦ subst (λ b. AscendWithin count (id + 1) (cond b ids (one ∷ ids))) (sym (eq-eqb one id is)) (subst (λ n. AscendWithin count (n + 1) ids) is up.2)
-      | inr differs ↦ subst (λ b. AscendWithin count (id + 1) (cond b ids (one ∷ ids))) (sym (ne_eqb one id differs)) (omega (arith, from, differs), up.1, up.2)
+      | inl is ↦ subst (λ b. AscendWithin count (id + 1) (cond b ids (one ∷ ids))) (sym (eq-eqb one id is))
+          (subst (λ n. AscendWithin count (n + 1) ids) is up.2)
+      | inr differs ↦ subst (λ b. AscendWithin count (id + 1) (cond b ids (one ∷ ids))) (sym (ne_eqb one id differs))
+          (omega (arith, from, differs), up.1, up.2)
     ]
 
 has_without : (id n : ℕ) (ids : List ℕ) → eqb id n ≡ false → has (without_number id ids) n ≡ has ids n
@@ -93,35 +79,26 @@ has_first [] id n there is = cc
 has_first (one ∷ ids) id n there is = ap (λ b. b || has ids n) (ap (λ m. eqb m n) (same_Some one id there) ∙ is)
 
 has_push : (ids : List ℕ) (id n : ℕ) → has (ids ++ id ∷ []) n ≡ (has ids n || eqb id n)
-has_push [] id n = or_none (eqb id n)
-  where
-    or_none : (b : Bool) → (b || false) ≡ b
-    or_none true = refl
-    or_none false = refl
-has_push (one ∷ ids) id n = ap (λ b. eqb one n || b) (has_push ids id n) ∙ sym (or_assoc (eqb one n) (has ids n) (eqb id n))
-  where
-    or_assoc : (a b c : Bool) → ((a || b) || c) ≡ (a || (b || c))
-    or_assoc true b c = refl
-    or_assoc false b c = refl
+has_push ids id n = has-append n ids (id ∷ []) ∙ ap (λ b. has ids n || b) (or-false (eqb id n))
 
 next_after_push : (next id : ℕ) (ids : List ℕ) → next_after next (ids ++ id ∷ []) ≡ id + 1
 next_after_push next id [] = refl
 next_after_push next id (one ∷ ids) = next_after_push (one + 1) id ids
 
 -- the id is moved from the remaining ids to the written ids
-each_more : (given some others : List ℕ) (id n : ℕ) → IsLowest id some others → (has (given ++ id ∷ []) n || (has (without_number id some) n || has (without_number id others) n)) ≡ (has given n || (has some n || has others n))
+each_more : (given some others : List ℕ) (id n : ℕ) → IsLowest id some others →
+    (has (given ++ id ∷ []) n || (has (without_number id some) n || has (without_number id others) n))
+    ≡ (has given n || (has some n || has others n))
 each_more given some others id n least =
     elim (cases_Bool (eqb id n)) [
       | inl is ↦
-          ap (λ b. b || (has (without_number id some) n || has (without_number id others) n)) (has_push given id n ∙ ap (λ b. has given n || b) is ∙ or-true (has given n))
+          ap (λ b. b || (has (without_number id some) n || has (without_number id others) n))
+          (has_push given id n ∙ ap (λ b. has given n || b) is ∙ or-true (has given n))
           ∙ sym (ap (λ b. has given n || b) (found least.among is) ∙ or-true (has given n))
-      | inr differs ↦ λ i. (has_push given id n ∙ ap (λ b. has given n || b) differs ∙ or_none (has given n)) i || (has_without id n some differs i || has_without id n others differs i)
+      | inr differs ↦ λ i. (has_push given id n ∙ ap (λ b. has given n || b) differs ∙ or-false (has given n)) i
+          || (has_without id n some differs i || has_without id n others differs i)
     ]
   where
-    or_none : (b : Bool) → (b || false) ≡ b
-    or_none true = refl
-    or_none false = refl
-
     found : (slice_get some 0 ≡ Some id) ⊎ (slice_get others 0 ≡ Some id) → eqb id n ≡ true → (has some n || has others n) ≡ true
     found (inl there) is = ap (λ b. b || has others n) (has_first some id n there is)
     found (inr there) is = ap (λ b. has some n || b) (has_first others id n there is) ∙ or-true (has some n)
@@ -136,29 +113,30 @@ first_rises count next id (one ∷ ids) up there =
 
 -- ---- one more id
 
-module _ (trigram : ℕ) (before now : Written) (older newer older_left newer_left : List ℕ) (state : IsMergedList trigram before now older newer older_left newer_left) (below : AllBelow before.lists trigram) (begun : now.last_trigram ≡ Some trigram) (id : ℕ) (next : lower_of (slice_get older_left 0) (slice_get newer_left 0) ≡ Some id) where
+module _ (trigram : ℕ) (before now : Written) (older newer older_left newer_left : List ℕ)
+    (state : IsMergedList trigram before now older newer older_left newer_left) (below : AllBelow before.lists trigram)
+    (begun : now.last_trigram ≡ Some trigram) (id : ℕ)
+    (next : lower_of (slice_get older_left 0) (slice_get newer_left 0) ≡ Some id) where
   bounds : (next_after 0 state.given ≤ id) × (id < length before.names)
-  bounds = by_index (lowest older_left newer_left id next).among
-    where
-      by_index : (slice_get older_left 0 ≡ Some id) ⊎ (slice_get newer_left 0 ≡ Some id) → (next_after 0 state.given ≤ id) × (id < length before.names)
-      by_index (inl there) = first_rises (length before.names) (next_after 0 state.given) id older_left state.older_rise there
-      by_index (inr there) = first_rises (length before.names) (next_after 0 state.given) id newer_left state.newer_rise there
+  bounds = elim (lowest older_left newer_left id next).among [
+    | inl there ↦ first_rises (length before.names) (next_after 0 state.given) id older_left state.older_rise there
+    | inr there ↦ first_rises (length before.names) (next_after 0 state.given) id newer_left state.newer_rise there
+  ]
 
   pub is_begun : now.last_trigram ≢ None
-  is_begun = λ e. none (sym begun ∙ e)
-    where
-      none : Some trigram ≡ None → ⊥
-      none f = cc
+  is_begun = λ e. none-some trigram (sym (sym begun ∙ e))
 
   pub is_named : id < length now.names
   is_named = subst (λ (names : List (List ℕ)). id < length names) (sym state.names) bounds.1
 
   pub is_next : next_after 0 (last_ids now) ≤ id
   is_next =
-      let ids : last_ids now ≡ state.given = ap (λ o. option_map_or (ids_of now.lists) o []) begun ∙ ap (λ lists. ids_of lists trigram) state.lists ∙ ids_of_more trigram before.lists state.given below in
+      let ids : last_ids now ≡ state.given = ap (λ o. option_map_or (ids_of now.lists) o []) begun
+      ∙ ap (λ lists. ids_of lists trigram) state.lists ∙ ids_of_more trigram before.lists state.given below in
       subst (λ ids. next_after 0 ids ≤ id) (sym ids) bounds.0
 
-  pub given_more : (after : Written) → after ≡ with_last_id now id → IsMergedList trigram before after older newer (without_number id older_left) (without_number id newer_left)
+  pub given_more : (after : Written) → after ≡ with_last_id now id → IsMergedList trigram before after older newer
+      (without_number id older_left) (without_number id newer_left)
   given_more after e =
       let least = lowest older_left newer_left id next in
       let is : after ≡ with_written_id now trigram id = e ∙ ap (λ o. option_map_or (λ g. with_written_id now g id) o now) begun in
@@ -167,45 +145,51 @@ module _ (trigram : ℕ) (before now : Written) (older newer older_left newer_le
         given = state.given ++ id ∷ [];
         paths = ap (λ (l : Written). l.paths) is ∙ state.paths;
         names = ap (λ (l : Written). l.names) is ∙ state.names;
-        lists = ap (λ (l : Written). l.lists) is ∙ ap (λ lists. with_id lists trigram id) state.lists ∙ with_one_more trigram id before.lists state.given below;
+        lists = ap (λ (l : Written). l.lists) is ∙ ap (λ lists. with_id lists trigram id) state.lists
+            ∙ with_one_more trigram id before.lists state.given below;
         sent = ap (λ (l : Written). l.sent) is ∙ state.sent;
         each = λ n. each_more state.given older_left newer_left id n least ∙ state.each n;
-        older_rise = subst (λ m. AscendWithin (length before.names) m (without_number id older_left)) last (rise_without (length before.names) (next_after 0 state.given) id older_left state.older_rise least.some_from);
-        newer_rise = subst (λ m. AscendWithin (length before.names) m (without_number id newer_left)) last (rise_without (length before.names) (next_after 0 state.given) id newer_left state.newer_rise least.others_from);
+        older_rise = subst (λ m. AscendWithin (length before.names) m (without_number id older_left)) last
+            (rise_without (length before.names) (next_after 0 state.given) id older_left state.older_rise
+            least.some_from);
+        newer_rise = subst (λ m. AscendWithin (length before.names) m (without_number id newer_left)) last
+            (rise_without (length before.names) (next_after 0 state.given) id newer_left state.newer_rise
+            least.others_from);
       }
 
   pub still_begun : (after : Written) → after ≡ with_last_id now id → after.last_trigram ≡ Some trigram
-  still_begun after e = ap (λ (l : Written). l.last_trigram) (e ∙ ap (λ o. option_map_or (λ g. with_written_id now g id) o now) begun) ∙ begun
+  still_begun after e = ap (λ (l : Written). l.last_trigram)
+      (e ∙ ap (λ o. option_map_or (λ g. with_written_id now g id) o now) begun) ∙ begun
 
 -- ---- runs
 
 pub has_both : (ids more : List ℕ) (n : ℕ) → has (ids ++ more) n ≡ (has ids n || has more n)
-has_both [] more n = refl
-has_both (one ∷ ids) more n = ap (λ b. eqb one n || b) (has_both ids more n) ∙ sym (or_assoc (eqb one n) (has ids n) (has more n))
-  where
-    or_assoc : (a b c : Bool) → ((a || b) || c) ≡ (a || (b || c))
-    or_assoc true b c = refl
-    or_assoc false b c = refl
+has_both ids more n = has-append n ids more
 
 rise_ends : (count next : ℕ) (ids more : List ℕ) → next ≤ count → AscendWithin count next (ids ++ more) → next_after next ids ≤ count
 rise_ends count next [] more within up = within
 rise_ends count next (one ∷ ids) more within up = rise_ends count (one + 1) ids more (omega (arith, up.1)) up.2
 
 -- a run of ids below a number ends at or before that number
-pub next_below : (id next most : ℕ) (run : List ℕ) → next ≤ most → AllByRecursion (λ other. id + 1 + other < most) run → next_after next (ids_onward (id + 1) run) ≤ most
+pub next_below : (id next most : ℕ) (run : List ℕ) → next ≤ most → AllByRecursion (λ other. id + 1 + other < most) run →
+    next_after next (ids_onward (id + 1) run) ≤ most
 next_below id next most [] within all = within
 next_below id next most (one ∷ run) within all =
     let below : id + 1 + one < most = all.0 in
     next_below id (id + 1 + one + 1) most run (omega (arith, below)) all.1
 
 -- the remaining ids of the other list are above the run
-others_behind : (count id : ℕ) (run others : List ℕ) → AtLeast id others → AscendWithin count (id + 1) (without_number id others) → ((most : ℕ) → slice_get others 0 ≡ Some most → AllByRecursion (λ other. id + 1 + other < most) run) → AscendWithin count (next_after (id + 1) (ids_onward (id + 1) run)) (without_number id others)
+others_behind : (count id : ℕ) (run others : List ℕ) → AtLeast id others →
+    AscendWithin count (id + 1) (without_number id others) →
+    ((most : ℕ) → slice_get others 0 ≡ Some most → AllByRecursion (λ other. id + 1 + other < most) run) →
+    AscendWithin count (next_after (id + 1) (ids_onward (id + 1) run)) (without_number id others)
 others_behind count id [] others from up below = up
 others_behind count id (one ∷ run) [] from up below = tt
 others_behind count id (one ∷ run) (other ∷ others) from up below =
     let all = below other refl in
     let first : id + 1 + one < other = all.0 in
-    let differs : cond (eqb other id) others (other ∷ others) ≡ other ∷ others = ap (λ b. cond b others (other ∷ others)) (ne_eqb other id (λ e. absurd (omega (arith, e, first)))) in
+    let differs : cond (eqb other id) others (other ∷ others) ≡ other ∷ others =
+    ap (λ b. cond b others (other ∷ others)) (ne_eqb other id (λ e. absurd (omega (arith, e, first)))) in
     let up' : AscendWithin count (id + 1) (other ∷ others) = subst (AscendWithin count (id + 1)) differs up in
     subst (AscendWithin count (next_after (id + 1) (ids_onward (id + 1) (one ∷ run)))) (sym differs)
     (next_below id (id + 1) other (one ∷ run) (omega (arith, first)) all, up'.1, up'.2)
@@ -222,7 +206,16 @@ given_newer false true true newer = refl
 given_newer false true false newer = refl
 given_newer false false older newer = refl
 
-with_more : (trigram : ℕ) (now : Written) (lists : List PostingList) (given more : List ℕ) → now.last_trigram ≡ Some trigram → now.lists ≡ lists ++ list_of trigram given → AllBelow lists trigram → with_last_ids now more ≡ record { paths = now.paths; names = now.names; lists = lists ++ list_of trigram (given ++ more); last_trigram = now.last_trigram; sent = now.sent }
+with_more : (trigram : ℕ) (now : Written) (lists : List PostingList) (given more : List ℕ) → now.last_trigram
+    ≡ Some trigram → now.lists ≡ lists ++ list_of trigram given → AllBelow lists trigram → with_last_ids now more
+    ≡ record {
+      paths = now.paths;
+      names = now.names;
+      lists = lists ++ list_of trigram (given ++ more);
+      last_trigram =
+          now.last_trigram;
+      sent = now.sent;
+    }
 with_more trigram now lists given [] begun is below = λ i. record {
   paths = now.paths;
   names = now.names;
@@ -232,11 +225,22 @@ with_more trigram now lists given [] begun is below = λ i. record {
 }
 with_more trigram now lists given (id ∷ more) begun is below =
     ap (λ (l : Written). with_last_ids l more) (ap (λ o. option_map_or (λ g. with_written_id now g id) o now) begun)
-    ∙ with_more trigram (with_written_id now trigram id) lists (given ++ id ∷ []) more begun (ap (λ ps. with_id ps trigram id) is ∙ with_one_more trigram id lists given below) below
-    ∙ ap (λ ids. let l : Written = record { paths = now.paths; names = now.names; lists = lists ++ list_of trigram ids; last_trigram = now.last_trigram; sent = now.sent } in l) (append_assoc given (id ∷ []) more)
+    ∙ with_more trigram (with_written_id now trigram id) lists (given ++ id ∷ []) more begun
+    (ap (λ ps. with_id ps trigram id) is ∙ with_one_more trigram id lists given below) below
+    ∙ ap (λ ids. let l : Written = record {
+      paths = now.paths;
+      names = now.names;
+      lists = lists ++ list_of trigram ids;
+      last_trigram = now.last_trigram;
+      sent = now.sent;
+    } in l) (append_assoc given (id ∷ []) more)
 
 -- the run of the lowest id is written
-module _ (trigram : ℕ) (before now written : Written) (older newer older_left newer_left : List ℕ) (state : IsMergedList trigram before now older newer older_left newer_left) (below : AllBelow before.lists trigram) (begun : now.last_trigram ≡ Some trigram) (id : ℕ) (next : lower_of (slice_get older_left 0) (slice_get newer_left 0) ≡ Some id) (is : written ≡ with_last_id now id) (run older_rest newer_rest : List ℕ) (are : IsRunOfEither id run older_left newer_left older_rest newer_rest) where
+module _ (trigram : ℕ) (before now written : Written) (older newer older_left newer_left : List ℕ)
+    (state : IsMergedList trigram before now older newer older_left newer_left) (below : AllBelow before.lists trigram)
+    (begun : now.last_trigram ≡ Some trigram) (id : ℕ)
+    (next : lower_of (slice_get older_left 0) (slice_get newer_left 0) ≡ Some id) (is : written ≡ with_last_id now id)
+    (run older_rest newer_rest : List ℕ) (are : IsRunOfEither id run older_left newer_left older_rest newer_rest) where
   one : IsMergedList trigram before written older newer (without_number id older_left) (without_number id newer_left)
   one = given_more trigram before now older newer older_left newer_left state below begun id next written is
 
@@ -244,7 +248,8 @@ module _ (trigram : ℕ) (before now written : Written) (older newer older_left 
   begun_one = still_begun trigram before now older newer older_left newer_left state below begun id next written is
 
   ids_one : last_ids written ≡ one.given
-  ids_one = ap (λ o. option_map_or (ids_of written.lists) o []) begun_one ∙ ap (λ lists. ids_of lists trigram) one.lists ∙ ids_of_more trigram before.lists one.given below
+  ids_one = ap (λ o. option_map_or (ids_of written.lists) o []) begun_one ∙ ap (λ lists. ids_of lists trigram) one.lists
+      ∙ ids_of_more trigram before.lists one.given below
 
   next_one : next_after 0 one.given ≡ id + 1
   unfolding one given_more
@@ -277,18 +282,20 @@ module _ (trigram : ℕ) (before now written : Written) (older newer older_left 
   within = let b = bounds trigram before now older newer older_left newer_left state below begun id next in omega (arith, b.1)
 
   run_ends : next_after (id + 1) (ids_onward (id + 1) run) ≤ length before.names
-  run_ends = by_index are
-    where
-      by_index : IsRunOfEither id run older_left newer_left older_rest newer_rest → next_after (id + 1) (ids_onward (id + 1) run) ≤ length before.names
-      by_index (of_older r same) = rise_ends (length before.names) (id + 1) (ids_onward (id + 1) run) (without_number id older_rest) within (subst (AscendWithin (length before.names) (id + 1)) r.ids_are older_up)
-      by_index (of_newer r same) = rise_ends (length before.names) (id + 1) (ids_onward (id + 1) run) (without_number id newer_rest) within (subst (AscendWithin (length before.names) (id + 1)) r.ids_are newer_up)
+  run_ends = elim are [
+    | of_older r same ↦ rise_ends (length before.names) (id + 1) (ids_onward (id + 1) run)
+        (without_number id older_rest) within (subst (AscendWithin (length before.names) (id + 1)) r.ids_are older_up)
+    | of_newer r same ↦ rise_ends (length before.names) (id + 1) (ids_onward (id + 1) run)
+        (without_number id newer_rest) within (subst (AscendWithin (length before.names) (id + 1)) r.ids_are newer_up)
+  ]
 
   pub run_named : next_after 0 (last_ids written) + next_after 0 run ≤ length written.names
   run_named =
       let end : next_after (id + 1) (ids_onward (id + 1) run) ≡ id + 1 + next_after 0 run = onward_last (id + 1) run in
       omega (arith, last_one, run_ends, names, end)
 
-  pub run_given : (after : Written) → after ≡ with_last_ids written (ids_onward (next_after 0 (last_ids written)) run) → IsMergedList trigram before after older newer (without_number id older_rest) (without_number id newer_rest)
+  pub run_given : (after : Written) → after ≡ with_last_ids written (ids_onward (next_after 0 (last_ids written)) run) →
+      IsMergedList trigram before after older newer (without_number id older_rest) (without_number id newer_rest)
   run_given after e = record {
     given = one.given ++ ids;
     paths = ap (λ (l : Written). l.paths) all ∙ one.paths;
@@ -303,29 +310,49 @@ module _ (trigram : ℕ) (before now written : Written) (older newer older_left 
       ids : List ℕ
       ids = ids_onward (id + 1) run
 
-      all : after ≡ record { paths = written.paths; names = written.names; lists = before.lists ++ list_of trigram (one.given ++ ids); last_trigram = written.last_trigram; sent = written.sent }
-      all = e ∙ ap (λ n. with_last_ids written (ids_onward n run)) last_one ∙ with_more trigram written before.lists one.given ids begun_one one.lists below
+      all : after ≡ record {
+        paths = written.paths;
+        names = written.names;
+        lists =
+            before.lists ++ list_of trigram (one.given ++ ids);
+        last_trigram = written.last_trigram;
+        sent = written.sent;
+      }
+      all = e ∙ ap (λ n. with_last_ids written (ids_onward n run)) last_one ∙ with_more trigram written before.lists
+          one.given ids begun_one one.lists below
 
       ends : next_after 0 (one.given ++ ids) ≡ next_after (id + 1) ids
       ends = next_append 0 one.given ids ∙ ap (λ n. next_after n ids) next_one
 
-      by_each : IsRunOfEither id run older_left newer_left older_rest newer_rest → (n : ℕ) → (has (one.given ++ ids) n || (has (without_number id older_rest) n || has (without_number id newer_rest) n)) ≡ (has one.given n || (has (without_number id older_left) n || has (without_number id newer_left) n))
+      by_each : IsRunOfEither id run older_left newer_left older_rest newer_rest → (n : ℕ) →
+          (has (one.given ++ ids) n || (has (without_number id older_rest) n || has (without_number id newer_rest) n))
+          ≡ (has one.given n || (has (without_number id older_left) n || has (without_number id newer_left) n))
       by_each (of_older r same) n =
           ap (λ b. b || (has (without_number id older_rest) n || has (without_number id newer_rest) n)) (has_both one.given ids n)
           ∙ given_older (has one.given n) (has ids n) (has (without_number id older_rest) n) (has (without_number id newer_rest) n)
-          ∙ (λ i. has one.given n || ((sym (has_both ids (without_number id older_rest) n) ∙ ap (λ l. has l n) (sym r.ids_are)) i || has (without_number id (same i)) n))
+          ∙ (λ i. has one.given n || ((sym (has_both ids (without_number id older_rest) n)
+          ∙ ap (λ l. has l n) (sym r.ids_are)) i || has (without_number id (same i)) n))
       by_each (of_newer r same) n =
           ap (λ b. b || (has (without_number id older_rest) n || has (without_number id newer_rest) n)) (has_both one.given ids n)
           ∙ given_newer (has one.given n) (has ids n) (has (without_number id older_rest) n) (has (without_number id newer_rest) n)
-          ∙ (λ i. has one.given n || (has (without_number id (same i)) n || (sym (has_both ids (without_number id newer_rest) n) ∙ ap (λ l. has l n) (sym r.ids_are)) i))
+          ∙ (λ i. has one.given n || (has (without_number id (same i)) n
+          || (sym (has_both ids (without_number id newer_rest) n) ∙ ap (λ l. has l n) (sym r.ids_are)) i))
 
-      older_behind : IsRunOfEither id run older_left newer_left older_rest newer_rest → AscendWithin (length before.names) (next_after (id + 1) ids) (without_number id older_rest)
-      older_behind (of_older r same) = rise_behind (length before.names) (id + 1) ids (without_number id older_rest) (subst (AscendWithin (length before.names) (id + 1)) r.ids_are older_up)
-      older_behind (of_newer r same) = subst (λ l. AscendWithin (length before.names) (next_after (id + 1) ids) (without_number id l)) (sym same) (others_behind (length before.names) id run older_left least.some_from older_up r.below)
+      older_behind : IsRunOfEither id run older_left newer_left older_rest newer_rest →
+          AscendWithin (length before.names) (next_after (id + 1) ids) (without_number id older_rest)
+      older_behind (of_older r same) = rise_behind (length before.names) (id + 1) ids (without_number id older_rest)
+          (subst (AscendWithin (length before.names) (id + 1)) r.ids_are older_up)
+      older_behind (of_newer r same) = subst (λ l. AscendWithin (length before.names) (next_after (id + 1) ids)
+          (without_number id l)) (sym same) (others_behind (length before.names) id run older_left least.some_from
+          older_up r.below)
 
-      newer_behind : IsRunOfEither id run older_left newer_left older_rest newer_rest → AscendWithin (length before.names) (next_after (id + 1) ids) (without_number id newer_rest)
-      newer_behind (of_older r same) = subst (λ l. AscendWithin (length before.names) (next_after (id + 1) ids) (without_number id l)) (sym same) (others_behind (length before.names) id run newer_left least.others_from newer_up r.below)
-      newer_behind (of_newer r same) = rise_behind (length before.names) (id + 1) ids (without_number id newer_rest) (subst (AscendWithin (length before.names) (id + 1)) r.ids_are newer_up)
+      newer_behind : IsRunOfEither id run older_left newer_left older_rest newer_rest →
+          AscendWithin (length before.names) (next_after (id + 1) ids) (without_number id newer_rest)
+      newer_behind (of_older r same) = subst (λ l. AscendWithin (length before.names) (next_after (id + 1) ids)
+          (without_number id l)) (sym same) (others_behind (length before.names) id run newer_left least.others_from
+          newer_up r.below)
+      newer_behind (of_newer r same) = rise_behind (length before.names) (id + 1) ids (without_number id newer_rest)
+          (subst (AscendWithin (length before.names) (id + 1)) r.ids_are newer_up)
 
   -- fewer ids remain
   pub run_shorter : length (without_number id older_rest) + length (without_number id newer_rest) < length older_left + length newer_left
@@ -341,18 +368,33 @@ module _ (trigram : ℕ) (before now written : Written) (older newer older_left 
 
       shorter : (ids : List ℕ) → slice_get ids 0 ≡ Some id → length (without_number id ids) < length ids
       shorter [] there = cc
-      shorter (other ∷ ids) there = let e = ap (λ b. length (cond b ids (other ∷ ids))) (eq-eqb other id (same_Some other id there)) in omega (arith, e)
+      shorter (other ∷ ids) there = let e = ap (λ b. length (cond b ids (other ∷ ids)))
+          (eq-eqb other id (same_Some other id there)) in omega (arith, e)
 
-      behind : (ids rest : List ℕ) → without_number id ids ≡ ids_onward (id + 1) run ++ without_number id rest → length (without_number id rest) ≤ length (without_number id ids)
-      behind ids rest is = let long = ap length is in let both = length-append (ids_onward (id + 1) run) (without_number id rest) in omega (arith, long, both)
+      behind : (ids rest : List ℕ) → without_number id ids ≡ ids_onward (id + 1) run ++ without_number id rest →
+          length (without_number id rest) ≤ length (without_number id ids)
+      behind ids rest is = let long = ap length is in let both = length-append (ids_onward (id + 1) run)
+          (without_number id rest) in omega (arith, long, both)
 
-      by_index : (slice_get older_left 0 ≡ Some id) ⊎ (slice_get newer_left 0 ≡ Some id) → IsRunOfEither id run older_left newer_left older_rest newer_rest → length (without_number id older_rest) + length (without_number id newer_rest) < length older_left + length newer_left
-      by_index (inl there) (of_older r same) = let a = shorter older_left there in let b = behind older_left older_rest r.ids_are in let d = no_longer newer_left in let e = ap (λ ids. length (without_number id ids)) same in omega (arith, a, b, d, e)
-      by_index (inl there) (of_newer r same) = let a = shorter older_left there in let b = behind newer_left newer_rest r.ids_are in let d = no_longer newer_left in let e = ap (λ ids. length (without_number id ids)) same in omega (arith, a, b, d, e)
-      by_index (inr there) (of_older r same) = let a = shorter newer_left there in let b = behind older_left older_rest r.ids_are in let d = no_longer older_left in let e = ap (λ ids. length (without_number id ids)) same in omega (arith, a, b, d, e)
-      by_index (inr there) (of_newer r same) = let a = shorter newer_left there in let b = behind newer_left newer_rest r.ids_are in let d = no_longer older_left in let e = ap (λ ids. length (without_number id ids)) same in omega (arith, a, b, d, e)
+      by_index : (slice_get older_left 0 ≡ Some id) ⊎ (slice_get newer_left 0 ≡ Some id) →
+          IsRunOfEither id run older_left newer_left older_rest newer_rest → length (without_number id older_rest)
+          + length (without_number id newer_rest) < length older_left + length newer_left
+      by_index (inl there) (of_older r same) = let a = shorter older_left there in let b =
+          behind older_left older_rest r.ids_are in let d = no_longer newer_left in let e =
+          ap (λ ids. length (without_number id ids)) same in omega (arith, a, b, d, e)
+      by_index (inl there) (of_newer r same) = let a = shorter older_left there in let b =
+          behind newer_left newer_rest r.ids_are in let d = no_longer newer_left in let e =
+          ap (λ ids. length (without_number id ids)) same in omega (arith, a, b, d, e)
+      by_index (inr there) (of_older r same) = let a = shorter newer_left there in let b =
+          behind older_left older_rest r.ids_are in let d = no_longer older_left in let e =
+          ap (λ ids. length (without_number id ids)) same in omega (arith, a, b, d, e)
+      by_index (inr there) (of_newer r same) = let a = shorter newer_left there in let b =
+          behind newer_left newer_rest r.ids_are in let d = no_longer older_left in let e =
+          ap (λ ids. length (without_number id ids)) same in omega (arith, a, b, d, e)
 
-  pub run_begun : (after : Written) → after ≡ with_last_ids written (ids_onward (next_after 0 (last_ids written)) run) → after.last_trigram ≡ Some trigram
+  pub run_begun : (after : Written) → after ≡ with_last_ids written (ids_onward (next_after 0 (last_ids written)) run) →
+      after.last_trigram ≡ Some trigram
   run_begun after e =
-      ap (λ (l : Written). l.last_trigram) (e ∙ ap (λ n. with_last_ids written (ids_onward n run)) last_one ∙ with_more trigram written before.lists one.given (ids_onward (id + 1) run) begun_one one.lists below)
+      ap (λ (l : Written). l.last_trigram) (e ∙ ap (λ n. with_last_ids written (ids_onward n run)) last_one
+      ∙ with_more trigram written before.lists one.given (ids_onward (id + 1) run) begun_one one.lists below)
       ∙ begun_one

@@ -1,18 +1,12 @@
 -- Runs of ids.
-use Rattle.std.proofs.Common.{◌≡◌, ℕ, ◌+◌, ◌-◌, ◌<◌, ◌≤◌, cond, min, List, [], ◌∷◌, ◌++◌, length, refl, sym, ap, subst, ◌∙◌, inl, inr, Option, Some, None, arith, slice_get}
-use Rattle.std.proofs.lemmas.Bool.{cases_lt, eq-eqb}
-use Rattle.std.specs.List.{cons_option, AllByRecursion}
-use Rattle.std.specs.Prelude.{option_map}
-use Rattle.cs_index.specs.PostingLists.{Ids}
-use Rattle.cs_index.specs.AscendingIds.{ids_onward}
-use Rattle.cs_merge.specs.IdMap.{NewIds, new_id, new_ids_of, AreRunEnds, IsRun}
-use Rattle.cs_merge.specs.ListMerge.{without_number, IsMappedPostings, IsRunOf}
+use Rattle.std.proofs.Common.{◌≡◌, ℕ, ◌+◌, ◌-◌, ◌<◌, ◌≤◌, cond, min, List, [], ◌∷◌, ◌++◌, length, refl, sym, ap, subst, ◌∙◌, inl, inr, Option, Some, None, arith, slice_get, option_map}
+use Rattle.cs_merge.proofs.Common.{cases_lt, eq-eqb, cons_option, AllByRecursion, Ids, ids_onward, NewIds, new_id, new_ids_of, AreRunEnds, IsRun, without_number, IsMappedPostings, IsRunOf, all_weaker, none-some}
 use Rattle.cs_merge.proofs.IdMapLemmas.{get_push}
-use Rattle.cs_trigram.proofs.SetLemmas.{all_weaker}
 
 -- ---- distances within a run
 
-further : (a b c : ℕ) (o : Option ℕ) → a + b ≡ c → option_map (λ new. new + b) (option_map (λ new. new + a) o) ≡ option_map (λ new. new + c) o
+further : (a b c : ℕ) (o : Option ℕ) → a + b ≡ c → option_map (λ new. new + b) (option_map (λ new. new + a) o)
+    ≡ option_map (λ new. new + c) o
 further a b c None e = refl
 further a b c (Some n) e = let z : n + a + b ≡ n + c = omega (arith, e) in ap Some z
 
@@ -66,7 +60,9 @@ module _ (new_ids : NewIds) where
   mapped_run last end new (id ∷ run) rest is together all =
       let below : last + 1 + id < end = all.0 in
       let at : new + (last + 1 + id - last) ≡ new + 1 + id = omega arith in
-      ap (λ o. cons_option o (new_ids_of new_ids (ids_onward (last + 1) run ++ rest))) (together (last + 1 + id) (omega arith) below ∙ ap (option_map (λ n. n + (last + 1 + id - last))) is ∙ ap Some at)
+      ap (λ o. cons_option o (new_ids_of new_ids (ids_onward (last + 1) run ++ rest)))
+      (together (last + 1 + id) (omega arith) below ∙ ap (option_map (λ n. n + (last + 1 + id - last))) is
+      ∙ ap Some at)
       ∙ ap (λ ids. (new + 1 + id) ∷ ids) (mapped_run last end new run rest is together all.1)
 
   -- a run of dropped ids
@@ -76,29 +72,27 @@ module _ (new_ids : NewIds) where
   mapped_none last end [] rest is together all = refl
   mapped_none last end (id ∷ run) rest is together all =
       let below : last + 1 + id < end = all.0 in
-      ap (λ o. cons_option o (new_ids_of new_ids (ids_onward (last + 1) run ++ rest))) (together (last + 1 + id) (omega arith) below ∙ ap (option_map (λ n. n + (last + 1 + id - last))) is)
+      ap (λ o. cons_option o (new_ids_of new_ids (ids_onward (last + 1) run ++ rest)))
+      (together (last + 1 + id) (omega arith) below ∙ ap (option_map (λ n. n + (last + 1 + id - last))) is)
       ∙ mapped_none last end run rest is together all.1
 
 -- ---- the run of the first id
 
-module _ (new_ids : NewIds) (first : Option ℕ) (last id : ℕ) (rest : Ids) (is : IsMappedPostings new_ids first last rest) (there : slice_get (cons_option first (new_ids_of new_ids rest.ids)) 0 ≡ Some id) where
+module _ (new_ids : NewIds) (first : Option ℕ) (last id : ℕ) (rest : Ids)
+    (is : IsMappedPostings new_ids first last rest)
+    (there : slice_get (cons_option first (new_ids_of new_ids rest.ids)) 0 ≡ Some id) where
   pub has_first : first ≡ Some id
   has_first = by_first first refl
     where
       by_first : (o : Option ℕ) → first ≡ o → first ≡ Some id
-      by_first None e = absurd (none (sym (λ i. slice_get (cons_option (e i) (new_ids_of new_ids ((is.end e).0 i))) 0) ∙ there))
-        where
-          none : None ≡ Some id → ⊥
-          none f = cc
+      by_first None e = absurd (none-some id (sym (λ i. slice_get (cons_option (e i) (new_ids_of new_ids ((is.end e).0 i))) 0) ∙ there))
       by_first (Some n) e = e ∙ sym (ap (λ o. slice_get (cons_option o (new_ids_of new_ids rest.ids)) 0) e) ∙ there
 
   pub still_mapped : (left : Ids) → IsMappedPostings new_ids first last left
-  still_mapped left = record { first_is = is.first_is; end = λ e. absurd (none (sym e ∙ has_first)) }
-    where
-      none : None ≡ Some id → ⊥
-      none f = cc
+  still_mapped left = record { first_is = is.first_is; end = λ e. absurd (none-some id (sym e ∙ has_first)) }
 
-  pub is_run : (limit : Option ℕ) (end most : ℕ) (run left : List ℕ) → rest.ids ≡ ids_onward (last + 1) run ++ left → IsRun new_ids last end →
+  pub is_run : (limit : Option ℕ) (end most : ℕ) (run left : List ℕ) → rest.ids ≡ ids_onward (last + 1) run ++ left →
+      IsRun new_ids last end →
       AllByRecursion (λ other. last + 1 + other < min end most) run → ((least : ℕ) → limit ≡ Some least → most ≤ last + (least - id)) →
       IsRunOf id limit run (cons_option first (new_ids_of new_ids rest.ids)) (cons_option first (new_ids_of new_ids left))
   is_run limit end most run left ids together all short =
@@ -112,5 +106,6 @@ module _ (new_ids : NewIds) (first : Option ℕ) (last id : ℕ) (rest : Ids) (i
             ∙ ap (λ ids. ids_onward (id + 1) run ++ ids)
             (sym (ap (λ b. cond b (new_ids_of new_ids left) (id ∷ new_ids_of new_ids left)) (eq-eqb id id refl))
             ∙ sym (ap (λ o. without_number id (cons_option o (new_ids_of new_ids left))) has_first));
-        below = λ least e. let h = short least e in all_weaker (λ other. last + 1 + other < min end most) (λ other. id + 1 + other < least) (λ n g. omega (arith, g, h)) run all;
+        below = λ least e. let h = short least e in all_weaker (λ other. last + 1 + other < min end most)
+            (λ other. id + 1 + other < least) (λ n g. omega (arith, g, h)) run all;
       }

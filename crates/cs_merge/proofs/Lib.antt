@@ -5,6 +5,7 @@ pub mod ReplacedLemmas
 pub mod OpeningLemmas
 pub mod SortedNamesLemmas
 pub mod StorableLemmas
+mod Common
 mod TrigramSetLemmas
 mod CoverLemmas
 mod Examples
@@ -14,7 +15,7 @@ mod MergeResultLemmas
 mod NameStepLemmas
 mod NextListLemmas
 mod IdMergeLemmas
-mod NameMergeLemmas
+pub mod NameMergeLemmas
 mod MergedFilesLemmas
 mod SortedRunLemmas
 mod ReadIdsLemmas

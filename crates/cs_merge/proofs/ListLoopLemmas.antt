@@ -1,20 +1,6 @@
 -- The merge of the lists of two indexes, trigram by trigram.
-use Rattle.std.proofs.Common.{◌≡◌, ℕ, ◌+◌, ◌<◌, true, ◌&&◌, List, [], length, refl, sym, ap, subst, ◌∙◌, Option, Some, None, Result, Ok}
-use Rattle.std.proofs.lemmas.Bool.{and_parts}
-use Rattle.std.specs.Prelude.{IfOk, OnOk}
-use Rattle.cs_index.specs.Encoding.{ListEntry}
-use Rattle.cs_index.specs.ListBuffers.{BufferState}
-use Rattle.cs_index.specs.OpenedParts.{Parts}
-use Rattle.cs_index.specs.PostingLists.{Ids}
-use Rattle.cs_index.specs.Postings.{IsListFault}
-use Rattle.cs_index.specs.ValidParts.{AreValidParts}
-use Rattle.cs_index.specs.Written.{Written, with_sent}
-use Rattle.cs_index.specs.declared.fault.IndexFault.{IndexFault}
-use Rattle.cs_merge.specs.declared.list_source.ListSource.{ListSource}
-use Rattle.cs_merge.specs.IdMap.{NewIds, new_ids_of, AreIdMaps}
-use Rattle.cs_merge.specs.ListMerge.{list_ids, list_trigram, lower_of, position_after, AreMergedLists, IsMergedList}
-use Rattle.cs_merge.specs.ListSources.{known_parts, source_ids, AreAllMerged, HasBuffer, IsListRead, IsMergingLists, IsSourceOf}
-use Rattle.cs_merge.specs.Mergeable.{both_whole}
+use Rattle.std.proofs.Common.{◌≡◌, ℕ, ◌+◌, ◌<◌, true, ◌&&◌, List, [], length, refl, sym, ap, subst, ◌∙◌, Option, Some, None, Result, Ok, IfOk, OnOk}
+use Rattle.cs_merge.proofs.Common.{and_parts, ListEntry, BufferState, Parts, Ids, IsListFault, AreValidParts, Written, with_sent, IndexFault, ListSource, NewIds, new_ids_of, AreIdMaps, list_ids, list_trigram, lower_of, position_after, AreMergedLists, IsMergedList, known_parts, source_ids, AreAllMerged, HasBuffer, IsListRead, IsMergingLists, IsSourceOf, both_whole}
 use Rattle.cs_merge.proofs.ListSourceLemmas.{entries_known, ids_same}
 use Rattle.cs_merge.proofs.TrigramMergeLemmas.{all_newer, all_older, all_whole, fault_of_list, left_more, listed_more, positions_move}
 
@@ -31,11 +17,14 @@ module _ (model : Option (List ℕ)) (source : ListSource) (newer : Parts) (olde
   Merging buffer before now a b = IsMergingLists model source buffer newer older_ids newer_ids before now a b
 
   -- all lists are merged
-  pub all_merged : (buffer : BufferState) (before now : Written) (a b : ℕ) → Merging buffer before now a b → lower_of (list_trigram (known_parts source) a) (list_trigram newer b) ≡ None
+  pub all_merged : (buffer : BufferState) (before now : Written) (a b : ℕ) → Merging buffer before now a b →
+      lower_of (list_trigram (known_parts source) a) (list_trigram newer b) ≡ None
       → (parts : Parts) → IsSourceOf model source parts → AreAllMerged parts newer older_ids newer_ids now.lists
   all_merged buffer before now a b so_far ends parts is =
       let state = so_far.known parts is in
-      let none : lower_of (list_trigram parts a) (list_trigram newer b) ≡ None = ap (λ es. lower_of (list_trigram (with_entries es) a) (list_trigram newer b)) (sym (entries_known model source parts is)) ∙ ends in
+      let none : lower_of (list_trigram parts a) (list_trigram newer b) ≡ None =
+      ap (λ es. lower_of (list_trigram (with_entries es) a) (list_trigram newer b))
+      (sym (entries_known model source parts is)) ∙ ends in
       record {
         older_sets = all_older parts newer older_ids newer_ids before now a b state none;
         newer_sets = all_newer parts newer older_ids newer_ids before now a b state none;
@@ -43,7 +32,8 @@ module _ (model : Option (List ℕ)) (source : ListSource) (newer : Parts) (olde
       }
 
   -- more lists are merged, and bytes are sent
-  pub merged_on : (buffer later : BufferState) (before now next after : Written) (a b c d : ℕ) → Merging buffer before now a b → Merging later now next c d
+  pub merged_on : (buffer later : BufferState) (before now next after : Written) (a b c d : ℕ) →
+      Merging buffer before now a b → Merging later now next c d
       → after ≡ with_sent next after.sent → Merging later before after c d
   merged_on buffer later before now next after a b c d so_far more e = subst (λ (l : Written). Merging later before l c d) (sym e) (record {
     paths = more.paths ∙ so_far.paths;
@@ -63,7 +53,9 @@ module _ (model : Option (List ℕ)) (source : ListSource) (newer : Parts) (olde
         };
   })
 
-  module _ (valid : AreValidParts (known_parts source)) (all_valid : (parts : Parts) → IsSourceOf model source parts → AreValidParts parts) (newer_valid : AreValidParts newer) (buffer : BufferState) (now : Written) (a b trigram : ℕ) (so_far : Merging buffer now now a b)
+  module _ (valid : AreValidParts (known_parts source)) (all_valid : (parts : Parts) → IsSourceOf model source parts →
+      AreValidParts parts) (newer_valid : AreValidParts newer) (buffer : BufferState) (now : Written) (a b trigram : ℕ)
+      (so_far : Merging buffer now now a b)
       (next : lower_of (list_trigram (known_parts source) a) (list_trigram newer b) ≡ Some trigram) where
     -- a position advances
     pub advances : a + b < position_after (known_parts source) a trigram + position_after newer b trigram
@@ -72,31 +64,40 @@ module _ (model : Option (List ℕ)) (source : ListSource) (newer : Parts) (olde
     module _ (later : BufferState) (has : HasBuffer model later) (read : AreListsRead model source later a) where
       -- one more trigram is merged
       pub merged_more : (after : Written) → AreIdMaps (length now.names) older_ids newer_ids
-          → IsMergedList trigram now after (new_ids_of older_ids (source_ids source later a trigram).ids) (new_ids_of newer_ids (list_ids newer b trigram).ids) [] []
+          → IsMergedList trigram now after (new_ids_of older_ids (source_ids source later a trigram).ids)
+          (new_ids_of newer_ids (list_ids newer b trigram).ids) [] []
           → ((source_ids source later a trigram).whole && (list_ids newer b trigram).whole) ≡ true
           → Merging later now after (position_after (known_parts source) a trigram) (position_after newer b trigram)
       merged_more after ids given whole = record {
         paths = given.paths;
         names = given.names;
-        left = left_more (known_parts source) newer a b valid newer_valid trigram now.lists so_far.left next given.given after.lists given.lists;
+        left = left_more (known_parts source) newer a b valid newer_valid trigram now.lists so_far.left next given.given
+            after.lists given.lists;
         buffered = has;
         known = λ parts is.
             let same = ids_same model source parts is later a (read parts is) trigram in
             let both = and_parts (source_ids source later a trigram).whole (list_ids newer b trigram).whole whole in
             let entries = sym (entries_known model source parts is) in
-            let next' : lower_of (list_trigram parts a) (list_trigram newer b) ≡ Some trigram = ap (λ es. lower_of (list_trigram (with_entries es) a) (list_trigram newer b)) entries ∙ next in
-            subst (λ (n : ℕ). AreMergedLists parts newer older_ids newer_ids now after n (position_after newer b trigram)) (ap (λ es. position_after (with_entries es) a trigram) entries)
-            (listed_more parts newer older_ids newer_ids now now a b (so_far.known parts is) (all_valid parts is) newer_valid trigram next' (length now.names) after
-            (new_ids_of older_ids (source_ids source later a trigram).ids) (new_ids_of newer_ids (list_ids newer b trigram).ids) ids (ap (λ (r : Ids). new_ids_of older_ids r.ids) same) refl
+            let next' : lower_of (list_trigram parts a) (list_trigram newer b) ≡ Some trigram =
+            ap (λ es. lower_of (list_trigram (with_entries es) a) (list_trigram newer b)) entries ∙ next in
+            subst (λ (n : ℕ). AreMergedLists parts newer older_ids newer_ids now after n
+            (position_after newer b trigram)) (ap (λ es. position_after (with_entries es) a trigram) entries)
+            (listed_more parts newer older_ids newer_ids now now a b (so_far.known parts is) (all_valid parts is)
+            newer_valid trigram next' (length now.names) after
+            (new_ids_of older_ids (source_ids source later a trigram).ids)
+            (new_ids_of newer_ids (list_ids newer b trigram).ids) ids
+            (ap (λ (r : Ids). new_ids_of older_ids r.ids) same) refl
             (ap (λ (r : Ids). r.whole) (sym same) ∙ both.0) both.1 given);
       }
 
       -- an error of a list of the trigram
-      pub merged_fault : (fault : IndexFault) → IsListFault ((source_ids source later a trigram).whole && (list_ids newer b trigram).whole) fault
+      pub merged_fault : (fault : IndexFault) →
+          IsListFault ((source_ids source later a trigram).whole && (list_ids newer b trigram).whole) fault
           → (parts : Parts) → IsSourceOf model source parts → IsListFault (both_whole parts newer) fault
       merged_fault fault is_fault parts is =
           let same = ids_same model source parts is later a (read parts is) trigram in
-          fault_of_list parts newer a b trigram (source_ids source later a trigram).whole (list_ids newer b trigram).whole fault (ap (λ (r : Ids). r.whole) same) refl is_fault
+          fault_of_list parts newer a b trigram (source_ids source later a trigram).whole
+          (list_ids newer b trigram).whole fault (ap (λ (r : Ids). r.whole) same) refl is_fault
 
 -- ---- nested results
 

@@ -1,25 +1,21 @@
 -- What the merge has at a name, and what the merged paths cover.
 use Rattle.std.proofs.Common.{◌≡◌, ℕ, Bool, true, false, not, cond, ◌||◌, List, refl, sym, ap, ◌∙◌, ◌⊎◌, inl, inr, Option, None, Some}
-use Rattle.cs_tree.specs.PathSet.{Paths}
-use Rattle.cs_tree.specs.NameOrder.{bytes_cmp}
-use Rattle.std.proofs.lemmas.Bool.{true≢false, or_cases, or_left, or_right}
-use Rattle.std.specs.Cmp.Lexicographic.{nat_list_cmp_total}
+use Rattle.cs_merge.proofs.Common.{Paths, bytes_cmp, true≢false, or_cases, or_left, or_right, nat_list_cmp_total, is_covered, least, alike, find-append, contains-union, option_or, merge_files, merge_paths}
 use Rattle.std.specs.FinMap as map
 use Rattle.cs_tree.specs.PathSet as set
-use Rattle.cs_tree.specs.Cover.{is_covered, least}
-use Rattle.cs_tree.proofs.PathSetLemmas.{alike, find-append, contains-union}
-use Rattle.std.specs.Option.{option_or}
 use Rattle.cs_tree.proofs.LeastLemmas.{least_says, least_is_unique, covered-least, covered-union}
-use Rattle.cs_merge.specs.Merge.{merge_files, merge_paths}
 use Rattle.cs_merge.specs.Replacing.{IsCoveredBy}
 
 module _ {X : Type 0} where
-  pub get-merge_files : (paths : Paths) (old newer : map.FinMap bytes_cmp X) (name : List ℕ) → map.get (merge_files paths old newer) name ≡ option_or (map.get newer name) (cond (not (is_covered paths name)) (map.get old name) None)
+  pub get-merge_files : (paths : Paths) (old newer : map.FinMap bytes_cmp X) (name : List ℕ) →
+      map.get (merge_files paths old newer) name ≡ option_or (map.get newer name)
+      (cond (not (is_covered paths name)) (map.get old name) None)
   get-merge_files paths old newer name =
       map.get-from_entries nat_list_cmp_total _ name
       ∙ find-append name (map.entries newer) (map.entries kept)
       ∙ ap (λ o. option_or o (map.find bytes_cmp name (map.entries kept))) (sym (map.get-entries newer name))
-      ∙ ap (option_or (map.get newer name)) (sym (map.get-entries kept name) ∙ map.get-retain_keys old _ name (λ x e. ap (λ n. not (is_covered paths n)) (sym (alike name x e))))
+      ∙ ap (option_or (map.get newer name)) (sym (map.get-entries kept name)
+      ∙ map.get-retain_keys old _ name (λ x e. ap (λ n. not (is_covered paths n)) (sym (alike name x e))))
     where
       kept : map.FinMap bytes_cmp X
       kept = map.retain_keys old (λ n. not (is_covered paths n))
@@ -29,21 +25,25 @@ module _ {X : Type 0} where
   or_none (Some x) = refl
 
   -- at a covered name the newer index takes precedence
-  pub newer_at : (paths : Paths) (old newer : map.FinMap bytes_cmp X) (name : List ℕ) → is_covered paths name ≡ true → map.get (merge_files paths old newer) name ≡ map.get newer name
+  pub newer_at : (paths : Paths) (old newer : map.FinMap bytes_cmp X) (name : List ℕ) → is_covered paths name ≡ true →
+      map.get (merge_files paths old newer) name ≡ map.get newer name
   newer_at paths old newer name h =
       get-merge_files paths old newer name
       ∙ ap (λ b. option_or (map.get newer name) (cond (not b) (map.get old name) None)) h
       ∙ or_none (map.get newer name)
 
   -- at any other name the newer index has nothing, so the old file stays
-  pub old_at : (paths : Paths) (old newer : map.FinMap bytes_cmp X) (name : List ℕ) → map.get newer name ≡ None → is_covered paths name ≡ false → map.get (merge_files paths old newer) name ≡ map.get old name
+  pub old_at : (paths : Paths) (old newer : map.FinMap bytes_cmp X) (name : List ℕ) → map.get newer name ≡ None →
+      is_covered paths name ≡ false → map.get (merge_files paths old newer) name ≡ map.get old name
   old_at paths old newer name none h =
       get-merge_files paths old newer name
       ∙ ap (λ b. option_or (map.get newer name) (cond (not b) (map.get old name) None)) h
       ∙ ap (λ o. option_or o (map.get old name)) none
 
   -- the paths cover the names of a map
-  pub old_under : (paths : Paths) (old newer : map.FinMap bytes_cmp X) (name : List ℕ) → ((q : List ℕ) (x : X) → map.get newer q ≡ Some x → is_covered paths q ≡ true) → is_covered paths name ≡ false → map.get (merge_files paths old newer) name ≡ map.get old name
+  pub old_under : (paths : Paths) (old newer : map.FinMap bytes_cmp X) (name : List ℕ) →
+      ((q : List ℕ) (x : X) → map.get newer q ≡ Some x → is_covered paths q ≡ true) → is_covered paths name ≡ false →
+      map.get (merge_files paths old newer) name ≡ map.get old name
   old_under paths old newer name under h = old_at paths old newer name (lacks (map.get newer name) refl) h
     where
       lacks : (o : Option X) → map.get newer name ≡ o → map.get newer name ≡ None
@@ -51,8 +51,10 @@ module _ {X : Type 0} where
       lacks (Some x) e = absurd (true≢false (sym (under name x e) ∙ h))
 
   -- a file of the merge is a file of one of the two indexes
-  pub merged_from : (paths : Paths) (old newer : map.FinMap bytes_cmp X) (name : List ℕ) (x : X) → map.get (merge_files paths old newer) name ≡ Some x → (map.get newer name ≡ Some x) ⊎ (map.get old name ≡ Some x)
-  merged_from paths old newer name x h = parts (map.get newer name) (map.get old name) (not (is_covered paths name)) (sym (get-merge_files paths old newer name) ∙ h)
+  pub merged_from : (paths : Paths) (old newer : map.FinMap bytes_cmp X) (name : List ℕ) (x : X) →
+      map.get (merge_files paths old newer) name ≡ Some x → (map.get newer name ≡ Some x) ⊎ (map.get old name ≡ Some x)
+  merged_from paths old newer name x h = parts (map.get newer name) (map.get old name) (not (is_covered paths name))
+      (sym (get-merge_files paths old newer name) ∙ h)
     where
       parts : (n o : Option X) (b : Bool) → option_or n (cond b o None) ≡ Some x → (n ≡ Some x) ⊎ (o ≡ Some x)
       parts (Some y) o b e = inl e
@@ -64,8 +66,10 @@ module _ {X : Type 0} where
 pub covered-merge_paths : (p q : Paths) (name : List ℕ) → is_covered (merge_paths p q) name ≡ (is_covered p name || is_covered q name)
 covered-merge_paths p q name = covered-least (set.union p q) name ∙ covered-union p q name
 
-pub path_from : (p q : Paths) (path : List ℕ) → set.contains (merge_paths p q) path ≡ true → (set.contains p path ≡ true) ⊎ (set.contains q path ≡ true)
-path_from p q path h = or_cases (set.contains p path) (set.contains q path) (sym (contains-union p q path) ∙ (least_says (set.union p q) path h).member)
+pub path_from : (p q : Paths) (path : List ℕ) → set.contains (merge_paths p q) path ≡ true →
+    (set.contains p path ≡ true) ⊎ (set.contains q path ≡ true)
+path_from p q path h = or_cases (set.contains p path) (set.contains q path)
+    (sym (contains-union p q path) ∙ (least_says (set.union p q) path h).member)
 
 pub covered_left : (p q : Paths) (name : List ℕ) → is_covered p name ≡ true → is_covered (merge_paths p q) name ≡ true
 covered_left p q name h = covered-merge_paths p q name ∙ or_left (is_covered p name) (is_covered q name) h
@@ -82,7 +86,8 @@ paths_replaced p q by = least_is_unique (set.union p q) q (λ name. covered-unio
     by_old name true e = ap (λ b. b || is_covered q name) e ∙ sym (by name e)
     by_old name false e = ap (λ b. b || is_covered q name) e
 
-pub files_replaced : {X : Type 0} (p q : Paths) (old newer : map.FinMap bytes_cmp X) → IsCoveredBy p q → ((name : List ℕ) (x : X) → map.get old name ≡ Some x → is_covered p name ≡ true) → merge_files q old newer ≡ newer
+pub files_replaced : {X : Type 0} (p q : Paths) (old newer : map.FinMap bytes_cmp X) → IsCoveredBy p q →
+    ((name : List ℕ) (x : X) → map.get old name ≡ Some x → is_covered p name ≡ true) → merge_files q old newer ≡ newer
 files_replaced {X} p q old newer by under =
     map.same_map nat_list_cmp_total alike (merge_files q old newer) newer (λ name. by_cover name (is_covered q name) refl)
   where

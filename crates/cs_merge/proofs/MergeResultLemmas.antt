@@ -1,27 +1,13 @@
 -- Results of the merge.
-use Rattle.std.proofs.Common.{◌≡◌, ℕ, ◌<◌, true, List, length, Result, Ok, Err, ap, sym, subst, ◌∙◌}
-use Rattle.std.proofs.lemmas.Bool.{and_from, and_parts}
-use Rattle.std.specs.Prelude.{IfOk, IfErr, MatchResult}
+use Rattle.std.proofs.Common.{◌≡◌, ℕ, ◌<◌, true, List, length, Result, Ok, Err, ap, sym, subst, ◌∙◌, IfOk, IfErr, MatchResult}
+use Rattle.cs_merge.proofs.Common.{and_from, and_parts, is_covered, are_distinct, encoding_of, Parts, are_whole, paths_in, entries_of, Written, entries_written, MergeFault, merge_index, AreTested, merge_paths, NewIds, AreIdMaps, AreMergedNames, IsListsFault, IsMerged, IsMergeFault, damaged, long, refused, SortedNames, AreTestedNames, AreAllMerged}
 use Rattle.cs_output.specs.declared.sent.Sent.{Sent}
-use Rattle.cs_tree.specs.Cover.{is_covered}
-use Rattle.cs_tree.specs.Folders.{are_distinct}
 use Rattle.cs_tree.specs.PathSet as set
-use Rattle.cs_index.specs.Encoding.{encoding_of}
-use Rattle.cs_index.specs.OpenedParts.{Parts, are_whole, paths_in}
-use Rattle.cs_index.specs.PostingLists.{entries_of}
-use Rattle.cs_index.specs.Written.{Written, entries_written}
-use Rattle.cs_merge.specs.declared.fault.MergeFault.{MergeFault}
-use Rattle.cs_merge.specs.Mergeable.{merge_index, AreTested}
-use Rattle.cs_merge.specs.BuildOutcome.{IsIndexWithin, IsBuildFault, long as too_long, memory}
-use Rattle.cs_merge.specs.Merge.{merge_paths}
-use Rattle.cs_merge.specs.IdMap.{NewIds, AreIdMaps, AreMergedNames}
-use Rattle.cs_merge.specs.ListsFault.{IsListsFault, damaged as lists_damaged, long as lists_long, refused as lists_refused}
-use Rattle.cs_merge.specs.MergeResult.{IsMerged, IsMergeFault, damaged, long, refused}
-use Rattle.cs_merge.specs.SortedNames.{SortedNames, AreTestedNames}
-use Rattle.cs_merge.specs.ListSources.{AreAllMerged}
+use Rattle.cs_merge.specs.ListsFault.{damaged as lists_damaged, long as lists_long, refused as lists_refused}
 use Rattle.cs_merge.proofs.MergedFilesLemmas.{AreWritten, all_covered, written_merged}
 use Rattle.cs_merge.proofs.NameMergeLemmas.{id_maps}
 use Rattle.cs_merge.proofs.SortedNamesLemmas.{sorted_distinct}
+use Rattle.cs_merge.specs.MergeResult.{IsIndexWithin, IsBuildFault, too_long, memory}
 
 -- ---- results
 
@@ -29,55 +15,82 @@ module _ (old newer : Parts) (most : ℕ) where
   abbrev pub Says : Result Sent MergeFault → Type 0
   Says answer = MatchResult answer (λ index. IsMerged old newer most index.bytes) (λ fault. IsMergeFault old newer most fault)
 
-  pub built_says : (answer : Result Sent MergeFault) (index : List ℕ) → index ≡ merge_index old newer → AreTested old newer → are_whole old ≡ true → are_whole newer ≡ true → IfOk answer (λ bytes. IsIndexWithin most index bytes.bytes) → IfErr answer (λ fault. IsBuildFault most index fault) → Says answer
-  built_says (Ok bytes) index is tested a b ok err = record { mergeable = record { tested = tested; whole = and_from (are_whole old) (are_whole newer) a b }; index = record { are = ok.are ∙ is; short = ok.short } }
-  built_says (Err fault) index is tested a b ok err = by_fault err
-    where
-      by_fault : IsBuildFault most index fault → IsMergeFault old newer most fault
-      by_fault (too_long e more) = long e (record { tested = tested; whole = and_from (are_whole old) (are_whole newer) a b }) (subst (λ (bytes : List ℕ). most < length bytes) is more)
-      by_fault (memory e) = refused e (λ up. tested)
+  pub built_says : (answer : Result Sent MergeFault) (index : List ℕ) → index ≡ merge_index old newer →
+      AreTested old newer → are_whole old ≡ true → are_whole newer ≡ true →
+      IfOk answer (λ bytes. IsIndexWithin most index bytes.bytes) →
+      IfErr answer (λ fault. IsBuildFault most index fault) → Says answer
+  built_says (Ok bytes) index is tested a b ok err =
+      record {
+        mergeable = record { tested = tested; whole = and_from (are_whole old) (are_whole newer) a b };
+        index =
+            record { are = ok.are ∙ is; short = ok.short };
+      }
+  built_says (Err fault) index is tested a b ok err = elim err [
+    | too_long e more ↦ long e (record { tested = tested; whole = and_from (are_whole old) (are_whole newer) a b })
+        (subst (λ (bytes : List ℕ). most < length bytes) is more)
+    | memory e ↦ refused e (λ up. tested)
+  ]
 
 -- an error of the merge of the lists
-pub lists_say : (old newer : Parts) (most : ℕ) (older_ids newer_ids : NewIds) (output : Written) (fault : MergeFault) → output.paths ≡ set.items (merge_paths (paths_in old) (paths_in newer)) → AreMergedNames (is_covered (paths_in newer)) old.names newer.names output.names older_ids newer_ids → AreTested old newer → IsListsFault old newer older_ids newer_ids output most fault → IsMergeFault old newer most fault
+pub lists_say : (old newer : Parts) (most : ℕ) (older_ids newer_ids : NewIds) (output : Written) (fault : MergeFault) →
+    output.paths ≡ set.items (merge_paths (paths_in old) (paths_in newer)) →
+    AreMergedNames (is_covered (paths_in newer)) old.names newer.names output.names older_ids newer_ids →
+    AreTested old newer → IsListsFault old newer older_ids newer_ids output most fault →
+    IsMergeFault old newer most fault
 lists_say old newer most older_ids newer_ids output fault paths named tested (lists_damaged is fails) = damaged is tested fails
 lists_say old newer most older_ids newer_ids output fault paths named tested (lists_refused is) = refused is (λ up. tested)
 lists_say old newer most older_ids newer_ids output fault paths named tested (lists_long is whole more) =
-    let written : AreWritten old newer output.names older_ids newer_ids more.lists = record { named = named; older_sets = more.older_sets; newer_sets = more.newer_sets } in
+    let written : AreWritten old newer output.names older_ids newer_ids more.lists =
+    record { named = named; older_sets = more.older_sets; newer_sets = more.newer_sets } in
     long is (record { tested = tested; whole = whole })
-    (subst (λ (bytes : List ℕ). most < length bytes) (ap (λ ps. encoding_of ps (entries_of 0 output.names more.lists)) paths ∙ written_merged old newer output.names older_ids newer_ids more.lists written tested) more.long)
+    (subst (λ (bytes : List ℕ). most < length bytes)
+    (ap (λ ps. encoding_of ps (entries_of 0 output.names more.lists)) paths
+    ∙ written_merged old newer output.names older_ids newer_ids more.lists written tested) more.long)
 
 -- ---- an index that is begun
 
-module _ (old newer : Parts) (older_sorted newer_sorted : SortedNames) (tested : AreTestedNames old.names newer older_sorted newer_sorted) where
+module _ (old newer : Parts) (older_sorted newer_sorted : SortedNames)
+    (tested : AreTestedNames old.names newer older_sorted newer_sorted) where
   pub are_tested : AreTested old newer
   are_tested = record {
     distinct = and_from (are_distinct old.names) (are_distinct newer.names)
-        (ap are_distinct (sym tested.older_names) ∙ sorted_distinct older_sorted tested.older) (ap are_distinct (sym tested.newer_names) ∙ sorted_distinct newer_sorted tested.newer);
+        (ap are_distinct (sym tested.older_names) ∙ sorted_distinct older_sorted tested.older)
+        (ap are_distinct (sym tested.newer_names) ∙ sorted_distinct newer_sorted tested.newer);
     covered = tested.covered;
   }
 
-  module _ (output : Written) (older_ids newer_ids : NewIds) (begun : AreMergedNames (is_covered (paths_in newer)) older_sorted.names newer.names output.names older_ids newer_ids) where
+  module _ (output : Written) (older_ids newer_ids : NewIds)
+      (begun : AreMergedNames (is_covered (paths_in newer)) older_sorted.names newer.names output.names older_ids
+      newer_ids) where
     named : AreMergedNames (is_covered (paths_in newer)) old.names newer.names output.names older_ids newer_ids
-    named = subst (λ (names : List (List ℕ)). AreMergedNames (is_covered (paths_in newer)) names newer.names output.names older_ids newer_ids) tested.older_names begun
+    named = subst (λ (names : List (List ℕ)). AreMergedNames (is_covered (paths_in newer)) names newer.names
+        output.names older_ids newer_ids) tested.older_names begun
 
     -- both maps map into the names that are written
     pub begun_maps : AreIdMaps (length output.names) older_ids newer_ids
     begun_maps =
         let both = and_parts (are_distinct old.names) (are_distinct newer.names) are_tested.distinct in
-        id_maps (is_covered (paths_in newer)) old.names newer.names output.names older_ids newer_ids named both.0 both.1 (all_covered newer tested.covered)
+        id_maps (is_covered (paths_in newer)) old.names newer.names output.names older_ids newer_ids named both.0 both.1
+        (all_covered newer tested.covered)
 
     module _ (most : ℕ) (paths : output.paths ≡ set.items (merge_paths (paths_in old) (paths_in newer))) where
       -- an error of the merge of its lists
-      pub lists_fail : (fault : MergeFault) → IsListsFault old newer older_ids newer_ids output most fault → IsMergeFault old newer most fault
+      pub lists_fail : (fault : MergeFault) → IsListsFault old newer older_ids newer_ids output most fault →
+          IsMergeFault old newer most fault
       lists_fail fault is_fault = lists_say old newer most older_ids newer_ids output fault paths named are_tested is_fault
 
       -- its encoding, once all lists are merged
-      pub lists_built : (answer : Result Sent MergeFault) (now : Written) → now.paths ≡ output.paths → now.names ≡ output.names → AreAllMerged old newer older_ids newer_ids now.lists
-          → IfOk answer (λ bytes. IsIndexWithin most (encoding_of now.paths (entries_written now)) bytes.bytes) → IfErr answer (λ fault. IsBuildFault most (encoding_of now.paths (entries_written now)) fault) → Says old newer most answer
+      pub lists_built : (answer : Result Sent MergeFault) (now : Written) → now.paths ≡ output.paths → now.names
+          ≡ output.names → AreAllMerged old newer older_ids newer_ids now.lists
+          → IfOk answer (λ bytes. IsIndexWithin most (encoding_of now.paths (entries_written now)) bytes.bytes) →
+          IfErr answer (λ fault. IsBuildFault most (encoding_of now.paths (entries_written now)) fault) →
+          Says old newer most answer
       lists_built answer now same_paths same_names all ok err =
           let whole = and_parts (are_whole old) (are_whole newer) all.whole in
-          let written : AreWritten old newer output.names older_ids newer_ids now.lists = record { named = named; older_sets = all.older_sets; newer_sets = all.newer_sets } in
+          let written : AreWritten old newer output.names older_ids newer_ids now.lists =
+          record { named = named; older_sets = all.older_sets; newer_sets = all.newer_sets } in
           let there : now.paths ≡ set.items (merge_paths (paths_in old) (paths_in newer)) = same_paths ∙ paths in
           built_says old newer most answer (encoding_of now.paths (entries_written now))
-          ((λ i. encoding_of (there i) (entries_of 0 (same_names i) now.lists)) ∙ written_merged old newer output.names older_ids newer_ids now.lists written are_tested)
+          ((λ i. encoding_of (there i) (entries_of 0 (same_names i) now.lists))
+          ∙ written_merged old newer output.names older_ids newer_ids now.lists written are_tested)
           are_tested whole.0 whole.1 ok err

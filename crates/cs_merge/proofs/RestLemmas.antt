@@ -1,43 +1,34 @@
 -- The lists that are not merged yet: those merged so far begin the lists of the merged index.
-use Rattle.std.proofs.Common.{◌≡◌, ℕ, zero, suc, ◌+◌, ◌<◌, ◌≤◌, Bool, true, false, ◌&&◌, ◌||◌, eqb, List, [], ◌∷◌, ◌++◌, length, map, take, drop, refl, sym, ap, subst, ◌∙◌, ◌⊎◌, inl, inr, Option, Some, None, arith, append_assoc, length-append}
-use Rattle.std.proofs.lemmas.Bool.{true≢false, and_parts, cases_Bool, eq-eqb, or_left, or_right}
-use Rattle.std.proofs.lemmas.List.{append-nil, take-append-drop}
+use Rattle.std.proofs.Common.{◌≡◌, ℕ, zero, suc, ◌+◌, ◌<◌, ◌≤◌, Bool, true, false, ◌&&◌, eqb, List, [], ◌∷◌, ◌++◌, length, map, take, drop, refl, sym, ap, subst, ◌∙◌, ◌⊎◌, inl, inr, Option, Some, None, arith, append_assoc, length-append}
+use Rattle.cs_merge.proofs.Common.{true≢false, and_parts, eq-eqb, or_left, or_right, append-nil, take-append-drop, concat, list_all, has, set_of_numbers, Ascends, Above, ascends_head, ascends_set, ascends_tail, has-set_of_numbers, AscendWithin, BeginsFrom, ListEntry, PostingList, encoding_of, posting_list_bytes, sections_of, layout, list_of, Parts, are_whole, ids_read, lists_in, entries_of, AreValidParts, Written, NewIds, new_ids_of, AreIdMaps, AreMappedLists, list_ids, list_trigram, lower_of, position_after, AreMergedLists, IsMergedList, are_whole_from, rest_fault, AreTooLong, IsListsFault, both_whole}
 use Rattle.std.proofs.lemmas.List.Folds.{list_all-append}
-use Rattle.std.specs.List.{concat, list_all}
-use Rattle.cs_trigram.specs.Trigram.{has, set_of_numbers, Ascends}
-use Rattle.cs_trigram.proofs.SetLemmas.{Above, ascends_head, ascends_set, ascends_tail, has-set_of_numbers}
-use Rattle.cs_index.specs.AscendingIds.{AscendWithin, BeginsFrom}
-use Rattle.cs_index.specs.Encoding.{ListEntry, PostingList, encoding_of, posting_list_bytes, sections_of, layout}
-use Rattle.cs_index.specs.Gathering.{list_of}
-use Rattle.cs_index.specs.OpenedParts.{Parts, are_whole, ids_read, lists_in}
-use Rattle.cs_index.specs.PostingLists.{entries_of}
-use Rattle.cs_index.specs.ValidParts.{AreValidParts}
-use Rattle.cs_index.specs.Written.{Written}
 use Rattle.cs_index.specs.WrittenLists.{IsWritten, with_posting}
 use Rattle.cs_index.proofs.writer.WrittenSteps.{lists_within, written_begun, written_encoding}
-use Rattle.cs_merge.specs.IdMap.{NewIds, new_ids_of, AreIdMaps, AreMappedLists}
-use Rattle.cs_merge.specs.ListMerge.{list_ids, list_trigram, lower_of, position_after, AreMergedLists, IsMergedList}
-use Rattle.cs_merge.specs.ListsFault.{are_whole_from, rest_fault, AreTooLong, IsListsFault, damaged, long}
-use Rattle.cs_merge.specs.Mergeable.{both_whole}
+use Rattle.cs_merge.specs.ListsFault.{damaged, long}
 use Rattle.cs_merge.proofs.DistinctIdLemmas.{new_ids_of_both}
 use Rattle.cs_merge.proofs.IdMergeLemmas.{has_both}
 use Rattle.cs_merge.proofs.NextListLemmas.{damage_in_list, ids_rise}
 use Rattle.cs_merge.proofs.TrigramMergeLemmas.{all_newer, all_older, list_above, list_fits, listed_more, positions_move}
+use Rattle.std.proofs.Math.Bool.{or-false}
+use Rattle.std.proofs.lemmas.Bool.{true_from_ne_false}
 
 -- an ascending set of ids below the number of names is a list
-rise_of_set : (count next : ℕ) (ids : List ℕ) → BeginsFrom next ids → Ascends ids → ((id : ℕ) → has ids id ≡ true → id < count) → AscendWithin count next ids
+rise_of_set : (count next : ℕ) (ids : List ℕ) → BeginsFrom next ids → Ascends ids →
+    ((id : ℕ) → has ids id ≡ true → id < count) → AscendWithin count next ids
 rise_of_set count next [] from up below = tt
 rise_of_set count next (id ∷ ids) from up below = (
   from,
   below id (or_left (eqb id id) (has ids id) (eq-eqb id id refl)),
-  rise_of_set count (id + 1) ids (after ids (ascends_head id ids up)) (ascends_tail id ids up) (λ other h. below other (or_right (eqb id other) (has ids other) h)),
+  rise_of_set count (id + 1) ids (after ids (ascends_head id ids up)) (ascends_tail id ids up)
+      (λ other h. below other (or_right (eqb id other) (has ids other) h)),
 )
   where
     after : (others : List ℕ) → Above id others → BeginsFrom (id + 1) others
     after [] h = tt
     after (other ∷ others) h = omega (arith, h)
 
-module _ (older newer : Parts) (older_ids newer_ids : NewIds) (before : Written) (older_are : AreValidParts older) (newer_are : AreValidParts newer) (ids_are : AreIdMaps (length before.names) older_ids newer_ids) where
+module _ (older newer : Parts) (older_ids newer_ids : NewIds) (before : Written) (older_are : AreValidParts older)
+    (newer_are : AreValidParts newer) (ids_are : AreIdMaps (length before.names) older_ids newer_ids) where
   -- The lists of the next trigram are merged.
   record OneMore (now : Written) (a b : ℕ) : Type 0 where
     after : Written
@@ -63,7 +54,9 @@ module _ (older newer : Parts) (older_ids newer_ids : NewIds) (before : Written)
     pub lists_are : later.lists ≡ now.lists ++ more
 
   module _ (older_whole : are_whole older ≡ true) (newer_whole : are_whole newer ≡ true) where
-    one_more : (now : Written) (a b : ℕ) → AreMergedLists older newer older_ids newer_ids before now a b → IsWritten now → (trigram : ℕ) → lower_of (list_trigram older a) (list_trigram newer b) ≡ Some trigram → OneMore now a b
+    one_more : (now : Written) (a b : ℕ) → AreMergedLists older newer older_ids newer_ids before now a b →
+        IsWritten now → (trigram : ℕ) → lower_of (list_trigram older a) (list_trigram newer b) ≡ Some trigram →
+        OneMore now a b
     one_more now a b state is trigram next =
         let moves = positions_move older newer a b older_are newer_are trigram now.lists state.left next in
         record {
@@ -73,7 +66,9 @@ module _ (older newer : Parts) (older_ids newer_ids : NewIds) (before : Written)
           written = written_with both refl;
           older_position = position_after older a trigram;
           newer_position = position_after newer b trigram;
-          state = listed_more older newer older_ids newer_ids before now a b state older_are newer_are trigram next (length before.names) (with_ids both) some others ids_are refl refl (list_whole older a older_whole) (list_whole newer b newer_whole) given;
+          state = listed_more older newer older_ids newer_ids before now a b state older_are newer_are trigram next
+              (length before.names) (with_ids both) some others ids_are refl refl (list_whole older a older_whole)
+              (list_whole newer b newer_whole) given;
           moves = moves.0;
           older_within = moves.1;
           newer_within = moves.2;
@@ -109,15 +104,8 @@ module _ (older newer : Parts) (older_ids newer_ids : NewIds) (before : Written)
         sent_with (id ∷ ids) = refl
 
         list_whole : (parts : Parts) (position : ℕ) → are_whole parts ≡ true → (list_ids parts position trigram).whole ≡ true
-        list_whole parts position whole =
-            elim (cases_Bool (list_ids parts position trigram).whole) [
-              | inl holds ↦ holds
-              | inr fails ↦ absurd (true≢false (sym whole ∙ damage_in_list parts position trigram fails))
-            ]
-
-        or_none : (t : Bool) → (t || (false || false)) ≡ t
-        or_none true = refl
-        or_none false = refl
+        list_whole parts position whole = true_from_ne_false (list_ids parts position trigram).whole
+            (λ fails. true≢false (sym whole ∙ damage_in_list parts position trigram fails))
 
         given : IsMergedList trigram now (with_ids both) some others [] []
         given = record {
@@ -126,7 +114,7 @@ module _ (older newer : Parts) (older_ids newer_ids : NewIds) (before : Written)
           names = names_with both;
           lists = lists_with both;
           sent = sent_with both;
-          each = λ id. or_none (has both id) ∙ has-set_of_numbers id (some ++ others) ∙ has_both some others id;
+          each = λ id. or-false (has both id) ∙ has-set_of_numbers id (some ++ others) ∙ has_both some others id;
           older_rise = tt;
           newer_rise = tt;
         }
@@ -134,30 +122,42 @@ module _ (older newer : Parts) (older_ids newer_ids : NewIds) (before : Written)
         below : (id : ℕ) → has both id ≡ true → id < length now.names
         below id h =
             let are = subst (λ names. AreIdMaps (length names) older_ids newer_ids) (sym state.names) ids_are in
-            (new_ids_of_both (length now.names) (length older.names) (length newer.names) older_ids newer_ids (list_ids older a trigram).ids (list_ids newer b trigram).ids are.once.older_once are.once.newer_once are.once.apart are.older_below are.newer_below (ids_rise older a trigram) (ids_rise newer b trigram)).below id
+            (new_ids_of_both (length now.names) (length older.names) (length newer.names) older_ids newer_ids
+            (list_ids older a trigram).ids (list_ids newer b trigram).ids are.once.older_once are.once.newer_once
+            are.once.apart are.older_below are.newer_below (ids_rise older a trigram)
+            (ids_rise newer b trigram)).below id
             (sym (has-set_of_numbers id (some ++ others)) ∙ h)
 
         written_with : (ids : List ℕ) → ids ≡ both → IsWritten (with_ids ids)
         written_with [] same = is
         written_with (id ∷ ids) same =
             written_begun now (trigram, id ∷ ids) is small
-            (list_above older newer a b older_are newer_are trigram now.lists state.left next)
-            ((λ e. cc), rise_of_set (length now.names) 0 (id ∷ ids) (omega arith) (subst Ascends (sym same) (ascends_set (some ++ others))) (λ n h. below n (sym (ap (λ ns. has ns n) same) ∙ h)))
+            (list_above older newer a b older_are newer_are trigram now.lists state.left next) (
+              (λ e. cc),
+              rise_of_set (length now.names) 0 (id ∷ ids) (omega arith)
+                  (subst Ascends (sym same) (ascends_set (some ++ others)))
+                  (λ n h. below n (sym (ap (λ ns. has ns n) same) ∙ h)),
+            )
           where
             small : trigram < 16777215
             small = elim (list_fits older newer a b older_are newer_are trigram older_ids newer_ids) [
               | inl less ↦ less
-              | inr none ↦ absurd (true≢false (sym (or_left (eqb id id) (has ids id) (eq-eqb id id refl)) ∙ ap (λ ns. has ns id) same ∙ has-set_of_numbers id (some ++ others) ∙ (λ i. has (none.0 i ++ none.1 i) id)))
+              | inr none ↦ absurd (true≢false (sym (or_left (eqb id id) (has ids id) (eq-eqb id id refl))
+                  ∙ ap (λ ns. has ns id) same ∙ has-set_of_numbers id (some ++ others)
+                  ∙ (λ i. has (none.0 i ++ none.1 i) id)))
             ]
 
-    next_of : (now : Written) (a b : ℕ) → AreMergedLists older newer older_ids newer_ids before now a b → IsWritten now → (lower_of (list_trigram older a) (list_trigram newer b) ≡ None) ⊎ OneMore now a b
+    next_of : (now : Written) (a b : ℕ) → AreMergedLists older newer older_ids newer_ids before now a b →
+        IsWritten now → (lower_of (list_trigram older a) (list_trigram newer b) ≡ None) ⊎ OneMore now a b
     next_of now a b state is = by_next (lower_of (list_trigram older a) (list_trigram newer b)) refl
       where
-        by_next : (o : Option ℕ) → lower_of (list_trigram older a) (list_trigram newer b) ≡ o → (lower_of (list_trigram older a) (list_trigram newer b) ≡ None) ⊎ OneMore now a b
+        by_next : (o : Option ℕ) → lower_of (list_trigram older a) (list_trigram newer b) ≡ o →
+            (lower_of (list_trigram older a) (list_trigram newer b) ≡ None) ⊎ OneMore now a b
         by_next None e = inl e
         by_next (Some trigram) e = inr (one_more now a b state is trigram e)
 
-    merged_now : (now : Written) (a b : ℕ) → AreMergedLists older newer older_ids newer_ids before now a b → IsWritten now → lower_of (list_trigram older a) (list_trigram newer b) ≡ None → AllMerged now
+    merged_now : (now : Written) (a b : ℕ) → AreMergedLists older newer older_ids newer_ids before now a b →
+        IsWritten now → lower_of (list_trigram older a) (list_trigram newer b) ≡ None → AllMerged now
     merged_now now a b state is ends = record {
       later = now;
       written = is;
@@ -181,19 +181,24 @@ module _ (older newer : Parts) (older_ids newer_ids : NewIds) (before : Written)
       lists_are = all.lists_are ∙ ap (λ ps. ps ++ all.more) one.lists_are ∙ append_assoc now.lists one.more all.more;
     }
 
-    merged_all : (fuel : ℕ) (now : Written) (a b : ℕ) → AreMergedLists older newer older_ids newer_ids before now a b → IsWritten now → length older.entries + length newer.entries ≤ fuel + (a + b) → AllMerged now
+    merged_all : (fuel : ℕ) (now : Written) (a b : ℕ) → AreMergedLists older newer older_ids newer_ids before now a b →
+        IsWritten now → length older.entries + length newer.entries ≤ fuel + (a + b) → AllMerged now
     merged_all zero now a b state is enough =
         elim (next_of now a b state is) [
           | inl ends ↦ merged_now now a b state is ends
-          | inr one ↦ let on = one.moves in let first = one.older_within in let second = one.newer_within in absurd (omega (arith, on, first, second, enough))
+          | inr one ↦ let on = one.moves in let first = one.older_within in let second = one.newer_within in
+              absurd (omega (arith, on, first, second, enough))
         ]
     merged_all (suc fuel) now a b state is enough =
         elim (next_of now a b state is) [
           | inl ends ↦ merged_now now a b state is ends
-          | inr one ↦ let on = one.moves in merged_later now a b one (merged_all fuel one.after one.older_position one.newer_position one.state one.written (omega (arith, on, enough)))
+          | inr one ↦ let on = one.moves in merged_later now a b one
+              (merged_all fuel one.after one.older_position one.newer_position one.state one.written
+              (omega (arith, on, enough)))
         ]
 
-    bytes_grow : (ps qs : List PostingList) → length (concat (map posting_list_bytes ps)) ≤ length (concat (map posting_list_bytes (ps ++ qs)))
+    bytes_grow : (ps qs : List PostingList) → length (concat (map posting_list_bytes ps))
+        ≤ length (concat (map posting_list_bytes (ps ++ qs)))
     bytes_grow [] qs = omega arith
     bytes_grow (p ∷ ps) qs =
         let rest = bytes_grow ps qs in
@@ -201,14 +206,18 @@ module _ (older newer : Parts) (older_ids newer_ids : NewIds) (before : Written)
         let other = length-append (posting_list_bytes p) (concat (map posting_list_bytes (ps ++ qs))) in
         omega (arith, rest, one, other)
 
-    pub too_long : (most : ℕ) (now : Written) (a b : ℕ) → AreMergedLists older newer older_ids newer_ids before now a b → IsWritten now → most < length (concat (map posting_list_bytes now.lists)) → AreTooLong older newer older_ids newer_ids before most
+    pub too_long : (most : ℕ) (now : Written) (a b : ℕ) → AreMergedLists older newer older_ids newer_ids before now a b
+        → IsWritten now → most < length (concat (map posting_list_bytes now.lists)) →
+        AreTooLong older newer older_ids newer_ids before most
     too_long most now a b state is more =
         let all = merged_all (length older.entries + length newer.entries) now a b state is (omega arith) in
         let within = lists_within all.later.paths all.later.names all.later.lists in
         let grown = bytes_grow now.lists all.more in
         let lists = ap (λ ps. length (concat (map posting_list_bytes ps))) all.lists_are in
-        let index : length (layout (sections_of all.later.paths all.later.names all.later.lists)) ≡ length (encoding_of before.paths (entries_of 0 before.names all.later.lists)) =
-        ap length (written_encoding all.later all.written) ∙ (λ i. length (encoding_of (all.paths i) (entries_of 0 (all.names i) all.later.lists))) in
+        let index : length (layout (sections_of all.later.paths all.later.names all.later.lists))
+        ≡ length (encoding_of before.paths (entries_of 0 before.names all.later.lists)) =
+        ap length (written_encoding all.later all.written)
+        ∙ (λ i. length (encoding_of (all.paths i) (entries_of 0 (all.names i) all.later.lists))) in
         record {
           lists = all.later.lists;
           older_sets = all.older_sets;
@@ -218,12 +227,16 @@ module _ (older newer : Parts) (older_ids newer_ids : NewIds) (before : Written)
 
   -- ---- once the lists so far are too long
 
-  whole_both : (parts : Parts) (position : ℕ) → are_whole parts ≡ (list_all (λ (e : ListEntry). (ids_read parts e).whole) (take position parts.entries) && are_whole_from parts position)
+  whole_both : (parts : Parts) (position : ℕ) → are_whole parts
+      ≡ (list_all (λ (e : ListEntry). (ids_read parts e).whole) (take position parts.entries) && are_whole_from parts
+      position)
   whole_both parts position =
       ap (list_all (λ (e : ListEntry). (ids_read parts e).whole)) (sym (take-append-drop position parts.entries))
       ∙ list_all-append (λ (e : ListEntry). (ids_read parts e).whole) (take position parts.entries) (drop position parts.entries)
 
-  pub rest_says : (most : ℕ) (now : Written) (a b : ℕ) → AreMergedLists older newer older_ids newer_ids before now a b → IsWritten now → most < length (concat (map posting_list_bytes now.lists)) → IsListsFault older newer older_ids newer_ids before most (rest_fault (are_whole_from older a && are_whole_from newer b))
+  pub rest_says : (most : ℕ) (now : Written) (a b : ℕ) → AreMergedLists older newer older_ids newer_ids before now a b →
+      IsWritten now → most < length (concat (map posting_list_bytes now.lists)) → IsListsFault older newer older_ids
+      newer_ids before most (rest_fault (are_whole_from older a && are_whole_from newer b))
   rest_says most now a b state is more = by_rest (are_whole_from older a && are_whole_from newer b) refl
     where
       older_is : are_whole older ≡ are_whole_from older a
@@ -235,7 +248,8 @@ module _ (older newer : Parts) (older_ids newer_ids : NewIds) (before : Written)
       both_is : both_whole older newer ≡ (are_whole_from older a && are_whole_from newer b)
       both_is = λ i. older_is i && newer_is i
 
-      by_rest : (t : Bool) → (are_whole_from older a && are_whole_from newer b) ≡ t → IsListsFault older newer older_ids newer_ids before most (rest_fault t)
+      by_rest : (t : Bool) → (are_whole_from older a && are_whole_from newer b) ≡ t → IsListsFault older newer older_ids
+          newer_ids before most (rest_fault t)
       by_rest true e =
           let whole = and_parts (are_whole older) (are_whole newer) (both_is ∙ e) in
           long refl (both_is ∙ e) (too_long whole.0 whole.1 most now a b state is more)

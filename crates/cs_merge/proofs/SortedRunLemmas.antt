@@ -1,25 +1,13 @@
 -- The runs of two lists, sorted by their first new ids, have ascending ids.
-use Rattle.std.proofs.Common.{◌≡◌, ℕ, suc, ◌+◌, ◌-◌, ◌<◌, ◌≤◌, Bool, true, false, cond, not, ◌||◌, eqb, List, [], ◌∷◌, ◌++◌, length, drop, refl, sym, ap, subst, ◌∙◌, ◌⊎◌, inl, inr, Option, Some, None, arith, slice_get, get_or, ltb, append_assoc, length-append}
-use Rattle.std.proofs.lemmas.Bool.{true≢false, cases_Bool, cases_lt, eqb-true, eq-eqb, ltb-true, or_cases}
-use Rattle.std.proofs.lemmas.Option.{same_Some}
-use Rattle.std.proofs.lemmas.List.Sorted.{sum_by-IsPermutation, All-permutation}
-use Rattle.std.proofs.lemmas.List.{append-nil, drop_more}
+use Rattle.std.proofs.Common.{◌≡◌, ℕ, suc, ◌+◌, ◌-◌, ◌<◌, ◌≤◌, Bool, true, false, cond, not, ◌||◌, eqb, List, [], ◌∷◌, ◌++◌, length, drop, refl, sym, ap, subst, ◌∙◌, ◌⊎◌, inl, inr, Option, Some, None, arith, slice_get, get_or, ltb, append_assoc, length-append, option_map}
+use Rattle.cs_merge.proofs.Common.{true≢false, cases_Bool, cases_lt, eqb-true, eq-eqb, ltb-true, or_cases, same_Some, sum_by-IsPermutation, All-permutation, append-nil, drop_more, cons_option, sum_by, AllByRecursion, option_eq, has, next_after, AscendWithin, ids_onward, NewIds, new_id, new_ids_of, IsImageOfRun, AreUnique, IsInjective, IsRun, AreNewIdsFrom, lower_of, run_ids, runs_ids, without_number, AreGathered, AreDistinctIds, IsWithinRun, IsRunOf, IsRunOfEither, of_older, IdRun, all_push, or-true, none-some}
 use Rattle.std.proofs.lemmas.List.Elements.{All-from_recursion, recursion_from_All}
 use Rattle.std.proofs.lemmas.List.Sums.{sum_by-append, sum_by-cons}
-use Rattle.std.specs.List.{cons_option, sum_by, AllByRecursion}
-use Rattle.std.specs.Option.{option_eq}
-use Rattle.std.specs.Prelude.{option_map}
 use Rattle.std.specs.List.Sorted.{IsNonDecreasingBy, IsPermutation}
-use Rattle.cs_trigram.specs.Trigram.{has}
-use Rattle.cs_index.specs.AscendingIds.{next_after, AscendWithin, ids_onward}
-use Rattle.cs_merge.specs.IdMap.{NewIds, new_id, new_ids_of, IsImageOfRun, AreUnique, IsInjective, IsRun, AreNewIdsFrom}
-use Rattle.cs_merge.specs.ListMerge.{lower_of, run_ids, runs_ids, without_number, AreGathered, AreDistinctIds, IsWithinRun, IsRunOf, IsRunOfEither, of_older, IdRun}
 use Rattle.cs_merge.proofs.IdMergeLemmas.{has_both, next_below}
 use Rattle.cs_merge.proofs.DistinctIdLemmas.{has_many, many, once_few, one}
 use Rattle.cs_index.proofs.postings.StreamPush.{rise_append}
-use Rattle.cs_index.proofs.writer.BuilderAdd.{all_push}
 use Rattle.cs_tree.proofs.GatherLemmas.{all-append}
-use Rattle.std.proofs.Math.Bool.{or-true}
 
 here : (n : ℕ) (ns : List ℕ) → has (n ∷ ns) n ≡ true
 here n ns = ap (λ b. b || has ns n) (eq-eqb n n refl)
@@ -32,14 +20,13 @@ left_first id (other ∷ ids) there =
     let is : other ≡ id = same_Some other id there in
     ap (λ n. n ∷ ids) is ∙ ap (λ ns. id ∷ ns) (sym (ap (λ b. cond b ids (other ∷ ids)) (eq-eqb other id is)))
 
+runs_both : (id_runs more : List IdRun) → runs_ids (id_runs ++ more) ≡ runs_ids id_runs ++ runs_ids more
+runs_both [] more = refl
+runs_both (id_run ∷ id_runs) more =
+    ap (λ ids. run_ids id_run ++ ids) (runs_both id_runs more) ∙ sym (append_assoc (run_ids id_run) (runs_ids id_runs) (runs_ids more))
+
 runs_more : (id_runs : List IdRun) (id_run : IdRun) → runs_ids (id_runs ++ id_run ∷ []) ≡ runs_ids id_runs ++ run_ids id_run
-runs_more [] id_run = none (run_ids id_run)
-  where
-    none : (ids : List ℕ) → ids ++ [] ≡ ids
-    none [] = refl
-    none (id ∷ ids) = ap (λ ns. id ∷ ns) (none ids)
-runs_more (one ∷ id_runs) id_run =
-    ap (λ ids. run_ids one ++ ids) (runs_more id_runs id_run) ∙ sym (append_assoc (run_ids one) (runs_ids id_runs) (run_ids id_run))
+runs_more id_runs id_run = runs_both id_runs (id_run ∷ []) ∙ ap (λ ids. runs_ids id_runs ++ ids) (append-nil (run_ids id_run))
 
 module _ (id end : ℕ) (run left rest : List ℕ) (there : slice_get left 0 ≡ Some id) (is : IsRunOf id (Some end) run left rest) where
   left_run : left ≡ run_ids (id, run) ++ without_number id rest
@@ -51,7 +38,9 @@ module _ (id end : ℕ) (run left rest : List ℕ) (there : slice_get left 0 ≡
       let both = length-append (run_ids (id, run)) (without_number id rest) in
       omega (arith, long, both)
 
-  pub one_gathered : (new_ids : NewIds) (before now : List IdRun) (ids : List ℕ) → IsImageOfRun new_ids id end → AreGathered new_ids before now ids left → AreGathered new_ids before (now ++ (id, run) ∷ []) ids (without_number id rest)
+  pub one_gathered : (new_ids : NewIds) (before now : List IdRun) (ids : List ℕ) → IsImageOfRun new_ids id end →
+      AreGathered new_ids before now ids left → AreGathered new_ids before (now ++ (id, run) ∷ []) ids
+      (without_number id rest)
   one_gathered new_ids before now ids moves so_far = record {
     more = so_far.more ++ (id, run) ∷ [];
     are = ap (λ id_runs. id_runs ++ (id, run) ∷ []) so_far.are ∙ append_assoc before so_far.more ((id, run) ∷ []);
@@ -63,7 +52,9 @@ module _ (id end : ℕ) (run left rest : List ℕ) (there : slice_get left 0 ≡
     each = all_push (IsWithinRun new_ids) so_far.more (id, run) so_far.each record { end = end; moved = moves; below = is.below end refl };
   }
 
-pub all_gathered : (new_ids : NewIds) (before now : List IdRun) (ids left : List ℕ) → ((id : ℕ) → slice_get left 0 ≡ Some id → ⊥) → AreGathered new_ids before now ids left → AreGathered new_ids before now ids []
+pub all_gathered : (new_ids : NewIds) (before now : List IdRun) (ids left : List ℕ) →
+    ((id : ℕ) → slice_get left 0 ≡ Some id → ⊥) → AreGathered new_ids before now ids left →
+    AreGathered new_ids before now ids []
 all_gathered new_ids before now ids [] none so_far = so_far
 all_gathered new_ids before now ids (id ∷ left) none so_far = absurd (none id refl)
 
@@ -77,10 +68,13 @@ is_new_id (Some n) new h =
       | inr differs ↦ absurd (true≢false (sym (ap not differs) ∙ h))
     ]
 
-pub moved_from : (new_ids : NewIds) (id new end most : ℕ) → new_id new_ids id ≡ Some new → IsRun new_ids id end → most ≤ new + (end - id) → IsImageOfRun new_ids new most
+pub moved_from : (new_ids : NewIds) (id new end most : ℕ) → new_id new_ids id ≡ Some new → IsRun new_ids id end →
+    most ≤ new + (end - id) → IsImageOfRun new_ids new most
 moved_from new_ids id new end most is together bound = record {
   from = id;
-  each = λ other from to. together (id + (other - new)) (omega arith) (omega (arith, from, to, bound)) ∙ ap (option_map (λ n. n + (id + (other - new) - id))) is ∙ ap Some (let z : new + (id + (other - new) - id) ≡ other = omega (arith, from) in z);
+  each = λ other from to. together (id + (other - new)) (omega arith) (omega (arith, from, to, bound))
+      ∙ ap (option_map (λ n. n + (id + (other - new) - id))) is
+      ∙ ap Some (let z : new + (id + (other - new) - id) ≡ other = omega (arith, from) in z);
 }
 
 -- ---- new ids in the order of their old ids
@@ -94,28 +88,34 @@ module _ (new_ids : NewIds) where
   rise_under count next [] up = tt
   rise_under count next (id ∷ ids) up = by_new (new_id new_ids id) refl (rise_under count (id + 1) ids up.2)
     where
-      by_new : (o : Option ℕ) → new_id new_ids id ≡ o → AreNewIdsFrom new_ids (id + 1) (new_ids_of new_ids ids) → AreNewIdsFrom new_ids next (cons_option o (new_ids_of new_ids ids))
+      by_new : (o : Option ℕ) → new_id new_ids id ≡ o → AreNewIdsFrom new_ids (id + 1) (new_ids_of new_ids ids) →
+          AreNewIdsFrom new_ids next (cons_option o (new_ids_of new_ids ids))
       by_new None e rest = under_from next (id + 1) (new_ids_of new_ids ids) (let from : next ≤ id = up.0 in omega (arith, from)) rest
       by_new (Some new) e rest = (id, up.0, e, rest)
 
-  has_under : (next n : ℕ) (ns : List ℕ) → AreNewIdsFrom new_ids next ns → has ns n ≡ true → (id : ℕ) × (next ≤ id) × (new_id new_ids id ≡ Some n)
+  has_under : (next n : ℕ) (ns : List ℕ) → AreNewIdsFrom new_ids next ns → has ns n ≡ true →
+      (id : ℕ) × (next ≤ id) × (new_id new_ids id ≡ Some n)
   has_under next n [] up h = cc
   has_under next n (m ∷ ns) up h =
       elim (cases_Bool (eqb m n)) [
         | inl is ↦ (up.0, up.1, up.2 ∙ ap Some (eqb-true m n is))
-        | inr differs ↦ has_under next n ns (under_from next (up.0 + 1) ns (let above : next ≤ up.0 = up.1 in omega (arith, above)) up.3) (sym (ap (λ b. b || has ns n) differs) ∙ h)
+        | inr differs ↦ has_under next n ns (under_from next (up.0 + 1) ns
+            (let above : next ≤ up.0 = up.1 in omega (arith, above)) up.3) (sym (ap (λ b. b || has ns n) differs) ∙ h)
       ]
 
   under_tail : (next : ℕ) (ns more : List ℕ) → AreNewIdsFrom new_ids next (ns ++ more) → AreNewIdsFrom new_ids next more
   under_tail next [] more up = up
-  under_tail next (n ∷ ns) more up = under_tail next ns more (under_from next (up.0 + 1) (ns ++ more) (let above : next ≤ up.0 = up.1 in omega (arith, above)) up.3)
+  under_tail next (n ∷ ns) more up = under_tail next ns more
+      (under_from next (up.0 + 1) (ns ++ more) (let above : next ≤ up.0 = up.1 in omega (arith, above)) up.3)
 
   under_prefix : (next : ℕ) (ns more : List ℕ) → AreNewIdsFrom new_ids next (ns ++ more) → AreNewIdsFrom new_ids next ns
   under_prefix next [] more up = tt
   under_prefix next (n ∷ ns) more up = (up.0, up.1, up.2, under_prefix (up.0 + 1) ns more up.3)
 
   -- an earlier new id comes from a lower old id
-  in_order_of_ids : (next a b : ℕ) (ns more : List ℕ) → AreNewIdsFrom new_ids next (ns ++ more) → has ns a ≡ true → has more b ≡ true → (low : ℕ) × (high : ℕ) × (low < high) × (new_id new_ids low ≡ Some a) × (new_id new_ids high ≡ Some b)
+  in_order_of_ids : (next a b : ℕ) (ns more : List ℕ) → AreNewIdsFrom new_ids next (ns ++ more) → has ns a ≡ true →
+      has more b ≡ true → (low : ℕ) × (high : ℕ) × (low < high) × (new_id new_ids low ≡ Some a) ×
+      (new_id new_ids high ≡ Some b)
   in_order_of_ids next a b [] more up h k = cc
   in_order_of_ids next a b (m ∷ ns) more up h k =
       elim (cases_Bool (eqb m a)) [
@@ -140,18 +140,22 @@ last_of next id (other ∷ ids) =
 
 module _ (new_ids : NewIds) (once : IsInjective new_ids) (id_run : IdRun) (move : IsWithinRun new_ids id_run) where
   -- a run is its first id alone, or it ends within the range that the map shifts as a whole
-  ends : ((n : ℕ) → id_run.0 ≤ n → n < next_after id_run.0 (run_ids id_run) → n ≡ id_run.0) ⊎ (next_after id_run.0 (run_ids id_run) ≤ move.end)
+  ends : ((n : ℕ) → id_run.0 ≤ n → n < next_after id_run.0 (run_ids id_run) → n ≡ id_run.0) ⊎
+      (next_after id_run.0 (run_ids id_run) ≤ move.end)
   ends = by_run id_run.1 move.below
     where
       by_run : (run : List ℕ) → AllByRecursion (λ other. id_run.0 + 1 + other < move.end) run →
-          ((n : ℕ) → id_run.0 ≤ n → n < next_after id_run.0 (run_ids (id_run.0, run)) → n ≡ id_run.0) ⊎ (next_after id_run.0 (run_ids (id_run.0, run)) ≤ move.end)
+          ((n : ℕ) → id_run.0 ≤ n → n < next_after id_run.0 (run_ids (id_run.0, run)) → n ≡ id_run.0) ⊎
+          (next_after id_run.0 (run_ids (id_run.0, run)) ≤ move.end)
       by_run [] all = inl (λ n from to. omega (arith, from, to))
-      by_run (one ∷ run) all = inr (next_below id_run.0 (id_run.0 + 1) move.end (one ∷ run) (let below : id_run.0 + 1 + one < move.end = all.0 in omega (arith, below)) all)
+      by_run (one ∷ run) all = inr (next_below id_run.0 (id_run.0 + 1) move.end (one ∷ run)
+          (let below : id_run.0 + 1 + one < move.end = all.0 in omega (arith, below)) all)
 
   came_of : (n id : ℕ) → id_run.0 ≤ n → n < move.end → new_id new_ids id ≡ Some n → id ≡ move.moved.from + (n - id_run.0)
   came_of n id from to is = once id (move.moved.from + (n - id_run.0)) n is (move.moved.each n from to)
 
-  same_list_alone : (before after : List ℕ) → AreNewIdsFrom new_ids 0 (before ++ (run_ids id_run ++ after)) → (n : ℕ) → has (before ++ (run_ids id_run ++ after)) n ≡ true →
+  same_list_alone : (before after : List ℕ) → AreNewIdsFrom new_ids 0 (before ++ (run_ids id_run ++ after)) → (n : ℕ) →
+      has (before ++ (run_ids id_run ++ after)) n ≡ true →
       id_run.0 ≤ n → n < next_after id_run.0 (run_ids id_run) → has (run_ids id_run) n ≡ true
   same_list_alone before after up n h from to =
       elim ends [
@@ -159,7 +163,8 @@ module _ (new_ids : NewIds) (once : IsInjective new_ids) (id_run : IdRun) (move 
         | inr end ↦
             elim (or_cases (has before n) (has (run_ids id_run ++ after) n) (sym (has_both before (run_ids id_run ++ after) n) ∙ h)) [
               | inl earlier ↦
-                  let t = in_order_of_ids new_ids 0 n id_run.0 before (run_ids id_run ++ after) up earlier (here id_run.0 (ids_onward (id_run.0 + 1) id_run.1 ++ after)) in
+                  let t = in_order_of_ids new_ids 0 n id_run.0 before (run_ids id_run ++ after) up earlier
+                  (here id_run.0 (ids_onward (id_run.0 + 1) id_run.1 ++ after)) in
                   let low = came_of n t.0 from (omega (arith, to, end)) t.3 in
                   let high = came_of id_run.0 t.1 (omega arith) (omega (arith, from, to, end)) t.4 in
                   let less : t.0 < t.1 = t.2 in
@@ -170,7 +175,8 @@ module _ (new_ids : NewIds) (once : IsInjective new_ids) (id_run : IdRun) (move 
                     | inr later ↦
                         let l = last_of id_run.0 id_run.0 (ids_onward (id_run.0 + 1) id_run.1) in
                         let last : next_after id_run.0 (run_ids id_run) ≡ l.0 + 1 = l.1 in
-                        let t = in_order_of_ids new_ids 0 l.0 n (run_ids id_run) after (under_tail new_ids 0 before (run_ids id_run ++ after) up) l.2 later in
+                        let t = in_order_of_ids new_ids 0 l.0 n (run_ids id_run) after
+                        (under_tail new_ids 0 before (run_ids id_run ++ after) up) l.2 later in
                         let low = came_of l.0 t.0 (omega (arith, from, to, last)) (omega (arith, last, end)) t.3 in
                         let high = came_of n t.1 from (omega (arith, to, end)) t.4 in
                         let less : t.0 < t.1 = t.2 in
@@ -179,7 +185,9 @@ module _ (new_ids : NewIds) (once : IsInjective new_ids) (id_run : IdRun) (move 
             ]
       ]
 
-  run_rises : (count next : ℕ) (run : List ℕ) → id_run.0 ≤ next → AreNewIdsFrom new_ids (move.moved.from + (next - id_run.0)) (ids_onward (id_run.0 + 1) run) → AllByRecursion (λ other. id_run.0 + 1 + other < move.end) run →
+  run_rises : (count next : ℕ) (run : List ℕ) → id_run.0 ≤ next →
+      AreNewIdsFrom new_ids (move.moved.from + (next - id_run.0)) (ids_onward (id_run.0 + 1) run) →
+      AllByRecursion (λ other. id_run.0 + 1 + other < move.end) run →
       ((n : ℕ) → has (ids_onward (id_run.0 + 1) run) n ≡ true → n < count) → AscendWithin count next (ids_onward (id_run.0 + 1) run)
   run_rises count next [] from up all below = tt
   run_rises count next (other ∷ run) from up all below =
@@ -187,32 +195,45 @@ module _ (new_ids : NewIds) (once : IsInjective new_ids) (id_run : IdRun) (move 
       let above : move.moved.from + (next - id_run.0) ≤ up.0 = up.1 in (
         omega (arith, of, above, from),
         below (id_run.0 + 1 + other) (here (id_run.0 + 1 + other) (ids_onward (id_run.0 + 1) run)),
-        run_rises count (id_run.0 + 1 + other + 1) run (omega arith) (under_from new_ids (move.moved.from + (id_run.0 + 1 + other + 1 - id_run.0)) (up.0 + 1) (ids_onward (id_run.0 + 1) run) (omega (arith, of)) up.3) all.1
+        run_rises count (id_run.0 + 1 + other + 1) run (omega arith)
+            (under_from new_ids (move.moved.from + (id_run.0 + 1 + other + 1 - id_run.0)) (up.0 + 1)
+            (ids_onward (id_run.0 + 1) run) (omega (arith, of)) up.3) all.1
             (λ n h. below n (ap (λ b. eqb (id_run.0 + 1 + other) n || b) h ∙ or-true (eqb (id_run.0 + 1 + other) n))),
       )
 
-  one_run_rises : (count : ℕ) → AreNewIdsFrom new_ids 0 (run_ids id_run) → ((n : ℕ) → has (run_ids id_run) n ≡ true → n < count) → AscendWithin count id_run.0 (run_ids id_run)
+  one_run_rises : (count : ℕ) → AreNewIdsFrom new_ids 0 (run_ids id_run) →
+      ((n : ℕ) → has (run_ids id_run) n ≡ true → n < count) → AscendWithin count id_run.0 (run_ids id_run)
   one_run_rises count up below = (
     omega arith,
     below id_run.0 (here id_run.0 (ids_onward (id_run.0 + 1) id_run.1)),
     by_run id_run.1 move.below up.3 (λ n h. below n (ap (λ b. eqb id_run.0 n || b) h ∙ or-true (eqb id_run.0 n))),
   )
     where
-      by_run : (run : List ℕ) → AllByRecursion (λ other. id_run.0 + 1 + other < move.end) run → AreNewIdsFrom new_ids (up.0 + 1) (ids_onward (id_run.0 + 1) run) → ((n : ℕ) → has (ids_onward (id_run.0 + 1) run) n ≡ true → n < count) → AscendWithin count (id_run.0 + 1) (ids_onward (id_run.0 + 1) run)
+      by_run : (run : List ℕ) → AllByRecursion (λ other. id_run.0 + 1 + other < move.end) run →
+          AreNewIdsFrom new_ids (up.0 + 1) (ids_onward (id_run.0 + 1) run) →
+          ((n : ℕ) → has (ids_onward (id_run.0 + 1) run) n ≡ true → n < count) →
+          AscendWithin count (id_run.0 + 1) (ids_onward (id_run.0 + 1) run)
       by_run [] all rest low = tt
       by_run (one ∷ run) all rest low =
           let first : id_run.0 + 1 + one < move.end = all.0 in
           let of = came_of id_run.0 up.0 (omega arith) (omega (arith, first)) up.2 in
-          run_rises count (id_run.0 + 1) (one ∷ run) (omega arith) (under_from new_ids (move.moved.from + (id_run.0 + 1 - id_run.0)) (up.0 + 1) (ids_onward (id_run.0 + 1) (one ∷ run)) (omega (arith, of)) rest) all low
+          run_rises count (id_run.0 + 1) (one ∷ run) (omega arith)
+          (under_from new_ids (move.moved.from + (id_run.0 + 1 - id_run.0)) (up.0 + 1)
+          (ids_onward (id_run.0 + 1) (one ∷ run)) (omega (arith, of)) rest) all low
 
 -- ---- the runs of both lists
 
-module _ (new_ids others : NewIds) (once : IsInjective new_ids) (apart : (id other new : ℕ) → new_id new_ids id ≡ Some new → new_id others other ≡ Some new → ⊥) (count : ℕ) (ids more all : List ℕ) (up : AreNewIdsFrom new_ids 0 ids) (more_up : AreNewIdsFrom others 0 more) (both : (n : ℕ) → has all n ≡ (has ids n || has more n)) (below : (n : ℕ) → has all n ≡ true → n < count) where
-  closed_one : (before after : List ℕ) (id_run : IdRun) → ids ≡ before ++ (run_ids id_run ++ after) → IsWithinRun new_ids id_run → IsClosed count all id_run
+module _ (new_ids others : NewIds) (once : IsInjective new_ids) (apart : (id other new : ℕ) → new_id new_ids id
+    ≡ Some new → new_id others other ≡ Some new → ⊥) (count : ℕ) (ids more all : List ℕ)
+    (up : AreNewIdsFrom new_ids 0 ids) (more_up : AreNewIdsFrom others 0 more)
+    (both : (n : ℕ) → has all n ≡ (has ids n || has more n)) (below : (n : ℕ) → has all n ≡ true → n < count) where
+  closed_one : (before after : List ℕ) (id_run : IdRun) → ids ≡ before ++ (run_ids id_run ++ after) →
+      IsWithinRun new_ids id_run → IsClosed count all id_run
   closed_one before after id_run is move = record {
     rises = one_run_rises new_ids once id_run move count first_up (λ n h. below n (both n ∙ ap (λ b. b || has more n) (among n h)));
     alone = λ n h from to. elim (or_cases (has ids n) (has more n) (sym (both n) ∙ h)) [
-      | inl own ↦ same_list_alone new_ids once id_run move before after (subst (AreNewIdsFrom new_ids 0) is up) n (sym (ap (λ ns. has ns n) is) ∙ own) from to
+      | inl own ↦ same_list_alone new_ids once id_run move before after (subst (AreNewIdsFrom new_ids 0) is up) n
+          (sym (ap (λ ns. has ns n) is) ∙ own) from to
       | inr other ↦ absurd (not_other n from to (has_under others 0 n more more_up other))
     ];
   }
@@ -237,17 +258,13 @@ module _ (new_ids others : NewIds) (once : IsInjective new_ids) (apart : (id oth
             | inr end ↦ apart (move.moved.from + (n - id_run.0)) there.0 n (move.moved.each n from (omega (arith, to, end))) there.2
           ]
 
-  pub closed_each : (before : List ℕ) (id_runs : List IdRun) → ids ≡ before ++ runs_ids id_runs → AllByRecursion (IsWithinRun new_ids) id_runs → AllByRecursion (IsClosed count all) id_runs
+  pub closed_each : (before : List ℕ) (id_runs : List IdRun) → ids ≡ before ++ runs_ids id_runs →
+      AllByRecursion (IsWithinRun new_ids) id_runs → AllByRecursion (IsClosed count all) id_runs
   closed_each before [] is moves = tt
   closed_each before (id_run ∷ id_runs) is moves = (
     closed_one before (runs_ids id_runs) id_run is moves.0,
     closed_each (before ++ run_ids id_run) id_runs (is ∙ sym (append_assoc before (run_ids id_run) (runs_ids id_runs))) moves.1,
   )
-
-runs_both : (id_runs more : List IdRun) → runs_ids (id_runs ++ more) ≡ runs_ids id_runs ++ runs_ids more
-runs_both [] more = refl
-runs_both (id_run ∷ id_runs) more =
-    ap (λ ids. run_ids id_run ++ ids) (runs_both id_runs more) ∙ sym (append_assoc (run_ids id_run) (runs_ids id_runs) (runs_ids more))
 
 -- ---- sorted runs
 
@@ -261,8 +278,11 @@ many_runs n (id_run ∷ id_runs) =
 has_some : (ns : List ℕ) (n : ℕ) → has ns n ≡ true → 0 < many n ns
 has_some ns n h = ltb-true 0 (many n ns) (sym (has_many ns n) ∙ h)
 
-runs_rise : (count next : ℕ) (all : List ℕ) (id_runs : List IdRun) → IsNonDecreasingBy (λ (id_run : IdRun). id_run.0) id_runs → AllByRecursion (IsClosed count all) id_runs →
-    ((n : ℕ) → many n (runs_ids id_runs) ≤ 1) → ((n : ℕ) → has (runs_ids id_runs) n ≡ true → has all n ≡ true) → ((n : ℕ) (m : List IdRun) (run : List ℕ) → id_runs ≡ (n, run) ∷ m → next ≤ n) → AscendWithin count next (runs_ids id_runs)
+runs_rise : (count next : ℕ) (all : List ℕ) (id_runs : List IdRun) → IsNonDecreasingBy (λ (id_run : IdRun). id_run.0)
+    id_runs → AllByRecursion (IsClosed count all) id_runs →
+    ((n : ℕ) → many n (runs_ids id_runs) ≤ 1) → ((n : ℕ) → has (runs_ids id_runs) n ≡ true → has all n ≡ true) →
+    ((n : ℕ) (m : List IdRun) (run : List ℕ) → id_runs ≡ (n, run) ∷ m → next ≤ n) →
+    AscendWithin count next (runs_ids id_runs)
 runs_rise count next all [] up closed bound among from = tt
 runs_rise count next all (id_run ∷ id_runs) up closed bound among from =
     rise_append count next (run_ids id_run) (runs_ids id_runs) own
@@ -270,7 +290,8 @@ runs_rise count next all (id_run ∷ id_runs) up closed bound among from =
     (λ i j d h k. up (suc i) (suc j) d (omega (arith, h)) (omega (arith, k)))
     closed.1
     (λ n. let f = bound n in let s = sum_by-append (one n) (run_ids id_run) (runs_ids id_runs) in omega (arith, f, s))
-    (λ n h. among n (has_both (run_ids id_run) (runs_ids id_runs) n ∙ ap (λ b. has (run_ids id_run) n || b) h ∙ or-true (has (run_ids id_run) n)))
+    (λ n h. among n (has_both (run_ids id_run) (runs_ids id_runs) n ∙ ap (λ b. has (run_ids id_run) n || b) h
+    ∙ or-true (has (run_ids id_run) n)))
     (λ n m run is. behind n m run id_runs is up bound among))
   where
     first : AscendWithin count id_run.0 (run_ids id_run)
@@ -279,7 +300,9 @@ runs_rise count next all (id_run ∷ id_runs) up closed bound among from =
     own : AscendWithin count next (run_ids id_run)
     own = (from id_run.0 id_runs id_run.1 refl, first.1, first.2)
 
-    behind : (n : ℕ) (m : List IdRun) (run : List ℕ) (rest : List IdRun) → rest ≡ (n, run) ∷ m → IsNonDecreasingBy (λ (p : IdRun). p.0) (id_run ∷ rest) → ((k : ℕ) → many k (run_ids id_run ++ runs_ids rest) ≤ 1) →
+    behind : (n : ℕ) (m : List IdRun) (run : List ℕ) (rest : List IdRun) → rest ≡ (n, run) ∷ m →
+        IsNonDecreasingBy (λ (p : IdRun). p.0) (id_run ∷ rest) →
+        ((k : ℕ) → many k (run_ids id_run ++ runs_ids rest) ≤ 1) →
         ((k : ℕ) → has (run_ids id_run ++ runs_ids rest) k ≡ true → has all k ≡ true) → next_after next (run_ids id_run) ≤ n
     behind n m run [] is up bound among = cc
     behind n m run ((k, ns) ∷ rest) is up bound among =
@@ -288,7 +311,8 @@ runs_rise count next all (id_run ∷ id_runs) up closed bound among from =
         let there : has (runs_ids ((k, ns) ∷ rest)) k ≡ true = here k (ids_onward (k + 1) ns ++ runs_ids rest) in
         elim (cases_lt k (next_after id_run.0 (run_ids id_run))) [
           | inl within ↦
-              let inside = closed.0.alone k (among k (has_both (run_ids id_run) (runs_ids ((k, ns) ∷ rest)) k ∙ ap (λ b. has (run_ids id_run) k || b) there ∙ or-true (has (run_ids id_run) k))) over within in
+              let inside = closed.0.alone k (among k (has_both (run_ids id_run) (runs_ids ((k, ns) ∷ rest)) k
+              ∙ ap (λ b. has (run_ids id_run) k || b) there ∙ or-true (has (run_ids id_run) k))) over within in
               let a = has_some (run_ids id_run) k inside in
               let b = has_some (runs_ids ((k, ns) ∷ rest)) k there in
               let f = bound k in
@@ -306,7 +330,11 @@ all_moved : {X : Type 0} (P : X → Type 0) (xs ys : List X) → IsPermutation x
 all_moved P xs ys moved_to all = recursion_from_All P ys (All-permutation P xs ys moved_to (All-from_recursion P xs all))
 
 -- the sorted runs of both lists ascend, and have the ids of both
-module _ (older_ids newer_ids : NewIds) (once : AreUnique older_ids newer_ids) (count : ℕ) (older newer : List ℕ) (older_up : AreNewIdsFrom older_ids 0 older) (newer_up : AreNewIdsFrom newer_ids 0 newer) (are : AreDistinctIds count (older ++ newer)) (before some all sorted : List IdRun) (begun : before ≡ []) (first : AreGathered older_ids before some older []) (then : AreGathered newer_ids some all newer []) (moved_to : IsPermutation all sorted) where
+module _ (older_ids newer_ids : NewIds) (once : AreUnique older_ids newer_ids) (count : ℕ) (older newer : List ℕ)
+    (older_up : AreNewIdsFrom older_ids 0 older) (newer_up : AreNewIdsFrom newer_ids 0 newer)
+    (are : AreDistinctIds count (older ++ newer)) (before some all sorted : List IdRun) (begun : before ≡ [])
+    (first : AreGathered older_ids before some older []) (then : AreGathered newer_ids some all newer [])
+    (moved_to : IsPermutation all sorted) where
   older_are : older ≡ runs_ids first.more
   older_are = first.ids_are ∙ append-nil (runs_ids first.more)
 
@@ -323,8 +351,11 @@ module _ (older_ids newer_ids : NewIds) (once : AreUnique older_ids newer_ids) (
   each_closed =
       subst (AllByRecursion (IsClosed count (older ++ newer))) (sym all_are)
       (all-append (IsClosed count (older ++ newer)) first.more then.more
-      (closed_each older_ids newer_ids once.older_once once.apart count older newer (older ++ newer) older_up newer_up (has_both older newer) are.below [] first.more older_are first.each)
-      (closed_each newer_ids older_ids once.newer_once (λ id other new h e. once.apart other id new e h) count newer older (older ++ newer) newer_up older_up (λ n. has_both older newer n ∙ swap (has older n) (has newer n)) are.below [] then.more newer_are then.each))
+      (closed_each older_ids newer_ids once.older_once once.apart count older newer (older ++ newer) older_up newer_up
+      (has_both older newer) are.below [] first.more older_are first.each)
+      (closed_each newer_ids older_ids once.newer_once (λ id other new h e. once.apart other id new e h) count newer
+      older (older ++ newer) newer_up older_up (λ n. has_both older newer n ∙ swap (has older n) (has newer n))
+      are.below [] then.more newer_are then.each))
     where
       swap : (a b : Bool) → (a || b) ≡ (b || a)
       swap true b = sym (or-true b)
@@ -332,7 +363,8 @@ module _ (older_ids newer_ids : NewIds) (once : AreUnique older_ids newer_ids) (
       swap false false = refl
 
   as_many : (n : ℕ) → many n (runs_ids sorted) ≡ many n (older ++ newer)
-  as_many n = many_runs n sorted ∙ sum_by-IsPermutation (λ (id_run : IdRun). many n (run_ids id_run)) all sorted moved_to ∙ sym (many_runs n all) ∙ ap (many n) ids_of_all
+  as_many n = many_runs n sorted ∙ sum_by-IsPermutation (λ (id_run : IdRun). many n (run_ids id_run)) all sorted
+      moved_to ∙ sym (many_runs n all) ∙ ap (many n) ids_of_all
 
   pub has_runs : (n : ℕ) → has (runs_ids sorted) n ≡ has (older ++ newer) n
   has_runs n = has_many (runs_ids sorted) n ∙ ap (ltb 0) (as_many n) ∙ sym (has_many (older ++ newer) n)
@@ -357,11 +389,15 @@ pub some_ids : (id_runs : List IdRun) → eqb (length id_runs) 0 ≡ false → r
 some_ids [] some none = true≢false some
 some_ids (id_run ∷ id_runs) some none = cc
 
-pub first_run : (id_runs : List IdRun) (position : ℕ) (id_run : IdRun) → position < length id_runs → id_run ≡ get_or id_runs position id_run → runs_ids (drop position id_runs) ≡ run_ids id_run ++ runs_ids (drop (position + 1) id_runs)
-first_run id_runs position id_run h is = ap runs_ids (drop_more id_runs position id_run h) ∙ ap (λ p. run_ids p ++ runs_ids (drop (position + 1) id_runs)) (sym is)
+pub first_run : (id_runs : List IdRun) (position : ℕ) (id_run : IdRun) → position < length id_runs → id_run
+    ≡ get_or id_runs position id_run → runs_ids (drop position id_runs) ≡ run_ids id_run
+    ++ runs_ids (drop (position + 1) id_runs)
+first_run id_runs position id_run h is = ap runs_ids (drop_more id_runs position id_run h)
+    ∙ ap (λ p. run_ids p ++ runs_ids (drop (position + 1) id_runs)) (sym is)
 
 -- the remaining ids once the first id of a run is written, and then its other ids
-module _ (id_runs : List IdRun) (position : ℕ) (id_run : IdRun) (h : position < length id_runs) (is : id_run ≡ get_or id_runs position id_run) where
+module _ (id_runs : List IdRun) (position : ℕ) (id_run : IdRun) (h : position < length id_runs)
+    (is : id_run ≡ get_or id_runs position id_run) where
   abbrev pub left : List ℕ
   left = runs_ids (drop position id_runs)
 
@@ -383,8 +419,5 @@ module _ (id_runs : List IdRun) (position : ℕ) (id_run : IdRun) (h : position 
         ap (without_number id_run.0) (first_run id_runs position id_run h is)
         ∙ without_first (ids_onward (id_run.0 + 1) id_run.1 ++ runs_ids (drop (position + 1) id_runs))
         ∙ ap (λ ids. ids_onward (id_run.0 + 1) id_run.1 ++ ids) (sym rest_is);
-    below = λ most e. absurd (none most e);
+    below = λ most e. absurd (none-some most e);
   } refl
-    where
-      none : (most : ℕ) → None ≡ Some most → ⊥
-      none most e = cc

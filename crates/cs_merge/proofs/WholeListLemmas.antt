@@ -1,10 +1,6 @@
 -- Lists that are read for damage only.
 use Rattle.std.proofs.Common.{◌≡◌, ℕ, suc, ◌+◌, ◌<◌, Bool, true, ◌&&◌, length, sym, ap, ◌∙◌, Option, slice_get, drop, drop-cons, arith}
-use Rattle.std.proofs.lemmas.Option.{slice_get-get_or}
-use Rattle.std.specs.List.{list_all}
-use Rattle.std.specs.Option.{option_map_or}
-use Rattle.cs_index.specs.Encoding.{ListEntry}
-use Rattle.cs_index.specs.OpenedParts.{Parts, ids_read}
+use Rattle.cs_merge.proofs.Common.{slice_get-get_or, list_all, option_map_or, ListEntry, Parts, ids_read}
 
 module _ (parts : Parts) where
   abbrev pub whole : ListEntry → Bool
@@ -14,7 +10,8 @@ module _ (parts : Parts) where
   whole_at o = option_map_or whole o true
 
   -- one list less
-  pub one_less : (position : ℕ) → position < length parts.entries → list_all whole (drop position parts.entries) ≡ (whole_at (slice_get parts.entries position) && list_all whole (drop (position + 1) parts.entries))
+  pub one_less : (position : ℕ) → position < length parts.entries → list_all whole (drop position parts.entries)
+      ≡ (whole_at (slice_get parts.entries position) && list_all whole (drop (position + 1) parts.entries))
   one_less position within =
       let d : ListEntry = record { trigram = 0; count = 0; offset = 0 } in
       let on : suc position ≡ position + 1 = omega arith in

@@ -1,7 +1,6 @@
 -- Maps from old ids to the ids of the merged index.
 -- docs/PROMISES.md, "Merging"; index/merge.go, "idMap".
-use Rattle.std.specs.Prelude.{◌≡◌, ℕ, ◌+◌, ◌-◌, ◌<◌, ◌≤◌, Bool, true, false, List, [], ◌∷◌, Option, Some, None, slice_get, slice_index, length, option_and_then, option_map}
-use Rattle.std.specs.List.{filter_map}
+use Rattle.std.specs.Prelude.{◌≡◌, ℕ, ◌+◌, ◌-◌, ◌<◌, ◌≤◌, Bool, true, false, List, [], ◌∷◌, Option, Some, None, slice_get, slice_index, length, option_and_then, option_map, filter_map}
 use Rattle.cs_tree.specs.NamesAscending.{are_ascending}
 use Rattle.cs_index.specs.Built.{is_above}
 use Rattle.cs_index.specs.Written.{Written}
@@ -131,7 +130,8 @@ pub record AreNamesSoFar (is_dropped : List ℕ →
 
 -- the first `count` entries of the permutation are scattered
 abbrev pub AreScattered : List ℕ → NewIds → ℕ → NewIds → Type 0
-AreScattered ids ranks count new_ids = (position : ℕ) → position < count → slice_get new_ids (slice_index ids position) ≡ slice_get ranks position
+AreScattered ids ranks count new_ids = (position : ℕ) → position < count → slice_get new_ids (slice_index ids position)
+    ≡ slice_get ranks position
 
 -- A map of ids that agrees with a map of ranks.
 pub record AreByRank (ordered : SortedNames) (ranks new_ids : NewIds) : Type 0 where
@@ -147,7 +147,8 @@ pub record AreMergedNames (is_dropped : List ℕ →
   pub newer_long : length newer_ids ≡ length newer
 
 -- The names of both are written so far, by rank, and no list is written yet.
-pub record IsMergingNames (is_dropped : List ℕ → Bool) (older newer : SortedNames) (before now : Written) (older_ranks newer_ranks : NewIds) : Type 0 where
+pub record IsMergingNames (is_dropped : List ℕ → Bool) (older newer : SortedNames) (before now : Written)
+    (older_ranks newer_ranks : NewIds) : Type 0 where
   pub named : AreNamesSoFar is_dropped (sorted_names older) (sorted_names newer) now.names older_ranks newer_ranks
   pub paths : now.paths ≡ before.paths
   pub unlisted : now.lists ≡ []

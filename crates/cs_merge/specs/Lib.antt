@@ -10,14 +10,12 @@ pub use Rattle.cs_index.specs.OpenedParts
 pub mod Merge
 pub mod Content
 pub mod Mergeable
-pub mod BuildOutcome
 pub mod MergeResult
 pub mod Replacing
-pub mod ListFault
+pub mod ListsFault
 -- Definitions that private contracts cite.
 pub mod SomePaths
 pub mod SortedNames
 pub mod IdMap
 pub mod ListMerge
-pub mod ListsFault
 pub mod ListSources

@@ -55,11 +55,13 @@ list_trigram parts position = option_map (λ (e : ListEntry). e.trigram) (slice_
 
 -- the ids of the list at a position; none if that list has another trigram
 abbrev pub list_ids : Parts → ℕ → ℕ → Ids
-list_ids parts position trigram = option_map_or (λ (e : ListEntry). if nat_eq e.trigram trigram then ids_read parts e else nothing_read) (slice_get parts.entries position) nothing_read
+list_ids parts position trigram = option_map_or (λ (e : ListEntry). if nat_eq e.trigram trigram then
+    ids_read parts e else nothing_read) (slice_get parts.entries position) nothing_read
 
 -- the next position if the list at this one has the trigram, else this position
 abbrev pub position_after : Parts → ℕ → ℕ → ℕ
-position_after parts position trigram = option_map_or (λ (e : ListEntry). if nat_eq e.trigram trigram then position + 1 else position) (slice_get parts.entries position) position
+position_after parts position trigram = option_map_or (λ (e : ListEntry). if nat_eq e.trigram trigram then
+    position + 1 else position) (slice_get parts.entries position) position
 
 -- Some ids of both lists are written to the list of the trigram, and the others remain.
 pub record IsMergedList (trigram : ℕ) (before now : Written) (older newer older_left newer_left : List ℕ) : Type 0 where
@@ -110,7 +112,8 @@ pub record AreLeft (older newer : List ListEntry) (lists : List PostingList) (ol
   pub newer_above : (entry : ListEntry) → slice_get newer newer_position ≡ Some entry → AllBelow lists entry.trigram
 
 -- The lists before these positions are merged and written.
-pub record AreMergedLists (older newer : Parts) (older_ids newer_ids : NewIds) (before now : Written) (older_position newer_position : ℕ) : Type 0 where
+pub record AreMergedLists (older newer : Parts) (older_ids newer_ids : NewIds) (before now : Written)
+    (older_position newer_position : ℕ) : Type 0 where
   pub paths : now.paths ≡ before.paths
   pub names : now.names ≡ before.names
   pub left : AreLeft older.entries newer.entries now.lists older_position newer_position

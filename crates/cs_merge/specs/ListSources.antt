@@ -47,14 +47,18 @@ ids_from (InStore tables) buffer e = list_in buffer.bytes (length tables.now.nam
 
 -- the same for the list at a position; none if that list has another trigram
 abbrev pub source_ids : ListSource → BufferState → ℕ → ℕ → Ids
-source_ids source buffer position trigram = option_map_or (λ (e : ListEntry). if nat_eq e.trigram trigram then ids_from source buffer e else nothing_read) (slice_get (known_parts source).entries position) nothing_read
+source_ids source buffer position trigram =
+    option_map_or (λ (e : ListEntry). if nat_eq e.trigram trigram then ids_from source buffer e else nothing_read)
+    (slice_get (known_parts source).entries position) nothing_read
 
 -- the list at the position is read, if there is one
 abbrev pub IsListRead : ListSource → BufferState → Parts → ℕ → Type 0
-IsListRead source buffer parts position = (e : ListEntry) → slice_get parts.entries position ≡ Some e → ids_from source buffer e ≡ ids_read parts e
+IsListRead source buffer parts position = (e : ListEntry) → slice_get parts.entries position ≡ Some e →
+    ids_from source buffer e ≡ ids_read parts e
 
 -- The lists before these positions are written, and where the parts of the source are known, they are the merged ones.
-pub record IsMergingLists (model : Option (List ℕ)) (source : ListSource) (buffer : BufferState) (newer : Parts) (older_ids newer_ids : NewIds) (before now : Written) (older_position newer_position : ℕ) : Type 0 where
+pub record IsMergingLists (model : Option (List ℕ)) (source : ListSource) (buffer : BufferState) (newer : Parts)
+    (older_ids newer_ids : NewIds) (before now : Written) (older_position newer_position : ℕ) : Type 0 where
   pub paths : now.paths ≡ before.paths
   pub names : now.names ≡ before.names
   pub left : AreLeft (known_parts source).entries newer.entries now.lists older_position newer_position

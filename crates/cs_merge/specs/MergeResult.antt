@@ -1,15 +1,24 @@
 -- The result of a merge.
-use Rattle.std.specs.Prelude.{◌≡◌, ℕ, ◌-◌, ◌<◌, ◌^◌, true, false, List, length}
+use Rattle.std.specs.Prelude.{◌≡◌, ℕ, ◌-◌, ◌<◌, ◌≤◌, ◌^◌, true, false, List, length}
 use Rattle.cs_index.specs.OpenedParts.{Parts, are_covered}
 use Rattle.cs_index.specs.declared.fault.IndexFault.TheVariants.{BadList}
 use Rattle.cs_merge.specs.declared.fault.MergeFault.{MergeFault}
 use Rattle.cs_merge.specs.declared.fault.MergeFault.TheVariants.{Unsorted, Uncovered, Index, TooLarge, Memory}
-use Rattle.cs_merge.specs.BuildOutcome.{IsIndexWithin}
 use Rattle.cs_merge.specs.Mergeable.{both_ascend, both_distinct, both_whole, merge_index, AreMergeable, AreTested}
 
 -- the most bytes that an index can have: its offsets have 32 bits
 abbrev pub most_bytes : ℕ
 most_bytes = 2 ^ 32 - 1
+
+-- The bytes are this index, and at most `most` of them.
+pub record IsIndexWithin (most : ℕ) (index bytes : List ℕ) : Type 0 where
+  pub are : bytes ≡ index
+  pub short : length bytes ≤ most
+
+-- Why an index is not built.
+pub data IsBuildFault (most : ℕ) (index : List ℕ) (fault : MergeFault) : Type 0 where
+  too_long : fault ≡ TooLarge → most < length index → IsBuildFault most index fault
+  memory : fault ≡ Memory → IsBuildFault most index fault
 
 -- The bytes are the merged index, and at most `most` of them.
 pub record IsMerged (old newer : Parts) (most : ℕ) (bytes : List ℕ) : Type 0 where

@@ -38,8 +38,10 @@ pub record AreSortedNames (ordered : SortedNames) : Type 0 where
   pub are : AreIndexNames ordered.names
   pub ascend : are_ascending (sorted_names ordered) ≡ true
   pub long : length (sorted_names ordered) ≡ length ordered.names
-  pub there : (position id : ℕ) → id_of_rank ordered position ≡ Some id → slice_get (sorted_names ordered) position ≡ slice_get ordered.names id
-  pub each : (id : ℕ) → id < length ordered.names → (position : ℕ) × (position < length ordered.names) × (id_of_rank ordered position ≡ Some id)
+  pub there : (position id : ℕ) → id_of_rank ordered position ≡ Some id → slice_get (sorted_names ordered) position
+      ≡ slice_get ordered.names id
+  pub each : (id : ℕ) → id < length ordered.names → (position : ℕ) × (position < length ordered.names) ×
+      (id_of_rank ordered position ≡ Some id)
 
 -- The names of both indexes are sorted, and they pass the tests that come before any list is read.
 pub record AreTestedNames (old : List (List ℕ)) (new : Parts) (older_sorted newer_sorted : SortedNames) : Type 0 where

@@ -45,7 +45,7 @@ impl<T: Drop> From<AllocFailed<T>> for MergeFault {
 
 /// The error of a damaged list; an allocation failure becomes `Memory`.
 impl From<IndexFault> for MergeFault {
-    ghost use Rattle.cs_merge.specs.ListFault.{merge_fault_of};
+    ghost use Rattle.cs_merge.specs.ListsFault.{merge_fault_of};
 
     ghost from_gives = { λ index fault. fault ≡ merge_fault_of index };
 

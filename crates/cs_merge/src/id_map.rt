@@ -1,6 +1,6 @@
 // Maps from the ids of the two indexes to the ids of the merged index. Go: `idMap` in
 // index/merge.go.
-ghost use Rattle.std.specs.Prelude.{◌≡◌, ◌<◌, ◌^◌, ◌∷◌, ◌++◌, [], Some, None, length, IfOk, OnOk};
+ghost use Rattle.std.specs.Prelude.{◌≡◌, ◌<◌, ◌^◌, ◌∷◌, ◌++◌, [], length, IfOk, OnOk};
 ghost use Rattle.cs_merge.specs.IdMap.{new_id as new_id', AreScattered};
 ghost use Rattle.cs_merge.specs.ListMerge.{AreDistinctIds};
 
@@ -40,19 +40,11 @@ impl IdMap {
         self.new_ids.len() as u32
     }
 
-    /// Maps the next id to `new`.
-    pub(crate) fn keep(&mut self, new: u32) -> Result<(), AllocError>
-        ensures { OnOk result (self.new ≡ self.old ++ Some new ∷ []) }
+    /// Maps the next id to `new`, or to nothing if its file is dropped.
+    pub(crate) fn push(&mut self, new: Option<u32>) -> Result<(), AllocError>
+        ensures { OnOk result (self.new ≡ self.old ++ new ∷ []) }
     {
-        self.new_ids.push(Some(new))?;
-        Ok(())
-    }
-
-    /// Maps the next id to nothing: its file is dropped.
-    pub(crate) fn push_dropped(&mut self) -> Result<(), AllocError>
-        ensures { OnOk result (self.new ≡ self.old ++ None ∷ []) }
-    {
-        self.new_ids.push(None)?;
+        self.new_ids.push(new)?;
         Ok(())
     }
 

@@ -1,6 +1,6 @@
 // Runs of ids. Go: `idrange` in index/merge.go. A run is a range of ids that the map shifts by one
 // distance, or that it drops as a whole.
-ghost use Rattle.std.specs.Prelude.{◌≡◌, ◌+◌, ◌<◌, ◌^◌, true, length, IfOk, IfSome, option_map};
+ghost use Rattle.std.specs.Prelude.{◌≡◌, ◌+◌, ◌<◌, ◌^◌, true, length, IfOk, option_map};
 ghost use Rattle.cs_merge.specs.IdMap.{new_id as new_id', IsImageOfRun, IsIncreasing, IsRun};
 
 use crate::id_map::IdMap;
@@ -106,22 +106,14 @@ fn find_is_increasing(new_ids: &IdMap) -> bool
         let Some(new) = new_ids.new_id(id) else {
             continue;
         };
-        if !is_above(new, last) {
-            return false;
+        if let Some(last) = last {
+            if new <= last {
+                return false;
+            }
         }
         last = Some(new);
     }
     true
-}
-
-/// Whether an id is above the last one, if there is one.
-fn is_above(id: u32, last: Option<u32>) -> bool
-    ensures { result ≡ true → IfSome last (λ last. last < id) }
-{
-    match last {
-        None => true,
-        Some(last) => last < id,
-    }
 }
 
 /// Whether two adjacent ids are in one run, by their new ids.

@@ -39,8 +39,7 @@ pub fn merged_paths_cover()
 
 /// If the newer paths cover all old paths and names, the merge is the newer index, encoded anew.
 pub fn what_is_covered_is_replaced()
-    ensures paths { (old newer : Paths) → IsCoveredBy old newer →
-        merge_paths old newer ≡ least newer }
+    ensures paths { (old newer : Paths) → IsCoveredBy old newer → merge_paths old newer ≡ least newer }
     ensures files { (p q : Paths) (old newer : Files) → IsCoveredBy p q → LieUnder p old →
         merge_files q old newer ≡ newer }
     ensures index { (old newer : Parts) → is_replaced (paths_in newer) old ≡ true →
@@ -61,8 +60,7 @@ pub fn encodings_decode_as_their_content()
         length (encoding paths files) < 2 ^ 32 →
         DecodesAs (encoding paths files) (parts_written (set.items paths) (map.entries files)) }
     ensures decodes { (paths : Paths) (files : Files) → IsContent paths files →
-        length (encoding paths files) < 2 ^ 32 →
-        DecodesAsContent (encoding paths files) paths files }
+        length (encoding paths files) < 2 ^ 32 → DecodesAsContent (encoding paths files) paths files }
 {}
 
 /// Bytes decode as at most one content.
@@ -77,8 +75,7 @@ pub fn bytes_have_one_content()
 /// name.
 pub fn names_have_their_sets()
     ensures names { (bytes : List ℕ) (paths : Paths) (files : Files)
-        (decoding : DecodesAsContent bytes paths files) →
-        map.keys files ≡ decoding.parts.names }
+        (decoding : DecodesAsContent bytes paths files) → map.keys files ≡ decoding.parts.names }
     ensures sets { (bytes : List ℕ) (paths : Paths) (files : Files)
         (decoding : DecodesAsContent bytes paths files) (id : ℕ) (d : List ℕ) →
         id < length decoding.parts.names → map.get files (slice_index_or decoding.parts.names id d) ≡
@@ -87,8 +84,7 @@ pub fn names_have_their_sets()
 
 /// Two contents with the same encoding of less than 2^32 bytes are equal.
 pub fn encodings_have_one_content()
-    ensures { (p q : Paths) (f g : Files) → IsContent p f → IsContent q g →
-        length (encoding p f) < 2 ^ 32 →
+    ensures { (p q : Paths) (f g : Files) → IsContent p f → IsContent q g → length (encoding p f) < 2 ^ 32 →
         encoding p f ≡ encoding q g → (p ≡ q) × (f ≡ g) }
 {}
 

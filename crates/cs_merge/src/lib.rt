@@ -5,7 +5,6 @@
 //! defines the content of an index, and which content bytes decode as.
 #![tactic(auto)]
 
-mod building;
 mod covering;
 mod fault;
 mod id_map;

@@ -92,8 +92,7 @@ impl<'a> ListSource<'a> {
         buffer: &'b ListBuffer,
         position: u32,
     ) -> Option<(u32, Postings<'b>)>
-        ensures { result ≡
-            option_map (λ (e : ListEntry). (e.trigram, ids_from self.now buffer.now e))
+        ensures { result ≡ option_map (λ (e : ListEntry). (e.trigram, ids_from self.now buffer.now e))
             (slice_get (known_parts self.now).entries position) }
     {
         match self {

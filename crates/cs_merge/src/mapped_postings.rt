@@ -99,8 +99,7 @@ impl<'a, 'b> MappedPostings<'a, 'b> {
     /// Advances to the next id, if `id` is the first one.
     pub(crate) fn advance(&mut self, id: u32) -> Result<(), IndexFault>
         ensures ok { OnOk result (self.new ≡ ids_after id self.old) }
-        ensures fault { IfErr result
-            (λ fault. (fault ≡ IndexFault.BadList) × (self.old.whole ≡ false)) }
+        ensures fault { IfErr result (λ fault. (fault ≡ IndexFault.BadList) × (self.old.whole ≡ false)) }
     {
         if self.first == Some(id) {
             let next = next_kept(&mut self.rest, self.runs)?;
@@ -125,15 +124,12 @@ fn parts(next: Option<(u32, u32)>) -> (u32, Option<u32>)
 
 /// The next id that is kept, with its new id. Runs of dropped ids are skipped without decoding.
 fn next_kept(ids: &mut Postings<'_>, runs: &IdRuns<'_>) -> Result<Option<(u32, u32)>, IndexFault>
-    ensures ids { IfOk result (λ next.
-        cons_option (new_of next) (new_ids_of runs.now ids.new.ids)
+    ensures ids { IfOk result (λ next. cons_option (new_of next) (new_ids_of runs.now ids.new.ids)
         ≡ new_ids_of runs.now ids.old.ids) }
-    ensures kept { IfOk result (λ next.
-        IfSome next (λ kept. new_id' runs.now kept.0 ≡ Some kept.1)) }
+    ensures kept { IfOk result (λ next. IfSome next (λ kept. new_id' runs.now kept.0 ≡ Some kept.1)) }
     ensures whole { OnOk result (ids.new.whole ≡ ids.old.whole) }
     ensures end { IfOk result (λ next. next ≡ None → (ids.new.ids ≡ []) × (ids.new.whole ≡ true)) }
-    ensures fault { IfErr result
-        (λ fault. (fault ≡ IndexFault.BadList) × (ids.old.whole ≡ false)) }
+    ensures fault { IfErr result (λ fault. (fault ≡ IndexFault.BadList) × (ids.old.whole ≡ false)) }
 {
     'ids: while let Some(answer) = ids.next() {
         let Ok(id) = answer else {

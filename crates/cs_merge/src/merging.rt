@@ -5,17 +5,18 @@ ghost use Rattle.cs_tree.specs.Cover.{is_covered};
 ghost use Rattle.cs_tree.specs.FailureCount.{count_after};
 ghost use Rattle.cs_tree.specs.PathSet as set;
 ghost use Rattle.cs_tree.specs.Transfers.{is_io_failure};
-ghost use Rattle.cs_index.specs.Encoding.{IsString};
+ghost use Rattle.cs_index.specs.Encoding.{IsString, encoding_of};
 ghost use Rattle.cs_index.specs.OpenedParts.{Parts, paths_in};
 ghost use Rattle.cs_index.specs.StoredTables.{TablesIn};
+ghost use Rattle.cs_index.specs.Sending.{IsSentOn};
+ghost use Rattle.cs_index.specs.Written.{entries_written};
 ghost use Rattle.cs_merge.specs.IdMap.{AreMergedNames};
 ghost use Rattle.cs_merge.specs.ListSources.{IsSourceOf};
 ghost use Rattle.cs_merge.specs.Merge.{merge_paths};
 ghost use Rattle.cs_merge.specs.Mergeable.{AreTested};
-ghost use Rattle.cs_merge.specs.MergeResult.{most_bytes, IsMerged, IsMergeFault};
+ghost use Rattle.cs_merge.specs.MergeResult.{most_bytes, IsBuildFault, IsIndexWithin, IsMerged, IsMergeFault};
 ghost use Rattle.cs_merge.specs.SortedNames.{AreIndexNames, AreTestedNames};
 
-use crate::building::{begin, finish};
 use crate::covering::{Cover, is_under};
 use crate::fault::MergeFault;
 use crate::id_map::IdMaps;
@@ -24,7 +25,7 @@ use crate::merging_lists::BothRuns;
 use crate::merging_names::merge_names;
 use crate::merging_trigrams::{Sides, merge_lists};
 use crate::sorted_names::SortedNames;
-use cs_index::{Index, NameTable, Sections, StoredTables, Texts};
+use cs_index::{BuildFault, Index, NameTable, Sections, StoredTables, Texts};
 use cs_output::{Output, Sent};
 use cs_tree::{IoFault, MemStore, Store, reduce};
 use std::alloc::{AllocError, Global};
@@ -61,7 +62,7 @@ pub fn merge_within(
     match merge_source(alloc, &mut store, most, &source, newer, &mut index) {
         Ok(Ok(_sent)) => Ok(index),
         Ok(Err(fault)) => Err(fault),
-        Err(_) => Err(MergeFault::Memory),
+        Err(_unread) => Err(MergeFault::Memory),
     }
 }
 
@@ -129,8 +130,7 @@ fn merge_source<'a, S: Store, O: Output>(
     out: &mut O,
 ) -> Result<Result<Sent, MergeFault>, IoFault>
     ensures merged { (parts : Parts) → IsSourceOf (S.model store.old) old.now parts →
-        IfOk result (λ merged. MatchResult merged
-        (λ index. IsMerged parts newer.now most index.bytes)
+        IfOk result (λ merged. MatchResult merged (λ index. IsMerged parts newer.now most index.bytes)
         (λ fault. IsMergeFault parts newer.now most fault)) }
     ensures tested { (parts : Parts) → IsSourceOf (S.model store.old) old.now parts →
         IfErr result (λ _. AreTested parts newer.now) }
@@ -217,7 +217,12 @@ fn begin_merged(
 {
     newer.are_valid();
     let merged = merged_paths(alloc, paths, newer.paths())?;
-    let mut sections = begin(alloc, &merged)?;
+    let mut sections = match Sections::new(alloc, &merged) {
+        Ok(sections) => sections,
+        // The merged paths are valid paths of an index.
+        Err(BuildFault::BadPaths) => unreachable!(),
+        Err(_) => return Err(MergeFault::Memory),
+    };
     let cover = Cover::new(alloc, newer.paths())?;
     let ids = merge_names(alloc, &mut sections, &names.old, &names.newer, &cover)?;
     Ok((sections, ids))
@@ -244,4 +249,21 @@ fn copy(alloc: Global, copies: &mut Vec<String>, texts: Texts<'_>) -> Result<(),
         copies.push(String::from_str(alloc, text)?)?;
     }
     Ok(())
+}
+
+/// Encodes the index and sends what is not sent yet. `TooLarge` if it has more than `most` bytes.
+fn finish<O: Output>(sections: Sections, most: u32, out: &mut O) -> Result<Sent, MergeFault>
+    ensures ok { IfOk result (λ index. IsIndexWithin most
+        (encoding_of sections.paths (entries_written sections)) index.bytes) }
+    ensures fault { IfErr result (λ fault. IsBuildFault most
+        (encoding_of sections.paths (entries_written sections)) fault) }
+    ensures given { IfOk result
+        (λ index. IsSentOn sections.sent index.bytes (O.given out.old) (O.given out.new)) }
+    ensures keeps { O.Keeps out.old out.new }
+{
+    match sections.finish_into(out, most) {
+        Ok(index) => Ok(index),
+        Err(BuildFault::TooLarge) => Err(MergeFault::TooLarge),
+        Err(_) => Err(MergeFault::Memory),
+    }
 }

@@ -41,15 +41,8 @@ pub(crate) struct BothLists<'a, 'b> {
     pub(crate) newer: MappedPostings<'a, 'b>,
 }
 
-/// Whether both maps are increasing, so that the new ids of each list ascend.
-fn is_increasing(runs: &BothRuns<'_>) -> bool
-    ensures older { result ≡ true → IsIncreasing runs.now.older }
-    ensures newer { result ≡ true → IsIncreasing runs.now.newer }
-{
-    runs.older.is_increasing() && runs.newer.is_increasing()
-}
-
-/// Writes the merged list of one trigram.
+/// Writes the merged list of one trigram. If a map is not increasing, the runs of both lists are sorted by their first
+/// new id.
 pub(crate) fn merge_list(
     alloc: Global,
     sections: &mut Sections,
@@ -69,38 +62,13 @@ pub(crate) fn merge_list(
     requires below { (trigram < closing_trigram) ⊎ ((lists.older.ids ≡ []) × (lists.newer.ids ≡ [])) }
     ensures ok { OnOk result (IsMergedList
         trigram sections.old sections.new lists.entry.older.ids lists.entry.newer.ids [] []) }
-    ensures fault { MatchResult result
-        (λ _. (lists.entry.older.whole && lists.entry.newer.whole) ≡ true)
+    ensures fault { MatchResult result (λ _. (lists.entry.older.whole && lists.entry.newer.whole) ≡ true)
         (IsListFault (lists.entry.older.whole && lists.entry.newer.whole)) }
 {
-    if is_increasing(runs) {
-        merge_ascending(sections, trigram, lists)
-    } else {
-        merge_by_sorting(alloc, sections, trigram, lists, runs)
+    // If both maps are increasing, the new ids of each list ascend.
+    if runs.older.is_increasing() && runs.newer.is_increasing() {
+        return merge_ascending(sections, trigram, lists);
     }
-}
-
-/// Writes the merged list of one trigram if a map is not increasing: the runs of both lists are
-/// sorted by their first new id.
-fn merge_by_sorting(
-    alloc: Global,
-    sections: &mut Sections,
-    trigram: u32,
-    lists: BothLists<'_, '_>,
-    runs: &BothRuns<'_>,
-) -> Result<(), IndexFault>
-    requires once { AreUnique runs.now.older runs.now.newer }
-    requires older_under { AreNewIdsFrom runs.now.older 0 lists.older.ids }
-    requires newer_under { AreNewIdsFrom runs.now.newer 0 lists.newer.ids }
-    requires above { AllBelow sections.old.lists trigram }
-    requires ids { AreDistinctIds (length sections.old.names) (lists.older.ids ++ lists.newer.ids) }
-    requires below { (trigram < closing_trigram) ⊎ ((lists.older.ids ≡ []) × (lists.newer.ids ≡ [])) }
-    ensures ok { OnOk result (IsMergedList
-        trigram sections.old sections.new lists.entry.older.ids lists.entry.newer.ids [] []) }
-    ensures fault { MatchResult result
-        (λ _. (lists.entry.older.whole && lists.entry.newer.whole) ≡ true)
-        (IsListFault (lists.entry.older.whole && lists.entry.newer.whole)) }
-{
     let mut list_runs = Vec::new(alloc);
     gather(&mut list_runs, lists.older, &runs.older)?;
     gather(&mut list_runs, lists.newer, &runs.newer)?;
@@ -117,8 +85,7 @@ fn gather<'a>(
 ) -> Result<(), IndexFault>
     ensures ok { OnOk result
         (AreGathered runs.now list_runs.old.items list_runs.new.items list.entry.ids []) }
-    ensures fault { MatchResult result (λ _. list.entry.whole ≡ true)
-        (IsListFault list.entry.whole) }
+    ensures fault { MatchResult result (λ _. list.entry.whole ≡ true) (IsListFault list.entry.whole) }
 {
     let mut rest = list;
     'ids: while let Some(id) = rest.first() {
@@ -139,8 +106,7 @@ fn write_runs(
     requires above { AllBelow sections.old.lists trigram }
     requires rise { AscendWithin (length sections.old.names) 0 (runs_ids list_runs.now) }
     requires below { (trigram < closing_trigram) ⊎ (runs_ids list_runs.now ≡ []) }
-    ensures { OnOk result
-        (IsMergedList trigram sections.old sections.new (runs_ids list_runs.now) [] [] []) }
+    ensures { OnOk result (IsMergedList trigram sections.old sections.new (runs_ids list_runs.now) [] [] []) }
 {
     if list_runs.is_empty() {
         return Ok(());
@@ -165,8 +131,7 @@ fn merge_ascending(
     requires below { (trigram < closing_trigram) ⊎ ((lists.older.ids ≡ []) × (lists.newer.ids ≡ [])) }
     ensures ok { OnOk result (IsMergedList
         trigram sections.old sections.new lists.entry.older.ids lists.entry.newer.ids [] []) }
-    ensures fault { MatchResult result
-        (λ _. (lists.entry.older.whole && lists.entry.newer.whole) ≡ true)
+    ensures fault { MatchResult result (λ _. (lists.entry.older.whole && lists.entry.newer.whole) ≡ true)
         (IsListFault (lists.entry.older.whole && lists.entry.newer.whole)) }
 {
     let mut older = lists.older;

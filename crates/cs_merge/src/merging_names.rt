@@ -1,6 +1,6 @@
 // The merge of the names of both indexes: a two-way merge in ascending order.
-ghost use Rattle.std.specs.Prelude.{◌≡◌, ◌<◌, ◌≤◌, ◌+◌, ◌^◌, ◌∷◌, ◌++◌, [], true, false, Some, length, IfOk, OnOk};
-ghost use Rattle.std.specs.Option.{option_copied, option_map_or};
+ghost use Rattle.std.specs.Prelude.{◌≡◌, ◌<◌, ◌≤◌, ◌+◌, ◌^◌, ◌∷◌, ◌++◌, [], true, false, Some, length, IfOk, OnOk, option_copied};
+ghost use Rattle.std.specs.Option.{option_map_or};
 ghost use Rattle.std.specs.Ordering.{is_lt};
 ghost use Rattle.cs_tree.specs.NameOrder.{bytes_cmp};
 ghost use Rattle.cs_tree.specs.PathSet as set;
@@ -63,18 +63,16 @@ fn merge_next_name(
         sections.old sections.old ranks.old.older ranks.old.newer }
     ensures so_far { OnOk result (IsMergingNames (is_covered (set.from_list cover.now))
         old.now newer.now sections.old sections.new ranks.new.older ranks.new.newer) }
-    ensures more { IfOk result (λ more. more ≡ true →
-        length ranks.new.older + length ranks.new.newer
+    ensures more { IfOk result (λ more. more ≡ true → length ranks.new.older + length ranks.new.newer
         ≡ length ranks.old.older + length ranks.old.newer + 1) }
-    ensures all { IfOk result (λ more. more ≡ false →
-        (length (sorted_names old.now) ≤ length ranks.new.older)
+    ensures all { IfOk result (λ more. more ≡ false → (length (sorted_names old.now) ≤ length ranks.new.older)
         × (length (sorted_names newer.now) ≤ length ranks.new.newer)) }
 {
     let next = newer.name(ranks.newer.len());
     if let Some(name) = old.name(ranks.older.len()) {
         if is_below(name, next) {
             if cover.covers(name) {
-                ranks.older.push_dropped()?;
+                ranks.older.push(None)?;
             } else {
                 write_name(sections, &mut ranks.older, name)?;
             }
@@ -109,5 +107,5 @@ fn write_name(sections: &mut Sections, new_ids: &mut IdMap, name: &str) -> Resul
     ensures ids { OnOk result (new_ids.new ≡ new_ids.old ++ Some (length sections.old.names) ∷ []) }
 {
     let id = sections.name(name)?;
-    new_ids.keep(id)
+    new_ids.push(Some(id))
 }

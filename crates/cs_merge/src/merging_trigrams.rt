@@ -55,10 +55,8 @@ pub(crate) fn merge_lists<S: Store, O: Output>(
     ensures paths { IfOk result (λ merged. OnOk merged (sections.new.paths ≡ sections.old.paths)) }
     ensures names { IfOk result (λ merged. OnOk merged (sections.new.names ≡ sections.old.names)) }
     ensures merged { (parts : Parts) → IsSourceOf (S.model store.old) sides.now.older.now parts →
-        IfOk result (λ merged. MatchResult merged
-        (λ _. AreAllMerged parts sides.now.newer.now
-        sides.now.runs.older sides.now.runs.newer sections.new.lists)
-        (IsListsFault parts sides.now.newer.now
+        IfOk result (λ merged. MatchResult merged (λ _. AreAllMerged parts sides.now.newer.now
+        sides.now.runs.older sides.now.runs.newer sections.new.lists) (IsListsFault parts sides.now.newer.now
         sides.now.runs.older sides.now.runs.newer sections.old most)) }
     ensures given { IfOk result (λ merged. OnOk merged
         (IsSentOn sections.old.sent sections.new.sent (O.given out.old) (O.given out.new))) }
@@ -146,15 +144,13 @@ fn merge_trigram(
         (list_trigram sides.now.newer.now progress.old.newer) ≡ Some trigram }
     requires left { AreLeft (known_parts sides.now.older.now).entries sides.now.newer.now.entries
         sections.old.lists progress.old.older progress.old.newer }
-    ensures ok { OnOk result (IsMergedList trigram sections.old sections.new
-        (new_ids_of sides.now.runs.older
+    ensures ok { OnOk result (IsMergedList trigram sections.old sections.new (new_ids_of sides.now.runs.older
         (source_ids sides.now.older.now progress.old.buffer progress.old.older trigram).ids)
         (new_ids_of sides.now.runs.newer
         (list_ids sides.now.newer.now progress.old.newer trigram).ids) [] []) }
     ensures fault { MatchResult result
         (λ _. ((source_ids sides.now.older.now progress.old.buffer progress.old.older trigram).whole
-        && (list_ids sides.now.newer.now progress.old.newer trigram).whole) ≡ true)
-        (IsListFault
+        && (list_ids sides.now.newer.now progress.old.newer trigram).whole) ≡ true) (IsListFault
         ((source_ids sides.now.older.now progress.old.buffer progress.old.older trigram).whole
         && (list_ids sides.now.newer.now progress.old.newer trigram).whole)) }
     ensures buffer { OnOk result (progress.new.buffer ≡ progress.old.buffer) }
@@ -231,8 +227,7 @@ fn fault_of_rest<S: Store>(
 ) -> Result<MergeFault, IoFault>
     ensures fault { HasBuffer (S.model store.old) progress.old.buffer → (old : Parts) →
         IsSourceOf (S.model store.old) sides.now.older.now old → IfOk result (λ fault. fault ≡ rest_fault
-        (are_whole_from old progress.old.older
-        && are_whole_from sides.now.newer.now progress.old.newer)) }
+        (are_whole_from old progress.old.older && are_whole_from sides.now.newer.now progress.old.newer)) }
     ensures keeps { S.model store.new ≡ S.model store.old }
     ensures size { S.size store.new ≡ S.size store.old }
     ensures failed { S.failed store.new ≡ count_after is_io_failure result (S.failed store.old) }

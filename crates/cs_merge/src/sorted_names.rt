@@ -1,6 +1,5 @@
 // The names of an index in ascending order, whatever order its ids have.
-ghost use Rattle.std.specs.Prelude.{◌≡◌, ◌<◌, false, length, slice_get, IfErr, IfOk, MatchOption};
-ghost use Rattle.std.specs.Option.{option_copied};
+ghost use Rattle.std.specs.Prelude.{◌≡◌, ◌<◌, false, length, slice_get, IfErr, IfOk, MatchOption, option_copied};
 ghost use Rattle.cs_tree.specs.Folders.{are_distinct};
 ghost use Rattle.cs_tree.specs.NamesAscending.{are_ascending};
 ghost use Rattle.cs_merge.specs.SortedNames.{sorted_names, AreIndexNames, AreSortedNames};
@@ -37,8 +36,7 @@ impl<'a> SortedNames<'a> {
         names: NameTable<'a>,
     ) -> Result<Option<SortedNames<'a>>, AllocError>
         requires { AreIndexNames names }
-        ensures sorted { IfOk result (λ found. MatchOption found
-            (are_distinct names.entry ≡ false)
+        ensures sorted { IfOk result (λ found. MatchOption found (are_distinct names.entry ≡ false)
             (λ ordered. (ordered.names ≡ names.entry) × AreSortedNames ordered)) }
         ensures refused { IfErr result (λ _. are_ascending names.entry ≡ false) }
     {

@@ -1,6 +1,6 @@
 use Rattle.std.proofs.Common.{◌≡◌, ◌≢◌, ◌<◌, length, get_or, refl, arith, ◌∙◌, get_or-set_other}
 use Rattle.std.proofs.Math.Seq.{map-set_same}
-use Rattle.std.proofs.lemmas.List.{get_or_default}
+use Rattle.cs_cindex.proofs.Common.{get_or_default}
 use Rattle.cs_cindex.proofs.JobSequenceLemmas.{indexes_none, indexes_more, right_all_more, steps_more, requested_none, requested_more}
 use Rattle.cs_cindex.specs.Bytes.{index_bytes}
 use Rattle.cs_cindex.proofs.cindexing.cindex.Goals as goal
@@ -23,15 +23,25 @@ jobs-preserved g c =
     let in_trees : c.jobs.i < length c.args.trees.now = omega (arith, c.requires.trees) in
     let tree = get_or c.jobs.trees c.jobs.i c.index-trees-i.result in
     let is_tree : tree ≡ get_or c.args.trees.now c.jobs.i c.index-trees-i.result = inv.rest c.jobs.i c.index-trees-i.result (omega arith) in
-    let again : tree ≡ get_or c.args.trees.now c.jobs.i tree = is_tree ∙ get_or_default c.args.trees.now c.jobs.i c.index-trees-i.result tree in_trees in
+    let again : tree ≡ get_or c.args.trees.now c.jobs.i tree = is_tree ∙ get_or_default c.args.trees.now c.jobs.i
+    c.index-trees-i.result tree in_trees in
     record {
-      keeps = map-set_same snapshot c.jobs.trees c.jobs.i c.do_job-next.new.tree c.index-trees-i.result c.do_job-next.ensures.tree_keeps ∙ inv.keeps;
+      keeps = map-set_same snapshot c.jobs.trees c.jobs.i c.do_job-next.new.tree c.index-trees-i.result
+          c.do_job-next.ensures.tree_keeps ∙ inv.keeps;
       rest = λ k d h. let other : k ≢ c.jobs.i = omega arith in rw get_or-set_other (inv.rest k d (omega arith));
-      index = indexes_more snapshot c.args.jobs.now c.args.trees.now c.jobs.replies c.jobs.i c.index-jobs-i.result tree c.do_job-next.result.1 _ _ _
-          c.requires.trees (c.jobs.auto.replies ∙ c.requires.replies) within c.index-jobs-i.is again inv.index c.do_job-next.ensures.step.step.index;
-      steps = steps_more snapshot g.T.Tree.failed c.args.jobs.now c.args.trees.now c.jobs.trees c.jobs.replies c.jobs.i c.index-jobs-i.result tree c.do_job-next.new.tree c.do_job-next.result.1 _ _ _
-          c.requires.trees (c.jobs.auto.trees ∙ c.requires.trees) (c.jobs.auto.replies ∙ c.requires.replies) within c.index-jobs-i.is again inv.steps c.do_job-next.ensures.step;
-      requested = requested_more g.T.Tree.longest_requested c.args.trees.now c.jobs.trees c.jobs.i c.index-trees-i.result c.do_job-next.new.tree (omega (arith, in_trees, c.jobs.auto.trees)) inv.requested c.do_job-next.ensures.requested;
-      right = right_all_more snapshot c.args.jobs.now c.args.trees.now c.jobs.replies c.jobs.i c.index-jobs-i.result tree c.do_job-next.result.1 _ _
-          c.requires.trees (c.jobs.auto.replies ∙ c.requires.replies) within c.index-jobs-i.is again inv.index inv.right c.do_job-next.ensures.replies;
+      index = indexes_more snapshot c.args.jobs.now c.args.trees.now c.jobs.replies c.jobs.i c.index-jobs-i.result tree
+          c.do_job-next.result.1 _ _ _
+          c.requires.trees (c.jobs.auto.replies ∙ c.requires.replies) within c.index-jobs-i.is again inv.index
+          c.do_job-next.ensures.step.step.index;
+      steps = steps_more snapshot g.T.Tree.failed c.args.jobs.now c.args.trees.now c.jobs.trees c.jobs.replies c.jobs.i
+          c.index-jobs-i.result tree c.do_job-next.new.tree c.do_job-next.result.1 _ _ _
+          c.requires.trees (c.jobs.auto.trees ∙ c.requires.trees) (c.jobs.auto.replies ∙ c.requires.replies) within
+          c.index-jobs-i.is again inv.steps c.do_job-next.ensures.step;
+      requested = requested_more g.T.Tree.longest_requested c.args.trees.now c.jobs.trees c.jobs.i
+          c.index-trees-i.result c.do_job-next.new.tree (omega (arith, in_trees, c.jobs.auto.trees)) inv.requested
+          c.do_job-next.ensures.requested;
+      right = right_all_more snapshot c.args.jobs.now c.args.trees.now c.jobs.replies c.jobs.i c.index-jobs-i.result
+          tree c.do_job-next.result.1 _ _
+          c.requires.trees (c.jobs.auto.replies ∙ c.requires.replies) within c.index-jobs-i.is again inv.index inv.right
+          c.do_job-next.ensures.replies;
     }

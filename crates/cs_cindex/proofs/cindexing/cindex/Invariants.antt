@@ -1,10 +1,6 @@
 use Rattle.std.proofs.Common.{◌≡◌, ℕ, ◌≤◌, take, map, get_or}
-use Rattle.cs_history.specs.Headline.{Indexes}
-use Rattle.std.specs.List.{AllZip, zip}
-use Rattle.cs_tree.specs.Clean.{longest_path}
-use Rattle.cs_tree.specs.Walks.{RequestsWithin}
+use Rattle.cs_cindex.proofs.Common.{Indexes, AllZip, zip, longest_path, RequestsWithin, RightAll, Steps, job_trees, state}
 use Rattle.cs_cindex.specs.Bytes.{index_bytes}
-use Rattle.cs_cindex.specs.Steps.{RightAll, Steps, job_trees, state}
 use Rattle.cs_cindex.proofs.cindexing.cindex.Given as goal
 
 -- the trees of the remaining jobs are unchanged, and the index and the replies are those of the jobs so far
@@ -15,9 +11,11 @@ invariant-jobs g l =
       keeps : map g.T.Tree.snapshot l.trees ≡ snapshots;
       rest : (k : ℕ) (d : _) → l.i ≤ k → get_or l.trees k d ≡ get_or l.initial.trees k d;
       index : Indexes (take l.i l.jobs) (take l.i snapshots) (take l.i l.replies) (index_bytes l.fn.old) (index_bytes l.index);
-      steps : Steps (zip (take l.i l.jobs) (zip (job_trees g.T.Tree.snapshot g.T.Tree.failed (take l.i l.initial.trees) (take l.i l.trees)) (take l.i l.replies)))
+      steps : Steps (zip (take l.i l.jobs) (zip (job_trees g.T.Tree.snapshot g.T.Tree.failed (take l.i l.initial.trees)
+          (take l.i l.trees)) (take l.i l.replies)))
           (state g.O.Sink.model g.O.Sink.failed g.E.Sink.model g.E.Sink.failed (index_bytes l.fn.old) l.initial.out l.initial.err)
           (state g.O.Sink.model g.O.Sink.failed g.E.Sink.model g.E.Sink.failed (index_bytes l.index) l.out l.err);
-      requested : AllZip (RequestsWithin longest_path) (map g.T.Tree.longest_requested l.initial.trees) (map g.T.Tree.longest_requested l.trees);
+      requested : AllZip (RequestsWithin longest_path) (map g.T.Tree.longest_requested l.initial.trees)
+          (map g.T.Tree.longest_requested l.trees);
       right : RightAll (take l.i snapshots) (index_bytes l.fn.old) (take l.i l.jobs) (take l.i l.replies);
     }

@@ -1,7 +1,5 @@
-use Rattle.std.proofs.Common.{◌≡◌, ℕ, ◌<◌, false, take, map, get_or, []}
-use Rattle.std.specs.Prelude.{is_some, string_bytes}
-use Rattle.cs_tree.specs.Clean.{clean_path}
-use Rattle.cs_tree.specs.Cleaning.{clean_fault}
+use Rattle.std.proofs.Common.{◌≡◌, ℕ, ◌<◌, false, take, map, get_or, [], is_some, string_bytes}
+use Rattle.cs_cindex.proofs.Common.{clean_path, clean_fault}
 use Rattle.cs_cindex.proofs.cleaning.clean_all.Given as goal
 
 -- the paths so far are cleaned, without an error

@@ -1,18 +1,13 @@
 use Rattle.std.proofs.Common.{◌≡◌, refl, subst, Result}
-use Rattle.cs_tree.proofs.GrowsLemmas.{Grows-same, leaves_flushed}
-use Rattle.cs_args.specs.declared.fault.CindexFault.{CindexFault}
-use Rattle.cs_args.specs.declared.jobs.IndexJob.{IndexJob}
-use Rattle.cs_args.specs.declared.jobs.Reply.TheVariants.{Done, Refused}
+use Rattle.cs_cindex.proofs.Common.{Grows-same, leaves_flushed, CindexFault, IndexJob, Done, Refused, IsStepTo, JobTree, Outputs, State}
 use Rattle.cs_storage.specs.FileAfter.{file_after}
 use Rattle.cs_storage.specs.declared.update.IndexUpdate.{IndexUpdate}
-use Rattle.cs_cindex.specs.Outcomes.{IsStepTo}
-use Rattle.cs_cindex.specs.Output.{JobTree}
-use Rattle.cs_cindex.specs.Steps.{Outputs, State}
 use Rattle.cs_cindex.proofs.OutcomeLemmas.{right_after}
 use Rattle.cs_cindex.proofs.StepLemmas.{out_unflushed, err_unflushed}
 use Rattle.cs_cindex.proofs.job.cindex_stored.Goals as goal
 
-stepped : (job : IndexJob) (tree : JobTree) (old : State) (later : Outputs) (r s : Result IndexUpdate CindexFault) → r ≡ s → IsStepTo job tree r old later → IsStepTo job tree s old later
+stepped : (job : IndexJob) (tree : JobTree) (old : State) (later : Outputs) (r s : Result IndexUpdate CindexFault) →
+    r ≡ s → IsStepTo job tree r old later → IsStepTo job tree s old later
 stepped job tree old later r s e step = subst (λ r. IsStepTo job tree r old later) e step
 
 pub returns-in-Ok-Err-clause-replies : goal.returns-in-Ok-Err-clause-replies
@@ -23,12 +18,15 @@ returns-in-Ok-Err-clause-replies g c = λ index is.
 pub returns-in-Err-flush-clause-step : goal.returns-in-Err-flush-clause-step
 returns-in-Err-flush-clause-step g c = λ index is.
     let step = stepped _ _ _ _ _ _ c.in-Ok-Ok.field-0-is (c.in-Ok-Ok.ensures.step index is) in
-    out_unflushed _ _ _ _ _ _ step c.from.result _ c.from.ensures c.in-Err-flush.ensures.failed refl c.in-Err-flush.ensures.bytes (Grows-same _)
+    out_unflushed _ _ _ _ _ _ step c.from.result _ c.from.ensures c.in-Err-flush.ensures.failed refl
+    c.in-Err-flush.ensures.bytes (Grows-same _)
 
 pub returns-in-Err-flush-2-clause-step : goal.returns-in-Err-flush-2-clause-step
 returns-in-Err-flush-2-clause-step g c = λ index is.
     let step = stepped _ _ _ _ _ _ c.in-Ok-Ok.field-0-is (c.in-Ok-Ok.ensures.step index is) in
-    err_unflushed _ _ _ _ _ _ step c.from-in-Err-flush-2.result _ c.from-in-Err-flush-2.ensures c.in_default.ensures.failed c.in-Err-flush-2.ensures.failed c.in_default.ensures.bytes c.in-Err-flush-2.ensures.bytes
+    err_unflushed _ _ _ _ _ _ step c.from-in-Err-flush-2.result _ c.from-in-Err-flush-2.ensures
+    c.in_default.ensures.failed c.in-Err-flush-2.ensures.failed c.in_default.ensures.bytes
+    c.in-Err-flush-2.ensures.bytes
 
 pub returns-clause-replies : goal.returns-clause-replies
 returns-clause-replies g c = λ index is.

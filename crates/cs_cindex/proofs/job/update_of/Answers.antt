@@ -1,15 +1,5 @@
-use Rattle.std.proofs.Common.{◌≡◌, ◌∙◌, ◌&&◌, [], false, sym, ap, refl, subst, Some, Result}
-use Rattle.std.specs.Prelude.{IfOk, nat_eq}
-use Rattle.std.proofs.lemmas.Bool.{true≢false}
-use Rattle.cs_tree.specs.Sinks.{Grows}
-use Rattle.cs_tree.proofs.GrowsLemmas.{Grows-same}
-use Rattle.cs_output.specs.declared.sent.Sent.{Sent}
-use Rattle.cs_args.specs.declared.fault.CindexFault.{CindexFault}
-use Rattle.cs_history.specs.Jobs.{has_no_path}
-use Rattle.cs_cindex.specs.Next.{IsNext}
-use Rattle.cs_cindex.specs.Outcomes.{AnswersFor, WalkPrintsFor}
-use Rattle.cs_cindex.specs.Output.{Output, before, is_failed_write, job_tree, output}
-use Rattle.cs_cindex.specs.Refusals.{IsWalkFault, base, early_walk_fault}
+use Rattle.std.proofs.Common.{◌≡◌, ◌∙◌, ◌&&◌, [], false, sym, ap, refl, subst, Some, Result, IfOk, nat_eq}
+use Rattle.cs_cindex.proofs.Common.{true≢false, Grows, Grows-same, Sent, CindexFault, has_no_path, IsNext, AnswersFor, WalkPrintsFor, Output, before, is_failed_write, job_tree, output, IsWalkFault, base, early_walk_fault}
 use Rattle.cs_tree.specs.FailureCount.{count_after}
 use Rattle.cs_cindex.proofs.StepLemmas.{walk_done}
 use Rattle.cs_cindex.proofs.job.update_of.Goals as goal
@@ -18,7 +8,8 @@ use Rattle.cs_cindex.proofs.job.update_of.Goals.{else-job-2-via-then-job-2+else-
 pub returns-in-Err-clause-unread : goal.returns-in-Err-clause-unread
 returns-in-Err-clause-unread g c = record {
   reads = λ f. absurd (true≢false (sym c.if-job.true ∙ f));
-  out = subst (λ (o : Output). Grows (g.O.Sink.model c.args.out.now) o.model []) (sym c.in-Err.ensures.unread) (Grows-same (g.O.Sink.model c.args.out.now));
+  out = subst (λ (o : Output). Grows (g.O.Sink.model c.args.out.now) o.model []) (sym c.in-Err.ensures.unread)
+      (Grows-same (g.O.Sink.model c.args.out.now));
   err = before (Grows-same _, refl);
   listed = λ _. (Grows-same _, refl);
   writes = (ap (λ (o : Output). o.failed) c.in-Err.ensures.unread, refl);
@@ -33,14 +24,19 @@ returns-in-Ok-Ok-walked_index-clause-step g c = λ index is.
     let err = output g.E.Sink.model g.E.Sink.failed c.args.err.now in
     let later = output g.E.Sink.model g.E.Sink.failed c.walked_index.new.err in
     let walks : (job.reset && has_no_path job) ≡ false = elim c.else-job-2.branch [
-      | else-job-2-via-then-job-2+else-is_empty w ↦ ap (λ b. b && has_no_path job) w.if-job-2.true ∙ ap (λ n. nat_eq n 0) (sym job.paths.ok.0) ∙ sym w.if-is_empty.ensures
+      | else-job-2-via-then-job-2+else-is_empty w ↦ ap (λ b. b && has_no_path job) w.if-job-2.true
+          ∙ ap (λ n. nat_eq n 0) (sym job.paths.ok.0) ∙ sym w.if-is_empty.ensures
       | else-job-2-via-else-job-2 w ↦ ap (λ b. b && has_no_path job) w.if-job-2.false
     ] in
     walk_done job tree _ _ (c.if-job.false, walks) (base job index) refl (Grows-same _) refl c.in-Ok-Ok-walked_index.index.bytes
-    (subst (λ (r : Result Sent CindexFault). AnswersFor r (early_walk_fault job (base job index)) (IsWalkFault job snapshot (base job index))) c.in-Ok-Ok-walked_index.field-0-is (part.refusal index is))
-    (subst (λ (r : Result Sent CindexFault). IfOk r (λ sent. IsNext job snapshot (base job index) (Some sent.bytes))) c.in-Ok-Ok-walked_index.field-0-is (part.next index is))
-    (subst (λ (r : Result Sent CindexFault). WalkPrintsFor r (early_walk_fault job (base job index)) job tree (base job index) err later) c.in-Ok-Ok-walked_index.field-0-is (part.prints index is))
-    (subst (λ (r : Result Sent CindexFault). later.failed ≡ count_after is_failed_write r err.failed) c.in-Ok-Ok-walked_index.field-0-is part.writes)
+    (subst (λ (r : Result Sent CindexFault). AnswersFor r (early_walk_fault job (base job index))
+    (IsWalkFault job snapshot (base job index))) c.in-Ok-Ok-walked_index.field-0-is (part.refusal index is))
+    (subst (λ (r : Result Sent CindexFault). IfOk r (λ sent. IsNext job snapshot (base job index) (Some sent.bytes)))
+    c.in-Ok-Ok-walked_index.field-0-is (part.next index is))
+    (subst (λ (r : Result Sent CindexFault). WalkPrintsFor r (early_walk_fault job (base job index)) job tree
+    (base job index) err later) c.in-Ok-Ok-walked_index.field-0-is (part.prints index is))
+    (subst (λ (r : Result Sent CindexFault). later.failed ≡ count_after is_failed_write r err.failed)
+    c.in-Ok-Ok-walked_index.field-0-is part.writes)
 
 pub returns-in-Err-walked_index-clause-unread : goal.returns-in-Err-walked_index-clause-unread
 returns-in-Err-walked_index-clause-unread g c =

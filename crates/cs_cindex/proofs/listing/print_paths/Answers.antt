@@ -1,9 +1,6 @@
-use Rattle.std.proofs.Common.{◌≡◌, ◌∙◌, ◌++◌, refl, ap, rules, []}
-use Rattle.std.specs.Prelude.{codes}
-use Rattle.std.proofs.lemmas.Result.{err_from_is_err_and}
-use Rattle.cs_cindex.specs.Output.{path_lines}
+use Rattle.std.proofs.Common.{◌≡◌, ◌∙◌, ◌++◌, refl, ap, rules, [], codes}
+use Rattle.cs_cindex.proofs.Common.{err_from_is_err_and, path_lines, Grows-chain, Grows-same}
 use Rattle.cs_cindex.proofs.JobOutputLemmas.{lines_more, lines_cut, lines_end}
-use Rattle.cs_tree.proofs.GrowsLemmas.{Grows-chain, Grows-same}
 use Rattle.cs_cindex.proofs.listing.print_paths.Goals as goal
 
 pub paths-init : goal.paths-init
@@ -14,15 +11,20 @@ paths-init g c =
 pub paths-preserved : goal.paths-preserved
 paths-preserved g c = record {
   done = c.paths.invariant.done ++ (c.in-Some.path.now ++ codes "\n");
-  grows = Grows-chain _ _ _ c.paths.invariant.done (c.in-Some.path.now ++ codes "\n") c.paths.invariant.grows c.in_ok-print_line.ensures.out;
-  whole = lines_more c.paths.invariant.done c.in-Some.path.now (path_lines c.args.paths) c.paths.path-iterator c.next.new.self c.in-Some.ensures.steps c.paths.invariant.whole;
+  grows = Grows-chain _ _ _ c.paths.invariant.done (c.in-Some.path.now ++ codes "\n") c.paths.invariant.grows
+      c.in_ok-print_line.ensures.out;
+  whole = lines_more c.paths.invariant.done c.in-Some.path.now (path_lines c.args.paths) c.paths.path-iterator
+      c.next.new.self c.in-Some.ensures.steps c.paths.invariant.whole;
   failures = c.in_ok-print_line.ensures.writes ∙ c.paths.invariant.failures;
 }
 
 pub returns-in_err-print_line-clause-out : goal.returns-in_err-print_line-clause-out
 returns-in_err-print_line-clause-out g c =
     let p = err_from_is_err_and c.from_residual.result c.from_residual.ensures.1 in
-    rw p.1 (lines_cut c.paths.invariant.done c.in-Some.path.now (path_lines c.args.paths) c.paths.path-iterator c.next.new.self _ _ _ c.in-Some.ensures.steps c.paths.invariant.whole c.paths.invariant.grows c.in_err-print_line.ensures.out)
+    rw p.1 (lines_cut c.paths.invariant.done c.in-Some.path.now (path_lines c.args.paths) c.paths.path-iterator
+    c.next.new.self _ _ _ c.in-Some.ensures.steps c.paths.invariant.whole c.paths.invariant.grows
+    c.in_err-print_line.ensures.out)
 
 pub returns-clause-out : goal.returns-clause-out
-returns-clause-out g c = lines_end c.paths.invariant.done (path_lines c.args.paths) c.paths.path-iterator _ _ c.in-None.ensures.steps.0 c.paths.invariant.whole c.paths.invariant.grows
+returns-clause-out g c = lines_end c.paths.invariant.done (path_lines c.args.paths) c.paths.path-iterator _ _
+    c.in-None.ensures.steps.0 c.paths.invariant.whole c.paths.invariant.grows

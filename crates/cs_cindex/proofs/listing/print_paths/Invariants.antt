@@ -1,6 +1,5 @@
 use Rattle.std.proofs.Common.{◌≡◌, ℕ, List, ◌++◌}
-use Rattle.cs_tree.specs.Sinks.{Grows}
-use Rattle.cs_cindex.specs.Output.{path_lines}
+use Rattle.cs_cindex.proofs.Common.{Grows, path_lines}
 use Rattle.cs_cindex.proofs.listing.print_paths.Given as goal
 
 -- the lines so far were written, and with the remaining ones they are all lines

@@ -1,6 +1,5 @@
-use Rattle.std.proofs.Common.{◌≡◌, List, ℕ, Option, Some, None, Vec, Global, refl, sym, ◌∙◌}
-use Rattle.std.specs.Prelude.{is_some, option_map}
-use Rattle.cs_tree.specs.Folders.{are_distinct}
+use Rattle.std.proofs.Common.{◌≡◌, List, ℕ, Option, Some, None, Vec, Global, refl, sym, ◌∙◌, is_some, option_map}
+use Rattle.cs_cindex.proofs.Common.{are_distinct}
 use Rattle.cs_tree.proofs.ListingLemmas.{ascending_distinct}
 use Rattle.cs_index.specs.Order.{IsOrderOf}
 use Rattle.cs_merge.specs.SortedNames.{AreIndexNames}

@@ -1,16 +1,17 @@
 use Rattle.std.proofs.Common.{ap, sym, ◌∙◌, subst}
-use Rattle.std.specs.List.{list_all}
-use Rattle.cs_tree.specs.Cleaning.{is_normalized}
-use Rattle.cs_tree.specs.Folders.{are_distinct}
-use Rattle.cs_index.specs.StoredTables.{OpensAsTables}
+use Rattle.cs_cindex.proofs.Common.{list_all, is_normalized, are_distinct, OpensAsTables}
 use Rattle.cs_cindex.proofs.StoredIndexLemmas.{bad_paths, unsorted}
 use Rattle.cs_cindex.proofs.old.tested.Goals as goal
 
 pub returns-then-not-are_normalized-clause-opened : goal.returns-then-not-are_normalized-clause-opened
 returns-then-not-are_normalized-clause-opened c = λ bytes opens.
-    bad_paths bytes c.in_ok-tables.tables (subst (OpensAsTables bytes) c.in_ok-tables.was opens) _ (ap (list_all is_normalized) (sym c.paths.ensures) ∙ sym c.are_normalized.ensures ∙ c.if-not-are_normalized.true)
+    bad_paths bytes c.in_ok-tables.tables (subst (OpensAsTables bytes) c.in_ok-tables.was opens) _
+    (ap (list_all is_normalized) (sym c.paths.ensures) ∙ sym c.are_normalized.ensures
+    ∙ c.if-not-are_normalized.true)
 
 pub returns-then-not-branch-clause-opened : goal.returns-then-not-branch-clause-opened
 returns-then-not-branch-clause-opened c = λ bytes opens.
-    unsorted bytes c.in_ok-tables.tables (subst (OpensAsTables bytes) c.in_ok-tables.was opens) _ (ap (list_all is_normalized) (sym c.paths.ensures) ∙ sym c.are_normalized.ensures ∙ c.if-not-are_normalized.false)
+    unsorted bytes c.in_ok-tables.tables (subst (OpensAsTables bytes) c.in_ok-tables.was opens) _
+    (ap (list_all is_normalized) (sym c.paths.ensures) ∙ sym c.are_normalized.ensures
+    ∙ c.if-not-are_normalized.false)
     (ap are_distinct (sym c.name_table.ensures) ∙ sym c.in_ok-are_distinct.ensures ∙ c.if-not-branch.true)

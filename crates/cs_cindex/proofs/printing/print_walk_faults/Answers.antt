@@ -1,10 +1,5 @@
 use Rattle.std.proofs.Common.{◌∙◌, subst, refl, map}
-use Rattle.std.proofs.lemmas.List.{take_all}
-use Rattle.std.proofs.lemmas.Result.{err_from_is_err_and}
-use Rattle.cs_tree.specs.Sinks.{Grows}
-use Rattle.cs_tree.specs.Walks.{fault_entry}
-use Rattle.cs_cindex.specs.Diagnostics.{faulted, fault_entry_line, text_of}
-use Rattle.cs_tree.proofs.GrowsLemmas.{Grows-same}
+use Rattle.cs_cindex.proofs.Common.{take_all, err_from_is_err_and, Grows, fault_entry, faulted, fault_entry_line, text_of, Grows-same}
 use Rattle.cs_cindex.proofs.DiagnosticLemmas.{fault_entry_is, fault_entries_more, fault_entries_prefix, refused}
 use Rattle.cs_cindex.proofs.printing.print_walk_faults.Goals as goal
 
@@ -15,19 +10,30 @@ pub returns-in_err-print_fault-clause-prints : goal.returns-in_err-print_fault-c
 returns-in_err-print_fault-clause-prints g c =
     let p = err_from_is_err_and c.from_residual.result c.from_residual.ensures.1 in
     let entry = c.loop-path-item.result in
-    refused (map fault_entry_line (map fault_entry c.args.faults.now)) (g.E.Sink.model c.args.err.now) (g.E.Sink.model c.print_fault.new.err) c.from_residual.result p.0 p.1
-    (fault_entries_prefix c.args.faults.now c.loop-path.path-index entry c.loop-path-test.true c.loop-path-item.is (g.E.Sink.model c.args.err.now) (g.E.Sink.model c.loop-path.err) (g.E.Sink.model c.print_fault.new.err) c.loop-path.invariant.printed
-    (faulted c.as_str.result.now c.walk_fault.result) (fault_entry_is entry c.as_str.result.now c.walk_fault.result c.as_str.ensures.value c.walk_fault.ensures) c.in_err-print_fault.ensures.prints)
+    refused (map fault_entry_line (map fault_entry c.args.faults.now)) (g.E.Sink.model c.args.err.now)
+    (g.E.Sink.model c.print_fault.new.err) c.from_residual.result p.0 p.1
+    (fault_entries_prefix c.args.faults.now c.loop-path.path-index entry c.loop-path-test.true c.loop-path-item.is
+    (g.E.Sink.model c.args.err.now) (g.E.Sink.model c.loop-path.err) (g.E.Sink.model c.print_fault.new.err)
+    c.loop-path.invariant.printed
+    (faulted c.as_str.result.now c.walk_fault.result)
+    (fault_entry_is entry c.as_str.result.now c.walk_fault.result c.as_str.ensures.value c.walk_fault.ensures)
+    c.in_err-print_fault.ensures.prints)
 
 pub loop-path-preserved : goal.loop-path-preserved
 loop-path-preserved g c =
     let entry = c.loop-path-item.result in
     record {
-      printed = fault_entries_more c.args.faults.now c.loop-path.path-index entry c.loop-path-test.true c.loop-path-item.is (g.E.Sink.model c.args.err.now) (g.E.Sink.model c.loop-path.err) (g.E.Sink.model c.print_fault.new.err) c.loop-path.invariant.printed
-          (faulted c.as_str.result.now c.walk_fault.result) (fault_entry_is entry c.as_str.result.now c.walk_fault.result c.as_str.ensures.value c.walk_fault.ensures) c.in_ok-print_fault.ensures.prints;
+      printed = fault_entries_more c.args.faults.now c.loop-path.path-index entry c.loop-path-test.true
+          c.loop-path-item.is (g.E.Sink.model c.args.err.now) (g.E.Sink.model c.loop-path.err)
+          (g.E.Sink.model c.print_fault.new.err) c.loop-path.invariant.printed
+          (faulted c.as_str.result.now c.walk_fault.result)
+          (fault_entry_is entry c.as_str.result.now c.walk_fault.result c.as_str.ensures.value c.walk_fault.ensures)
+          c.in_ok-print_fault.ensures.prints;
       writes = c.in_ok-print_fault.ensures.writes ∙ c.loop-path.invariant.writes;
     }
 
 pub returns-clause-prints : goal.returns-clause-prints
 returns-clause-prints g c =
-    subst (λ faults. Grows (g.E.Sink.model c.args.err.now) (g.E.Sink.model c.loop-path.err) (text_of (map fault_entry_line (map fault_entry faults)))) (take_all c.loop-path.path-index c.args.faults.now c.loop-path-test.false) c.loop-path.invariant.printed
+    subst (λ faults. Grows (g.E.Sink.model c.args.err.now) (g.E.Sink.model c.loop-path.err)
+    (text_of (map fault_entry_line (map fault_entry faults))))
+    (take_all c.loop-path.path-index c.args.faults.now c.loop-path-test.false) c.loop-path.invariant.printed

@@ -8,5 +8,11 @@ returns c = record {
   once = λ p q f g name apart. no_file_twice p f q g apart name;
   names = λ p q f g bytes apart decoded. names_merged p f q g apart bytes decoded;
   searched = λ p q f g query keeps apart. searched_merged p f q g apart query keeps;
-  left = λ one other is other_is outside other_outside. record { under = history_lies one is; outside = outside; other_under = history_lies other other_is; other_outside = other_outside };
+  left = λ one other is other_is outside other_outside. record {
+    under = history_lies one is;
+    outside =
+        outside;
+    other_under = history_lies other other_is;
+    other_outside = other_outside;
+  };
 }

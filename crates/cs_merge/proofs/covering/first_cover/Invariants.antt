@@ -1,6 +1,5 @@
 use Rattle.std.proofs.Common.{◌≡◌}
-use Rattle.std.specs.List.{list_any}
-use Rattle.cs_tree.specs.Cover.{covers}
+use Rattle.cs_merge.proofs.Common.{list_any, covers}
 use Rattle.cs_merge.specs.SomePaths.{AreAmong}
 use Rattle.cs_merge.proofs.covering.first_cover.Given as goal
 

@@ -1,5 +1,5 @@
 use Rattle.std.proofs.Common.{◌<◌, ◌≤◌, ◌-◌, length}
-use Rattle.cs_merge.specs.IdMap.{IsRun}
+use Rattle.cs_merge.proofs.Common.{IsRun}
 use Rattle.cs_merge.proofs.id_runs.end_from.Given as goal
 
 abbrev pub invariant-ids : goal.invariant-ids

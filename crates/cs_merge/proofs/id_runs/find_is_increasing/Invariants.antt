@@ -1,5 +1,5 @@
 use Rattle.std.proofs.Common.{◌≡◌, ℕ, ◌<◌, ◌≤◌, Some}
-use Rattle.cs_merge.specs.IdMap.{new_id}
+use Rattle.cs_merge.proofs.Common.{new_id}
 use Rattle.cs_merge.proofs.id_runs.find_is_increasing.Given as goal
 
 abbrev pub invariant-ids : goal.invariant-ids

@@ -1,5 +1,5 @@
 use Rattle.std.proofs.Common.{◌≡◌}
-use Rattle.cs_merge.specs.IdMap.{new_ids_of}
+use Rattle.cs_merge.proofs.Common.{new_ids_of}
 use Rattle.cs_merge.proofs.mapped_postings.next_kept.Given as goal
 
 abbrev pub invariant-ids : goal.invariant-ids

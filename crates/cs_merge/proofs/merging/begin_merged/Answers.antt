@@ -1,19 +1,19 @@
-use Rattle.std.proofs.Common.{ℕ, List, map, sym, ap, ◌∙◌, slice_get}
-use Rattle.std.specs.Prelude.{string_bytes}
-use Rattle.cs_tree.specs.Cover.{is_covered}
+use Rattle.std.proofs.Common.{ℕ, List, map, sym, ap, ◌∙◌, slice_get, string_bytes, ◌≡◌, true, Err}
+use Rattle.cs_merge.proofs.Common.{is_covered, are_paths, Parts, merge_paths, true≢false}
 use Rattle.cs_tree.specs.PathSet as set
-use Rattle.cs_index.specs.Built.{are_paths}
-use Rattle.cs_index.specs.OpenedParts.{Parts}
-use Rattle.cs_merge.specs.Merge.{merge_paths}
 use Rattle.cs_merge.proofs.MergedFilesLemmas.{all_covered}
 use Rattle.cs_merge.proofs.StorableLemmas.{paths_listed}
 use Rattle.cs_merge.proofs.merging.begin_merged.Goals as goal
 
-pub begin-requires : goal.begin-requires
-begin-requires c =
+pub unreachable-requires : goal.unreachable-requires
+unreachable-requires c =
     let newer : Parts = c.args.newer.now in
-    ap are_paths (ap (map string_bytes) c.deref.ensures.value ∙ c.in_ok-merged.ensures ∙ ap (λ (paths : List (List ℕ)). set.items (merge_paths (set.from_list c.args.paths) (set.from_list paths))) c.paths.ensures)
-    ∙ paths_listed c.args.paths newer.paths c.requires.paths c.are_valid.ensures.each_path
+    let valid : are_paths (map string_bytes c.deref.result.now) ≡ true =
+    ap are_paths (ap (map string_bytes) c.deref.ensures.value ∙ c.in_ok-merged.ensures
+    ∙ ap (λ (paths : List (List ℕ)). set.items (merge_paths (set.from_list c.args.paths) (set.from_list paths)))
+    c.paths.ensures)
+    ∙ paths_listed c.args.paths newer.paths c.requires.paths c.are_valid.ensures.each_path in
+    true≢false (sym valid ∙ c.new.ensures.bad_paths.0 (c.in-Err-BadPaths.is ∙ ap Err c.in-Err-BadPaths.field-0-is))
 
 pub merge_names-requires-clause-covered : goal.merge_names-requires-clause-covered
 merge_names-requires-clause-covered c id name there =

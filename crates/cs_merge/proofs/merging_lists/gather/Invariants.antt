@@ -1,5 +1,5 @@
 use Rattle.std.proofs.Common.{◌≡◌, length}
-use Rattle.cs_merge.specs.ListMerge.{AreGathered}
+use Rattle.cs_merge.proofs.Common.{AreGathered}
 use Rattle.cs_merge.proofs.merging_lists.gather.Given as goal
 
 abbrev pub invariant-ids : goal.invariant-ids

@@ -1,5 +1,5 @@
 use Rattle.std.proofs.Common.{◌≡◌, ℕ, ◌+◌, true, None, Some, length, slice_get}
-use Rattle.cs_merge.specs.ListMerge.{lower_of, IsMergedList}
+use Rattle.cs_merge.proofs.Common.{lower_of, IsMergedList}
 use Rattle.cs_merge.proofs.merging_lists.merge_ascending.Given as goal
 
 abbrev pub invariant-ids : goal.invariant-ids

@@ -1,5 +1,5 @@
 use Rattle.std.proofs.Common.{◌≡◌, [], drop, Some}
-use Rattle.cs_merge.specs.ListMerge.{runs_ids, IsMergedList}
+use Rattle.cs_merge.proofs.Common.{runs_ids, IsMergedList}
 use Rattle.cs_merge.proofs.merging_lists.write_runs.Given as goal
 
 abbrev pub invariant-list_runs : goal.invariant-list_runs

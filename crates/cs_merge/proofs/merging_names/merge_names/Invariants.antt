@@ -1,8 +1,6 @@
 use Rattle.std.proofs.Common.{◌+◌, ◌-◌, length}
-use Rattle.cs_tree.specs.Cover.{is_covered}
+use Rattle.cs_merge.proofs.Common.{is_covered, sorted_names, IsMergingNames}
 use Rattle.cs_tree.specs.PathSet as set
-use Rattle.cs_merge.specs.SortedNames.{sorted_names}
-use Rattle.cs_merge.specs.IdMap.{IsMergingNames}
 use Rattle.cs_merge.proofs.merging_names.merge_names.Given as goal
 
 abbrev pub invariant-names : goal.invariant-names

@@ -1,11 +1,12 @@
 use Rattle.std.proofs.Common.{◌≡◌, ◌+◌, ◌-◌, length}
 use Rattle.cs_index.specs.Sending.{IsSentOn}
-use Rattle.cs_merge.specs.ListSources.{known_parts, IsMergingLists}
+use Rattle.cs_merge.proofs.Common.{known_parts, IsMergingLists}
 use Rattle.cs_merge.proofs.merging_trigrams.merge_lists.Given as goal
 
 abbrev pub invariant-lists : goal.invariant-lists
 invariant-lists g l = record {
-  merging : IsMergingLists (g.S.Store.model l.fn.store) l.sides.older.now l.progress.buffer l.sides.newer.now l.sides.runs.older l.sides.runs.newer l.fn.sections l.sections l.progress.older l.progress.newer;
+  merging : IsMergingLists (g.S.Store.model l.fn.store) l.sides.older.now l.progress.buffer l.sides.newer.now
+      l.sides.runs.older l.sides.runs.newer l.fn.sections l.sections l.progress.older l.progress.newer;
   sent : IsSentOn l.fn.sections.sent l.sections.sent (g.O.Output.given l.fn.out) (g.O.Output.given l.out);
   keeps_out : g.O.Output.Keeps l.fn.out l.out;
   keeps : g.S.Store.model l.store ≡ g.S.Store.model l.fn.store;
@@ -14,4 +15,5 @@ invariant-lists g l = record {
 }
 
 abbrev pub decreases-lists : goal.decreases-lists
-decreases-lists g l = length (known_parts l.sides.older.now).entries + length l.sides.newer.now.entries - (l.progress.older + l.progress.newer)
+decreases-lists g l = length (known_parts l.sides.older.now).entries + length l.sides.newer.now.entries
+    - (l.progress.older + l.progress.newer)

@@ -1,12 +1,5 @@
 use Rattle.std.proofs.Common.{◌++◌, ℕ, length, sym, ap, subst, ◌∙◌, inl, inr, arith}
-use Rattle.std.proofs.lemmas.Bool.{cases_lt}
-use Rattle.cs_trigram.specs.Trigram.{closing_trigram}
-use Rattle.cs_index.specs.AscendingIds.{AscendWithin}
-use Rattle.cs_index.specs.OpenedParts.{Parts}
-use Rattle.cs_index.specs.PostingLists.{Ids}
-use Rattle.cs_merge.specs.IdMap.{new_ids_of, AreNewIdsFrom}
-use Rattle.cs_merge.specs.ListMerge.{list_ids, AreDistinctIds}
-use Rattle.cs_merge.specs.ListSources.{known_parts, source_ids}
+use Rattle.cs_merge.proofs.Common.{cases_lt, closing_trigram, AscendWithin, Parts, Ids, new_ids_of, AreNewIdsFrom, list_ids, AreDistinctIds, known_parts, source_ids}
 use Rattle.cs_merge.proofs.DistinctIdLemmas.{new_ids_of_both}
 use Rattle.cs_merge.proofs.IdMapLemmas.{rise_mapped}
 use Rattle.cs_merge.proofs.ListSourceLemmas.{closing_in_source, source_rises}
@@ -20,14 +13,17 @@ merge_list-requires-clause-older_under c =
     let source = c.args.sides.now.older.now in
     let at = c.args.progress.now in
     subst (λ (r : Ids). AreNewIdsFrom c.args.sides.now.runs.older 0 r.ids) (sym c.in_ok-older.ensures)
-    (rise_under c.args.sides.now.runs.older (length (known_parts source).names) 0 (source_ids source at.buffer at.older c.args.trigram).ids (source_rises source at.buffer at.older c.args.trigram))
+    (rise_under c.args.sides.now.runs.older (length (known_parts source).names) 0
+    (source_ids source at.buffer at.older c.args.trigram).ids
+    (source_rises source at.buffer at.older c.args.trigram))
 
 pub merge_list-requires-clause-newer_under : goal.merge_list-requires-clause-newer_under
 merge_list-requires-clause-newer_under c =
     let newer : Parts = c.args.sides.now.newer.now in
     let at = c.args.progress.now in
     subst (λ (r : Ids). AreNewIdsFrom c.args.sides.now.runs.newer 0 r.ids) (sym c.in_ok-newer.ensures)
-    (rise_under c.args.sides.now.runs.newer (length newer.names) 0 (list_ids newer at.newer c.args.trigram).ids (ids_rise newer at.newer c.args.trigram))
+    (rise_under c.args.sides.now.runs.newer (length newer.names) 0 (list_ids newer at.newer c.args.trigram).ids
+    (ids_rise newer at.newer c.args.trigram))
 
 pub merge_list-requires-clause-older_rise : goal.merge_list-requires-clause-older_rise
 merge_list-requires-clause-older_rise c =
@@ -35,13 +31,16 @@ merge_list-requires-clause-older_rise c =
     let at = c.args.progress.now in
     let count : ℕ = length c.args.sections.now.names in
     λ order. subst (λ (r : Ids). AscendWithin count 0 r.ids) (sym c.in_ok-older.ensures)
-    (rise_mapped c.args.sides.now.runs.older count (length (known_parts source).names) 0 0 (source_ids source at.buffer at.older c.args.trigram).ids order c.requires.ids.older_below (source_rises source at.buffer at.older c.args.trigram) (λ id new h e. omega arith))
+    (rise_mapped c.args.sides.now.runs.older count (length (known_parts source).names) 0 0
+    (source_ids source at.buffer at.older c.args.trigram).ids order c.requires.ids.older_below
+    (source_rises source at.buffer at.older c.args.trigram) (λ id new h e. omega arith))
 
 pub merge_list-requires-clause-newer_rise : goal.merge_list-requires-clause-newer_rise
 merge_list-requires-clause-newer_rise c =
     let count : ℕ = length c.args.sections.now.names in
     λ order. subst (λ (r : Ids). AscendWithin count 0 r.ids) (sym c.in_ok-newer.ensures)
-    (mapped_rise c.args.sides.now.newer.now c.args.progress.now.newer c.args.trigram count c.args.sides.now.runs.newer order c.requires.ids.newer_below)
+    (mapped_rise c.args.sides.now.newer.now c.args.progress.now.newer c.args.trigram count c.args.sides.now.runs.newer
+    order c.requires.ids.newer_below)
 
 pub merge_list-requires-clause-ids : goal.merge_list-requires-clause-ids
 merge_list-requires-clause-ids c =
@@ -52,9 +51,13 @@ merge_list-requires-clause-ids c =
     let are = c.requires.ids in
     let some : Ids = source_ids source at.buffer at.older c.args.trigram in
     let others : Ids = list_ids newer at.newer c.args.trigram in
-    let new_ids = new_ids_of_both count (length (known_parts source).names) (length newer.names) c.args.sides.now.runs.older c.args.sides.now.runs.newer some.ids others.ids are.once.older_once are.once.newer_once are.once.apart are.older_below are.newer_below (source_rises source at.buffer at.older c.args.trigram) (ids_rise newer at.newer c.args.trigram) in
+    let new_ids = new_ids_of_both count (length (known_parts source).names) (length newer.names)
+    c.args.sides.now.runs.older c.args.sides.now.runs.newer some.ids others.ids are.once.older_once
+    are.once.newer_once are.once.apart are.older_below are.newer_below
+    (source_rises source at.buffer at.older c.args.trigram) (ids_rise newer at.newer c.args.trigram) in
     subst (λ (r : Ids). AreDistinctIds count (r.ids ++ c.in_ok-newer.newer.ids)) (sym c.in_ok-older.ensures)
-    (subst (λ (r : Ids). AreDistinctIds count (new_ids_of c.args.sides.now.runs.older some.ids ++ r.ids)) (sym c.in_ok-newer.ensures) new_ids)
+    (subst (λ (r : Ids). AreDistinctIds count (new_ids_of c.args.sides.now.runs.older some.ids ++ r.ids))
+    (sym c.in_ok-newer.ensures) new_ids)
 
 pub merge_list-requires-clause-below : goal.merge_list-requires-clause-below
 merge_list-requires-clause-below c =
@@ -62,7 +65,10 @@ merge_list-requires-clause-below c =
     elim (cases_lt c.args.trigram closing_trigram) [
       | inl below ↦ inl below
       | inr from ↦ inr (
-        ap (λ (r : Ids). r.ids) c.in_ok-older.ensures ∙ ap (new_ids_of c.args.sides.now.runs.older) (closing_in_source c.args.sides.now.older.now at.buffer at.older c.args.trigram c.are_valid.ensures.known from),
-        ap (λ (r : Ids). r.ids) c.in_ok-newer.ensures ∙ ap (new_ids_of c.args.sides.now.runs.newer) (closing_has_none c.args.sides.now.newer.now at.newer c.args.trigram c.are_valid-2.ensures from),
+        ap (λ (r : Ids). r.ids) c.in_ok-older.ensures ∙ ap (new_ids_of c.args.sides.now.runs.older)
+            (closing_in_source c.args.sides.now.older.now at.buffer at.older c.args.trigram c.are_valid.ensures.known
+            from),
+        ap (λ (r : Ids). r.ids) c.in_ok-newer.ensures ∙ ap (new_ids_of c.args.sides.now.runs.newer)
+            (closing_has_none c.args.sides.now.newer.now at.newer c.args.trigram c.are_valid-2.ensures from),
       )
     ]

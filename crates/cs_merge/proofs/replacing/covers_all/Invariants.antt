@@ -1,6 +1,5 @@
 use Rattle.std.proofs.Common.{◌≡◌}
-use Rattle.std.specs.List.{list_all}
-use Rattle.cs_tree.specs.Cover.{is_covered}
+use Rattle.cs_merge.proofs.Common.{list_all, is_covered}
 use Rattle.cs_tree.specs.PathSet as set
 use Rattle.cs_merge.proofs.replacing.covers_all.Given as goal
 

@@ -1,15 +1,14 @@
 use Rattle.std.proofs.Common.{◌≡◌, true, map, string_bytes, take, drop}
-use Rattle.cs_tree.specs.Clean.{longest_path}
-use Rattle.cs_tree.specs.Walks.{RequestsWithin, AreWithinPathLimit}
-use Rattle.cs_tree.specs.NamesAscending.{are_ascending}
-use Rattle.cs_cindex.specs.Files.{AreTextsIn, AreAbove, HaveNamesOf, PrintsFiles}
+use Rattle.cs_cindex.proofs.Common.{longest_path, RequestsWithin, AreWithinPathLimit, are_ascending, AreTextsIn, AreAbove, HaveNamesOf, PrintsFiles}
 use Rattle.cs_cindex.proofs.indexer.Indexer.index_files.Given as goal
 
 abbrev pub invariant-loop-name : goal.invariant-loop-name
 invariant-loop-name g l = record {
   texts : AreTextsIn (g.T.Tree.snapshot l.initial.tree) (map string_bytes (take l.name-index l.names)) l.self.builder.entries;
   names : HaveNamesOf (map string_bytes (take l.name-index l.names)) l.self.builder.entries;
-  prints : PrintsFiles l.initial.self.log_skip (g.T.Tree.snapshot l.initial.tree) (map string_bytes (take l.name-index l.names)) (g.T.Tree.failed l.initial.tree) (g.T.Tree.failed l.tree) (g.E.Sink.model l.initial.err) (g.E.Sink.model l.err);
+  prints : PrintsFiles l.initial.self.log_skip (g.T.Tree.snapshot l.initial.tree)
+      (map string_bytes (take l.name-index l.names)) (g.T.Tree.failed l.initial.tree) (g.T.Tree.failed l.tree)
+      (g.E.Sink.model l.initial.err) (g.E.Sink.model l.err);
   ascend : are_ascending (map string_bytes (drop l.name-index l.names)) ≡ true;
   above : AreAbove l.self.builder.entries (map string_bytes (drop l.name-index l.names));
   paths : l.self.builder.paths ≡ l.initial.self.builder.paths;

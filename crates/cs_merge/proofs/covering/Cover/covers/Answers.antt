@@ -1,7 +1,5 @@
 use Rattle.std.proofs.Common.{ap, ◌∙◌}
-use Rattle.cs_tree.specs.Cover.{is_covered}
-use Rattle.cs_tree.specs.NamesAscending.{are_ascending}
-use Rattle.cs_tree.specs.PathParts.{texts}
+use Rattle.cs_merge.proofs.Common.{is_covered, are_ascending, texts}
 use Rattle.cs_tree.specs.PathSet as set
 use Rattle.cs_merge.proofs.covering.Cover.covers.Goals as goal
 

@@ -1,5 +1,5 @@
 use Rattle.std.proofs.Common.{◌≡◌, ◌++◌}
-use Rattle.cs_tree.specs.PathParts.{texts}
+use Rattle.cs_merge.proofs.Common.{texts}
 use Rattle.cs_merge.proofs.covering.Cover.new.Given as goal
 
 abbrev pub invariant-paths : goal.invariant-paths

@@ -1,8 +1,5 @@
-use Rattle.std.proofs.Common.{rules, ◌≡◌, ℕ, ◌<◌, List, length, get_or, refl, sym, ap, ◌∙◌, Some, slice_get, arith}
-use Rattle.std.proofs.lemmas.Option.{slice_get_read}
-use Rattle.std.specs.Prelude.{slice_index}
-use Rattle.cs_merge.specs.IdMap.{NewIds}
-use Rattle.cs_merge.specs.ListMerge.{AreDistinctIds}
+use Rattle.std.proofs.Common.{rules, ◌≡◌, ℕ, ◌<◌, List, length, get_or, refl, sym, ap, ◌∙◌, Some, slice_get, arith, slice_index}
+use Rattle.cs_merge.proofs.Common.{slice_get_read, NewIds, AreDistinctIds}
 use Rattle.cs_merge.proofs.SortedNamesLemmas.{has_at, scattered_more}
 use Rattle.cs_merge.proofs.id_map.IdMap.scatter.Goals as goal
 
@@ -21,6 +18,10 @@ loop-position-preserved c =
     let long : length c.self.inside.new_ids.items ≡ length c.args.ids.now = ap length c.self.view_is ∙ c.requires.all in
     let within : c.loop-position.position < length c.args.ids.now = c.loop-position-test.true in
     let is : slice_get c.args.self.now c.loop-position.position ≡ Some c.index.result.now =
-    ap (λ (ranks : NewIds). slice_get ranks c.loop-position.position) (sym c.self.view_is) ∙ slice_get_read c.self.inside.new_ids.items (length c.self.inside.new_ids.items) c.loop-position.position c.index.result.now refl (omega (arith, within, long)) value in
-    let put = scattered_more c.args.ids.now c.args.self.now c.loop-position.new_ids.items c.loop-position.position c.index.result.now c.requires.order.once c.loop-position-test.true (omega (arith, below, c.loop-position.invariant.long, c.requires.all)) is c.loop-position.invariant.put in
+    ap (λ (ranks : NewIds). slice_get ranks c.loop-position.position) (sym c.self.view_is)
+    ∙ slice_get_read c.self.inside.new_ids.items (length c.self.inside.new_ids.items) c.loop-position.position
+    c.index.result.now refl (omega (arith, within, long)) value in
+    let put = scattered_more c.args.ids.now c.args.self.now c.loop-position.new_ids.items c.loop-position.position
+    c.index.result.now c.requires.order.once c.loop-position-test.true
+    (omega (arith, below, c.loop-position.invariant.long, c.requires.all)) is c.loop-position.invariant.put in
     search (rules, put)

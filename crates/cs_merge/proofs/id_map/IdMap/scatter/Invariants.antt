@@ -1,5 +1,5 @@
 use Rattle.std.proofs.Common.{◌≡◌, length}
-use Rattle.cs_merge.specs.IdMap.{AreScattered}
+use Rattle.cs_merge.proofs.Common.{AreScattered}
 use Rattle.cs_merge.proofs.id_map.IdMap.scatter.Given as goal
 
 abbrev pub invariant-loop-position : goal.invariant-loop-position

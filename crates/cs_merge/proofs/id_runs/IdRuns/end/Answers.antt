@@ -1,7 +1,5 @@
 use Rattle.std.proofs.Common.{◌≡◌, List, ℕ, Some, length, sym, ap, subst, ◌∙◌, slice_get}
-use Rattle.std.proofs.lemmas.Bool.{ltb-true}
-use Rattle.std.proofs.lemmas.Option.{slice_get-get_or}
-use Rattle.cs_merge.specs.IdMap.{NewIds, IsRun}
+use Rattle.cs_merge.proofs.Common.{ltb-true, slice_get-get_or, NewIds, IsRun}
 use Rattle.cs_merge.proofs.id_runs.IdRuns.end.Goals as goal
 
 pub returns-in-Some : goal.returns-in-Some
@@ -11,5 +9,6 @@ returns-in-Some c =
     slice_get-get_or ends c.args.id c.in-Some.end.now (ltb-true c.args.id (length ends) (sym c.in-Some.ensures.lookup.0))
     ∙ ap Some (sym c.in-Some.ensures.lookup.1) in
     let together : IsRun c.self.inside.new_ids.now c.args.id c.in-Some.end.now =
-    c.self.invariant.ends_are c.args.id c.in-Some.end.now (ap (λ (es : List ℕ). slice_get es c.args.id) (sym c.deref.ensures.value) ∙ there) in
+    c.self.invariant.ends_are c.args.id c.in-Some.end.now
+    (ap (λ (es : List ℕ). slice_get es c.args.id) (sym c.deref.ensures.value) ∙ there) in
     subst (λ (ids : NewIds). IsRun ids c.args.id c.in-Some.end.now) c.self.view_is together

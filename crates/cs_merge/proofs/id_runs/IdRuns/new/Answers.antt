@@ -1,6 +1,5 @@
 use Rattle.std.proofs.Common.{length, sym, ap, subst, arith}
-use Rattle.std.proofs.lemmas.List.{length_push}
-use Rattle.cs_merge.specs.IdMap.{AreRunEnds, IsRun}
+use Rattle.cs_merge.proofs.Common.{length_push, AreRunEnds, IsRun}
 use Rattle.cs_merge.proofs.IdRunLemmas.{ends_push, run_rest}
 use Rattle.cs_merge.proofs.id_runs.IdRuns.new.Goals as goal
 use Rattle.cs_merge.proofs.id_runs.IdRuns.new.Goals.{then-id-end, else-id-end}
@@ -16,6 +15,7 @@ ids-preserved c =
     let all = ap length c.in_ok-push.ensures.items in
     record {
       long = omega (arith, long, all, c.ids.invariant.long);
-      are = subst (AreRunEnds ids) (sym c.in_ok-push.ensures.items) (ends_push ids c.ids.ends.items c.ids.id c.if-id-end.end c.ids.invariant.long c.ids.invariant.are now);
+      are = subst (AreRunEnds ids) (sym c.in_ok-push.ensures.items)
+          (ends_push ids c.ids.ends.items c.ids.id c.if-id-end.end c.ids.invariant.long c.ids.invariant.are now);
       together = run_rest ids c.ids.id c.if-id-end.end now;
     }

@@ -1,5 +1,5 @@
 use Rattle.std.proofs.Common.{◌≡◌, length}
-use Rattle.cs_merge.specs.IdMap.{AreRunEnds, IsRun}
+use Rattle.cs_merge.proofs.Common.{AreRunEnds, IsRun}
 use Rattle.cs_merge.proofs.id_runs.IdRuns.new.Given as goal
 
 abbrev pub invariant-ids : goal.invariant-ids

@@ -1,5 +1,4 @@
-use Rattle.std.proofs.Common.{refl, sym, ◌∙◌, subst, Some}
-use Rattle.std.specs.Prelude.{option_map}
+use Rattle.std.proofs.Common.{refl, sym, ◌∙◌, subst, Some, option_map}
 use Rattle.cs_index.specs.Order.{IsOrderOf}
 use Rattle.cs_merge.proofs.SortedNamesLemmas.{sorted_ascending, sorted_order}
 use Rattle.cs_merge.proofs.sorted_names.SortedNames.of.Goals as goal

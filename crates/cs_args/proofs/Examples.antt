@@ -71,7 +71,8 @@ ended : cgrep (codes "--" ∷ codes "-x" ∷ []) ≡ Ok (grep plain false (codes
 unfolding cgrep plain parse_args option_items_from
 ended = refl
 
-ended_once : cgrep (codes "-n" ∷ codes "--" ∷ codes "--" ∷ []) ≡ Ok (grep (record { count = false; list = false; number = true; bare = false }) false (codes "--") true [])
+ended_once : cgrep (codes "-n" ∷ codes "--" ∷ codes "--" ∷ [])
+    ≡ Ok (grep (record { count = false; list = false; number = true; bare = false }) false (codes "--") true [])
 unfolding cgrep plain parse_args option_items_from
 ended_once = refl
 
@@ -119,7 +120,8 @@ unfolding csearch parse_args option_items_from
 first_fault_counts = refl
 
 -- `cindex /t -list`, in the folder /w
-paths : parse_args Cindex (codes "/w") (codes "/t" ∷ codes "-list" ∷ []) ≡ Ok (index false false false (codes "/w") (codes "/t" ∷ codes "-list" ∷ []))
+paths : parse_args Cindex (codes "/w") (codes "/t" ∷ codes "-list" ∷ [])
+    ≡ Ok (index false false false (codes "/w") (codes "/t" ∷ codes "-list" ∷ []))
 unfolding parse_args option_items_from
 paths = refl
 
@@ -143,7 +145,8 @@ index_memory = refl
 pattern_memory : line_of Cgrep (A_tool (Pattern (record { fault = PatternMemory; at = 0 }))) [] ≡ codes "cgrep: out of memory\n"
 pattern_memory = refl
 
-deep : line_of Csearch (A_tool (FilePattern (record { fault = TooDeep; at = 200 }))) [] ≡ codes "csearch: file pattern at 200: nested too deep\n"
+deep : line_of Csearch (A_tool (FilePattern (record { fault = TooDeep; at = 200 }))) []
+    ≡ codes "csearch: file pattern at 200: nested too deep\n"
 unfolding digits
 deep = refl
 

@@ -60,7 +60,8 @@ value_by_either get_value before first None true = refl
 value_by_either get_value before first None false = refl
 
 value_after-cons : {X : Type 0} (get_value : OptionItem → X) (before : X) (name : List ℕ) (first : OptionItem) (items : List OptionItem)
-    → value_after get_value before name (first ∷ items) ≡ value_after get_value (cond (bytes_eq name (name_of first.arg)) (get_value first) before) name items
+    → value_after get_value before name (first ∷ items)
+    ≡ value_after get_value (cond (bytes_eq name (name_of first.arg)) (get_value first) before) name items
 value_after-cons get_value before name first items =
     ap (λ last. unwrap_or (option_map get_value last) before) (last_of-cons name first items)
     ∙ value_by_either get_value before first (last_of name items) (bytes_eq name (name_of first.arg))
@@ -72,29 +73,42 @@ is_switched_on item = unwrap_or (bool_in item) false
 -- an option takes its own argument, and possibly the next one
 pub option_items_from-option : (tool : Tool) (arg_index : ℕ) (arg : List ℕ) (behind : List (List ℕ)) → is_option arg ≡ true
     → option_items_from tool arg_index (arg ∷ behind)
-    ≡ first_item tool arg_index arg behind ∷ option_items_from tool (arg_index + arg_count (first_item tool arg_index arg behind)) (drop (arg_count (first_item tool arg_index arg behind)) (arg ∷ behind))
+    ≡ first_item tool arg_index arg behind ∷ option_items_from tool
+    (arg_index + arg_count (first_item tool arg_index arg behind))
+    (drop (arg_count (first_item tool arg_index arg behind)) (arg ∷ behind))
 unfolding option_items_from
 option_items_from-option tool arg_index arg [] option = without_next (takes_next tool arg)
   where
     without_next : (takes : Bool)
         → cond (is_option arg) (item arg arg_index None ∷ []) []
-        ≡ item arg arg_index (cond takes None None) ∷ option_items_from tool (arg_index + arg_count (item arg arg_index (cond takes None None))) (drop (arg_count (item arg arg_index (cond takes None None))) (arg ∷ []))
+        ≡ item arg arg_index (cond takes None None) ∷ option_items_from tool
+        (arg_index + arg_count (item arg arg_index (cond takes None None)))
+        (drop (arg_count (item arg arg_index (cond takes None None))) (arg ∷ []))
     without_next true = ap (λ first. cond first (item arg arg_index None ∷ []) []) option
     without_next false = ap (λ first. cond first (item arg arg_index None ∷ []) []) option
 option_items_from-option tool arg_index arg (next ∷ behind) option = with_next (takes_next tool arg)
   where
     with_next : (takes : Bool)
-        → cond (not (is_option arg)) [] (cond takes (item arg arg_index (Some next) ∷ option_items_from tool (arg_index + 2) behind) (item arg arg_index None ∷ option_items_from tool (arg_index + 1) (next ∷ behind)))
-        ≡ item arg arg_index (cond takes (Some next) None) ∷ option_items_from tool (arg_index + arg_count (item arg arg_index (cond takes (Some next) None))) (drop (arg_count (item arg arg_index (cond takes (Some next) None))) (arg ∷ next ∷ behind))
-    with_next true = ap (λ first. cond (not first) [] (item arg arg_index (Some next) ∷ option_items_from tool (arg_index + 2) behind)) option
-    with_next false = ap (λ first. cond (not first) [] (item arg arg_index None ∷ option_items_from tool (arg_index + 1) (next ∷ behind))) option
+        → cond (not (is_option arg)) [] (cond takes
+        (item arg arg_index (Some next) ∷ option_items_from tool (arg_index + 2) behind)
+        (item arg arg_index None ∷ option_items_from tool (arg_index + 1) (next ∷ behind)))
+        ≡ item arg arg_index (cond takes (Some next) None) ∷ option_items_from tool
+        (arg_index + arg_count (item arg arg_index (cond takes (Some next) None)))
+        (drop (arg_count (item arg arg_index (cond takes (Some next) None))) (arg ∷ next ∷ behind))
+    with_next true = ap (λ first. cond (not first) []
+        (item arg arg_index (Some next) ∷ option_items_from tool (arg_index + 2) behind)) option
+    with_next false = ap (λ first. cond (not first) []
+        (item arg arg_index None ∷ option_items_from tool (arg_index + 1) (next ∷ behind))) option
 
 -- an argument that is not an option ends the options
-pub option_items_from-other : (tool : Tool) (arg_index : ℕ) (arg : List ℕ) (behind : List (List ℕ)) → is_option arg ≡ false → option_items_from tool arg_index (arg ∷ behind) ≡ []
+pub option_items_from-other : (tool : Tool) (arg_index : ℕ) (arg : List ℕ) (behind : List (List ℕ)) → is_option arg
+    ≡ false → option_items_from tool arg_index (arg ∷ behind) ≡ []
 unfolding option_items_from
 option_items_from-other tool arg_index arg [] option = ap (λ first. cond first (item arg arg_index None ∷ []) []) option
 option_items_from-other tool arg_index arg (next ∷ behind) option =
-    ap (λ first. cond (not first) [] (cond (takes_next tool arg) (item arg arg_index (Some next) ∷ option_items_from tool (arg_index + 2) behind) (item arg arg_index None ∷ option_items_from tool (arg_index + 1) (next ∷ behind)))) option
+    ap (λ first. cond (not first) [] (cond (takes_next tool arg)
+    (item arg arg_index (Some next) ∷ option_items_from tool (arg_index + 2) behind)
+    (item arg arg_index None ∷ option_items_from tool (arg_index + 1) (next ∷ behind)))) option
 
 -- one switch has the new value, the others stay
 is_set-with_switch : (other switch : Switch) (on : Bool) (settings : Settings)
@@ -122,7 +136,8 @@ is_set-with_switch _ Brute on settings = refl
 -- all options.
 pub record IsReadTo (tool : Tool) (args : List (List ℕ)) (arg_index : ℕ) (settings : Settings) : Type 0 where
   pub within : arg_index ≤ length args
-  pub taken : sum_by arg_count (option_items tool args) ≡ arg_index + sum_by arg_count (option_items_from tool arg_index (drop arg_index args))
+  pub taken : sum_by arg_count (option_items tool args) ≡ arg_index + sum_by arg_count
+      (option_items_from tool arg_index (drop arg_index args))
   pub sound : first_fault tool (option_items tool args) ≡ first_fault tool (option_items_from tool arg_index (drop arg_index args))
   pub switches : (switch : Switch) → is_on (switch_name switch) (option_items tool args)
       ≡ value_after is_switched_on (is_set switch settings) (switch_name switch) (option_items_from tool arg_index (drop arg_index args))
@@ -131,22 +146,26 @@ pub record IsReadTo (tool : Tool) (args : List (List ℕ)) (arg_index : ℕ) (se
 
 -- what one more option sets
 set_switch : (switch : Switch) (first : OptionItem) (setting : Setting) (settings : Settings) → Sets first setting
-    → cond (bytes_eq (switch_name switch) (name_of first.arg)) (is_switched_on first) (is_set switch settings) ≡ is_set switch (with_setting setting settings)
+    → cond (bytes_eq (switch_name switch) (name_of first.arg)) (is_switched_on first) (is_set switch settings)
+    ≡ is_set switch (with_setting setting settings)
 set_switch switch first (Boolean other on) settings sets =
     ap (λ name. cond (bytes_eq (switch_name switch) name) (is_switched_on first) (is_set switch settings)) sets.0
-    ∙ ap (λ found_value. cond (bytes_eq (switch_name switch) (switch_name other)) (unwrap_or found_value false) (is_set switch settings)) sets.1
+    ∙ ap (λ found_value. cond (bytes_eq (switch_name switch) (switch_name other)) (unwrap_or found_value false)
+    (is_set switch settings)) sets.1
     ∙ sym (is_set-with_switch switch other on settings)
 set_switch switch first (A_pattern pattern) settings sets =
     ap (λ name. cond (bytes_eq (switch_name switch) name) (is_switched_on first) (is_set switch settings)) sets.0
     ∙ no_switch_is_f switch (is_switched_on first) settings pattern
   where
     no_switch_is_f : (switch : Switch) (on : Bool) (settings : Settings) (pattern : Bor (List ℕ))
-        → cond (bytes_eq (switch_name switch) (codes "f")) on (is_set switch settings) ≡ is_set switch (record settings { file = Some pattern })
+        → cond (bytes_eq (switch_name switch) (codes "f")) on (is_set switch settings)
+        ≡ is_set switch (record settings { file = Some pattern })
     no_switch_is_f Listed on settings pattern = refl
     no_switch_is_f _ on settings pattern = refl
 
 set_file : (first : OptionItem) (setting : Setting) (settings : Settings) → Sets first setting
-    → cond (bytes_eq (codes "f") (name_of first.arg)) (value_in first) (option_copied settings.file) ≡ option_copied (with_setting setting settings).file
+    → cond (bytes_eq (codes "f") (name_of first.arg)) (value_in first) (option_copied settings.file)
+    ≡ option_copied (with_setting setting settings).file
 set_file first (A_pattern pattern) settings sets =
     ap (λ name. cond (bytes_eq (codes "f") name) (value_in first) (option_copied settings.file)) sets.0 ∙ sets.1
 set_file first (Boolean switch on) settings sets =
@@ -154,22 +173,30 @@ set_file first (Boolean switch on) settings sets =
     ∙ f_is_no_switch switch on (value_in first) settings
   where
     f_is_no_switch : (switch : Switch) (on : Bool) (value : Option (List ℕ)) (settings : Settings)
-        → cond (bytes_eq (codes "f") (switch_name switch)) value (option_copied settings.file) ≡ option_copied (with_switch switch on settings).file
+        → cond (bytes_eq (codes "f") (switch_name switch)) value (option_copied settings.file)
+        ≡ option_copied (with_switch switch on settings).file
     f_is_no_switch Listed on value settings = refl
     f_is_no_switch _ on value settings = refl
 
-arg_count-within : (tool : Tool) (arg_index : ℕ) (arg : List ℕ) (behind : List (List ℕ)) → arg_count (first_item tool arg_index arg behind) ≤ length (arg ∷ behind)
-arg_count-within tool arg_index arg [] = elim (takes_next tool arg) as (λ takes. arg_count (item arg arg_index (cond takes None None)) ≤ length (arg ∷ [])) [ true ↦ omega arith | false ↦ omega arith ]
-arg_count-within tool arg_index arg (next ∷ behind) = elim (takes_next tool arg) as (λ takes. arg_count (item arg arg_index (cond takes (Some next) None)) ≤ length (arg ∷ next ∷ behind)) [ true ↦ omega arith | false ↦ omega arith ]
+arg_count-within : (tool : Tool) (arg_index : ℕ) (arg : List ℕ) (behind : List (List ℕ)) →
+    arg_count (first_item tool arg_index arg behind) ≤ length (arg ∷ behind)
+arg_count-within tool arg_index arg [] =
+    elim (takes_next tool arg) as (λ takes. arg_count (item arg arg_index (cond takes None None)) ≤ length (arg ∷ []))
+    [ true ↦ omega arith | false ↦ omega arith ]
+arg_count-within tool arg_index arg (next ∷ behind) =
+    elim (takes_next tool arg) as (λ takes. arg_count (item arg arg_index (cond takes (Some next) None))
+    ≤ length (arg ∷ next ∷ behind)) [ true ↦ omega arith | false ↦ omega arith ]
 
-pub read_more : (tool : Tool) (args : List (List ℕ)) (arg_index : ℕ) (settings : Settings) (arg : List ℕ) (behind : List (List ℕ)) (setting : Setting)
+pub read_more : (tool : Tool) (args : List (List ℕ)) (arg_index : ℕ) (settings : Settings) (arg : List ℕ)
+    (behind : List (List ℕ)) (setting : Setting)
     → IsReadTo tool args arg_index settings → drop arg_index args ≡ arg ∷ behind → is_option arg ≡ true
     → fault_in tool (first_item tool arg_index arg behind) ≡ None → Sets (first_item tool arg_index arg behind) setting
     → IsReadTo tool args (arg_index + arg_count (first_item tool arg_index arg behind)) (with_setting setting settings)
 read_more tool args arg_index settings arg behind setting before here option sound sets = record {
   within = omega (arith, arg_count-within tool arg_index arg behind, ap length here, length-drop arg_index args);
   taken = before.taken ∙ ap (λ items. arg_index + sum_by arg_count items) prefix
-      ∙ ap (λ more. arg_index + more) (sum_by-cons arg_count first later) ∙ sym (add_assoc arg_index (arg_count first) (sum_by arg_count later));
+      ∙ ap (λ more. arg_index + more) (sum_by-cons arg_count first later)
+      ∙ sym (add_assoc arg_index (arg_count first) (sum_by arg_count later));
   sound = before.sound ∙ ap (first_fault tool) prefix ∙ ap (λ fault. option_or fault (first_fault tool later)) sound;
   switches = λ switch. before.switches switch
       ∙ ap (value_after is_switched_on (is_set switch settings) (switch_name switch)) prefix
@@ -189,24 +216,29 @@ read_more tool args arg_index settings arg behind setting before here option sou
 
     prefix : option_items_from tool arg_index (drop arg_index args) ≡ first ∷ later
     prefix = ap (option_items_from tool arg_index) here ∙ option_items_from-option tool arg_index arg behind option
-        ∙ ap (λ rest. first ∷ option_items_from tool (arg_index + arg_count first) rest) (ap (drop (arg_count first)) (sym here) ∙ drop-drop (arg_count first) arg_index args)
+        ∙ ap (λ rest. first ∷ option_items_from tool (arg_index + arg_count first) rest)
+        (ap (drop (arg_count first)) (sym here) ∙ drop-drop (arg_count first) arg_index args)
 
 -- without a further option the settings are those of all options
 pub read_all : (tool : Tool) (args : List (List ℕ)) (arg_index : ℕ) (settings : Settings)
-    → IsReadTo tool args arg_index settings → option_items_from tool arg_index (drop arg_index args) ≡ [] → AreSettingsOf settings (option_items tool args)
+    → IsReadTo tool args arg_index settings → option_items_from tool arg_index (drop arg_index args) ≡ [] →
+    AreSettingsOf settings (option_items tool args)
 read_all tool args arg_index settings before none = record {
   switches = λ switch. sym (before.switches switch ∙ ap (value_after is_switched_on (is_set switch settings) (switch_name switch)) none);
   file = sym (before.file ∙ ap (value_after value_in (option_copied settings.file) (codes "f")) none);
 }
 
 pub all_sound : (tool : Tool) (args : List (List ℕ)) (arg_index : ℕ) (settings : Settings)
-    → IsReadTo tool args arg_index settings → option_items_from tool arg_index (drop arg_index args) ≡ [] → first_fault tool (option_items tool args) ≡ None
+    → IsReadTo tool args arg_index settings → option_items_from tool arg_index (drop arg_index args) ≡ [] →
+    first_fault tool (option_items tool args) ≡ None
 all_sound tool args arg_index settings before none = before.sound ∙ ap (first_fault tool) none
 
 pub rest_here : (tool : Tool) (args : List (List ℕ)) (arg_index : ℕ) (settings : Settings)
-    → IsReadTo tool args arg_index settings → option_items_from tool arg_index (drop arg_index args) ≡ [] → without_terminator (drop arg_index args) ≡ operands tool args
+    → IsReadTo tool args arg_index settings → option_items_from tool arg_index (drop arg_index args) ≡ [] →
+    without_terminator (drop arg_index args) ≡ operands tool args
 rest_here tool args arg_index settings before none =
-    let all : sum_by arg_count (option_items tool args) ≡ arg_index = before.taken ∙ ap (λ items. arg_index + sum_by arg_count items) none ∙ add-zero arg_index in
+    let all : sum_by arg_count (option_items tool args) ≡ arg_index = before.taken
+    ∙ ap (λ items. arg_index + sum_by arg_count items) none ∙ add-zero arg_index in
     ap (λ position. without_terminator (drop position args)) (sym all)
 
 -- one more option is read, or there is none
@@ -222,7 +254,8 @@ read_next tool args arg_index settings read before next = by_first (drop arg_ind
         subst (λ args_read. IsReadTo tool args (arg_index + args_read) (with_setting read.setting settings)) (sym next.2)
         (read_more tool args arg_index settings arg behind read.setting before here next.0 next.1 next.3)
 
-pub none_next : (tool : Tool) (args : List (List ℕ)) (arg_index : ℕ) → IsNextItem tool arg_index args None → option_items_from tool arg_index args ≡ []
+pub none_next : (tool : Tool) (args : List (List ℕ)) (arg_index : ℕ) → IsNextItem tool arg_index args None →
+    option_items_from tool arg_index args ≡ []
 unfolding option_items_from
 none_next tool [] arg_index next = refl
 none_next tool (arg ∷ behind) arg_index next = option_items_from-other tool arg_index arg behind next
@@ -232,7 +265,9 @@ pub fault_next : (tool : Tool) (args : List (List ℕ)) (arg_index : ℕ) (fault
 fault_next tool [] arg_index fault breaks = absurd breaks
 fault_next tool (arg ∷ behind) arg_index fault breaks =
     ap (first_fault tool) (option_items_from-option tool arg_index arg behind breaks.0)
-    ∙ ap (λ found. option_or found (first_fault tool (option_items_from tool (arg_index + arg_count (first_item tool arg_index arg behind)) (drop (arg_count (first_item tool arg_index arg behind)) (arg ∷ behind))))) breaks.1
+    ∙ ap (λ found. option_or found (first_fault tool
+    (option_items_from tool (arg_index + arg_count (first_item tool arg_index arg behind))
+    (drop (arg_count (first_item tool arg_index arg behind)) (arg ∷ behind))))) breaks.1
 
 -- the style of the options is that of their settings
 style_is : (settings : Settings) (items : List OptionItem) → AreSettingsOf settings items → settings.style ≡ style_of items
@@ -244,7 +279,8 @@ style_is settings items are = λ i. record {
 }
 
 pub grep_answer : (settings : Settings) (items : List OptionItem) (pattern : List ℕ) (files : List (List ℕ)) → AreSettingsOf settings items
-    → grep settings.style settings.fold pattern (length files == 0) files ≡ grep (style_of items) (is_on (codes "i") items) pattern (length files == 0) files
+    → grep settings.style settings.fold pattern (length files == 0) files
+    ≡ grep (style_of items) (is_on (codes "i") items) pattern (length files == 0) files
 grep_answer settings items pattern files are =
     λ i. grep (style_is settings items are i) (are.switches Fold i) pattern (length files == 0) files
 
@@ -262,17 +298,21 @@ index_answer settings items cwd paths are =
 
 -- arguments never parse as Memory
 fault_in-memory : (tool : Tool) (item : OptionItem) → fault_in tool item ≡ Some Memory → ⊥
-fault_in-memory tool item is = by_cases (is_among (switches_of tool) (name_of item.arg)) (is_among (valued_of tool) (name_of item.arg)) (is_none (bool_in item)) (is_none (value_in item)) is
+fault_in-memory tool item is = by_cases (is_among (switches_of tool) (name_of item.arg))
+    (is_among (valued_of tool) (name_of item.arg)) (is_none (bool_in item)) (is_none (value_in item)) is
   where
     by_cases : (switch valued silent without : Bool)
-        → cond switch (cond silent (Some (BadTruth item.arg_index)) None) (cond valued (cond without (Some (NoValue item.arg_index)) None) (Some (UnknownOption item.arg_index))) ≡ Some Memory → ⊥
+        → cond switch (cond silent (Some (BadTruth item.arg_index)) None)
+        (cond valued (cond without (Some (NoValue item.arg_index)) None) (Some (UnknownOption item.arg_index)))
+        ≡ Some Memory → ⊥
     by_cases true valued true without is = cc
     by_cases true valued false without is = cc
     by_cases false true silent true is = cc
     by_cases false true silent false is = cc
     by_cases false false silent without is = cc
 
-or-memory : (found later : Option WordFault) → (found ≡ Some Memory → ⊥) → (later ≡ Some Memory → ⊥) → option_or found later ≡ Some Memory → ⊥
+or-memory : (found later : Option WordFault) → (found ≡ Some Memory → ⊥) → (later ≡ Some Memory → ⊥) →
+    option_or found later ≡ Some Memory → ⊥
 or-memory None later here behind is = behind is
 or-memory (Some fault) later here behind is = here is
 
@@ -281,7 +321,8 @@ first_fault-memory tool [] is = cc
 first_fault-memory tool (first ∷ later) is =
     or-memory (fault_in tool first) (first_fault tool later) (fault_in-memory tool first) (first_fault-memory tool later) is
 
-job_by-memory : (tool : Tool) (cwd : List ℕ) (all : ℕ) (items : List OptionItem) (rest : List (List ℕ)) → job_by tool cwd all items rest ≡ Err Memory → ⊥
+job_by-memory : (tool : Tool) (cwd : List ℕ) (all : ℕ) (items : List OptionItem) (rest : List (List ℕ)) →
+    job_by tool cwd all items rest ≡ Err Memory → ⊥
 job_by-memory Cindex cwd all items rest is = cc
 job_by-memory Csearch cwd all items [] is = cc
 job_by-memory Csearch cwd all items (pattern ∷ []) is = cc
@@ -290,7 +331,8 @@ job_by-memory Cgrep cwd all items [] is = cc
 job_by-memory Cgrep cwd all items (pattern ∷ files) is = cc
 
 -- what arguments parse as, from the options that are read
-pub parse_args-faulty : (tool : Tool) (cwd : List ℕ) (args : List (List ℕ)) (fault : WordFault) → first_fault tool (option_items tool args) ≡ Some fault
+pub parse_args-faulty : (tool : Tool) (cwd : List ℕ) (args : List (List ℕ)) (fault : WordFault) →
+    first_fault tool (option_items tool args) ≡ Some fault
     → parse_args tool cwd args ≡ Err fault
 unfolding parse_args
 parse_args-faulty tool cwd args fault is =
@@ -306,7 +348,8 @@ pub parse_args-memory : (tool : Tool) (cwd : List ℕ) (args : List (List ℕ)) 
 unfolding parse_args
 parse_args-memory tool cwd args is =
     by_fault (first_fault tool (option_items tool args)) (job_by tool cwd (length args) (option_items tool args) (operands tool args))
-    (first_fault-memory tool (option_items tool args)) (job_by-memory tool cwd (length args) (option_items tool args) (operands tool args)) is
+    (first_fault-memory tool (option_items tool args))
+    (job_by-memory tool cwd (length args) (option_items tool args) (operands tool args)) is
   where
     by_fault : (found : Option WordFault) (job : Result JobView WordFault) → (found ≡ Some Memory → ⊥) → (job ≡ Err Memory → ⊥)
         → fault_or found job ≡ Err Memory → ⊥
@@ -314,7 +357,8 @@ parse_args-memory tool cwd args is =
     by_fault (Some fault) job no_fault no_job is = no_fault (let same : fault ≡ Memory = cc in ap (λ fault. Some fault) same)
 
 -- the answer, by what the arguments parse as
-pub answer_job : (parsed : Result JobView WordFault) (answer : Result Job WordFault) → GivesJob parsed answer → IfOk answer (λ job. parsed ≡ Ok (job_view job))
+pub answer_job : (parsed : Result JobView WordFault) (answer : Result Job WordFault) → GivesJob parsed answer →
+    IfOk answer (λ job. parsed ≡ Ok (job_view job))
 answer_job (Ok job) (Ok found) answers = ap (λ job. Ok job) (sym answers)
 answer_job (Ok job) (Err fault) answers = tt
 answer_job (Err fault) (Ok found) answers = cc
@@ -323,7 +367,8 @@ answer_job (Err fault) (Err other) answers = tt
 pub answer_fault : (parsed : Result JobView WordFault) (answer : Result Job WordFault) → GivesJob parsed answer
     → (fault : WordFault) → fault ≢ Memory → (answer ≡ Err fault) ↔ (parsed ≡ Err fault)
 answer_fault (Ok job) (Ok found) answers fault other = ((λ is. cc), (λ is. cc))
-answer_fault (Ok job) (Err memory) answers fault other = ((λ is. absurd (other (let same : memory ≡ fault = cc in sym same ∙ answers))), (λ is. cc))
+answer_fault (Ok job) (Err memory) answers fault other =
+    ((λ is. absurd (other (let same : memory ≡ fault = cc in sym same ∙ answers))), (λ is. cc))
 answer_fault (Err parsed) answer answers fault other = ((λ is. cc), (λ is. cc))
 
 pub answer_memory : (parsed : Result JobView WordFault) (answer : Result Job WordFault) → GivesJob parsed answer

@@ -89,7 +89,10 @@ operands tool args = without_terminator (drop (sum_by arg_count (option_items to
 
 -- the value of a Boolean option, if it is one
 abbrev pub parse_bool : List ℕ → Option Bool
-parse_bool value = if is_among true_values value then Some true else if is_among false_values value then Some false else None
+parse_bool value =
+    if is_among true_values value then Some true
+    else if is_among false_values value then Some false
+    else None
 
 -- the value that an option gives to its switch; without `=` it is true
 abbrev pub bool_in : OptionItem → Option Bool

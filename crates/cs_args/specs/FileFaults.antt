@@ -34,7 +34,8 @@ is_file_failure PathTooLong = false
 is_file_failure InputTooLong = false
 
 abbrev pub fault_line_of : Tool → List ℕ → FileFault → List ℕ
-fault_line_of tool name fault = tool_name tool ++ codes ": " ++ name ++ codes ": " ++ file_fault_text fault ++ codes "\n"
+fault_line_of tool name fault =
+    tool_name tool ++ codes ": " ++ name ++ codes ": " ++ file_fault_text fault ++ codes "\n"
 
 -- the error of a file for an error of the tree; out of memory is not the error of a file
 abbrev pub file_fault_of : TreeFault → FileFault

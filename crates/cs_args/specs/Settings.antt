@@ -51,7 +51,8 @@ IsNextItem tool arg_index [] next = next ≡ None
 IsNextItem tool arg_index (arg ∷ behind) None = is_option arg ≡ false
 IsNextItem tool arg_index (arg ∷ behind) (Some read) =
     (is_option arg ≡ true) × (fault_in tool (first_item tool arg_index arg behind) ≡ None)
-    × (read.len ≡ arg_count (first_item tool arg_index arg behind)) × Sets (first_item tool arg_index arg behind) read.setting
+    × (read.len ≡ arg_count (first_item tool arg_index arg behind))
+    × Sets (first_item tool arg_index arg behind) read.setting
 
 -- the option at the start of the arguments has this error
 abbrev pub BreaksRule : Tool → ℕ → List (List ℕ) → WordFault → Type 0

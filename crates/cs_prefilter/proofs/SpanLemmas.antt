@@ -3,7 +3,7 @@ use Rattle.std.proofs.Common.{ℕ, zero, suc, ◌<◌, ◌≤◌, inl, inr, List
 use Rattle.std.specs.Prelude.{Option, Result, Ok, Err, OnOk}
 use Rattle.std.specs.Char.{encode_utf8}
 use Rattle.cs_syntax.specs.Matching.{Tree, Trees, empty, one_of, one_char, cat, alt, rep, line_start, line_end, word_edge, not_word_edge, none, more, Chain, MatchesSpan, MatchesSequence, MatchesBranch}
-use Rattle.cs_syntax.proofs.LoweringLemmas.{occurs_within}
+use Rattle.cs_syntax.proofs.EncodingLemmas.{occurs_within}
 
 -- a span that begins within the line ends within it
 module _ (s : List ℕ) where

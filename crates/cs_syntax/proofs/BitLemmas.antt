@@ -29,7 +29,8 @@ with_one_more word index h = record {
   elsewhere = λ i _ other. bit_at_set_other w64 word index h i other;
 }
 
-module _ (words : List ℕ) (index new : ℕ) (on : Bool) (bit : IsWithBit (get_or words (index / 64) 0) new (index % 64) on) (within : index / 64 < length words) where
+module _ (words : List ℕ) (index new : ℕ) (on : Bool)
+    (bit : IsWithBit (get_or words (index / 64) 0) new (index % 64) on) (within : index / 64 < length words) where
   pub has_bit-set_same : has_bit (set words (index / 64) new) index ≡ on
   has_bit-set_same = ap (λ x. eqb (bit_at x (index % 64)) 1) (get_or-set_same words (index / 64) new 0 within) ∙ bit.there
 

@@ -32,14 +32,16 @@ answers_at f from (suc n) (suc k) h =
     let e : suc from + k ≡ from + suc k = omega arith in
     answers_at f (suc from) n k (omega arith) ∙ ap f e
 
-pub answers_from : (f : ℕ → Bool) (from n : ℕ) (xs : List Bool) → length xs ≡ n → ((k : ℕ) → k < n → get_or xs k false ≡ f (from + k)) → xs ≡ answers f from n
+pub answers_from : (f : ℕ → Bool) (from n : ℕ) (xs : List Bool) → length xs ≡ n →
+    ((k : ℕ) → k < n → get_or xs k false ≡ f (from + k)) → xs ≡ answers f from n
 answers_from f from zero [] e h = refl
 answers_from f from zero (x ∷ xs) e h = absurd (omega arith)
 answers_from f from (suc n) [] e h = absurd (omega arith)
 answers_from f from (suc n) (x ∷ xs) e h =
     let head : from + 0 ≡ from = omega arith in
     let first = h 0 (omega arith) ∙ ap f head in
-    let rest = answers_from f (suc from) n xs (omega arith) (λ k lt. let s : from + suc k ≡ suc from + k = omega arith in h (suc k) (omega arith) ∙ ap f s) in
+    let rest = answers_from f (suc from) n xs (omega arith) (λ k lt. let s : from + suc k ≡ suc from + k =
+    omega arith in h (suc k) (omega arith) ∙ ap f s) in
     cc
 
 pub set_from : (f : ℕ → Bool) (xs : List Bool) → length xs ≡ 256 → ((k : ℕ) → k < 256 → get_or xs k false ≡ f k) → xs ≡ set_of f

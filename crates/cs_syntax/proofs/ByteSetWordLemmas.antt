@@ -1,5 +1,5 @@
 -- Sets of bytes as bitmaps of four words.
-use Rattle.std.proofs.Common.{min, ◌-◌, ◌≤◌, true≢false, ◌≡◌, ℕ, zero, suc, ◌+◌, ◌*◌, ◌/◌, ◌%◌, ◌^◌, ◌<◌, Bool, true, false, eqb, cond, List, [], ◌∷◌, length, get_or, set, take, drop, refl, sym, ◌∙◌, ap, subst, inl, inr, arith, ext_get_or, length-set, lit<, eq-eqb, w64, drop_of_length-le}
+use Rattle.std.proofs.Common.{◌≤◌, ◌≡◌, ℕ, zero, suc, ◌+◌, ◌*◌, ◌/◌, ◌%◌, ◌^◌, ◌<◌, Bool, true, false, eqb, cond, List, [], ◌∷◌, length, get_or, set, take, drop, refl, sym, ◌∙◌, ap, subst, inl, inr, arith, ext_get_or, length-set, lit<, eq-eqb, w64, drop_of_length-le}
 use Rattle.std.specs.Prelude.{All, bit_or, count_ones}
 use Rattle.std.specs.Int.{bit_at, trailing_zeros}
 use Rattle.std.specs.Simd.Lanes.{mask_l}
@@ -7,12 +7,11 @@ use Rattle.std.proofs.lemmas.List.{get_or-take, get_or-drop, length-take-le, len
 use Rattle.std.proofs.lemmas.List.FromFn.{length-map-range_with_len, get_or-map-range_with_len}
 use Rattle.std.proofs.lemmas.List.Elements.{All-get_or, All-set, All-replicate}
 use Rattle.std.proofs.lemmas.List.Sums.{sum_by-take-drop}
-use Rattle.std.proofs.lemmas.Bool.{cases_eq, cases_lt, and_parts, and_from, or_cases, or_left, le-leb, leb-true, false_from_ne_true}
+use Rattle.std.proofs.lemmas.Bool.{cases_eq, cases_lt}
 use Rattle.std.proofs.lemmas.Nat.{or_lt}
-use Rattle.std.proofs.lemmas.Nat.Bits.{bit_at-lt, bit_at-trailing_zeros, same_from_bits_below, bit_at_mask_below, bit_at_mask_above, bit_at_mask_inside}
-use Rattle.std.proofs.Math.Nat.{mod-lt, one-le-pow}
+use Rattle.std.proofs.lemmas.Nat.Bits.{bit_at-lt, bit_at-trailing_zeros, same_from_bits_below}
+use Rattle.std.proofs.Math.Nat.{mod-lt}
 use Rattle.std.proofs.lemmas.Simd.{mask_l-lt, bit_mask_l, ones-mask_l}
-use Rattle.cs_syntax.specs.Ranges.{is_in_ranges}
 use Rattle.cs_syntax.specs.Matching.{member}
 use Rattle.cs_syntax.specs.Members.{count}
 use Rattle.cs_syntax.specs.ByteSet.{set_of}
@@ -61,9 +60,11 @@ length-set_words : (set : List Bool) → length (set_words set) ≡ 4
 unfolding set_words
 length-set_words set = length-map-range_with_len (word_of set) 0 4
 
-word_of-set_of_bits : (words : List ℕ) → length words ≡ 4 → All (λ w. w < 2 ^ 64) words → (k : ℕ) → k < 4 → word_of (set_of_bits words) k ≡ get_or words k 0
+word_of-set_of_bits : (words : List ℕ) → length words ≡ 4 → All (λ w. w < 2 ^ 64) words → (k : ℕ) → k < 4 →
+    word_of (set_of_bits words) k ≡ get_or words k 0
 word_of-set_of_bits words four fit k h =
-    same_from_bits_below 64 _ _ (word_of-lt (set_of_bits words) (length-set_of_bits words) k h) (All-get_or (λ (w : ℕ). w < 2 ^ 64) words k 0 (omega (arith, h, four)) fit) (λ i low.
+    same_from_bits_below 64 _ _ (word_of-lt (set_of_bits words) (length-set_of_bits words) k h)
+    (All-get_or (λ (w : ℕ). w < 2 ^ 64) words k 0 (omega (arith, h, four)) fit) (λ i low.
     let row : (k * 64 + i) / 64 ≡ k = omega arith in
     let rest : (k * 64 + i) % 64 ≡ i = omega arith in
     bit_at-word_of (set_of_bits words) (length-set_of_bits words) k h i low
@@ -99,11 +100,25 @@ module _ (words : List ℕ) (own : set_words (set_of_bits words) ≡ words) wher
   ones_at k h = ap count_ones (sym (own_word k h)) ∙ ones-word_of (set_of_bits words) (length-set_of_bits words) k h
 
   -- the population count of all words
-  pub ones_count : count_ones (get_or words 0 0) + count_ones (get_or words 1 0) + count_ones (get_or words 2 0) + count_ones (get_or words 3 0) ≡ count (set_of_bits words)
-  ones_count = omega (arith, ones_at 0 (omega arith), ones_at 1 (omega arith), ones_at 2 (omega arith), ones_at 3 (omega arith), counts_from (set_of_bits words) 0, counts_from (set_of_bits words) 64, counts_from (set_of_bits words) 128, counts_from (set_of_bits words) 192, none_left (set_of_bits words) (length-set_of_bits words))
+  pub ones_count : count_ones (get_or words 0 0) + count_ones (get_or words 1 0) + count_ones (get_or words 2 0)
+      + count_ones (get_or words 3 0) ≡ count (set_of_bits words)
+  ones_count = omega (
+    arith,
+    ones_at 0 (omega arith),
+    ones_at 1 (omega arith),
+    ones_at 2 (omega arith),
+    ones_at 3 (omega arith),
+    counts_from (set_of_bits words) 0,
+    counts_from (set_of_bits words) 64,
+    counts_from (set_of_bits words) 128,
+    counts_from (set_of_bits words) 192,
+    none_left (set_of_bits words)
+        (length-set_of_bits words),
+  )
 
   -- the lowest bit of a word is a member
-  pub lowest_member : (k : ℕ) → k < 4 → (get_or words k 0 ≡ 0 → ⊥) → member (set_of_bits words) (64 * k + trailing_zeros w64 (get_or words k 0)) ≡ true
+  pub lowest_member : (k : ℕ) → k < 4 → (get_or words k 0 ≡ 0 → ⊥) →
+      member (set_of_bits words) (64 * k + trailing_zeros w64 (get_or words k 0)) ≡ true
   lowest_member k h some =
       let word = get_or words k 0 in
       let index = trailing_zeros w64 word in
@@ -153,7 +168,8 @@ module _ (answers : ℕ → Bool → Type 0) where
       let new = bit_or word (1 * 2 ^ (b % 64) % 2 ^ 64) in
       let within : b / 64 < length words = omega (arith, have.four) in
       let bit : IsWithBit word new (b % 64) true = with_one_more word (b % 64) (omega arith) in
-      let fits : new < 2 ^ 64 = or_lt 64 word (1 * 2 ^ (b % 64) % 2 ^ 64) (All-get_or (λ (w : ℕ). w < 2 ^ 64) words (b / 64) 0 within have.fit) (mod-lt (1 * 2 ^ (b % 64)) (lit< tt)) in
+      let fits : new < 2 ^ 64 = or_lt 64 word (1 * 2 ^ (b % 64) % 2 ^ 64)
+      (All-get_or (λ (w : ℕ). w < 2 ^ 64) words (b / 64) 0 within have.fit) (mod-lt (1 * 2 ^ (b % 64)) (lit< tt)) in
       record {
         four = length-set words (b / 64) new ∙ have.four;
         fit = All-set (λ (w : ℕ). w < 2 ^ 64) words (b / 64) new fits have.fit;
@@ -167,49 +183,8 @@ module _ (answers : ℕ → Bool → Type 0) where
         waiting = λ k past. has_bit-set_other words b new true bit within k (λ same. omega arith) ∙ have.waiting k (omega arith);
       }
 
-  pub answered_all : (b : ℕ) (words : List ℕ) (f : ℕ → Bool) → 256 ≤ b → HaveAnswers answers b words → TestsAs answers f → set_of_bits words ≡ set_of f
+  pub answered_all : (b : ℕ) (words : List ℕ) (f : ℕ → Bool) → 256 ≤ b → HaveAnswers answers b words →
+      TestsAs answers f → set_of_bits words ≡ set_of f
   unfolding set_of_bits
-  answered_all b words f all have agree = set_of-agree (has_bit words) f (λ k low. agree k (has_bit words k) low (have.done k (omega arith)))
-
--- ---- the bitmap of a range
-
--- the bits of the words are the values of f
-pub set_of_words : (f : ℕ → Bool) (words : List ℕ) → ((k i : ℕ) → k < 4 → i < 64 → eqb (bit_at (get_or words k 0) i) 1 ≡ f (k * 64 + i)) → set_of_bits words ≡ set_of f
-unfolding set_of_bits
-set_of_words f words h = set_of-agree (has_bit words) f (λ b low.
-    let index : b / 64 * 64 + b % 64 ≡ b = omega arith in
-    h (b / 64) (b % 64) (omega arith) (omega arith) ∙ ap f index)
-
-pub range_bits : (low high first from to i : ℕ) → i < 64 → from ≡ min (low - first) 64 → to ≡ min (high + 1 - first) 64
-    → eqb (bit_at (2 ^ to - 2 ^ from) i) 1 ≡ is_in_ranges ((low, high) ∷ []) (first + i)
-range_bits low high first from to i within from-is to-is =
-    elim (cases_lt (first + i) low) [
-      | inl before ↦
-          ap (λ x. eqb x 1) (bit_at_mask_below from to i (omega (arith, from-is)))
-          ∙ sym (none (λ inside. omega arith))
-      | inr from_low ↦ elim (cases_lt high (first + i)) [
-        | inl past ↦
-            ap (λ x. eqb x 1) (bit_at_mask_above from to i (omega (arith, to-is)))
-            ∙ sym (none (λ inside. omega arith))
-        | inr to_high ↦
-            ap (λ x. eqb x 1) (bit_at_mask_inside from to i (omega (arith, from-is)) (omega (arith, to-is)))
-            ∙ sym (or_left _ false (and_from _ _ (le-leb low (first + i) from_low) (le-leb (first + i) high to_high)))
-      ]
-    ]
-  where
-    none : ((low ≤ first + i) × (first + i ≤ high) → ⊥) → is_in_ranges ((low, high) ∷ []) (first + i) ≡ false
-    none out = false_from_ne_true _ (λ e. elim (or_cases _ false e) [
-      | inl h ↦ let p = and_parts _ _ h in out (leb-true low (first + i) p.0, leb-true (first + i) high p.1)
-      | inr h ↦ true≢false (sym h)
-    ])
-
-pub low_ones_between : (m n : ℕ) → 2 ^ m - 1 - (2 ^ n - 1) ≡ 2 ^ m - 2 ^ n
-low_ones_between m n = omega (arith, one-le-pow n 2 (lit< tt), one-le-pow m 2 (lit< tt))
-
--- a property of each of four words
-pub by_four : (P : ℕ → Type 0) → P 0 → P 1 → P 2 → P 3 → (k : ℕ) → k < 4 → P k
-by_four P a b c d zero h = a
-by_four P a b c d (suc zero) h = b
-by_four P a b c d (suc (suc zero)) h = c
-by_four P a b c d (suc (suc (suc zero))) h = d
-by_four P a b c d (suc (suc (suc (suc k)))) h = absurd (omega arith)
+  answered_all b words f all have agree = set_of-agree (has_bit words) f
+      (λ k low. agree k (has_bit words k) low (have.done k (omega arith)))

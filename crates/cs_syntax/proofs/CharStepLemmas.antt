@@ -14,7 +14,7 @@ use Rattle.cs_syntax.specs.declared.char_step.CharStep.{CharStep}
 use Rattle.cs_syntax.specs.declared.char_step.CharStep.TheVariants.{Single, Begins, Inside, Completes, Nothing}
 use Rattle.cs_syntax.proofs.CutLemmas.{floor_members, floor_le, floor_mono, floor_floor, cut_tells, utf8_cut, is_scalar_floor, has_char_floor}
 use Rattle.cs_syntax.proofs.CharSetLemmas.{scalar_cases}
-use Rattle.cs_syntax.proofs.LoweringLemmas.{encoding, one_byte, two_bytes, three_bytes, four_bytes, occurs_join, occurs_split, occurs_byte, byte_occurs}
+use Rattle.cs_syntax.proofs.EncodingLemmas.{encoding, one_byte, two_bytes, three_bytes, four_bytes, occurs_join, occurs_split, occurs_byte, byte_occurs}
 
 -- ---- blocks
 
@@ -35,16 +35,19 @@ module _ (r n d : ℕ) where
 size_pos : (r : ℕ) → 1 ≤ 64 ^ r
 size_pos r = one-le-pow r 64 (omega arith)
 
-split_no : (cuts : List ℕ) (needed start : ℕ) → is_split cuts needed start ≡ false → floor cuts start ≡ floor cuts (start + (64 ^ needed - 1))
+split_no : (cuts : List ℕ) (needed start : ℕ) → is_split cuts needed start ≡ false → floor cuts start
+    ≡ floor cuts (start + (64 ^ needed - 1))
 split_no cuts needed start e = grind (arith, nat_tests)
 
-no_split : (cuts : List ℕ) (needed start : ℕ) → floor cuts start ≡ floor cuts (start + (64 ^ needed - 1)) → is_split cuts needed start ≡ false
+no_split : (cuts : List ℕ) (needed start : ℕ) → floor cuts start ≡ floor cuts (start + (64 ^ needed - 1)) →
+    is_split cuts needed start ≡ false
 no_split cuts needed start e = grind (arith, nat_tests)
 
 low_split : (cuts : List ℕ) (needed start : ℕ) → is_split cuts needed start ≡ true → (unfinished_in cuts needed start).low ≡ start
 low_split cuts needed start e = cond-true (is_split cuts needed start) _ _ e
 
-low_whole : (cuts : List ℕ) (needed start : ℕ) → is_split cuts needed start ≡ false → (unfinished_in cuts needed start).low ≡ floor cuts start
+low_whole : (cuts : List ℕ) (needed start : ℕ) → is_split cuts needed start ≡ false →
+    (unfinished_in cuts needed start).low ≡ floor cuts start
 low_whole cuts needed start e = cond-false (is_split cuts needed start) _ _ e
 
 -- numbers within a range whose ends have the same greatest cut have that cut too
@@ -60,20 +63,19 @@ least_cut (suc (suc zero)) = (2, omega arith, refl)
 least_cut (suc (suc (suc zero))) = (5, omega arith, refl)
 least_cut (suc (suc (suc (suc k)))) = (6, omega arith, refl)
 
-reached_alike : (cuts : List ℕ) (r m n : ℕ) → floor cuts m ≡ floor cuts n → (unfinished_in cuts r m).low ≡ (unfinished_in cuts r n).low → reached cuts r m ≡ reached cuts r n
+reached_alike : (cuts : List ℕ) (r m n : ℕ) → floor cuts m ≡ floor cuts n → (unfinished_in cuts r m).low
+    ≡ (unfinished_in cuts r n).low → reached cuts r m ≡ reached cuts r n
 reached_alike cuts zero m n e g = ap Completes e
 reached_alike cuts (suc r) m n e g = ap (λ (low : ℕ). Inside (record { needed = suc r; low = low })) g
 
 step_continued : (cuts : List ℕ) (at : Unfinished) (b : ℕ) → 128 ≤ b → b < 192 → char_step cuts at b ≡ continued cuts at.needed at.low b
-step_continued cuts at b from to =
-    let ascii : nat_lt b 128 ≡ false = grind (arith, nat_tests) in
-    let inside : nat_lt b 192 ≡ true = grind (arith, nat_tests) in
-    cond-false (nat_lt b 128) _ _ ascii ∙ cond-true (nat_lt b 192) _ _ inside
+step_continued cuts at b from to = grind (arith, nat_tests)
 
 module _ (cuts : List ℕ) (ranges : List (ℕ × ℕ)) (divide : Divide cuts ranges) where
   allowed_floor : (r n : ℕ) → is_allowed r (floor cuts n) ≡ is_allowed r n
   allowed_floor r n =
-      ap₂ ◌&&◌ (is_scalar_floor cuts ranges divide n) (cut_tells cuts (least_with (suc r)) n (utf8_cut cuts ranges divide (least_with (suc r)) (least_cut (suc r))))
+      ap₂ ◌&&◌ (is_scalar_floor cuts ranges divide n)
+      (cut_tells cuts (least_with (suc r)) n (utf8_cut cuts ranges divide (least_with (suc r)) (least_cut (suc r))))
 
   -- in an interval it does not matter which block it is
   whole_part : (r n d : ℕ) → d < 64 → is_split cuts (suc r) (n * 64 ^ suc r) ≡ false →
@@ -88,31 +90,38 @@ module _ (cuts : List ℕ) (ranges : List (ℕ × ℕ)) (divide : Divide cuts ra
       let some = size_pos r in
       let below : floor cuts start ≤ start = floor_le cuts start in
       let at_part : floor cuts part ≡ floor cuts start = squeeze cuts start part last above (omega (arith, within, some)) ends in
-      let part_end : floor cuts (part + (64 ^ r - 1)) ≡ floor cuts start = squeeze cuts start (part + (64 ^ r - 1)) last (omega (arith, above)) (omega (arith, within, some)) ends in
+      let part_end : floor cuts (part + (64 ^ r - 1)) ≡ floor cuts start = squeeze cuts start (part + (64 ^ r - 1)) last
+      (omega (arith, above)) (omega (arith, within, some)) ends in
       let low = floor cuts start in
       let at_low : floor cuts low ≡ low = floor_floor cuts start in
-      let low_end : floor cuts (low + (64 ^ r - 1)) ≡ floor cuts low = squeeze cuts low (low + (64 ^ r - 1)) last (omega arith) (omega (arith, above, within, some, below)) (at_low ∙ ends) in
+      let low_end : floor cuts (low + (64 ^ r - 1)) ≡ floor cuts low = squeeze cuts low (low + (64 ^ r - 1)) last
+      (omega arith) (omega (arith, above, within, some, below)) (at_low ∙ ends) in
       let part_whole : is_split cuts r part ≡ false = no_split cuts r part (at_part ∙ sym part_end) in
       let low_is_whole : is_split cuts r low ≡ false = no_split cuts r low (sym low_end) in
-      let same_low : (unfinished_in cuts r low).low ≡ (unfinished_in cuts r part).low = low_whole cuts r low low_is_whole ∙ at_low ∙ sym at_part ∙ sym (low_whole cuts r part part_whole) in
+      let same_low : (unfinished_in cuts r low).low ≡ (unfinished_in cuts r part).low =
+      low_whole cuts r low low_is_whole ∙ at_low ∙ sym at_part ∙ sym (low_whole cuts r part part_whole) in
       let step : reached cuts r low ≡ reached cuts r part = reached_alike cuts r low part (at_low ∙ sym at_part) same_low in
       let test : is_allowed r low ≡ is_allowed r part = ap (is_allowed r) (sym at_part) ∙ allowed_floor r part in
       ap₂ (λ (b : Bool) (s : CharStep). if b then s else Nothing) test step
 
   -- over a continuation byte the unfinished character of block n is that of one of the 64 blocks in it
-  continued_block : (r n b : ℕ) → continued cuts (suc r) (unfinished_in cuts (suc r) (n * 64 ^ suc r)).low b ≡ with_byte cuts r ((n * 64 + b % 64) * 64 ^ r)
+  continued_block : (r n b : ℕ) → continued cuts (suc r) (unfinished_in cuts (suc r) (n * 64 ^ suc r)).low b
+      ≡ with_byte cuts r ((n * 64 + b % 64) * 64 ^ r)
   continued_block r n b =
       let start = n * 64 ^ suc r in
       let from = λ (low : ℕ). continued cuts (suc r) low b in
       elim (cases_Bool (is_split cuts (suc r) start)) [
         | inl split ↦
-            ap from (low_split cuts (suc r) start split) ∙ ap (with_byte cuts r) (cond-true (is_split cuts (suc r) start) _ _ split ∙ part_start r n (b % 64))
+            ap from (low_split cuts (suc r) start split)
+            ∙ ap (with_byte cuts r) (cond-true (is_split cuts (suc r) start) _ _ split ∙ part_start r n (b % 64))
         | inr whole ↦
             let low = floor cuts start in
             let last = start + (64 ^ suc r - 1) in
             let below : low ≤ start = floor_le cuts start in
             let at_low : floor cuts low ≡ low = floor_floor cuts start in
-            let low_end : floor cuts (low + (64 ^ suc r - 1)) ≡ floor cuts low = squeeze cuts low (low + (64 ^ suc r - 1)) last (omega arith) (omega (arith, below)) (at_low ∙ split_no cuts (suc r) start whole) in
+            let low_end : floor cuts (low + (64 ^ suc r - 1)) ≡ floor cuts low =
+            squeeze cuts low (low + (64 ^ suc r - 1)) last (omega arith) (omega (arith, below))
+            (at_low ∙ split_no cuts (suc r) start whole) in
             ap from (low_whole cuts (suc r) start whole)
             ∙ ap (with_byte cuts r) (cond-false (is_split cuts (suc r) low) _ _ (no_split cuts (suc r) low (sym low_end)))
             ∙ whole_part r n (b % 64) (omega arith) whole
@@ -120,7 +129,8 @@ module _ (cuts : List ℕ) (ranges : List (ℕ × ℕ)) (divide : Divide cuts ra
 
   step_inside : (at : Unfinished) (r n b : ℕ) → at ≡ unfinished_in cuts (suc r) (n * 64 ^ suc r) → 128 ≤ b → b < 192 →
       char_step cuts at b ≡ with_byte cuts r ((n * 64 + b % 64) * 64 ^ r)
-  step_inside at r n b e from to = step_continued cuts at b from to ∙ ap (λ (u : Unfinished). continued cuts u.needed u.low b) e ∙ continued_block r n b
+  step_inside at r n b e from to = step_continued cuts at b from to
+      ∙ ap (λ (u : Unfinished). continued cuts u.needed u.low b) e ∙ continued_block r n b
 
 with_byte_allowed : (cuts : List ℕ) (r start : ℕ) → is_allowed r start ≡ true → with_byte cuts r start ≡ reached cuts r start
 with_byte_allowed cuts r start e = cond-true (is_allowed r start) _ _ e
@@ -143,44 +153,25 @@ IsLead (suc (suc (suc zero))) n = n < 5
 IsLead (suc (suc (suc (suc t)))) n = ⊥
 
 step_single : (cuts : List ℕ) (at : Unfinished) (b : ℕ) → b < 128 → char_step cuts at b ≡ Single b
-step_single cuts at b lt = let e : nat_lt b 128 ≡ true = grind (arith, nat_tests) in cond-true (nat_lt b 128) _ _ e
+step_single cuts at b lt = grind (arith, nat_tests)
 
 step_led : (cuts : List ℕ) (at : Unfinished) (b : ℕ) → 192 ≤ b → char_step cuts at b ≡ led_by cuts b
-step_led cuts at b le =
-    let ascii : nat_lt b 128 ≡ false = grind (arith, nat_tests) in
-    let inside : nat_lt b 192 ≡ false = grind (arith, nat_tests) in
-    cond-false (nat_lt b 128) _ _ ascii ∙ cond-false (nat_lt b 192) _ _ inside
+step_led cuts at b le = grind (arith, nat_tests)
 
 led_before : (cuts : List ℕ) (b : ℕ) → b < 194 → led_by cuts b ≡ Nothing
-led_before cuts b lt = let e : nat_lt b 194 ≡ true = grind (arith, nat_tests) in cond-true (nat_lt b 194) _ _ e
+led_before cuts b lt = grind (arith, nat_tests)
 
 led_one : (cuts : List ℕ) (b : ℕ) → 194 ≤ b → b < 224 → led_by cuts b ≡ Begins (unfinished_in cuts 1 ((b - 192) * 64))
-led_one cuts b from to =
-    let p : nat_lt b 194 ≡ false = grind (arith, nat_tests) in
-    let q : nat_lt b 224 ≡ true = grind (arith, nat_tests) in cond-false (nat_lt b 194) _ _ p ∙ cond-true (nat_lt b 224) _ _ q
+led_one cuts b from to = grind (arith, nat_tests)
 
 led_two : (cuts : List ℕ) (b : ℕ) → 224 ≤ b → b < 240 → led_by cuts b ≡ Begins (unfinished_in cuts 2 ((b - 224) * 64 ^ 2))
-led_two cuts b from to =
-    let p : nat_lt b 194 ≡ false = grind (arith, nat_tests) in
-    let q : nat_lt b 224 ≡ false = grind (arith, nat_tests) in
-    let r : nat_lt b 240 ≡ true = grind (arith, nat_tests) in
-    cond-false (nat_lt b 194) _ _ p ∙ cond-false (nat_lt b 224) _ _ q ∙ cond-true (nat_lt b 240) _ _ r
+led_two cuts b from to = grind (arith, nat_tests)
 
 led_three : (cuts : List ℕ) (b : ℕ) → 240 ≤ b → b < 245 → led_by cuts b ≡ Begins (unfinished_in cuts 3 ((b - 240) * 64 ^ 3))
-led_three cuts b from to =
-    let p : nat_lt b 194 ≡ false = grind (arith, nat_tests) in
-    let q : nat_lt b 224 ≡ false = grind (arith, nat_tests) in
-    let r : nat_lt b 240 ≡ false = grind (arith, nat_tests) in
-    let s : nat_lt b 245 ≡ true = grind (arith, nat_tests) in
-    cond-false (nat_lt b 194) _ _ p ∙ cond-false (nat_lt b 224) _ _ q ∙ cond-false (nat_lt b 240) _ _ r ∙ cond-true (nat_lt b 245) _ _ s
+led_three cuts b from to = grind (arith, nat_tests)
 
 led_after : (cuts : List ℕ) (b : ℕ) → 245 ≤ b → led_by cuts b ≡ Nothing
-led_after cuts b from =
-    let p : nat_lt b 194 ≡ false = grind (arith, nat_tests) in
-    let q : nat_lt b 224 ≡ false = grind (arith, nat_tests) in
-    let r : nat_lt b 240 ≡ false = grind (arith, nat_tests) in
-    let s : nat_lt b 245 ≡ false = grind (arith, nat_tests) in
-    cond-false (nat_lt b 194) _ _ p ∙ cond-false (nat_lt b 224) _ _ q ∙ cond-false (nat_lt b 240) _ _ r ∙ cond-false (nat_lt b 245) _ _ s
+led_after cuts b from = grind (arith, nat_tests)
 
 -- what a lead byte begins
 abbrev Leads : List ℕ → ℕ → ℕ → Type 0
@@ -267,7 +258,17 @@ long_cases c scalar multibyte =
       | inr past_two ↦
           elim (cases_lt c 65536) [
             | inl three ↦ (2, record { some = omega arith; few = omega arith; scalar = scalar; long = past_two; short = three })
-            | inr four ↦ (3, record { some = omega arith; few = omega arith; scalar = scalar; long = four; short = grind (arith, scalar_cases c) })
+            | inr four ↦ (
+              3,
+              record {
+                some = omega arith;
+                few = omega arith;
+                scalar = scalar;
+                long = four;
+                short =
+                    grind (arith, scalar_cases c);
+              },
+            )
           ]
     ]
 
@@ -354,25 +355,31 @@ module _ (cuts line : List ℕ) (ranges : List (ℕ × ℕ)) (divide : Divide cu
         | inl first ↦
             let all : suc h.needed ≡ h.total = omega (arith, h.lengths, first) in
             let N = part i h * 64 ^ h.needed in
-            let test : nat_le (least_with (suc h.needed)) N ≡ true = (and_parts (is_scalar N) (nat_le (least_with (suc h.needed)) N) allowed).1 in
+            let test : nat_le (least_with (suc h.needed)) N ≡ true =
+            (and_parts (is_scalar N) (nat_le (least_with (suc h.needed)) N) allowed).1 in
             let least : least_with (suc h.needed) ≤ part i h * 64 ^ h.needed = grind (arith, nat_tests, test) in
             subst (λ (t : ℕ). least_with t ≤ part i h * 64 ^ h.needed) all least
         | inr later ↦ omega (arith, later, part_above h.needed h.block (byte i % 64))
       ]
 
-  open_step : (i : ℕ) (h : IsOpen i) → 128 ≤ byte i → byte i < 192 → char_step_at cuts line i ≡ with_byte cuts h.needed (part i h * 64 ^ h.needed)
+  open_step : (i : ℕ) (h : IsOpen i) → 128 ≤ byte i → byte i < 192 → char_step_at cuts line i
+      ≡ with_byte cuts h.needed (part i h * 64 ^ h.needed)
   open_step i h from to = step_inside cuts ranges divide (unfinished cuts line i) h.needed h.block (byte i) h.code from to
 
   open_after : (i : ℕ) (h : IsOpen i) → i < length line → 128 ≤ byte i → byte i < 192 → (needed : ℕ) → h.needed ≡ suc needed →
-      is_allowed h.needed (part i h * 64 ^ h.needed) ≡ true → char_step_at cuts line i ≡ Inside (unfinished_in cuts (suc needed) (part i h * 64 ^ suc needed)) → IsOpen (suc i)
+      is_allowed h.needed (part i h * 64 ^ h.needed) ≡ true → char_step_at cuts line i
+      ≡ Inside (unfinished_in cuts (suc needed) (part i h * 64 ^ suc needed)) → IsOpen (suc i)
   open_after i h inside from to needed more allowed step =
       let N = part i h * 64 ^ h.needed in
       let small : byte i % 64 < 64 = omega arith in
       let within : N + 64 ^ h.needed ≤ upper h.total = omega (arith, h.short, part_within h.needed h.block (byte i % 64) small) in
       let code : unfinished cuts line (suc i) ≡ unfinished_in cuts (suc needed) (part i h * 64 ^ suc needed) = ap unfinished_after step in
-      let long : least_with h.total ≤ part i h * 64 ^ suc needed = subst (λ (r : ℕ). least_with h.total ≤ part i h * 64 ^ r) more (part_long i h allowed) in
-      let short : part i h * 64 ^ suc needed + 64 ^ suc needed ≤ upper h.total = subst (λ (r : ℕ). part i h * 64 ^ r + 64 ^ r ≤ upper h.total) more within in
-      let begun : begun_at cuts line enter (suc i) ≡ enter h.start = ap (begun_after (enter i) (begun_at cuts line enter i)) step ∙ h.begun in
+      let long : least_with h.total ≤ part i h * 64 ^ suc needed =
+      subst (λ (r : ℕ). least_with h.total ≤ part i h * 64 ^ r) more (part_long i h allowed) in
+      let short : part i h * 64 ^ suc needed + 64 ^ suc needed ≤ upper h.total =
+      subst (λ (r : ℕ). part i h * 64 ^ r + 64 ^ r ≤ upper h.total) more within in
+      let begun : begun_at cuts line enter (suc i) ≡ enter h.start =
+      ap (begun_after (enter i) (begun_at cuts line enter i)) step ∙ h.begun in
       record {
         start = h.start;
         total = h.total;
@@ -388,7 +395,8 @@ module _ (cuts line : List ℕ) (ranges : List (ℕ × ℕ)) (divide : Divide cu
         begun = begun;
       }
 
-  opened : (i t n : ℕ) → i < length line → IsLead t n → byte i ≡ lead_of t + n → char_step_at cuts line i ≡ Begins (unfinished_in cuts t (n * 64 ^ t)) → IsOpen (suc i)
+  opened : (i t n : ℕ) → i < length line → IsLead t n → byte i ≡ lead_of t + n → char_step_at cuts line i
+      ≡ Begins (unfinished_in cuts t (n * 64 ^ t)) → IsOpen (suc i)
   opened i t n inside lead is step =
       let few = lead_few t n lead in
       let code : unfinished cuts line (suc i) ≡ unfinished_in cuts t (n * 64 ^ t) = ap unfinished_after step in
@@ -408,7 +416,8 @@ module _ (cuts line : List ℕ) (ranges : List (ℕ × ℕ)) (divide : Divide cu
       }
 
   -- a character is complete
-  complete : (i : ℕ) (h : IsOpen i) → i < length line → 128 ≤ byte i → byte i < 192 → h.needed ≡ 0 → is_allowed h.needed (part i h * 64 ^ h.needed) ≡ true →
+  complete : (i : ℕ) (h : IsOpen i) → i < length line → 128 ≤ byte i → byte i < 192 → h.needed ≡ 0 →
+      is_allowed h.needed (part i h * 64 ^ h.needed) ≡ true →
       OccursBetween line (encode_utf8 (part i h * 64 ^ h.needed)) h.start (suc i)
   complete i h inside from to none allowed =
       let N = part i h * 64 ^ h.needed in
@@ -435,7 +444,8 @@ module _ (cuts line : List ℕ) (ranges : List (ℕ × ℕ)) (divide : Divide cu
     nothing : char_step_at cuts line i ≡ Nothing → Kind i
     single : byte i < 128 → char_step_at cuts line i ≡ Single (byte i) → Kind i
     more : (step : CharStep) → char_step_at cuts line i ≡ step → taken_by i step ≡ false → IsOpen (suc i) → Kind i
-    last : (c e : ℕ) → char_step_at cuts line i ≡ Completes (floor cuts c) → begun_at cuts line enter i ≡ enter e → OccursBetween line (encode_utf8 c) e (suc i) → Kind i
+    last : (c e : ℕ) → char_step_at cuts line i ≡ Completes (floor cuts c) → begun_at cuts line enter i ≡ enter e →
+        OccursBetween line (encode_utf8 c) e (suc i) → Kind i
 
   kind_open : (i : ℕ) (h : IsOpen i) → i < length line → 128 ≤ byte i → byte i < 192 → Kind i
   kind_open i h inside from to =
@@ -453,14 +463,16 @@ module _ (cuts line : List ℕ) (ranges : List (ℕ × ℕ)) (divide : Divide cu
           last N h.start (step ∙ ap (λ (r : ℕ). reached cuts r N) e) h.begun (complete i h inside from to e allowed)
       by (suc needed) e allowed step =
           let all = step ∙ ap (λ (r : ℕ). reached cuts r (part i h * 64 ^ r)) e in
-          more (Inside (unfinished_in cuts (suc needed) (part i h * 64 ^ suc needed))) all refl (open_after i h inside from to needed e allowed all)
+          more (Inside (unfinished_in cuts (suc needed) (part i h * 64 ^ suc needed))) all refl
+          (open_after i h inside from to needed e allowed all)
 
   kind_led : (i : ℕ) → i < length line → 192 ≤ byte i → Kind i
   kind_led i inside from =
       let led = step_led cuts (unfinished cuts line i) (byte i) from in
       elim (lead_cases cuts (byte i)) [
         | inl none ↦ nothing (led ∙ none)
-        | inr lead ↦ more (Begins (unfinished_in cuts lead.0 (lead.1.0 * 64 ^ lead.0))) (led ∙ lead.1.3) refl (opened i lead.0 lead.1.0 inside lead.1.1 lead.1.2 (led ∙ lead.1.3))
+        | inr lead ↦ more (Begins (unfinished_in cuts lead.0 (lead.1.0 * 64 ^ lead.0))) (led ∙ lead.1.3) refl
+            (opened i lead.0 lead.1.0 inside lead.1.1 lead.1.2 (led ∙ lead.1.3))
       ]
 
   kind : (i : ℕ) → i < length line → IsKnown i → Kind i
@@ -471,7 +483,8 @@ module _ (cuts line : List ℕ) (ranges : List (ℕ × ℕ)) (divide : Divide cu
             elim (cases_lt (byte i) 192) [
               | inl to ↦
                   elim known [
-                    | inl none ↦ nothing (ap (λ (u : Unfinished). char_step cuts u (byte i)) none ∙ step_continued cuts finished (byte i) from to)
+                    | inl none ↦ nothing (ap (λ (u : Unfinished). char_step cuts u (byte i)) none
+                        ∙ step_continued cuts finished (byte i) from to)
                     | inr begun ↦ kind_open i begun inside from to
                   ]
               | inr lead ↦ kind_led i inside lead
@@ -495,7 +508,8 @@ module _ (cuts line : List ℕ) (ranges : List (ℕ × ℕ)) (divide : Divide cu
         | nothing e ↦ absurd (true≢false (sym h ∙ ap (taken_by i) e))
         | single ascii e ↦
             let both = and_parts (enter i) (has_char ranges (byte i)) (sym (ap (taken_by i) e) ∙ h) in
-            let text = subst (λ (bs : List ℕ). OccursBetween line bs i (suc i)) (sym (one_byte (byte i) ascii)) (byte_occurs line i (omega arith)) in
+            let text = subst (λ (bs : List ℕ). OccursBetween line bs i (suc i)) (sym (one_byte (byte i) ascii))
+            (byte_occurs line i (omega arith)) in
             (i, both.0, (byte i, both.1, text))
         | more step e none later ↦ absurd (true≢false (sym h ∙ ap (taken_by i) e ∙ none))
         | last c from e begun text ↦
@@ -509,13 +523,15 @@ module _ (cuts line : List ℕ) (ranges : List (ℕ × ℕ)) (divide : Divide cu
   Reads needed n e i = (unfinished cuts line i ≡ unfinished_in cuts needed (n * 64 ^ needed)) × (begun_at cuts line enter i ≡ enter e)
 
   -- inside a character the unfinished character describes it
-  reads : (t c : ℕ) → IsLong t c → (k r n e i : ℕ) → OccursBetween line (encoding (lead_of t) k n) e i → k + suc r ≡ t → n ≡ c / 64 ^ suc r → Reads (suc r) n e i
+  reads : (t c : ℕ) → IsLong t c → (k r n e i : ℕ) → OccursBetween line (encoding (lead_of t) k n) e i → k + suc r ≡ t →
+      n ≡ c / 64 ^ suc r → Reads (suc r) n e i
   reads t c long zero r n e i h lengths block =
       let at = occurs_byte line (lead_of t + n) e i h in
       let all : t ≡ suc r = omega (arith, lengths) in
       let lead : IsLead t n = subst (IsLead t) (ap (λ (m : ℕ). c / 64 ^ m) all ∙ sym block) (long_lead t c long) in
       let step : char_step_at cuts line e ≡ Begins (unfinished_in cuts t (n * 64 ^ t)) =
-      ap (char_step cuts (unfinished cuts line e)) at.1 ∙ step_led cuts (unfinished cuts line e) (lead_of t + n) (lead_high t n lead) ∙ lead_begins cuts t n lead in
+      ap (char_step cuts (unfinished cuts line e)) at.1 ∙ step_led cuts (unfinished cuts line e) (lead_of t + n)
+      (lead_high t n lead) ∙ lead_begins cuts t n lead in
       subst (Reads (suc r) n e) (sym at.2)
       (subst (λ (m : ℕ). Reads m n e (suc e)) all (ap unfinished_after step, ap (begun_after (enter e) (begun_at cuts line enter e)) step))
   reads t c long (suc k) r n e i h lengths block =
@@ -533,9 +549,13 @@ module _ (cuts line : List ℕ) (ranges : List (ℕ × ℕ)) (divide : Divide cu
       ap (char_step cuts (unfinished cuts line l)) at.1
       ∙ step_inside cuts ranges divide (unfinished cuts line l) (suc r) (n / 64) last before.0 (omega arith) (omega arith)
       ∙ ap (λ (m : ℕ). with_byte cuts (suc r) (m * 64 ^ suc r)) whole ∙ with_byte_allowed cuts (suc r) (n * 64 ^ suc r) allowed in
-      subst (Reads (suc r) n e) (sym at.2) (ap unfinished_after step, ap (begun_after (enter l) (begun_at cuts line enter l)) step ∙ before.1)
+      subst (Reads (suc r) n e) (sym at.2) (
+        ap unfinished_after step,
+        ap (begun_after (enter l) (begun_at cuts line enter l)) step ∙ before.1,
+      )
 
-  taken_matches_long : (t c e j : ℕ) → IsLong t c → has_char ranges c ≡ true → enter e ≡ true → OccursBetween line (encoding (lead_of t) t c) e j → taken_at cuts line ranges enter j ≡ true
+  taken_matches_long : (t c e j : ℕ) → IsLong t c → has_char ranges c ≡ true → enter e ≡ true →
+      OccursBetween line (encoding (lead_of t) t c) e j → taken_at cuts line ranges enter j ≡ true
   taken_matches_long zero c e j long member entered h = absurd (omega (arith, long.some))
   taken_matches_long (suc k) c e j long member entered h =
       let cut = occurs_split line (encoding (lead_of (suc k)) k (c / 64)) ((128 + c % 64) ∷ []) e j h in
@@ -560,16 +580,19 @@ module _ (cuts line : List ℕ) (ranges : List (ℕ × ℕ)) (divide : Divide cu
       elim (cases_lt c 128) [
         | inl ascii ↦
             let at = occurs_byte line c e j (subst (λ (bs : List ℕ). OccursBetween line bs e j) (one_byte c ascii) h) in
-            let step : char_step_at cuts line e ≡ Single c = ap (char_step cuts (unfinished cuts line e)) at.1 ∙ step_single cuts (unfinished cuts line e) c ascii in
+            let step : char_step_at cuts line e ≡ Single c = ap (char_step cuts (unfinished cuts line e)) at.1
+            ∙ step_single cuts (unfinished cuts line e) c ascii in
             subst (λ (k : ℕ). taken_at cuts line ranges enter k ≡ true) (sym at.2) (ap (taken_by e) step ∙ ap₂ ◌&&◌ entered member)
         | inr multibyte ↦
             let long = long_cases c scalar multibyte in
-            taken_matches_long long.0 c e j long.1 member entered (subst (λ (bs : List ℕ). OccursBetween line bs e j) (encoded long.0 c long.1) h)
+            taken_matches_long long.0 c e j long.1 member entered
+            (subst (λ (bs : List ℕ). OccursBetween line bs e j) (encoded long.0 c long.1) h)
       ]
 
 pub taken_matches : (cuts line : List ℕ) (ranges : List (ℕ × ℕ)) → Divide cuts ranges → (enter : ℕ → Bool) (j : ℕ) → j ≤ length line →
     taken_at cuts line ranges enter j ≡ true ↔ MatchesEntered line ranges enter j
-taken_matches cuts line ranges divide enter j le = (taken_matched cuts line ranges divide enter j le, entered_taken cuts line ranges divide enter j)
+taken_matches cuts line ranges divide enter j le =
+    (taken_matched cuts line ranges divide enter j le, entered_taken cuts line ranges divide enter j)
 
 -- ---- the order of the cuts does not matter
 
@@ -579,7 +602,8 @@ module _ (xs ys : List ℕ) (same : (n : ℕ) → floor xs n ≡ floor ys n) whe
 
   unfinished_same : (needed start : ℕ) → unfinished_in xs needed start ≡ unfinished_in ys needed start
   unfinished_same needed start =
-      ap₂ (λ (split : Bool) (low : ℕ). record { needed = needed; low = if split then start else low }) (split_same needed start) (same start)
+      ap₂ (λ (split : Bool) (low : ℕ). record { needed = needed; low = if split then start else low })
+      (split_same needed start) (same start)
 
   reached_same : (needed start : ℕ) → reached xs needed start ≡ reached ys needed start
   reached_same zero start = ap Completes (same start)
@@ -590,18 +614,24 @@ module _ (xs ys : List ℕ) (same : (n : ℕ) → floor xs n ≡ floor ys n) whe
   continued_same (suc needed) low b =
       let start = λ (split : Bool). if split then low + b % 64 * 64 ^ needed else low in
       ap (λ (split : Bool). with_byte xs needed (start split)) (split_same (suc needed) low)
-      ∙ ap (λ (s : CharStep). if is_allowed needed (start (is_split ys (suc needed) low)) then s else Nothing) (reached_same needed (start (is_split ys (suc needed) low)))
+      ∙ ap (λ (s : CharStep). if is_allowed needed (start (is_split ys (suc needed) low)) then s else Nothing)
+      (reached_same needed (start (is_split ys (suc needed) low)))
 
   led_same : (b : ℕ) → led_by xs b ≡ led_by ys b
   led_same b =
       let steps = λ (one two three : Unfinished).
-      if nat_lt b 0xc2 then Nothing else if nat_lt b 0xe0 then Begins one else if nat_lt b 0xf0 then Begins two else if nat_lt b 0xf5 then Begins three else Nothing in
-      ap₂ (λ (one two : Unfinished). steps one two (unfinished_in xs 3 ((b - 0xf0) * 64 ^ 3))) (unfinished_same 1 ((b - 0xc0) * 64)) (unfinished_same 2 ((b - 0xe0) * 64 ^ 2))
-      ∙ ap (steps (unfinished_in ys 1 ((b - 0xc0) * 64)) (unfinished_in ys 2 ((b - 0xe0) * 64 ^ 2))) (unfinished_same 3 ((b - 0xf0) * 64 ^ 3))
+      if nat_lt b 0xc2 then Nothing else if nat_lt b 0xe0 then Begins one else if nat_lt b 0xf0 then Begins two else
+      if nat_lt b 0xf5 then Begins three else Nothing in
+      ap₂ (λ (one two : Unfinished). steps one two (unfinished_in xs 3 ((b - 0xf0) * 64 ^ 3)))
+      (unfinished_same 1 ((b - 0xc0) * 64)) (unfinished_same 2 ((b - 0xe0) * 64 ^ 2))
+      ∙ ap (steps (unfinished_in ys 1 ((b - 0xc0) * 64)) (unfinished_in ys 2 ((b - 0xe0) * 64 ^ 2)))
+      (unfinished_same 3 ((b - 0xf0) * 64 ^ 3))
 
   char_step_same : (at : Unfinished) (b : ℕ) → char_step xs at b ≡ char_step ys at b
   char_step_same at b =
-      ap₂ (λ (inside led : CharStep). if nat_lt b 0x80 then Single b else if nat_lt b 0xc0 then inside else led) (continued_same at.needed at.low b) (led_same b)
+      ap₂ (λ (inside led : CharStep). if nat_lt b 0x80 then Single b else if nat_lt b 0xc0 then inside else led)
+      (continued_same at.needed at.low b) (led_same b)
 
-pub char_step_members : (xs ys : List ℕ) → ((k : ℕ) → Contains xs k ↔ Contains ys k) → (at : Unfinished) (b : ℕ) → char_step xs at b ≡ char_step ys at b
+pub char_step_members : (xs ys : List ℕ) → ((k : ℕ) → Contains xs k ↔ Contains ys k) → (at : Unfinished) (b : ℕ) →
+    char_step xs at b ≡ char_step ys at b
 char_step_members xs ys same = char_step_same xs ys (floor_members xs ys same)

@@ -55,7 +55,8 @@ floor_is_cut : (cuts : List ℕ) (n : ℕ) → (floor cuts n ≡ 0) ⊎ Contains
 floor_is_cut [] n = inl refl
 floor_is_cut (cut ∷ cuts) n = by (cases_lt n cut) (cases_lt (floor cuts n) cut) (floor_is_cut cuts n)
   where
-    later : floor (cut ∷ cuts) n ≡ floor cuts n → Contains cuts (floor cuts n) → (floor (cut ∷ cuts) n ≡ 0) ⊎ Contains (cut ∷ cuts) (floor (cut ∷ cuts) n)
+    later : floor (cut ∷ cuts) n ≡ floor cuts n → Contains cuts (floor cuts n) → (floor (cut ∷ cuts) n ≡ 0) ⊎ Contains
+        (cut ∷ cuts) (floor (cut ∷ cuts) n)
     later e found = inr (subst (Contains (cut ∷ cuts)) (sym e) (Contains-append_right (cut ∷ []) cuts (floor cuts n) found))
 
     by : (n < cut) ⊎ (cut ≤ n) → (floor cuts n < cut) ⊎ (cut ≤ floor cuts n) → (floor cuts n ≡ 0) ⊎ Contains cuts (floor cuts n) →
@@ -94,7 +95,8 @@ module _ (cuts : List ℕ) (ranges : List (ℕ × ℕ)) (divide : Divide cuts ra
 pub divide_range : (cuts : List ℕ) (range : ℕ × ℕ) (ranges : List (ℕ × ℕ)) → Divide cuts (range ∷ ranges) →
     Contains cuts range.0 × Contains cuts (range.1 + 1) × Divide cuts ranges
 divide_range cuts range ranges divide =
-    let right : (k : ℕ) → Contains (range_cuts (range ∷ ranges)) k → Contains cuts k = λ k h. divide k (Contains-append_right utf8_cuts (range_cuts (range ∷ ranges)) k h) in (
+    let right : (k : ℕ) → Contains (range_cuts (range ∷ ranges)) k → Contains cuts k =
+    λ k h. divide k (Contains-append_right utf8_cuts (range_cuts (range ∷ ranges)) k h) in (
       right range.0 (0, omega arith, refl),
       right (range.1 + 1) (1, omega arith, refl),
       λ k h. elim (Contains-append_cases utf8_cuts (range_cuts ranges) k h) [
@@ -103,7 +105,8 @@ divide_range cuts range ranges divide =
       ],
     )
 
-pub in_ranges_floor : (cuts : List ℕ) (ranges : List (ℕ × ℕ)) → Divide cuts ranges → (n : ℕ) → is_in_ranges ranges (floor cuts n) ≡ is_in_ranges ranges n
+pub in_ranges_floor : (cuts : List ℕ) (ranges : List (ℕ × ℕ)) → Divide cuts ranges → (n : ℕ) →
+    is_in_ranges ranges (floor cuts n) ≡ is_in_ranges ranges n
 in_ranges_floor cuts [] divide n = refl
 in_ranges_floor cuts (range ∷ ranges) divide n =
     let parts = divide_range cuts range ranges divide in
@@ -112,7 +115,8 @@ in_ranges_floor cuts (range ∷ ranges) divide n =
     let high : nat_le (floor cuts n) range.1 ≡ nat_le n range.1 = grind (arith, nat_tests) in
     ap₂ ◌||◌ (ap₂ ◌&&◌ low high) (in_ranges_floor cuts ranges parts.2 n)
 
-pub has_char_floor : (cuts : List ℕ) (ranges : List (ℕ × ℕ)) → Divide cuts ranges → (n : ℕ) → has_char ranges (floor cuts n) ≡ has_char ranges n
+pub has_char_floor : (cuts : List ℕ) (ranges : List (ℕ × ℕ)) → Divide cuts ranges → (n : ℕ) →
+    has_char ranges (floor cuts n) ≡ has_char ranges n
 has_char_floor cuts ranges divide n = ap₂ ◌&&◌ (is_scalar_floor cuts ranges divide n) (in_ranges_floor cuts ranges divide n)
 
 pub range_cuts_append : (xs ys : List (ℕ × ℕ)) → range_cuts (xs ++ ys) ≡ range_cuts xs ++ range_cuts ys
@@ -144,8 +148,14 @@ divide_append cuts xs ys =
     )
 
 pub divided : (tree : Tree) (cuts : List ℕ) → AreCutsOf tree cuts → AreCuts cuts × Divide cuts (char_ranges tree)
-divided tree cuts of =
-    ((of.ascending, λ k h. (of.members k).1 (Contains-append_left utf8_cuts (range_cuts (char_ranges tree)) k (Contains-append_cases_fixed k h))), λ k h. (of.members k).1 h)
+divided tree cuts of = (
+  (
+    of.ascending,
+    λ k h. (of.members k).1 (Contains-append_left utf8_cuts (range_cuts (char_ranges tree)) k
+        (Contains-append_cases_fixed k h)),
+  ),
+  λ k h. (of.members k).1 h,
+)
   where
     Contains-append_cases_fixed : (k : ℕ) → Contains (utf8_cuts ++ []) k → Contains utf8_cuts k
     Contains-append_cases_fixed k h = h
@@ -160,7 +170,8 @@ increasing cuts up i j d le inside =
     ]
 
 -- the interval of n begins at the last cut before the partition point
-pub interval_found : (cuts : List ℕ) (n i : ℕ) → AreCuts cuts → i ≤ length cuts → IsPartitionPoint (λ k. nat_le k n ≡ true) (λ k. nat_le k n ≡ false) cuts i →
+pub interval_found : (cuts : List ℕ) (n i : ℕ) → AreCuts cuts → i ≤ length cuts →
+    IsPartitionPoint (λ k. nat_le k n ≡ true) (λ k. nat_le k n ≡ false) cuts i →
     (1 ≤ i) × (get_or cuts (i - 1) 0 ≡ floor cuts n)
 interval_found cuts n i are inside point =
     let zero_at = are.1 0 (0, omega arith, refl) in
@@ -168,13 +179,15 @@ interval_found cuts n i are inside point =
     let within : i - 1 < length cuts = omega (arith, some) in
     let test = point.0 (i - 1) 0 (omega arith) (omega (arith, some)) in
     let below : get_or cuts (i - 1) 0 ≤ n = grind (arith, nat_tests, test) in
-    let least : get_or cuts (i - 1) 0 ≤ floor cuts n = cut_le cuts n (get_or cuts (i - 1) 0) (i - 1, within, get_or_default cuts (i - 1) (get_or cuts (i - 1) 0) 0 within) below in
+    let least : get_or cuts (i - 1) 0 ≤ floor cuts n = cut_le cuts n (get_or cuts (i - 1) 0)
+    (i - 1, within, get_or_default cuts (i - 1) (get_or cuts (i - 1) 0) 0 within) below in
     let most : floor cuts n ≤ get_or cuts (i - 1) 0 =
     elim (floor_is_cut cuts n) [
       | inl none ↦ omega (arith, none)
       | inr (k, lt, at) ↦
           let first = before k (floor cuts n) lt at (floor_le cuts n) in
-          let up = increasing cuts are.0 k (i - 1) 0 (omega (arith, first)) within in omega (arith, up, at, get_or_default cuts k (floor cuts n) 0 lt)
+          let up = increasing cuts are.0 k (i - 1) 0 (omega (arith, first)) within in
+          omega (arith, up, at, get_or_default cuts k (floor cuts n) 0 lt)
     ] in
     (omega (arith, some), omega (arith, least, most))
   where
@@ -186,8 +199,10 @@ interval_found cuts n i are inside point =
           | inr past ↦ let test = point.1 k cut past lt in absurd (grind (arith, nat_tests, test, at))
         ]
 
-pub range_pushed : (old one two three : List ℕ) (ranges : List (ℕ × ℕ)) (i : ℕ) → i < length ranges → one ≡ old ++ range_cuts (take i ranges) →
-    two ≡ one ++ (get_or ranges i (0, 0)).0 ∷ [] → three ≡ two ++ ((get_or ranges i (0, 0)).1 + 1) ∷ [] → three ≡ old ++ range_cuts (take (i + 1) ranges)
+pub range_pushed : (old one two three : List ℕ) (ranges : List (ℕ × ℕ)) (i : ℕ) → i < length ranges →
+    one ≡ old ++ range_cuts (take i ranges) →
+    two ≡ one ++ (get_or ranges i (0, 0)).0 ∷ [] → three ≡ two ++ ((get_or ranges i (0, 0)).1 + 1) ∷ [] → three
+    ≡ old ++ range_cuts (take (i + 1) ranges)
 range_pushed old one two three ranges i inside e f g =
     let range = get_or ranges i (0, 0) in
     let more : range_cuts (take (i + 1) ranges) ≡ range_cuts (take i ranges) ++ range.0 ∷ (range.1 + 1) ∷ [] =
@@ -201,20 +216,23 @@ pub tree_added : (old new whole : List ℕ) (nodes : List Node) (node : Node) (i
     new ++ range_cuts (all_char_ranges (trees_of (drop (i + 1) nodes))) ≡ whole
 tree_added old new whole nodes node i inside is e f =
     let rest = all_char_ranges (trees_of (drop (i + 1) nodes)) in
-    let first : drop i nodes ≡ node ∷ drop (i + 1) nodes = drop_more nodes i node inside ∙ ap (λ (n : Node). n ∷ drop (i + 1) nodes) (sym is) in
+    let first : drop i nodes ≡ node ∷ drop (i + 1) nodes = drop_more nodes i node inside
+    ∙ ap (λ (n : Node). n ∷ drop (i + 1) nodes) (sym is) in
     ap (λ (xs : List ℕ). xs ++ range_cuts rest) f ∙ append_assoc old (range_cuts (char_ranges (tree_of node))) (range_cuts rest)
     ∙ ap (λ (xs : List ℕ). old ++ xs) (sym (range_cuts_append (char_ranges (tree_of node)) rest))
     ∙ ap (λ (ns : List Node). old ++ range_cuts (all_char_ranges (trees_of ns))) (sym first) ∙ e
 
 -- the cuts of a tree, sorted and without duplicates
-pub sorted_cuts : (tree : Tree) (all sorted cuts : List ℕ) → all ≡ utf8_cuts ++ range_cuts (char_ranges tree) → IsPermutation all sorted → IsSorted nat_cmp sorted →
+pub sorted_cuts : (tree : Tree) (all sorted cuts : List ℕ) → all ≡ utf8_cuts ++ range_cuts (char_ranges tree) →
+    IsPermutation all sorted → IsSorted nat_cmp sorted →
     cuts ≡ dedup nat_eq sorted → AreCutsOf tree cuts
 sorted_cuts tree all sorted cuts e perm up kept =
     subst (AreCutsOf tree) (sym kept)
     (record {
       ascending = IsStrictlyIncreasing-dedup sorted up;
       members = λ k. (
-        λ h. subst (λ (xs : List ℕ). Contains xs k) e (Contains-permutation sorted all k (IsPermutation-sym all sorted perm) (Contains-from_dedup nat_eq sorted k h)),
+        λ h. subst (λ (xs : List ℕ). Contains xs k) e
+            (Contains-permutation sorted all k (IsPermutation-sym all sorted perm) (Contains-from_dedup nat_eq sorted k h)),
         λ h. Contains-dedup_nat sorted k (Contains-permutation all sorted k perm (subst (λ (xs : List ℕ). Contains xs k) (sym e) h)),
       );
     })

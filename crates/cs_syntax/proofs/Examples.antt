@@ -13,7 +13,6 @@ use Rattle.cs_syntax.specs.Cuts.{range_cuts, char_ranges, floor}
 use Rattle.cs_syntax.specs.CharSteps.{finished, char_step, taken_at}
 use Rattle.cs_syntax.specs.declared.char_step.Unfinished.{Unfinished}
 use Rattle.cs_syntax.specs.declared.char_step.CharStep.TheVariants.{Single, Begins, Inside, Completes, Nothing}
-use Rattle.cs_syntax.specs.Lowering.{byte_range, utf8_tree}
 use Rattle.cs_syntax.specs.ByteSet.{set_of, char_set, all_bytes}
 use Rattle.cs_syntax.specs.Bits.{has_bit}
 use Rattle.cs_syntax.specs.SetWords.{set_of_bits, set_words}
@@ -31,8 +30,8 @@ use Rattle.cs_syntax.specs.Quoting.{counted_repeat, quote_meta}
 use Rattle.cs_syntax.proofs.CharSetLemmas.{scalar_cases}
 use Rattle.cs_syntax.proofs.CharRangeLemmas.{tree_is}
 use Rattle.cs_syntax.specs.Weight.{max_weight, weight, weights}
-use Rattle.cs_syntax.specs.declared.class_item.NamedClass.TheVariants.{Ascii, Digit, Lower, Word}
-use Rattle.cs_syntax.specs.declared.class_item.ClassItem.TheVariants.{Range, Named}
+use Rattle.cs_syntax.specs.declared.item.NamedClass.TheVariants.{Ascii, Digit, Lower, Word}
+use Rattle.cs_syntax.specs.declared.item.ClassItem.TheVariants.{Range, Named}
 use Rattle.cs_syntax.specs.declared.fault.PatternFault.TheVariants.{NoOperand, StackedRepeat, BadRepeat, OpenGroup, StrayClose, BadGroup, OpenClass, BadRange, BadEscape, LoneBackslash, NotInProfile, TooDeep}
 
 -- texts with a syntax error
@@ -124,34 +123,94 @@ faults :
     -- flags inside 200 open groups
     × (parse_result (replicate 200 40 ++ codes "(?i)") false ≡ rejected OpenGroup 199)
 unfolding byte_kind_of next_token char_token escaped_class escaped_tree digit_value class_by_name chars
-faults = (refl, refl, refl, refl, refl, refl, refl, refl, refl, refl, refl, refl, refl, refl, refl, refl, refl, refl, refl, refl, refl, refl, refl, refl, refl, refl, refl, refl, refl, refl, refl, refl, refl, refl, refl, refl, refl, refl, refl, refl, refl, refl, refl)
+faults = (
+  refl,
+  refl,
+  refl,
+  refl,
+  refl,
+  refl,
+  refl,
+  refl,
+  refl,
+  refl,
+  refl,
+  refl,
+  refl,
+  refl,
+  refl,
+  refl,
+  refl,
+  refl,
+  refl,
+  refl,
+  refl,
+  refl,
+  refl,
+  refl,
+  refl,
+  refl,
+  refl,
+  refl,
+  refl,
+  refl,
+  refl,
+  refl,
+  refl,
+  refl,
+  refl,
+  refl,
+  refl,
+  refl,
+  refl,
+  refl,
+  refl,
+  refl,
+  refl,
+)
 
 -- texts that parse as a tree
 trees_of_texts :
     -- no text
     (parse_result (codes "") false ≡ tree empty)
     -- braces are text
-    × (parse_result (codes "a{,2}") false ≡ tree (cat (more (one_of (char_set false 97)) (more (one_of (char_set false 123)) (more (one_of (char_set false 44)) (more (one_of (char_set false 50)) (more (one_of (char_set false 125)) none)))))))
+    × (parse_result (codes "a{,2}") false ≡ tree
+    (cat (more (one_of (char_set false 97)) (more (one_of (char_set false 123))
+    (more (one_of (char_set false 44)) (more (one_of (char_set false 50))
+    (more (one_of (char_set false 125)) none)))))))
     -- zero first is text
-    × (parse_result (codes "a{01}") false ≡ tree (cat (more (one_of (char_set false 97)) (more (one_of (char_set false 123)) (more (one_of (char_set false 48)) (more (one_of (char_set false 49)) (more (one_of (char_set false 125)) none)))))))
+    × (parse_result (codes "a{01}") false ≡ tree
+    (cat (more (one_of (char_set false 97)) (more (one_of (char_set false 123))
+    (more (one_of (char_set false 48)) (more (one_of (char_set false 49))
+    (more (one_of (char_set false 125)) none)))))))
     -- empty branch
-    × (parse_result (codes "a||b") false ≡ tree (alt (more (one_of (char_set false 97)) (more (empty) (more (one_of (char_set false 98)) none)))))
+    × (parse_result (codes "a||b") false ≡ tree
+    (alt (more (one_of (char_set false 97)) (more (empty) (more (one_of (char_set false 98)) none)))))
     -- sequence of atoms
-    × (parse_result (codes "^(a|b)*.$") false ≡ tree (cat (more (line_start) (more (rep (alt (more (one_of (char_set false 97)) (more (one_of (char_set false 98)) none))) 0 None) (more (dot_tree false) (more (line_end) none))))))
+    × (parse_result (codes "^(a|b)*.$") false
+    ≡ tree (cat (more (line_start) (more (rep
+    (alt (more (one_of (char_set false 97)) (more (one_of (char_set false 98)) none))) 0 None)
+    (more (dot_tree false) (more (line_end) none))))))
     -- counted
-    × (parse_result (codes "^a{2,3}$") false ≡ tree (cat (more (line_start) (more (rep (one_of (char_set false 97)) 2 (Some 3)) (more (line_end) none)))))
+    × (parse_result (codes "^a{2,3}$") false
+    ≡ tree (cat (more (line_start) (more (rep (one_of (char_set false 97)) 2 (Some 3)) (more (line_end) none)))))
     -- exactly
     × (parse_result (codes "a{3}?") false ≡ tree (rep (one_of (char_set false 97)) 3 (Some 3)))
     -- at least
     × (parse_result (codes "a{2,}") false ≡ tree (rep (one_of (char_set false 97)) 2 None))
     -- once or more
-    × (parse_result (codes "a+?b?") false ≡ tree (cat (more (rep (one_of (char_set false 97)) 1 None) (more (rep (one_of (char_set false 98)) 0 (Some 1)) none))))
+    × (parse_result (codes "a+?b?") false ≡ tree
+    (cat (more (rep (one_of (char_set false 97)) 1 None) (more (rep (one_of (char_set false 98)) 0 (Some 1)) none))))
     -- folded group
     × (parse_result (codes "(?i:a)b") false ≡ tree (cat (more (one_of (char_set true 97)) (more (one_of (char_set false 98)) none))))
     -- flags after a bar
-    × (parse_result (codes "a(?i)b|c") false ≡ tree (alt (more (cat (more (one_of (char_set false 97)) (more (one_of (char_set true 98)) none))) (more (one_of (char_set true 99)) none))))
+    × (parse_result (codes "a(?i)b|c") false
+    ≡ tree (alt (more (cat (more (one_of (char_set false 97)) (more (one_of (char_set true 98)) none)))
+    (more (one_of (char_set true 99)) none))))
     -- flags end with group
-    × (parse_result (codes "(a(?i)b)c") false ≡ tree (cat (more (cat (more (one_of (char_set false 97)) (more (one_of (char_set true 98)) none))) (more (one_of (char_set false 99)) none))))
+    × (parse_result (codes "(a(?i)b)c") false
+    ≡ tree (cat (more (cat (more (one_of (char_set false 97)) (more (one_of (char_set true 98)) none)))
+    (more (one_of (char_set false 99)) none))))
     -- flag set and cleared
     × (parse_result (codes "(?i-i)a") false ≡ tree (one_of (char_set false 97)))
     -- dot all
@@ -159,11 +218,16 @@ trees_of_texts :
     -- no flags
     × (parse_result (codes "(?)a(?mU)") false ≡ tree (one_of (char_set false 97)))
     -- word boundaries
-    × (parse_result (codes "\\bfoo\\B") false ≡ tree (cat (more (word_edge) (more (one_of (char_set false 102)) (more (one_of (char_set false 111)) (more (one_of (char_set false 111)) (more (not_word_edge) none)))))))
+    × (parse_result (codes "\\bfoo\\B") false
+    ≡ tree (cat (more (word_edge) (more (one_of (char_set false 102))
+    (more (one_of (char_set false 111)) (more (one_of (char_set false 111)) (more (not_word_edge) none)))))))
     -- negated POSIX class
-    × (parse_result (codes "^[[:^digit:]]$") false ≡ tree (cat (more (line_start) (more (class_tree false false (Named Digit true ∷ [])) (more (line_end) none)))))
+    × (parse_result (codes "^[[:^digit:]]$") false
+    ≡ tree (cat (more (line_start) (more (class_tree false false (Named Digit true ∷ [])) (more (line_end) none)))))
     -- bracket and colon
-    × (parse_result (codes "^[[:a]$") false ≡ tree (cat (more (line_start) (more (class_tree false false (Range 91 91 ∷ Range 58 58 ∷ Range 97 97 ∷ [])) (more (line_end) none)))))
+    × (parse_result (codes "^[[:a]$") false ≡ tree
+    (cat (more (line_start) (more (class_tree false false (Range 91 91 ∷ Range 58 58 ∷ Range 97 97 ∷ []))
+    (more (line_end) none)))))
     -- first bracket is text
     × (parse_result (codes "[]a-c]") false ≡ tree (class_tree false false (Range 93 93 ∷ Range 97 99 ∷ [])))
     -- bracket begins range
@@ -185,29 +249,81 @@ trees_of_texts :
     × (parse_result (91 ∷ 195 ∷ 160 ∷ 45 ∷ 195 ∷ 188 ∷ 93 ∷ []) false ≡ tree (class_tree false false (Range 224 252 ∷ [])))
     × (parse_result (91 ∷ 94 ∷ 195 ∷ 169 ∷ 93 ∷ []) false ≡ tree (class_tree false true (Range 233 233 ∷ [])))
     -- characters of three and of four bytes
-    × (parse_result (91 ∷ 226 ∷ 130 ∷ 172 ∷ 240 ∷ 159 ∷ 152 ∷ 128 ∷ 93 ∷ []) false ≡ tree (class_tree false false (Range 8364 8364 ∷ Range 128512 128512 ∷ [])))
+    × (parse_result (91 ∷ 226 ∷ 130 ∷ 172 ∷ 240 ∷ 159 ∷ 152 ∷ 128 ∷ 93 ∷ []) false
+    ≡ tree (class_tree false false (Range 8364 8364 ∷ Range 128512 128512 ∷ [])))
     -- ends of a range by their numbers
     × (parse_result (codes "[\\x{d7ff}-\\x{e000}]") false ≡ tree (class_tree false false (Range 55295 57344 ∷ [])))
     -- two bytes
-    × (parse_result (codes "^\\xe9$") false ≡ tree (cat (more (line_start) (more (cat (more (one_of (char_set false 195)) (more (one_of (char_set false 169)) none))) (more (line_end) none)))))
+    × (parse_result (codes "^\\xe9$") false ≡ tree
+    (cat (more (line_start) (more (cat (more (one_of (char_set false 195)) (more (one_of (char_set false 169)) none)))
+    (more (line_end) none)))))
     -- octal then digit
-    × (parse_result (codes "^\\101\\08$") false ≡ tree (cat (more (line_start) (more (one_of (char_set false 65)) (more (one_of (char_set false 0)) (more (one_of (char_set false 56)) (more (line_end) none)))))))
+    × (parse_result (codes "^\\101\\08$") false
+    ≡ tree (cat (more (line_start) (more (one_of (char_set false 65))
+    (more (one_of (char_set false 0)) (more (one_of (char_set false 56)) (more (line_end) none)))))))
     -- hex in braces
     × (parse_result (codes "\\x{0041}") false ≡ tree (one_of (char_set false 65)))
     -- named groups
-    × (parse_result (codes "(?P<n>a)(?<n>b)") false ≡ tree (cat (more (one_of (char_set false 97)) (more (one_of (char_set false 98)) none))))
+    × (parse_result (codes "(?P<n>a)(?<n>b)") false
+    ≡ tree (cat (more (one_of (char_set false 97)) (more (one_of (char_set false 98)) none))))
     -- one non-ASCII atom
-    × (parse_result (195 ∷ 169 ∷ 42 ∷ []) false ≡ tree (rep (cat (more (one_of (char_set false 195)) (more (one_of (char_set false 169)) none))) 0 None))
+    × (parse_result (195 ∷ 169 ∷ 42 ∷ []) false
+    ≡ tree (rep (cat (more (one_of (char_set false 195)) (more (one_of (char_set false 169)) none))) 0 None))
     -- closers are text
-    × (parse_result (codes "a]}") false ≡ tree (cat (more (one_of (char_set false 97)) (more (one_of (char_set false 93)) (more (one_of (char_set false 125)) none)))))
+    × (parse_result (codes "a]}") false ≡ tree
+    (cat (more (one_of (char_set false 97)) (more (one_of (char_set false 93))
+    (more (one_of (char_set false 125)) none)))))
     -- groups add no node
     × (parse_result (replicate 200 40 ++ (codes "a" ++ replicate 200 41)) false ≡ tree (one_of (char_set false 97)))
     -- both cases
     × (parse_result (codes "a") true ≡ tree (one_of (char_set true 97)))
     -- only ASCII letters are folded: the `a` of `éa`, not the bytes of `é`
-    × (parse_result (195 ∷ 169 ∷ 97 ∷ []) true ≡ tree (cat (more (cat (more (one_of (char_set false 195)) (more (one_of (char_set false 169)) none))) (more (one_of (char_set true 97)) none))))
+    × (parse_result (195 ∷ 169 ∷ 97 ∷ []) true
+    ≡ tree (cat (more (cat (more (one_of (char_set false 195)) (more (one_of (char_set false 169)) none)))
+    (more (one_of (char_set true 97)) none))))
 unfolding byte_kind_of next_token char_token escaped_class escaped_tree digit_value class_by_name encode_utf8 chars
-trees_of_texts = (refl, refl, refl, refl, refl, refl, refl, refl, refl, refl, refl, refl, refl, refl, refl, refl, refl, refl, refl, refl, refl, refl, refl, refl, refl, refl, refl, refl, refl, refl, refl, refl, refl, refl, refl, refl, refl, refl, refl, refl)
+trees_of_texts = (
+  refl,
+  refl,
+  refl,
+  refl,
+  refl,
+  refl,
+  refl,
+  refl,
+  refl,
+  refl,
+  refl,
+  refl,
+  refl,
+  refl,
+  refl,
+  refl,
+  refl,
+  refl,
+  refl,
+  refl,
+  refl,
+  refl,
+  refl,
+  refl,
+  refl,
+  refl,
+  refl,
+  refl,
+  refl,
+  refl,
+  refl,
+  refl,
+  refl,
+  refl,
+  refl,
+  refl,
+  refl,
+  refl,
+  refl,
+  refl,
+)
 
 -- `(a{1000}){20}` is too heavy
 heavy : weight (rep (rep (one_of (char_set false 97)) 1000 (Some 1000)) 20 (Some 20)) ≡ 20021
@@ -272,9 +388,13 @@ written = (refl, refl, λ i. 123 ∷ (decimal_digit 2 (omega arith) i ++ 44 ∷ 
 -- Texts with bars. If the text before the bar is not self-contained, the whole is not the alternation of both.
 bars :
     -- an alternation of three
-    (parse_result (codes "a|b|c") false ≡ tree (alt (more (one_of (char_set false 97)) (more (one_of (char_set false 98)) (more (one_of (char_set false 99)) none)))))
+    (parse_result (codes "a|b|c") false ≡ tree
+    (alt (more (one_of (char_set false 97)) (more (one_of (char_set false 98))
+    (more (one_of (char_set false 99)) none)))))
     -- an alternation in a group is one branch
-    × (parse_result (codes "(a|b)|c") false ≡ tree (alt (more (alt (more (one_of (char_set false 97)) (more (one_of (char_set false 98)) none))) (more (one_of (char_set false 99)) none))))
+    × (parse_result (codes "(a|b)|c") false ≡ tree
+    (alt (more (alt (more (one_of (char_set false 97)) (more (one_of (char_set false 98)) none)))
+    (more (one_of (char_set false 99)) none))))
     -- flags hold after the bar
     × (parse_result (codes "(?i)a|b") false ≡ tree (alt (more (one_of (char_set true 97)) (more (one_of (char_set true 98)) none))))
     × (parse_result (codes "b") false ≡ tree (one_of (char_set false 98)))
@@ -315,9 +435,15 @@ dots :
     × (item_tree (Named Digit true) ≡ one_char ((0, 47) ∷ (58, 1114111) ∷ []))
 unfolding is_in_item xor
 dots = (
-  tree_is _ ((0, 9) ∷ (11, 1114111) ∷ []) (omega arith, (omega arith, refl, refl), (omega arith, (omega arith, refl, refl), tt)) (λ c. grind (arith, nat_tests, scalar_cases c)),
+  tree_is _ ((0, 9) ∷ (11, 1114111) ∷ []) (
+    omega arith,
+    (omega arith, refl, refl),
+    (omega arith, (omega arith, refl, refl), tt),
+  ) (λ c. grind (arith, nat_tests, scalar_cases c)),
   tree_is _ ((0, 1114111) ∷ []) (omega arith, (omega arith, refl, refl), tt) (λ c. grind (arith, nat_tests, scalar_cases c)),
-  tree_is _ ((0, 47) ∷ (58, 1114111) ∷ []) (omega arith, (omega arith, refl, refl), (omega arith, (omega arith, refl, refl), tt)) (λ c. grind (arith, nat_tests, scalar_cases c)),
+  tree_is _ ((0, 47) ∷ (58, 1114111) ∷ [])
+      (omega arith, (omega arith, refl, refl), (omega arith, (omega arith, refl, refl), tt))
+      (λ c. grind (arith, nat_tests, scalar_cases c)),
 )
 
 -- bracket classes: `[a-c]` is a set of bytes; `[é]`, `[^é]`, `[[:^ascii:]]`; d7ff to e000 is one range
@@ -331,7 +457,9 @@ unfolding is_in_item xor
 classes = (
   tree_is _ ((97, 99) ∷ []) (omega arith, (omega arith, refl, refl), tt) (λ c. grind (arith, nat_tests, scalar_cases c)),
   tree_is _ ((233, 233) ∷ []) (omega arith, (omega arith, refl, refl), tt) (λ c. grind (arith, nat_tests, scalar_cases c)),
-  tree_is _ ((0, 232) ∷ (234, 1114111) ∷ []) (omega arith, (omega arith, refl, refl), (omega arith, (omega arith, refl, refl), tt)) (λ c. grind (arith, nat_tests, scalar_cases c)),
+  tree_is _ ((0, 232) ∷ (234, 1114111) ∷ [])
+      (omega arith, (omega arith, refl, refl), (omega arith, (omega arith, refl, refl), tt))
+      (λ c. grind (arith, nat_tests, scalar_cases c)),
   tree_is _ ((128, 1114111) ∷ []) (omega arith, (omega arith, refl, refl), tt) (λ c. grind (arith, nat_tests, scalar_cases c)),
   tree_is _ ((55295, 57344) ∷ []) (omega arith, (omega arith, refl, refl), tt) (λ c. grind (arith, nat_tests, scalar_cases c)),
 )
@@ -340,7 +468,10 @@ classes = (
 weights_of_dots :
     (weight (rep (rep (dot_tree false) 1000 (Some 1000)) 9 (Some 9)) ≡ 18010)
     × (weight (rep (rep (dot_tree true) 1000 (Some 1000)) 9 (Some 9)) ≡ 9010)
-weights_of_dots = (ap (λ t. weight (rep (rep t 1000 (Some 1000)) 9 (Some 9))) dots.0, ap (λ t. weight (rep (rep t 1000 (Some 1000)) 9 (Some 9))) dots.1)
+weights_of_dots = (
+  ap (λ t. weight (rep (rep t 1000 (Some 1000)) 9 (Some 9))) dots.0,
+  ap (λ t. weight (rep (rep t 1000 (Some 1000)) 9 (Some 9))) dots.1,
+)
 
 -- d7ff and e000 are adjacent, so they form one range
 one_range : AreCanonical ((55295, 57344) ∷ [])
@@ -361,21 +492,6 @@ matched_characters :
 unfolding encode_utf8
 matched_characters = ((233, refl, (refl, refl)), (128512, refl, (refl, refl)))
 
--- `é` is its two bytes; `À` to `ÿ` is one byte and any continuation byte; the third set spans three blocks of 64
--- characters, the first and the last of them partially
-lowered_sets :
-    (utf8_tree ((233, 233) ∷ []) ≡ cat (more (byte_range 195 195) (more (byte_range 169 169) none)))
-    × (utf8_tree ((192, 255) ∷ []) ≡ cat (more (byte_range 195 195) (more (byte_range 128 191) none)))
-    × (utf8_tree ((190, 256) ∷ []) ≡ alt (more (cat (more (byte_range 194 194) (more (byte_range 190 191) none))) (more (cat (more (byte_range 195 195) (more (byte_range 128 191) none))) (more (cat (more (byte_range 196 196) (more (byte_range 128 128) none))) none))))
-lowered_sets = (refl, refl, refl)
-
--- the characters of three bytes below d800: `e0` and a byte from a0 on, `e1` to `ec` and any continuation byte, or `ed`
--- and a byte up to 9f; then any continuation byte for all of them
-lowered_before_surrogates :
-    utf8_tree ((2048, 55295) ∷ [])
-    ≡ cat (more (alt (more (cat (more (byte_range 224 224) (more (byte_range 160 191) none))) (more (cat (more (byte_range 225 236) (more (byte_range 128 191) none))) (more (cat (more (byte_range 237 237) (more (byte_range 128 159) none))) none)))) (more (byte_range 128 191) none))
-lowered_before_surrogates = refl
-
 -- the cuts of `é` and `😀`
 some_cuts : List ℕ
 some_cuts = 0 ∷ 0x80 ∷ 233 ∷ 234 ∷ 0x800 ∷ 0xd800 ∷ 0xe000 ∷ 0x10000 ∷ 0x1f600 ∷ 0x1f601 ∷ 0x110000 ∷ []
@@ -383,7 +499,8 @@ some_cuts = 0 ∷ 0x80 ∷ 233 ∷ 234 ∷ 0x800 ∷ 0xd800 ∷ 0xe000 ∷ 0x100
 cuts_at :
     (range_cuts ((233, 233) ∷ (0x1f600, 0x1f600) ∷ []) ≡ 233 ∷ 234 ∷ 0x1f600 ∷ 0x1f601 ∷ [])
     × (floor some_cuts 232 ≡ 0x80) × (floor some_cuts 233 ≡ 233) × (floor some_cuts 0x20ac ≡ 0x800)
-    × (char_ranges (cat (more (one_char ((233, 233) ∷ [])) (more (rep (one_char ((0x1f600, 0x1f600) ∷ [])) 0 None) none))) ≡ (233, 233) ∷ (0x1f600, 0x1f600) ∷ [])
+    × (char_ranges (cat (more (one_char ((233, 233) ∷ []))
+    (more (rep (one_char ((0x1f600, 0x1f600) ∷ [])) 0 None) none))) ≡ (233, 233) ∷ (0x1f600, 0x1f600) ∷ [])
 unfolding some_cuts
 cuts_at = (refl, refl, refl, refl, refl)
 
@@ -398,7 +515,8 @@ char_steps :
     × (char_step some_cuts finished 0xe2 ≡ Begins (left 2 0x800)) × (char_step some_cuts (left 2 0x800) 0x82 ≡ Inside (left 1 0x800))
     × (char_step some_cuts (left 1 0x800) 0xac ≡ Completes 0x800)
     × (char_step some_cuts finished 0xf0 ≡ Begins (left 3 0)) × (char_step some_cuts (left 3 0) 0x9f ≡ Inside (left 2 0x1f000))
-    × (char_step some_cuts (left 2 0x1f000) 0x98 ≡ Inside (left 1 0x1f600)) × (char_step some_cuts (left 1 0x1f600) 0x80 ≡ Completes 0x1f600)
+    × (char_step some_cuts (left 2 0x1f000) 0x98 ≡ Inside (left 1 0x1f600)) × (char_step some_cuts (left 1 0x1f600) 0x80
+    ≡ Completes 0x1f600)
     × (char_step some_cuts (left 1 0x1f600) 0x81 ≡ Completes 0x1f601)
 unfolding some_cuts left
 char_steps = (refl, refl, refl, refl, refl, refl, refl, refl, refl, refl, refl, refl)
@@ -406,7 +524,8 @@ char_steps = (refl, refl, refl, refl, refl, refl, refl, refl, refl, refl, refl, 
 -- no lead byte: `c0`, `f5`, a continuation byte. `e0 80`, `ed a0`, `f0 80` and `f4 90` begin no character. A letter or a
 -- lead byte inside a character.
 no_char_steps :
-    (char_step some_cuts finished 0xc0 ≡ Nothing) × (char_step some_cuts finished 0xf5 ≡ Nothing) × (char_step some_cuts finished 0x80 ≡ Nothing)
+    (char_step some_cuts finished 0xc0 ≡ Nothing) × (char_step some_cuts finished 0xf5 ≡ Nothing) ×
+    (char_step some_cuts finished 0x80 ≡ Nothing)
     × (char_step some_cuts (left 2 0) 0x80 ≡ Nothing) × (char_step some_cuts (left 2 0xd000) 0xa0 ≡ Nothing)
     × (char_step some_cuts (left 3 0) 0x80 ≡ Nothing) × (char_step some_cuts (left 3 0x100000) 0x90 ≡ Nothing)
     × (char_step some_cuts (left 1 192) 97 ≡ Single 97) × (char_step some_cuts (left 1 192) 0xc3 ≡ Begins (left 1 192))

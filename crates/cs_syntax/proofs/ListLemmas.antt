@@ -16,7 +16,8 @@ pub length-tail : (text : List ℕ) (offset : ℕ) → length (take (length text
 length-tail text offset = ap length (tail_is text offset) ∙ length-drop offset text
 
 -- the lexeme of an item
-pub lexeme_is : (text : List ℕ) (offset len : ℕ) → offset < length text → take (offset + 1 + len - offset) (drop offset text) ≡ take (suc len) (get_or text offset 0 ∷ drop (offset + 1) text)
+pub lexeme_is : (text : List ℕ) (offset len : ℕ) → offset < length text →
+    take (offset + 1 + len - offset) (drop offset text) ≡ take (suc len) (get_or text offset 0 ∷ drop (offset + 1) text)
 lexeme_is text offset len lt =
     let e : offset + 1 + len - offset ≡ suc len = omega arith in
     ap (λ n. take n (drop offset text)) e ∙ ap (take (suc len)) (here_is text offset lt)

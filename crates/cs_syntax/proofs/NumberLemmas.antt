@@ -20,11 +20,16 @@ both_large x y m p q = omega arith
 
 grown : (b m n k d : ℕ) → min n m ≡ min k m → min (b * n + d) m ≡ min (b * k + d) m
 grown zero m n k d e = let a : zero * n ≡ zero * k = grind arith in ap (λ x. min (x + d) m) a
-grown (suc b) m n k d e = elim (same_or_large m n k e) [ inl s ↦ ap (λ x. min (suc b * x + d) m) s | inr l ↦ both_large (suc b * n + d) (suc b * k + d) m (larger b n d m l.0) (larger b k d m l.1) ]
+grown (suc b) m n k d e = elim (same_or_large m n k e) [
+  | inl s ↦ ap (λ x. min (suc b * x + d) m) s
+  | inr l ↦ both_large (suc b * n + d) (suc b * k + d) m
+      (larger b n d m l.0) (larger b k d m l.1)
+]
 
 pub value_after-capped : (b m n k : ℕ) (ds : List ℕ) → min n m ≡ min k m → min (value_after b n ds) m ≡ min (value_after b k ds) m
 value_after-capped b m n k [] e = e
-value_after-capped b m n k (d ∷ ds) e = value_after-capped b m (b * n + digit_value d) (b * k + digit_value d) ds (grown b m n k (digit_value d) e)
+value_after-capped b m n k (d ∷ ds) e = value_after-capped b m (b * n + digit_value d) (b * k + digit_value d) ds
+    (grown b m n k (digit_value d) e)
 
 pub grown_once : (b v d m x y : ℕ) → x ≡ min (v * b) m → y ≡ min (x + d) m → min y m ≡ min (b * v + d) m
 grown_once b v d m x y e f = let same : v * b ≡ b * v = grind arith in omega arith

@@ -1,14 +1,10 @@
 -- The trees of lists of nodes.
-use Rattle.std.proofs.Common.{Bool, true, false, true≢false, ◌≡◌, ℕ, suc, ◌+◌, ◌<◌, ◌≤◌, List, [], ◌∷◌, ◌++◌, drop, length, get_or, refl, sym, ◌∙◌, ap, arith, drop-cons}
-use Rattle.cs_syntax.specs.Matching.{Trees, cat, alt, more, none}
+use Rattle.std.proofs.Common.{◌≡◌, ℕ, suc, ◌+◌, ◌<◌, ◌≤◌, List, [], ◌∷◌, ◌++◌, drop, length, get_or, refl, sym, ◌∙◌, ap, arith, drop-cons}
+use Rattle.cs_syntax.specs.Matching.{cat, alt, more, none}
 use Rattle.cs_syntax.specs.Tokens.{sequence}
 use Rattle.cs_syntax.specs.Node.{tree_of}
 use Rattle.cs_syntax.specs.NodeList.{trees_of}
 use Rattle.cs_syntax.specs.PartialGroups.{alternation_after, with_last}
-use Rattle.cs_syntax.specs.TreeList.{append}
-use Rattle.cs_syntax.specs.Lowering.{alternation_of}
-use Rattle.std.specs.Prelude.{if◌then◌else◌}
-use Rattle.cs_syntax.proofs.TreeListLemmas.{append_none}
 use Rattle.cs_syntax.specs.declared.node.Node.{Node}
 
 pub trees_last : (xs : List Node) (x : Node) → trees_of (xs ++ x ∷ []) ≡ with_last (trees_of xs) (tree_of x)
@@ -27,20 +23,7 @@ several [] h = absurd (omega arith)
 several (x ∷ []) h = absurd (omega arith)
 several (x ∷ y ∷ xs) h = refl
 
-pub branches_last : (xs : List Node) (x : Node) → 0 < length xs → alternation_after (trees_of xs) (tree_of x) none ≡ alt (trees_of (xs ++ x ∷ []))
+pub branches_last : (xs : List Node) (x : Node) → 0 < length xs → alternation_after (trees_of xs) (tree_of x) none
+    ≡ alt (trees_of (xs ++ x ∷ []))
 branches_last [] x h = absurd (omega arith)
 branches_last (y ∷ xs) x h = ap alt (ap (more (tree_of y)) (sym (trees_last xs x)))
-
-pub not_one : (xs : List Node) → (length xs ≡ 1 → ⊥) → alt (trees_of xs) ≡ alternation_of (trees_of xs)
-not_one [] h = refl
-not_one (x ∷ []) h = absurd (h refl)
-not_one (x ∷ y ∷ xs) h = refl
-
--- appending a node appends its tree
-pub pushed_tree : (old new : List Node) (x : Node) → new ≡ old ++ x ∷ [] → trees_of new ≡ append (trees_of old) (more (tree_of x) none)
-pushed_tree old new x e = ap trees_of e ∙ trees_last old x
-
--- if the condition is false, nothing is appended
-pub chosen_trees : (b : Bool) (old : List Node) (new : Trees) → b ≡ false → trees_of old ≡ append (trees_of old) (if b then new else none)
-chosen_trees true old new e = absurd (true≢false e)
-chosen_trees false old new e = sym (append_none (trees_of old))

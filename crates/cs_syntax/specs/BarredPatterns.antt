@@ -6,7 +6,7 @@ use Rattle.cs_syntax.specs.Tokens.{item, fault, group_start, group_end, flags_fr
 use Rattle.cs_syntax.specs.Items.{next_token}
 use Rattle.cs_syntax.specs.Classes.{name_length}
 use Rattle.cs_syntax.specs.Parsing.{flags_at_start}
-use Rattle.cs_syntax.specs.declared.flags.Flags.{Flags}
+use Rattle.cs_syntax.specs.declared.item.Flags.{Flags}
 
 -- The flags at the end of the text, whose first `skip` bytes belong to the previous item. `outer` has the flags to
 -- restore at the end of each open group, the innermost first.
@@ -38,4 +38,5 @@ pub record IsSelfContained (fold : Bool) (text : List ℕ) : Type 0 where
 
 -- the first tree matches exactly the spans that one of the two others matches
 abbrev pub MatchesEither : Tree → Tree → Tree → Type 0
-MatchesEither z x y = (line : List ℕ) (i j : ℕ) → MatchesSpan line z i j ↔ (MatchesSpan line x i j ⊎ MatchesSpan line y i j)
+MatchesEither z x y =
+    (line : List ℕ) (i j : ℕ) → MatchesSpan line z i j ↔ (MatchesSpan line x i j ⊎ MatchesSpan line y i j)

@@ -3,8 +3,8 @@ use Rattle.std.specs.Prelude.{ℕ, [], ◌∷◌, codes, nat_eq, nat_le, if◌th
 use Rattle.std.specs.List.{zip}
 use Rattle.std.specs.Map.{lookup}
 use Rattle.std.specs.Option.{unwrap_or}
-use Rattle.cs_syntax.specs.declared.byte_kind.ByteKind.{ByteKind}
-use Rattle.cs_syntax.specs.declared.byte_kind.ByteKind.TheVariants.{Star, Plus, Question, Brace, Dot, Caret, Dollar, Bar, Open, Close, Class, Backslash, NonAscii, Literal}
+use Rattle.cs_syntax.specs.declared.items.ByteKind.{ByteKind}
+use Rattle.cs_syntax.specs.declared.items.ByteKind.TheVariants.{Star, Plus, Question, Brace, Dot, Caret, Dollar, Bar, Open, Close, Class, Backslash, NonAscii, Literal}
 
 -- a metacharacter, the lead byte of a non-ASCII character, or a literal
 unfoldable pub byte_kind_of : ℕ → ByteKind

@@ -1,9 +1,8 @@
--- Canonical ranges of characters (as in Rust's `regex-syntax`), and the number of their characters.
+-- Canonical ranges of characters (as in Rust's `regex-syntax`).
 -- docs/PATTERNS.md, "Classes".
-use Rattle.std.specs.Prelude.{ℕ, ◌≡◌, ◌+◌, ◌≤◌, true, List, [], ◌∷◌, count_by}
+use Rattle.std.specs.Prelude.{ℕ, ◌≡◌, ◌+◌, ◌≤◌, true, List, [], ◌∷◌}
 use Rattle.std.specs.Char.{scalar_index}
-use Rattle.std.specs.List.{range_with_len}
-use Rattle.cs_syntax.specs.Characters.{is_scalar, has_char}
+use Rattle.cs_syntax.specs.Characters.{is_scalar}
 
 -- an inclusive range between two characters
 abbrev pub IsCharRange : ℕ × ℕ → Type 0
@@ -19,11 +18,3 @@ AreCanonicalFrom least (range ∷ ranges) =
 -- the ranges ascend and are maximal
 abbrev pub AreCanonical : List (ℕ × ℕ) → Type 0
 AreCanonical ranges = AreCanonicalFrom 0 ranges
-
--- the number of characters below n in the ranges
-unfoldable pub char_count_below : ℕ → List (ℕ × ℕ) → ℕ
-char_count_below n ranges = count_by (has_char ranges) (range_with_len 0 n)
-
--- the number of characters in the ranges
-abbrev pub char_count : List (ℕ × ℕ) → ℕ
-char_count ranges = char_count_below 1114112 ranges

@@ -6,7 +6,7 @@ use Rattle.cs_syntax.specs.Ranges.{is_in_ranges}
 use Rattle.cs_syntax.specs.Characters.{is_scalar, has_char}
 use Rattle.cs_syntax.specs.ClassSets.{is_in_item}
 use Rattle.cs_syntax.specs.Tokens.{Token, item, fault}
-use Rattle.cs_syntax.specs.declared.class_item.ClassItem.{ClassItem}
+use Rattle.cs_syntax.specs.declared.item.ClassItem.{ClassItem}
 use Rattle.cs_syntax.specs.declared.fault.PatternFault.TheVariants.{Memory}
 use Rattle.cs_syntax.specs.declared.item.ItemError.{ItemError}
 

@@ -9,5 +9,6 @@ abbrev pub HasOneParse : List ℕ → Bool → Type 0
 HasOneParse text fold =
     (((t : Tree) × ParsesAs text fold t) ⊎ ((k : PatternFault) × ((offset : ℕ) × HasSyntaxError text fold k offset)))
     × ((t u : Tree) → ParsesAs text fold t → ParsesAs text fold u → t ≡ u)
-    × ((k j : PatternFault) (offset by : ℕ) → HasSyntaxError text fold k offset → HasSyntaxError text fold j by → (k ≡ j) × (offset ≡ by))
+    × ((k j : PatternFault) (offset by : ℕ) → HasSyntaxError text fold k offset → HasSyntaxError text fold j by
+    → (k ≡ j) × (offset ≡ by))
     × ((t : Tree) (k : PatternFault) (offset : ℕ) → ParsesAs text fold t → HasSyntaxError text fold k offset → ⊥)

@@ -12,9 +12,9 @@ use Rattle.cs_syntax.specs.ClassSets.{item_tree}
 use Rattle.cs_syntax.specs.Characters.{is_scalar}
 use Rattle.cs_syntax.specs.Numbers.{is_digit, count_digits, number_of_digits}
 use Rattle.cs_syntax.specs.Tokens.{PatternItem, Token, item, fault, atom, starts_with_byte, char_tree}
-use Rattle.cs_syntax.specs.declared.class_item.NamedClass.TheVariants.{Digit, White, Word}
-use Rattle.cs_syntax.specs.declared.class_item.ClassItem.{ClassItem}
-use Rattle.cs_syntax.specs.declared.class_item.ClassItem.TheVariants.{Named}
+use Rattle.cs_syntax.specs.declared.item.NamedClass.TheVariants.{Digit, White, Word}
+use Rattle.cs_syntax.specs.declared.item.ClassItem.{ClassItem}
+use Rattle.cs_syntax.specs.declared.item.ClassItem.TheVariants.{Named}
 use Rattle.cs_syntax.specs.declared.escapes.EscapedChar.{EscapedChar}
 use Rattle.cs_syntax.specs.declared.fault.PatternFault.TheVariants.{BadEscape, LoneBackslash, NotInProfile}
 
@@ -32,7 +32,8 @@ octal_char text =
 abbrev pub hex_char_in_braces : List ℕ → Option EscapedChar
 hex_char_in_braces text =
     let len = count_digits 16 text in
-    if nat_lt 0 len && starts_with_byte 125 (drop len text) then char_by_number (number_of_digits 16 (take len text)) (len + 3)
+    if nat_lt 0 len && starts_with_byte 125 (drop len text)
+    then char_by_number (number_of_digits 16 (take len text)) (len + 3)
     else None
 
 -- after `\x`: two hexadecimal digits, or some in braces

@@ -11,7 +11,7 @@ use Rattle.cs_syntax.specs.declared.item.Item.TheVariants as item_of
 use Rattle.cs_syntax.specs.declared.item.ItemError.{ItemError}
 use Rattle.cs_syntax.specs.declared.fault.PatternFault.{PatternFault}
 use Rattle.cs_syntax.specs.declared.fault.PatternFault.TheVariants.{Memory}
-use Rattle.cs_syntax.specs.declared.class_item.ClassItem.{ClassItem}
+use Rattle.cs_syntax.specs.declared.item.ClassItem.{ClassItem}
 
 -- the tree of an atom, given its text
 abbrev pub atom_tree : List ℕ → atom_type.Atom → Tree

@@ -11,9 +11,9 @@ use Rattle.cs_syntax.specs.Repeats.{lazy, brace}
 use Rattle.cs_syntax.specs.Groups.{group}
 use Rattle.cs_syntax.specs.Escapes.{escape}
 use Rattle.cs_syntax.specs.Classes.{class}
-use Rattle.cs_syntax.specs.declared.flags.Flags.{Flags}
-use Rattle.cs_syntax.specs.declared.byte_kind.ByteKind.{ByteKind}
-use Rattle.cs_syntax.specs.declared.byte_kind.ByteKind.TheVariants.{Star, Plus, Question, Brace, Dot, Caret, Dollar, Bar, Open, Close, Class, Backslash, NonAscii, Literal}
+use Rattle.cs_syntax.specs.declared.item.Flags.{Flags}
+use Rattle.cs_syntax.specs.declared.items.ByteKind.{ByteKind}
+use Rattle.cs_syntax.specs.declared.items.ByteKind.TheVariants.{Star, Plus, Question, Brace, Dot, Caret, Dollar, Bar, Open, Close, Class, Backslash, NonAscii, Literal}
 
 -- The token by the kind of its first byte. A non-ASCII character is one atom: the sequence of its UTF-8 bytes.
 abbrev pub token_by_kind : ByteKind → Flags → ℕ → List ℕ → Token PatternItem

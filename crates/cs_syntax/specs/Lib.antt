@@ -5,12 +5,10 @@ pub mod Characters
 pub mod CharRanges
 pub mod Matching
 pub mod TreeList
-pub mod Alternation
 pub mod ByteSet
 pub mod Members
 pub mod CharTrees
 pub mod ClassSets
-pub mod Lowering
 pub mod Cuts
 pub mod CharSteps
 pub mod Node
@@ -33,7 +31,6 @@ pub mod BarredPatterns
 pub mod Bits
 pub mod SetWords
 pub mod ScalarIndex
-pub mod Widths
 pub mod TreeCode
 pub mod NodeList
 pub mod ItemViews

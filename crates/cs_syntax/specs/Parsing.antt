@@ -2,13 +2,12 @@
 -- shorter suffix after its first item. docs/PATTERNS.md, "Patterns" and "Syntax errors".
 use Rattle.std.specs.Prelude.{ℕ, zero, suc, ◌+◌, ◌≡◌, Bool, false, List, [], ◌∷◌, length, Option, nat_eq, if◌then◌else◌}
 use Rattle.std.specs.List.{fold}
-use Rattle.cs_syntax.specs.Matching.{Tree, Trees, rep, none, more}
-use Rattle.cs_syntax.specs.Alternation.{alternation}
+use Rattle.cs_syntax.specs.Matching.{Tree, Trees, alt, rep, none, more}
 use Rattle.cs_syntax.specs.Tokens.{sequence, atom, repeat, bar, group_start, group_end, flags_from_here, item, fault}
 use Rattle.cs_syntax.specs.Items.{next_token}
-use Rattle.cs_syntax.specs.declared.flags.Flags.{Flags}
-use Rattle.cs_syntax.specs.declared.before.Before.{Before}
-use Rattle.cs_syntax.specs.declared.before.Before.TheVariants.{Start, Operand, Repeated}
+use Rattle.cs_syntax.specs.declared.item.Flags.{Flags}
+use Rattle.cs_syntax.specs.declared.item.Before.{Before}
+use Rattle.cs_syntax.specs.declared.item.Before.TheVariants.{Start, Operand, Repeated}
 use Rattle.cs_syntax.specs.declared.fault.PatternFault.{PatternFault}
 use Rattle.cs_syntax.specs.declared.fault.PatternFault.TheVariants.{NoOperand, StackedRepeat, OpenGroup, StrayClose, TooDeep, TooLarge, Memory}
 
@@ -23,17 +22,20 @@ pub record Level : Type 0 where
 abbrev pub empty_level : Level
 empty_level = record { atoms = none; branches = none; repeats = [] }
 
+-- the alternation of at least one branch; a single branch is itself
+abbrev pub alternation : Tree → Trees → Tree
+alternation t none = t
+alternation t (more u us) = alt (more t (more u us))
+
 -- the tree of a whole group
 abbrev pub whole_group : Level → Tree
 whole_group l = alternation (sequence l.atoms) l.branches
 
--- an atom inside its repeats, the first one innermost
-abbrev pub with_repeats : Tree → List (ℕ × Option ℕ) → Tree
-with_repeats t repeats = fold (λ u r. rep u r.0 r.1) t repeats
-
--- an atom before the rest of the group
+-- an atom before the rest of the group: it is inside its repeats, the first one innermost
 abbrev pub with_atom : Tree → Level → Level
-with_atom t l = record { atoms = more (with_repeats t l.repeats) l.atoms; branches = l.branches; repeats = [] }
+with_atom t l =
+    let repeated = fold (λ u r. rep u r.0 r.1) t l.repeats in
+    record { atoms = more repeated l.atoms; branches = l.branches; repeats = [] }
 
 -- a repeat operator before the rest of the group
 abbrev pub with_repeat : ℕ → Option ℕ → Level → Level
@@ -99,8 +101,14 @@ parse_suffix zero offset before groups flags (b ∷ text) =
             | bar ↦ inside with_bar (parse_suffix len (offset + 1) Start groups flags text)
             | group_start inner ↦
                 if nat_eq (length groups) max_open_groups then syntax_error TooDeep offset
-                else with_open (parse_suffix len (offset + 1) Start (record { offset = offset; flags = flags } ∷ groups) inner text)
-            | group_end ↦ elim groups [ [] ↦ syntax_error StrayClose offset | g ∷ gs ↦ with_close (parse_suffix len (offset + 1) Operand gs g.flags text) ]
+                else
+                let group : Group = record { offset = offset; flags = flags } in
+                with_open (parse_suffix len (offset + 1) Start (group ∷ groups) inner text)
+            | group_end ↦
+                elim groups [
+                  | [] ↦ syntax_error StrayClose offset
+                  | g ∷ gs ↦ with_close (parse_suffix len (offset + 1) Operand gs g.flags text)
+                ]
             | flags_from_here new ↦ parse_suffix len (offset + 1) Start groups new text
           ]
     ]

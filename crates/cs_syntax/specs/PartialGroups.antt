@@ -2,10 +2,9 @@
 use Rattle.std.specs.Prelude.{ℕ, List, [], ◌∷◌, Option}
 use Rattle.cs_syntax.specs.Matching.{Tree, Trees, alt, rep, none, more}
 use Rattle.cs_syntax.specs.TreeList.{append}
-use Rattle.cs_syntax.specs.Alternation.{alternation}
 use Rattle.cs_syntax.specs.declared.fault.PatternFault.TheVariants.{OpenGroup}
 use Rattle.cs_syntax.specs.Tokens.{sequence}
-use Rattle.cs_syntax.specs.Parsing.{Level, with_atom, SuffixParse, levels, syntax_error, ParseResult, tree, rejected}
+use Rattle.cs_syntax.specs.Parsing.{alternation, Level, with_atom, SuffixParse, levels, syntax_error, ParseResult, tree, rejected}
 
 -- appends a tree
 abbrev pub with_last : Trees → Tree → Trees

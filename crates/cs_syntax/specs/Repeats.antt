@@ -27,7 +27,9 @@ counts_to n rest =
     else elim (number rest) [
       | None ↦ None
       | Some m ↦
-          if starts_with_byte 125 (drop m.len rest) then Some (record { least = n.value; most = Some m.value; len = n.len + 2 + m.len }) else None
+          if starts_with_byte 125 (drop m.len rest)
+          then Some (record { least = n.value; most = Some m.value; len = n.len + 2 + m.len })
+          else None
     ]
 
 -- after `{n`: `}`, `,}` or `,m}`

@@ -11,42 +11,37 @@ Symbol = List Bool ⊎ (List (ℕ × ℕ) ⊎ ((ℕ × Option ℕ) ⊎ ℕ))
 abbrev pub symbol : ℕ → Symbol
 symbol k = inr (inr (inr k))
 
--- the symbols of a tree, before the symbols `after` it
+-- the symbols of a tree, before the symbols `after` it; those of a list of trees end in symbol 0
 abbrev mutual
   pub symbols : Tree → List Symbol → List Symbol
   symbols empty after = symbol 3 ∷ after
   symbols (one_of set) after = inl set ∷ after
   symbols (one_char ranges) after = inr (inl ranges) ∷ after
-  symbols (cat ts) after = symbol 1 ∷ all_symbols ts (symbol 0 ∷ after)
-  symbols (alt ts) after = symbol 2 ∷ all_symbols ts (symbol 0 ∷ after)
-  symbols (rep x n m) after = inr (inr (inl (n, m))) ∷ symbols x after
+  symbols (cat ts) after = symbol 1 ∷ all_symbols ts after
+  symbols (alt ts) after = symbol 2 ∷ all_symbols ts after
+  symbols (rep x n m) after = inr (inr (inl (n, m))) ∷ symbols x (symbol 0 ∷ after)
   symbols line_start after = symbol 4 ∷ after
   symbols line_end after = symbol 5 ∷ after
   symbols word_edge after = symbol 6 ∷ after
   symbols not_word_edge after = symbol 7 ∷ after
 
   pub all_symbols : Trees → List Symbol → List Symbol
-  all_symbols none after = after
+  all_symbols none after = symbol 0 ∷ after
   all_symbols (more t ts) after = symbols t (all_symbols ts after)
 
 -- adds a tree to the first list
 abbrev pub put : Tree → List Trees → List Trees
-put t [] = more t none ∷ []
+put t [] = []
 put t (ts ∷ lists) = more t ts ∷ lists
-
-abbrev pub put_all : Trees → List Trees → List Trees
-put_all none lists = lists
-put_all (more t ts) lists = put t (put_all ts lists)
 
 -- turns the first list into one tree of the next list
 abbrev pub gather : (Trees → Tree) → List Trees → List Trees
 gather f [] = []
 gather f (ts ∷ lists) = put (f ts) lists
 
-abbrev pub repeat_first : ℕ → Option ℕ → List Trees → List Trees
-repeat_first n m [] = []
-repeat_first n m (none ∷ lists) = none ∷ lists
-repeat_first n m (more t ts ∷ lists) = more (rep t n m) ts ∷ lists
+abbrev pub first_tree : Trees → Tree
+first_tree none = empty
+first_tree (more t ts) = t
 
 abbrev pub by_symbol : ℕ → List Trees → List Trees
 by_symbol zero lists = none ∷ lists
@@ -63,27 +58,8 @@ abbrev pub tree_lists : List Symbol → List Trees
 tree_lists [] = none ∷ []
 tree_lists (inl set ∷ after) = put (one_of set) (tree_lists after)
 tree_lists (inr (inl ranges) ∷ after) = put (one_char ranges) (tree_lists after)
-tree_lists (inr (inr (inl r)) ∷ after) = repeat_first r.0 r.1 (tree_lists after)
+tree_lists (inr (inr (inl r)) ∷ after) = gather (λ ts. rep (first_tree ts) r.0 r.1) (tree_lists after)
 tree_lists (inr (inr (inr k)) ∷ after) = by_symbol k (tree_lists after)
-
-abbrev pub first_tree : List Trees → Tree
-first_tree [] = empty
-first_tree (none ∷ lists) = empty
-first_tree (more t ts ∷ lists) = t
-
-pub put-repeat : (t : Tree) (n : ℕ) (m : Option ℕ) (lists : List Trees)
-    → repeat_first n m (put t lists) ≡ put (rep t n m) lists
-put-repeat t n m [] = refl
-put-repeat t n m (ts ∷ lists) = refl
-
--- adding all trees of a list to an empty first list gives that list
-pub put_all-first : (ts : Trees) (lists : List Trees) → put_all ts (none ∷ lists) ≡ ts ∷ lists
-put_all-first none lists = refl
-put_all-first (more t ts) lists = ap (put t) (put_all-first ts lists)
-
-pub gather-all : (f : Trees → Tree) (ts : Trees) (lists : List Trees)
-    → gather f (put_all ts (none ∷ lists)) ≡ put (f ts) lists
-gather-all f ts lists = ap (gather f) (put_all-first ts lists)
 
 mutual
   pub tree_lists-symbols : (t : Tree) (after : List Symbol)
@@ -91,26 +67,28 @@ mutual
   tree_lists-symbols empty after = refl
   tree_lists-symbols (one_of set) after = refl
   tree_lists-symbols (one_char ranges) after = refl
-  tree_lists-symbols (cat ts) after =
-      ap (gather cat) (tree_lists-all_symbols ts (symbol 0 ∷ after)) ∙ gather-all cat ts (tree_lists after)
-  tree_lists-symbols (alt ts) after =
-      ap (gather alt) (tree_lists-all_symbols ts (symbol 0 ∷ after)) ∙ gather-all alt ts (tree_lists after)
+  tree_lists-symbols (cat ts) after = ap (gather cat) (tree_lists-all_symbols ts after)
+  tree_lists-symbols (alt ts) after = ap (gather alt) (tree_lists-all_symbols ts after)
   tree_lists-symbols (rep x n m) after =
-      ap (repeat_first n m) (tree_lists-symbols x after) ∙ put-repeat x n m (tree_lists after)
+      ap (gather (λ ts. rep (first_tree ts) n m)) (tree_lists-symbols x (symbol 0 ∷ after))
   tree_lists-symbols line_start after = refl
   tree_lists-symbols line_end after = refl
   tree_lists-symbols word_edge after = refl
   tree_lists-symbols not_word_edge after = refl
 
   pub tree_lists-all_symbols : (ts : Trees) (after : List Symbol)
-      → tree_lists (all_symbols ts after) ≡ put_all ts (tree_lists after)
+      → tree_lists (all_symbols ts after) ≡ ts ∷ tree_lists after
   tree_lists-all_symbols none after = refl
   tree_lists-all_symbols (more t ts) after =
       tree_lists-symbols t (all_symbols ts after) ∙ ap (put t) (tree_lists-all_symbols ts after)
+
+abbrev pub decoded : List Trees → Tree
+decoded [] = empty
+decoded (ts ∷ lists) = first_tree ts
 
 abbrev pub tree_code : Coded Tree
 tree_code =
     code_by (List Symbol)
     (coded_list (coded⊎ (coded_list coded_bool) (coded⊎ (coded_list (coded× coded_ℕ coded_ℕ))
     (coded⊎ (coded× coded_ℕ (coded_option coded_ℕ)) coded_ℕ))))
-    (λ t. symbols t []) (λ ms. first_tree (tree_lists ms)) (λ t. ap first_tree (tree_lists-symbols t []))
+    (λ t. symbols t []) (λ ms. decoded (tree_lists ms)) (λ t. ap decoded (tree_lists-symbols t []))

@@ -1,5 +1,5 @@
 // The tree of an atom.
-ghost use Rattle.std.specs.Prelude.{◌≡◌, ◌+◌, IfOk};
+ghost use Rattle.std.specs.Prelude.{◌≡◌, IfOk};
 ghost use Rattle.cs_syntax.specs.CharTrees.{are_ascii, ranges_tree};
 ghost use Rattle.cs_syntax.specs.Tokens.{bytes_tree};
 ghost use Rattle.cs_syntax.specs.Node.{tree_of};

@@ -1,7 +1,6 @@
 // Sets of bytes, as bitmaps of 256 bits.
-ghost use Rattle.std.specs.Prelude.{⊤, ◌≡◌, ◌+◌, ◌-◌, ◌^◌, ◌<◌, ◌≤◌, ◌==◌, ◌||◌, ◌&&◌, ◌∷◌, [], nat_eq, nat_lt, ℕ, List, Bool, false, not, Option, IfSome, IfNone, length};
+ghost use Rattle.std.specs.Prelude.{⊤, ◌≡◌, ◌+◌, ◌-◌, ◌<◌, ◌==◌, ◌||◌, ◌&&◌, nat_eq, nat_lt, ℕ, List, Bool, Option, IfSome, IfNone, length};
 ghost use Rattle.std.specs.Char.{is_ascii_alphabetic};
-ghost use Rattle.std.specs.Int.{bit_at};
 ghost use Rattle.cs_syntax.specs.Members.{count, IsOnly};
 ghost use Rattle.cs_syntax.specs.Matching.{member};
 ghost use Rattle.cs_syntax.specs.ByteSet.{set_of, all_bytes, other_case, is_in_folded, char_set, union};
@@ -110,12 +109,11 @@ impl ByteSet {
     }
 
     /// All bytes.
+    #[tactic(auto, unfolding(crate::specs::ByteSet::all_bytes))]
     pub(crate) fn all() -> ByteSet
         ensures { result ≡ all_bytes }
     {
-        ByteSet {
-            words: [u64::MAX; 4],
-        }
+        ByteSet::of(|_| true)
     }
 
     /// The set of an ASCII character; with `fold` also of its other case.
@@ -124,21 +122,6 @@ impl ByteSet {
         ensures { result ≡ char_set fold char }
     {
         ByteSet::of(|b| is_in_folded(fold, &[(char, char)], b))
-    }
-
-    /// The bytes from `low` to `high`, both included.
-    pub(crate) fn of_range(low: u8, high: u8) -> ByteSet
-        ensures { result ≡ set_of (is_in_ranges ((low, high) ∷ [])) }
-    {
-        let (low, high) = (low as usize, high as usize);
-        ByteSet {
-            words: [
-                ones(low, high, 0),
-                ones(low, high, 64),
-                ones(low, high, 128),
-                ones(low, high, 192),
-            ],
-        }
     }
 
     /// The ASCII characters of the ranges.
@@ -154,29 +137,6 @@ fn is_in_char_ranges(ranges: &[(u32, u32)], n: u32) -> bool
     ensures { result ≡ is_in_ranges ranges.now n }
 {
     ranges.iter().any(|range| range.0 <= n && n <= range.1)
-}
-
-/// The word of the bitmap for the bytes `first..first + 64`, with the bits of `low..=high` set.
-fn ones(low: usize, high: usize, first: usize) -> u64
-    requires { high < 256 }
-    ensures { (i : ℕ) → i < 64
-        → (bit_at result i == 1) ≡ is_in_ranges ((low, high) ∷ []) (first + i) }
-{
-    let from = low.saturating_sub(first).min(64);
-    let to = (high + 1).saturating_sub(first).min(64);
-    low_ones(to).saturating_sub(low_ones(from))
-}
-
-/// A word whose lowest `count` bits are set.
-fn low_ones(count: usize) -> u64
-    requires { count ≤ 64 }
-    ensures { result ≡ 2 ^ count - 1 }
-{
-    if count < 64 {
-        (1 << count) - 1
-    } else {
-        u64::MAX
-    }
 }
 
 /// Whether the byte is an ASCII letter.

@@ -1,11 +1,11 @@
 // Sets of characters, as canonical lists of ranges (as in Rust's `regex-syntax`).
-ghost use Rattle.std.specs.Prelude.{◌≡◌, ◌+◌, ◌<◌, ◌≤◌, ◌&&◌, ℕ, Bool, not, List, All, IfOk};
+ghost use Rattle.std.specs.Prelude.{◌≡◌, ◌+◌, ◌<◌, ◌&&◌, ℕ, Bool, not, List, All, IfOk};
 ghost use Rattle.std.specs.Bool.{xor};
 ghost use Rattle.std.specs.Char.{scalar_index};
 ghost use Rattle.std.specs.List.Sorted.{IsNonDecreasingBy};
 ghost use Rattle.cs_syntax.specs.Ranges.{is_in_ranges};
 ghost use Rattle.cs_syntax.specs.Characters.{is_scalar, has_char, canonical_ranges};
-ghost use Rattle.cs_syntax.specs.CharRanges.{IsCharRange, AreCanonical, char_count};
+ghost use Rattle.cs_syntax.specs.CharRanges.{IsCharRange, AreCanonical};
 ghost use Rattle.cs_syntax.specs.ScalarIndex.{nth_scalar, scalar_ceil, scalar_floor};
 
 use std::alloc::{AllocError, Global};
@@ -54,17 +54,6 @@ impl CharSet {
         ensures { result ≡ has_char self.now char }
     {
         is_scalar(char) && is_in_canonical_ranges(&self.ranges, char)
-    }
-
-    /// The number of members.
-    pub fn len(&self) -> u32
-        ensures { result ≡ char_count self.now }
-    {
-        let mut count = 0;
-        for range in &self.ranges {
-            count += scalar_index(range.1) + 1 - scalar_index(range.0);
-        }
-        count
     }
 
     /// The members as ascending, maximal ranges, each with its first and last member. 0xd7ff and

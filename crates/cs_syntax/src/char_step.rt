@@ -4,7 +4,7 @@ ghost use Rattle.cs_syntax.specs.CharSteps.{finished, unfinished_after};
 
 /// The unfinished character before an offset of a line. All characters that it can become lie in a
 /// block of `64^needed` numbers, or in an interval between two cuts.
-#[derive(Clone, Copy, Debug, PartialEq, Eq)]
+#[derive(Clone, Copy, PartialEq, Eq)]
 pub struct Unfinished {
     /// How many continuation bytes it needs, at most 3. If it is 0, no character is unfinished.
     pub needed: u8,
@@ -22,7 +22,7 @@ impl Unfinished {
 }
 
 /// What a byte does to the unfinished character.
-#[derive(Clone, Copy, Debug, PartialEq, Eq)]
+#[derive(Clone, Copy, PartialEq, Eq)]
 pub enum CharStep {
     /// An ASCII byte, a character by itself.
     Single(u8),

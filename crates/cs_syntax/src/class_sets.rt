@@ -7,7 +7,7 @@ ghost use Rattle.cs_syntax.specs.ClassSets.{ranges_of, is_in_item};
 ghost use Rattle.cs_syntax.specs.ClassState.{is_other_case};
 
 use crate::char_set::CharSet;
-use crate::class_item::{ClassItem, NamedClass};
+use crate::item::{ClassItem, NamedClass};
 use std::alloc::{AllocError, Global};
 
 const CAPITAL: u32 = 'A' as u32;

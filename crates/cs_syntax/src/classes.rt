@@ -1,16 +1,231 @@
 // Parses bracket classes, such as `[a-z]` and `[^[:digit:]]`.
-ghost use Rattle.std.specs.Prelude.{◌≡◌, ◌+◌, ◌<◌, ◌≤◌, ◌^◌, ◌&&◌, not, nat_eq, ℕ, List, true, length, MatchResult};
-ghost use Rattle.cs_syntax.specs.Classes.{items_from, class};
+ghost use Rattle.std.specs.Prelude.{◌≡◌, ◌+◌, ◌-◌, ◌*◌, ◌≤◌, ◌<◌, ◌^◌, ◌&&◌, ◌∷◌, not, nat_eq, true, ℕ, List, length, chars, slice_index, MatchResult, IfOk, IfSome};
+ghost use Rattle.cs_syntax.specs.Classes.{class_escape, class_char, range_to, range_from, span, name_length, class_by_name, posix_class, after_colon, after_backslash, class_token, items_from, class};
 ghost use Rattle.cs_syntax.specs.ClassState.{IsParsedClass};
-ghost use Rattle.cs_syntax.specs.ItemViews.{StaysWithin, IsTokenOf};
+ghost use Rattle.cs_syntax.specs.ItemViews.{StaysWithin, IsTokenOf, class_token_view, class_char_view};
 
 use crate::char_set::CharSet;
 use crate::class_sets::add_item;
-use crate::class_tokens::class_token;
+use crate::escapes::{escaped_char, escaped_class, is_unsupported_escape};
 use crate::fault::PatternFault;
-use crate::item::{Atom, Item, ItemError};
-use crate::lookahead::starts_with_byte;
+use crate::item::{Atom, ClassItem, Item, ItemError, NamedClass};
+use crate::lookahead::{count_continuation, starts_with_byte};
 use std::alloc::Global;
+
+/// The character of an escape in a class. The text follows the backslash.
+fn class_escape(text: &[u8]) -> Result<(u32, usize), PatternFault>
+    ensures value { class_char_view result ≡ class_escape text.now }
+    ensures within { IfOk result (λ r. r.1 ≤ length text.now) }
+{
+    let Some((&letter, _)) = text.split_first() else {
+        return Err(PatternFault::LoneBackslash);
+    };
+    if is_unsupported_escape(letter) {
+        return Err(PatternFault::NotInProfile);
+    }
+    let Some(escaped) = escaped_char(text) else {
+        return Err(PatternFault::BadEscape);
+    };
+    Ok((escaped.char as u32, escaped.len))
+}
+
+/// Decodes a multi-byte UTF-8 sequence: its lead byte and its continuation bytes.
+fn decode_multibyte(first: u8, others: &[u8]) -> u32
+    requires { 128 ≤ first }
+    ensures { result ≡ slice_index (chars (first ∷ others.now)) 0 }
+{
+    if first < 0xE0 {
+        let [a, ..] = others else {
+            return 0;
+        };
+        return with_continuation(first.saturating_sub(0xC0) as u32, *a);
+    }
+    if first < 0xF0 {
+        let [a, b, ..] = others else {
+            return 0;
+        };
+        return with_continuation(with_continuation((first - 0xE0) as u32, *a), *b);
+    }
+    let [a, b, c, ..] = others else {
+        return 0;
+    };
+    with_continuation(
+        with_continuation(with_continuation((first - 0xF0) as u32, *a), *b),
+        *c,
+    )
+}
+
+/// Appends the six bits of a continuation byte.
+fn with_continuation(number: u32, byte: u8) -> u32
+    requires { number < 2 ^ 20 }
+    ensures { result ≡ number * 64 + (byte - 128) }
+{
+    number * 64 + byte.saturating_sub(0x80) as u32
+}
+
+/// One character, and the number of its bytes after the first.
+fn class_char(byte: u8, rest: &[u8]) -> Result<(u32, usize), PatternFault>
+    ensures value { class_char_view result ≡ class_char byte rest.now }
+    ensures within { IfOk result (λ r. r.1 ≤ length rest.now) }
+{
+    if byte == b'\\' {
+        return class_escape(rest);
+    }
+    if byte < 128 {
+        return Ok((byte as u32, 0));
+    }
+    let len = count_continuation(rest);
+    Ok((decode_multibyte(byte, &rest[..len]), len))
+}
+
+/// The range from `low` to `high`. `len` is the number of its bytes between its first and `high`.
+fn range_to(
+    low: u32,
+    len: usize,
+    high: Result<(u32, usize), PatternFault>,
+) -> Result<(ClassItem, usize), ItemError>
+    requires { IfOk high (λ r. len + r.1 < 2 ^ 64) }
+    ensures value { class_token_view result ≡ range_to low len (class_char_view high) }
+    ensures within { MatchResult result
+        (λ r. IfOk high (λ h. r.1 ≤ len + h.1)) (λ m. m.distance ≤ len) }
+{
+    match high {
+        Err(fault) => Err(ItemError {
+            fault,
+            distance: len,
+        }),
+        Ok((high, more)) => {
+            if high < low {
+                return Err(ItemError::at_start(PatternFault::BadRange));
+            }
+            Ok((ClassItem::Range(low, high), len + more))
+        }
+    }
+}
+
+/// The range that begins with `low` if a `-` follows, otherwise `low` alone.
+fn range_from(low: u32, len: usize, rest: &[u8]) -> Result<(ClassItem, usize), ItemError>
+    requires { len + length rest.now < 2 ^ 63 }
+    ensures value { class_token_view result ≡ range_from low len rest.now }
+    ensures within { StaysWithin (len + length rest.now) (len + length rest.now) result }
+{
+    match rest {
+        [b'-', c, after @ ..] if *c != b']' => range_to(low, len + 2, class_char(*c, after)),
+        _ => Ok((ClassItem::Range(low, low), len)),
+    }
+}
+
+/// A character, or the range that begins with it.
+fn span(
+    low: Result<(u32, usize), PatternFault>,
+    rest: &[u8],
+) -> Result<(ClassItem, usize), ItemError>
+    requires { IfOk low (λ l. l.1 ≤ length rest.now) }
+    ensures value { class_token_view result ≡ span (class_char_view low) rest.now }
+    ensures within { StaysWithin (length rest.now) (length rest.now) result }
+{
+    match low {
+        Err(fault) => Err(ItemError { fault, distance: 0 }),
+        Ok((low, len)) => range_from(low, len, &rest[len..]),
+    }
+}
+
+/// The number of bytes before the first `:]`, if there is one.
+fn name_length(text: &[u8]) -> Option<usize>
+    ensures value { result ≡ name_length text.now }
+    ensures within { IfSome result (λ n. n + 2 ≤ length text.now) }
+{
+    for offset in 0..text.len() {
+        if text[offset..].starts_with(b":]") {
+            return Some(offset);
+        }
+    }
+    None
+}
+
+/// The POSIX classes.
+const NAMED: [(&str, NamedClass); 14] = [
+    ("alnum", NamedClass::Alnum),
+    ("alpha", NamedClass::Alpha),
+    ("ascii", NamedClass::Ascii),
+    ("blank", NamedClass::Blank),
+    ("cntrl", NamedClass::Cntrl),
+    ("digit", NamedClass::Digit),
+    ("graph", NamedClass::Graph),
+    ("lower", NamedClass::Lower),
+    ("print", NamedClass::Print),
+    ("punct", NamedClass::Punct),
+    ("space", NamedClass::Space),
+    ("upper", NamedClass::Upper),
+    ("word", NamedClass::Word),
+    ("xdigit", NamedClass::Xdigit),
+];
+
+/// The POSIX class of a name.
+fn class_by_name(name: &[u8]) -> Option<NamedClass>
+    ensures { result ≡ class_by_name name.now }
+{
+    for (word, class) in &NAMED {
+        if name == word.as_bytes() {
+            return Some(*class);
+        }
+    }
+    None
+}
+
+/// The POSIX class `[:name:]` or `[:^name:]`. `name` includes the `^`.
+fn posix_class(name: &[u8]) -> Result<(ClassItem, usize), ItemError>
+    requires { length name.now + 3 < 2 ^ 64 }
+    ensures value { class_token_view result ≡ posix_class name.now }
+    ensures within { StaysWithin (length name.now + 3) 0 result }
+{
+    let negated = starts_with_byte(b'^', name);
+    let word = if negated { &name[1..] } else { name };
+    match class_by_name(word) {
+        Some(class) => Ok((ClassItem::Named(class, negated), name.len() + 3)),
+        None => Err(ItemError::at_start(PatternFault::BadRange)),
+    }
+}
+
+/// The item that begins with `[:`. The text follows the colon; without a `:]` the `[` is a literal.
+fn after_colon(text: &[u8]) -> Result<(ClassItem, usize), ItemError>
+    requires { length text.now + 1 < 2 ^ 63 }
+    ensures value { class_token_view result ≡ after_colon text.now }
+    ensures within { StaysWithin (length text.now + 1) (length text.now + 1) result }
+{
+    match name_length(text) {
+        Some(n) => posix_class(&text[..n]),
+        None => Ok((ClassItem::Range('[' as u32, '[' as u32), 0)),
+    }
+}
+
+/// The item that begins with a backslash. `rest` follows it.
+fn after_backslash(rest: &[u8]) -> Result<(ClassItem, usize), ItemError>
+    ensures value { class_token_view result ≡ after_backslash rest.now }
+    ensures within { StaysWithin (length rest.now) (length rest.now) result }
+{
+    let Some((&letter, _)) = rest.split_first() else {
+        return Err(ItemError::at_start(PatternFault::LoneBackslash));
+    };
+    match escaped_class(letter) {
+        Some(item) => Ok((item, 1)),
+        None => span(class_escape(rest), rest),
+    }
+}
+
+/// The item that begins with `byte`.
+fn class_token(byte: u8, rest: &[u8]) -> Result<(ClassItem, usize), ItemError>
+    ensures value { class_token_view result ≡ class_token byte rest.now }
+    ensures within { StaysWithin (length rest.now) (length rest.now) result }
+{
+    if byte == b'[' && starts_with_byte(b':', rest) {
+        return after_colon(&rest[1..]);
+    }
+    if byte == b'\\' {
+        return after_backslash(rest);
+    }
+    span(class_char(byte, rest), rest)
+}
 
 /// Whether the byte closes the class. A `]` at the start is a literal.
 fn closes(byte: u8, start: bool) -> bool
@@ -51,10 +266,7 @@ fn items(
             }
         }
     }
-    Err(ItemError {
-        fault: PatternFault::OpenClass,
-        distance: 0,
-    })
+    Err(ItemError::at_start(PatternFault::OpenClass))
 }
 
 /// The class that begins with `[`. `rest` follows the bracket.

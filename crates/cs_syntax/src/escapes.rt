@@ -1,17 +1,14 @@
 // Parses escapes. Each function is given the text after the backslash.
-ghost use Rattle.std.specs.Prelude.{◌≡◌, ◌+◌, ◌≤◌, ◌<◌, ◌^◌, ℕ, Bool, List, length, min, take, drop, IfSome, ◌∷◌};
-ghost use Rattle.std.specs.Char.{is_ascii_alphabetic};
+ghost use Rattle.std.specs.Prelude.{◌≡◌, ◌+◌, ◌≤◌, ◌<◌, ℕ, List, length, min, IfSome};
 ghost use Rattle.std.specs.Option.{option_map};
 ghost use Rattle.cs_syntax.specs.Tokens.{char_tree};
 ghost use Rattle.cs_syntax.specs.ItemViews.{StaysWithin, token_view, atom_tree};
-ghost use Rattle.cs_syntax.specs.Characters.{is_scalar};
 ghost use Rattle.cs_syntax.specs.Escapes.{char_by_number, octal_char, hex_char_in_braces, hex_char, control_char, escaped_char, escaped_class, is_unsupported_escape, escaped_tree, char_token, escape};
 
 use crate::byte_set::{ByteSet, is_letter};
-use crate::class_item::{ClassItem, NamedClass};
 use crate::digits::{count_digits, is_digit, value_in};
 use crate::fault::PatternFault;
-use crate::item::{Atom, Item, ItemError};
+use crate::item::{Atom, ClassItem, Item, ItemError, NamedClass};
 use crate::lookahead::starts_with_byte;
 
 /// The character of an escape, and the number of bytes after the backslash.
@@ -145,10 +142,7 @@ fn char_token(fold: bool, text: &[u8]) -> Result<(Item, usize), ItemError>
     ensures within { StaysWithin (length text.now) 0 result }
 {
     let Some(escaped) = escaped_char(text) else {
-        return Err(ItemError {
-            fault: PatternFault::BadEscape,
-            distance: 0,
-        });
+        return Err(ItemError::at_start(PatternFault::BadEscape));
     };
     Ok((Item::Atom(char_atom(fold, escaped.char)), escaped.len))
 }
@@ -175,16 +169,10 @@ pub(crate) fn escape(fold: bool, text: &[u8]) -> Result<(Item, usize), ItemError
     ensures within { StaysWithin (length text.now) 0 result }
 {
     let Some((&letter, _)) = text.split_first() else {
-        return Err(ItemError {
-            fault: PatternFault::LoneBackslash,
-            distance: 0,
-        });
+        return Err(ItemError::at_start(PatternFault::LoneBackslash));
     };
     if is_unsupported_escape(letter) {
-        return Err(ItemError {
-            fault: PatternFault::NotInProfile,
-            distance: 0,
-        });
+        return Err(ItemError::at_start(PatternFault::NotInProfile));
     }
     match escaped_atom(letter) {
         Some(atom) => Ok((Item::Atom(atom), 1)),

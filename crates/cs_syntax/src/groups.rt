@@ -1,20 +1,14 @@
 // Parses what follows a `(`: a group name or flags.
-ghost use Rattle.std.specs.Prelude.{◌≡◌, ◌+◌, ◌≤◌, ◌<◌, ◌^◌, ℕ, Bool, List, codes, length, take, drop};
-ghost use Rattle.std.specs.List.{prefix_len, list_any};
+ghost use Rattle.std.specs.Prelude.{◌≡◌, ◌+◌, ◌≤◌, ◌<◌, ◌^◌, ℕ, List, codes, length};
+ghost use Rattle.std.specs.List.{prefix_len};
 ghost use Rattle.cs_syntax.specs.Matching.{is_word};
 ghost use Rattle.cs_syntax.specs.ItemViews.{StaysWithin, token_view};
 ghost use Rattle.cs_syntax.specs.NumberList.{has};
 ghost use Rattle.cs_syntax.specs.Groups.{name, with_set, with_cleared, after_flags, cleared_flags, set_flags, head, group};
 
 use crate::fault::PatternFault;
-use crate::flags::Flags;
-use crate::item::{Item, ItemError};
+use crate::item::{Flags, Item, ItemError};
 use crate::lookahead::starts_with_byte;
-
-const BAD_GROUP: ItemError = ItemError {
-    fault: PatternFault::BadGroup,
-    distance: 0,
-};
 
 /// Whether the byte is an ASCII digit, an ASCII letter or `_`.
 fn is_word(byte: u8) -> bool
@@ -91,7 +85,7 @@ fn name(flags: Flags, len: usize, text: &[u8]) -> Result<(Item, usize), ItemErro
 {
     let n = name_len(text);
     if n == 0 || !starts_with_byte(b'>', &text[n..]) {
-        return Err(BAD_GROUP);
+        return Err(ItemError::at_start(PatternFault::BadGroup));
     }
     Ok((Item::GroupStart(flags), len + n + 1))
 }
@@ -108,7 +102,7 @@ fn after_flags(flags: Flags, len: usize, rest: &[u8]) -> Result<(Item, usize), I
     if starts_with_byte(b')', rest) {
         return Ok((Item::FlagsFromHere(flags), len + 1));
     }
-    Err(BAD_GROUP)
+    Err(ItemError::at_start(PatternFault::BadGroup))
 }
 
 /// The flags after a `-`, which are cleared.
@@ -119,13 +113,10 @@ fn cleared_flags(flags: Flags, len: usize, text: &[u8]) -> Result<(Item, usize),
 {
     let n = cleared_len(text);
     if starts_with_byte(b'm', &text[n..]) {
-        return Err(ItemError {
-            fault: PatternFault::NotInProfile,
-            distance: 0,
-        });
+        return Err(ItemError::at_start(PatternFault::NotInProfile));
     }
     if n == 0 {
-        return Err(BAD_GROUP);
+        return Err(ItemError::at_start(PatternFault::BadGroup));
     }
     after_flags(with_cleared(&text[..n], flags), len + n, &text[n..])
 }

@@ -1,18 +1,62 @@
 // The tokenizer: reads the item that a text starts with.
-ghost use Rattle.std.specs.Prelude.{◌≡◌, ◌+◌, ◌≤◌, ℕ, List, ◌∷◌, length};
+ghost use Rattle.std.specs.Prelude.{◌≡◌, ◌+◌, ◌∷◌, length};
 ghost use Rattle.cs_syntax.specs.Items.{next_token};
 ghost use Rattle.cs_syntax.specs.ItemViews.{StaysWithin, IsTokenOf};
 
-use crate::byte_kind::ByteKind;
 use crate::byte_set::ByteSet;
 use crate::classes::class;
 use crate::escapes::escape;
-use crate::flags::Flags;
 use crate::groups::group;
-use crate::item::{Atom, Item, ItemError};
+use crate::item::{Atom, Flags, Item, ItemError};
 use crate::lookahead::count_continuation;
 use crate::repeats::{brace, lazy};
 use std::alloc::Global;
+
+/// The kind of a byte at the start of an item.
+#[derive(Clone, Copy, Drop)]
+pub(crate) enum ByteKind {
+    Star,
+    Plus,
+    Question,
+    Brace,
+    Dot,
+    Caret,
+    Dollar,
+    Bar,
+    Open,
+    Close,
+    Class,
+    Backslash,
+    NonAscii,
+    Literal,
+}
+
+impl ByteKind {
+    ghost use Rattle.cs_syntax.specs.ByteKinds.{byte_kind_of};
+
+    /// The kind of the byte.
+    #[tactic(auto, unfolding(crate::specs::ByteKinds::byte_kind_of))]
+    pub(crate) fn of(byte: u8) -> ByteKind
+        ensures { result ≡ byte_kind_of byte }
+    {
+        match byte {
+            b'*' => ByteKind::Star,
+            b'+' => ByteKind::Plus,
+            b'?' => ByteKind::Question,
+            b'{' => ByteKind::Brace,
+            b'.' => ByteKind::Dot,
+            b'^' => ByteKind::Caret,
+            b'$' => ByteKind::Dollar,
+            b'|' => ByteKind::Bar,
+            b'(' => ByteKind::Open,
+            b')' => ByteKind::Close,
+            b'[' => ByteKind::Class,
+            b'\\' => ByteKind::Backslash,
+            0x80.. => ByteKind::NonAscii,
+            _ => ByteKind::Literal,
+        }
+    }
+}
 
 /// The item that begins with `byte`, and the number of its bytes after the first.
 #[tactic(auto, using(crate::proofs::ParserStepLemmas::token_is), unfolding(crate::specs::Items::next_token))]

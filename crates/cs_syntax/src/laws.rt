@@ -1,14 +1,13 @@
 // Laws: properties of the definitions, with no code.
 ghost use Rattle.std.specs.Prelude.{◌↔◌, ◌≡◌, ◌≢◌, ◌<◌, ◌≤◌, ◌^◌, ◌&&◌, [], ◌∷◌, ◌++◌, ℕ, Bool, true, List, Some, IsUtf8, length};
 ghost use Rattle.std.specs.Str.{chars};
-ghost use Rattle.cs_syntax.specs.Characters.{is_scalar, has_char, canonical_ranges, MatchesChar};
+ghost use Rattle.cs_syntax.specs.Characters.{is_scalar, has_char, canonical_ranges};
 ghost use Rattle.cs_syntax.specs.CharRanges.{AreCanonical};
 ghost use Rattle.cs_syntax.specs.Determinism.{HasOneParse};
 ghost use Rattle.cs_syntax.specs.Levels.{HasLevels};
-ghost use Rattle.cs_syntax.specs.Lowering.{utf8_tree};
 ghost use Rattle.cs_syntax.specs.Cuts.{Divide, AreCuts, AreCutsOf, char_ranges, floor};
 ghost use Rattle.cs_syntax.specs.CharSteps.{taken_at, MatchesEntered};
-ghost use Rattle.cs_syntax.specs.Matching.{Tree, MatchesSpan, one_of, rep};
+ghost use Rattle.cs_syntax.specs.Matching.{Tree, one_of, rep};
 ghost use Rattle.cs_syntax.specs.BarredPatterns.{IsSelfContained, MatchesEither};
 ghost use Rattle.cs_syntax.specs.ByteSet.{char_set};
 ghost use Rattle.cs_syntax.specs.ByteKinds.{byte_kind_of};
@@ -16,11 +15,11 @@ ghost use Rattle.cs_syntax.specs.Tokens.{sequence};
 ghost use Rattle.cs_syntax.specs.Repeats.{max_repeat};
 ghost use Rattle.cs_syntax.specs.Quoting.{counted_repeat, quote_meta, atoms_of};
 ghost use Rattle.std.specs.List.{AllByRecursion};
-ghost use Rattle.cs_syntax.specs.declared.byte_kind.ByteKind.TheVariants.{Literal};
+ghost use Rattle.cs_syntax.specs.declared.items.ByteKind.TheVariants.{Literal};
 ghost use Rattle.cs_syntax.specs.declared.fault.PatternFault.TheVariants.{BadRepeat};
 ghost use Rattle.cs_syntax.specs.Parsing.{ParsesAs, HasSyntaxError, IsTextFault, Group, Level, levels, parse_suffix};
-ghost use Rattle.cs_syntax.specs.declared.before.Before.{Before};
-ghost use Rattle.cs_syntax.specs.declared.flags.Flags.{Flags};
+ghost use Rattle.cs_syntax.specs.declared.item.Before.{Before};
+ghost use Rattle.cs_syntax.specs.declared.item.Flags.{Flags};
 ghost use Rattle.cs_syntax.specs.declared.fault.PatternFault.{PatternFault};
 
 /// A text parses as exactly one tree or has exactly one syntax error, and never both.
@@ -79,12 +78,6 @@ pub fn canonical_ranges_are_unique()
     ensures maximal { (test : ℕ → Bool) → AreCanonical (canonical_ranges test) }
     ensures passing { (test : ℕ → Bool) (c : ℕ)
         → has_char (canonical_ranges test) c ≡ (is_scalar c && test c) }
-{}
-
-/// The lowered tree of a set of characters matches exactly the UTF-8 encodings of its members.
-pub fn lowering_preserves_matches()
-    ensures { (line : List ℕ) (ranges : List (ℕ × ℕ)) (i j : ℕ)
-        → MatchesSpan line (utf8_tree ranges) i j ↔ MatchesChar line ranges i j }
 {}
 
 /// All numbers of an interval are in the same sets of characters.

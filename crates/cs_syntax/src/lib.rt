@@ -1,31 +1,24 @@
 //! The syntax of patterns, after RE2: the parser, the syntax tree, the spans of a line that a tree
-//! matches, and character sets in UTF-8: their lowering to byte sets, and their steps over bytes.
+//! matches, and character sets in UTF-8: their steps over bytes.
 //! Read `specs/Matching.antt` first, then `specs/Parsing.antt`.
 #![tactic(auto)]
 
 mod atoms;
-mod before;
 mod builder;
-mod byte_kind;
 mod byte_set;
 mod char_set;
 mod char_step;
-mod class_chars;
-mod class_item;
 mod class_sets;
-mod class_tokens;
 mod classes;
 mod cuts;
 mod digits;
 mod escapes;
 mod fault;
-mod flags;
 mod groups;
 mod item;
 mod items;
 pub mod laws;
 mod lookahead;
-mod lowering;
 mod node;
 mod parser;
 mod pattern;
@@ -37,7 +30,6 @@ pub use char_set::CharSet;
 pub use char_step::{CharStep, Unfinished};
 pub use cuts::Cuts;
 pub use fault::{PatternError, PatternFault};
-pub use lowering::lower;
 pub use node::Node;
 pub use parser::parse;
 pub use pattern::Pattern;

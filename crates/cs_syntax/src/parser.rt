@@ -1,5 +1,5 @@
 // The parser: one pass over the text, with an explicit stack of the open groups (as in RE2).
-ghost use Rattle.std.specs.Prelude.{◌≡◌, ◌+◌, ◌<◌, ◌≤◌, ℕ, OnOk, IfOk, IfErr, length, take, drop};
+ghost use Rattle.std.specs.Prelude.{◌≡◌, ◌+◌, ◌<◌, ◌≤◌, ℕ, OnOk, IfOk, IfErr, length};
 ghost use Rattle.cs_syntax.specs.Tokens.{atom, repeat, bar, group_start, group_end, flags_from_here};
 ghost use Rattle.cs_syntax.specs.Node.{tree_of};
 ghost use Rattle.cs_syntax.specs.Parsing.{ParsesAs, parse_result, tree};
@@ -8,11 +8,9 @@ ghost use Rattle.cs_syntax.specs.ItemViews.{atom_tree, item_view};
 ghost use Rattle.cs_syntax.specs.Weight.{max_weight, weight};
 
 use crate::atoms::atom_node;
-use crate::before::Before;
 use crate::builder::GroupBuilder;
 use crate::fault::{PatternError, PatternFault};
-use crate::flags::Flags;
-use crate::item::{Atom, Item};
+use crate::item::{Atom, Before, Flags, Item};
 use crate::items::read_token;
 use crate::node::Node;
 use crate::pattern::Pattern;

@@ -1,5 +1,5 @@
 // Parses repeat operators: `*`, `+`, `?` and counts in braces.
-ghost use Rattle.std.specs.Prelude.{◌≡◌, ◌+◌, ◌≤◌, ◌<◌, ◌^◌, ℕ, length, min, take, drop, MatchOption, IfSome, IfOk, OnOk, List};
+ghost use Rattle.std.specs.Prelude.{◌≡◌, ◌+◌, ◌≤◌, ◌<◌, ◌^◌, ℕ, length, IfSome, List};
 ghost use Rattle.std.specs.Option.{option_map};
 ghost use Rattle.cs_syntax.specs.Tokens.{item};
 ghost use Rattle.cs_syntax.specs.ItemViews.{StaysWithin, item_view, token_view};
@@ -135,10 +135,7 @@ pub(crate) fn brace(rest: &[u8]) -> Result<(Item, usize), ItemError>
         return Ok((Item::Atom(Atom::Set(ByteSet::of_char(false, b'{'))), 0));
     };
     if is_bad(counts) {
-        return Err(ItemError {
-            fault: PatternFault::BadRepeat,
-            distance: 0,
-        });
+        return Err(ItemError::at_start(PatternFault::BadRepeat));
     }
     Ok(lazy(counts.least, counts.most, counts.len, rest))
 }

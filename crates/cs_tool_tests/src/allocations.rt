@@ -96,7 +96,6 @@ fn are_sets(chars: &CharSet, pattern: &Pattern) -> bool {
         && bytes.len() == 2
         && bytes.single().is_none()
         && chars.contains(0xE001)
-        && chars.len() == 42
         && chars.runs().len() == 2
 }
 

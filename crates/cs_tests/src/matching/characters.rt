@@ -64,9 +64,7 @@ fn have_ranges(alloc: Global) -> Result<bool, AllocError> {
     let all = CharSet::from_ranges(alloc, &[(0, 0x11_0000)])?;
     Ok(
         set.runs() == JOINED
-            && set.len() == 26 + 16 + 17
             && others.runs() == OTHERS
-            && all.len() == 1_112_064
             && all.contains(0xE000)
             && !all.contains(0xD800)
             && !all.contains(0x11_0000),

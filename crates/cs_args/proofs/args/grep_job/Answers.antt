@@ -21,5 +21,7 @@ returns-in_ok-copies-in-Some c items are =
       files = c.in_ok-copies-in-Some.field-0;
     }))))
     (sym c.in-Some.ensures.cases.0)
-    ((λ i. grep settings.style settings.fold (c.in_ok-clone-in-Some.ensures.cases i) ((c.is_empty.ensures ∙ ap (λ count. count == 0) (sym (length-map files string_bytes))) i) (c.in_ok-copies-in-Some.ensures i))
+    ((λ i. grep settings.style settings.fold (c.in_ok-clone-in-Some.ensures.cases i)
+    ((c.is_empty.ensures ∙ ap (λ count. count == 0) (sym (length-map files string_bytes))) i)
+    (c.in_ok-copies-in-Some.ensures i))
     ∙ grep_answer settings items (string_bytes pattern) (map string_bytes files) are)

@@ -6,5 +6,6 @@ use Rattle.cs_args.proofs.args.index_job.Goals as goal
 
 pub returns : goal.returns
 returns c items are =
-    (λ i. index c.args.settings.now.list c.args.settings.now.reset c.args.settings.now.log_skip (c.in_ok-from_str.ensures.ok i) (c.in_ok-copies.ensures i))
+    (λ i. index c.args.settings.now.list c.args.settings.now.reset c.args.settings.now.log_skip
+    (c.in_ok-from_str.ensures.ok i) (c.in_ok-copies.ensures i))
     ∙ index_answer c.args.settings.now items c.args.cwd.now (map string_bytes c.args.paths.now) are

@@ -17,26 +17,37 @@ returns-in_err-item-clause-fault c =
 pub loop-item-preserved : goal.loop-item-preserved
 loop-item-preserved c =
     rw c.set.ensures
-    (read_next c.args.tool (map string_bytes c.args.args.now) c.loop-item.arg_index c.loop-item.settings c.in-Some.item c.loop-item.invariant
-    (subst (λ args. IsNextItem c.args.tool c.loop-item.arg_index args (Some c.in-Some.item)) (map-slice_from string_bytes c.loop-item.arg_index c.args.args.now)
-    (subst (λ next. IsNextItem c.args.tool c.loop-item.arg_index (map string_bytes (take (length c.args.args.now - c.loop-item.arg_index) (drop c.loop-item.arg_index c.args.args.now))) next)
+    (read_next c.args.tool (map string_bytes c.args.args.now) c.loop-item.arg_index c.loop-item.settings c.in-Some.item
+    c.loop-item.invariant
+    (subst (λ args. IsNextItem c.args.tool c.loop-item.arg_index args (Some c.in-Some.item))
+    (map-slice_from string_bytes c.loop-item.arg_index c.args.args.now)
+    (subst (λ next. IsNextItem c.args.tool c.loop-item.arg_index
+    (map string_bytes (take (length c.args.args.now - c.loop-item.arg_index)
+    (drop c.loop-item.arg_index c.args.args.now))) next)
     c.in-Some.is c.in_ok-item.ensures.item)))
 
 -- there is no further option
-none_left : (c : goal.After-without_terminator) → option_items_from c.args.tool c.loop-item.arg_index (drop c.loop-item.arg_index (map string_bytes c.args.args.now)) ≡ []
+none_left : (c : goal.After-without_terminator) → option_items_from c.args.tool c.loop-item.arg_index
+    (drop c.loop-item.arg_index (map string_bytes c.args.args.now)) ≡ []
 none_left c =
     none_next c.args.tool (drop c.loop-item.arg_index (map string_bytes c.args.args.now)) c.loop-item.arg_index
-    (subst (λ args. IsNextItem c.args.tool c.loop-item.arg_index args None) (map-slice_from string_bytes c.loop-item.arg_index c.args.args.now)
-    (subst (λ next. IsNextItem c.args.tool c.loop-item.arg_index (map string_bytes (take (length c.args.args.now - c.loop-item.arg_index) (drop c.loop-item.arg_index c.args.args.now))) next)
+    (subst (λ args. IsNextItem c.args.tool c.loop-item.arg_index args None)
+    (map-slice_from string_bytes c.loop-item.arg_index c.args.args.now)
+    (subst (λ next. IsNextItem c.args.tool c.loop-item.arg_index
+    (map string_bytes (take (length c.args.args.now - c.loop-item.arg_index)
+    (drop c.loop-item.arg_index c.args.args.now))) next)
     c.in_default.is c.in_ok-item.ensures.item))
 
 pub returns-clause-settings : goal.returns-clause-settings
-returns-clause-settings c = read_all c.args.tool (map string_bytes c.args.args.now) c.loop-item.arg_index c.loop-item.settings c.loop-item.invariant (none_left c)
+returns-clause-settings c = read_all c.args.tool (map string_bytes c.args.args.now) c.loop-item.arg_index
+    c.loop-item.settings c.loop-item.invariant (none_left c)
 
 pub returns-clause-sound : goal.returns-clause-sound
-returns-clause-sound c = all_sound c.args.tool (map string_bytes c.args.args.now) c.loop-item.arg_index c.loop-item.settings c.loop-item.invariant (none_left c)
+returns-clause-sound c = all_sound c.args.tool (map string_bytes c.args.args.now) c.loop-item.arg_index
+    c.loop-item.settings c.loop-item.invariant (none_left c)
 
 pub returns-clause-rest : goal.returns-clause-rest
 returns-clause-rest c =
     c.without_terminator.ensures.rest ∙ ap without_terminator (map-slice_from string_bytes c.loop-item.arg_index c.args.args.now)
-    ∙ rest_here c.args.tool (map string_bytes c.args.args.now) c.loop-item.arg_index c.loop-item.settings c.loop-item.invariant (none_left c)
+    ∙ rest_here c.args.tool (map string_bytes c.args.args.now) c.loop-item.arg_index c.loop-item.settings
+    c.loop-item.invariant (none_left c)

@@ -8,10 +8,16 @@ use Rattle.cs_args.proofs.ReadOptionsLemmas.{parse_args-faulty, parse_args-sound
 use Rattle.cs_args.proofs.args.read_words.Goals as goal
 
 -- an error of the options is the error of the arguments
-faulty : (c : goal.After-from_residual) → GivesJob (parse_args c.args.tool c.args.cwd.now (map string_bytes c.args.args.now)) c.from_residual.result
+faulty : (c : goal.After-from_residual) →
+    GivesJob (parse_args c.args.tool c.args.cwd.now (map string_bytes c.args.args.now)) c.from_residual.result
 faulty c =
     let p = err_from_is_err_and c.from_residual.result c.from_residual.ensures.1 in
-    rw (parse_args-faulty c.args.tool c.args.cwd.now (map string_bytes c.args.args.now) c.in_err-options.field-0.0 c.in_err-options.ensures.fault, p.1, p.2) refl
+    rw (
+      parse_args-faulty c.args.tool c.args.cwd.now (map string_bytes c.args.args.now) c.in_err-options.field-0.0
+          c.in_err-options.ensures.fault,
+      p.1,
+      p.2,
+    ) refl
 
 -- otherwise it is the job
 sound : (c : goal.After-make_job) → GivesJob (parse_args c.args.tool c.args.cwd.now (map string_bytes c.args.args.now)) c.make_job.result
@@ -21,7 +27,8 @@ sound c =
     let args = map string_bytes c.args.args.now in
     subst (λ parsed. GivesJob parsed c.make_job.result) (sym (parse_args-sound tool cwd args c.in_ok-options.ensures.sound))
     (subst (λ rest. GivesJob (job_by tool cwd (length args) (option_items tool args) rest) c.make_job.result) c.in_ok-options.ensures.rest
-    (subst (λ all. GivesJob (job_by tool cwd all (option_items tool args) (map string_bytes c.in_ok-options.options.rest.now)) c.make_job.result)
+    (subst (λ all. GivesJob (job_by tool cwd all (option_items tool args)
+    (map string_bytes c.in_ok-options.options.rest.now)) c.make_job.result)
     (sym (length-map c.args.args.now string_bytes))
     (c.make_job.ensures (option_items tool args) c.in_ok-options.ensures.settings)))
 

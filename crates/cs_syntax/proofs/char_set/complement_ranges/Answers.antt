@@ -13,7 +13,8 @@ loop-range-preserved c =
           rw w.gaps-is (LeavesGaps-gap _ _ _ _ _ _ _ _ _ _ here.2 c.scalar_index-start.ensures w.if-next-start.true w.nth_scalar.ensures
           w.nth_scalar-then-next-start.ensures w.in_ok-push.ensures.items (ap (λ n. n + 1) c.scalar_index-next.ensures))
       | else-next-start w ↦
-          rw w.gaps-is (LeavesGaps-none _ _ _ _ _ _ _ here.2 c.scalar_index-start.ensures w.if-next-start.false (ap (λ n. n + 1) c.scalar_index-next.ensures))
+          rw w.gaps-is (LeavesGaps-none _ _ _ _ _ _ _ here.2 c.scalar_index-start.ensures w.if-next-start.false
+          (ap (λ n. n + 1) c.scalar_index-next.ensures))
     ]
 
 pub returns : goal.returns

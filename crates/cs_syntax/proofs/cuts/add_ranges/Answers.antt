@@ -12,4 +12,5 @@ overflow_add-range c =
 
 pub loop-range-preserved : goal.loop-range-preserved
 loop-range-preserved c =
-    range_pushed _ _ _ _ c.args.ranges.now c.loop-range.range-index c.loop-range-test.true c.loop-range.invariant c.in_ok-push.ensures.items c.in_ok-push-2.ensures.items
+    range_pushed _ _ _ _ c.args.ranges.now c.loop-range.range-index c.loop-range-test.true c.loop-range.invariant
+    c.in_ok-push.ensures.items c.in_ok-push-2.ensures.items

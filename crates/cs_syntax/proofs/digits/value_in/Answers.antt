@@ -11,7 +11,9 @@ loop-digit-preserved c =
     let ds = c.args.digits.now in
     let d = digit_value (get_or ds i 0) in
     let e : min c.saturating_add-value.result max_u32 ≡ min (c.args.base * c.loop-digit.value + d) max_u32 =
-    grown_once c.args.base c.loop-digit.value d max_u32 c.saturating_mul.result c.saturating_add-value.result c.saturating_mul.ensures (c.saturating_add-value.ensures ∙ ap (λ x. min (c.saturating_mul.result + x) max_u32) c.digit_value.ensures) in
+    grown_once c.args.base c.loop-digit.value d max_u32 c.saturating_mul.result c.saturating_add-value.result
+    c.saturating_mul.ensures (c.saturating_add-value.ensures ∙ ap (λ x. min (c.saturating_mul.result + x) max_u32)
+    c.digit_value.ensures) in
     record {
       value =
           value_after-capped c.args.base max_u32 _ _ (drop (i + 1) ds) e

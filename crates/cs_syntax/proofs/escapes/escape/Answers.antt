@@ -6,7 +6,8 @@ use Rattle.cs_syntax.specs.Escapes.{escape, char_token, escaped_tree, is_unsuppo
 use Rattle.cs_syntax.proofs.escapes.escape.Goals as goal
 
 -- an escape that is supported and has no tree of its own stands for one character
-is_char : (fold : Bool) (e : ℕ) (rest text : List ℕ) → text ≡ e ∷ rest → is_unsupported_escape e ≡ false → escaped_tree e ≡ None → char_token fold text ≡ escape fold text
+is_char : (fold : Bool) (e : ℕ) (rest text : List ℕ) → text ≡ e ∷ rest → is_unsupported_escape e ≡ false →
+    escaped_tree e ≡ None → char_token fold text ≡ escape fold text
 is_char fold e rest text s l t = rw (s, l, t) refl
 
 pub returns-in-None-clause-value : goal.returns-in-None-clause-value

@@ -6,4 +6,5 @@ use Rattle.cs_syntax.proofs.groups.group.Goals as goal
 
 pub returns-then-starts_with_byte-clause-value : goal.returns-then-starts_with_byte-clause-value
 returns-then-starts_with_byte-clause-value c lexeme =
-    when_true _ (sym c.starts_with_byte.ensures ∙ c.if-starts_with_byte.true) (c.head.ensures.value lexeme ∙ ap (head c.args.flags) (take_rest c.args.rest.now 1))
+    when_true _ (sym c.starts_with_byte.ensures ∙ c.if-starts_with_byte.true)
+    (c.head.ensures.value lexeme ∙ ap (head c.args.flags) (take_rest c.args.rest.now 1))

@@ -1,4 +1,4 @@
-use Rattle.cs_syntax.proofs.LevelLemmas.{has_levels, never_without, alone}
+use Rattle.cs_syntax.proofs.ParseLemmas.{has_levels, never_without, alone}
 use Rattle.cs_syntax.proofs.laws.each_open_group_has_a_level.Goals as goal
 
 pub returns : goal.returns

@@ -4,7 +4,7 @@ use Rattle.cs_syntax.specs.ParserState.{IsErrorOf}
 use Rattle.cs_syntax.specs.Parsing.{parse_result}
 use Rattle.cs_syntax.specs.ParseErrors.{IsParseError, syntax, too_large, memory}
 use Rattle.cs_syntax.specs.declared.fault.PatternError.{PatternError}
-use Rattle.cs_syntax.proofs.SyntaxErrorLemmas.{text_fault}
+use Rattle.cs_syntax.proofs.ParseLemmas.{text_fault}
 use Rattle.cs_syntax.proofs.parser.parse.Goals as goal
 
 refused_text : (text : List ℕ) (fold : Bool) (e : PatternError) → IsErrorOf (parse_result text fold) e → IsParseError text fold e
@@ -13,7 +13,8 @@ refused_text text fold e (inr b) = syntax (text_fault text fold e.fault e.at b) 
 
 pub returns-in_err-root-clause-rejected : goal.returns-in_err-root-clause-rejected
 returns-in_err-root-clause-rejected c =
-    let is : IsParseError c.args.text.now c.args.fold c.in_err-root.field-0.0 = refused_text c.args.text.now c.args.fold c.in_err-root.field-0.0 c.in_err-root.ensures.syntax in
+    let is : IsParseError c.args.text.now c.args.fold c.in_err-root.field-0.0 = refused_text c.args.text.now c.args.fold
+    c.in_err-root.field-0.0 c.in_err-root.ensures.syntax in
     search rules
 
 pub returns-in-None-clause-rejected : goal.returns-in-None-clause-rejected

@@ -19,7 +19,8 @@ returns-clause-reads c =
     let text = c.as_bytes-bytes.result.now in
     let e : parse_result text c.args.fold ≡ parse_at_end (state_of c.text.parser) =
     sym c.text.invariant.same ∙ parse_from_state-end (state_of c.text.parser) text c.text.offset c.text-test.false in
-    let f : parse_result c.args.text.now c.args.fold ≡ parse_at_end (state_of c.text.parser) = ap (λ (t : List ℕ). parse_result t c.args.fold) (sym c.as_bytes-bytes.ensures.value) ∙ e in
+    let f : parse_result c.args.text.now c.args.fold ≡ parse_at_end (state_of c.text.parser) =
+    ap (λ (t : List ℕ). parse_result t c.args.fold) (sym c.as_bytes-bytes.ensures.value) ∙ e in
     subst (λ (r : ParseResult). IfOk c.end.result (λ n. r ≡ tree (tree_of n))) (sym f) c.end.ensures.reads
 
 pub returns-clause-syntax : goal.returns-clause-syntax
@@ -27,5 +28,6 @@ returns-clause-syntax c =
     let text = c.as_bytes-bytes.result.now in
     let e : parse_result text c.args.fold ≡ parse_at_end (state_of c.text.parser) =
     sym c.text.invariant.same ∙ parse_from_state-end (state_of c.text.parser) text c.text.offset c.text-test.false in
-    let f : parse_result c.args.text.now c.args.fold ≡ parse_at_end (state_of c.text.parser) = ap (λ (t : List ℕ). parse_result t c.args.fold) (sym c.as_bytes-bytes.ensures.value) ∙ e in
+    let f : parse_result c.args.text.now c.args.fold ≡ parse_at_end (state_of c.text.parser) =
+    ap (λ (t : List ℕ). parse_result t c.args.fold) (sym c.as_bytes-bytes.ensures.value) ∙ e in
     subst (λ (r : ParseResult). IfErr c.end.result (IsErrorOf r)) (sym f) c.end.ensures.syntax

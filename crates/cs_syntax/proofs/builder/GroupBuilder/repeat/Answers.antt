@@ -17,7 +17,8 @@ returns c =
     let bs = trees_of c.args.self.now.branches.items in
     let f = λ (us : Trees). (let h : PartialGroup = record { branches = bs; atoms = us } in h) in
     let t = tree_of c.in-Some.atom in
-    let was : trees_of c.args.self.now.atoms.items ≡ with_last (trees_of before) t = ap trees_of c.in-Some.ensures.items ∙ trees_last before c.in-Some.atom in
+    let was : trees_of c.args.self.now.atoms.items ≡ with_last (trees_of before) t = ap trees_of c.in-Some.ensures.items
+    ∙ trees_last before c.in-Some.atom in
     let is =
     ap trees_of c.in_ok-push.ensures.items ∙ trees_last before _
     ∙ ap (with_last (trees_of before)) (tree_of-Rep _ _ _ ∙ ap (λ (x : Node). rep (tree_of x) n m) c.in_ok-new.ensures.ok) in

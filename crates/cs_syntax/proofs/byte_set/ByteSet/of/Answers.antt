@@ -9,7 +9,8 @@ loop-b-init g c = answers_begin _
 pub loop-b-preserved : goal.loop-b-preserved
 loop-b-preserved g c =
     elim c.if-test.branch [
-      | then-test w ↦ rw w.words-is (answered_yes _ c.loop-b.b c.loop-b.words (omega arith) c.loop-b.invariant (rw w.if-test.true at c.test.ensures))
+      | then-test w ↦ rw w.words-is (answered_yes _ c.loop-b.b c.loop-b.words (omega arith) c.loop-b.invariant
+          (rw w.if-test.true at c.test.ensures))
       | else-test w ↦ rw w.words-is (answered_no _ c.loop-b.b c.loop-b.words c.loop-b.invariant (rw w.if-test.false at c.test.ensures))
     ]
 

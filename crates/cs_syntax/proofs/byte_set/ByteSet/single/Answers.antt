@@ -8,7 +8,9 @@ use Rattle.cs_syntax.proofs.ByteSetWordLemmas.{ones_count, lowest_member}
 use Rattle.cs_syntax.proofs.byte_set.ByteSet.single.Goals as goal
 
 pub returns-then-not-has_one-clause-none : goal.returns-then-not-has_one-clause-none
-returns-then-not-has_one-clause-none c = λ b only. true≢false (sym (c.has_one.ensures ∙ eq-eqb _ 1 (only_counts c.args.self.now b only)) ∙ c.if-not-has_one.true)
+returns-then-not-has_one-clause-none c =
+    λ b only. true≢false (sym (c.has_one.ensures ∙ eq-eqb _ 1 (only_counts c.args.self.now b only))
+    ∙ c.if-not-has_one.true)
 
 pub returns-then-word-ne0-clause-some : goal.returns-then-word-ne0-clause-some
 returns-then-word-ne0-clause-some c =
@@ -24,4 +26,12 @@ returns-clause-none c = λ b only.
     let none = c.loop-k.invariant in
     let one : count c.args.self.now ≡ 1 = eqb-true _ 1 (sym c.has_one.ensures ∙ c.if-not-has_one.false) in
     let all = ones_count words c.self.invariant ∙ ap count c.self.view_is in
-    omega (arith, one, all, ap count_ones (none 0 (omega arith)), ap count_ones (none 1 (omega arith)), ap count_ones (none 2 (omega arith)), ap count_ones (none 3 (omega arith)))
+    omega (
+      arith,
+      one,
+      all,
+      ap count_ones (none 0 (omega arith)),
+      ap count_ones (none 1 (omega arith)),
+      ap count_ones (none 2 (omega arith)),
+      ap count_ones (none 3 (omega arith)),
+    )

@@ -9,4 +9,5 @@ returns c =
     let s = c.args.self.now in
     let t = c.args.other.now in
     c.of.ensures (λ b. member s b || member t b) (search rules)
-    ∙ union_of_bytes s t (ap length (sym c.self.view_is) ∙ length-set_of_bits c.self.inside.words) (ap length (sym c.other.view_is) ∙ length-set_of_bits c.other.inside.words)
+    ∙ union_of_bytes s t (ap length (sym c.self.view_is) ∙ length-set_of_bits c.self.inside.words)
+    (ap length (sym c.other.view_is) ∙ length-set_of_bits c.other.inside.words)

@@ -6,7 +6,8 @@ use Rattle.cs_syntax.proofs.char_set.CharSet.of_ranges.Goals as goal
 
 pub returns-then-negated : goal.returns-then-negated
 returns-then-negated c =
-    rw c.if-negated.true (others_of c.args.ranges.now _ c.complement.result c.in_ok-set.ensures.members c.complement.ensures.members c.complement.ensures.maximal)
+    rw c.if-negated.true (others_of c.args.ranges.now _ c.complement.result c.in_ok-set.ensures.members
+    c.complement.ensures.members c.complement.ensures.maximal)
 
 pub returns-else-negated : goal.returns-else-negated
 returns-else-negated c = λ test have.

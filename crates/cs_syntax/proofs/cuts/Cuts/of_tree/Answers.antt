@@ -10,10 +10,12 @@ pub invariant_of-result : goal.invariant_of-result
 invariant_of-result c =
     let tree = tree_of c.args.tree.now in
     let all = c.in_ok-add_tree.ensures ∙ ap (λ (xs : List ℕ). xs ++ range_cuts (char_ranges tree)) c.in_ok-cuts.ensures.items in
-    (divided tree _ (sorted_cuts tree _ _ _ all c.sort_unstable.ensures.permutation c.sort_unstable.ensures.sorted (dedup_is nat_eq _ _ c.dedup.ensures.filtered))).0
+    (divided tree _ (sorted_cuts tree _ _ _ all c.sort_unstable.ensures.permutation c.sort_unstable.ensures.sorted
+    (dedup_is nat_eq _ _ c.dedup.ensures.filtered))).0
 
 pub returns : goal.returns
 returns c =
     let tree = tree_of c.args.tree.now in
     let all = c.in_ok-add_tree.ensures ∙ ap (λ (xs : List ℕ). xs ++ range_cuts (char_ranges tree)) c.in_ok-cuts.ensures.items in
-    sorted_cuts tree _ _ _ all c.sort_unstable.ensures.permutation c.sort_unstable.ensures.sorted (dedup_is nat_eq _ _ c.dedup.ensures.filtered)
+    sorted_cuts tree _ _ _ all c.sort_unstable.ensures.permutation c.sort_unstable.ensures.sorted
+    (dedup_is nat_eq _ _ c.dedup.ensures.filtered)

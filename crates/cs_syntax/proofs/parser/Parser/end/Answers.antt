@@ -12,12 +12,14 @@ unfolding parse_at_end state_of
 returns-in-Some-clause-syntax c =
     let p = c.args.self in
     let was = ap reverse c.in-Some.ensures.items ∙ one_more_open c.pop.new.self.items c.in-Some.group in
-    inr (ap (λ (os : List frame_type.GroupFrame). whole_parse (map (λ w. w.so_far) (map pending_group os)) (partial_group p.builder) (at_end (map group_of (map pending_group os)))) was)
+    inr (ap (λ (os : List frame_type.GroupFrame). whole_parse (map (λ w. w.so_far) (map pending_group os))
+    (partial_group p.builder) (at_end (map group_of (map pending_group os)))) was)
 
 pub returns-clause-reads : goal.returns-clause-reads
 unfolding parse_at_end state_of
 returns-clause-reads c =
     let p = c.args.self in
     let none : p.open.items ≡ [] = nothing_open p.open.items (omega (arith, c.args.self.open.ok.0, c.in_default.ensures.cases.0)) in
-    ap (λ (os : List frame_type.GroupFrame). whole_parse (map (λ w. w.so_far) (map pending_group (reverse os))) (partial_group p.builder) (at_end (map group_of (map pending_group (reverse os))))) none
+    ap (λ (os : List frame_type.GroupFrame). whole_parse (map (λ w. w.so_far) (map pending_group (reverse os)))
+    (partial_group p.builder) (at_end (map group_of (map pending_group (reverse os))))) none
     ∙ whole_parse_end (partial_group p.builder) ∙ ap tree (sym c.in_ok-finish.ensures)

@@ -5,8 +5,8 @@ use Rattle.std.proofs.lemmas.Bool.{and_from, and_left, and_right, ne_eqb}
 use Rattle.cs_syntax.specs.Tokens.{starts_with_byte}
 use Rattle.cs_syntax.specs.Classes.{span, after_colon}
 use Rattle.cs_syntax.proofs.ConditionalLemmas.{when_true, when_false}
-use Rattle.cs_syntax.proofs.class_tokens.class_token.Goals.{else-byte-eq91-via-then-byte-eq91+else-starts_with_byte, else-byte-eq91-via-else-byte-eq91}
-use Rattle.cs_syntax.proofs.class_tokens.class_token.Goals as goal
+use Rattle.cs_syntax.proofs.classes.class_token.Goals.{else-byte-eq91-via-then-byte-eq91+else-starts_with_byte, else-byte-eq91-via-else-byte-eq91}
+use Rattle.cs_syntax.proofs.classes.class_token.Goals as goal
 
 pub returns-then-starts_with_byte-clause-value : goal.returns-then-starts_with_byte-clause-value
 returns-then-starts_with_byte-clause-value c =
@@ -18,7 +18,9 @@ returns-clause-value c =
     let rest = c.args.rest.now in
     let other : (nat_eq c.args.byte 91 && starts_with_byte 58 rest) ≡ false =
     elim c.else-byte-eq91.branch [
-      | else-byte-eq91-via-then-byte-eq91+else-starts_with_byte w ↦ and_right (nat_eq c.args.byte 91) _ (sym w.starts_with_byte.ensures ∙ w.if-starts_with_byte.false)
+      | else-byte-eq91-via-then-byte-eq91+else-starts_with_byte w ↦ and_right (nat_eq c.args.byte 91) _
+          (sym w.starts_with_byte.ensures ∙ w.if-starts_with_byte.false)
       | else-byte-eq91-via-else-byte-eq91 w ↦ and_left _ _ (ne_eqb _ 91 w.if-byte-eq91.false)
     ] in
-    when_false _ other (when_false _ (ne_eqb _ 92 c.if-byte-eq92.false) (c.span.ensures.value ∙ ap (λ low. span low rest) c.class_char.ensures.value))
+    when_false _ other (when_false _ (ne_eqb _ 92 c.if-byte-eq92.false)
+    (c.span.ensures.value ∙ ap (λ low. span low rest) c.class_char.ensures.value))

@@ -1,5 +1,5 @@
 use Rattle.std.proofs.Common.{rules}
-use Rattle.cs_syntax.proofs.class_chars.range_to.Goals as goal
+use Rattle.cs_syntax.proofs.classes.range_to.Goals as goal
 
 pub returns-then-high-low-clause-value : goal.returns-then-high-low-clause-value
 returns-then-high-low-clause-value c = search rules

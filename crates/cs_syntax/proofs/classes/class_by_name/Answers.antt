@@ -1,7 +1,7 @@
 use Rattle.std.proofs.Common.{refl}
 use Rattle.cs_syntax.specs.Classes.{class_by_name}
 use Rattle.cs_syntax.proofs.NamedClassLemmas.{picked-here, picked-later, picked-nowhere}
-use Rattle.cs_syntax.proofs.class_tokens.class_by_name.Goals as goal
+use Rattle.cs_syntax.proofs.classes.class_by_name.Goals as goal
 
 pub loop-word-init : goal.loop-word-init
 unfolding class_by_name

@@ -1,113 +1,64 @@
--- The exact strings of a character set are the UTF-8 encodings of its members.
-use Rattle.std.proofs.Common.{◌≡◌, ℕ, zero, suc, ◌+◌, ◌-◌, ◌<◌, ◌≤◌, ◌&&◌, ◌||◌, inl, inr, Bool, true, false, List, [], ◌∷◌, length, drop, get_or, refl, sym, ap, ap₂, subst, ◌∙◌, arith}
-use Rattle.std.specs.Prelude.{nat_le, if◌then◌else◌}
-use Rattle.std.specs.Char.{encode_utf8}
-use Rattle.std.proofs.lemmas.Bool.{cases_Bool, cases_lt, and_parts, or_right, true≢false, cond-true, cond-false}
-use Rattle.std.proofs.lemmas.Bool.Decides.{nat_tests}
-use Rattle.std.proofs.lemmas.List.{drop_more, drop_all}
+-- The exact strings of byte sets and of character sets.
+use Rattle.std.proofs.Common.{◌≡◌, ℕ, zero, suc, ◌+◌, ◌<◌, ◌≤◌, ◌⊎◌, ◌&&◌, inl, inr, Bool, false, List, [], ◌∷◌, ◌++◌, length, refl, sym, ◌∙◌, arith}
+use Rattle.std.specs.Prelude.{nat_le, encode_utf8}
+use Rattle.std.proofs.lemmas.Bool.{cases_lt, and_parts, and_from, or_cases, or_left, or_right, both_ways, leb-true, le-leb}
 use Rattle.cs_syntax.specs.Ranges.{is_in_ranges}
 use Rattle.cs_syntax.specs.Characters.{is_scalar}
-use Rattle.cs_syntax.specs.Matching.{one_char}
-use Rattle.cs_tree.specs.Cover.{is_among}
+use Rattle.cs_syntax.specs.Matching.{one_of, one_char, member}
+use Rattle.cs_syntax.proofs.CharRangeLemmas.{ranges_push}
 use Rattle.cs_trigram.specs.ExactStrings.{HasExactString}
-use Rattle.cs_trigram.specs.Analysis.{with_string, with_strings, IsEnumeration}
-use Rattle.cs_trigram.specs.CharStrings.{forms_from, range_forms, all_forms, with_form}
-use Rattle.cs_trigram.proofs.MemberLemmas.{member_append, member_left, member_right, no_member, first_member, later_member, member_cases}
-use Rattle.cs_trigram.proofs.EnumerationLemmas.{with_strings_append, with_strings_full, enumeration_same, enumeration_of}
+use Rattle.cs_trigram.proofs.EnumerationLemmas.{IsOfNumber}
 
--- one more number
-char_more : (strings : List (List ℕ)) (c n : ℕ) → with_strings strings (forms_from c (suc n)) ≡ with_strings (with_form strings c) (forms_from (c + 1) n)
-char_more strings c n = by (is_scalar c)
+-- the strings of the members of a byte set below n
+abbrev pub IsByteBelow : List Bool → ℕ → List ℕ → Type 0
+IsByteBelow set n = IsOfNumber (member set) (λ b. b ∷ []) 0 (λ w. ⊥) n
+
+pub byte_string : (set : List Bool) (n : ℕ) (w : List ℕ) → IsByteBelow set n w → HasExactString (one_of set) w
+byte_string set n w (inl never) = absurd never
+byte_string set n w (inr b) = (b.0, b.3, b.4)
+
+pub byte_below : (set : List Bool) (n : ℕ) (w : List ℕ) → length set ≤ n → HasExactString (one_of set) w → IsByteBelow set n w
+byte_below set n w le h = inr (h.0, omega arith, inside (cases_lt h.0 n), h.1, h.2)
   where
-    by : (b : Bool) → with_strings strings (if b then encode_utf8 c ∷ forms_from (c + 1) n else forms_from (c + 1) n)
-        ≡ with_strings (if b then with_string strings (encode_utf8 c) else strings) (forms_from (c + 1) n)
-    by true = refl
-    by false = refl
+    beyond : (set : List Bool) (b : ℕ) → length set ≤ b → member set b ≡ false
+    beyond [] b le = refl
+    beyond (x ∷ set) zero le = absurd (omega arith)
+    beyond (x ∷ set) (suc b) le = beyond set b (omega arith)
 
--- the invariant while the strings of a range are added
-pub run_more : (strings new : List (List ℕ)) (c end : ℕ) (whole : List (List ℕ)) → c < end → with_strings strings (forms_from c (end - c)) ≡ whole →
-    new ≡ with_form strings c → with_strings new (forms_from (c + 1) (end - (c + 1))) ≡ whole
-run_more strings new c end whole lt h is =
-    let one : end - c ≡ suc (end - (c + 1)) = omega arith in
-    ap (λ ws. with_strings ws (forms_from (c + 1) (end - (c + 1)))) is
-    ∙ sym (char_more strings c (end - (c + 1)))
-    ∙ ap (λ n. with_strings strings (forms_from c n)) (sym one) ∙ h
+    inside : (h.0 < n) ⊎ (n ≤ h.0) → h.0 < n
+    inside (inl lt) = lt
+    inside (inr ge) = absurd (both_ways (member set h.0) (beyond set h.0 (omega arith)) h.1)
 
-pub run_full : (strings : List (List ℕ)) (c end : ℕ) (whole : List (List ℕ)) → 20 < length strings → with_strings strings (forms_from c (end - c)) ≡ whole → strings ≡ whole
-run_full strings c end whole many h = sym (with_strings_full strings (forms_from c (end - c)) many) ∙ h
+-- the strings of some ranges, and of the characters of another one below n
+abbrev pub IsCharBelow : List (ℕ × ℕ) → ℕ × ℕ → ℕ → List ℕ → Type 0
+IsCharBelow ranges range n = IsOfNumber is_scalar encode_utf8 range.0 (HasExactString (one_char ranges)) n
 
-pub runs_more : (ranges : List (ℕ × ℕ)) (i : ℕ) (strings new whole : List (List ℕ)) → i < length ranges → with_strings strings (all_forms (drop i ranges)) ≡ whole →
-    new ≡ with_strings strings (range_forms (get_or ranges i (0, 0))) → with_strings new (all_forms (drop (i + 1) ranges)) ≡ whole
-runs_more ranges i strings new whole inside h is =
-    ap (λ ws. with_strings ws (all_forms (drop (i + 1) ranges))) is
-    ∙ sym (with_strings_append strings (range_forms (get_or ranges i (0, 0))) (all_forms (drop (i + 1) ranges)))
-    ∙ ap (λ rest. with_strings strings (all_forms rest)) (sym (drop_more ranges i (0, 0) inside)) ∙ h
+module _ (ranges : List (ℕ × ℕ)) (range : ℕ × ℕ) where
+  pub char_string : (n : ℕ) (w : List ℕ) → n ≤ range.1 + 1 → IsCharBelow ranges range n w →
+      HasExactString (one_char (ranges ++ range ∷ [])) w
+  char_string n w le (inl h) =
+      let both = and_parts (is_scalar h.0) (is_in_ranges ranges h.0) h.1 in (
+        h.0,
+        and_from (is_scalar h.0) (is_in_ranges (ranges ++ range ∷ []) h.0) both.0
+            (ranges_push ranges range h.0 ∙ or_left (is_in_ranges ranges h.0) _ both.1),
+        h.2,
+      )
+  char_string n w le (inr c) =
+      let here = and_from (nat_le range.0 c.0) (nat_le c.0 range.1) (le-leb range.0 c.0 c.1) (le-leb c.0 range.1 (omega (arith, c.2))) in (
+        c.0,
+        and_from (is_scalar c.0) (is_in_ranges (ranges ++ range ∷ []) c.0) c.3
+            (ranges_push ranges range c.0 ∙ or_right (is_in_ranges ranges c.0) _ here),
+        c.4,
+      )
 
-pub runs_end : (ranges : List (ℕ × ℕ)) (i : ℕ) (strings whole : List (List ℕ)) → length ranges ≤ i → with_strings strings (all_forms (drop i ranges)) ≡ whole → strings ≡ whole
-runs_end ranges i strings whole past h = sym (ap (λ rest. with_strings strings (all_forms rest)) (drop_all i ranges past)) ∙ h
-
--- ---- the encodings are the exact strings
-
-form_of : (w : List ℕ) (c n : ℕ) → is_among (forms_from c n) w ≡ true → (d : ℕ) × (is_scalar d ≡ true) × (c ≤ d) × (d < c + n) × (w ≡ encode_utf8 d)
-form_of w c zero m = absurd (no_member w m)
-form_of w c (suc n) m =
-    elim (cases_Bool (is_scalar c)) [
-      | inl here_too ↦
-          let here : is_among (encode_utf8 c ∷ forms_from (c + 1) n) w ≡ true = subst (λ (ws : List (List ℕ)). is_among ws w ≡ true) (cond-true (is_scalar c) _ _ here_too) m in
-          elim (member_cases w (encode_utf8 c) (forms_from (c + 1) n) here) [
-            | inl e ↦ (c, here_too, omega arith, omega arith, e)
-            | inr later ↦ let f = form_of w (c + 1) n later in (f.0, f.1, omega (arith, f.2), omega (arith, f.3), f.4)
-          ]
-      | inr out ↦
-          let f = form_of w (c + 1) n (subst (λ (ws : List (List ℕ)). is_among ws w ≡ true) (cond-false (is_scalar c) _ _ out) m) in
-          (f.0, f.1, omega (arith, f.2), omega (arith, f.3), f.4)
-    ]
-
-form_in : (c n d : ℕ) → is_scalar d ≡ true → c ≤ d → d < c + n → is_among (forms_from c n) (encode_utf8 d) ≡ true
-form_in c zero d scalar from to = absurd (omega arith)
-form_in c (suc n) d scalar from to =
-    let P : List (List ℕ) → Type 0 = λ ws. is_among ws (encode_utf8 d) ≡ true in
-    elim (cases_lt c d) [
-      | inl lt ↦
-          let later = form_in (c + 1) n d scalar (omega arith) (omega arith) in
-          elim (cases_Bool (is_scalar c)) [
-            | inl here_too ↦ subst P (sym (cond-true (is_scalar c) _ _ here_too)) (later_member (encode_utf8 d) (encode_utf8 c) (forms_from (c + 1) n) later)
-            | inr out ↦ subst P (sym (cond-false (is_scalar c) _ _ out)) later
-          ]
-      | inr le ↦
-          let same : d ≡ c = omega arith in
-          subst P (sym (cond-true (is_scalar c) _ _ (ap is_scalar (sym same) ∙ scalar))) (first_member (encode_utf8 d) (encode_utf8 c) (forms_from (c + 1) n) (ap encode_utf8 same))
-    ]
-
-all_of : (w : List ℕ) (ranges : List (ℕ × ℕ)) → is_among (all_forms ranges) w ≡ true → HasExactString (one_char ranges) w
-all_of w [] m = absurd (no_member w m)
-all_of w (range ∷ ranges) m =
-    elim (member_append w (range_forms range) (all_forms ranges) m) [
-      | inl here ↦
-          let f = form_of w range.0 (range.1 + 1 - range.0) here in
-          let inside : (nat_le range.0 f.0 && nat_le f.0 range.1) ≡ true = grind (arith, nat_tests, f.2, f.3) in
-          (f.0, ap₂ (λ (s b : Bool). s && (b || is_in_ranges ranges f.0)) f.1 inside, f.4)
-      | inr later ↦
-          let h = all_of w ranges later in
-          let both = and_parts (is_scalar h.0) (is_in_ranges ranges h.0) h.1 in
-          (h.0, ap₂ ◌&&◌ both.0 (or_right (nat_le range.0 h.0 && nat_le h.0 range.1) (is_in_ranges ranges h.0) both.1), h.2)
-    ]
-
-all_in : (c : ℕ) (ranges : List (ℕ × ℕ)) → is_scalar c ≡ true → is_in_ranges ranges c ≡ true → is_among (all_forms ranges) (encode_utf8 c) ≡ true
-all_in c [] scalar e = absurd (true≢false (sym e))
-all_in c (range ∷ ranges) scalar e =
-    elim (cases_Bool (nat_le range.0 c && nat_le c range.1)) [
-      | inl here ↦
-          let from : range.0 ≤ c = grind (arith, nat_tests) in
-          let to : c ≤ range.1 = grind (arith, nat_tests) in
-          member_left (encode_utf8 c) (range_forms range) (all_forms ranges) (form_in range.0 (range.1 + 1 - range.0) c scalar from (omega arith))
-      | inr out ↦ member_right (encode_utf8 c) (range_forms range) (all_forms ranges) (all_in c ranges scalar (sym (ap (λ b. b || is_in_ranges ranges c) out) ∙ e))
-    ]
-
-pub chars_enumeration : (ranges : List (ℕ × ℕ)) → IsEnumeration (with_strings [] (all_forms ranges)) (HasExactString (one_char ranges))
-chars_enumeration ranges =
-    enumeration_same (with_strings [] (all_forms ranges)) (λ w. is_among (all_forms ranges) w ≡ true) (HasExactString (one_char ranges)) (enumeration_of (all_forms ranges))
-    (λ w m. all_of w ranges m)
-    (λ w h. let both = and_parts (is_scalar h.0) (is_in_ranges ranges h.0) h.1 in
-    let P : List ℕ → Type 0 = λ x. is_among (all_forms ranges) x ≡ true in
-    subst P (sym h.2) (all_in h.0 ranges both.0 both.1))
+  pub char_below : (w : List ℕ) → HasExactString (one_char (ranges ++ range ∷ [])) w → IsCharBelow ranges range (range.1 + 1) w
+  char_below w h =
+      let both = and_parts (is_scalar h.0) (is_in_ranges (ranges ++ range ∷ []) h.0) h.1 in
+      elim (or_cases (is_in_ranges ranges h.0) (nat_le range.0 h.0 && nat_le h.0 range.1) (sym (ranges_push ranges range h.0) ∙ both.1)) [
+        | inl old ↦ inl (h.0, and_from (is_scalar h.0) (is_in_ranges ranges h.0) both.0 old, h.2)
+        | inr new ↦
+            let ends = and_parts (nat_le range.0 h.0) (nat_le h.0 range.1) new in
+            let low = leb-true range.0 h.0 ends.0 in
+            let high = leb-true h.0 range.1 ends.1 in
+            inr (h.0, low, omega (arith, high), both.0, h.2)
+      ]

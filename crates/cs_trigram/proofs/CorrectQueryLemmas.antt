@@ -21,7 +21,11 @@ use Rattle.cs_trigram.proofs.MayMatchLemmas.{branches_have_members, exact_may_ma
 
 -- a tree that requires nothing
 pub correct_all : (t : Tree) → ((set : ℕ → Bool) → HasExactRuns set t) → IsCorrect All t
-correct_all t has_runs = record { matching = λ s set i j h has. matches_set-All set; selective = λ set h. has_runs set; mentioned = all_mentions_none (HasMembers t) (MayMatch t) }
+correct_all t has_runs = record {
+  matching = λ s set i j h has. matches_set-All set;
+  selective = λ set h. has_runs set;
+  mentioned = all_mentions_none (HasMembers t) (MayMatch t);
+}
 
 -- `All` is a match query of a tree without runs within it, such as a leaf
 pub leaf_match_query : (t : Tree) → ((set : ℕ → Bool) → HasRunsWithin set t) → IsMatchQuery All t
@@ -42,35 +46,41 @@ correct_repeated q x (suc n) m some r many = record {
   matching = λ s set i j h has. first s set h.0 i j h.1 h.3 has;
   selective = λ set h. (λ few. absurd (many few), r.selective set h);
   mentioned =
-      trigrams_within (mentions q) (HasMembers x) (HasMembers x) (MayMatch x) (MayMatch (rep x (suc n) m)) r.mentioned (λ h. h) (λ h w is. iteration_within x (suc n) m w is);
+      trigrams_within (mentions q) (HasMembers x) (HasMembers x) (MayMatch x) (MayMatch (rep x (suc n) m)) r.mentioned
+      (λ h. h) (λ h w is. iteration_within x (suc n) m w is);
 }
   where
-    first : (s : List ℕ) (set : ℕ → Bool) (k i j : ℕ) → suc n ≤ k → Chain (MatchesSpan s x) k i j → HasTrigrams set s → matches_set q set ≡ true
+    first : (s : List ℕ) (set : ℕ → Bool) (k i j : ℕ) → suc n ≤ k → Chain (MatchesSpan s x) k i j → HasTrigrams set s →
+        matches_set q set ≡ true
     first s set zero i j le c has = absurd (omega arith)
     first s set (suc k) i j le c has = r.matching s set i c.0 c.1 has
 
 -- a tree with few exact strings
-pub correct_strings : (q : Query) (ws : List (List ℕ)) (t : Tree) → AreExactStrings ws t → ((set : ℕ → Bool) → matches_set q set ≡ has_any set ws) → MentionsOnly q (λ w. is_among ws w ≡ true) → IsCorrect q t
+pub correct_strings : (q : Query) (ws : List (List ℕ)) (t : Tree) → AreExactStrings ws t →
+    ((set : ℕ → Bool) → matches_set q set ≡ has_any set ws) → MentionsOnly q (λ w. is_among ws w ≡ true) → IsCorrect q t
 correct_strings q ws t strings required only = record {
   matching = λ s set i j h has.
-      let r = match_is_exact s t i j strings.0 h in
-      required set ∙ found_any_run set ws (slice_range s i j) ((strings.1.each (slice_range s i j)).0 r.1) (has_part set (j - i) i s has);
+      let r = match_is_exact s t i j strings.are.0 h in
+      required set ∙ found_any_run set ws (slice_range s i j) (strings.are.1.whole strings.few (slice_range s i j) r.1)
+      (has_part set (j - i) i s has);
   selective = λ set h.
       let w = any_run_found set ws (sym (required set) ∙ h) in
-      exact_match_has_runs set t w.0 ((strings.1.each w.0).1 w.1) w.2;
+      exact_match_has_runs set t w.0 (strings.are.1.right w.0 w.1) w.2;
   mentioned =
       trigrams_within (mentions q) (Unit {0}) (HasMembers t) (λ w. is_among ws w ≡ true) (MayMatch t) only (λ h. tt)
-      (λ h w m. (w, exact_may_match t w ((strings.1.each w).1 m), occurs_itself w w refl));
+      (λ h w m. (w, exact_may_match t w (strings.are.1.right w m), occurs_itself w w refl));
 }
 
 -- the query of a tree with few exact strings requires one of them
-pub string_required : (q : Query) (ws : List (List ℕ)) (t : Tree) → AreExactStrings ws t → ((set : ℕ → Bool) → matches_set q set ≡ has_any set ws) → RequiresExactString q t
+pub string_required : (q : Query) (ws : List (List ℕ)) (t : Tree) → AreExactStrings ws t →
+    ((set : ℕ → Bool) → matches_set q set ≡ has_any set ws) → RequiresExactString q t
 string_required q ws t strings required set = (
-  λ h. let w = any_run_found set ws (sym (required set) ∙ h) in (w.0, concatenates_one t w.0 ((strings.1.each w.0).1 w.1), w.2),
-  λ w. required set ∙ found_any_run set ws w.0 ((strings.1.each w.0).0 (exact_of_one t w.0 w.1)) w.2,
+  λ h. let w = any_run_found set ws (sym (required set) ∙ h) in (w.0, concatenates_one t w.0 (strings.are.1.right w.0 w.1), w.2),
+  λ w. required set ∙ found_any_run set ws w.0 (strings.are.1.whole strings.few w.0 (exact_of_one t w.0 w.1)) w.2,
 )
 
-pub right_more : (queries : List Query) (q : Query) (t : Tree) (ts : Trees) → IsCorrect q t → AreCorrect queries ts → AreCorrect (queries ++ q ∷ []) (more t ts)
+pub right_more : (queries : List Query) (q : Query) (t : Tree) (ts : Trees) → IsCorrect q t → AreCorrect queries ts →
+    AreCorrect (queries ++ q ∷ []) (more t ts)
 right_more queries q t ts match_query others = record {
   matching = λ s set i j h has.
       some_matches_push set queries q
@@ -87,8 +97,10 @@ right_more queries q t ts match_query others = record {
       let A = HaveMembers (more t ts) in
       let P = MayMatchBranch (more t ts) in
       trigrams_of_both (some_mentions queries) (mentions q) (some_mentions (queries ++ q ∷ [])) A P (λ g. mentions_push g queries q)
-      (trigrams_within (some_mentions queries) (HaveMembers ts) A (MayMatchBranch ts) P others.mentioned (λ h. h.1) (λ h w m. (w, inr m, occurs_itself w w refl)))
-      (trigrams_within (mentions q) (HasMembers t) A (MayMatch t) P match_query.mentioned (λ h. h.0) (λ h w m. (w, inl m, occurs_itself w w refl)));
+      (trigrams_within (some_mentions queries) (HaveMembers ts) A (MayMatchBranch ts) P others.mentioned (λ h. h.1)
+      (λ h w m. (w, inr m, occurs_itself w w refl)))
+      (trigrams_within (mentions q) (HasMembers t) A (MayMatch t) P match_query.mentioned (λ h. h.0)
+      (λ h w m. (w, inl m, occurs_itself w w refl)));
 }
 
 pub correct_alternation : (members : Vec Query Global) (ts : Trees) → AreCorrect members.items ts → IsMatchQuery (Or members) (alt ts)

@@ -1,51 +1,90 @@
 -- Trigrams across two adjacent texts.
-use Rattle.std.proofs.Common.{◌≡◌, ℕ, ◌-◌, Bool, true, List, [], ◌∷◌, ◌++◌, map, refl, inl, inr, sym, ◌∙◌, ap, subst, append_assoc}
-use Rattle.std.proofs.lemmas.Bool.{or_left, or_right}
-use Rattle.cs_syntax.specs.Matching.{Tree, Trees, more, MatchesSpan, MatchesSequence}
-use Rattle.cs_trigram.specs.Query.{mentions, HasTrigrams}
+use Rattle.std.proofs.Common.{◌≡◌, ℕ, ◌-◌, Bool, true, List, [], ◌∷◌, ◌++◌, map, reverse, refl, inl, inr, sym, ◌∙◌, ap, subst, append_assoc}
+use Rattle.std.proofs.lemmas.List.{reverse-append, reverse-reverse}
+use Rattle.cs_syntax.specs.Matching.{Tree, Trees, cat, more, MatchesSequence}
+use Rattle.cs_trigram.specs.Query.{matches_set, mentions, HasTrigrams}
 use Rattle.cs_tree.specs.Cover.{is_among}
-use Rattle.cs_trigram.specs.Analysis.{MentionsOnly, has_trigrams, has_any}
-use Rattle.cs_trigram.specs.SequenceQuery.{IsAcross, pairs}
+use Rattle.cs_trigram.specs.Analysis.{has_any}
+use Rattle.cs_trigram.specs.SequenceQuery.{IsAcross, IsCrossQuery, pairs}
 use Rattle.std.specs.Prelude.{Contains, slice_range}
-use Rattle.std.proofs.lemmas.List.Elements.{Contains-append_left, Contains-append_right, Contains-push}
-use Rattle.std.proofs.lemmas.List.Folds.{list_any-append}
-use Rattle.cs_trigram.specs.EndStrings.{HasEndString, HasSomeEndString, AreCoarser}
+use Rattle.std.proofs.lemmas.List.Elements.{Contains-append_right}
+use Rattle.cs_trigram.specs.EndStrings.{forward, backward, IsTruncation, whole_text, HasEndString, HasSomeEndString, AreCoarser, AreEndStrings}
 use Rattle.cs_trigram.proofs.MayMatchLemmas.{OccursIn}
-use Rattle.cs_trigram.specs.declared.end_strings.Side.{Side}
-use Rattle.cs_trigram.specs.declared.end_strings.Side.TheVariants.{Prefix, Suffix}
 use Rattle.cs_trigram.specs.declared.end_strings.EndString.{EndString}
 use Rattle.cs_trigram.specs.declared.queries.Query.{Query}
-use Rattle.cs_trigram.proofs.MemberLemmas.{no_member, member_append, member_cases}
+use Rattle.cs_trigram.proofs.MemberLemmas.{no_member, first_member, later_member, member_append, member_left, member_right, member_cases}
 use Rattle.cs_trigram.proofs.MentionLemmas.{trigrams_within}
 use Rattle.cs_trigram.proofs.SubstringTrigramLemmas.{has_part, has_prefix, has_suffix}
 use Rattle.cs_trigram.proofs.ExactStringLemmas.{part_split}
-use Rattle.cs_trigram.proofs.EndStringLemmas.{HaveEndStrings, fits_whole, rises, rises_all}
+use Rattle.cs_trigram.proofs.EndStringLemmas.{rises, rises_all}
+use Rattle.cs_trigram.proofs.TruncationLemmas.{none_contained, first_contained, contained_cases, coarser_has}
+use Rattle.cs_trigram.proofs.SequenceQueryLemmas.{found_any_run}
 
 -- a suffix followed by a prefix occurs in the concatenation
-pub occurs_across : (suffix prefix : EndString) (string u v : List ℕ) → string ≡ suffix.string ++ prefix.string → HasEndString Suffix suffix u → HasEndString Prefix prefix v → OccursIn string (u ++ v)
-occurs_across suffix prefix string u v is a b = (
-  a.0,
-  b.0,
-  ap (λ (x : List ℕ). x ++ v) a.1 ∙ ap (λ (x : List ℕ). (a.0 ++ suffix.string) ++ x) b.1 ∙ append_assoc a.0 suffix.string (prefix.string ++ b.0)
-      ∙ ap (λ (x : List ℕ). a.0 ++ x) (sym (append_assoc suffix.string prefix.string b.0)) ∙ ap (λ (x : List ℕ). a.0 ++ (x ++ b.0)) (sym is),
-)
-
-itself : (side : Side) (e : EndString) → HasEndString side e e.string
-itself side e = fits_whole side e e.string refl
+pub occurs_across : (suffix prefix : EndString) (string u v : List ℕ) → string ≡ reverse suffix.string
+    ++ prefix.string → HasEndString suffix (reverse u) → HasEndString prefix v → OccursIn string (u ++ v)
+occurs_across suffix prefix string u v is a b =
+    let before = reverse a.0 in
+    let last = reverse suffix.string in
+    let first : u ≡ before ++ last = sym (reverse-reverse u) ∙ ap reverse a.1 ∙ reverse-append suffix.string a.0 in (
+      before,
+      b.0,
+      ap (λ (x : List ℕ). x ++ v) first ∙ ap (λ (x : List ℕ). (before ++ last) ++ x) b.1 ∙ append_assoc before last (prefix.string ++ b.0)
+          ∙ ap (λ (x : List ℕ). before ++ x) (sym (append_assoc last prefix.string b.0))
+          ∙ ap (λ (x : List ℕ). before ++ (x ++ b.0)) (sym is),
+    )
 
 -- truncated suffixes and prefixes
-pub mentions_coarser : (q : Query) (short_suffixes short_prefixes suffixes prefixes : List EndString) → AreCoarser Suffix short_suffixes suffixes → AreCoarser Prefix short_prefixes prefixes →
-    MentionsOnly q (IsAcross short_suffixes short_prefixes) → MentionsOnly q (IsAcross suffixes prefixes)
-mentions_coarser q short_suffixes short_prefixes suffixes prefixes last first only =
-    trigrams_within (mentions q) (Unit {0}) (Unit {0}) (IsAcross short_suffixes short_prefixes) (IsAcross suffixes prefixes) only (λ b. b)
-    (λ b text across.
-    let suffix = last.each across.0 across.2 in
-    let prefix = first.each across.1 across.3 in
-    let whole = suffix.0.string ++ prefix.0.string in (
-      whole,
-      (suffix.0, prefix.0, suffix.1, prefix.1, refl),
-      occurs_across across.0 across.1 text suffix.0.string prefix.0.string across.4 (suffix.2 suffix.0.string (itself Suffix suffix.0)) (prefix.2 prefix.0.string (itself Prefix prefix.0)),
-    ))
+pub coarser_query : (q : Query) (short_suffixes short_prefixes suffixes prefixes : List EndString) →
+    AreCoarser short_suffixes suffixes → AreCoarser short_prefixes prefixes →
+    IsCrossQuery q short_suffixes short_prefixes → IsCrossQuery q suffixes prefixes
+coarser_query q short_suffixes short_prefixes suffixes prefixes last first is = record {
+  required = λ set u v a b.
+      is.required set u v (coarser_has short_suffixes suffixes last (whole_text (reverse u)) a)
+      (coarser_has short_prefixes prefixes first (whole_text v) b);
+  mentioned =
+      trigrams_within (mentions q) (Unit {0}) (Unit {0}) (IsAcross short_suffixes short_prefixes)
+      (IsAcross suffixes prefixes) is.mentioned (λ b. b)
+      (λ b text across.
+      let suffix = last.each across.0 across.2 in
+      let prefix = first.each across.1 across.3 in
+      let before = reverse suffix.0.string in (
+        before ++ prefix.0.string,
+        (suffix.0, prefix.0, suffix.1, prefix.1, refl),
+        occurs_across across.0 across.1 text before prefix.0.string across.4
+            (subst (HasEndString across.0) (sym (reverse-reverse suffix.0.string)) (as_text across.0 suffix.0 suffix.2))
+            (as_text across.1 prefix.0 prefix.2),
+      ));
+}
+  where
+    as_text : (x y : EndString) → IsTruncation x y → HasEndString x y.string
+    as_text x y t = (t.0, t.1, λ whole. ((t.2 whole).0, refl))
+
+module _ (prefixes : List EndString) where
+  -- each suffix followed by a prefix is a pair
+  pair_member : (suffixes : List EndString) (suffix prefix : EndString) → Contains suffixes suffix →
+      Contains prefixes prefix → is_among (pairs suffixes prefixes) (reverse suffix.string ++ prefix.string) ≡ true
+  pair_member [] suffix prefix a b = absurd (none_contained suffix a)
+  pair_member (e ∷ suffixes) suffix prefix a b =
+      let w = reverse suffix.string ++ prefix.string in
+      elim (contained_cases e suffixes suffix a) [
+        | inl same ↦
+            member_left w (map (λ (p : EndString). reverse e.string ++ p.string) prefixes) (pairs suffixes prefixes)
+            (subst (λ (z : EndString). is_among (map (λ (p : EndString). reverse z.string ++ p.string) prefixes) w
+            ≡ true) (sym same) (with_prefix suffix prefixes prefix b))
+        | inr later ↦ member_right w (map (λ (p : EndString). reverse e.string ++ p.string) prefixes)
+            (pairs suffixes prefixes) (pair_member suffixes suffix prefix later b)
+      ]
+    where
+      with_prefix : (e : EndString) (ps : List EndString) (prefix : EndString) → Contains ps prefix →
+          is_among (map (λ (p : EndString). reverse e.string ++ p.string) ps) (reverse e.string ++ prefix.string) ≡ true
+      with_prefix e [] prefix m = absurd (none_contained prefix m)
+      with_prefix e (p ∷ ps) prefix m =
+          let f : EndString → List ℕ = λ p. reverse e.string ++ p.string in
+          elim (contained_cases p ps prefix m) [
+            | inl same ↦ first_member (f prefix) (f p) (map f ps) (ap f (sym same))
+            | inr later ↦ later_member (f prefix) (f p) (map f ps) (with_prefix e ps prefix later)
+          ]
 
 module _ (set : ℕ → Bool) where
   occurrence : (string text : List ℕ) → OccursIn string text → HasTrigrams set text → HasTrigrams set string
@@ -53,45 +92,38 @@ module _ (set : ℕ → Bool) where
       has_prefix set string is_after.1 (has_suffix set is_after.0 (string ++ is_after.1) (subst (HasTrigrams set) is_after.2 has))
 
   -- the trigrams of a suffix followed by a prefix
-  pub pair_found : (suffixes prefixes : List EndString) (u v : List ℕ) → HasSomeEndString Suffix suffixes u → HasSomeEndString Prefix prefixes v → HasTrigrams set (u ++ v) → has_any set (pairs suffixes prefixes) ≡ true
-  pair_found [] prefixes u v a b has = absurd a
-  pair_found (suffix ∷ suffixes) prefixes u v a b has =
-      list_any-append (has_trigrams set) (map (λ (prefix : EndString). suffix.string ++ prefix.string) prefixes) (pairs suffixes prefixes)
-      ∙ elim a [
-        | inl x ↦ or_left (has_any set (map (λ (prefix : EndString). suffix.string ++ prefix.string) prefixes)) (has_any set (pairs suffixes prefixes)) (with_prefix prefixes x b)
-        | inr y ↦ or_right (has_any set (map (λ (prefix : EndString). suffix.string ++ prefix.string) prefixes)) (has_any set (pairs suffixes prefixes)) (pair_found suffixes prefixes u v y b has)
-      ]
-    where
-      with_prefix : (ps : List EndString) → HasEndString Suffix suffix u → HasSomeEndString Prefix ps v → has_any set (map (λ (prefix : EndString). suffix.string ++ prefix.string) ps) ≡ true
-      with_prefix [] x b = absurd b
-      with_prefix (p ∷ ps) x b =
-          elim b [
-            | inl y ↦ or_left (has_trigrams set (suffix.string ++ p.string)) (has_any set (map (λ (prefix : EndString). suffix.string ++ prefix.string) ps)) (occurrence (suffix.string ++ p.string) (u ++ v) (occurs_across suffix p (suffix.string ++ p.string) u v refl x y) has)
-            | inr z ↦ or_right (has_trigrams set (suffix.string ++ p.string)) (has_any set (map (λ (prefix : EndString). suffix.string ++ prefix.string) ps)) (with_prefix ps x z)
-          ]
+  pub pair_found : (suffixes prefixes : List EndString) (u v : List ℕ) → HasSomeEndString suffixes (reverse u) →
+      HasSomeEndString prefixes v → HasTrigrams set (u ++ v) → has_any set (pairs suffixes prefixes) ≡ true
+  pair_found suffixes prefixes u v a b has =
+      let string = reverse a.0.string ++ b.0.string in
+      found_any_run set (pairs suffixes prefixes) string (pair_member prefixes suffixes a.0 b.0 a.1 b.1)
+      (occurrence string (u ++ v) (occurs_across a.0 b.0 string u v refl a.2 b.2) has)
 
   -- a query for the trigrams across a part and the parts after it matches each line in which they match
-  pub cross_query_matches : (query : (ℕ → Bool) → Bool) (suffixes prefixes : List EndString) (t : Tree) (ts : Trees) →
-      ((u v : List ℕ) → HasSomeEndString Suffix suffixes u → HasSomeEndString Prefix prefixes v → HasTrigrams set (u ++ v) → query set ≡ true) →
-      HaveEndStrings Suffix suffixes (λ s. MatchesSpan s t) → HaveEndStrings Prefix prefixes (λ s. MatchesSequence s ts) →
-      (s : List ℕ) (i j : ℕ) → MatchesSequence s (more t ts) i j → HasTrigrams set s → query set ≡ true
-  cross_query_matches query suffixes prefixes t ts required a b s i j h has =
-      required (slice_range s i h.0) (slice_range s h.0 j) (a s i h.0 h.1) (b s h.0 j h.2)
+  pub cross_query_matches : (q : Query) (suffixes prefixes : List EndString) (t : Tree) (ts : Trees) → IsCrossQuery q suffixes prefixes →
+      AreEndStrings backward suffixes t → AreEndStrings forward prefixes (cat ts) →
+      (s : List ℕ) (i j : ℕ) → MatchesSequence s (more t ts) i j → HasTrigrams set s → matches_set q set ≡ true
+  cross_query_matches q suffixes prefixes t ts is a b s i j h has =
+      is.required set (slice_range s i h.0) (slice_range s h.0 j) (a.matching s i h.0 h.1) (b.matching s h.0 j h.2)
       (subst (HasTrigrams set) (part_split s i h.0 j (rises s t i h.0 h.1) (rises_all s ts h.0 j h.2)) (has_part set (j - i) i s has))
 
 -- each pair is a suffix followed by a prefix
-pub pairs_across : (suffixes prefixes : List EndString) (w : List ℕ) → is_among (pairs suffixes prefixes) w ≡ true → IsAcross suffixes prefixes w
+pub pairs_across : (suffixes prefixes : List EndString) (w : List ℕ) → is_among (pairs suffixes prefixes) w ≡ true →
+    IsAcross suffixes prefixes w
 pairs_across [] prefixes w m = absurd (no_member w m)
 pairs_across (suffix ∷ suffixes) prefixes w m =
-    elim (member_append w (map (λ (prefix : EndString). suffix.string ++ prefix.string) prefixes) (pairs suffixes prefixes) m) [
-      | inl a ↦ let r = of_prefix prefixes a in (suffix, r.0, Contains-append_left (suffix ∷ []) suffixes suffix (Contains-push [] suffix), r.1, r.2)
+    elim (member_append w (map (λ (prefix : EndString). reverse suffix.string ++ prefix.string) prefixes) (pairs suffixes prefixes) m) [
+      | inl a ↦ let r = of_prefix prefixes a in (suffix, r.0, first_contained suffix suffixes, r.1, r.2)
       | inr b ↦ let r = pairs_across suffixes prefixes w b in (r.0, r.1, Contains-append_right (suffix ∷ []) suffixes r.0 r.2, r.3, r.4)
     ]
   where
-    of_prefix : (ps : List EndString) → is_among (map (λ (prefix : EndString). suffix.string ++ prefix.string) ps) w ≡ true → (prefix : EndString) × Contains ps prefix × (w ≡ suffix.string ++ prefix.string)
+    of_prefix : (ps : List EndString) → is_among
+        (map (λ (prefix : EndString). reverse suffix.string ++ prefix.string) ps) w ≡ true →
+        (prefix : EndString) × Contains ps prefix × (w ≡ reverse suffix.string ++ prefix.string)
     of_prefix [] m = absurd (no_member w m)
     of_prefix (p ∷ ps) m =
-        elim (member_cases w (suffix.string ++ p.string) (map (λ (prefix : EndString). suffix.string ++ prefix.string) ps) m) [
-          | inl same ↦ (p, Contains-append_left (p ∷ []) ps p (Contains-push [] p), same)
+        elim (member_cases w (reverse suffix.string ++ p.string)
+        (map (λ (prefix : EndString). reverse suffix.string ++ prefix.string) ps) m) [
+          | inl same ↦ (p, first_contained p ps, same)
           | inr later ↦ let r = of_prefix ps later in (r.0, Contains-append_right (p ∷ []) ps r.0 r.1, r.2)
         ]

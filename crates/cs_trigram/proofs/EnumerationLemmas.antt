@@ -1,18 +1,12 @@
 -- Enumerations: strings added one by one, and cross products.
-use Rattle.std.proofs.Common.{◌≡◌, ℕ, zero, suc, ◌+◌, ◌<◌, ◌≤◌, ◌⊎◌, ◌&&◌, inl, inr, not, Bool, true, false, List, [], ◌∷◌, ◌++◌, drop, length, map, get_or, refl, sym, ◌∙◌, ap, subst, arith, drop-cons, append_assoc, length-append}
+use Rattle.std.proofs.Common.{◌≡◌, ℕ, zero, suc, ◌+◌, ◌<◌, ◌≤◌, ◌⊎◌, ◌&&◌, inl, inr, not, Bool, true, false, List, [], ◌∷◌, ◌++◌, length, map, get_or, refl, sym, ◌∙◌, ap, subst, arith, append_assoc, length-append}
 use Rattle.std.specs.Prelude.{nat_le, if◌then◌else◌}
 use Rattle.std.proofs.lemmas.Bool.{leb-true, le-leb, both_ways, cases_lt}
 use Rattle.std.proofs.lemmas.List.{append-nil, append_cancel_left, append_cancel_right, length-map}
-use Rattle.cs_syntax.specs.Matching.{one_of, member}
 use Rattle.cs_tree.specs.Cover.{is_among}
 use Rattle.cs_tree.specs.Folders.{are_distinct}
-use Rattle.cs_trigram.specs.ExactStrings.{HasExactString}
 use Rattle.cs_trigram.specs.Analysis.{with_string, with_strings, concatenations, IsEnumeration}
 use Rattle.cs_trigram.proofs.MemberLemmas.{different_push, member_append, member_left, member_right, member_map, map_member, different_within, different_map, no_member, first_member, later_member, member_cases, only_member, distinct_head, distinct_tail}
-
--- the one-byte strings of the members of a set below n
-abbrev pub IsByteBelow : List Bool → ℕ → List ℕ → Type 0
-IsByteBelow set n string = (b : ℕ) × (b < n) × (member set b ≡ true) × (string ≡ b ∷ [])
 
 pub with_strings_append : (strings us vs : List (List ℕ)) → with_strings strings (us ++ vs) ≡ with_strings (with_strings strings us) vs
 with_strings_append strings [] vs = refl
@@ -31,11 +25,13 @@ with_strings_full strings (v ∷ vs) lt = ap (λ (ws : List (List ℕ)). with_st
     same = full (nat_le (length strings) 20) (is_among strings v) refl
 
 -- distinct strings, at most twenty in all, are added one after another
-pub with_strings_distinct : (us vs : List (List ℕ)) → length us + length vs ≤ 20 → are_distinct (us ++ vs) ≡ true → with_strings us vs ≡ us ++ vs
+pub with_strings_distinct : (us vs : List (List ℕ)) → length us + length vs ≤ 20 → are_distinct (us ++ vs) ≡ true →
+    with_strings us vs ≡ us ++ vs
 with_strings_distinct us [] le d = sym (append-nil us)
 with_strings_distinct us (v ∷ vs) le d =
     ap (λ (ws : List (List ℕ)). with_strings ws vs) (added (nat_le (length us) 20) (is_among us v) refl refl)
-    ∙ with_strings_distinct (us ++ v ∷ []) vs (omega (arith, le, length-append us (v ∷ []))) (ap are_distinct (append_assoc us (v ∷ []) vs) ∙ d)
+    ∙ with_strings_distinct (us ++ v ∷ []) vs (omega (arith, le, length-append us (v ∷ [])))
+    (ap are_distinct (append_assoc us (v ∷ []) vs) ∙ d)
     ∙ append_assoc us (v ∷ []) vs
   where
     new : (us : List (List ℕ)) → are_distinct (us ++ v ∷ vs) ≡ true → is_among us v ≡ true → ⊥
@@ -46,7 +42,8 @@ with_strings_distinct us (v ∷ vs) le d =
           | inr n ↦ new us (distinct_tail u (us ++ v ∷ vs) d) n
         ]
 
-    added : (room there : Bool) → nat_le (length us) 20 ≡ room → is_among us v ≡ there → (if room && not there then us ++ v ∷ [] else us) ≡ us ++ v ∷ []
+    added : (room there : Bool) → nat_le (length us) 20 ≡ room → is_among us v ≡ there →
+        (if room && not there then us ++ v ∷ [] else us) ≡ us ++ v ∷ []
     added true true r t = absurd (new us d t)
     added true false r t = refl
     added false there r t = absurd (both_ways (nat_le (length us) 20) r (le-leb (length us) 20 (omega (arith, le))))
@@ -59,21 +56,18 @@ single_prefix (x ∷ []) vs u e is d le =
     let all = map (λ v. x ++ v) vs in
     let distinct = different_map (λ v. x ++ v) (λ a b h. append_cancel_left x a b h) vs d in
     ap (λ w. map (λ v. w ++ v) vs) is
-    ∙ sym (ap (with_strings []) (append-nil all) ∙ with_strings_distinct [] all (omega (arith, le, length-map vs (λ (v : List ℕ). x ++ v))) distinct)
+    ∙ sym (ap (with_strings []) (append-nil all)
+    ∙ with_strings_distinct [] all (omega (arith, le, length-map vs (λ (v : List ℕ). x ++ v))) distinct)
 single_prefix (x ∷ y ∷ us) vs u e is d le = absurd (omega (arith, e))
 
-pub strings_from : (strings : List (List ℕ)) (i : ℕ) (string : List ℕ) → i < length strings → string ≡ get_or strings i string →
-    drop i strings ≡ string ∷ drop (i + 1) strings
-strings_from strings i string lt is =
-    let next : suc i ≡ i + 1 = omega arith in
-    drop-cons strings i string lt ∙ ap (λ w. w ∷ drop (suc i) strings) (sym is) ∙ ap (λ n. string ∷ drop n strings) next
-
-pub string_at : (strings : List (List ℕ)) (i : ℕ) (string : List ℕ) → i < length strings → string ≡ get_or strings i string → is_among strings string ≡ true
+pub string_at : (strings : List (List ℕ)) (i : ℕ) (string : List ℕ) → i < length strings → string
+    ≡ get_or strings i string → is_among strings string ≡ true
 string_at [] i string lt is = absurd (omega arith)
 string_at (x ∷ strings) zero string lt is = first_member string x strings is
 string_at (x ∷ strings) (suc i) string lt is = later_member string x strings (string_at strings i string (omega arith) is)
 
-pub enumeration_same : (ws : List (List ℕ)) (P R : List ℕ → Type 0) → IsEnumeration ws P → ((v : List ℕ) → P v → R v) → ((v : List ℕ) → R v → P v) → IsEnumeration ws R
+pub enumeration_same : (ws : List (List ℕ)) (P R : List ℕ → Type 0) → IsEnumeration ws P → ((v : List ℕ) → P v → R v) →
+    ((v : List ℕ) → R v → P v) → IsEnumeration ws R
 enumeration_same ws P R s to from =
     record { right = λ v m. to v (s.right v m); different = s.different; whole = λ le v r. s.whole le v (from v r) }
 
@@ -111,7 +105,8 @@ module _ (ws : List (List ℕ)) (w : List ℕ) (P R : List ℕ → Type 0) (s : 
   enumeration_more = more_by (nat_le (length ws) 20) (is_among ws w) refl refl
 
 -- more strings
-pub enumeration_strings : (ws us : List (List ℕ)) (P R : List ℕ → Type 0) → IsEnumeration ws P → ((v : List ℕ) → P v → R v) → ((v : List ℕ) → is_among us v ≡ true → R v) →
+pub enumeration_strings : (ws us : List (List ℕ)) (P R : List ℕ → Type 0) → IsEnumeration ws P →
+    ((v : List ℕ) → P v → R v) → ((v : List ℕ) → is_among us v ≡ true → R v) →
     ((v : List ℕ) → R v → P v ⊎ (is_among us v ≡ true)) → IsEnumeration (with_strings ws us) R
 enumeration_strings ws [] P R s to new from =
     enumeration_same ws P R s to (λ v r. elim (from v r) [ inl p ↦ p | inr n ↦ absurd (no_member v n) ])
@@ -128,7 +123,8 @@ pub no_enumeration : IsEnumeration [] (λ w. ⊥)
 no_enumeration = record { right = λ v m. no_member v m; different = refl; whole = λ le v p. absurd p }
 
 pub enumeration_of : (us : List (List ℕ)) → IsEnumeration (with_strings [] us) (λ w. is_among us w ≡ true)
-enumeration_of us = enumeration_strings [] us (λ w. ⊥) (λ w. is_among us w ≡ true) no_enumeration (λ v p. absurd p) (λ v m. m) (λ v m. inr m)
+enumeration_of us = enumeration_strings [] us (λ w. ⊥) (λ w. is_among us w ≡ true) no_enumeration (λ v p. absurd p)
+    (λ v m. m) (λ v m. inr m)
 
 pub concatenation_parts : (w : List ℕ) (us vs : List (List ℕ)) → is_among (concatenations us vs) w ≡ true →
     (u v : List ℕ) × (is_among us u ≡ true) × (is_among vs v ≡ true) × (w ≡ u ++ v)
@@ -139,13 +135,30 @@ concatenation_parts w (u ∷ us) vs m =
       | inr b ↦ let r = concatenation_parts w us vs b in (r.0, r.1, later_member r.0 u us r.2, r.3, r.4)
     ]
 
-pub concatenation_member : (u v : List ℕ) (us vs : List (List ℕ)) → is_among us u ≡ true → is_among vs v ≡ true → is_among (concatenations us vs) (u ++ v) ≡ true
+pub concatenation_member : (u v : List ℕ) (us vs : List (List ℕ)) → is_among us u ≡ true → is_among vs v ≡ true →
+    is_among (concatenations us vs) (u ++ v) ≡ true
 concatenation_member u v [] vs m n = absurd (no_member u m)
 concatenation_member u v (x ∷ us) vs m n =
     elim (member_cases u x us m) [
-      | inl e ↦ member_left (u ++ v) (map (λ y. x ++ y) vs) (concatenations us vs) (subst (λ (y : List ℕ). is_among (map (λ z. x ++ z) vs) (y ++ v) ≡ true) (sym e) (map_member (λ z. x ++ z) v vs n))
+      | inl e ↦ member_left (u ++ v) (map (λ y. x ++ y) vs) (concatenations us vs)
+          (subst (λ (y : List ℕ). is_among (map (λ z. x ++ z) vs) (y ++ v) ≡ true) (sym e)
+          (map_member (λ z. x ++ z) v vs n))
       | inr k ↦ member_right (u ++ v) (map (λ y. x ++ y) vs) (concatenations us vs) (concatenation_member u v us vs k n)
     ]
+
+pub some_member : (xs : List (List ℕ)) → 0 < length xs → (x : List ℕ) × (is_among xs x ≡ true)
+some_member [] h = absurd (omega arith)
+some_member (x ∷ xs) h = (x, first_member x x xs refl)
+
+pub some_concatenation : (us vs : List (List ℕ)) → 0 < length us → 0 < length vs → 0 < length (with_strings [] (concatenations us vs))
+some_concatenation us vs a b = by (with_strings [] (concatenations us vs)) (enumeration_of (concatenations us vs))
+  where
+    by : (ws : List (List ℕ)) → IsEnumeration ws (λ w. is_among (concatenations us vs) w ≡ true) → 0 < length ws
+    by [] s =
+        let u = some_member us a in
+        let v = some_member vs b in
+        absurd (no_member (u.0 ++ v.0) (s.whole (omega arith) (u.0 ++ v.0) (concatenation_member u.0 v.0 us vs u.1 v.1)))
+    by (w ∷ ws) s = omega arith
 
 module _ (us vs : List (List ℕ)) (P Q : List ℕ → Type 0) (s : IsEnumeration us P) (t : IsEnumeration vs Q) where
   abbrev pub Concatenated : List ℕ → Type 0
@@ -160,7 +173,9 @@ module _ (us vs : List (List ℕ)) (P Q : List ℕ → Type 0) (s : IsEnumeratio
       let fits = different_within (map (λ u. u ++ v) us) few_of
       (different_map (λ u. u ++ v) (λ a b e. append_cancel_right a b v e) us s.different)
       (λ w n. let r = member_map (λ u. u ++ v) w us n in
-      (enumeration_of (concatenations us vs)).whole le w (subst (λ (x : List ℕ). is_among (concatenations us vs) x ≡ true) (sym r.2) (concatenation_member r.0 v us vs r.1 m))) in
+      (enumeration_of (concatenations us vs)).whole le w
+      (subst (λ (x : List ℕ). is_among (concatenations us vs) x ≡ true) (sym r.2)
+      (concatenation_member r.0 v us vs r.1 m))) in
       omega (arith, fits, length-map us (λ (u : List ℕ). u ++ v))
 
   pub suffixes_few : (u : List ℕ) → is_among us u ≡ true → length few_of ≤ 20 → length vs ≤ 20
@@ -168,14 +183,18 @@ module _ (us vs : List (List ℕ)) (P Q : List ℕ → Type 0) (s : IsEnumeratio
       let fits = different_within (map (λ v. u ++ v) vs) few_of
       (different_map (λ v. u ++ v) (λ a b e. append_cancel_left u a b e) vs t.different)
       (λ w n. let r = member_map (λ v. u ++ v) w vs n in
-      (enumeration_of (concatenations us vs)).whole le w (subst (λ (x : List ℕ). is_among (concatenations us vs) x ≡ true) (sym r.2) (concatenation_member u r.0 us vs m r.1))) in
+      (enumeration_of (concatenations us vs)).whole le w
+      (subst (λ (x : List ℕ). is_among (concatenations us vs) x ≡ true) (sym r.2)
+      (concatenation_member u r.0 us vs m r.1))) in
       omega (arith, fits, length-map vs (λ (v : List ℕ). u ++ v))
 
   -- if a string has the property, the other list is not empty, provided that it is complete
   prefixes_whole : (xs : List (List ℕ)) → vs ≡ xs → (v : List ℕ) → Q v → length few_of ≤ 20 → length us ≤ 20
   prefixes_whole [] e v q le =
-      let short : length vs ≤ 20 = rw e (omega arith) in absurd (no_member v (subst (λ (ws : List (List ℕ)). is_among ws v ≡ true) e (t.whole short v q)))
-  prefixes_whole (x ∷ xs) e v q le = prefixes_few x (subst (λ (ws : List (List ℕ)). is_among ws x ≡ true) (sym e) (first_member x x xs refl)) le
+      let short : length vs ≤ 20 = rw e (omega arith) in
+      absurd (no_member v (subst (λ (ws : List (List ℕ)). is_among ws v ≡ true) e (t.whole short v q)))
+  prefixes_whole (x ∷ xs) e v q le = prefixes_few x
+      (subst (λ (ws : List (List ℕ)). is_among ws x ≡ true) (sym e) (first_member x x xs refl)) le
 
   pub enumeration_of_concatenations : IsEnumeration few_of Concatenated
   enumeration_of_concatenations =
@@ -186,49 +205,52 @@ module _ (us vs : List (List ℕ)) (P Q : List ℕ → Type 0) (s : IsEnumeratio
         whole = λ le w j.
             let prefix = s.whole (prefixes_whole vs refl j.1 j.3 le) j.0 j.2 in
             let suffix = t.whole (suffixes_few j.0 prefix le) j.1 j.3 in
-            all.whole le w (subst (λ (x : List ℕ). is_among (concatenations us vs) x ≡ true) (sym j.4) (concatenation_member j.0 j.1 us vs prefix suffix));
+            all.whole le w (subst (λ (x : List ℕ). is_among (concatenations us vs) x ≡ true) (sym j.4)
+            (concatenation_member j.0 j.1 us vs prefix suffix));
       }
 
--- the one-byte strings of a set
-set_step : (set : List Bool) (ws : List (List ℕ)) (n : ℕ) → IsEnumeration ws (IsByteBelow set n) → member set n ≡ true → IsEnumeration (with_string ws (n ∷ [])) (IsByteBelow set (n + 1))
-set_step set ws n s m =
-    enumeration_more ws (n ∷ []) (IsByteBelow set n) (IsByteBelow set (n + 1)) s
-    (λ v p. (p.0, omega (arith, p.1), p.2, p.3))
-    (n, omega arith, m, refl)
-    (λ v p. elim (cases_lt p.0 n) [
-      | inl lt ↦ inl (p.0, lt, p.2, p.3)
-      | inr ge ↦ let same : p.0 ≡ n = omega (arith, p.1) in inr (p.3 ∙ ap (λ b. b ∷ []) same)
-    ])
+-- ---- the strings of the numbers that pass a test, one number after another
 
-set_skip : (set : List Bool) (ws : List (List ℕ)) (n : ℕ) → IsEnumeration ws (IsByteBelow set n) → member set n ≡ false → IsEnumeration ws (IsByteBelow set (n + 1))
-set_skip set ws n s m =
-    enumeration_same ws (IsByteBelow set n) (IsByteBelow set (n + 1)) s
-    (λ v p. (p.0, omega (arith, p.1), p.2, p.3))
-    (λ v p. elim (cases_lt p.0 n) [
-      | inl lt ↦ (p.0, lt, p.2, p.3)
-      | inr ge ↦
-          let same : p.0 ≡ n = omega (arith, p.1) in
-          absurd (both_ways (member set n) m (ap (member set) (sym same) ∙ p.2))
-    ])
+-- a string with a property, or that of a number from `start` on below `end`
+abbrev pub IsOfNumber : (ℕ → Bool) → (ℕ → List ℕ) → ℕ → (List ℕ → Type 0) → ℕ → List ℕ → Type 0
+IsOfNumber test string start P end w = P w ⊎ ((n : ℕ) × (start ≤ n) × (n < end) × (test n ≡ true) × (w ≡ string n))
 
-beyond : (set : List Bool) (b : ℕ) → length set ≤ b → member set b ≡ false
-beyond [] b le = refl
-beyond (x ∷ set) zero le = absurd (omega arith)
-beyond (x ∷ set) (suc b) le = beyond set b (omega arith)
+pub enumeration_full : (ws : List (List ℕ)) (P R : List ℕ → Type 0) → 20 < length ws → IsEnumeration ws P →
+    ((v : List ℕ) → P v → R v) → IsEnumeration ws R
+enumeration_full ws P R many s to = record {
+  right = λ v m. to v (s.right v m);
+  different = s.different;
+  whole =
+      λ le v r. absurd (omega arith);
+}
 
-pub set_whole : (set : List Bool) (ws : List (List ℕ)) (n : ℕ) → length set ≤ n → IsEnumeration ws (IsByteBelow set n) → IsEnumeration ws (HasExactString (one_of set))
-set_whole set ws n le s =
-    enumeration_same ws (IsByteBelow set n) (HasExactString (one_of set)) s
-    (λ v p. (p.0, p.2, p.3))
-    (λ v p. elim (cases_lt p.0 n) [
-      | inl lt ↦ (p.0, lt, p.1, p.2)
-      | inr ge ↦ absurd (both_ways (member set p.0) (beyond set p.0 (omega arith)) p.1)
-    ])
+module _ (test : ℕ → Bool) (string : ℕ → List ℕ) (start : ℕ) (P : List ℕ → Type 0) where
+  abbrev Below : ℕ → List ℕ → Type 0
+  Below end = IsOfNumber test string start P end
 
-pub set_next : (set : List Bool) (ws : List (List ℕ)) (n : ℕ) → IsEnumeration ws (IsByteBelow set n) →
-    IsEnumeration (if member set n then with_string ws (n ∷ []) else ws) (IsByteBelow set (n + 1))
-set_next set ws n s = by (member set n) refl
-  where
-    by : (b : Bool) → member set n ≡ b → IsEnumeration (if b then with_string ws (n ∷ []) else ws) (IsByteBelow set (n + 1))
-    by true e = set_step set ws n s e
-    by false e = set_skip set ws n s e
+  pub numbers_none : (ws : List (List ℕ)) → IsEnumeration ws P → IsEnumeration ws (Below start)
+  numbers_none ws s = enumeration_same ws P (Below start) s (λ v p. inl p)
+      (λ v q. elim q [ inl p ↦ p | inr k ↦ absurd (omega (arith, k.1, k.2)) ])
+
+  pub numbers_next : (ws : List (List ℕ)) (n : ℕ) → start ≤ n → IsEnumeration ws (Below n) →
+      IsEnumeration (if test n then with_string ws (string n) else ws) (Below (n + 1))
+  numbers_next ws n from s = by (test n) refl
+    where
+      later : (v : List ℕ) → Below n v → Below (n + 1) v
+      later v (inl p) = inl p
+      later v (inr k) = inr (k.0, k.1, omega (arith, k.2), k.3, k.4)
+
+      earlier : (v : List ℕ) → Below (n + 1) v → Below n v ⊎ ((test n ≡ true) × (v ≡ string n))
+      earlier v (inl p) = inl (inl p)
+      earlier v (inr k) = elim (cases_lt k.0 n) [
+        | inl lt ↦ inl (inr (k.0, k.1, lt, k.3, k.4))
+        | inr ge ↦ let same : k.0 ≡ n = omega (arith, k.2) in inr (subst (λ m. test m ≡ true) same k.3, k.4 ∙ ap string same)
+      ]
+
+      by : (b : Bool) → test n ≡ b → IsEnumeration (if b then with_string ws (string n) else ws) (Below (n + 1))
+      by true e =
+          enumeration_more ws (string n) (Below n) (Below (n + 1)) s later (inr (n, from, omega arith, e, refl))
+          (λ v r. elim (earlier v r) [ inl p ↦ inl p | inr q ↦ inr q.1 ])
+      by false e =
+          enumeration_same ws (Below n) (Below (n + 1)) s later
+          (λ v r. elim (earlier v r) [ inl p ↦ p | inr q ↦ absurd (both_ways (test n) e q.0) ])

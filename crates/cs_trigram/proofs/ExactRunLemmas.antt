@@ -1,7 +1,7 @@
 -- A set with the trigrams of a matching line has the exact runs of the tree.
 use Rattle.std.proofs.Common.{ℕ, zero, suc, ◌-◌, ◌≤◌, inl, inr, Bool, List, refl, subst, arith}
 use Rattle.cs_syntax.specs.TreeList.{append}
-use Rattle.cs_syntax.specs.Matching.{Tree, Trees, empty, one_of, one_char, cat, alt, rep, line_start, line_end, word_edge, not_word_edge, none, more, Chain, MatchesSpan, MatchesSequence, MatchesBranch}
+use Rattle.cs_syntax.specs.Matching.{Tree, Trees, cat, alt, rep, none, more, Chain, MatchesSpan, MatchesSequence, MatchesBranch}
 use Rattle.cs_trigram.specs.Query.{HasTrigrams}
 use Rattle.std.specs.Prelude.{slice_range}
 use Rattle.cs_trigram.specs.ExactRuns.{HasEachRun, HasWhole, HasRunsWithin, AllHaveRunsWithin, HasExactRuns, SomeHasExactRuns}
@@ -9,7 +9,8 @@ use Rattle.cs_trigram.proofs.SubstringTrigramLemmas.{has_part}
 use Rattle.cs_trigram.proofs.ExactStringLemmas.{match_of_all_is_exact}
 
 -- a match of a sequence, split in two
-matches_both : (s : List ℕ) (a b : Trees) (i j : ℕ) → MatchesSequence s (append a b) i j → (l : ℕ) × MatchesSequence s a i l × MatchesSequence s b l j
+matches_both : (s : List ℕ) (a b : Trees) (i j : ℕ) → MatchesSequence s (append a b) i j →
+    (l : ℕ) × MatchesSequence s a i l × MatchesSequence s b l j
 matches_both s none b i j h = (i, refl, h)
 matches_both s (more t a) b i j h = let r = matches_both s a b h.0 j h.2 in (r.0, (h.0, h.1, r.1), r.2)
 
@@ -34,19 +35,13 @@ module _ (s : List ℕ) (set : ℕ → Bool) (known : HasTrigrams set s) where
 
   mutual
     match_has_runs_within : (t : Tree) (i j : ℕ) → MatchesSpan s t i j → HasRunsWithin set t
-    match_has_runs_within empty i j h = tt
-    match_has_runs_within (one_of bytes) i j h = tt
-    match_has_runs_within (one_char runs) i j h = tt
     match_has_runs_within (cat ts) i j h = (runs_matched ts i j h, all_within ts i j h)
     match_has_runs_within (alt ts) i j h = branch_exact_runs ts i j h
     match_has_runs_within (rep x zero m) i j h = tt
     match_has_runs_within (rep x (suc n) m) i j h =
         let first = first_part (MatchesSpan s x) n h.0 i j h.1 h.3 in
         (match_has_whole x i first.0 first.1, match_has_runs_within x i first.0 first.1)
-    match_has_runs_within line_start i j h = tt
-    match_has_runs_within line_end i j h = tt
-    match_has_runs_within word_edge i j h = tt
-    match_has_runs_within not_word_edge i j h = tt
+    match_has_runs_within leaf i j h = tt
 
     all_within : (ts : Trees) (i j : ℕ) → MatchesSequence s ts i j → AllHaveRunsWithin set ts
     all_within none i j h = tt

@@ -65,7 +65,8 @@ module _ (s : List ℕ) where
     match_is_exact word_edge i j p h = at_assertion i j h.0
     match_is_exact not_word_edge i j p h = at_assertion i j h.0
 
-    pub match_of_all_is_exact : (ts : Trees) (i j : ℕ) → are_finite ts ≡ true → MatchesSequence s ts i j → (i ≤ j) × ConcatenatesExactStrings ts (slice_range s i j)
+    pub match_of_all_is_exact : (ts : Trees) (i j : ℕ) → are_finite ts ≡ true → MatchesSequence s ts i j →
+        (i ≤ j) × ConcatenatesExactStrings ts (slice_range s i j)
     match_of_all_is_exact none i j p h =
         let same : i ≤ j = omega (arith, h) in (same, ap (slice_range s i) (sym h) ∙ part_empty s i)
     match_of_all_is_exact (more t ts) i j p h =
@@ -75,7 +76,8 @@ module _ (s : List ℕ) where
         let long : i ≤ j = omega (arith, a.0, b.0) in
         (long, (slice_range s i h.0, slice_range s h.0 j, a.1, b.1, part_split s i h.0 j a.0 b.0))
 
-    pub match_of_some_is_exact : (ts : Trees) (i j : ℕ) → are_finite ts ≡ true → MatchesBranch s ts i j → (i ≤ j) × SomeHasExactString ts (slice_range s i j)
+    pub match_of_some_is_exact : (ts : Trees) (i j : ℕ) → are_finite ts ≡ true → MatchesBranch s ts i j →
+        (i ≤ j) × SomeHasExactString ts (slice_range s i j)
     match_of_some_is_exact none i j p h = absurd h
     match_of_some_is_exact (more t ts) i j p h =
         let q = and_parts (is_finite t) (are_finite ts) p in
@@ -102,9 +104,6 @@ module _ (set : ℕ → Bool) where
 
   mutual
     pub exact_match_has_runs_within : (t : Tree) (w : List ℕ) → HasExactString t w → HasTrigrams set w → HasRunsWithin set t
-    exact_match_has_runs_within empty w s h = tt
-    exact_match_has_runs_within (one_of bytes) w s h = tt
-    exact_match_has_runs_within (one_char runs) w s h = tt
     exact_match_has_runs_within (cat ts) w s h = (runs_found ts w s h, concatenated_within ts w s h)
     exact_match_has_runs_within (alt ts) w s h = some_exact_runs ts w s h
     exact_match_has_runs_within (rep x n None) w s h = absurd s
@@ -113,16 +112,16 @@ module _ (set : ℕ → Bool) where
         let r = first_iteration (HasExactString x) n s.0 w s.1 s.3 in
         let has = has_prefix set r.0 r.1 (subst (HasTrigrams set) r.3 h) in
         (exact_has_whole x r.0 r.2 has, exact_match_has_runs_within x r.0 r.2 has)
-    exact_match_has_runs_within line_start w s h = tt
-    exact_match_has_runs_within line_end w s h = tt
-    exact_match_has_runs_within word_edge w s h = tt
-    exact_match_has_runs_within not_word_edge w s h = tt
+    exact_match_has_runs_within leaf w s h = tt
 
     concatenated_within : (ts : Trees) (w : List ℕ) → ConcatenatesExactStrings ts w → HasTrigrams set w → AllHaveRunsWithin set ts
     concatenated_within none w s h = tt
     concatenated_within (more t ts) w s h =
-        let parts = subst (HasTrigrams set) s.4 h in
-        (exact_match_has_runs_within t s.0 s.2 (has_prefix set s.0 s.1 parts), concatenated_within ts s.1 s.3 (has_suffix set s.0 s.1 parts))
+        let parts = subst (HasTrigrams set) s.4 h in (
+          exact_match_has_runs_within t s.0 s.2 (has_prefix set s.0 s.1 parts),
+          concatenated_within ts s.1 s.3
+              (has_suffix set s.0 s.1 parts),
+        )
 
     some_exact_runs : (ts : Trees) (w : List ℕ) → SomeHasExactString ts w → HasTrigrams set w → SomeHasExactRuns set ts
     some_exact_runs none w s h = absurd s

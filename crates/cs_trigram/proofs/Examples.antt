@@ -100,5 +100,6 @@ read_fails = refl
 read_fails_too_late : scan_outcome limits (record { bytes = 0x61 ∷ 0x00 ∷ codes "abc"; ending = fails }) ≡ skipped_for Nul
 read_fails_too_late = refl
 
-many_trigrams_of_what_fails : scan_outcome (record { bytes = 100; line = 50; trigrams = 2 }) (record { bytes = codes "abcde"; ending = fails }) ≡ read_failed
+many_trigrams_of_what_fails : scan_outcome (record { bytes = 100; line = 50; trigrams = 2 })
+    (record { bytes = codes "abcde"; ending = fails }) ≡ read_failed
 many_trigrams_of_what_fails = refl

@@ -1,13 +1,9 @@
 -- Proofs of the laws.
-use Rattle.std.proofs.Common.{◌≡◌, ℕ, true, eqb, List, [], ◌∷◌, ◌++◌, length, Option, Some, None, refl, sym, ap, ◌∙◌, inl, inr}
+use Rattle.std.proofs.Common.{◌≡◌, ℕ, true, eqb, List, [], ◌∷◌, ◌++◌, Option, Some, None, refl, sym, ap, ◌∙◌, inl, inr}
 use Rattle.std.specs.Prelude.{is_none, if◌then◌else◌}
-use Rattle.cs_trigram.specs.Scans.{skipped_or, scan_outcome_of, text, skipped_for}
 use Rattle.std.proofs.lemmas.Bool.{false≢true, or_cases, or_left, or_right, eq-eqb, eqb-true}
-use Rattle.cs_tree.specs.StreamModels.{ends}
-use Rattle.cs_trigram.specs.declared.limits.Limits.{Limits}
 use Rattle.cs_trigram.specs.declared.scan.Reason.{Reason}
 use Rattle.cs_trigram.specs.Trigram.{trigram, trigram_sequence, tri, has}
-use Rattle.cs_trigram.specs.Text.{skip, text_trigrams}
 use Rattle.cs_trigram.proofs.SetLemmas.{has-set_of_numbers}
 
 has-behind : (a n : ℕ) (bytes : List ℕ) → has (trigram_sequence bytes) n ≡ true → has (trigram_sequence (a ∷ bytes)) n ≡ true
@@ -26,7 +22,8 @@ has-after (a ∷ b ∷ []) after n h = absurd (false≢true h)
 has-after (a ∷ b ∷ c ∷ rest) after n h =
     elim (or_cases (eqb (trigram a b c) n) (has (trigram_sequence (b ∷ c ∷ rest)) n) h) [
       | inl here ↦ or_left (eqb (trigram a b c) n) (has (trigram_sequence (b ∷ c ∷ (rest ++ after))) n) here
-      | inr later ↦ or_right (eqb (trigram a b c) n) (has (trigram_sequence (b ∷ c ∷ (rest ++ after))) n) (has-after (b ∷ c ∷ rest) after n later)
+      | inr later ↦ or_right (eqb (trigram a b c) n) (has (trigram_sequence (b ∷ c ∷ (rest ++ after))) n)
+          (has-after (b ∷ c ∷ rest) after n later)
     ]
 
 pub has-part_of : (before part after : List ℕ) (n : ℕ) → has (tri part) n ≡ true → has (tri (before ++ (part ++ after))) n ≡ true
@@ -38,7 +35,8 @@ pub has-each : (before after : List ℕ) (a b c : ℕ) → has (tri (before ++ (
 has-each before after a b c =
     has-set_of_numbers (trigram a b c) (trigram_sequence (before ++ (a ∷ b ∷ c ∷ after)))
     ∙ has-before before (a ∷ b ∷ c ∷ after) (trigram a b c)
-    (or_left (eqb (trigram a b c) (trigram a b c)) (has (trigram_sequence (b ∷ c ∷ after)) (trigram a b c)) (eq-eqb (trigram a b c) (trigram a b c) refl))
+    (or_left (eqb (trigram a b c) (trigram a b c)) (has (trigram_sequence (b ∷ c ∷ after)) (trigram a b c))
+    (eq-eqb (trigram a b c) (trigram a b c) refl))
 
 -- the number is that of a substring of three bytes
 abbrev IsPartOf : ℕ → List ℕ → Type 0

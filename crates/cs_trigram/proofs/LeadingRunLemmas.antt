@@ -5,32 +5,27 @@ use Rattle.std.proofs.Math.Bool.{and_assoc}
 use Rattle.std.proofs.Math.Seq.{take-append_seam, drop-append_seam}
 use Rattle.std.proofs.lemmas.Bool.{and_parts, and_from, both_ways}
 use Rattle.std.proofs.lemmas.List.{append-nil, length-map}
-use Rattle.cs_syntax.specs.Matching.{Tree, Trees, none, more}
+use Rattle.cs_syntax.specs.Matching.{Tree, Trees, cat, alt, none, more}
 use Rattle.cs_syntax.proofs.TreeListLemmas.{append_assoc_trees}
 use Rattle.cs_tree.specs.Cover.{is_among}
 use Rattle.cs_trigram.specs.ExactStrings.{is_finite, are_finite, HasExactString, ConcatenatesExactStrings, SomeHasExactString, HaveFewExactStrings}
-use Rattle.cs_trigram.specs.Analysis.{with_strings, concatenations, IsEnumeration, AreFewStrings, IsBlocked, IsLongestLeadingRun, EnumeratesTree, AreExactStrings, AreExactStringsOfRun}
+use Rattle.cs_trigram.specs.Analysis.{with_strings, concatenations, IsEnumeration, IsBlocked, IsLongestLeadingRun, EnumeratesTree, AreExactStrings}
 use Rattle.cs_trigram.proofs.MemberLemmas.{map_member, different_within, no_member, first_member, only_member}
 use Rattle.cs_trigram.proofs.EnumerationLemmas.{enumeration_same, enumeration_strings, enumeration_of_concatenations}
-
--- the strings enumerate the exact strings of a run, and of an alternation
-abbrev pub EnumeratesRun : List (List ℕ) → Trees → Type 0
-EnumeratesRun strings ts = (are_finite ts ≡ true) × IsEnumeration strings (ConcatenatesExactStrings ts)
-
-abbrev pub EnumeratesAlternation : List (List ℕ) → Trees → Type 0
-EnumeratesAlternation strings ts = (are_finite ts ≡ true) × IsEnumeration strings (SomeHasExactString ts)
 
 pub finite_append : (a b : Trees) → are_finite (append a b) ≡ (are_finite a && are_finite b)
 finite_append none b = refl
 finite_append (more t a) b = ap (λ r. is_finite t && r) (finite_append a b) ∙ sym (and_assoc (is_finite t) (are_finite a) (are_finite b))
 
 -- concatenations of the strings of two runs are those of the two runs together
-pub concatenates_both : (a b : Trees) (u v : List ℕ) → ConcatenatesExactStrings a u → ConcatenatesExactStrings b v → ConcatenatesExactStrings (append a b) (u ++ v)
+pub concatenates_both : (a b : Trees) (u v : List ℕ) → ConcatenatesExactStrings a u → ConcatenatesExactStrings b v →
+    ConcatenatesExactStrings (append a b) (u ++ v)
 concatenates_both none b u v p q = subst (λ (x : List ℕ). ConcatenatesExactStrings b (x ++ v)) (sym p) q
 concatenates_both (more t a) b u v p q =
     (p.0, p.1 ++ v, p.2, concatenates_both a b p.1 v p.3 q, ap (λ x. x ++ v) p.4 ∙ append_assoc p.0 p.1 v)
 
-pub concatenates_split : (a b : Trees) (w : List ℕ) → ConcatenatesExactStrings (append a b) w → (u v : List ℕ) × ConcatenatesExactStrings a u × ConcatenatesExactStrings b v × (w ≡ u ++ v)
+pub concatenates_split : (a b : Trees) (w : List ℕ) → ConcatenatesExactStrings (append a b) w →
+    (u v : List ℕ) × ConcatenatesExactStrings a u × ConcatenatesExactStrings b v × (w ≡ u ++ v)
 concatenates_split none b w j = ([], w, refl, j, refl)
 concatenates_split (more t a) b w j =
     let r = concatenates_split a b j.1 j.3 in
@@ -45,45 +40,39 @@ exact_of_one t w j =
     subst (HasExactString t) (sym (j.4 ∙ ap (λ x. j.0 ++ x) j.3 ∙ append-nil j.0)) j.2
 
 -- a run with few strings has only subruns with few strings
+few_part : (run part : Trees) (whole cut : List ℕ → List ℕ) → ((u : List ℕ) → cut (whole u) ≡ u) →
+    ((u : List ℕ) → ConcatenatesExactStrings part u → ConcatenatesExactStrings run (whole u)) →
+    are_finite part ≡ true → (u : List ℕ) → ConcatenatesExactStrings part u → HaveFewExactStrings run → HaveFewExactStrings part
+few_part run part whole cut back to finite u one few = (
+  finite,
+  (
+    (u, one),
+    (
+      map cut few.1.1.0,
+      rw (length-map few.1.1.0 cut) few.1.1.1,
+      λ v j. subst (λ (x : List ℕ). is_among (map cut few.1.1.0) x ≡ true) (back v)
+          (map_member cut (whole v) few.1.1.0 (few.1.1.2 (whole v) (to v j))),
+    ),
+  ),
+)
+
 pub few_prefix : (a b : Trees) → HaveFewExactStrings (append a b) → HaveFewExactStrings a
 few_prefix a b few =
     let parts = and_parts (are_finite a) (are_finite b) (sym (finite_append a b) ∙ few.0) in
     let first = concatenates_split a b few.1.0.0 few.1.0.1 in
     let v = first.1 in
-    let cut : List ℕ → List ℕ = λ x. take (length x - length v) x in (
-      parts.0,
-      (
-        (first.0, first.2),
-        (
-          map cut few.1.1.0,
-          rw (length-map few.1.1.0 cut) few.1.1.1,
-          λ u j.
-              let whole = few.1.1.2 (u ++ v) (concatenates_both a b u v j first.3) in
-              let long : length (u ++ v) - length v ≡ length u = omega (arith, length-append u v) in
-              let same : cut (u ++ v) ≡ u = ap (λ n. take n (u ++ v)) long ∙ take-append_seam u v in
-              subst (λ (x : List ℕ). is_among (map cut few.1.1.0) x ≡ true) same (map_member cut (u ++ v) few.1.1.0 whole),
-        ),
-      ),
-    )
+    few_part (append a b) a (λ u. u ++ v) (λ x. take (length x - length v) x)
+    (λ u. let long : length (u ++ v) - length v ≡ length u = omega (arith, length-append u v) in
+    ap (λ n. take n (u ++ v)) long ∙ take-append_seam u v)
+    (λ u j. concatenates_both a b u v j first.3) parts.0 first.0 first.2 few
 
 pub few_suffix : (a b : Trees) → HaveFewExactStrings (append a b) → HaveFewExactStrings b
 few_suffix a b few =
     let parts = and_parts (are_finite a) (are_finite b) (sym (finite_append a b) ∙ few.0) in
     let first = concatenates_split a b few.1.0.0 few.1.0.1 in
     let u = first.0 in
-    let cut : List ℕ → List ℕ = λ x. drop (length u) x in (
-      parts.1,
-      (
-        (first.1, first.3),
-        (
-          map cut few.1.1.0,
-          rw (length-map few.1.1.0 cut) few.1.1.1,
-          λ v j.
-              let whole = few.1.1.2 (u ++ v) (concatenates_both a b u v first.2 j) in
-              subst (λ (x : List ℕ). is_among (map cut few.1.1.0) x ≡ true) (drop-append_seam u v) (map_member cut (u ++ v) few.1.1.0 whole),
-        ),
-      ),
-    )
+    few_part (append a b) b (λ v. u ++ v) (drop (length u)) (drop-append_seam u)
+    (λ v j. concatenates_both a b u v first.2 j) parts.1 first.1 first.3 few
 
 -- two prefixes of one list: one of them is a prefix of the other
 pub prefixes_compare : (a x b y : Trees) → append a x ≡ append b y →
@@ -100,10 +89,11 @@ prefixes_compare (more t a) x (more u b) y e =
     ]
 
 -- each string of the longest leading run begins with a string of each leading run that has few
-pub run_begins : (ts : Trees) (ws : List (List ℕ)) → IsLongestLeadingRun ts ws → (w : List ℕ) → is_among ws w ≡ true → (run after : Trees) → ts ≡ append run after → HaveFewExactStrings run →
+pub run_begins : (ts : Trees) (ws : List (List ℕ)) → IsLongestLeadingRun ts ws → (w : List ℕ) → is_among ws w ≡ true →
+    (run after : Trees) → ts ≡ append run after → HaveFewExactStrings run →
     (u rest : List ℕ) × ConcatenatesExactStrings run u × (w ≡ u ++ rest)
 run_begins ts ws f w m run after e few =
-    let j = (f.each.each w).1 m in
+    let j = f.exact.are.1.right w m in
     elim (prefixes_compare f.run f.after run after (sym f.is ∙ e)) [
       | inl l ↦
           let s = concatenates_split run l.0 w (subst (λ (a : Trees). ConcatenatesExactStrings a w) l.1 j) in
@@ -111,7 +101,8 @@ run_begins ts ws f w m run after e few =
       | inr r ↦ absurd (stopped f.run f.after run r.0 (append r.1 after) r.1 f.blocked r.3 r.2 few)
     ]
   where
-    stopped : (a x b : Trees) (t : Tree) (rest c : Trees) → IsBlocked a x → x ≡ more t rest → b ≡ append a (more t c) → HaveFewExactStrings b → ⊥
+    stopped : (a x b : Trees) (t : Tree) (rest c : Trees) → IsBlocked a x → x ≡ more t rest → b ≡ append a (more t c) →
+        HaveFewExactStrings b → ⊥
     stopped a none b t rest c blocked e same few = (cc)
     stopped a (more t2 rest2) b t rest c blocked e same few =
         let tree : t2 ≡ t = (cc) in
@@ -119,44 +110,37 @@ run_begins ts ws f w m run after e few =
         subst HaveFewExactStrings (same ∙ sym (append_assoc_trees a (more t none) c)) few in
         blocked (subst (λ (z : Tree). HaveFewExactStrings (append a (more z none))) (sym tree) (few_prefix (append a (more t none)) c long))
 
--- an enumeration of one to twenty strings is complete
-pub whole_enumeration : (ws : List (List ℕ)) (P : List ℕ → Type 0) → IsEnumeration ws P → 0 < length ws → length ws ≤ 20 → AreFewStrings ws P
-whole_enumeration ws P s some few =
-    record { some = some; few = few; different = s.different; each = λ w. (s.whole few w, s.right w) }
+-- an enumeration of more than twenty strings shows that the strings of a run are not few
+pub not_few : (ws : List (List ℕ)) (ts : Trees) → IsEnumeration ws (ConcatenatesExactStrings ts) → 20 < length ws →
+    HaveFewExactStrings ts → ⊥
+not_few ws ts s many few = let fits = different_within ws few.1.1.0 s.different (λ w m. few.1.1.2 w (s.right w m)) in
+    omega (arith, fits, many, few.1.1.1)
 
-pub strings_enumeration : (ws : List (List ℕ)) (P : List ℕ → Type 0) → AreFewStrings ws P → IsEnumeration ws P
-strings_enumeration ws P a =
-    record { right = λ w m. (a.each w).1 m; different = a.different; whole = λ le w p. (a.each w).0 p }
+-- one more tree before a run, after a run, and before an alternation
+pub run_step : (t : Tree) (ts : Trees) (us vs : List (List ℕ)) → EnumeratesTree us t → EnumeratesTree vs (cat ts) →
+    EnumeratesTree (with_strings [] (concatenations us vs)) (cat (more t ts))
+run_step t ts us vs s r = (
+  and_from (is_finite t) (are_finite ts) s.0 r.0,
+  enumeration_of_concatenations us vs (HasExactString t)
+      (ConcatenatesExactStrings ts) s.1 r.1,
+)
 
--- an enumeration of no strings or of more than twenty shows that the strings of a run are not few
-pub not_few : (ws : List (List ℕ)) (ts : Trees) → IsEnumeration ws (ConcatenatesExactStrings ts) → (length ws ≤ 20 → length ws ≡ 0) → HaveFewExactStrings ts → ⊥
-not_few ws ts s odd few =
-    let fits = different_within ws few.1.1.0 s.different (λ w m. few.1.1.2 w (s.right w m)) in
-    let small : length ws ≤ 20 = omega (arith, fits, few.1.1.1) in
-    empty ws (odd small) (s.whole small few.1.0.0 few.1.0.1)
-  where
-    empty : (xs : List (List ℕ)) → length xs ≡ 0 → is_among xs few.1.0.0 ≡ true → ⊥
-    empty [] e m = no_member few.1.0.0 m
-    empty (x ∷ xs) e m = absurd (omega arith)
+pub run_append : (ts : Trees) (t : Tree) (us vs : List (List ℕ)) → EnumeratesTree us (cat ts) → EnumeratesTree vs t →
+    EnumeratesTree (with_strings [] (concatenations us vs)) (cat (append ts (more t none)))
+run_append ts t us vs s r = (
+  finite_append ts (more t none) ∙ and_from (are_finite ts) (is_finite t && true) s.0 (and_from (is_finite t) true r.0 refl),
+  enumeration_same _ _ _ (enumeration_of_concatenations us vs (ConcatenatesExactStrings ts) (HasExactString t) s.1 r.1)
+      (λ w j. subst (ConcatenatesExactStrings (append ts (more t none))) (sym j.4)
+      (concatenates_both ts (more t none) j.0 j.1 j.2 (concatenates_one t j.1 j.3)))
+      (λ w j. let p = concatenates_split ts (more t none) w j in (p.0, p.1, p.2, exact_of_one t p.1 p.3, p.4)),
+)
 
--- the strings of a run, with a tree before it or after it
-pub prepended_enumeration : (t : Tree) (ts : Trees) (us vs : List (List ℕ)) → IsEnumeration us (HasExactString t) → IsEnumeration vs (ConcatenatesExactStrings ts) → IsEnumeration (with_strings [] (concatenations us vs)) (ConcatenatesExactStrings (more t ts))
-prepended_enumeration t ts us vs s r = enumeration_of_concatenations us vs (HasExactString t) (ConcatenatesExactStrings ts) s r
-
-pub appended_enumeration : (ts : Trees) (t : Tree) (us vs : List (List ℕ)) → IsEnumeration us (ConcatenatesExactStrings ts) → IsEnumeration vs (HasExactString t) →
-    IsEnumeration (with_strings [] (concatenations us vs)) (ConcatenatesExactStrings (append ts (more t none)))
-appended_enumeration ts t us vs s r =
-    enumeration_same _ _ _ (enumeration_of_concatenations us vs (ConcatenatesExactStrings ts) (HasExactString t) s r)
-    (λ w j. subst (ConcatenatesExactStrings (append ts (more t none))) (sym j.4) (concatenates_both ts (more t none) j.0 j.1 j.2 (concatenates_one t j.1 j.3)))
-    (λ w j. let p = concatenates_split ts (more t none) w j in (p.0, p.1, p.2, exact_of_one t p.1 p.3, p.4))
-
-pub run_step : (t : Tree) (ts : Trees) (us vs : List (List ℕ)) → EnumeratesTree us t → EnumeratesRun vs ts → EnumeratesRun (with_strings [] (concatenations us vs)) (more t ts)
-run_step t ts us vs s r = (and_from (is_finite t) (are_finite ts) s.0 r.0, prepended_enumeration t ts us vs s.1 r.1)
-
-pub alternation_step : (t : Tree) (ts : Trees) (us vs : List (List ℕ)) → EnumeratesTree us t → EnumeratesAlternation vs ts → EnumeratesAlternation (with_strings vs us) (more t ts)
+pub alternation_step : (t : Tree) (ts : Trees) (us vs : List (List ℕ)) → EnumeratesTree us t →
+    EnumeratesTree vs (alt ts) → EnumeratesTree (with_strings vs us) (alt (more t ts))
 alternation_step t ts us vs s r =
     let all : IsEnumeration (with_strings vs us) (λ w. SomeHasExactString ts w ⊎ (is_among us w ≡ true)) =
-    enumeration_strings vs us (SomeHasExactString ts) (λ w. SomeHasExactString ts w ⊎ (is_among us w ≡ true)) r.1 (λ v p. inl p) (λ v m. inr m) (λ v q. q) in (
+    enumeration_strings vs us (SomeHasExactString ts) (λ w. SomeHasExactString ts w ⊎ (is_among us w ≡ true)) r.1
+    (λ v p. inl p) (λ v m. inr m) (λ v q. q) in (
       and_from (is_finite t) (are_finite ts) s.0 r.0,
       record {
         right = λ w m. elim (all.right w m) [ inl p ↦ inr p | inr n ↦ inl (s.1.right w n) ];
@@ -171,36 +155,17 @@ alternation_step t ts us vs s r =
       },
     )
 
--- a leading run that is blocked is the longest
-pub run_is_leading : (run after ts : Trees) (ws : List (List ℕ)) → ts ≡ append run after → AreExactStringsOfRun ws run → IsBlocked run after → IsLongestLeadingRun ts ws
-run_is_leading run after ts ws e strings blocked =
-    record { run = run; after = after; is = e; finite = strings.0; each = strings.1; blocked = blocked }
-
--- few strings after a run, and too many
-pub appended_strings : (ts : Trees) (t : Tree) (ws us : List (List ℕ)) → AreExactStringsOfRun ws ts → AreExactStrings us t → 0 < length (with_strings [] (concatenations ws us)) → length (with_strings [] (concatenations ws us)) ≤ 20 →
-    AreExactStringsOfRun (with_strings [] (concatenations ws us)) (append ts (more t none))
-appended_strings ts t ws us r s some few = (
-  finite_append ts (more t none) ∙ and_from (are_finite ts) (is_finite t && true) r.0 (and_from (is_finite t) true s.0 refl),
-  whole_enumeration _ _ (appended_enumeration ts t ws us (strings_enumeration ws (ConcatenatesExactStrings ts) r.1) (strings_enumeration us (HasExactString t) s.1)) some few,
-)
-
-pub too_many_appended : (ts : Trees) (t : Tree) (ws us : List (List ℕ)) → AreExactStringsOfRun ws ts → AreExactStrings us t → (length (with_strings [] (concatenations ws us)) ≤ 20 → length (with_strings [] (concatenations ws us)) ≡ 0) →
-    HaveFewExactStrings (append ts (more t none)) → ⊥
-too_many_appended ts t ws us r s odd =
-    not_few (with_strings [] (concatenations ws us)) (append ts (more t none))
-    (appended_enumeration ts t ws us (strings_enumeration ws (ConcatenatesExactStrings ts) r.1) (strings_enumeration us (HasExactString t) s.1)) odd
-
 -- the strings of a run of one part
-pub run_strings : (ws : List (List ℕ)) (t : Tree) → AreExactStrings ws t → AreExactStringsOfRun ws (more t none)
-run_strings ws t s = (
-  and_from (is_finite t) true s.0 refl,
-  record {
-    some = s.1.some;
-    few = s.1.few;
-    different = s.1.different;
-    each = λ w. (λ j. (s.1.each w).0 (exact_of_one t w j), λ m. concatenates_one t w ((s.1.each w).1 m));
-  },
-)
+pub run_strings : (ws : List (List ℕ)) (t : Tree) → AreExactStrings ws t → AreExactStrings ws (cat (more t none))
+run_strings ws t s = record {
+  are = (
+    and_from (is_finite t) true s.are.0 refl,
+    enumeration_same ws (HasExactString t)
+        (ConcatenatesExactStrings (more t none)) s.are.1 (concatenates_one t) (exact_of_one t),
+  );
+  some = s.some;
+  few = s.few;
+}
 
 pub not_few_appended : (ts : Trees) (t : Tree) → (HaveFewExactStrings (more t none) → ⊥) → HaveFewExactStrings (append ts (more t none)) → ⊥
 not_few_appended ts t no_few few = no_few (few_suffix ts (more t none) few)
@@ -208,10 +173,17 @@ not_few_appended ts t no_few few = no_few (few_suffix ts (more t none) few)
 pub tree_not_finite : (t : Tree) → is_finite t ≡ false → HaveFewExactStrings (more t none) → ⊥
 tree_not_finite t wild few = both_ways (is_finite t) wild (and_parts (is_finite t) true few.0).0
 
-pub empty_run_strings : AreFewStrings ([] ∷ []) (ConcatenatesExactStrings none)
-empty_run_strings = record {
-  some = omega arith;
-  few = omega arith;
-  different = refl;
-  each = λ w. (λ e. first_member w [] [] e, λ m. only_member w [] m);
-}
+-- the empty string alone
+pub only_empty_string : (t : Tree) → is_finite t ≡ true → ((w : List ℕ) → HasExactString t w → w ≡ []) →
+    HasExactString t [] → EnumeratesTree ([] ∷ []) t
+only_empty_string t f only has = (
+  f,
+  record {
+    right = λ w m. subst (HasExactString t) (sym (only_member w [] m)) has;
+    different = refl;
+    whole = λ le w h. first_member w [] [] (only w h);
+  },
+)
+
+pub empty_run_strings : AreExactStrings ([] ∷ []) (cat none)
+empty_run_strings = record { are = only_empty_string (cat none) refl (λ w e. e) refl; some = omega arith; few = omega arith }

@@ -3,7 +3,7 @@ use Rattle.std.proofs.Common.{◌≡◌, ℕ, zero, suc, ◌+◌, ◌<◌, List,
 use Rattle.std.specs.Prelude.{Option, Some, None, encode_utf8}
 use Rattle.std.proofs.lemmas.List.{append-nil}
 use Rattle.cs_syntax.specs.TreeList.{append}
-use Rattle.cs_syntax.specs.Matching.{Tree, Trees, empty, one_of, one_char, cat, alt, rep, line_start, line_end, word_edge, not_word_edge, none, more}
+use Rattle.cs_syntax.specs.Matching.{Tree, Trees, one_of, one_char, cat, alt, rep, none, more}
 use Rattle.cs_trigram.specs.ExactStrings.{IsRepeated, HasExactString, ConcatenatesExactStrings, SomeHasExactString}
 use Rattle.cs_trigram.specs.MayMatch.{MayMatch, MayMatchSequence, MayMatchBranch, HasMembers, HaveMembers}
 
@@ -40,7 +40,8 @@ module _ (P : List ℕ → Type 0) where
       by [] p e rest = p
       by (b ∷ first) p e rest = rest (omega (arith, e, lt))
 
-pub repeated_as : (P Q : List ℕ → Type 0) → ((text : List ℕ) → P text → Q text) → (k : ℕ) (text : List ℕ) → IsRepeated P k text → IsRepeated Q k text
+pub repeated_as : (P Q : List ℕ → Type 0) → ((text : List ℕ) → P text → Q text) → (k : ℕ) (text : List ℕ) →
+    IsRepeated P k text → IsRepeated Q k text
 repeated_as P Q to zero text r = r
 repeated_as P Q to (suc k) text r = (r.0, r.1, to r.0 r.2, repeated_as P Q to k r.1 r.3, r.4)
 
@@ -48,7 +49,6 @@ repeated_as P Q to (suc k) text r = (r.0, r.1, to r.0 r.2, repeated_as P Q to k 
 
 mutual
   pub text_of : (t : Tree) → HasMembers t → (text : List ℕ) × MayMatch t text
-  text_of empty h = ([], refl)
   text_of (one_of set) h = (h.0 ∷ [], (h.0, h.1, refl))
   text_of (one_char ranges) h = (encode_utf8 h.0, (h.0, h.1, refl))
   text_of (cat ts) h = text_of_all ts h
@@ -58,10 +58,7 @@ mutual
       let r = text_of x h in
       let w = repeated_text (MayMatch x) r.0 r.1 n in
       (w.0, (n, omega arith, w.1))
-  text_of line_start h = ([], refl)
-  text_of line_end h = ([], refl)
-  text_of word_edge h = ([], refl)
-  text_of not_word_edge h = ([], refl)
+  text_of leaf h = ([], refl)
 
   pub text_of_all : (ts : Trees) → HaveMembers ts → (text : List ℕ) × MayMatchSequence ts text
   text_of_all none h = ([], refl)
@@ -78,17 +75,11 @@ branches_have_members (more t ts) h = h
 
 mutual
   pub exact_may_match : (t : Tree) (w : List ℕ) → HasExactString t w → MayMatch t w
-  exact_may_match empty w h = h
-  exact_may_match (one_of set) w h = h
-  exact_may_match (one_char ranges) w h = h
   exact_may_match (cat ts) w h = exact_may_match_all ts w h
   exact_may_match (alt ts) w h = exact_may_match_some ts w h
   exact_may_match (rep x n None) w h = absurd h
   exact_may_match (rep x n (Some m)) w h = (h.0, h.1, repeated_as (HasExactString x) (MayMatch x) (λ v e. exact_may_match x v e) h.0 w h.3)
-  exact_may_match line_start w h = h
-  exact_may_match line_end w h = h
-  exact_may_match word_edge w h = h
-  exact_may_match not_word_edge w h = h
+  exact_may_match leaf w h = h
 
   pub exact_may_match_all : (ts : Trees) (w : List ℕ) → ConcatenatesExactStrings ts w → MayMatchSequence ts w
   exact_may_match_all none w h = h
@@ -115,23 +106,27 @@ pub run_within : (ts run after : Trees) (w : List ℕ) → ts ≡ append run aft
 run_within ts run after w is h exact =
     let rest = text_of_all after (members_of_rest run after (subst HaveMembers is h)) in (
       w ++ rest.0,
-      subst (λ (x : Trees). MayMatchSequence x (w ++ rest.0)) (sym is) (sequence_of_both run after w rest.0 (exact_may_match_all run w exact) rest.1),
+      subst (λ (x : Trees). MayMatchSequence x (w ++ rest.0)) (sym is)
+          (sequence_of_both run after w rest.0 (exact_may_match_all run w exact) rest.1),
       ([], rest.0, refl),
     )
 
 -- a text of the last parts occurs in some text of the sequence, and so does one of the first part
-pub rest_within : (t : Tree) (ts : Trees) (w : List ℕ) → HasMembers t → MayMatchSequence ts w → (whole : List ℕ) × MayMatchSequence (more t ts) whole × OccursIn w whole
+pub rest_within : (t : Tree) (ts : Trees) (w : List ℕ) → HasMembers t → MayMatchSequence ts w →
+    (whole : List ℕ) × MayMatchSequence (more t ts) whole × OccursIn w whole
 rest_within t ts w h m =
     let first = text_of t h in
     (first.0 ++ w, (first.0, w, first.1, m, refl), (first.0, [], ap (λ (x : List ℕ). first.0 ++ x) (sym (append-nil w))))
 
-pub first_within : (t : Tree) (ts : Trees) (w : List ℕ) → HaveMembers ts → MayMatch t w → (whole : List ℕ) × MayMatchSequence (more t ts) whole × OccursIn w whole
+pub first_within : (t : Tree) (ts : Trees) (w : List ℕ) → HaveMembers ts → MayMatch t w →
+    (whole : List ℕ) × MayMatchSequence (more t ts) whole × OccursIn w whole
 first_within t ts w h m =
     let rest = text_of_all ts h in
     (w ++ rest.0, (w, rest.0, m, rest.1, refl), ([], rest.0, refl))
 
 -- a text of an iteration occurs in some text of the repeat
-pub iteration_within : (x : Tree) (n : ℕ) (m : Option ℕ) (w : List ℕ) → MayMatch x w → (whole : List ℕ) × MayMatch (rep x n m) whole × OccursIn w whole
+pub iteration_within : (x : Tree) (n : ℕ) (m : Option ℕ) (w : List ℕ) → MayMatch x w →
+    (whole : List ℕ) × MayMatch (rep x n m) whole × OccursIn w whole
 iteration_within x n m w is =
     let rest = repeated_text (MayMatch x) w is n in
     (w ++ rest.0, (suc n, omega arith, (w, rest.0, is, rest.1, refl)), ([], rest.0, refl))

@@ -2,6 +2,7 @@
 use Rattle.std.proofs.Common.{◌≡◌, ℕ, suc, ◌≤◌, ◌⊎◌, inl, inr, not, true, List, [], ◌∷◌, ◌++◌, length, map, refl, sym, ◌∙◌, ap, subst, arith}
 use Rattle.std.specs.Str.{bytes_eq}
 use Rattle.std.proofs.lemmas.Bool.{or_cases, or_left, or_right, false≢true, and_parts, and_from, both_ways, not-true, false_from_ne_true}
+use Rattle.std.proofs.lemmas.List.Folds.{list_any-append}
 use Rattle.std.proofs.lemmas.Slice.Eq.{bytes_eq-Decides}
 use Rattle.cs_tree.specs.Cover.{is_among}
 use Rattle.cs_tree.specs.Folders.{are_distinct}
@@ -27,26 +28,16 @@ pub only_member : (w x : List ℕ) → is_among (x ∷ []) w ≡ true → w ≡ 
 only_member w x m = elim (member_cases w x [] m) [ inl e ↦ e | inr n ↦ absurd (no_member w n) ]
 
 pub member_append : (w : List ℕ) (xs ys : List (List ℕ)) → is_among (xs ++ ys) w ≡ true → (is_among xs w ≡ true) ⊎ (is_among ys w ≡ true)
-member_append w [] ys m = inr m
-member_append w (x ∷ xs) ys m =
-    elim (member_cases w x (xs ++ ys) m) [
-      | inl e ↦ inl (first_member w x xs e)
-      | inr n ↦ elim (member_append w xs ys n) [ inl a ↦ inl (later_member w x xs a) | inr b ↦ inr b ]
-    ]
+member_append w xs ys m = or_cases (is_among xs w) (is_among ys w) (sym (list_any-append (λ x. bytes_eq x w) xs ys) ∙ m)
 
 pub member_left : (w : List ℕ) (xs ys : List (List ℕ)) → is_among xs w ≡ true → is_among (xs ++ ys) w ≡ true
-member_left w [] ys m = absurd (no_member w m)
-member_left w (x ∷ xs) ys m =
-    elim (member_cases w x xs m) [
-      | inl e ↦ first_member w x (xs ++ ys) e
-      | inr n ↦ later_member w x (xs ++ ys) (member_left w xs ys n)
-    ]
+member_left w xs ys m = list_any-append (λ x. bytes_eq x w) xs ys ∙ or_left (is_among xs w) (is_among ys w) m
 
 pub member_right : (w : List ℕ) (xs ys : List (List ℕ)) → is_among ys w ≡ true → is_among (xs ++ ys) w ≡ true
-member_right w [] ys m = m
-member_right w (x ∷ xs) ys m = later_member w x (xs ++ ys) (member_right w xs ys m)
+member_right w xs ys m = list_any-append (λ x. bytes_eq x w) xs ys ∙ or_right (is_among xs w) (is_among ys w) m
 
-pub member_map : (f : List ℕ → List ℕ) (w : List ℕ) (xs : List (List ℕ)) → is_among (map f xs) w ≡ true → (v : List ℕ) × (is_among xs v ≡ true) × (w ≡ f v)
+pub member_map : (f : List ℕ → List ℕ) (w : List ℕ) (xs : List (List ℕ)) → is_among (map f xs) w ≡ true →
+    (v : List ℕ) × (is_among xs v ≡ true) × (w ≡ f v)
 member_map f w [] m = absurd (no_member w m)
 member_map f w (x ∷ xs) m =
     elim (member_cases w (f x) (map f xs) m) [
@@ -90,7 +81,8 @@ distinct_more w ws new d =
     and_from (not (is_among ws w)) (are_distinct ws) (ap not (false_from_ne_true (is_among ws w) new)) d
 
 -- distinct strings that are members of a list are at most as many
-pub different_within : (ws us : List (List ℕ)) → are_distinct ws ≡ true → ((w : List ℕ) → is_among ws w ≡ true → is_among us w ≡ true) → length ws ≤ length us
+pub different_within : (ws us : List (List ℕ)) → are_distinct ws ≡ true →
+    ((w : List ℕ) → is_among ws w ≡ true → is_among us w ≡ true) → length ws ≤ length us
 different_within [] us d f = omega arith
 different_within (w ∷ ws) us d f =
     let r = removed w us (f w (first_member w w ws refl)) in
@@ -98,7 +90,8 @@ different_within (w ∷ ws) us d f =
     r.2 v (f v (later_member v w ws m)) (λ e. distinct_head w ws d (subst (λ (x : List ℕ). is_among ws x ≡ true) e m))) in
     omega (arith, rest, r.1)
 
-pub different_push : (ws : List (List ℕ)) (w : List ℕ) → are_distinct ws ≡ true → (is_among ws w ≡ true → ⊥) → are_distinct (ws ++ w ∷ []) ≡ true
+pub different_push : (ws : List (List ℕ)) (w : List ℕ) → are_distinct ws ≡ true → (is_among ws w ≡ true → ⊥) →
+    are_distinct (ws ++ w ∷ []) ≡ true
 different_push [] w d new = refl
 different_push (x ∷ ws) w d new =
     distinct_more x (ws ++ w ∷ [])
@@ -108,7 +101,8 @@ different_push (x ∷ ws) w d new =
     ])
     (different_push ws w (distinct_tail x ws d) (λ m. new (later_member w x ws m)))
 
-pub different_map : (f : List ℕ → List ℕ) → ((u v : List ℕ) → f u ≡ f v → u ≡ v) → (ws : List (List ℕ)) → are_distinct ws ≡ true → are_distinct (map f ws) ≡ true
+pub different_map : (f : List ℕ → List ℕ) → ((u v : List ℕ) → f u ≡ f v → u ≡ v) → (ws : List (List ℕ)) →
+    are_distinct ws ≡ true → are_distinct (map f ws) ≡ true
 different_map f once [] d = refl
 different_map f once (w ∷ ws) d =
     distinct_more (f w) (map f ws)

@@ -1,6 +1,6 @@
 -- The trigrams that queries mention.
-use Rattle.std.proofs.Common.{◌≡◌, ℕ, zero, suc, ◌+◌, ◌<◌, ◌&&◌, ◌||◌, Bool, true, false, List, [], ◌∷◌, get_or, drop, take, length, refl, sym, ◌∙◌, ap, subst, inl, inr, arith}
-use Rattle.std.proofs.lemmas.Bool.{false≢true, or_cases, or_left, eqb-true, eq-eqb}
+use Rattle.std.proofs.Common.{◌≡◌, ℕ, zero, suc, ◌+◌, ◌<◌, ◌&&◌, ◌||◌, Bool, true, false, List, [], ◌∷◌, ◌++◌, get_or, drop, take, length, refl, sym, ◌∙◌, ap, subst, inl, inr, arith}
+use Rattle.std.proofs.lemmas.Bool.{false≢true, or_cases, or_left, or_right, eqb-true, eq-eqb}
 use Rattle.std.proofs.Math.Bool.{and_assoc}
 use Rattle.std.specs.List.{list_all}
 use Rattle.std.proofs.lemmas.List.{append-nil, take-append-drop}
@@ -15,10 +15,11 @@ use Rattle.cs_trigram.specs.declared.queries.Query.{Query}
 use Rattle.cs_trigram.specs.declared.queries.Query.TheVariants.{All, Tri}
 use Rattle.cs_trigram.proofs.LawLemmas.{has-before, has-part_of}
 use Rattle.cs_trigram.proofs.QueryLemmas.{matches_set-Tri, mentions-All, mentions-Tri}
-use Rattle.cs_trigram.proofs.SetLemmas.{has-set_of_numbers}
+use Rattle.cs_trigram.proofs.SetLemmas.{has-append, has-set_of_numbers}
 
 -- a trigram of a text is one of each text in which it occurs
-pub trigram_within : (P : List ℕ → Type 0) (g : ℕ) (text whole : List ℕ) → has (tri text) g ≡ true → P whole → OccursIn text whole → IsTrigramOf P g
+pub trigram_within : (P : List ℕ → Type 0) (g : ℕ) (text whole : List ℕ) → has (tri text) g ≡ true → P whole →
+    OccursIn text whole → IsTrigramOf P g
 trigram_within P g text whole h is part =
     (whole, is, subst (λ (x : List ℕ). has (tri x) g ≡ true) (sym part.2) (has-part_of part.0 text part.1 g h))
 
@@ -48,38 +49,16 @@ pub all_mentions_none : (A : Type 0) (P : List ℕ → Type 0) → AreTrigramsOf
 all_mentions_none A P = no_trigrams (mentions All) A P (λ g. mentions-All g)
 
 -- a query of one trigram
-pub mentions_one : (n : ℕ) (text : List ℕ) → n < trigram_count → has (tri text) n ≡ true → AreTrigramsOf (mentions (Tri n)) (Unit {0}) (λ part. part ≡ text)
+pub mentions_one : (n : ℕ) (text : List ℕ) → n < trigram_count → has (tri text) n ≡ true →
+    AreTrigramsOf (mentions (Tri n)) (Unit {0}) (λ part. part ≡ text)
 mentions_one n text below has_it g h =
     let same : g ≡ n = eqb-true g n (sym (mentions-Tri g n) ∙ h) in
     (subst (λ x. x < trigram_count) (sym same) below, λ b. (text, refl, subst (λ x. has (tri text) x ≡ true) (sym same) has_it))
 
-next_at : (text : List ℕ) (i : ℕ) → i + 2 < length text →
-    trigram_sequence (drop i text) ≡ trigram (get_or text i 0) (get_or text (suc i) 0) (get_or text (suc (suc i)) 0) ∷ trigram_sequence (drop (suc i) text)
-next_at [] i lt = absurd (omega arith)
-next_at (a ∷ []) i lt = absurd (omega arith)
-next_at (a ∷ b ∷ []) i lt = absurd (omega arith)
-next_at (a ∷ b ∷ c ∷ rest) zero lt = refl
-next_at (a ∷ text) (suc i) lt = next_at text i (omega arith)
-
--- the trigram at an offset
-pub sequence_next : (text : List ℕ) (i : ℕ) → i + 2 < length text →
-    trigram_sequence (drop i text) ≡ trigram (get_or text i 0) (get_or text (i + 1) 0) (get_or text (i + 2) 0) ∷ trigram_sequence (drop (i + 1) text)
-sequence_next text i lt =
-    let one : suc i ≡ i + 1 = omega arith in
-    let two : suc (suc i) ≡ i + 2 = omega arith in
-    next_at text i lt ∙ ap (λ j. trigram (get_or text i 0) (get_or text j 0) (get_or text (suc (suc i)) 0) ∷ trigram_sequence (drop j text)) one
-    ∙ ap (λ j. trigram (get_or text i 0) (get_or text (i + 1) 0) (get_or text j 0) ∷ trigram_sequence (drop (i + 1) text)) two
-
-pub trigram_at : (text : List ℕ) (i n : ℕ) → trigram_sequence (drop i text) ≡ n ∷ trigram_sequence (drop (i + 1) text) → has (tri text) n ≡ true
-trigram_at text i n next =
-    let rest = trigram_sequence (drop (i + 1) text) in
-    let there = ap (λ (ns : List ℕ). has ns n) next ∙ or_left (nat_eq n n) (has rest n) (eq-eqb n n refl) in
-    has-set_of_numbers n (trigram_sequence text)
-    ∙ subst (λ (x : List ℕ). has (trigram_sequence x) n ≡ true) (take-append-drop i text) (has-before (take i text) (drop i text) n there)
-
--- one more trigram
-pub trigram_step : (set : ℕ → Bool) (members queries : List Query) (n : ℕ) (rest : List ℕ) → all_match queries set ≡ (all_match members set && matches_set (Tri n) set) →
-    (all_match queries set && list_all set rest) ≡ (all_match members set && list_all set (n ∷ rest))
-trigram_step set members queries n rest e =
-    ap (λ b. b && list_all set rest) (e ∙ ap (λ b. all_match members set && b) (matches_set-Tri set n))
-    ∙ and_assoc (all_match members set) (set n) (list_all set rest)
+-- one more trigram of a prefix is one of the text
+pub trigram_at : (text : List ℕ) (i n : ℕ) (before : List ℕ) → trigram_sequence (take i text) ≡ before ++ n ∷ [] → has (tri text) n ≡ true
+trigram_at text i n before next =
+    let last = has-append n before (n ∷ []) ∙ or_right (has before n) (has (n ∷ []) n) (or_left (nat_eq n n) false (eq-eqb n n refl)) in
+    subst (λ (x : List ℕ). has (tri x) n ≡ true) (take-append-drop i text)
+    (has-part_of [] (take i text) (drop i text) n (has-set_of_numbers n (trigram_sequence (take i text))
+    ∙ ap (λ (ns : List ℕ). has ns n) next ∙ last))

@@ -25,19 +25,24 @@ length-line prefix =
     length-drop (length prefix - suffix_len (λ b. not (nat_eq b 10)) prefix) prefix ∙ omega (arith, most)
 
 -- a newline ends the line, and any other byte makes it longer
-pub length-line-push : (prefix : List ℕ) (b : ℕ) → length (line_so_far (prefix ++ b ∷ [])) ≡ cond (nat_eq b 10) 0 (length (line_so_far prefix) + 1)
+pub length-line-push : (prefix : List ℕ) (b : ℕ) → length (line_so_far (prefix ++ b ∷ []))
+    ≡ cond (nat_eq b 10) 0 (length (line_so_far prefix) + 1)
 length-line-push prefix b =
     length-line (prefix ++ b ∷ [])
     ∙ ap (prefix_len (λ b. not (nat_eq b 10))) (reverse-append prefix (b ∷ []))
-    ∙ elim (nat_eq b 10) as (λ t. cond (not t) (1 + suffix_len (λ b. not (nat_eq b 10)) prefix) 0 ≡ cond t 0 (length (line_so_far prefix) + 1)) [
+    ∙ elim (nat_eq b 10) as (λ t. cond (not t) (1 + suffix_len (λ b. not (nat_eq b 10)) prefix) 0
+    ≡ cond t 0 (length (line_so_far prefix) + 1)) [
       | true ↦ refl
       | false ↦ omega (arith, length-line prefix)
     ]
 
-pub first_broken-append : (most : Limits) (prefix xs ys : List ℕ) → first_broken most prefix (xs ++ ys) ≡ option_or (first_broken most prefix xs) (first_broken most (prefix ++ xs) ys)
+pub first_broken-append : (most : Limits) (prefix xs ys : List ℕ) → first_broken most prefix (xs ++ ys)
+    ≡ option_or (first_broken most prefix xs) (first_broken most (prefix ++ xs) ys)
 first_broken-append most prefix [] ys = ap (λ f. first_broken most f ys) (sym (append-nil prefix))
 first_broken-append most prefix (x ∷ xs) ys =
-    ap (option_or (rule_broken most prefix x)) (first_broken-append most (prefix ++ x ∷ []) xs ys ∙ ap (λ f. option_or (first_broken most (prefix ++ x ∷ []) xs) (first_broken most f ys)) (append_assoc prefix (x ∷ []) xs))
+    ap (option_or (rule_broken most prefix x)) (first_broken-append most (prefix ++ x ∷ []) xs ys
+    ∙ ap (λ f. option_or (first_broken most (prefix ++ x ∷ []) xs) (first_broken most f ys))
+    (append_assoc prefix (x ∷ []) xs))
     ∙ option_or_assoc (rule_broken most prefix x) (first_broken most (prefix ++ x ∷ []) xs) (first_broken most (prefix ++ (x ∷ xs)) ys)
   where
     option_or_assoc : (a b c : Option Reason) → option_or a (option_or b c) ≡ option_or (option_or a b) c
@@ -45,7 +50,13 @@ first_broken-append most prefix (x ∷ xs) ys =
     option_or_assoc (Some r) b c = refl
 
 -- the position after one more byte
-pub IsPositionAfter-push : (position : Position) (prefix : List ℕ) (b : ℕ) → IsPositionAfter position prefix → IsPositionAfter (record { count = position.count + 1; column = cond (nat_eq b 10) 0 (position.column + 1); before = b }) (prefix ++ b ∷ [])
+pub IsPositionAfter-push : (position : Position) (prefix : List ℕ) (b : ℕ) → IsPositionAfter position prefix →
+    IsPositionAfter (record {
+      count = position.count + 1;
+      column = cond (nat_eq b 10) 0 (position.column + 1);
+      before =
+          b;
+    }) (prefix ++ b ∷ [])
 IsPositionAfter-push position prefix b is_after = record {
   count = omega (arith, is_after.count, length-append prefix (b ∷ []));
   column = ap (λ n. cond (nat_eq b 10) 0 (n + 1)) is_after.column ∙ sym (length-line-push prefix b);
@@ -53,28 +64,39 @@ IsPositionAfter-push position prefix b is_after = record {
 }
 
 -- bytes that break no rule, and then some more
-pub Validates-append : (most : Limits) (prefix xs ys : List ℕ) (answer : Result Position Reason) → first_broken most prefix xs ≡ None → Validates most (prefix ++ xs) ys answer → Validates most prefix (xs ++ ys) answer
-Validates-append most prefix xs ys (Ok next) first then =
-    (first_broken-append most prefix xs ys ∙ ap (λ r. option_or r (first_broken most (prefix ++ xs) ys)) first ∙ then.0, rw (← append_assoc prefix xs ys) then.1)
+pub Validates-append : (most : Limits) (prefix xs ys : List ℕ) (answer : Result Position Reason) →
+    first_broken most prefix xs ≡ None → Validates most (prefix ++ xs) ys answer →
+    Validates most prefix (xs ++ ys) answer
+Validates-append most prefix xs ys (Ok next) first then = (
+  first_broken-append most prefix xs ys ∙ ap (λ r. option_or r (first_broken most (prefix ++ xs) ys)) first ∙ then.0,
+  rw (← append_assoc prefix xs ys) then.1,
+)
 Validates-append most prefix xs ys (Err reason) first then =
     first_broken-append most prefix xs ys ∙ ap (λ r. option_or r (first_broken most (prefix ++ xs) ys)) first ∙ then
 
 -- a byte that breaks a rule, and then some more
-pub Validates-stop : (most : Limits) (prefix xs ys : List ℕ) (reason : Reason) → first_broken most prefix xs ≡ Some reason → first_broken most prefix (xs ++ ys) ≡ Some reason
-Validates-stop most prefix xs ys reason first = first_broken-append most prefix xs ys ∙ ap (λ r. option_or r (first_broken most (prefix ++ xs) ys)) first
+pub Validates-stop : (most : Limits) (prefix xs ys : List ℕ) (reason : Reason) → first_broken most prefix xs
+    ≡ Some reason → first_broken most prefix (xs ++ ys) ≡ Some reason
+Validates-stop most prefix xs ys reason first = first_broken-append most prefix xs ys
+    ∙ ap (λ r. option_or r (first_broken most (prefix ++ xs) ys)) first
 
 -- the bytes before an index and the byte there
-pub Validates-more : (most : Limits) (prefix bytes : List ℕ) (i : ℕ) (answer : Result Position Reason) → i < length bytes → first_broken most prefix (take i bytes) ≡ None → Validates most (prefix ++ take i bytes) (get_or bytes i 0 ∷ []) answer → Validates most prefix (take (i + 1) bytes) answer
+pub Validates-more : (most : Limits) (prefix bytes : List ℕ) (i : ℕ) (answer : Result Position Reason) →
+    i < length bytes → first_broken most prefix (take i bytes) ≡ None → Validates most (prefix ++ take i bytes)
+    (get_or bytes i 0 ∷ []) answer → Validates most prefix (take (i + 1) bytes) answer
 Validates-more most prefix bytes i answer within first then =
     rw (take_more bytes i 0 within) (Validates-append most prefix (take i bytes) (get_or bytes i 0 ∷ []) answer first then)
 
 -- the first byte that breaks a rule decides
-pub first_broken-on_the_way : (most : Limits) (prefix bytes : List ℕ) (i : ℕ) (reason : Reason) → first_broken most prefix (take i bytes) ≡ Some reason → first_broken most prefix bytes ≡ Some reason
+pub first_broken-on_the_way : (most : Limits) (prefix bytes : List ℕ) (i : ℕ) (reason : Reason) →
+    first_broken most prefix (take i bytes) ≡ Some reason → first_broken most prefix bytes ≡ Some reason
 first_broken-on_the_way most prefix bytes i reason first =
     ap (first_broken most prefix) (sym (take-append-drop i bytes)) ∙ Validates-stop most prefix (take i bytes) (drop i bytes) reason first
 
 -- the bytes before an offset and a chunk from there on
-pub Validates-chunk : (most : Limits) (prefix bytes : List ℕ) (offset end : ℕ) (answer : Result Position Reason) → offset ≤ end → first_broken most prefix (take offset bytes) ≡ None → Validates most (prefix ++ take offset bytes) (take (end - offset) (drop offset bytes)) answer → Validates most prefix (take end bytes) answer
+pub Validates-chunk : (most : Limits) (prefix bytes : List ℕ) (offset end : ℕ) (answer : Result Position Reason) →
+    offset ≤ end → first_broken most prefix (take offset bytes) ≡ None → Validates most (prefix ++ take offset bytes)
+    (take (end - offset) (drop offset bytes)) answer → Validates most prefix (take end bytes) answer
 Validates-chunk most prefix bytes offset end answer order first then =
     let split : end ≡ offset + (end - offset) = omega (arith, order) in
     let whole : take end bytes ≡ take offset bytes ++ take (end - offset) (drop offset bytes) =

@@ -68,7 +68,8 @@ trigrams_of_hello = refl
 
 exact_runs_of_hello : (set : ℕ → Bool) → HasExactRuns set (cat (letters hello)) ↔ (list_all set (6646892 ∷ 6841708 ∷ 7105647 ∷ []) ≡ true)
 exact_runs_of_hello set = (
-  λ has_run. let has_runs = has_run.1.0 none (letters hello) none refl hello_is_a_run in subst (HasTrigrams set) (concatenates_no_other hello has_runs.0 has_runs.1) has_runs.2,
+  λ has_run. let has_runs = has_run.1.0 none (letters hello) none refl hello_is_a_run in
+      subst (HasTrigrams set) (concatenates_no_other hello has_runs.0 has_runs.1) has_runs.2,
   λ known. exact_match_has_runs set (cat (letters hello)) hello (concatenates hello) known,
 )
 
@@ -77,13 +78,16 @@ exact_runs_of_hello set = (
 abbrev ab_or_cd_then_ef : Trees
 ab_or_cd_then_ef = more (alt (more (cat (letters (codes "ab"))) (more (cat (letters (codes "cd"))) none))) (letters (codes "ef"))
 
-alternation_concatenates : (string : List ℕ) → ConcatenatesExactStrings ab_or_cd_then_ef string → is_among (codes "abef" ∷ codes "cdef" ∷ []) string ≡ true
+alternation_concatenates : (string : List ℕ) → ConcatenatesExactStrings ab_or_cd_then_ef string →
+    is_among (codes "abef" ∷ codes "cdef" ∷ []) string ≡ true
 alternation_concatenates string j =
     let suffix = concatenates_no_other (codes "ef") j.1 j.3 in
     elim j.2 [
-      | inl first ↦ let prefix = concatenates_no_other (codes "ab") j.0 first in first_member string (codes "abef") (codes "cdef" ∷ []) (j.4 ∙ (λ i. prefix i ++ suffix i))
+      | inl first ↦ let prefix = concatenates_no_other (codes "ab") j.0 first in first_member string (codes "abef")
+          (codes "cdef" ∷ []) (j.4 ∙ (λ i. prefix i ++ suffix i))
       | inr rest ↦ elim rest [
-        | inl second ↦ let prefix = concatenates_no_other (codes "cd") j.0 second in later_member string (codes "abef") (codes "cdef" ∷ []) (first_member string (codes "cdef") [] (j.4 ∙ (λ i. prefix i ++ suffix i)))
+        | inl second ↦ let prefix = concatenates_no_other (codes "cd") j.0 second in later_member string (codes "abef")
+            (codes "cdef" ∷ []) (first_member string (codes "cdef") [] (j.4 ∙ (λ i. prefix i ++ suffix i)))
         | inr neither ↦ absurd neither
       ]
     ]
@@ -215,7 +219,12 @@ euro_has_few_exact_strings = (
   refl,
   (
     (euro_bytes, concatenates_one euro euro_bytes euro_is_an_exact_string),
-    (euro_bytes ∷ [], omega arith, λ string j. first_member string euro_bytes [] (euro_is_the_only_exact_string string (exact_of_one euro string j))),
+    (
+      euro_bytes ∷ [],
+      omega arith,
+      λ string j. first_member string euro_bytes []
+          (euro_is_the_only_exact_string string (exact_of_one euro string j)),
+    ),
   ),
 )
 
@@ -225,9 +234,11 @@ trigrams_of_euro = refl
 requiring_nothing_of_a_character_is_not_selective : IsSelective All euro → ⊥
 requiring_nothing_of_a_character_is_not_selective selective =
     let has_runs = (selective (λ n. false) (matches_set-All (λ n. false))).0 euro_has_few_exact_strings in
-    true≢false (sym (subst (HasTrigrams (λ n. false)) (euro_is_the_only_exact_string has_runs.0 (exact_of_one euro has_runs.0 has_runs.1)) has_runs.2))
+    true≢false (sym (subst (HasTrigrams (λ n. false))
+    (euro_is_the_only_exact_string has_runs.0 (exact_of_one euro has_runs.0 has_runs.1)) has_runs.2))
 
 requiring_nothing_of_a_character_requires_no_string : RequiresExactString All euro → ⊥
 requiring_nothing_of_a_character_requires_no_string requires =
     let has_runs = (requires (λ n. false)).0 (matches_set-All (λ n. false)) in
-    true≢false (sym (subst (HasTrigrams (λ n. false)) (euro_is_the_only_exact_string has_runs.0 (exact_of_one euro has_runs.0 has_runs.1)) has_runs.2))
+    true≢false (sym (subst (HasTrigrams (λ n. false))
+    (euro_is_the_only_exact_string has_runs.0 (exact_of_one euro has_runs.0 has_runs.1)) has_runs.2))

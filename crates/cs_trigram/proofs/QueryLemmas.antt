@@ -1,11 +1,12 @@
 -- The equations of `matches_set` and of `mentions`, one for each variant.
-use Rattle.std.proofs.Common.{◌≡◌, ℕ, ◌+◌, ◌≤◌, ◌&&◌, ◌||◌, Bool, true, false, List, [], ◌∷◌, ◌++◌, drop, length, Vec, Global, refl, sym, ◌∙◌, ap, arith, length-drop}
+use Rattle.std.proofs.Common.{◌≡◌, ℕ, ◌+◌, ◌≤◌, ◌&&◌, ◌||◌, Bool, true, false, List, [], ◌∷◌, ◌++◌, drop, length, Vec, Global, sym, ◌∙◌, ap, arith, length-drop}
 use Rattle.std.specs.Prelude.{nat_eq}
 use Rattle.std.specs.List.{list_all}
 use Rattle.std.proofs.Math.Bool.{and-true, or-false, or-true, or_assoc}
 use Rattle.std.proofs.lemmas.List.Folds.{list_all-map, list_all-append, list_any-append}
 use Rattle.cs_tree.proofs.NameLemmas.{list_any-map}
 use Rattle.cs_trigram.specs.Trigram.{trigram_sequence, set_of_numbers}
+use Rattle.cs_trigram.proofs.SplitTrigramLemmas.{sequence-short}
 use Rattle.cs_trigram.specs.Query.{matches_set, matches_set_step, mentions, mentions_step}
 use Rattle.cs_trigram.specs.Analysis.{has_trigrams, all_match, some_matches, some_mentions, has_any}
 use Rattle.cs_trigram.specs.declared.queries.Query.{Query, Query-F, fold-roll-Query}
@@ -53,27 +54,19 @@ module _ (g : ℕ) where
       list_any-append (λ x. mentions x g) queries (q ∷ []) ∙ ap (λ b. some_mentions queries g || b) (or-false (mentions q g))
 
 -- one more member
-pub all_match_push : (set : ℕ → Bool) (queries : List Query) (q : Query) → all_match (queries ++ q ∷ []) set ≡ (all_match queries set && matches_set q set)
+pub all_match_push : (set : ℕ → Bool) (queries : List Query) (q : Query) → all_match (queries ++ q ∷ []) set
+    ≡ (all_match queries set && matches_set q set)
 all_match_push set queries q =
     list_all-append (λ x. matches_set x set) queries (q ∷ []) ∙ ap (λ b. all_match queries set && b) (and-true (matches_set q set))
 
-pub some_matches_push : (set : ℕ → Bool) (queries : List Query) (q : Query) → some_matches (queries ++ q ∷ []) set ≡ (some_matches queries set || matches_set q set)
+pub some_matches_push : (set : ℕ → Bool) (queries : List Query) (q : Query) → some_matches (queries ++ q ∷ []) set
+    ≡ (some_matches queries set || matches_set q set)
 some_matches_push set queries q =
     list_any-append (λ x. matches_set x set) queries (q ∷ []) ∙ ap (λ b. some_matches queries set || b) (or-false (matches_set q set))
 
-pub trigrams_short : (text : List ℕ) → length text ≤ 2 → trigram_sequence text ≡ []
-trigrams_short [] h = refl
-trigrams_short (a ∷ []) h = refl
-trigrams_short (a ∷ b ∷ []) h = refl
-trigrams_short (a ∷ b ∷ c ∷ rest) h = absurd (omega arith)
-
-pub trigram_end : (set : ℕ → Bool) (members : List Query) (text : List ℕ) (offset : ℕ) → length text ≤ offset + 2 →
-    (all_match members set && list_all set (trigram_sequence (drop offset text))) ≡ all_match members set
-trigram_end set members text offset le =
-    ap (λ (ns : List ℕ). all_match members set && list_all set ns) (trigrams_short (drop offset text) (omega (arith, length-drop offset text))) ∙ and-true (all_match members set)
-
 -- one more string
-pub text_step : (set : ℕ → Bool) (members : List Query) (q : Query) (w : List ℕ) (ws : List (List ℕ)) → matches_set q set ≡ has_trigrams set w →
+pub text_step : (set : ℕ → Bool) (members : List Query) (q : Query) (w : List ℕ) (ws : List (List ℕ)) →
+    matches_set q set ≡ has_trigrams set w →
     (some_matches (members ++ q ∷ []) set || has_any set ws) ≡ (some_matches members set || has_any set (w ∷ ws))
 text_step set members q w ws e =
     ap (λ b. b || has_any set ws) (some_matches_push set members q ∙ ap (λ b. some_matches members set || b) e)
@@ -82,4 +75,4 @@ text_step set members q w ws e =
 -- a string without a trigram is required trivially
 pub short_there : (set : ℕ → Bool) (rest : List (List ℕ)) (w : List ℕ) (b : Bool) → length w ≤ 2 → (b || has_any set (w ∷ rest)) ≡ true
 short_there set rest w b le =
-    ap (λ (ns : List ℕ). b || (list_all set (set_of_numbers ns) || has_any set rest)) (trigrams_short w le) ∙ or-true b
+    ap (λ (ns : List ℕ). b || (list_all set (set_of_numbers ns) || has_any set rest)) (sequence-short w (omega arith)) ∙ or-true b

@@ -15,7 +15,8 @@ option_or-none None b h = (refl, h)
 option_or-none (Some r) b h = absurd (cc)
 
 -- a byte above f7 may follow no byte
-follower_below : (b : ℕ) (s t u : Bool) → cond s (ltb b 128 || (leb 192 b && leb b 247)) (cond t (leb b 247) (cond u (leb 128 b && ltb b 192) false)) ≡ true → b < 248
+follower_below : (b : ℕ) (s t u : Bool) → cond s (ltb b 128 || (leb 192 b && leb b 247))
+    (cond t (leb b 247) (cond u (leb 128 b && ltb b 192) false)) ≡ true → b < 248
 follower_below b true t u h =
     elim (or_cases (ltb b 128) (leb 192 b && leb b 247) h) [
       | inl low ↦ omega (arith, ltb-true b 128 low)

@@ -2,6 +2,7 @@
 use Rattle.std.proofs.Common.{◌≡◌, ◌⊎◌, ℕ, ◌+◌, ◌<◌, ◌≤◌, Bool, true, false, cond, ◌&&◌, ◌||◌, ltb, eqb, List, [], ◌∷◌, ◌++◌, length, refl, sym, ap, ◌∙◌, inl, inr, arith}
 use Rattle.std.proofs.Math.Bool.{and-false, or-false, or_comm, or_self_left}
 use Rattle.std.proofs.lemmas.Bool.{true≢false, cases_Bool, cond_both, cases_order, eqb-true, eqb-false, eq-eqb, ne_eqb, or_left, or_parts, or_right, ltb-true, ltb-false}
+use Rattle.std.proofs.lemmas.List.Folds.{list_any-append}
 use Rattle.std.specs.Prelude.{filter}
 use Rattle.std.specs.List.{AllByRecursion}
 use Rattle.cs_trigram.specs.Trigram.{Ascends, with_number, set_of_numbers, has}
@@ -39,7 +40,8 @@ ascends_with_number n (m ∷ ms) up =
     (λ more. cond_both (eqb n m) (m ∷ ms) (m ∷ with_number n ms) Ascends (λ _. up)
     (λ apart.
     let below : m < n = between n m (ltb-false n m more) (eqb-false n m apart) in
-    ascends_cons m (with_number n ms) (above_with_number m n ms below (ascends_head m ms up)) (ascends_with_number n ms (ascends_tail m ms up))))
+    ascends_cons m (with_number n ms) (above_with_number m n ms below (ascends_head m ms up))
+    (ascends_with_number n ms (ascends_tail m ms up))))
   where
     between : (n m : ℕ) → m ≤ n → (n ≡ m → ⊥) → m < n
     between n m h g = omega (arith, h, g)
@@ -84,8 +86,7 @@ has-set_of_numbers g [] = refl
 has-set_of_numbers g (n ∷ ns) = has-with_number n g (set_of_numbers ns) ∙ ap (λ t. eqb n g || t) (has-set_of_numbers g ns)
 
 pub has-append : (g : ℕ) (xs ys : List ℕ) → has (xs ++ ys) g ≡ (has xs g || has ys g)
-has-append g [] ys = refl
-has-append g (x ∷ xs) ys = elim (eqb x g) as (λ b. (b || has (xs ++ ys) g) ≡ ((b || has xs g) || has ys g)) [ true ↦ refl | false ↦ has-append g xs ys ]
+has-append g xs ys = list_any-append (λ x. eqb x g) xs ys
 
 -- a number below the first of an ascending list is not a member
 pub below_none : (n : ℕ) (ms : List ℕ) → Above n ms → Ascends ms → has ms n ≡ false
@@ -127,12 +128,16 @@ ascends_same (x ∷ xs) (y ∷ ys) a b h =
 
 -- a number appended to a list is inserted into its set
 pub set_of_numbers-push : (xs : List ℕ) (n : ℕ) → set_of_numbers (xs ++ n ∷ []) ≡ with_number n (set_of_numbers xs)
-set_of_numbers-push xs n = ascends_same (set_of_numbers (xs ++ n ∷ [])) (with_number n (set_of_numbers xs)) (ascends_set (xs ++ n ∷ [])) (ascends_with_number n (set_of_numbers xs) (ascends_set xs)) (λ g.
-    has-set_of_numbers g (xs ++ n ∷ []) ∙ has-append g xs (n ∷ []) ∙ ap (λ t. has xs g || t) (or-false (eqb n g)) ∙ or_comm (has xs g) (eqb n g) ∙ ap (λ t. eqb n g || t) (sym (has-set_of_numbers g xs)) ∙ sym (has-with_number n g (set_of_numbers xs)))
+set_of_numbers-push xs n = ascends_same (set_of_numbers (xs ++ n ∷ [])) (with_number n (set_of_numbers xs))
+    (ascends_set (xs ++ n ∷ [])) (ascends_with_number n (set_of_numbers xs) (ascends_set xs)) (λ g.
+    has-set_of_numbers g (xs ++ n ∷ []) ∙ has-append g xs (n ∷ []) ∙ ap (λ t. has xs g || t) (or-false (eqb n g))
+    ∙ or_comm (has xs g) (eqb n g) ∙ ap (λ t. eqb n g || t) (sym (has-set_of_numbers g xs))
+    ∙ sym (has-with_number n g (set_of_numbers xs)))
 
 -- inserting a member changes nothing
 pub with_number-member : (n : ℕ) (set : List ℕ) → Ascends set → has set n ≡ true → with_number n set ≡ set
-with_number-member n set up member = ascends_same (with_number n set) set (ascends_with_number n set up) up (λ g. has-with_number n g set ∙ same g (cases_Bool (eqb n g)))
+with_number-member n set up member = ascends_same (with_number n set) set (ascends_with_number n set up) up
+    (λ g. has-with_number n g set ∙ same g (cases_Bool (eqb n g)))
   where
     same : (g : ℕ) → ((eqb n g ≡ true) ⊎ (eqb n g ≡ false)) → (eqb n g || has set g) ≡ has set g
     same g (inl here) = or_left (eqb n g) (has set g) here ∙ sym member ∙ ap (has set) (eqb-true n g here)
@@ -147,23 +152,19 @@ length-with_number n (m ∷ ms) new =
     (λ same. absurd (true≢false (sym (or_left (eqb m n) (has ms n) (eq-eqb m n (sym (eqb-true n m same)))) ∙ new)))
     (λ _. let rest = length-with_number n ms (or_parts (eqb m n) (has ms n) new).1 in omega (arith, rest)))
 
+length-bounds : (n : ℕ) (set : List ℕ) → (length set ≤ length (with_number n set)) × (length (with_number n set) ≤ length set + 1)
+length-bounds n [] = (omega arith, omega arith)
+length-bounds n (m ∷ ms) =
+    let P : List ℕ → Type 0 = λ ns. (length (m ∷ ms) ≤ length ns) × (length ns ≤ length (m ∷ ms) + 1) in
+    cond_both (ltb n m) (n ∷ m ∷ ms) (cond (eqb n m) (m ∷ ms) (m ∷ with_number n ms)) P (λ _. (omega arith, omega arith))
+    (λ _. cond_both (eqb n m) (m ∷ ms) (m ∷ with_number n ms) P (λ _. (omega arith, omega arith))
+    (λ _. let rest = length-bounds n ms in (omega (arith, rest.0), omega (arith, rest.1))))
+
 pub length-with_number-ge : (n : ℕ) (set : List ℕ) → length set ≤ length (with_number n set)
-length-with_number-ge n [] = omega arith
-length-with_number-ge n (m ∷ ms) =
-    cond_both (ltb n m) (n ∷ m ∷ ms) (cond (eqb n m) (m ∷ ms) (m ∷ with_number n ms)) (λ ns. length (m ∷ ms) ≤ length ns)
-    (λ _. omega arith)
-    (λ _. cond_both (eqb n m) (m ∷ ms) (m ∷ with_number n ms) (λ ns. length (m ∷ ms) ≤ length ns)
-    (λ _. omega arith)
-    (λ _. let rest = length-with_number-ge n ms in omega (arith, rest)))
+length-with_number-ge n set = (length-bounds n set).0
 
 pub length-with_number-le : (n : ℕ) (set : List ℕ) → length (with_number n set) ≤ length set + 1
-length-with_number-le n [] = omega arith
-length-with_number-le n (m ∷ ms) =
-    cond_both (ltb n m) (n ∷ m ∷ ms) (cond (eqb n m) (m ∷ ms) (m ∷ with_number n ms)) (λ ns. length ns ≤ length (m ∷ ms) + 1)
-    (λ _. omega arith)
-    (λ _. cond_both (eqb n m) (m ∷ ms) (m ∷ with_number n ms) (λ ns. length ns ≤ length (m ∷ ms) + 1)
-    (λ _. omega arith)
-    (λ _. let rest = length-with_number-le n ms in omega (arith, rest)))
+length-with_number-le n set = (length-bounds n set).1
 
 pub length-set_of_numbers-le : (xs : List ℕ) → length (set_of_numbers xs) ≤ length xs
 length-set_of_numbers-le [] = omega arith
@@ -216,7 +217,8 @@ all_above n (m ∷ ms) up = (up.0, all_above n ms (skip ms up.0 up.1))
 above_filter : (p : ℕ → Bool) (n : ℕ) (xs : List ℕ) → Above n xs → Ascends xs → Above n (filter p xs)
 above_filter p n [] h up = tt
 above_filter p n (x ∷ xs) h up =
-    cond_both (p x) (x ∷ filter p xs) (filter p xs) (Above n) (λ _. h) (λ _. above_filter p n xs (further xs (ascends_head x xs up)) (ascends_tail x xs up))
+    cond_both (p x) (x ∷ filter p xs) (filter p xs) (Above n) (λ _. h)
+    (λ _. above_filter p n xs (further xs (ascends_head x xs up)) (ascends_tail x xs up))
   where
     further : (ks : List ℕ) → Above x ks → Above n ks
     further [] a = tt
@@ -226,7 +228,9 @@ pub ascends_filter : (p : ℕ → Bool) (xs : List ℕ) → Ascends xs → Ascen
 ascends_filter p [] up = tt
 ascends_filter p (x ∷ xs) up =
     let rest = ascends_filter p xs (ascends_tail x xs up) in
-    cond_both (p x) (x ∷ filter p xs) (filter p xs) Ascends (λ _. ascends_cons x (filter p xs) (above_filter p x xs (ascends_head x xs up) (ascends_tail x xs up)) rest) (λ _. rest)
+    cond_both (p x) (x ∷ filter p xs) (filter p xs) Ascends
+    (λ _. ascends_cons x (filter p xs) (above_filter p x xs (ascends_head x xs up) (ascends_tail x xs up)) rest)
+    (λ _. rest)
 
 pub has-filter : (p : ℕ → Bool) (xs : List ℕ) (k : ℕ) → has (filter p xs) k ≡ (has xs k && p k)
 has-filter p [] k = refl
@@ -238,11 +242,13 @@ has-filter p (x ∷ xs) k = elim (cases_Bool (eqb x k)) [
             ap (λ b. has (cond b (x ∷ filter p xs) (filter p xs)) k) (ap p is ∙ passes) ∙ or_left (eqb x k) (has (filter p xs) k) here
             ∙ sym (λ i. (here i || has xs k) && passes i)
         | inr fails ↦
-            ap (λ b. has (cond b (x ∷ filter p xs) (filter p xs)) k) (ap p is ∙ fails) ∙ has-filter p xs k ∙ ap (λ b. has xs k && b) fails ∙ and-false (has xs k)
+            ap (λ b. has (cond b (x ∷ filter p xs) (filter p xs)) k) (ap p is ∙ fails) ∙ has-filter p xs k
+            ∙ ap (λ b. has xs k && b) fails ∙ and-false (has xs k)
             ∙ sym (λ i. (here i || has xs k) && fails i)
       ]
   | inr apart ↦
-      cond_both (p x) (x ∷ filter p xs) (filter p xs) (λ ys. has ys k ≡ (has xs k && p k)) (λ _. ap (λ b. b || has (filter p xs) k) apart ∙ has-filter p xs k) (λ _. has-filter p xs k)
+      cond_both (p x) (x ∷ filter p xs) (filter p xs) (λ ys. has ys k ≡ (has xs k && p k))
+      (λ _. ap (λ b. b || has (filter p xs) k) apart ∙ has-filter p xs k) (λ _. has-filter p xs k)
       ∙ sym (ap (λ b. (b || has xs k) && p k) apart)
 ]
 

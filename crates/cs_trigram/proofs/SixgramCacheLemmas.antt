@@ -24,9 +24,11 @@ pub among_same : (xs ys : List ℕ) → xs ≡ ys → AreMembers xs ys
 among_same xs ys same n h = ap (λ ns. has ns n) (sym same) ∙ h
 
 -- the trigrams of one more 6-gram
-pub sixgrams-push : (sixgrams : List ℕ) (sixgram : ℕ) → trigrams_of_sixgrams (sixgrams ++ sixgram ∷ []) ≡ trigrams_of_sixgrams sixgrams ++ sixgram_trigrams sixgram
+pub sixgrams-push : (sixgrams : List ℕ) (sixgram : ℕ) → trigrams_of_sixgrams (sixgrams ++ sixgram ∷ [])
+    ≡ trigrams_of_sixgrams sixgrams ++ sixgram_trigrams sixgram
 sixgrams-push [] sixgram = append-nil (sixgram_trigrams sixgram)
-sixgrams-push (p ∷ ps) sixgram = ap (λ ns. sixgram_trigrams p ++ ns) (sixgrams-push ps sixgram) ∙ sym (append_assoc (sixgram_trigrams p) (trigrams_of_sixgrams ps) (sixgram_trigrams sixgram))
+sixgrams-push (p ∷ ps) sixgram = ap (λ ns. sixgram_trigrams p ++ ns) (sixgrams-push ps sixgram)
+    ∙ sym (append_assoc (sixgram_trigrams p) (trigrams_of_sixgrams ps) (sixgram_trigrams sixgram))
 
 -- the trigrams of a substring are trigrams of the bytes
 sixgram-inside : (offset : ℕ) (bytes : List ℕ) → AreMembers (trigram_sequence (take 6 (drop offset bytes))) (trigram_sequence bytes)
@@ -37,14 +39,18 @@ sixgram-inside offset bytes n h =
     (among_left (trigram_sequence (take 6 (drop offset bytes))) (trigram_sequence (drop 4 (drop offset bytes))) n h)))
 
 -- the trigrams up to the end of a 6-gram
-covers-sixgram : (offset : ℕ) (bytes seen : List ℕ) (sixgram : ℕ) → sixgram_trigrams sixgram ≡ trigram_sequence (take 6 (drop offset bytes)) → offset + 6 ≤ length bytes →
-    AreMembers (trigram_sequence (take (offset + 2) bytes)) seen → AreMembers (sixgram_trigrams sixgram) seen → AreMembers (trigram_sequence (take (offset + 4 + 2) bytes)) seen
+covers-sixgram : (offset : ℕ) (bytes seen : List ℕ) (sixgram : ℕ) → sixgram_trigrams sixgram
+    ≡ trigram_sequence (take 6 (drop offset bytes)) → offset + 6 ≤ length bytes →
+    AreMembers (trigram_sequence (take (offset + 2) bytes)) seen → AreMembers (sixgram_trigrams sixgram) seen →
+    AreMembers (trigram_sequence (take (offset + 4 + 2) bytes)) seen
 covers-sixgram offset bytes seen sixgram is within before here n h =
-    among_both (trigram_sequence (take (offset + 2) bytes)) (trigram_sequence (take 6 (drop offset bytes))) seen before (λ m e. here m (among_same _ _ (sym is) m e)) n
+    among_both (trigram_sequence (take (offset + 2) bytes)) (trigram_sequence (take 6 (drop offset bytes))) seen before
+    (λ m e. here m (among_same _ _ (sym is) m e)) n
     (among_same _ _ (sequence-sixgram offset bytes within) n h)
 
 -- one more 6-gram, a hit or a miss
-pub misses-more : (file : ℕ) (earlier tags bytes misses : List ℕ) (offset count slot sixgram : ℕ) → slot < length tags → count < length misses → file_of sixgram ≡ file →
+pub misses-more : (file : ℕ) (earlier tags bytes misses : List ℕ) (offset count slot sixgram : ℕ) → slot < length tags →
+    count < length misses → file_of sixgram ≡ file →
     sixgram_trigrams sixgram ≡ trigram_sequence (take 6 (drop offset bytes)) → offset + 6 ≤ length bytes →
     AreMisses file earlier tags bytes offset (take count misses) →
     ((get_or tags slot 0 ≡ sixgram) → AreMisses file earlier (set tags slot sixgram) bytes (offset + 4) (take count misses))
@@ -58,7 +64,8 @@ misses-more file earlier tags bytes misses offset count slot sixgram inside room
     again same =
         let stays : set tags slot sixgram ≡ tags = ap (set tags slot) (sym same) ∙ set-get_or tags slot 0 in
         let here : AreMembers (sixgram_trigrams sixgram) (earlier ++ trigrams_of_sixgrams olds) =
-        subst (λ p. AreMembers (sixgram_trigrams p) (earlier ++ trigrams_of_sixgrams olds)) same (old.caches_only slot inside (ap file_of same ∙ mine)) in
+        subst (λ p. AreMembers (sixgram_trigrams p) (earlier ++ trigrams_of_sixgrams olds)) same
+        (old.caches_only slot inside (ap file_of same ∙ mine)) in
         record {
           caches_only = subst (λ ts. CachesOnly file ts (earlier ++ trigrams_of_sixgrams olds)) (sym stays) old.caches_only;
           covers = covers-sixgram offset bytes (earlier ++ trigrams_of_sixgrams olds) sixgram is within old.covers here;
@@ -79,7 +86,9 @@ misses-more file earlier tags bytes misses offset count slot sixgram inside room
     added n h = among_right earlier (trigrams_of_sixgrams (olds ++ sixgram ∷ [])) n
         (among_same _ _ (sym (sixgrams-push olds sixgram)) n (among_right (trigrams_of_sixgrams olds) (sixgram_trigrams sixgram) n h))
 
-    caches_only_at : (i : ℕ) → i < length (set tags slot sixgram) → ((i ≡ slot) ⊎ (i ≡ slot → ⊥)) → file_of (get_or (set tags slot sixgram) i 0) ≡ file → AreMembers (sixgram_trigrams (get_or (set tags slot sixgram) i 0)) seen
+    caches_only_at : (i : ℕ) → i < length (set tags slot sixgram) → ((i ≡ slot) ⊎ (i ≡ slot → ⊥)) →
+        file_of (get_or (set tags slot sixgram) i 0) ≡ file →
+        AreMembers (sixgram_trigrams (get_or (set tags slot sixgram) i 0)) seen
     caches_only_at i low (inl there) whose =
         let value : get_or (set tags slot sixgram) i 0 ≡ sixgram = ap (λ k. get_or (set tags slot sixgram) k 0) there ∙ same_there in
         subst (λ p. AreMembers (sixgram_trigrams p) seen) (sym value) added
@@ -97,8 +106,10 @@ misses-more file earlier tags bytes misses offset count slot sixgram inside room
     }
 
 -- the trigrams of the 6-grams before an index, and those of the one there
-pub sixgrams-more : (sixgrams : List ℕ) (i : ℕ) → i < length sixgrams → trigrams_of_sixgrams (take (i + 1) sixgrams) ≡ trigrams_of_sixgrams (take i sixgrams) ++ sixgram_trigrams (get_or sixgrams i 0)
-sixgrams-more sixgrams i within = ap trigrams_of_sixgrams (take_more sixgrams i 0 within) ∙ sixgrams-push (take i sixgrams) (get_or sixgrams i 0)
+pub sixgrams-more : (sixgrams : List ℕ) (i : ℕ) → i < length sixgrams → trigrams_of_sixgrams (take (i + 1) sixgrams)
+    ≡ trigrams_of_sixgrams (take i sixgrams) ++ sixgram_trigrams (get_or sixgrams i 0)
+sixgrams-more sixgrams i within = ap trigrams_of_sixgrams (take_more sixgrams i 0 within)
+    ∙ sixgrams-push (take i sixgrams) (get_or sixgrams i 0)
 
 pub hit-kept : (count sixgram : ℕ) (misses : List ℕ) → take (count + 0) (set misses count sixgram) ≡ take count misses
 hit-kept count sixgram misses = take-set-le (count + 0) misses count sixgram (omega arith) ∙ ap (λ n. take n misses) (omega arith)
@@ -106,10 +117,13 @@ hit-kept count sixgram misses = take-set-le (count + 0) misses count sixgram (om
 -- a vector whose items were all written
 pub whole-write : (n : ℕ) (new old : List ℕ) → n ≡ length old → length new ≡ length old → take n (new ++ drop (length new) old) ≡ new
 whole-write n new old len same =
-    ap (λ rest. take n (new ++ rest)) (drop_all (length new) old (omega (arith, same))) ∙ ap (take n) (append-nil new) ∙ take_all n new (omega (arith, len, same))
+    ap (λ rest. take n (new ++ rest)) (drop_all (length new) old (omega (arith, same))) ∙ ap (take n) (append-nil new)
+    ∙ take_all n new (omega (arith, len, same))
 
 -- a 6-gram together with the number of its file
-pub tagged_sixgram : (file six : ℕ) → file < 65536 → six < 2 ^ 48 → (sixgram_trigrams (file * 2 ^ 48 % 2 ^ 64 + six) ≡ sixgram_trigrams six) × (file_of (file * 2 ^ 48 % 2 ^ 64 + six) ≡ file)
+pub tagged_sixgram : (file six : ℕ) → file < 65536 → six < 2 ^ 48 →
+    (sixgram_trigrams (file * 2 ^ 48 % 2 ^ 64 + six) ≡ sixgram_trigrams six) ×
+    (file_of (file * 2 ^ 48 % 2 ^ 64 + six) ≡ file)
 tagged_sixgram file six low small = (λ i. a i ∷ b i ∷ c i ∷ d i ∷ [], omega (arith, low, small))
   where
     n : ℕ

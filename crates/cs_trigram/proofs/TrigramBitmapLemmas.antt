@@ -1,5 +1,5 @@
 -- The bitmap and the list after one more number.
-use Rattle.std.proofs.Common.{◌≡◌, ◌≢◌, ◌≤◌, ◌<◌, ℕ, suc, ◌+◌, ◌*◌, ◌/◌, ◌%◌, ◌^◌, Bool, true, false, ◌||◌, eqb, List, [], ◌∷◌, ◌++◌, length, take, get_or, set, refl, sym, ap, subst, ◌∙◌, inl, inr, ◌⊎◌, arith, length-append, drop, get_or-set_same, get_or-set_other, w64, bit_or, bit_and, not}
+use Rattle.std.proofs.Common.{◌≡◌, ◌≢◌, ◌<◌, ℕ, suc, ◌+◌, ◌*◌, ◌/◌, ◌%◌, ◌^◌, Bool, true, false, ◌||◌, eqb, List, [], ◌∷◌, ◌++◌, length, take, get_or, set, refl, sym, ap, subst, ◌∙◌, inl, inr, ◌⊎◌, arith, length-append, drop, get_or-set_same, get_or-set_other, w64, bit_or, bit_and, not}
 use Rattle.std.proofs.Math.Bool.{or-false, or-true}
 use Rattle.std.proofs.lemmas.List.{append_assoc, take-set-le, take_more_set}
 use Rattle.std.proofs.lemmas.Nat.{one_shl}
@@ -36,7 +36,8 @@ bit-other bitmap w n within apart = by_case (cases_eq (n / 64) (w / 64))
     by_case (inr old_bits) = rw get_or-set_other refl
 
 -- one more bit is set, and no other is changed
-pub IsBitmapOf-push : (bitmap numbers : List ℕ) (w : ℕ) → w / 64 < length bitmap → IsBitmapOf bitmap numbers → IsBitmapOf (bit_is_set bitmap w) (numbers ++ w ∷ [])
+pub IsBitmapOf-push : (bitmap numbers : List ℕ) (w : ℕ) → w / 64 < length bitmap → IsBitmapOf bitmap numbers →
+    IsBitmapOf (bit_is_set bitmap w) (numbers ++ w ∷ [])
 IsBitmapOf-push bitmap numbers w within is_bitmap n = by_case (cases_eq w n)
   where
     by_case : ((w ≡ n) ⊎ (w ≡ n → ⊥)) → has_bit (bit_is_set bitmap w) n ≡ has (numbers ++ w ∷ []) n
@@ -48,7 +49,8 @@ IsBitmapOf-push bitmap numbers w within is_bitmap n = by_case (cases_eq w n)
         ∙ sym (has-push numbers w n ∙ ap (λ t. has numbers n || (t || false)) (ne_eqb w n apart) ∙ or-false (has numbers n))
 
 -- a member is inserted again
-IsSeenSet-again : (bitmap numbers set : List ℕ) (w : ℕ) → w / 64 < length bitmap → IsSeenSet bitmap numbers set → has_bit bitmap w ≡ true → IsSeenSet (bit_is_set bitmap w) numbers (with_number w set)
+IsSeenSet-again : (bitmap numbers set : List ℕ) (w : ℕ) → w / 64 < length bitmap → IsSeenSet bitmap numbers set →
+    has_bit bitmap w ≡ true → IsSeenSet (bit_is_set bitmap w) numbers (with_number w set)
 IsSeenSet-again bitmap numbers set w within is_set one =
     let member : has numbers w ≡ true = sym (is_set.is_bitmap w) ∙ one in
     let in_set : has set w ≡ true = ap (λ s. has s w) (sym is_set.same) ∙ has-set_of_numbers w numbers ∙ member in
@@ -61,11 +63,14 @@ IsSeenSet-again bitmap numbers set w within is_set one =
     }
   where
     by_case : (n : ℕ) → ((w ≡ n) ⊎ (w ≡ n → ⊥)) → has numbers w ≡ true → (has numbers n || (eqb w n || false)) ≡ has numbers n
-    by_case n (inl same) member = ap (λ t. t || (eqb w n || false)) (ap (has numbers) (sym same) ∙ member) ∙ sym (ap (has numbers) (sym same) ∙ member)
+    by_case n (inl same) member = ap (λ t. t || (eqb w n || false)) (ap (has numbers) (sym same) ∙ member)
+        ∙ sym (ap (has numbers) (sym same) ∙ member)
     by_case n (inr apart) member = ap (λ t. has numbers n || (t || false)) (ne_eqb w n apart) ∙ or-false (has numbers n)
 
 -- a number is inserted for the first time
-IsSeenSet-new : (bitmap numbers set : List ℕ) (w : ℕ) → w / 64 < length bitmap → IsSeenSet bitmap numbers set → has_bit bitmap w ≡ false → IsSeenSet (bit_is_set bitmap w) (numbers ++ w ∷ []) (with_number w set) × (length (with_number w set) ≡ length set + 1)
+IsSeenSet-new : (bitmap numbers set : List ℕ) (w : ℕ) → w / 64 < length bitmap → IsSeenSet bitmap numbers set →
+    has_bit bitmap w ≡ false → IsSeenSet (bit_is_set bitmap w) (numbers ++ w ∷ []) (with_number w set) ×
+    (length (with_number w set) ≡ length set + 1)
 IsSeenSet-new bitmap numbers set w within is_set none =
     let new : has numbers w ≡ false = sym (is_set.is_bitmap w) ∙ none in
     let not_in_set : has set w ≡ false = ap (λ s. has s w) (sym is_set.same) ∙ has-set_of_numbers w numbers ∙ new in
@@ -92,24 +97,29 @@ Collects-push bitmap list len w within room numbers is_set = by_case (has_bit bi
     pushed : set_of_numbers (numbers ++ w ∷ []) ≡ with_number w members
     pushed = set_of_numbers-push numbers w
 
-    by_case : (there : Bool) → has_bit bitmap w ≡ there → IsSeenSet (bit_is_set bitmap w) (take next (set list len w)) (set_of_numbers (numbers ++ w ∷ []))
+    by_case : (there : Bool) → has_bit bitmap w ≡ there → IsSeenSet (bit_is_set bitmap w) (take next (set list len w))
+        (set_of_numbers (numbers ++ w ∷ []))
     by_case true one =
         let stays : next ≡ len = omega (arith, ap (λ b. from_bool (not b)) one) in
-        let same : take next (set list len w) ≡ take len list = ap (λ n. take n (set list len w)) stays ∙ take-set-le len list len w (omega arith) in
+        let same : take next (set list len w) ≡ take len list = ap (λ n. take n (set list len w)) stays
+        ∙ take-set-le len list len w (omega arith) in
         rw (same, pushed) (IsSeenSet-again bitmap (take len list) members w within is_set one)
     by_case false none =
         let longer : next ≡ len + 1 = omega (arith, ap (λ b. from_bool (not b)) none) in
-        let same : take next (set list len w) ≡ take len list ++ w ∷ [] = ap (λ n. take n (set list len w)) longer ∙ take_more_set list len w room in
+        let same : take next (set list len w) ≡ take len list ++ w ∷ [] = ap (λ n. take n (set list len w)) longer
+        ∙ take_more_set list len w room in
         rw (same, pushed) (IsSeenSet-new bitmap (take len list) members w within is_set none).0
 
 -- the word of the bitmap changes exactly if the bit was clear
-pub changed : (old_bits k : ℕ) → k < 64 → from_bool (not (eqb old_bits (bit_or old_bits (1 * 2 ^ k % 2 ^ 64)))) ≡ from_bool (not (eqb (bit_at old_bits k) 1))
+pub changed : (old_bits k : ℕ) → k < 64 → from_bool (not (eqb old_bits (bit_or old_bits (1 * 2 ^ k % 2 ^ 64))))
+    ≡ from_bool (not (eqb (bit_at old_bits k) 1))
 changed old_bits k low = by_case (cases_eq (bit_at old_bits k) 1)
   where
     with : ℕ
     with = bit_or old_bits (1 * 2 ^ k % 2 ^ 64)
 
-    by_case : ((bit_at old_bits k ≡ 1) ⊎ (bit_at old_bits k ≡ 1 → ⊥)) → from_bool (not (eqb old_bits with)) ≡ from_bool (not (eqb (bit_at old_bits k) 1))
+    by_case : ((bit_at old_bits k ≡ 1) ⊎ (bit_at old_bits k ≡ 1 → ⊥)) → from_bool (not (eqb old_bits with))
+        ≡ from_bool (not (eqb (bit_at old_bits k) 1))
     by_case (inl one) =
         let power : 1 * 2 ^ k % 2 ^ 64 ≡ 2 ^ k = one_shl k 64 low in
         let sum = or_add_and old_bits (2 ^ k) in
@@ -122,7 +132,8 @@ changed old_bits k low = by_case (cases_eq (bit_at old_bits k) 1)
         ap (λ b. from_bool (not b)) (ne_eqb old_bits with apart ∙ sym (ne_eqb (bit_at old_bits k) 1 not_one))
 
 -- one collection after another
-pub Collects-chain : (bitmap list : List ℕ) (len : ℕ) (mid_bitmap mid_list : List ℕ) (mid_len : ℕ) (more_bitmap more_list : List ℕ) (more_len : ℕ) (xs ys : List ℕ) →
+pub Collects-chain : (bitmap list : List ℕ) (len : ℕ) (mid_bitmap mid_list : List ℕ) (mid_len : ℕ)
+    (more_bitmap more_list : List ℕ) (more_len : ℕ) (xs ys : List ℕ) →
     CollectsOn bitmap list len mid_bitmap mid_list mid_len xs → CollectsOn mid_bitmap mid_list mid_len more_bitmap more_list more_len ys →
     CollectsOn bitmap list len more_bitmap more_list more_len (xs ++ ys)
 Collects-chain bitmap list len mid_bitmap mid_list mid_len more_bitmap more_list more_len xs ys one two numbers is_set =

@@ -1,18 +1,20 @@
--- Sets of end strings: which texts have them, and which end strings their members come from.
-use Rattle.std.proofs.Common.{◌≡◌, ℕ, ◌+◌, ◌-◌, ◌<◌, ◌≤◌, ◌⊎◌, ◌||◌, not, Bool, true, false, List, [], ◌∷◌, ◌++◌, take, drop, length, map, refl, sym, ◌∙◌, ap, subst, inl, inr, arith, length-drop, drop_of_length-le}
+-- Truncated end strings, sets of them, and cross products.
+use Rattle.std.proofs.Common.{◌≡◌, ℕ, ◌<◌, ◌≤◌, ◌⊎◌, ◌||◌, not, Bool, true, false, List, [], ◌∷◌, ◌++◌, drop, length, map, refl, sym, ◌∙◌, ap, subst, inl, inr, arith, drop_of_length-le, append_assoc, length-append}
 use Rattle.std.specs.Prelude.{Contains, bytes_eq, nat_le, if◌then◌else◌}
 use Rattle.std.specs.List.{list_any}
 use Rattle.std.proofs.lemmas.Bool.{false≢true, and_parts, or_cases, leb-true}
-use Rattle.std.proofs.lemmas.List.{take-append-drop, length-take}
+use Rattle.std.proofs.lemmas.List.{append-nil, take-append-drop, length-take}
 use Rattle.std.proofs.lemmas.List.Elements.{Contains-push_cases, Contains-append_left, Contains-append_right, Contains-append_cases}
 use Rattle.std.proofs.lemmas.Slice.Eq.{bytes_eq-Decides}
-use Rattle.cs_tree.specs.Cover.{is_among}
-use Rattle.cs_trigram.specs.EndStrings.{concatenation, near_part, HasEndString, HasSomeEndString, Subsumes, subsumes, with_end_string, with_end_strings, truncated, end_of_two, joined, AreCoarser, AreUnion, IsConcatenation, AreConcatenations}
-use Rattle.cs_trigram.specs.declared.end_strings.Side.{Side}
-use Rattle.cs_trigram.specs.declared.end_strings.Side.TheVariants.{Prefix, Suffix}
+use Rattle.cs_trigram.specs.EndStrings.{IsTruncation, whole_text, HasEndString, HasTruncation, HasSomeEndString, subsumes, with_end_string, with_end_strings, truncated, end_of_two, concatenated, AreCoarser, IsConcatenation, AreConcatenations}
 use Rattle.cs_trigram.specs.declared.end_strings.EndString.{EndString}
-use Rattle.cs_trigram.proofs.MemberLemmas.{no_member, first_member, later_member, member_cases}
-use Rattle.cs_trigram.proofs.EndStringLemmas.{concatenation-assoc, concatenation-none, any_has, fits_whole, any_end}
+
+-- the end string of every text, and that of the empty text
+abbrev pub any_end : EndString
+any_end = record { string = []; whole = false }
+
+abbrev pub empty_end : EndString
+empty_end = whole_text []
 
 -- ---- members
 
@@ -22,256 +24,245 @@ none_contained x m = let lt : m.0 < 0 = m.1 in omega arith
 pub only_contained : {A : Type 0} (e x : A) → Contains (e ∷ []) x → e ≡ x
 only_contained e x m = elim (Contains-push_cases [] e x m) [ inl n ↦ absurd (none_contained x n) | inr same ↦ same ]
 
-first_contained : {A : Type 0} (e : A) (xs : List A) → Contains (e ∷ xs) e
+pub first_contained : {A : Type 0} (e : A) (xs : List A) → Contains (e ∷ xs) e
 first_contained e xs = (0, omega arith, refl)
 
-contained_cases : {A : Type 0} (e : A) (xs : List A) (x : A) → Contains (e ∷ xs) x → (e ≡ x) ⊎ Contains xs x
+pub contained_cases : {A : Type 0} (e : A) (xs : List A) (x : A) → Contains (e ∷ xs) x → (e ≡ x) ⊎ Contains xs x
 contained_cases e xs x m = elim (Contains-append_cases (e ∷ []) xs x m) [ inl a ↦ inl (only_contained e x a) | inr b ↦ inr b ]
 
-contained_in_map : (f : EndString → EndString) (xs : List EndString) (x : EndString) → Contains (map f xs) x → (y : EndString) × Contains xs y × (f y ≡ x)
-contained_in_map f [] x m = absurd (none_contained x m)
-contained_in_map f (y ∷ xs) x m =
-    elim (contained_cases (f y) (map f xs) x m) [
-      | inl same ↦ (y, first_contained y xs, same)
-      | inr b ↦ let r = contained_in_map f xs x b in (r.0, Contains-append_right (y ∷ []) xs r.0 r.1, r.2)
-    ]
-
--- ---- one more end string, and more
-
-module _ (side : Side) where
-  has_left : (xs ys : List EndString) (text : List ℕ) → HasSomeEndString side xs text → HasSomeEndString side (xs ++ ys) text
-  has_left [] ys text h = absurd h
-  has_left (x ∷ xs) ys text h = elim h [ inl a ↦ inl a | inr b ↦ inr (has_left xs ys text b) ]
-
-  has_right : (xs ys : List EndString) (text : List ℕ) → HasSomeEndString side ys text → HasSomeEndString side (xs ++ ys) text
-  has_right [] ys text h = h
-  has_right (x ∷ xs) ys text h = inr (has_right xs ys text h)
-
-  subsumes_each : (x y : EndString) → subsumes x y ≡ true → Subsumes side x y
-  subsumes_each x y holds text h =
-      let parts = and_parts (bytes_eq x.string y.string) (not x.whole || y.whole) holds in
-      let same = (bytes_eq-Decides x.string y.string).0 parts.0 in
-      (h.0, h.1 ∙ ap (λ (s : List ℕ). concatenation side s h.0) (sym same), λ whole. h.2 (implied x.whole y.whole parts.1 whole))
-    where
-      implied : (a b : Bool) → (not a || b) ≡ true → a ≡ true → b ≡ true
-      implied true b h e = h
-      implied false b h e = (cc)
-
-  subsumed_has : (xs : List EndString) (e : EndString) (text : List ℕ) → list_any (λ other. subsumes other e) xs ≡ true → HasEndString side e text → HasSomeEndString side xs text
-  subsumed_has [] e text holds h = absurd (false≢true holds)
-  subsumed_has (x ∷ xs) e text holds h =
-      elim (or_cases (subsumes x e) (list_any (λ other. subsumes other e) xs) holds) [
-        | inl a ↦ inl (subsumes_each x e a text h)
-        | inr b ↦ inr (subsumed_has xs e text b h)
+module _ {A : Type 0} (f : A → EndString) where
+  pub contained_map : (xs : List A) (x : A) → Contains xs x → Contains (map f xs) (f x)
+  contained_map [] x m = absurd (none_contained x m)
+  contained_map (y ∷ xs) x m =
+      elim (contained_cases y xs x m) [
+        | inl same ↦ subst (λ (z : A). Contains (f y ∷ map f xs) (f z)) same (first_contained (f y) (map f xs))
+        | inr b ↦ Contains-append_right (f y ∷ []) (map f xs) (f x) (contained_map xs x b)
       ]
 
-  with_one_has : (xs : List EndString) (e : EndString) (text : List ℕ) → HasEndString side e text ⊎ HasSomeEndString side xs text → HasSomeEndString side (with_end_string xs e) text
-  with_one_has xs e text h = by (list_any (λ other. subsumes other e) xs) refl h
-    where
-      by : (b : Bool) → list_any (λ other. subsumes other e) xs ≡ b → HasEndString side e text ⊎ HasSomeEndString side xs text → HasSomeEndString side (if b then xs else xs ++ e ∷ []) text
-      by true holds h = elim h [ inl a ↦ subsumed_has xs e text holds a | inr b ↦ b ]
-      by false fails h = elim h [ inl a ↦ has_right xs (e ∷ []) text (inl a) | inr b ↦ has_left xs (e ∷ []) text b ]
+  pub contained_in_map : (xs : List A) (x : EndString) → Contains (map f xs) x → (y : A) × Contains xs y × (f y ≡ x)
+  contained_in_map [] x m = absurd (none_contained x m)
+  contained_in_map (y ∷ xs) x m =
+      elim (contained_cases (f y) (map f xs) x m) [
+        | inl same ↦ (y, first_contained y xs, same)
+        | inr b ↦ let r = contained_in_map xs x b in (r.0, Contains-append_right (y ∷ []) xs r.0 r.1, r.2)
+      ]
 
-  pub with_end_strings_has : (xs ys : List EndString) (text : List ℕ) → HasSomeEndString side xs text ⊎ HasSomeEndString side ys text → HasSomeEndString side (with_end_strings xs ys) text
-  with_end_strings_has xs [] text h = elim h [ inl a ↦ a | inr b ↦ absurd b ]
-  with_end_strings_has xs (y ∷ ys) text h =
-      with_end_strings_has (with_end_string xs y) ys text
-      (elim h [
-        | inl a ↦ inl (with_one_has xs y text (inr a))
-        | inr b ↦ elim b [ inl c ↦ inl (with_one_has xs y text (inl c)) | inr d ↦ inr d ]
-      ])
+-- ---- truncations
 
-with_one_contains : (xs : List EndString) (e x : EndString) → Contains (with_end_string xs e) x → Contains xs x ⊎ (e ≡ x)
-with_one_contains xs e x m = by (list_any (λ other. subsumes other e) xs) m
+pub truncation_same : (x : EndString) → IsTruncation x x
+truncation_same x = ([], sym (append-nil x.string), λ whole. (refl, whole))
+
+pub truncation_both : (x y z : EndString) → IsTruncation x y → IsTruncation y z → IsTruncation x z
+truncation_both x y z a b = (
+  a.0 ++ b.0,
+  b.1 ∙ ap (λ (s : List ℕ). s ++ b.0) a.1 ∙ append_assoc x.string a.0 b.0,
+  λ whole. let first = a.2 whole in let second = b.2 first.1 in (ap (λ (s : List ℕ). s ++ b.0) first.0 ∙ second.0, second.1),
+)
+
+pub truncated_is : (n : ℕ) (e : EndString) → IsTruncation (truncated n e) e
+truncated_is n e = (
+  drop n e.string,
+  sym (take-append-drop n e.string),
+  λ whole. let parts = and_parts e.whole (nat_le (length e.string) n) whole in
+      (drop_of_length-le e.string {i = n} (leb-true (length e.string) n parts.1), parts.0),
+)
+
+subsumed_is : (x y : EndString) → subsumes x y ≡ true → IsTruncation x y
+subsumed_is x y holds =
+    let parts = and_parts (bytes_eq x.string y.string) (not x.whole || y.whole) holds in (
+      [],
+      sym ((bytes_eq-Decides x.string y.string).0 parts.0) ∙ sym (append-nil x.string),
+      λ whole. (refl, implied x.whole y.whole parts.1 whole),
+    )
   where
-    by : (b : Bool) → Contains (if b then xs else xs ++ e ∷ []) x → Contains xs x ⊎ (e ≡ x)
-    by true m = inl m
-    by false m = Contains-push_cases xs e x m
+    implied : (a b : Bool) → (not a || b) ≡ true → a ≡ true → b ≡ true
+    implied true b h e = h
+    implied false b h e = (cc)
 
-pub with_end_strings_contains : (xs ys : List EndString) (x : EndString) → Contains (with_end_strings xs ys) x → Contains xs x ⊎ Contains ys x
-with_end_strings_contains xs [] x m = inl m
-with_end_strings_contains xs (y ∷ ys) x m =
-    elim (with_end_strings_contains (with_end_string xs y) ys x m) [
-      | inl a ↦ elim (with_one_contains xs y x a) [
-        | inl old ↦ inl old
-        | inr same ↦ inr (subst (Contains (y ∷ ys)) same (first_contained y ys))
-      ]
-      | inr b ↦ inr (Contains-append_right (y ∷ []) ys x b)
+pub any_has : (text : List ℕ) → HasEndString any_end text
+any_has text = (text, refl, λ odd. absurd (false≢true odd))
+
+-- ---- coarser sets
+
+pub coarser_same : (xs : List EndString) → AreCoarser xs xs
+coarser_same xs = record { all = λ y m. (y, m, truncation_same y); each = λ x m. (x, m, truncation_same x) }
+
+pub coarser_has : (a b : List EndString) → AreCoarser a b → (y : EndString) → HasTruncation b y → HasTruncation a y
+coarser_has a b ab y h = let x = ab.all h.0 h.1 in (x.0, x.1, truncation_both x.0 h.0 y x.2 h.2)
+
+pub coarser_both : (a b c : List EndString) → AreCoarser a b → AreCoarser b c → AreCoarser a c
+coarser_both a b c ab bc = record {
+  all = λ z m. coarser_has a b ab z (bc.all z m);
+  each = λ x m. let y = ab.each x m in let z = bc.each y.0 y.1 in (z.0, z.1, truncation_both x y.0 z.0 y.2 z.2);
+}
+
+coarser_append : (a b zs : List EndString) → AreCoarser a b → AreCoarser (a ++ zs) (b ++ zs)
+coarser_append a b zs ab = record {
+  all = λ y m. elim (Contains-append_cases b zs y m) [
+    | inl l ↦ let x = ab.all y l in (x.0, Contains-append_left a zs x.0 x.1, x.2)
+    | inr r ↦ (y, Contains-append_right a zs y r, truncation_same y)
+  ];
+  each = λ x m. elim (Contains-append_cases a zs x m) [
+    | inl l ↦ let y = ab.each x l in (y.0, Contains-append_left b zs y.0 y.1, y.2)
+    | inr r ↦ (x, Contains-append_right b zs x r, truncation_same x)
+  ];
+}
+
+coarser_map : {A : Type 0} (f g : A → EndString) → ((x : A) → IsTruncation (f x) (g x)) → (xs : List A) → AreCoarser (map f xs) (map g xs)
+coarser_map f g is xs = record {
+  all = λ y m. let r = contained_in_map g xs y m in (f r.0, contained_map f xs r.0 r.1, subst (IsTruncation (f r.0)) r.2 (is r.0));
+  each = λ x m. let r = contained_in_map f xs x m in
+      (g r.0, contained_map g xs r.0 r.1, subst (λ (z : EndString). IsTruncation z (g r.0)) r.2 (is r.0));
+}
+
+subsuming : (xs : List EndString) (e : EndString) → list_any (λ other. subsumes other e) xs ≡ true → HasTruncation xs e
+subsuming [] e holds = absurd (false≢true holds)
+subsuming (x ∷ xs) e holds =
+    elim (or_cases (subsumes x e) (list_any (λ other. subsumes other e) xs) holds) [
+      | inl a ↦ (x, first_contained x xs, subsumed_is x e a)
+      | inr b ↦ let r = subsuming xs e b in (r.0, Contains-append_right (x ∷ []) xs r.0 r.1, r.2)
     ]
+
+coarser_one : (xs : List EndString) (e : EndString) → AreCoarser (with_end_string xs e) (xs ++ e ∷ [])
+coarser_one xs e = by (list_any (λ other. subsumes other e) xs) refl
+  where
+    by : (b : Bool) → list_any (λ other. subsumes other e) xs ≡ b → AreCoarser (if b then xs else xs ++ e ∷ []) (xs ++ e ∷ [])
+    by true holds = record {
+      all = λ y m. elim (Contains-push_cases xs e y m) [
+        | inl a ↦ (y, a, truncation_same y)
+        | inr same ↦ subst (HasTruncation xs) same (subsuming xs e holds)
+      ];
+      each = λ x m. (x, Contains-append_left xs (e ∷ []) x m, truncation_same x);
+    }
+    by false fails = coarser_same (xs ++ e ∷ [])
+
+pub coarser_with : (xs ys : List EndString) → AreCoarser (with_end_strings xs ys) (xs ++ ys)
+coarser_with xs [] = subst (AreCoarser xs) (sym (append-nil xs)) (coarser_same xs)
+coarser_with xs (y ∷ ys) =
+    let one = with_end_string xs y in
+    coarser_both (with_end_strings one ys) (one ++ ys) (xs ++ y ∷ ys) (coarser_with one ys)
+    (subst (AreCoarser (one ++ ys)) (append_assoc xs (y ∷ []) ys) (coarser_append one (xs ++ y ∷ []) ys (coarser_one xs y)))
+
+pub coarser_with_map : {A : Type 0} (f g : A → EndString) → ((x : A) → IsTruncation (f x) (g x)) → (xs : List A) →
+    AreCoarser (with_end_strings [] (map f xs)) (map g xs)
+coarser_with_map f g is xs = coarser_both (with_end_strings [] (map f xs)) (map f xs) (map g xs)
+    (coarser_with [] (map f xs)) (coarser_map f g is xs)
 
 pub with_end_strings_append : (xs ys zs : List EndString) → with_end_strings xs (ys ++ zs) ≡ with_end_strings (with_end_strings xs ys) zs
 with_end_strings_append xs [] zs = refl
 with_end_strings_append xs (y ∷ ys) zs = with_end_strings_append (with_end_string xs y) ys zs
 
--- ---- truncated end strings
-
--- the rest of a truncated string
-abbrev far_part : Side → ℕ → List ℕ → List ℕ
-far_part Prefix n text = drop n text
-far_part Suffix n text = take (length text - n) text
-
-near_far : (side : Side) (n : ℕ) (text : List ℕ) → text ≡ concatenation side (near_part side n text) (far_part side n text)
-near_far Prefix n text = sym (take-append-drop n text)
-near_far Suffix n text = sym (take-append-drop (length text - n) text)
-
-no_far : (side : Side) (n : ℕ) (text : List ℕ) → length text ≤ n → far_part side n text ≡ []
-no_far Prefix n text le = drop_of_length-le text {i = n} le
-no_far Suffix n text le = let none : length text - n ≡ 0 = omega arith in ap (λ k. take k text) none
-
-near_short : (side : Side) (n : ℕ) (text : List ℕ) → length (near_part side n text) ≤ n
-near_short Prefix n text = omega (arith, length-take n text)
-near_short Suffix n text = omega (arith, length-drop (length text - n) text)
-
-module _ (side : Side) (n : ℕ) where
-  pub truncated_subsumes : (e : EndString) → Subsumes side (truncated side n e) e
-  truncated_subsumes e text h =
-      let near = near_part side n e.string in
-      let far = far_part side n e.string in (
-        concatenation side far h.0,
-        h.1 ∙ ap (λ (s : List ℕ). concatenation side s h.0) (near_far side n e.string) ∙ concatenation-assoc side near far h.0,
-        λ whole.
-            let parts = and_parts e.whole (nat_le (length e.string) n) whole in
-            ap (concatenation side far) (h.2 parts.0) ∙ concatenation-none side far ∙ no_far side n e.string (leb-true (length e.string) n parts.1),
-      )
-
-  truncated_has : (xs : List EndString) (text : List ℕ) → HasSomeEndString side xs text → HasSomeEndString side (map (truncated side n) xs) text
-  truncated_has [] text h = h
-  truncated_has (x ∷ xs) text h = elim h [ inl a ↦ inl (truncated_subsumes x text a) | inr b ↦ inr (truncated_has xs text b) ]
-
-  pub coarser_truncated : (xs : List EndString) → AreCoarser side (with_end_strings [] (map (truncated side n) xs)) xs
-  coarser_truncated xs = record {
-    all = λ text h. with_end_strings_has side [] (map (truncated side n) xs) text (inr (truncated_has xs text h));
-    each = λ x m.
-        elim (with_end_strings_contains [] (map (truncated side n) xs) x m) [
-          | inl none ↦ absurd (none_contained x none)
-          | inr there ↦
-              let y = contained_in_map (truncated side n) xs x there in
-              (y.0, y.1, subst (λ (z : EndString). Subsumes side z y.0) y.2 (truncated_subsumes y.0))
-        ];
-  }
-
-pub coarser_same : (side : Side) (xs : List EndString) → AreCoarser side xs xs
-coarser_same side xs = record { all = λ text h. h; each = λ x m. (x, m, λ text h. h) }
-
-pub coarser_both : (side : Side) (a b c : List EndString) → AreCoarser side a b → AreCoarser side b c → AreCoarser side a c
-coarser_both side a b c ab bc = record {
-  all = λ text h. ab.all text (bc.all text h);
-  each = λ x m.
-      let y = ab.each x m in
-      let z = bc.each y.0 y.1 in
-      (z.0, z.1, λ text h. y.2 text (z.2 text h));
-}
-
-pub union_coarser : (side : Side) (one other short : List EndString) → AreCoarser side short (with_end_strings one other) → AreUnion side one other short
-union_coarser side one other short coarser = record {
-  all = λ text h. coarser.all text (with_end_strings_has side one other text h);
-  each = λ x m.
-      let y = coarser.each x m in
-      let there : Contains (one ++ other) y.0 = elim (with_end_strings_contains one other y.0 y.1) [ inl a ↦ Contains-append_left one other y.0 a | inr b ↦ Contains-append_right one other y.0 b ] in
-      (y.0, there, y.2);
-}
-
--- ---- the end strings of whole texts
-
-abbrev pub whole_end : Side → List ℕ → EndString
-whole_end side text = truncated side 3 (record { string = text; whole = true })
-
-pub whole_has : (side : Side) (text : List ℕ) → HasEndString side (whole_end side text) text
-whole_has side text = truncated_subsumes side 3 (record { string = text; whole = true }) text (fits_whole side (record { string = text; whole = true }) text refl)
-
-pub wholes_have : (side : Side) (texts : List (List ℕ)) (text : List ℕ) → is_among texts text ≡ true → HasSomeEndString side (map (whole_end side) texts) text
-wholes_have side [] text m = absurd (no_member text m)
-wholes_have side (t ∷ texts) text m =
-    elim (member_cases text t texts m) [
-      | inl e ↦ inl (subst (HasEndString side (whole_end side t)) (sym e) (whole_has side t))
-      | inr n ↦ inr (wholes_have side texts text n)
-    ]
-
-pub contained_in_wholes : (side : Side) (texts : List (List ℕ)) (x : EndString) → Contains (map (whole_end side) texts) x → (text : List ℕ) × (is_among texts text ≡ true) × HasEndString side x text
-contained_in_wholes side [] x m = absurd (none_contained x m)
-contained_in_wholes side (t ∷ texts) x m =
-    elim (contained_cases (whole_end side t) (map (whole_end side) texts) x m) [
-      | inl same ↦ (t, first_member t t texts refl, subst (λ (y : EndString). HasEndString side y t) same (whole_has side t))
-      | inr n ↦ let r = contained_in_wholes side texts x n in (r.0, later_member r.0 t texts r.1, r.2)
-    ]
+-- the end strings of whole texts
+abbrev pub whole_end : List ℕ → EndString
+whole_end text = truncated 3 (whole_text text)
 
 -- ---- concatenations
 
-module _ (side : Side) (n : ℕ) (near : EndString) where
+module _ (n : ℕ) (near : EndString) where
   -- a near end string that is not whole
-  open_has : near.whole ≡ false → (u v : List ℕ) → HasEndString side near u → HasEndString side (truncated side n near) (concatenation side u v)
+  open_has : near.whole ≡ false → (u v : List ℕ) → HasEndString near u → HasEndString (truncated n near) (u ++ v)
   open_has loose u v a =
-      truncated_subsumes side n near (concatenation side u v)
-      (concatenation side a.0 v, ap (λ (x : List ℕ). concatenation side x v) a.1 ∙ concatenation-assoc side near.string a.0 v, λ odd. absurd (false≢true (sym loose ∙ odd)))
+      truncation_both (truncated n near) near (whole_text (u ++ v)) (truncated_is n near)
+      (a.0 ++ v, ap (λ (x : List ℕ). x ++ v) a.1 ∙ append_assoc near.string a.0 v, λ odd. absurd (false≢true (sym loose ∙ odd)))
 
   -- a whole one, and a far one
-  two_has : near.whole ≡ true → (far : EndString) (u v : List ℕ) → HasEndString side near u → HasEndString side far v → HasEndString side (end_of_two side n near far) (concatenation side u v)
+  two_has : near.whole ≡ true → (far : EndString) (u v : List ℕ) → HasEndString near u → HasEndString far v →
+      HasEndString (end_of_two n near far) (u ++ v)
   two_has whole far u v a b =
-      let same : u ≡ near.string = a.1 ∙ ap (concatenation side near.string) (a.2 whole) ∙ concatenation-none side near.string in
-      truncated_subsumes side n (record { string = concatenation side near.string far.string; whole = far.whole }) (concatenation side u v)
-      (b.0, ap (λ (x : List ℕ). concatenation side x v) same ∙ ap (concatenation side near.string) b.1 ∙ sym (concatenation-assoc side near.string far.string b.0), b.2)
+      let both : EndString = record { string = near.string ++ far.string; whole = far.whole } in
+      let same : u ≡ near.string = a.1 ∙ ap (λ (x : List ℕ). near.string ++ x) (a.2 whole).0 ∙ append-nil near.string in
+      truncation_both (truncated n both) both (whole_text (u ++ v)) (truncated_is n both) (
+        b.0,
+        ap (λ (x : List ℕ). x ++ v) same ∙ ap (λ (x : List ℕ). near.string ++ x) b.1
+            ∙ sym (append_assoc near.string far.string b.0),
+        b.2,
+      )
 
-  two_all_has : near.whole ≡ true → (fars : List EndString) (u v : List ℕ) → HasEndString side near u → HasSomeEndString side fars v →
-      HasSomeEndString side (map (end_of_two side n near) fars) (concatenation side u v)
-  two_all_has whole [] u v a b = b
-  two_all_has whole (far ∷ fars) u v a b = elim b [ inl c ↦ inl (two_has whole far u v a c) | inr d ↦ inr (two_all_has whole fars u v a d) ]
-
-  joined_has : (fars : List EndString) (u v : List ℕ) → HasEndString side near u → HasSomeEndString side fars v → HasSomeEndString side (joined side n near fars) (concatenation side u v)
-  joined_has fars u v a b = by near.whole refl
+  concatenated_has : (fars : List EndString) (u v : List ℕ) → HasEndString near u → HasSomeEndString fars v →
+      HasSomeEndString (concatenated n near fars) (u ++ v)
+  concatenated_has fars u v a b = by near.whole refl
     where
-      by : (w : Bool) → near.whole ≡ w → HasSomeEndString side (if w then map (end_of_two side n near) fars else truncated side n near ∷ []) (concatenation side u v)
-      by true is = two_all_has is fars u v a b
-      by false is = inl (open_has is u v a)
+      by : (w : Bool) → near.whole ≡ w → HasSomeEndString (if w then map (end_of_two n near) fars else truncated n near ∷ []) (u ++ v)
+      by true is = (end_of_two n near b.0, contained_map (end_of_two n near) fars b.0 b.1, two_has is b.0 u v a b.2)
+      by false is = (truncated n near, first_contained (truncated n near) [], open_has is u v a)
 
-  joined_from : n ≤ 3 → (fars : List EndString) (x : EndString) → Contains (joined side n near fars) x → IsConcatenation side near fars x
-  joined_from le fars x m = by near.whole refl m
+  concatenated_from : n ≤ 3 → (fars : List EndString) (x : EndString) → Contains (concatenated n near fars) x → IsConcatenation near fars x
+  concatenated_from le fars x m = by near.whole refl m
     where
-      by : (w : Bool) → near.whole ≡ w → Contains (if w then map (end_of_two side n near) fars else truncated side n near ∷ []) x → IsConcatenation side near fars x
+      by : (w : Bool) → near.whole ≡ w → Contains (if w then map (end_of_two n near) fars else truncated n near ∷ []) x
+          → IsConcatenation near fars x
       by true is m =
-          let y = contained_in_map (end_of_two side n near) fars x m in
-          subst (λ (z : EndString). IsConcatenation side near fars z) y.2
-          (inr (y.0, y.1, two_has is y.0, omega (arith, le, near_short side n (concatenation side near.string y.0.string))))
-      by false is m = subst (λ (z : EndString). IsConcatenation side near fars z) (only_contained (truncated side n near) x m) (inl (open_has is))
+          let y = contained_in_map (end_of_two n near) fars x m in
+          subst (λ (z : EndString). IsConcatenation near fars z) y.2
+          (inr (y.0, y.1, two_has is y.0, omega (arith, le, length-take n (near.string ++ y.0.string))))
+      by false is m = subst (λ (z : EndString). IsConcatenation near fars z) (only_contained (truncated n near) x m) (inl (open_has is))
 
 -- the same for each of several near ones
-abbrev pub all_joined : Side → ℕ → List EndString → List EndString → List EndString
-all_joined side n [] fars = []
-all_joined side n (near ∷ nears) fars = joined side n near fars ++ all_joined side n nears fars
+abbrev pub all_concatenated : ℕ → List EndString → List EndString → List EndString
+all_concatenated n [] fars = []
+all_concatenated n (near ∷ nears) fars = concatenated n near fars ++ all_concatenated n nears fars
 
-module _ (side : Side) (n : ℕ) (fars : List EndString) where
-  all_joined_has : (nears : List EndString) (u v : List ℕ) → HasSomeEndString side nears u → HasSomeEndString side fars v → HasSomeEndString side (all_joined side n nears fars) (concatenation side u v)
-  all_joined_has [] u v a b = a
-  all_joined_has (near ∷ nears) u v a b =
-      elim a [
-        | inl c ↦ has_left side (joined side n near fars) (all_joined side n nears fars) (concatenation side u v) (joined_has side n near fars u v c b)
-        | inr d ↦ has_right side (joined side n near fars) (all_joined side n nears fars) (concatenation side u v) (all_joined_has nears u v d b)
+module _ (n : ℕ) (fars : List EndString) where
+  all_has : (nears : List EndString) (near : EndString) (text : List ℕ) → Contains nears near →
+      HasSomeEndString (concatenated n near fars) text → HasSomeEndString (all_concatenated n nears fars) text
+  all_has [] near text m h = absurd (none_contained near m)
+  all_has (e ∷ nears) near text m h =
+      elim (contained_cases e nears near m) [
+        | inl same ↦
+            let first = subst (λ (z : EndString). HasSomeEndString (concatenated n z fars) text) (sym same) h in
+            (first.0, Contains-append_left (concatenated n e fars) (all_concatenated n nears fars) first.0 first.1, first.2)
+        | inr later ↦
+            let r = all_has nears near text later h in
+            (r.0, Contains-append_right (concatenated n e fars) (all_concatenated n nears fars) r.0 r.1, r.2)
       ]
 
-  all_joined_from : n ≤ 3 → (nears : List EndString) (x : EndString) → Contains (all_joined side n nears fars) x → (near : EndString) × Contains nears near × IsConcatenation side near fars x
-  all_joined_from le [] x m = absurd (none_contained x m)
-  all_joined_from le (near ∷ nears) x m =
-      elim (Contains-append_cases (joined side n near fars) (all_joined side n nears fars) x m) [
-        | inl a ↦ (near, first_contained near nears, joined_from side n near le fars x a)
-        | inr b ↦ let r = all_joined_from le nears x b in (r.0, Contains-append_right (near ∷ []) nears r.0 r.1, r.2)
+  all_from : n ≤ 3 → (nears : List EndString) (x : EndString) → Contains (all_concatenated n nears fars) x →
+      (near : EndString) × Contains nears near × IsConcatenation near fars x
+  all_from le [] x m = absurd (none_contained x m)
+  all_from le (near ∷ nears) x m =
+      elim (Contains-append_cases (concatenated n near fars) (all_concatenated n nears fars) x m) [
+        | inl a ↦ (near, first_contained near nears, concatenated_from n near le fars x a)
+        | inr b ↦ let r = all_from le nears x b in (r.0, Contains-append_right (near ∷ []) nears r.0 r.1, r.2)
       ]
 
-  pub joined_concatenations : n ≤ 3 → (nears : List EndString) → AreConcatenations side nears fars (with_end_strings [] (all_joined side n nears fars))
-  joined_concatenations le nears = record {
-    all = λ u v a b. with_end_strings_has side [] (all_joined side n nears fars) (concatenation side u v) (inr (all_joined_has nears u v a b));
+  pub all_concatenations : n ≤ 3 → (nears : List EndString) →
+      AreConcatenations nears fars (with_end_strings [] (all_concatenated n nears fars))
+  all_concatenations le nears = record {
+    all = λ u v a b.
+        coarser_has _ (all_concatenated n nears fars) (coarser_with [] (all_concatenated n nears fars)) (whole_text (u ++ v))
+        (all_has nears a.0 (u ++ v) a.1 (concatenated_has n a.0 fars u v a.2 b));
     each = λ x m.
-        elim (with_end_strings_contains [] (all_joined side n nears fars) x m) [
-          | inl none ↦ absurd (none_contained x none)
-          | inr there ↦ all_joined_from le nears x there
-        ];
+        let y = (coarser_with [] (all_concatenated n nears fars)).each x m in
+        let near = all_from le nears y.0 y.1 in
+        (near.0, near.1, shorter near.0 x y.0 y.2 near.2);
   }
+    where
+      shorter : (near x y : EndString) → IsTruncation x y → IsConcatenation near fars y → IsConcatenation near fars x
+      shorter near x y t (inl opens) = inl (λ u v a. truncation_both x y (whole_text (u ++ v)) t (opens u v a))
+      shorter near x y t (inr two) =
+          inr (
+            two.0,
+            two.1,
+            (λ u v a b. truncation_both x y (whole_text (u ++ v)) t (two.2 u v a b)),
+            omega (arith, two.3, ap length t.1, length-append x.string t.0),
+          )
 
 -- the end string of every text
-pub any_concatenations : (side : Side) (nears fars : List EndString) (near : EndString) → Contains nears near → AreConcatenations side nears fars (any_end ∷ [])
-any_concatenations side nears fars near there = record {
-  all = λ u v a b. inl (any_has side (concatenation side u v));
-  each = λ x m. (near, there, inl (λ u v a. subst (λ (y : EndString). HasEndString side y (concatenation side u v)) (only_contained any_end x m) (any_has side (concatenation side u v))));
+pub any_concatenations : (nears fars : List EndString) (near : EndString) → Contains nears near →
+    AreConcatenations nears fars (any_end ∷ [])
+any_concatenations nears fars near there = record {
+  all = λ u v a b. (any_end, first_contained any_end [], any_has (u ++ v));
+  each = λ x m. (
+    near,
+    there,
+    inl (λ u v a. subst (λ (y : EndString). HasEndString y (u ++ v))
+        (only_contained any_end x m) (any_has (u ++ v))),
+  );
 }
 
 -- equal lists
-pub concatenations_via : (side : Side) (xs ys nears fars end_strings : List EndString) → xs ≡ nears → ys ≡ fars → AreConcatenations side xs ys end_strings → AreConcatenations side nears fars end_strings
-concatenations_via side xs ys nears fars end_strings a b c = subst (λ (zs : List EndString). AreConcatenations side nears zs end_strings) b (subst (λ (zs : List EndString). AreConcatenations side zs ys end_strings) a c)
+pub concatenations_via : (xs ys nears fars end_strings : List EndString) → xs ≡ nears → ys ≡ fars →
+    AreConcatenations xs ys end_strings → AreConcatenations nears fars end_strings
+concatenations_via xs ys nears fars end_strings a b c =
+    subst (λ (zs : List EndString). AreConcatenations nears zs end_strings) b
+    (subst (λ (zs : List EndString). AreConcatenations zs ys end_strings) a c)

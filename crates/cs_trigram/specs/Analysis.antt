@@ -1,5 +1,5 @@
 -- The query analysis: enumerations of exact strings up to twenty-one, and correct queries.
-use Rattle.std.specs.Prelude.{ℕ, ◌≡◌, ◌≤◌, ◌<◌, ◌↔◌, ◌&&◌, ◌++◌, ◌∷◌, [], Bool, true, not, List, length, map, nat_le, if◌then◌else◌, IsTrue}
+use Rattle.std.specs.Prelude.{ℕ, ◌≡◌, ◌≤◌, ◌<◌, ◌&&◌, ◌++◌, ◌∷◌, [], Bool, true, not, List, length, map, nat_le, if◌then◌else◌, IsTrue}
 use Rattle.cs_trigram.specs.TrigramSets.{trigram_count}
 use Rattle.cs_trigram.specs.MayMatch.{MayMatch, MayMatchBranch, HasMembers, HaveMembers, IsTrigramOf}
 use Rattle.cs_syntax.specs.TreeList.{append}
@@ -10,7 +10,7 @@ use Rattle.cs_syntax.specs.Matching.{Tree, Trees, none, more, cat, MatchesSpan, 
 use Rattle.cs_trigram.specs.Trigram.{tri}
 use Rattle.cs_trigram.specs.Query.{matches_set, mentions, HasTrigrams}
 use Rattle.cs_trigram.specs.ExactRuns.{HasRunsWithin, SomeHasExactRuns, IsSelective}
-use Rattle.cs_trigram.specs.ExactStrings.{HasExactString, ConcatenatesExactStrings, HaveFewExactStrings, is_finite, are_finite}
+use Rattle.cs_trigram.specs.ExactStrings.{HasExactString, HaveFewExactStrings, is_finite}
 use Rattle.cs_trigram.specs.ExactQuery.{HasFewExactStrings}
 use Rattle.cs_trigram.specs.declared.queries.Query.{Query}
 
@@ -34,27 +34,6 @@ pub record IsEnumeration (strings : List (List ℕ)) (P : List ℕ → Type 0) :
   pub right : (string : List ℕ) → IsTrue (is_among strings string) → P string
   pub different : IsTrue (are_distinct strings)
   pub whole : length strings ≤ 20 → (string : List ℕ) → P string → IsTrue (is_among strings string)
-
--- exactly the strings with a property, at least one and at most twenty
-pub record AreFewStrings (strings : List (List ℕ)) (P : List ℕ → Type 0) : Type 0 where
-  pub some : 0 < length strings
-  pub few : length strings ≤ 20
-  pub different : IsTrue (are_distinct strings)
-  pub each : (string : List ℕ) → P string ↔ IsTrue (is_among strings string)
-
--- the next part cannot extend the run: its strings would not be few
-abbrev pub IsBlocked : Trees → Trees → Type 0
-IsBlocked run none = Unit {0}
-IsBlocked run (more t rest) = HaveFewExactStrings (append run (more t none)) → ⊥
-
--- the exact strings of the longest leading run that has few
-pub record IsLongestLeadingRun (ts : Trees) (strings : List (List ℕ)) : Type 0 where
-  pub run : Trees
-  pub after : Trees
-  pub is : ts ≡ append run after
-  pub finite : are_finite run ≡ true
-  pub each : AreFewStrings strings (ConcatenatesExactStrings run)
-  pub blocked : IsBlocked run after
 
 abbrev pub all_match : List Query → (ℕ → Bool) → Bool
 all_match queries set = list_all (λ q. matches_set q set) queries
@@ -97,12 +76,24 @@ IsMatchQuery query t = (HasFewExactStrings t → ⊥) → IsCorrect query t
 abbrev pub EnumeratesTree : List (List ℕ) → Tree → Type 0
 EnumeratesTree strings t = (is_finite t ≡ true) × IsEnumeration strings (HasExactString t)
 
--- the strings are the exact strings of a finite tree or of a run, which are few
-abbrev pub AreExactStrings : List (List ℕ) → Tree → Type 0
-AreExactStrings strings t = (is_finite t ≡ true) × AreFewStrings strings (HasExactString t)
+-- the strings are the exact strings of a finite tree, which are few
+pub record AreExactStrings (strings : List (List ℕ)) (t : Tree) : Type 0 where
+  pub are : EnumeratesTree strings t
+  pub some : 0 < length strings
+  pub few : length strings ≤ 20
 
-abbrev pub AreExactStringsOfRun : List (List ℕ) → Trees → Type 0
-AreExactStringsOfRun strings ts = (are_finite ts ≡ true) × AreFewStrings strings (ConcatenatesExactStrings ts)
+-- the next part cannot extend the run: its strings would not be few
+abbrev pub IsBlocked : Trees → Trees → Type 0
+IsBlocked run none = Unit {0}
+IsBlocked run (more t rest) = HaveFewExactStrings (append run (more t none)) → ⊥
+
+-- the exact strings of the longest leading run that has few
+pub record IsLongestLeadingRun (ts : Trees) (strings : List (List ℕ)) : Type 0 where
+  pub run : Trees
+  pub after : Trees
+  pub is : ts ≡ append run after
+  pub exact : AreExactStrings strings (cat run)
+  pub blocked : IsBlocked run after
 
 -- whether the set has all trigrams of the text
 abbrev pub has_trigrams : (ℕ → Bool) → List ℕ → Bool

@@ -2,8 +2,7 @@
 use Rattle.cs_syntax.specs.Matching.{Tree, Trees, cat, alt}
 use Rattle.cs_trigram.specs.SequenceQuery.{IsSequenceQueryOf}
 use Rattle.cs_trigram.specs.ExactSet.{IsExactSetOf, AreExactSetsReversed}
-use Rattle.cs_trigram.specs.EndStrings.{AreEndStrings, AreEndStringsOfAll, AreEndStringsOfSome}
-use Rattle.cs_trigram.specs.declared.end_strings.Side.TheVariants.{Prefix, Suffix}
+use Rattle.cs_trigram.specs.EndStrings.{forward, backward, AreEndStrings, AreEndStringsOfSome}
 use Rattle.cs_trigram.specs.ExactQuery.{HasFewExactStrings, RequiresExactString}
 use Rattle.cs_trigram.specs.Analysis.{IsCorrect, AreCorrect}
 use Rattle.cs_trigram.specs.declared.regexp_info.RegexpInfo.{RegexpInfo}
@@ -12,20 +11,20 @@ use Rattle.cs_trigram.specs.declared.regexp_info.AlternationInfo.{AlternationInf
 
 pub record IsInfoOf (info : RegexpInfo) (t : Tree) : Type 0 where
   pub exact : IsExactSetOf info.exact t
-  pub prefix : AreEndStrings Prefix info.prefix.items t
-  pub suffix : AreEndStrings Suffix info.suffix.items t
+  pub prefix : AreEndStrings forward info.prefix.items t
+  pub suffix : AreEndStrings backward info.suffix.items t
   pub query : IsCorrect info.query t
   pub required : HasFewExactStrings t → RequiresExactString info.query t
 
 pub record IsSequence (info : SequenceInfo) (ts : Trees) : Type 0 where
   pub exact : IsExactSetOf info.exact (cat ts)
-  pub prefix : AreEndStringsOfAll Prefix info.prefix.items ts
-  pub suffix : AreEndStringsOfAll Suffix info.suffix.items ts
+  pub prefix : AreEndStrings forward info.prefix.items (cat ts)
+  pub suffix : AreEndStrings backward info.suffix.items (cat ts)
   pub parts : AreExactSetsReversed info.sequence_query.parts.items ts
   pub required : IsSequenceQueryOf info.sequence_query ts
 
 pub record IsAlternation (info : AlternationInfo) (ts : Trees) : Type 0 where
   pub exact : IsExactSetOf info.exact (alt ts)
-  pub prefix : AreEndStringsOfSome Prefix info.prefix.items ts
-  pub suffix : AreEndStringsOfSome Suffix info.suffix.items ts
+  pub prefix : AreEndStringsOfSome forward info.prefix.items ts
+  pub suffix : AreEndStringsOfSome backward info.suffix.items ts
   pub members : AreCorrect info.members.items ts

@@ -1,11 +1,10 @@
 // Trigrams across two neighbouring parts, from the cross product of the suffixes of the first and
 // the prefixes of the second (`concat` in Go's codesearch).
-ghost use Rattle.std.specs.Prelude.{◌≡◌, ◌++◌, IfOk, OnOk, map};
-ghost use Rattle.cs_trigram.specs.SequenceQuery.{MatchesAcross, IsAcross, pairs};
-ghost use Rattle.cs_trigram.specs.Analysis.{MentionsOnly};
+ghost use Rattle.std.specs.Prelude.{◌≡◌, ◌++◌, IfOk, OnOk, map, reverse};
+ghost use Rattle.cs_trigram.specs.SequenceQuery.{IsCrossQuery, pairs};
 
 use crate::connectives::{add_conjunct, any_string};
-use crate::end_strings::{EndString, Side, truncated_end_strings};
+use crate::end_strings::{EndString, truncated_end_strings};
 use crate::exact_string::ExactString;
 use crate::queries::Query;
 use std::alloc::{AllocError, Global};
@@ -16,7 +15,7 @@ const MAX_WHOLE_CONCATENATIONS: usize = 64;
 /// The most pairs for which a query is made, so that its size is bounded.
 const MAX_CONCATENATIONS: usize = 256;
 
-/// Adds the suffix followed by each prefix.
+/// Adds the suffix, which is stored reversed, followed by each prefix.
 fn add_pairs(
     alloc: Global,
     suffix: &EndString,
@@ -24,11 +23,12 @@ fn add_pairs(
     strings: &mut Vec<ExactString>,
 ) -> Result<(), AllocError>
     ensures { OnOk result (strings.new.items ≡
-        strings.old.items ++ map (λ prefix. suffix.now.string ++ prefix.string) prefixes.now) }
+        strings.old.items ++ map (λ prefix. reverse suffix.now.string ++ prefix.string) prefixes.now) }
 {
+    let first = suffix.string.reversed(alloc)?;
     for prefix in prefixes {
-        let (first, last) = (suffix.string.bytes(), prefix.string.bytes());
-        strings.push(ExactString::concatenation(alloc, first, last)?)?;
+        let last = prefix.string.bytes();
+        strings.push(ExactString::concatenation(alloc, first.bytes(), last)?)?;
     }
     Ok(())
 }
@@ -59,8 +59,7 @@ fn product_query(
     suffixes: &[EndString],
     prefixes: &[EndString],
 ) -> Result<Query, AllocError>
-    ensures required { IfOk result (λ query. MatchesAcross query suffixes.now prefixes.now) }
-    ensures mentioned { IfOk result (λ query. MentionsOnly query (IsAcross suffixes.now prefixes.now)) }
+    ensures { IfOk result (λ query. IsCrossQuery query suffixes.now prefixes.now) }
 {
     if count_concatenations(suffixes, prefixes) > MAX_CONCATENATIONS {
         return Ok(Query::All);
@@ -75,11 +74,10 @@ fn split_product_query(
     suffixes: &[EndString],
     prefixes: &[EndString],
 ) -> Result<Query, AllocError>
-    ensures required { IfOk result (λ query. MatchesAcross query suffixes.now prefixes.now) }
-    ensures mentioned { IfOk result (λ query. MentionsOnly query (IsAcross suffixes.now prefixes.now)) }
+    ensures { IfOk result (λ query. IsCrossQuery query suffixes.now prefixes.now) }
 {
-    let last = truncated_end_strings(alloc, Side::Suffix, suffixes, 1)?;
-    let first = truncated_end_strings(alloc, Side::Prefix, prefixes, 1)?;
+    let last = truncated_end_strings(alloc, suffixes, 1)?;
+    let first = truncated_end_strings(alloc, prefixes, 1)?;
     let mut conjuncts = Vec::new(alloc);
     add_conjunct(&mut conjuncts, product_query(alloc, suffixes, &first)?)?;
     add_conjunct(&mut conjuncts, product_query(alloc, &last, prefixes)?)?;
@@ -92,11 +90,10 @@ pub(crate) fn cross_product_query(
     suffixes: &[EndString],
     prefixes: &[EndString],
 ) -> Result<Query, AllocError>
-    ensures required { IfOk result (λ query. MatchesAcross query suffixes.now prefixes.now) }
-    ensures mentioned { IfOk result (λ query. MentionsOnly query (IsAcross suffixes.now prefixes.now)) }
+    ensures { IfOk result (λ query. IsCrossQuery query suffixes.now prefixes.now) }
 {
-    let suffixes = truncated_end_strings(alloc, Side::Suffix, suffixes, 2)?;
-    let prefixes = truncated_end_strings(alloc, Side::Prefix, prefixes, 2)?;
+    let suffixes = truncated_end_strings(alloc, suffixes, 2)?;
+    let prefixes = truncated_end_strings(alloc, prefixes, 2)?;
     if count_concatenations(&suffixes, &prefixes) > MAX_WHOLE_CONCATENATIONS {
         return split_product_query(alloc, &suffixes, &prefixes);
     }

@@ -1,6 +1,6 @@
 // Exact sets (`exact` in Go's codesearch).
 ghost use Rattle.std.specs.Prelude.{◌≡◌, true, not, IfOk, MatchOption};
-ghost use Rattle.cs_syntax.specs.Matching.{Tree, cat, alt, none, more};
+ghost use Rattle.cs_syntax.specs.Matching.{Tree, Trees, cat, alt, more};
 ghost use Rattle.cs_trigram.specs.ExactStrings.{is_finite};
 ghost use Rattle.cs_trigram.specs.ExactQuery.{HasFewExactStrings};
 ghost use Rattle.cs_trigram.specs.Analysis.{AreExactStrings, EnumeratesTree};
@@ -69,8 +69,8 @@ impl ExactSet {
         alloc: Global,
         suffixes: &ExactSet,
     ) -> Result<ExactSet, AllocError>
-        ensures { IfOk result (λ exact. (t u : Tree) → IsExactSetOf self.now t → IsExactSetOf suffixes.now u →
-            IsExactSetOf exact (cat (more t (more u none)))) }
+        ensures { IfOk result (λ exact. (t : Tree) (ts : Trees) → IsExactSetOf self.now t →
+            IsExactSetOf suffixes.now (cat ts) → IsExactSetOf exact (cat (more t ts))) }
     {
         if self.is_infinite() || suffixes.is_infinite() {
             return Ok(ExactSet::Infinite);
@@ -89,8 +89,8 @@ impl ExactSet {
 
     /// The union.
     pub(crate) fn union(&self, alloc: Global, others: &ExactSet) -> Result<ExactSet, AllocError>
-        ensures { IfOk result (λ exact. (t u : Tree) → IsExactSetOf self.now t → IsExactSetOf others.now u →
-            IsExactSetOf exact (alt (more t (more u none)))) }
+        ensures { IfOk result (λ exact. (t : Tree) (ts : Trees) → IsExactSetOf self.now t →
+            IsExactSetOf others.now (alt ts) → IsExactSetOf exact (alt (more t ts))) }
     {
         if self.is_infinite() || others.is_infinite() {
             return Ok(ExactSet::Infinite);

@@ -1,5 +1,5 @@
 // Exact strings, and bounded lists of distinct ones.
-ghost use Rattle.std.specs.Prelude.{nat_lt, ◌≡◌, ◌≤◌, ◌++◌, IsTrue, [], IfOk, OnOk, length, map};
+ghost use Rattle.std.specs.Prelude.{nat_lt, ◌≡◌, ◌≤◌, ◌++◌, IsTrue, [], IfOk, OnOk, length, map, reverse};
 ghost use Rattle.std.specs.List.{list_all};
 ghost use Rattle.cs_tree.specs.Cover.{is_among};
 ghost use Rattle.cs_tree.specs.Folders.{are_distinct};
@@ -47,12 +47,35 @@ impl ExactString {
         ExactString::concatenation(alloc, text, &[])
     }
 
+    /// The string read backward.
+    pub(crate) fn reversed(&self, alloc: Global) -> Result<ExactString, AllocError>
+        ensures { IfOk result (λ string. string ≡ reverse self.now) }
+    {
+        let mut bytes = Vec::from_slice(alloc, &self.bytes)?;
+        bytes.reverse();
+        Ok(ExactString { bytes })
+    }
+
     /// The bytes of the string.
     pub(crate) fn bytes(&self) -> &[u8]
         ensures { result.now ≡ self.now }
     {
         &self.bytes
     }
+}
+
+/// The strings read backward.
+pub(crate) fn reversed(
+    alloc: Global,
+    strings: &[ExactString],
+) -> Result<Vec<ExactString>, AllocError>
+    ensures { IfOk result (λ backward. backward.items ≡ map reverse strings.now) }
+{
+    let mut backward = Vec::with_capacity(alloc, strings.len())?;
+    for string in strings {
+        backward.push(string.reversed(alloc)?)?;
+    }
+    Ok(backward)
 }
 
 /// Whether the string is in the list.

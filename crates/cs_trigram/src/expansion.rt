@@ -1,10 +1,10 @@
 // The exact sets of character classes and repeats, by expansion.
-ghost use Rattle.std.specs.Prelude.{◌≡◌, ◌+◌, [], ◌∷◌, if◌then◌else◌, IfOk, OnOk, Some};
+ghost use Rattle.std.specs.Prelude.{◌≡◌, ◌+◌, ◌++◌, ℕ, List, [], ◌∷◌, if◌then◌else◌, encode_utf8, IfOk, OnOk, Some};
 ghost use Rattle.cs_syntax.specs.Matching.{Tree, member, one_of, one_char, rep};
 ghost use Rattle.cs_trigram.specs.ExactStrings.{HasExactString};
-ghost use Rattle.cs_trigram.specs.Analysis.{with_string, with_strings, IsEnumeration};
-ghost use Rattle.cs_trigram.specs.CharStrings.{range_forms, with_form};
+ghost use Rattle.cs_trigram.specs.Analysis.{with_string, IsEnumeration};
 ghost use Rattle.cs_syntax.specs.CharRanges.{IsCharRange};
+ghost use Rattle.cs_syntax.specs.Characters.{is_scalar};
 ghost use Rattle.cs_trigram.specs.ExactSet.{IsExactSetOf};
 
 use crate::exact_set::ExactSet;
@@ -54,7 +54,8 @@ pub(crate) fn strings_of_set(alloc: Global, set: &ByteSet) -> Result<Vec<ExactSt
 
 /// Adds the UTF-8 encoding of a scalar value.
 fn add_char(alloc: Global, n: u32, strings: &mut Vec<ExactString>) -> Result<(), AllocError>
-    ensures { OnOk result (strings.new.items ≡ with_form strings.old.items n) }
+    ensures { OnOk result (strings.new.items ≡
+        (if is_scalar n then with_string strings.old.items (encode_utf8 n) else strings.old.items)) }
 {
     let Some(char) = char::from_u32(n) else {
         return Ok(());
@@ -73,7 +74,9 @@ fn add_range(
     strings: &mut Vec<ExactString>,
 ) -> Result<(), AllocError>
     requires { IsCharRange range }
-    ensures { OnOk result (strings.new.items ≡ with_strings strings.old.items (range_forms range)) }
+    ensures { OnOk result ((ranges : List (ℕ × ℕ)) →
+        IsEnumeration strings.old.items (HasExactString (one_char ranges)) →
+        IsEnumeration strings.new.items (HasExactString (one_char (ranges ++ range ∷ [])))) }
 {
     for n in range.0..range.1 + 1 {
         if strings.len() > MAX_EXACT {

@@ -4,18 +4,18 @@
 ghost use Rattle.std.specs.Prelude.{IfOk, OnOk};
 ghost use Rattle.cs_syntax.specs.Matching.{Tree, rep, Trees, none, more, cat, alt};
 ghost use Rattle.cs_trigram.specs.ExactSet.{IsExactSetOf};
-ghost use Rattle.cs_trigram.specs.EndStrings.{AreEndStrings};
+ghost use Rattle.cs_trigram.specs.EndStrings.{forward, backward, AreEndStrings};
 ghost use Rattle.cs_trigram.specs.RegexpInfo.{IsInfoOf, IsSequence, IsAlternation};
 ghost use Rattle.cs_trigram.specs.Analysis.{IsMatchQuery};
 ghost use Rattle.cs_trigram.specs.declared.queries.Query.TheVariants.{All};
-ghost use Rattle.cs_trigram.specs.declared.end_strings.Side.TheVariants.{Prefix, Suffix};
 
 use crate::connectives::any_string;
 use crate::end_strings::{
-    EndString, Side, bare_end_string, concatenate_end_strings, end_strings_of,
-    end_strings_of_repeat, union_of_end_strings,
+    EndString, bare_end_string, concatenate_end_strings, end_strings_of, end_strings_of_repeat,
+    union_of_end_strings,
 };
 use crate::exact_set::ExactSet;
+use crate::exact_string::reversed;
 use crate::expansion::{empty_string, strings_of_repeat};
 use crate::queries::Query;
 use crate::sequence_query::SequenceQuery;
@@ -28,7 +28,7 @@ pub(crate) struct RegexpInfo {
     pub(crate) exact: ExactSet,
     /// The prefixes of its matches.
     pub(crate) prefix: Vec<EndString>,
-    /// The suffixes of its matches.
+    /// The suffixes of its matches, reversed.
     pub(crate) suffix: Vec<EndString>,
     /// The query of the tree (`match` in Go's codesearch).
     pub(crate) query: Query,
@@ -45,7 +45,7 @@ impl RegexpInfo {
         query: Query,
     ) -> Result<RegexpInfo, AllocError>
         ensures { IfOk result (λ info. (t : Tree) → IsExactSetOf exact t →
-            AreEndStrings Prefix prefix.items t → AreEndStrings Suffix suffix.items t →
+            AreEndStrings forward prefix.items t → AreEndStrings backward suffix.items t →
             IsMatchQuery query t → IsInfoOf info t) }
     {
         let Some(few) = exact.few_strings() else {
@@ -56,8 +56,8 @@ impl RegexpInfo {
                 query,
             });
         };
-        let prefix = end_strings_of(alloc, Side::Prefix, few)?;
-        let suffix = end_strings_of(alloc, Side::Suffix, few)?;
+        let prefix = end_strings_of(alloc, few)?;
+        let suffix = end_strings_of(alloc, &reversed(alloc, few)?)?;
         let query = any_string(alloc, few)?;
         Ok(RegexpInfo {
             exact,
@@ -87,8 +87,8 @@ impl RegexpInfo {
         ensures { IfOk result (λ info. (t : Tree) → IsInfoOf once t → IsInfoOf info (rep t least most)) }
     {
         let exact = strings_of_repeat(alloc, &once.exact, least, most)?;
-        let prefix = end_strings_of_repeat(alloc, Side::Prefix, &once.prefix, least)?;
-        let suffix = end_strings_of_repeat(alloc, Side::Suffix, &once.suffix, least)?;
+        let prefix = end_strings_of_repeat(alloc, &once.prefix, least)?;
+        let suffix = end_strings_of_repeat(alloc, &once.suffix, least)?;
         if least == 0 {
             return RegexpInfo::new(alloc, exact, prefix, suffix, Query::All);
         }
@@ -130,8 +130,8 @@ impl SequenceInfo {
         self.exact = part.exact.concatenate(alloc, &self.exact)?;
         self.sequence_query
             .add(alloc, part.query, part.exact, &part.suffix, &self.prefix)?;
-        self.prefix = concatenate_end_strings(alloc, Side::Prefix, &part.prefix, &self.prefix)?;
-        self.suffix = concatenate_end_strings(alloc, Side::Suffix, &self.suffix, &part.suffix)?;
+        self.prefix = concatenate_end_strings(alloc, &part.prefix, &self.prefix)?;
+        self.suffix = concatenate_end_strings(alloc, &self.suffix, &part.suffix)?;
         Ok(())
     }
 
@@ -175,9 +175,9 @@ impl AlternationInfo {
     {
         self.exact = branch.exact.union(alloc, &self.exact)?;
         let prefixes = mem::replace(&mut self.prefix, Vec::new(alloc));
-        self.prefix = union_of_end_strings(alloc, Side::Prefix, prefixes, &branch.prefix)?;
+        self.prefix = union_of_end_strings(alloc, prefixes, branch.prefix)?;
         let suffixes = mem::replace(&mut self.suffix, Vec::new(alloc));
-        self.suffix = union_of_end_strings(alloc, Side::Suffix, suffixes, &branch.suffix)?;
+        self.suffix = union_of_end_strings(alloc, suffixes, branch.suffix)?;
         self.members.push(branch.query)?;
         Ok(())
     }

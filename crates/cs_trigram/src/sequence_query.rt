@@ -4,10 +4,9 @@ ghost use Rattle.std.specs.Prelude.{◌≡◌, ◌||◌, IfOk, OnOk, MatchOption
 ghost use Rattle.std.specs.List.{list_all};
 ghost use Rattle.cs_syntax.specs.Matching.{Tree, Trees, none, more, cat};
 ghost use Rattle.cs_trigram.specs.ExactQuery.{HasFewExactStrings};
-ghost use Rattle.cs_trigram.specs.EndStrings.{are_all_empty, AreEndStrings, AreEndStringsOfAll};
+ghost use Rattle.cs_trigram.specs.EndStrings.{forward, backward, are_all_empty, AreEndStrings};
 ghost use Rattle.cs_trigram.specs.ExactSet.{IsExactSetOf, AreExactSetsReversed};
-ghost use Rattle.cs_trigram.specs.Analysis.{IsCorrect, IsMatchQuery, AreExactStrings, AreExactStringsOfRun, IsLongestLeadingRun};
-ghost use Rattle.cs_trigram.specs.declared.end_strings.Side.TheVariants.{Prefix, Suffix};
+ghost use Rattle.cs_trigram.specs.Analysis.{IsCorrect, IsMatchQuery, AreExactStrings, IsLongestLeadingRun};
 ghost use Rattle.cs_syntax.specs.TreeList.{append};
 ghost use Rattle.cs_trigram.specs.ExactStrings.{HaveFewExactStrings};
 
@@ -76,23 +75,6 @@ impl SequenceQuery {
         Ok(())
     }
 
-    /// Prepends a part with this query and exact set, without the trigrams across its end.
-    fn prepend(
-        &mut self,
-        alloc: Global,
-        match_query: Query,
-        exact: &ExactSet,
-    ) -> Result<(), AllocError>
-        ensures parts { OnOk result (self.new.parts ≡ self.old.parts) }
-        ensures required { OnOk result ((t : Tree) (ts : Trees) → IsExactSetOf exact.now t →
-            IsCorrect match_query t → AreExactSetsReversed self.old.parts.items ts → ExtendsSequenceQuery self.old self.new t ts) }
-    {
-        match exact.few_strings() {
-            Some(few) => self.prepend_few(alloc, few),
-            None => self.cut(alloc, match_query),
-        }
-    }
-
     /// Whether the strings of the leading run have at least two bytes after its first part, which
     /// has this suffix.
     fn extends_past(&self, suffix: &EndString) -> bool
@@ -125,8 +107,8 @@ impl SequenceQuery {
         prefixes: &[EndString],
     ) -> Result<(), AllocError>
         ensures parts { OnOk result (self.new.parts ≡ self.old.parts) }
-        ensures required { OnOk result ((t : Tree) (ts : Trees) → AreEndStrings Suffix suffixes.now t →
-            AreEndStringsOfAll Prefix prefixes.now ts →
+        ensures required { OnOk result ((t : Tree) (ts : Trees) → AreEndStrings backward suffixes.now t →
+            AreEndStrings forward prefixes.now (cat ts) →
             IsSequenceQueryOf self.old (more t ts) → IsSequenceQueryOf self.new (more t ts)) }
     {
         if self.covers_cross(suffixes, prefixes) {
@@ -151,10 +133,14 @@ impl SequenceQuery {
             AreExactSetsReversed self.old.parts.items ts →
             AreExactSetsReversed self.new.parts.items (more t ts)) }
         ensures required { OnOk result ((t : Tree) (ts : Trees) → IsExactSetOf exact t →
-            IsCorrect match_query t → AreEndStrings Suffix suffixes.now t → AreEndStringsOfAll Prefix prefixes.now ts →
+            IsCorrect match_query t → AreEndStrings backward suffixes.now t →
+            AreEndStrings forward prefixes.now (cat ts) →
             AreExactSetsReversed self.old.parts.items ts → ExtendsSequenceQuery self.old self.new t ts) }
     {
-        self.prepend(alloc, match_query, &exact)?;
+        match exact.few_strings() {
+            Some(few) => self.prepend_few(alloc, few)?,
+            None => self.cut(alloc, match_query)?,
+        }
         self.add_cross(alloc, suffixes, prefixes)?;
         self.parts.push(exact)?;
         Ok(())
@@ -179,17 +165,14 @@ fn extended_run(
     next: &ExactSet,
 ) -> Result<Option<Vec<ExactString>>, AllocError>
     ensures { IfOk result (λ found. (run : Trees) (t : Tree) →
-        AreExactStringsOfRun strings.now run → IsExactSetOf next.now t →
+        AreExactStrings strings.now (cat run) → IsExactSetOf next.now t →
         MatchOption found (¬ HaveFewExactStrings (append run (more t none)))
-        (λ longer. AreExactStringsOfRun longer.items (append run (more t none)))) }
+        (λ longer. AreExactStrings longer.items (cat (append run (more t none))))) }
 {
     let Some(suffixes) = next.few_strings() else {
         return Ok(None);
     };
     let longer = cross_product(alloc, strings, suffixes)?;
-    if longer.len() == 0 {
-        return Ok(None);
-    }
     if longer.len() > MAX_EXACT {
         return Ok(None);
     }

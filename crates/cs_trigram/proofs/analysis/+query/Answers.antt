@@ -13,8 +13,11 @@ analyze_alternation-parts-preserved t c =
     let parts = c.args.parts.now in
     let part = tree_of c.index-parts-index.result in
     let rest = trees_of (drop c.parts.index parts) in
-    let next = trees_before parts c.parts.index c.index-parts-index.result (omega arith) c.parts.invariant.0 c.index-parts-index.is in
-    (omega arith, subst (IsAlternation c.add.new.self) (sym next) (c.in_ok-add.ensures part rest c.in_ok-analyze.ensures c.parts.invariant.1))
+    let next = trees_before parts c.parts.index c.index-parts-index.result (omega arith) c.parts.invariant.0 c.index-parts-index.is in (
+      omega arith,
+      subst (IsAlternation c.add.new.self) (sym next)
+          (c.in_ok-add.ensures part rest c.in_ok-analyze.ensures c.parts.invariant.1),
+    )
 
 pub analyze_sequence-parts-preserved : goal.analyze_sequence-parts-preserved
 analyze_sequence-parts-preserved t c =

@@ -14,7 +14,8 @@ returns-clause-exact c = λ few.
 
 pub returns-clause-mentioned : goal.returns-clause-mentioned
 returns-clause-mentioned c =
-    subst (MentionsTrigramsOf c.in_ok-analyze.field-0.query) c.tree.ensures.tree (λ members g h. (c.in_ok-analyze.ensures.query.mentioned g h).1 members)
+    subst (MentionsTrigramsOf c.in_ok-analyze.field-0.query) c.tree.ensures.tree
+    (λ members g h. (c.in_ok-analyze.ensures.query.mentioned g h).1 members)
 
 pub returns-clause-numbers : goal.returns-clause-numbers
 returns-clause-numbers c = λ g h. (c.in_ok-analyze.ensures.query.mentioned g h).0

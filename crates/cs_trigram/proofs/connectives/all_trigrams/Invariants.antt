@@ -1,4 +1,4 @@
-use Rattle.std.proofs.Common.{◌≡◌, ◌≤◌, ◌-◌, ◌&&◌, ℕ, Bool, drop, length}
+use Rattle.std.proofs.Common.{◌≡◌, ◌+◌, ◌≤◌, ◌-◌, ℕ, Bool, take, length}
 use Rattle.std.specs.List.{list_all}
 use Rattle.cs_trigram.specs.Trigram.{trigram_sequence}
 use Rattle.cs_trigram.specs.Analysis.{AreTrigramsOf, all_match, some_mentions}
@@ -7,7 +7,7 @@ use Rattle.cs_trigram.proofs.connectives.all_trigrams.Given as goal
 abbrev pub invariant-loop-offset : goal.invariant-loop-offset
 invariant-loop-offset l =
     (l.offset ≤ length l.text)
-    × ((set : ℕ → Bool) → (all_match l.members.items set && list_all set (trigram_sequence (drop l.offset l.text))) ≡ list_all set (trigram_sequence l.text))
+    × ((set : ℕ → Bool) → all_match l.members.items set ≡ list_all set (trigram_sequence (take (l.offset + 2) l.text)))
     × AreTrigramsOf (some_mentions l.members.items) (Unit {0}) (λ part. part ≡ l.text)
 
 abbrev pub decreases-loop-offset : goal.decreases-loop-offset

@@ -9,13 +9,15 @@ use Rattle.cs_trigram.proofs.connectives.any_of.Goals.{else-len-eq1-via-else-len
 pub returns-2-clause-required : goal.returns-2-clause-required
 returns-2-clause-required c = λ set.
     elim c.else-len-eq1.branch [
-      | else-len-eq1-via-else-len-eq1 w ↦ matches_set-Or set c.else-len-eq1.members ∙ ap (λ (v : Vec Query Global). some_matches v.items set) w.members-is
+      | else-len-eq1-via-else-len-eq1 w ↦ matches_set-Or set c.else-len-eq1.members
+          ∙ ap (λ (v : Vec Query Global). some_matches v.items set) w.members-is
       | else-len-eq1-via-then-len-eq1+in-None-1 w ↦ absurd (grind (arith, common_steps))
     ]
 
 pub returns-2-clause-mentioned : goal.returns-2-clause-mentioned
 returns-2-clause-mentioned c = λ g.
     elim c.else-len-eq1.branch [
-      | else-len-eq1-via-else-len-eq1 w ↦ mentions-Or g c.else-len-eq1.members ∙ ap (λ (v : Vec Query Global). some_mentions v.items g) w.members-is
+      | else-len-eq1-via-else-len-eq1 w ↦ mentions-Or g c.else-len-eq1.members
+          ∙ ap (λ (v : Vec Query Global). some_mentions v.items g) w.members-is
       | else-len-eq1-via-then-len-eq1+in-None-1 w ↦ absurd (grind (arith, common_steps))
     ]

@@ -5,7 +5,8 @@ use Rattle.cs_trigram.specs.Query.{mentions}
 use Rattle.cs_trigram.specs.declared.queries.Query.{Query}
 use Rattle.cs_trigram.proofs.MentionLemmas.{trigrams_of_both, trigrams_within, occurs_itself}
 use Rattle.cs_trigram.proofs.QueryLemmas.{matches_set-All, mentions_push, short_there, text_step}
-use Rattle.cs_trigram.proofs.EnumerationLemmas.{strings_from, string_at}
+use Rattle.cs_trigram.proofs.EnumerationLemmas.{string_at}
+use Rattle.cs_trigram.proofs.NodeListLemmas.{item_from}
 use Rattle.cs_trigram.proofs.connectives.any_string.Goals as goal
 
 pub returns-then-bytes-lt3-clause-required : goal.returns-then-bytes-lt3-clause-required
@@ -16,7 +17,7 @@ returns-then-bytes-lt3-clause-required c = λ set.
     let some = some_matches c.loop-string.members.items set in
     let short : length w ≤ 2 = omega (arith, ap length c.bytes.ensures) in
     matches_set-All set ∙ sym (short_there set (drop (i + 1) strings) w some short)
-    ∙ ap (λ (ws : List (List ℕ)). some || has_any set ws) (sym (strings_from strings i w c.loop-string-test.true c.string-item.is))
+    ∙ ap (λ (ws : List (List ℕ)). some || has_any set ws) (sym (item_from strings i w c.loop-string-test.true c.string-item.is))
     ∙ c.loop-string.invariant.0 set
 
 pub returns-clause-mentioned : goal.returns-clause-mentioned
@@ -34,10 +35,14 @@ loop-string-preserved c =
     λ g. ap (λ (qs : List Query). some_mentions qs g) c.in_ok-push.ensures.items ∙ mentions_push g members query in (
       λ set.
           ap (λ (qs : List Query). some_matches qs set || has_any set rest) c.in_ok-push.ensures.items
-          ∙ text_step set members query w rest (c.in_ok-all_trigrams.ensures.required set ∙ ap (has_trigrams set) c.bytes-in-loop-string.ensures)
-          ∙ ap (λ (ws : List (List ℕ)). some_matches members set || has_any set ws) (sym (strings_from strings c.loop-string.string-index w c.loop-string-test.true c.string-item.is))
+          ∙ text_step set members query w rest (c.in_ok-all_trigrams.ensures.required set
+          ∙ ap (has_trigrams set) c.bytes-in-loop-string.ensures)
+          ∙ ap (λ (ws : List (List ℕ)). some_matches members set || has_any set ws)
+          (sym (item_from strings c.loop-string.string-index w c.loop-string-test.true c.string-item.is))
           ∙ c.loop-string.invariant.0 set,
-      trigrams_of_both (some_mentions members) (mentions query) (some_mentions c.push.new.self.items) (Unit {0}) (λ string. is_among strings string ≡ true) is c.loop-string.invariant.1
-          (trigrams_within (mentions query) (Unit {0}) (Unit {0}) (λ part. part ≡ c.bytes-in-loop-string.result.now) (λ string. is_among strings string ≡ true) c.in_ok-all_trigrams.ensures.mentioned (λ b. b)
+      trigrams_of_both (some_mentions members) (mentions query) (some_mentions c.push.new.self.items) (Unit {0})
+          (λ string. is_among strings string ≡ true) is c.loop-string.invariant.1
+          (trigrams_within (mentions query) (Unit {0}) (Unit {0}) (λ part. part ≡ c.bytes-in-loop-string.result.now)
+          (λ string. is_among strings string ≡ true) c.in_ok-all_trigrams.ensures.mentioned (λ b. b)
           (λ b part e. (w, among, occurs_itself part w (e ∙ c.bytes-in-loop-string.ensures)))),
     )

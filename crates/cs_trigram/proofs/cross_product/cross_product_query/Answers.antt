@@ -1,30 +1,26 @@
 use Rattle.std.proofs.Common.{List, sym, subst}
 use Rattle.cs_trigram.specs.EndStrings.{AreCoarser}
 use Rattle.cs_trigram.specs.declared.end_strings.EndString.{EndString}
-use Rattle.cs_trigram.specs.declared.end_strings.Side.TheVariants.{Prefix, Suffix}
 use Rattle.cs_trigram.proofs.NodeListLemmas.{if_ok}
-use Rattle.cs_trigram.proofs.CrossProductLemmas.{mentions_coarser}
+use Rattle.cs_trigram.proofs.CrossProductLemmas.{coarser_query}
 use Rattle.cs_trigram.proofs.cross_product.cross_product_query.Goals as goal
 
-pub returns-then-count_concatenations-gt-MAX_WHOLE_CONCATENATIONS-clause-mentioned :
-    goal.returns-then-count_concatenations-gt-MAX_WHOLE_CONCATENATIONS-clause-mentioned
-returns-then-count_concatenations-gt-MAX_WHOLE_CONCATENATIONS-clause-mentioned c =
+pub returns-then-count_concatenations-gt-MAX_WHOLE_CONCATENATIONS : goal.returns-then-count_concatenations-gt-MAX_WHOLE_CONCATENATIONS
+returns-then-count_concatenations-gt-MAX_WHOLE_CONCATENATIONS c =
     let suffixes = c.args.suffixes.now in
     let prefixes = c.args.prefixes.now in
     let last = c.deref-then-count_concatenations-gt-MAX_WHOLE_CONCATENATIONS in
     let first = c.deref-then-count_concatenations-gt-MAX_WHOLE_CONCATENATIONS-2 in
-    if_ok c.split_product_query.result _ _ c.split_product_query.ensures.mentioned
-    (λ q only.
-    mentions_coarser q last.result.now first.result.now suffixes prefixes
-    (subst (λ (xs : List EndString). AreCoarser Suffix xs suffixes) (sym last.ensures.value) c.in_ok-suffixes.ensures)
-    (subst (λ (xs : List EndString). AreCoarser Prefix xs prefixes) (sym first.ensures.value) c.in_ok-prefixes.ensures) only)
+    if_ok c.split_product_query.result _ _ c.split_product_query.ensures
+    (λ q. coarser_query q last.result.now first.result.now suffixes prefixes
+    (subst (λ (xs : List EndString). AreCoarser xs suffixes) (sym last.ensures.value) c.in_ok-suffixes.ensures)
+    (subst (λ (xs : List EndString). AreCoarser xs prefixes) (sym first.ensures.value) c.in_ok-prefixes.ensures))
 
-pub returns-clause-mentioned : goal.returns-clause-mentioned
-returns-clause-mentioned c =
+pub returns : goal.returns
+returns c =
     let suffixes = c.args.suffixes.now in
     let prefixes = c.args.prefixes.now in
-    if_ok c.product_query.result _ _ c.product_query.ensures.mentioned
-    (λ q only.
-    mentions_coarser q c.deref-3.result.now c.deref-4.result.now suffixes prefixes
-    (subst (λ (xs : List EndString). AreCoarser Suffix xs suffixes) (sym c.deref-3.ensures.value) c.in_ok-suffixes.ensures)
-    (subst (λ (xs : List EndString). AreCoarser Prefix xs prefixes) (sym c.deref-4.ensures.value) c.in_ok-prefixes.ensures) only)
+    if_ok c.product_query.result _ _ c.product_query.ensures
+    (λ q. coarser_query q c.deref-3.result.now c.deref-4.result.now suffixes prefixes
+    (subst (λ (xs : List EndString). AreCoarser xs suffixes) (sym c.deref-3.ensures.value) c.in_ok-suffixes.ensures)
+    (subst (λ (xs : List EndString). AreCoarser xs prefixes) (sym c.deref-4.ensures.value) c.in_ok-prefixes.ensures))

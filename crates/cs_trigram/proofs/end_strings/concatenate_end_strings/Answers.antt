@@ -10,5 +10,6 @@ returns c =
     (λ end_strings is.
     elim c.cut.invariant.1 [
       | inl three ↦ absurd (omega (arith, three))
-      | inr near ↦ subst (AreConcatenations c.args.side c.args.nears.now c.args.fars.now) (sym is) (any_concatenations c.args.side c.args.nears.now c.args.fars.now near.0 near.1)
+      | inr near ↦ subst (AreConcatenations c.args.nears.now c.args.fars.now) (sym is)
+          (any_concatenations c.args.nears.now c.args.fars.now near.0 near.1)
     ])

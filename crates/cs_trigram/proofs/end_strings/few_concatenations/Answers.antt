@@ -1,27 +1,27 @@
 use Rattle.std.proofs.Common.{◌+◌, List, drop, sym, ap, ◌∙◌, subst, arith, drop_of_length-le}
-use Rattle.cs_trigram.specs.EndStrings.{AreConcatenations, with_end_strings, joined}
+use Rattle.cs_trigram.specs.EndStrings.{AreConcatenations, with_end_strings, concatenated}
 use Rattle.cs_trigram.specs.declared.end_strings.EndString.{EndString}
-use Rattle.cs_trigram.proofs.EndStringLemmas.{item_from}
-use Rattle.cs_trigram.proofs.TruncationLemmas.{with_end_strings_append, joined_concatenations, all_joined}
+use Rattle.cs_trigram.proofs.NodeListLemmas.{item_from}
+use Rattle.cs_trigram.proofs.TruncationLemmas.{with_end_strings_append, all_concatenations, all_concatenated}
 use Rattle.cs_trigram.proofs.end_strings.few_concatenations.Goals as goal
 
 pub loop-near-preserved : goal.loop-near-preserved
 loop-near-preserved c =
-    let side = c.args.side in
     let n = c.args.longest in
     let fars = c.args.fars.now in
     let ends = c.loop-near.end_strings.items in
     let near = c.near-item.result in
-    let rest = all_joined side n (drop (c.loop-near.near-index + 1) c.args.nears.now) fars in
+    let rest = all_concatenated n (drop (c.loop-near.near-index + 1) c.args.nears.now) fars in
     ap (λ (es : List EndString). with_end_strings es rest) (c.in_ok-add_concatenations.ensures (omega arith))
-    ∙ sym (with_end_strings_append ends (joined side n near fars) rest)
-    ∙ ap (λ (es : List EndString). with_end_strings ends (all_joined side n es fars)) (sym (item_from c.args.nears.now c.loop-near.near-index near c.loop-near-test.true c.near-item.is))
+    ∙ sym (with_end_strings_append ends (concatenated n near fars) rest)
+    ∙ ap (λ (es : List EndString). with_end_strings ends (all_concatenated n es fars))
+    (sym (item_from c.args.nears.now c.loop-near.near-index near c.loop-near-test.true c.near-item.is))
     ∙ c.loop-near.invariant
 
 pub returns : goal.returns
 returns c =
-    let side = c.args.side in
     let fars = c.args.fars.now in
     let rest = drop_of_length-le c.args.nears.now {i = c.loop-near.near-index} (omega arith) in
-    let all = ap (λ (es : List EndString). with_end_strings c.loop-near.end_strings.items (all_joined side c.args.longest es fars)) (sym rest) ∙ c.loop-near.invariant in
-    subst (AreConcatenations side c.args.nears.now fars) (sym all) (joined_concatenations side c.args.longest fars c.requires c.args.nears.now)
+    let all = ap (λ (es : List EndString). with_end_strings c.loop-near.end_strings.items
+    (all_concatenated c.args.longest es fars)) (sym rest) ∙ c.loop-near.invariant in
+    subst (AreConcatenations c.args.nears.now fars) (sym all) (all_concatenations c.args.longest fars c.requires c.args.nears.now)

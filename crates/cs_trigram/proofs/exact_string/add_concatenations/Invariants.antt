@@ -4,4 +4,5 @@ use Rattle.cs_trigram.proofs.exact_string.add_concatenations.Given as goal
 
 abbrev pub invariant-loop-suffix : goal.invariant-loop-suffix
 invariant-loop-suffix l =
-    with_strings l.strings.items (map (λ v. l.prefix ++ v) (drop l.suffix-index l.suffixes)) ≡ with_strings l.fn.strings.items (map (λ v. l.prefix ++ v) l.suffixes)
+    with_strings l.strings.items (map (λ v. l.prefix ++ v) (drop l.suffix-index l.suffixes))
+    ≡ with_strings l.fn.strings.items (map (λ v. l.prefix ++ v) l.suffixes)

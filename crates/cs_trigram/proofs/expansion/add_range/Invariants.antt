@@ -1,8 +1,14 @@
-use Rattle.std.proofs.Common.{◌≡◌, ◌-◌}
-use Rattle.cs_trigram.specs.Analysis.{with_strings}
-use Rattle.cs_trigram.specs.CharStrings.{forms_from, range_forms}
+use Rattle.std.proofs.Common.{◌+◌, ◌≤◌, ℕ, List}
+use Rattle.cs_syntax.specs.Matching.{one_char}
+use Rattle.cs_trigram.specs.Analysis.{IsEnumeration}
+use Rattle.cs_trigram.specs.ExactStrings.{HasExactString}
+use Rattle.cs_trigram.proofs.CharStringLemmas.{IsCharBelow}
 use Rattle.cs_trigram.proofs.expansion.add_range.Given as goal
 
 abbrev pub invariant-loop-n : goal.invariant-loop-n
-invariant-loop-n l =
-    with_strings l.strings.items (forms_from l.n (l.n-end - l.n)) ≡ with_strings l.fn.strings.items (range_forms l.fn.range)
+invariant-loop-n l = record {
+  from : l.fn.range.0 ≤ l.n;
+  to : l.n ≤ l.fn.range.1 + 1;
+  strings : (ranges : List (ℕ × ℕ)) → IsEnumeration l.fn.strings.items (HasExactString (one_char ranges)) →
+      IsEnumeration l.strings.items (IsCharBelow ranges l.fn.range l.n);
+}

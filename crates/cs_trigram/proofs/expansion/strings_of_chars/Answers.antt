@@ -1,22 +1,35 @@
-use Rattle.std.proofs.Common.{ℕ, List, [], ap, subst, sym, ◌∙◌}
+use Rattle.std.proofs.Common.{ℕ, List, [], false, take, subst, sym, ◌∙◌, arith, take_all}
+use Rattle.std.proofs.lemmas.Bool.{and_parts, false≢true}
+use Rattle.std.proofs.lemmas.List.{take_more}
 use Rattle.cs_syntax.specs.CharRanges.{AreCanonical}
+use Rattle.cs_syntax.specs.Characters.{is_scalar}
 use Rattle.cs_syntax.specs.Matching.{one_char}
 use Rattle.cs_syntax.proofs.CharSetLemmas.{canonical_range_at}
 use Rattle.cs_trigram.specs.ExactStrings.{HasExactString}
-use Rattle.cs_trigram.specs.Analysis.{with_strings, IsEnumeration}
-use Rattle.cs_trigram.specs.CharStrings.{all_forms}
-use Rattle.cs_trigram.proofs.CharStringLemmas.{runs_more, runs_end, chars_enumeration}
+use Rattle.cs_trigram.specs.Analysis.{IsEnumeration}
+use Rattle.cs_trigram.proofs.EnumerationLemmas.{no_enumeration, enumeration_same}
 use Rattle.cs_trigram.proofs.expansion.strings_of_chars.Goals as goal
+
+pub loop-range-init : goal.loop-range-init
+loop-range-init c =
+    subst (λ (ws : List (List ℕ)). IsEnumeration ws (HasExactString (one_char []))) (sym c.new-strings.ensures.items)
+    (enumeration_same [] (λ w. ⊥) (HasExactString (one_char [])) no_enumeration (λ w p. absurd p)
+    (λ w h. false≢true (and_parts (is_scalar h.0) false h.1).1))
 
 pub add_range-requires : goal.add_range-requires
 add_range-requires c =
-    canonical_range_at 0 _ c.loop-range.range-index (subst AreCanonical (sym c.runs-range-items.ensures.runs) c.runs-range-items.ensures.maximal) c.loop-range-test.true
+    canonical_range_at 0 _ c.loop-range.range-index
+    (subst AreCanonical (sym c.runs-range-items.ensures.runs) c.runs-range-items.ensures.maximal) c.loop-range-test.true
 
 pub loop-range-preserved : goal.loop-range-preserved
-loop-range-preserved c = runs_more _ _ _ _ _ c.loop-range-test.true c.loop-range.invariant c.in_ok-add_range.ensures
+loop-range-preserved c =
+    let ranges = c.runs-range-items.result.now in
+    let i = c.loop-range.range-index in
+    subst (λ (rs : List (ℕ × ℕ)). IsEnumeration c.add_range.new.strings.items (HasExactString (one_char rs)))
+    (sym (take_more ranges i (0, 0) c.loop-range-test.true))
+    (c.in_ok-add_range.ensures (take i ranges) c.loop-range.invariant)
 
 pub returns : goal.returns
 returns c =
-    let all = runs_end _ _ _ _ c.loop-range-test.false c.loop-range.invariant in
-    subst (λ (ws : List (List ℕ)). IsEnumeration ws (HasExactString (one_char c.args.set.now)))
-    (sym (all ∙ ap (λ runs. with_strings [] (all_forms runs)) c.runs-range-items.ensures.runs)) (chars_enumeration c.args.set.now)
+    subst (λ (rs : List (ℕ × ℕ)). IsEnumeration c.loop-range.strings.items (HasExactString (one_char rs)))
+    (take_all c.loop-range.range-index c.runs-range-items.result.now (omega arith) ∙ c.runs-range-items.ensures.runs) c.loop-range.invariant

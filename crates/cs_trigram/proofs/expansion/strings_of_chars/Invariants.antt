@@ -1,7 +1,8 @@
-use Rattle.std.proofs.Common.{◌≡◌, drop, []}
-use Rattle.cs_trigram.specs.Analysis.{with_strings}
-use Rattle.cs_trigram.specs.CharStrings.{all_forms}
+use Rattle.std.proofs.Common.{take}
+use Rattle.cs_syntax.specs.Matching.{one_char}
+use Rattle.cs_trigram.specs.Analysis.{IsEnumeration}
+use Rattle.cs_trigram.specs.ExactStrings.{HasExactString}
 use Rattle.cs_trigram.proofs.expansion.strings_of_chars.Given as goal
 
 abbrev pub invariant-loop-range : goal.invariant-loop-range
-invariant-loop-range l = with_strings l.strings.items (all_forms (drop l.range-index l.range-items)) ≡ with_strings [] (all_forms l.range-items)
+invariant-loop-range l = IsEnumeration l.strings.items (HasExactString (one_char (take l.range-index l.range-items)))

@@ -6,4 +6,5 @@ use Rattle.cs_trigram.specs.ExactSet.{IsExactSetOf}
 use Rattle.cs_trigram.proofs.expansion.strings_of_repeat.Given as goal
 
 abbrev pub invariant-loop-iteration : goal.invariant-loop-iteration
-invariant-loop-iteration l = (t : Tree) → IsExactSetOf l.once t → is_finite t ≡ true → IsExactSetOf l.strings (rep t (l.iteration - (l.most - l.least)) (Some l.iteration))
+invariant-loop-iteration l = (t : Tree) → IsExactSetOf l.once t → is_finite t ≡ true →
+    IsExactSetOf l.strings (rep t (l.iteration - (l.most - l.least)) (Some l.iteration))

@@ -1,5 +1,5 @@
 use Rattle.cs_trigram.specs.Analysis.{IsEnumeration}
-use Rattle.cs_trigram.proofs.EnumerationLemmas.{IsByteBelow}
+use Rattle.cs_trigram.proofs.CharStringLemmas.{IsByteBelow}
 use Rattle.cs_trigram.proofs.expansion.strings_of_set.Given as goal
 
 abbrev pub invariant-loop-byte : goal.invariant-loop-byte

@@ -11,7 +11,9 @@ returns-in-Some-clause-end_column c =
     let last = c.in-Some.ensures in
     let newline : get_or bytes offset 0 ≡ 10 = eqb-true (get_or bytes offset 0) 10 last.1 in
     sym (column-rest c.args.column bytes offset last.0.high newline
-    ∙ column-no_newline 0 (drop (offset + 1) bytes) (λ i within is. last.0.after (offset + 1 + i) (omega arith) (omega (arith, within, length-drop (offset + 1) bytes)) (eq-eqb (get_or bytes (offset + 1 + i) 0) 10 (sym (get_or-drop (offset + 1) bytes i 0) ∙ is)))
+    ∙ column-no_newline 0 (drop (offset + 1) bytes)
+    (λ i within is. last.0.after (offset + 1 + i) (omega arith) (omega (arith, within, length-drop (offset + 1) bytes))
+    (eq-eqb (get_or bytes (offset + 1 + i) 0) 10 (sym (get_or-drop (offset + 1) bytes i 0) ∙ is)))
     ∙ omega (arith, length-drop (offset + 1) bytes))
 
 pub returns-in-None-clause-end_column : goal.returns-in-None-clause-end_column

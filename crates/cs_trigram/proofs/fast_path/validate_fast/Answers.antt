@@ -10,7 +10,8 @@ returns-clause-rule c = λ prefix is_after.
     let bytes = c.args.bytes.now in
     let fit = c.in_ok-column.ensures.fit in
     let last = c.in_ok-last.ensures.item.3 in
-    let pairs_are_valid : AreValidPairs (last_byte prefix) bytes = subst (λ b. AreValidPairs b bytes) is_after.before (c.if-not-are_plainly_valid.ensures refl) in
+    let pairs_are_valid : AreValidPairs (last_byte prefix) bytes = subst (λ b. AreValidPairs b bytes) is_after.before
+    (c.if-not-are_plainly_valid.ensures refl) in
     let room : length prefix + length bytes ≤ most.bytes = omega (arith, is_after.count, c.if-limits-count.false) in
     let lines : LinesFit most.line (length (line_so_far prefix)) bytes = subst (λ k. LinesFit most.line k bytes) is_after.column fit.0 in (
       valid_pairs_validate most prefix bytes pairs_are_valid room lines,

@@ -9,13 +9,15 @@ returns-in_err-position-clause-rule c = λ prefix is_after.
     let p = err_from_is_err_and c.from_residual.result c.from_residual.ensures.1 in
     rw (p.1, p.2)
     (first_broken-on_the_way c.args.limits.now prefix c.args.bytes.now (c.loop-byte.byte-index + 1) c.in_err-position.field-0.0
-    (Validates-more c.args.limits.now prefix c.args.bytes.now c.loop-byte.byte-index (Err c.in_err-position.field-0.0) c.loop-byte-test.true validated.0 (c.in_err-position.ensures.rule _ validated.1)))
+    (Validates-more c.args.limits.now prefix c.args.bytes.now c.loop-byte.byte-index (Err c.in_err-position.field-0.0)
+    c.loop-byte-test.true validated.0 (c.in_err-position.ensures.rule _ validated.1)))
 
 pub loop-byte-preserved : goal.loop-byte-preserved
 loop-byte-preserved c = record {
   rule = λ prefix is_after.
       let validated = c.loop-byte.invariant.rule prefix is_after in
-      Validates-more c.args.limits.now prefix c.args.bytes.now c.loop-byte.byte-index (Ok c.in_ok-position.position) c.loop-byte-test.true validated.0 (c.in_ok-position.ensures.rule _ validated.1);
+      Validates-more c.args.limits.now prefix c.args.bytes.now c.loop-byte.byte-index (Ok c.in_ok-position.position)
+      c.loop-byte-test.true validated.0 (c.in_ok-position.ensures.rule _ validated.1);
   counted = omega (arith, c.in_ok-position.ensures.count);
   within = c.in_ok-position.ensures.count.1;
   column = c.in_ok-position.ensures.column;

@@ -9,5 +9,6 @@ trigrams-preserved c =
     record {
       within = omega (arith, c.trigrams-test.true);
       counted = omega (arith, c.insert-len.ensures.counted, c.trigrams.invariant.counted);
-      collects = rw (more, sym c.trigram.ensures.number) (Collects-chain _ _ _ _ _ _ _ _ _ _ _ c.trigrams.invariant.collects c.insert-len.ensures.collects);
+      collects = rw (more, sym c.trigram.ensures.number)
+          (Collects-chain _ _ _ _ _ _ _ _ _ _ _ c.trigrams.invariant.collects c.insert-len.ensures.collects);
     }

@@ -7,7 +7,8 @@ abbrev pub invariant-trigrams : goal.invariant-trigrams
 invariant-trigrams l = record {
   within : l.offset ≤ length l.bytes;
   counted : l.len ≤ l.initial.len + l.offset;
-  collects : CollectsOn l.initial.bitmap l.initial.list l.initial.len l.bitmap l.list l.len (trigram_sequence (take (l.offset + 2) l.bytes));
+  collects : CollectsOn l.initial.bitmap l.initial.list l.initial.len l.bitmap l.list l.len
+      (trigram_sequence (take (l.offset + 2) l.bytes));
 }
 
 abbrev pub decreases-trigrams : goal.decreases-trigrams

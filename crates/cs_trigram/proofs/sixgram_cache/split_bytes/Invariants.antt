@@ -6,7 +6,8 @@ abbrev pub invariant-sixgrams : goal.invariant-sixgrams
 invariant-sixgrams l = record {
   within : l.offset ≤ length l.bytes;
   counted : 4 * l.count ≤ l.offset;
-  misses : (earlier : List ℕ) → CachesOnly l.file l.initial.tags earlier → AreMisses l.file earlier l.tags l.bytes l.offset (take l.count l.misses);
+  misses : (earlier : List ℕ) → CachesOnly l.file l.initial.tags earlier → AreMisses l.file earlier l.tags l.bytes
+      l.offset (take l.count l.misses);
   last : HasNoLaterFile l.file l.initial.tags → HasNoLaterFile l.file l.tags;
 }
 

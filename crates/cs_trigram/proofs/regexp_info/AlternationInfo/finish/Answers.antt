@@ -1,5 +1,5 @@
 use Rattle.cs_syntax.specs.Matching.{alt}
-use Rattle.cs_trigram.specs.declared.end_strings.Side.TheVariants.{Prefix, Suffix}
+use Rattle.cs_trigram.specs.EndStrings.{forward, backward}
 use Rattle.cs_trigram.proofs.NodeListLemmas.{if_ok}
 use Rattle.cs_trigram.proofs.EndStringOriginLemmas.{end_strings_of_alternation}
 use Rattle.cs_trigram.proofs.CorrectQueryLemmas.{correct_alternation}
@@ -10,5 +10,5 @@ returns c =
     if_ok c.new.result _ _ c.new.ensures
     (λ _ right. λ ts info.
     right (alt ts) info.exact
-    (end_strings_of_alternation Prefix _ ts info.prefix) (end_strings_of_alternation Suffix _ ts info.suffix)
+    (end_strings_of_alternation forward _ ts info.prefix) (end_strings_of_alternation backward _ ts info.suffix)
     (correct_alternation c.args.self.members ts info.members))

@@ -1,9 +1,7 @@
 use Rattle.std.proofs.Common.{List, sym, subst}
 use Rattle.cs_syntax.specs.Matching.{cat}
-use Rattle.cs_trigram.specs.EndStrings.{AreEndStrings, AreEndStringsOfAll}
+use Rattle.cs_trigram.specs.EndStrings.{forward, backward, AreEndStrings}
 use Rattle.cs_trigram.specs.declared.end_strings.EndString.{EndString}
-use Rattle.cs_trigram.specs.declared.end_strings.Side.TheVariants.{Prefix, Suffix}
-use Rattle.cs_trigram.proofs.ExactSetLemmas.{exact_set_cat}
 use Rattle.cs_trigram.proofs.TruncationLemmas.{concatenations_via}
 use Rattle.cs_trigram.proofs.EndStringOriginLemmas.{prefixes_before, suffixes_before}
 use Rattle.cs_trigram.proofs.regexp_info.SequenceInfo.add.Goals as goal
@@ -12,14 +10,14 @@ pub returns : goal.returns
 returns c = λ t ts part info.
     let this = c.args.part in
     let rest = c.args.self.now in
-    let suffixes = subst (λ (es : List EndString). AreEndStrings Suffix es t) (sym c.deref.ensures.value) part.suffix in
-    let prefixes = subst (λ (es : List EndString). AreEndStringsOfAll Prefix es ts) (sym c.deref-2.ensures.value) info.prefix in
+    let suffixes = subst (λ (es : List EndString). AreEndStrings backward es t) (sym c.deref.ensures.value) part.suffix in
+    let prefixes = subst (λ (es : List EndString). AreEndStrings forward es (cat ts)) (sym c.deref-2.ensures.value) info.prefix in
     record {
-      exact = exact_set_cat c.in_ok-self.field-0 t ts (c.in_ok-self.ensures t (cat ts) part.exact info.exact);
+      exact = c.in_ok-self.ensures t ts part.exact info.exact;
       prefix = prefixes_before this.prefix.items rest.prefix.items c.in_ok-self-2.field-0.items t ts
-          (concatenations_via Prefix _ _ _ _ _ c.deref-3.ensures.value c.deref-4.ensures.value c.in_ok-self-2.ensures) part.prefix info.prefix;
+          (concatenations_via _ _ _ _ _ c.deref-3.ensures.value c.deref-4.ensures.value c.in_ok-self-2.ensures) part.prefix info.prefix;
       suffix = suffixes_before rest.suffix.items this.suffix.items c.in_ok-self-3.field-0.items t ts
-          (concatenations_via Suffix _ _ _ _ _ c.deref-5.ensures.value c.deref-6.ensures.value c.in_ok-self-3.ensures) part.suffix info.suffix;
+          (concatenations_via _ _ _ _ _ c.deref-5.ensures.value c.deref-6.ensures.value c.in_ok-self-3.ensures) part.suffix info.suffix;
       parts = c.in_ok-add.ensures.parts t ts part.exact info.parts;
       required = c.in_ok-add.ensures.required t ts part.exact part.query suffixes prefixes info.parts info.required;
     }

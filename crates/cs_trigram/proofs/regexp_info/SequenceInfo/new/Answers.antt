@@ -1,15 +1,17 @@
-use Rattle.std.proofs.Common.{refl}
+use Rattle.std.proofs.Common.{sym, subst}
 use Rattle.cs_syntax.specs.Matching.{cat, none}
-use Rattle.cs_trigram.specs.declared.end_strings.Side.TheVariants.{Prefix, Suffix}
-use Rattle.cs_trigram.proofs.ExactSetLemmas.{single_empty_string}
+use Rattle.cs_trigram.specs.Analysis.{EnumeratesTree}
+use Rattle.cs_trigram.specs.EndStrings.{forward, backward}
+use Rattle.cs_trigram.proofs.LeadingRunLemmas.{empty_run_strings}
 use Rattle.cs_trigram.proofs.EndStringOriginLemmas.{empty_end_strings}
 use Rattle.cs_trigram.proofs.regexp_info.SequenceInfo.new.Goals as goal
 
 pub returns : goal.returns
 returns c = record {
-  exact = c.of-exact.ensures (cat none) (single_empty_string c.in_ok-empty_string.field-0 (cat none) c.in_ok-empty_string.ensures refl (λ w h. h) refl);
-  prefix = empty_end_strings Prefix _ c.in_ok-prefix.ensures;
-  suffix = empty_end_strings Suffix _ c.in_ok-suffix.ensures;
+  exact = c.of-exact.ensures (cat none) (subst (λ ws. EnumeratesTree ws (cat none)) (sym c.in_ok-empty_string.ensures)
+      empty_run_strings.are);
+  prefix = empty_end_strings forward _ c.in_ok-prefix.ensures;
+  suffix = empty_end_strings backward _ c.in_ok-suffix.ensures;
   parts = c.in_ok-sequence_query.ensures.parts;
   required = c.in_ok-sequence_query.ensures.required;
 }

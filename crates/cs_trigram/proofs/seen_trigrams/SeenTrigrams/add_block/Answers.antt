@@ -16,9 +16,25 @@ pub returns : goal.returns
 returns c = λ most trigrams keeps.
     let self = c.args.self.now in
     let under = ltb-false (length self.list.items) (self.len + WITH_TWO) (sym c.is_over_limit.ensures.room ∙ c.if-is_over_limit.false) in
-    let bitmap = whole-write self.bitmap.len c.insert_split-self.new.bitmap self.bitmap.items (omega (arith, self.bitmap.ok.0)) (omega (arith, c.insert_split-self.auto.bitmap, c.deref_mut.ensures.len, self.bitmap.ok.0)) in
-    let list = whole-write self.list.len c.insert_split-self.new.list self.list.items (omega (arith, self.list.ok.0)) (omega (arith, c.insert_split-self.auto.list, c.deref_mut-2.ensures.len, self.list.ok.0)) in
-    HasSeen-more most self _ trigrams c.args.bytes.now c.split-split.result.offset (take c.split-split.result.count c.split-split.new.self.misses.items) keeps (omega (arith, under, keeps.room))
-    (ap length list ∙ omega (arith, c.insert_split-self.auto.list, c.deref_mut-2.ensures.len, self.list.ok.0)) (omega (arith, ap length list, c.insert_split-self.auto.list, c.insert_split-self.ensures.counted))
+    let bitmap = whole-write self.bitmap.len c.insert_split-self.new.bitmap self.bitmap.items
+    (omega (arith, self.bitmap.ok.0)) (omega (
+      arith,
+      c.insert_split-self.auto.bitmap,
+      c.deref_mut.ensures.len,
+      self.bitmap.ok.0,
+    )) in
+    let list = whole-write self.list.len c.insert_split-self.new.list self.list.items (omega (arith, self.list.ok.0))
+    (omega (arith, c.insert_split-self.auto.list, c.deref_mut-2.ensures.len, self.list.ok.0)) in
+    HasSeen-more most self _ trigrams c.args.bytes.now c.split-split.result.offset
+    (take c.split-split.result.count c.split-split.new.self.misses.items) keeps (omega (arith, under, keeps.room))
+    (ap length list ∙ omega (arith, c.insert_split-self.auto.list, c.deref_mut-2.ensures.len, self.list.ok.0))
+    (omega (arith, ap length list, c.insert_split-self.auto.list, c.insert_split-self.ensures.counted))
     (c.split-split.ensures.misses trigrams) c.split-split.ensures.file c.split-split.ensures.last
-    (rw (bitmap, list, ← c.deref_mut.ensures.value, ← c.deref_mut-2.ensures.value, ← c.misses-misses.ensures, ← take_rest c.args.bytes.now c.split-split.result.offset) c.insert_split-self.ensures.collects)
+    (rw (
+      bitmap,
+      list,
+      ← c.deref_mut.ensures.value,
+      ← c.deref_mut-2.ensures.value,
+      ← c.misses-misses.ensures,
+      ← take_rest c.args.bytes.now c.split-split.result.offset,
+    ) c.insert_split-self.ensures.collects)

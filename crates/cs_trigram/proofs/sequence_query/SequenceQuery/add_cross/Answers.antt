@@ -1,6 +1,6 @@
-use Rattle.std.proofs.Common.{◌≡◌, ℕ, Bool, true, List}
-use Rattle.cs_syntax.specs.Matching.{more, MatchesSequence}
-use Rattle.cs_trigram.specs.Query.{matches_set, mentions, HasTrigrams}
+use Rattle.std.proofs.Common.{ℕ, Bool}
+use Rattle.cs_syntax.specs.Matching.{more}
+use Rattle.cs_trigram.specs.Query.{matches_set, mentions}
 use Rattle.cs_trigram.specs.MayMatch.{MayMatchSequence, HaveMembers}
 use Rattle.cs_trigram.specs.Analysis.{all_match, some_mentions}
 use Rattle.cs_trigram.proofs.MentionLemmas.{trigrams_of_both}
@@ -13,10 +13,13 @@ pub returns-clause-required : goal.returns-clause-required
 returns-clause-required c = λ t ts suffixes prefixes sequence_query.
     let conjuncts : (ℕ → Bool) → Bool = λ set. all_match c.args.self.now.conjuncts.items set in
     let later : (ℕ → Bool) → Bool = λ set. all_match c.add_conjunct.new.conjuncts.items set in
-    let query : (ℕ → Bool) → Bool = λ set. matches_set c.in_ok-cross_query.cross_query set in
-    let cross_matches : (s : List ℕ) (set : ℕ → Bool) (i j : ℕ) → MatchesSequence s (more t ts) i j → HasTrigrams set s → query set ≡ true =
-    λ s set i j h has. cross_query_matches set query c.args.suffixes.now c.args.prefixes.now t ts (c.in_ok-cross_query.ensures.required set) suffixes.matching prefixes.matching s i j h has in (
-      query_of_more c.args.self.now.leading.items conjuncts query later (more t ts) sequence_query.0 cross_matches (λ set. c.in_ok-add_conjunct.ensures.required set),
-      trigrams_of_both (some_mentions c.args.self.now.conjuncts.items) (mentions c.in_ok-cross_query.cross_query) (some_mentions c.add_conjunct.new.conjuncts.items) (HaveMembers (more t ts)) (MayMatchSequence (more t ts))
-          c.in_ok-add_conjunct.ensures.mentioned sequence_query.1 (trigrams_across c.in_ok-cross_query.cross_query c.args.suffixes.now c.args.prefixes.now t ts suffixes prefixes c.in_ok-cross_query.ensures.mentioned),
+    let q = c.in_ok-cross_query.cross_query in
+    let across = c.in_ok-cross_query.ensures in (
+      query_of_more c.args.self.now.leading.items conjuncts (λ set. matches_set q set) later (more t ts) sequence_query.0
+          (λ s set i j h has. cross_query_matches set q c.args.suffixes.now c.args.prefixes.now t ts across suffixes
+          prefixes s i j h has) (λ set. c.in_ok-add_conjunct.ensures.required set),
+      trigrams_of_both (some_mentions c.args.self.now.conjuncts.items) (mentions q)
+          (some_mentions c.add_conjunct.new.conjuncts.items) (HaveMembers (more t ts)) (MayMatchSequence (more t ts))
+          c.in_ok-add_conjunct.ensures.mentioned sequence_query.1
+          (trigrams_across q c.args.suffixes.now c.args.prefixes.now t ts suffixes prefixes across.mentioned),
     )

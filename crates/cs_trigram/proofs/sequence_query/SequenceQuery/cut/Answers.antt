@@ -18,14 +18,19 @@ returns-clause-required c = λ t ts no_few match_query sequence_query.
     let finished_run : c.deref.result.now ≡ leading = c.deref.ensures.value in
     let is : (set : ℕ → Bool) → later set ≡ ((conjuncts set && has_any set leading) && matches_set c.args.match_query set) =
     λ set. c.in_ok-add_conjunct-2.ensures.required set
-    ∙ ap (λ b. b && matches_set c.args.match_query set) (c.in_ok-add_conjunct.ensures.required set ∙ ap (λ b. conjuncts set && b) (c.in_ok-any_string.ensures.required set ∙ ap (has_any set) finished_run)) in (
+    ∙ ap (λ b. b && matches_set c.args.match_query set) (c.in_ok-add_conjunct.ensures.required set
+    ∙ ap (λ b. conjuncts set && b) (c.in_ok-any_string.ensures.required set ∙ ap (has_any set) finished_run)) in (
       subst (λ (ws : List (List ℕ)). IsQueryBeyondRun ws later (more t ts)) (sym c.in_ok-self.ensures)
-          (query_past_cut leading conjuncts later t ts sequence_query.0 (λ set. matches_set c.args.match_query set) no_few match_query.matching match_query.selective is),
-      trigrams_of_both (some_mentions c.add_conjunct.new.conjuncts.items) (mentions c.args.match_query) (some_mentions c.add_conjunct-2.new.conjuncts.items) (HaveMembers (more t ts)) (MayMatchSequence (more t ts))
+          (query_past_cut leading conjuncts later t ts sequence_query.0 (λ set. matches_set c.args.match_query set)
+          no_few match_query.matching match_query.selective is),
+      trigrams_of_both (some_mentions c.add_conjunct.new.conjuncts.items) (mentions c.args.match_query)
+          (some_mentions c.add_conjunct-2.new.conjuncts.items) (HaveMembers (more t ts)) (MayMatchSequence (more t ts))
           c.in_ok-add_conjunct-2.ensures.mentioned
-          (trigrams_of_both (some_mentions c.args.self.now.conjuncts.items) (mentions query) (some_mentions c.add_conjunct.new.conjuncts.items) (HaveMembers (more t ts)) (MayMatchSequence (more t ts))
+          (trigrams_of_both (some_mentions c.args.self.now.conjuncts.items) (mentions query)
+          (some_mentions c.add_conjunct.new.conjuncts.items) (HaveMembers (more t ts)) (MayMatchSequence (more t ts))
           c.in_ok-add_conjunct.ensures.mentioned (trigrams_of_rest (some_mentions c.args.self.now.conjuncts.items) t ts sequence_query.1)
           (trigrams_of_rest (mentions query) t ts (trigrams_of_run query ts leading sequence_query.0.run
-          (subst (λ (ws : List (List ℕ)). MentionsOnly query (λ w. is_among ws w ≡ true)) finished_run c.in_ok-any_string.ensures.mentioned))))
+          (subst (λ (ws : List (List ℕ)). MentionsOnly query (λ w. is_among ws w ≡ true)) finished_run
+          c.in_ok-any_string.ensures.mentioned))))
           (trigrams_of_first (mentions c.args.match_query) t ts match_query.mentioned),
     )

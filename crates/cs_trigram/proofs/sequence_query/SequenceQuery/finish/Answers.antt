@@ -16,15 +16,18 @@ returns c = λ ts sequence_query many.
     let conjuncts : (ℕ → Bool) → Bool = λ set. all_match c.args.self.conjuncts.items set in
     let whole : (ℕ → Bool) → Bool = λ set. matches_set (And c.add_conjunct.new.conjuncts) set in
     let is : (set : ℕ → Bool) → whole set ≡ (conjuncts set && has_any set leading) =
-    λ set. matches_set-And set c.add_conjunct.new.conjuncts ∙ c.in_ok-add_conjunct.ensures.required set ∙ ap (λ b. conjuncts set && b) (c.in_ok-last.ensures.required set ∙ ap (has_any set) c.deref.ensures.value) in
+    λ set. matches_set-And set c.add_conjunct.new.conjuncts ∙ c.in_ok-add_conjunct.ensures.required set
+    ∙ ap (λ b. conjuncts set && b) (c.in_ok-last.ensures.required set ∙ ap (has_any set) c.deref.ensures.value) in
     let right = query_of_whole leading conjuncts whole ts sequence_query.0 is in
     record {
       matching = right.0;
       selective = λ set h. (λ few. absurd (many few), right.1 set h);
       mentioned = λ g h.
-          trigrams_of_both (some_mentions c.args.self.conjuncts.items) (mentions c.in_ok-last.last) (some_mentions c.add_conjunct.new.conjuncts.items) (HaveMembers ts) (MayMatchSequence ts)
+          trigrams_of_both (some_mentions c.args.self.conjuncts.items) (mentions c.in_ok-last.last)
+          (some_mentions c.add_conjunct.new.conjuncts.items) (HaveMembers ts) (MayMatchSequence ts)
           c.in_ok-add_conjunct.ensures.mentioned sequence_query.1
           (trigrams_of_run c.in_ok-last.last ts leading sequence_query.0.run
-          (subst (λ (ws : List (List ℕ)). MentionsOnly c.in_ok-last.last (λ w. is_among ws w ≡ true)) c.deref.ensures.value c.in_ok-last.ensures.mentioned))
+          (subst (λ (ws : List (List ℕ)). MentionsOnly c.in_ok-last.last (λ w. is_among ws w ≡ true))
+          c.deref.ensures.value c.in_ok-last.ensures.mentioned))
           g (sym (mentions-And g c.add_conjunct.new.conjuncts) ∙ h);
     }

@@ -18,10 +18,16 @@ returns-then-len-le-MAX_EXACT-clause-required c = λ t ts strings parts sequence
     let conjuncts : (ℕ → Bool) → Bool = λ set. all_match c.args.self.now.conjuncts.items set in
     let us = c.args.strings.now in
     let same : c.in_ok-longer.longer.items ≡ with_strings [] (concatenations us leading) =
-    c.in_ok-longer.ensures (subst (λ (vs : List (List ℕ)). are_distinct vs ≡ true) (sym c.deref.ensures.value) sequence_query.0.run.each.different)
-    (subst (λ (vs : List (List ℕ)). length vs ≤ 20) (sym c.deref.ensures.value) sequence_query.0.run.each.few) ∙ ap (λ (vs : List (List ℕ)). with_strings [] (concatenations us vs)) c.deref.ensures.value in
-    let few : length (with_strings [] (concatenations us leading)) ≤ 20 = subst (λ (ws : List (List ℕ)). length ws ≤ 20) same (omega arith) in
-    (subst (λ (ws : List (List ℕ)). IsQueryBeyondRun ws conjuncts (more t ts)) (sym same) (query_past_few leading conjuncts conjuncts t ts sequence_query.0 us strings few), trigrams_of_rest (some_mentions c.args.self.now.conjuncts.items) t ts sequence_query.1)
+    c.in_ok-longer.ensures (subst (λ (vs : List (List ℕ)). are_distinct vs ≡ true) (sym c.deref.ensures.value)
+    sequence_query.0.run.exact.are.1.different)
+    (subst (λ (vs : List (List ℕ)). length vs ≤ 20) (sym c.deref.ensures.value) sequence_query.0.run.exact.few)
+    ∙ ap (λ (vs : List (List ℕ)). with_strings [] (concatenations us vs)) c.deref.ensures.value in
+    let few : length (with_strings [] (concatenations us leading)) ≤ 20 = subst (λ (ws : List (List ℕ)). length ws ≤ 20)
+    same (omega arith) in (
+      subst (λ (ws : List (List ℕ)). IsQueryBeyondRun ws conjuncts (more t ts)) (sym same)
+          (query_past_few leading conjuncts conjuncts t ts sequence_query.0 us strings few),
+      trigrams_of_rest (some_mentions c.args.self.now.conjuncts.items) t ts sequence_query.1,
+    )
 
 pub returns-clause-required : goal.returns-clause-required
 returns-clause-required c = λ t ts strings parts sequence_query.
@@ -31,12 +37,17 @@ returns-clause-required c = λ t ts strings parts sequence_query.
     let later : (ℕ → Bool) → Bool = λ set. all_match c.add_conjunct.new.conjuncts.items set in
     let finished_run : c.deref-2.result.now ≡ leading = c.deref-2.ensures.value in
     let added : (set : ℕ → Bool) → later set ≡ (conjuncts set && has_any set leading) =
-    λ set. c.in_ok-add_conjunct.ensures.required set ∙ ap (λ b. conjuncts set && b) (c.in_ok-any_string.ensures.required set ∙ ap (has_any set) finished_run) in
-    let behind : AreExactSetsReversed c.deref-3.result.now ts = subst (λ (cs : List ExactSet). AreExactSetsReversed cs ts) (sym c.deref-3.ensures.value) parts in
+    λ set. c.in_ok-add_conjunct.ensures.required set
+    ∙ ap (λ b. conjuncts set && b) (c.in_ok-any_string.ensures.required set ∙ ap (has_any set) finished_run) in
+    let behind : AreExactSetsReversed c.deref-3.result.now ts =
+    subst (λ (cs : List ExactSet). AreExactSetsReversed cs ts) (sym c.deref-3.ensures.value) parts in
     let longest : IsLongestLeadingRun (more t ts) c.in_ok-self.field-0.items = c.in_ok-self.ensures t ts strings behind in (
-      query_past_run leading conjuncts later t ts sequence_query.0 c.in_ok-self.field-0.items longest (few_tree c.args.strings.now t strings) added,
-      trigrams_of_both (some_mentions c.args.self.now.conjuncts.items) (mentions query) (some_mentions c.add_conjunct.new.conjuncts.items) (HaveMembers (more t ts)) (MayMatchSequence (more t ts))
+      query_past_run leading conjuncts later t ts sequence_query.0 c.in_ok-self.field-0.items longest
+          (few_tree c.args.strings.now t strings) added,
+      trigrams_of_both (some_mentions c.args.self.now.conjuncts.items) (mentions query)
+          (some_mentions c.add_conjunct.new.conjuncts.items) (HaveMembers (more t ts)) (MayMatchSequence (more t ts))
           c.in_ok-add_conjunct.ensures.mentioned (trigrams_of_rest (some_mentions c.args.self.now.conjuncts.items) t ts sequence_query.1)
           (trigrams_of_rest (mentions query) t ts (trigrams_of_run query ts leading sequence_query.0.run
-          (subst (λ (ws : List (List ℕ)). MentionsOnly query (λ w. is_among ws w ≡ true)) finished_run c.in_ok-any_string.ensures.mentioned))),
+          (subst (λ (ws : List (List ℕ)). MentionsOnly query (λ w. is_among ws w ≡ true)) finished_run
+          c.in_ok-any_string.ensures.mentioned))),
     )

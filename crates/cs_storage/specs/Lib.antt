@@ -1,7 +1,6 @@
 -- Definitions that public contracts cite.
 pub mod FileAfter
 pub mod Storing
-pub mod MemFolders
 pub mod NewFiles
 pub mod Rights
 pub mod Schedules

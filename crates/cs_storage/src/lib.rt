@@ -5,9 +5,6 @@
 mod fault;
 mod folder;
 pub mod laws;
-mod mem_folder;
-mod mem_index;
-mod mem_types;
 mod new_file;
 mod rights;
 mod update;
@@ -15,7 +12,6 @@ mod updating;
 
 pub use fault::StorageFault;
 pub use folder::IndexFolder;
-pub use mem_types::{MemFolder, MemIndex, MemLeft};
 pub use new_file::NewFile;
 pub use rights::kept_mode;
 pub use update::IndexUpdate;

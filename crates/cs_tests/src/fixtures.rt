@@ -1,6 +1,7 @@
 // Fixtures of several modules.
+use cs_fakes::{Item, MemTree, PutFault};
 use cs_index::{BuildFault, Builder};
-use cs_tree::{Item, MemSource, MemTree, PutFault};
+use cs_tree::MemSource;
 use cs_trigram::{Scan, Scanner};
 use std::alloc::{AllocError, Global};
 

@@ -5,13 +5,13 @@
 use crate::fixtures::{ONE_FILE, PLAIN, strings, tree_of};
 use crate::searching::reports::program_of;
 use cs_args::{Style, ToolFault};
+use cs_fakes::{FuseTree, MemTree};
 use cs_index::{Index, Postings, Sections};
 use cs_match::Matcher;
 use cs_search::{GrepFault, grep};
 use cs_syntax::{CharSet, Node, Pattern, parse};
 use cs_tree::{
-    DiskTree, FuseTree, Kind, MemSink, MemSource, MemTree, Sink, Source, StdSink, StdSource, Tree,
-    TreeReader, covers,
+    DiskTree, Kind, MemSink, MemSource, Sink, Source, StdSink, StdSource, Tree, TreeReader, covers,
 };
 use std::alloc::{AllocError, Global};
 use std::io;

@@ -4,9 +4,10 @@ use crate::indexing::job_of;
 use crate::searching::reports::{answer_within, program_of};
 use cs_args::{Reply, Style, ToolFault};
 use cs_cindex::cindex;
+use cs_fakes::{Item, MemTree, PutFault};
 use cs_match::Program;
 use cs_search::{GrepFault, ReadFault};
-use cs_tree::{IoFault, Item, MemSink, MemTree, PutFault, Source};
+use cs_tree::{IoFault, MemSink, Source};
 use std::alloc::Global;
 use std::test::Fail;
 

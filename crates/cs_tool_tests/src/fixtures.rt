@@ -1,6 +1,6 @@
 // Fixtures of several tools.
 use cs_args::Style;
-use cs_tree::{Item, MemTree, PutFault};
+use cs_fakes::{Item, MemTree, PutFault};
 use std::alloc::{AllocError, Global};
 
 /// An item of a tree: a folder, or a file with this text.

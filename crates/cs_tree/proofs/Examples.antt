@@ -4,16 +4,11 @@ use Rattle.std.specs.Prelude.{codes}
 use Rattle.cs_tree.specs.Sinks.{SinkModel, with_bytes, after_flush}
 use Rattle.cs_tree.specs.TakesPrefix.{TakesPrefix}
 use Rattle.cs_tree.specs.MemStreams.{empty_sink}
-use Rattle.cs_tree.specs.ReadCounts.{after_open, after_read}
-use Rattle.cs_tree.specs.MemTrees.{no_reads}
+use Rattle.cs_tree.specs.ReadCounts.{ReadCounts, after_open, after_read}
 use Rattle.cs_tree.specs.declared.fault.TreeFault.TheVariants.{Failed}
 use Rattle.cs_tree.specs.Clean.{clean_path, is_clean}
 use Rattle.cs_tree.specs.Cleaning.{is_normalized}
 use Rattle.cs_tree.specs.Proper.{is_proper_path}
-use Rattle.cs_tree.specs.Puts.{put_fault}
-use Rattle.cs_tree.specs.Snapshot.{file}
-use Rattle.cs_tree.specs.declared.mem_tree.PutFault.TheVariants.{BadPath}
-use Rattle.std.specs.FinMap as map
 use Rattle.cs_tree.specs.Cover.{covers}
 use Rattle.cs_tree.specs.Descents.{tails, begins_below, after_byte}
 use Rattle.cs_tree.specs.Reachability.{elements_under}
@@ -42,9 +37,6 @@ a_relative_path_is_not_normalized = refl
 
 a_clean_path_is_normalized : is_normalized (codes "/a/.b") ≡ true
 a_clean_path_is_normalized = refl
-
-nothing_is_put_at_the_root : put_fault map.empty (codes "/") (file []) ≡ Some BadPath
-nothing_is_put_at_the_root = refl
 
 a_path_covers_what_is_below_it : covers (codes "/a/b") (codes "/a/b/c") ≡ true
 a_path_covers_what_is_below_it = refl
@@ -81,6 +73,11 @@ a_line_and_a_flush = refl
 
 a_second_flush_is_counted : after_flush (flushed_once (codes "t") 0) ≡ record { bytes = codes "t"; flushed = 1; flushes = 2 }
 a_second_flush_is_counted = refl
+
+-- ---- reads
+
+abbrev no_reads : ReadCounts
+no_reads = record { of_open = 0; most = 0 }
 
 two_reads_of_a_file_count_together : after_read (Ok 2) (after_read (Ok 3) no_reads) ≡ record { of_open = 5; most = 5 }
 two_reads_of_a_file_count_together = refl

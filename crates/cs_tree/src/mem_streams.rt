@@ -1,5 +1,5 @@
 // Sources, stores and sinks in memory.
-ghost use Rattle.std.specs.Prelude.{◌≡◌, ◌≢◌, ◌≤◌, ◌<◌, ◌+◌, ◌-◌, ◌↔◌, ℕ, List, [], Option, Some, None, IfOk, IsOk, Ok, Err, length, min, drop, refl, if◌then◌else◌};
+ghost use Rattle.std.specs.Prelude.{◌≡◌, ◌≢◌, ◌≤◌, ◌<◌, ◌+◌, ◌-◌, ◌↔◌, ℕ, List, [], Option, Some, None, IfOk, IsOk, Ok, Err, length, min, refl, if◌then◌else◌};
 ghost use Rattle.cs_tree.specs.Transfers.{ReadGives, is_io_failure};
 ghost use Rattle.cs_tree.specs.Sinks.{Writes, Flushes, Grows};
 ghost use Rattle.cs_tree.specs.FailureCount.{count_after};
@@ -72,13 +72,6 @@ impl<'a> Source for MemSource<'a> {
     }
 }
 
-/// The bytes from an offset on.
-pub(crate) fn after(bytes: &[u8], consumed: usize) -> &[u8]
-    ensures { result.now ≡ drop consumed bytes.now }
-{
-    &bytes[consumed.min(bytes.len())..]
-}
-
 fn count(bytes: &[u8]) -> usize
     ensures count { result ≡ length bytes.now }
     ensures bytes { AreBytes bytes.now }
@@ -122,7 +115,7 @@ impl<'a> Store for MemStore<'a> {
         ensures count { result ≡ Ok (count_at self.old at (length buf.new)) }
         ensures same { self.new ≡ self.old }
     {
-        let rest = after(self.bytes, at);
+        let rest = &self.bytes[at.min(self.bytes.len())..];
         let n = self.step.min(buf.len()).min(rest.len());
         buf[..n].copy_from_slice(&rest[..n]);
         Ok(n)

@@ -1,11 +1,10 @@
 // Paths: covering, clean paths, and elements.
-ghost use Rattle.std.specs.Prelude.{◌≡◌, ◌≢◌, ◌++◌, [], true, false, MatchOption, IsTrue, ◌↔◌, List, ℕ, length, ◌<◌, ◌&&◌, not, nat_eq, bytes_eq};
+ghost use Rattle.std.specs.Prelude.{◌≡◌, nat_eq};
 ghost use Rattle.std.specs.Path.{slash};
 ghost use Rattle.cs_tree.specs.Below.{ends_element as ends_element'};
-ghost use Rattle.cs_tree.specs.Folders.{stem_of, child, last_element, is_element as is_element'};
+ghost use Rattle.cs_tree.specs.Folders.{is_element as is_element'};
 ghost use Rattle.std.specs.List.{list_any};
 ghost use Rattle.cs_tree.specs.Cover.{covers as covers', is_absolute as is_absolute'};
-ghost use Rattle.cs_tree.specs.Changes.{parent_of};
 ghost use Rattle.cs_tree.specs.Clean.{is_clean as is_clean', has_nul as has_nul'};
 ghost use Rattle.cs_tree.specs.Proper.{is_proper as is_proper', is_proper_path as is_proper_path'};
 
@@ -31,31 +30,6 @@ fn ends_element(rest: &[u8]) -> bool
     }
 }
 
-/// Whether the path is that of the folder's child with the name.
-pub(crate) fn is_child(path: &str, folder: &str, name: &str) -> bool
-    ensures { result ≡ bytes_eq (child folder.now name.now) path.now }
-{
-    let Some(rest) = after_folder(path, folder) else {
-        return false;
-    };
-    match rest.split_first() {
-        Some((first, last)) => *first == b'/' && last == name.as_bytes(),
-        None => false,
-    }
-}
-
-/// The rest of the path after the folder's path. The root counts as the empty text here.
-fn after_folder<'a>(path: &'a str, folder: &str) -> Option<&'a [u8]>
-    ensures { MatchOption result
-        ((rest : List ℕ) → path.now ≢ stem_of folder.now ++ rest)
-        (λ rest. path.now ≡ stem_of folder.now ++ rest.now) }
-{
-    if folder == "/" {
-        return Some(path.as_bytes());
-    }
-    path.as_bytes().strip_prefix(folder.as_bytes())
-}
-
 /// Whether the element is not empty, `.` or `..`.
 fn is_proper(element: &str) -> bool
     ensures { result ≡ is_proper' element.now }
@@ -64,8 +38,7 @@ fn is_proper(element: &str) -> bool
 }
 
 /// Whether cleaning leaves the path unchanged: it is the root, or its elements are proper.
-/// Allocates nothing.
-pub(crate) fn is_clean(path: &str) -> bool
+pub fn is_clean(path: &str) -> bool
     ensures { result ≡ is_clean' path.now }
 {
     path == "/" || is_proper_path(path)
@@ -97,7 +70,8 @@ pub fn is_absolute(path: &str) -> bool
     }
 }
 
-pub(crate) fn has_nul(text: &str) -> bool
+/// Whether the text has a NUL.
+pub fn has_nul(text: &str) -> bool
     ensures { result ≡ has_nul' text.now }
 {
     text.as_bytes().iter().any(|byte| *byte == 0)
@@ -114,19 +88,4 @@ fn has_slash(text: &str) -> bool
     ensures { result ≡ list_any (λ b. nat_eq b slash) text.now }
 {
     text.as_bytes().iter().any(|byte| *byte == b'/')
-}
-
-/// The parent folder of a path, and its last element.
-pub(crate) fn split_name(path: &str) -> Option<(&str, &str)>
-    ensures { MatchOption result
-        (is_clean' path.now ≡ false)
-        (λ parts. (parts.0.now ≡ parent_of path.now) × (parts.1.now ≡ last_element path.now)) }
-{
-    let Some((prefix, name)) = path.rsplit_once('/') else {
-        return None;
-    };
-    if prefix.is_empty() {
-        return Some(("/", name));
-    }
-    Some((prefix, name))
 }

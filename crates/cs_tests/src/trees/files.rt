@@ -3,9 +3,10 @@ ghost use Rattle.std.specs.Prelude.{◌≡◌, true};
 ghost use Rattle.cs_tree.specs.Cover.{is_absolute};
 
 use crate::fixtures::{spaced, strings, tree_of};
+use cs_fakes::{Item, MemTree, PutFault};
 use cs_tree::{
-    DiskTree, IoFault, Item, Kind, MemTree, PathFault, PutFault, Sink, Source, StdSink, StdSource,
-    Tree, TreeFault, TreeReader, clean, covers, is_normalized, reduce,
+    DiskTree, IoFault, Kind, PathFault, Sink, Source, StdSink, StdSource, Tree, TreeFault,
+    TreeReader, clean, covers, is_normalized, reduce,
 };
 use std::alloc::{AllocError, Global};
 use std::io::{Read, Write};

@@ -6,7 +6,8 @@ use crate::fixtures::{TreeItem, tree_of};
 use crate::indexing::job_of;
 use cs_args::{CindexFault, IndexJob, Reply};
 use cs_cindex::cindex;
-use cs_tree::{MemSink, MemTree, PutFault};
+use cs_fakes::{MemTree, PutFault};
+use cs_tree::MemSink;
 use std::alloc::{AllocError, Global};
 use std::test::Fail;
 

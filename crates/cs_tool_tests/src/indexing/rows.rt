@@ -3,7 +3,8 @@ use crate::fixtures::{ONE_PATH, tree_of};
 use crate::indexing::job_of;
 use cs_args::{CindexFault, Reply};
 use cs_cindex::cindex;
-use cs_tree::{Item, MemSink, MemTree, PutFault, Sink};
+use cs_fakes::{Item, MemTree, PutFault};
+use cs_tree::{MemSink, Sink};
 use std::alloc::Global;
 use std::test::Fail;
 

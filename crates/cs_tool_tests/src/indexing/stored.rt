@@ -2,7 +2,8 @@
 use crate::indexing::job_of;
 use crate::stores::row_until;
 use cs_cindex::cindex_stored;
-use cs_tree::{IoFault, MemSink, MemTree, Store};
+use cs_fakes::MemTree;
+use cs_tree::{IoFault, MemSink, Store};
 use std::alloc::Global;
 use std::test::Fail;
 

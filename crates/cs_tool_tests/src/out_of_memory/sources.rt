@@ -1,9 +1,10 @@
 // Paths, trees, sinks and stores.
 use crate::fixtures::{TreeItem, item_of, strings};
 use crate::out_of_memory::{Outcome, at_most_one_fails};
+use cs_fakes::{MemTree, PutFault};
 use cs_tree::{
-    DiskTree, IoFault, Kind, MemSink, MemStore, MemTree, PathFault, PutFault, Sink, Tree,
-    TreeFault, clean, read_part, reduce, walk,
+    DiskTree, IoFault, Kind, MemSink, MemStore, PathFault, Sink, Tree, TreeFault, clean, read_part,
+    reduce, walk,
 };
 use std::alloc::{AllocError, Global};
 use std::test::Fail;

@@ -2,9 +2,10 @@
 use crate::fixtures::{ONE_FILE, UNSORTED, args_of, tree_of};
 use crate::stores::{Changing, row_until};
 use cs_args::{Job, SearchJob, Tool, ToolFault, read_words};
+use cs_fakes::{MemTree, PutFault};
 use cs_index::StoredIndex;
 use cs_search::{Status, csearch_stored};
-use cs_tree::{IoFault, MemSink, MemTree, PutFault, Store};
+use cs_tree::{IoFault, MemSink, Store};
 use std::alloc::Global;
 use std::test::Fail;
 

@@ -2,8 +2,9 @@
 use crate::desk::have;
 use crate::fixtures::args_of;
 use cs_args::{GrepJob, Job, Tool, ToolFault, read_words};
+use cs_fakes::{Item, MemTree, PutFault};
 use cs_search::{Status, cgrep};
-use cs_tree::{IoFault, Item, MemSink, MemSource, MemTree, PutFault, Sink};
+use cs_tree::{IoFault, MemSink, MemSource, Sink};
 use std::alloc::Global;
 use std::test::Fail;
 

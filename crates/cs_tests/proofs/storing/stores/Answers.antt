@@ -1,6 +1,6 @@
 use Rattle.std.proofs.Common.{Some, rules, sym, subst}
 use Rattle.cs_storage.specs.Storing.{IsHeld}
-use Rattle.cs_storage.specs.MemFolders.{folder_view}
+use Rattle.cs_fakes.specs.MemFolders.{folder_view}
 use Rattle.cs_storage.proofs.FillLemmas.{fills, stays_held}
 use Rattle.cs_tests.proofs.storing.stores.Goals as goal
 

@@ -1,0 +1,4 @@
+mod Examples
+mod MemItemLemmas
+mod NameLemmas
+mod PathLemmas

@@ -1,0 +1,44 @@
+-- The model of a folder in memory.
+use Rattle.std.specs.Prelude.{ℕ, List, map, drop, Option, Some, option_map, Vec, Result, Ok, Err}
+use Rattle.std.specs.declared.alloc.Global.{Global}
+use Rattle.cs_storage.specs.Storing.{Folder, OwnFile, Left, absent, whole, torn}
+use Rattle.cs_storage.specs.declared.fault.StorageFault.{StorageFault}
+use Rattle.cs_fakes.specs.declared.folder_types.MemFolder.{MemFolder}
+use Rattle.cs_fakes.specs.declared.folder_types.MemFile.{MemFile}
+use Rattle.cs_fakes.specs.declared.folder_types.MemIndex.{MemIndex}
+use Rattle.cs_fakes.specs.declared.folder_types.MemLeft.{MemLeft}
+use Rattle.cs_fakes.specs.declared.folder_types.MemLeft.TheVariants.{Absent, Whole, Torn}
+
+abbrev pub left_view : MemLeft → Left
+left_view Absent = absent
+left_view (Whole bytes) = whole bytes.items
+left_view Torn = torn
+
+abbrev pub own_view : MemFile → OwnFile
+own_view file = record { bytes = file.bytes.items; synced = file.synced }
+
+abbrev pub bytes_view : Option (Vec ℕ Global) → Option (List ℕ)
+bytes_view = option_map (λ bytes. bytes.items)
+
+abbrev pub seen_view : Result (Option (Vec ℕ Global)) StorageFault → Result (Option (List ℕ)) StorageFault
+seen_view (Ok file) = Ok (bytes_view file)
+seen_view (Err fault) = Err fault
+
+-- the model of an opened file
+abbrev pub mem_bytes : MemIndex → Option (List ℕ)
+mem_bytes index = Some index.bytes.items
+
+-- what a crash from the n-th outcome on may leave
+abbrev pub lefts_from : ℕ → List MemLeft → List Left
+lefts_from n lefts = drop n (map left_view lefts)
+
+abbrev pub folder_view : MemFolder → Folder
+folder_view m = record {
+  file = bytes_view m.file;
+  seen = option_map seen_view m.seen;
+  own = option_map own_view m.own;
+  now = lefts_from m.now_at m.lefts.items;
+  since = lefts_from m.since_at m.lefts.items;
+  stuck = m.stuck;
+  replaced = option_map bytes_view m.replaced;
+}

@@ -50,7 +50,8 @@ set_bits : (w b on : Bool) → on ≡ true → w || b ≡ if b then on else w
 set_bits w true on e = or-true w ∙ sym e
 set_bits w false on e = or-false w
 
-pub bits-set : (word bits i : ℕ) (on : Bool) → on ≡ true → eqb (bit_at (bit_or word bits) i) 1 ≡ if eqb (bit_at bits i) 1 then on else eqb (bit_at word i) 1
+pub bits-set : (word bits i : ℕ) (on : Bool) → on ≡ true → eqb (bit_at (bit_or word bits) i) 1
+    ≡ if eqb (bit_at bits i) 1 then on else eqb (bit_at word i) 1
 bits-set word bits i on e = bit-or word bits i ∙ set_bits (eqb (bit_at word i) 1) (eqb (bit_at bits i) 1) on e
 
 clear : (w b : ℕ) (on : Bool) → w < 2 → b < 2 → on ≡ false → eqb ((max w b + b) % 2) 1 ≡ if eqb b 1 then on else eqb w 1
@@ -61,7 +62,8 @@ clear (suc zero) (suc zero) on p q e = sym e
 clear w (suc (suc b)) on p q e = absurd (omega (arith, q))
 clear (suc (suc w)) b on p q e = absurd (omega (arith, p))
 
-pub bits-cleared : (word bits i : ℕ) (on : Bool) → on ≡ false → eqb (bit_at (bit_xor (bit_or word bits) bits) i) 1 ≡ if eqb (bit_at bits i) 1 then on else eqb (bit_at word i) 1
+pub bits-cleared : (word bits i : ℕ) (on : Bool) → on ≡ false → eqb (bit_at (bit_xor (bit_or word bits) bits) i) 1
+    ≡ if eqb (bit_at bits i) 1 then on else eqb (bit_at word i) 1
 bits-cleared word bits i on e =
     ap (λ x. eqb x 1) (bit_at_xor (bit_or word bits) bits i ∙ ap (λ x. (x + bit_at bits i) % 2) (bit_at_or word bits i))
     ∙ clear (bit_at word i) (bit_at bits i) on (bit_at-lt word i) (bit_at-lt bits i) e
@@ -77,7 +79,8 @@ same_bit a (suc (suc b)) h k e = absurd (omega (arith, k))
 
 -- a mask with one bit
 pub with_one_bit : (old new index : ℕ) (on : Bool) → index < 64 →
-    ((i : ℕ) → i < 64 → eqb (bit_at new i) 1 ≡ (if eqb (bit_at (1 * 2 ^ index % 2 ^ 64) i) 1 then on else eqb (bit_at old i) 1)) → IsWithBit old new index on
+    ((i : ℕ) → i < 64 → eqb (bit_at new i) 1
+    ≡ (if eqb (bit_at (1 * 2 ^ index % 2 ^ 64) i) 1 then on else eqb (bit_at old i) 1)) → IsWithBit old new index on
 with_one_bit old new index on low each = record {
   there = each index low ∙ ap (λ x. if x then on else eqb (bit_at old index) 1) (mask index ∙ eq-eqb _ 1 (bit_at-pow_same index));
   elsewhere = λ i h other. same_bit (bit_at new i) (bit_at old i) (bit_at-lt new i) (bit_at-lt old i)
@@ -110,7 +113,8 @@ pub has_bit-at : (words : List ℕ) (q r : ℕ) → r < 64 → has_bit words (q 
 has_bit-at words q r h =
     let quotient : (q * 64 + r) / 64 ≡ q = omega arith in
     let rest : (q * 64 + r) % 64 ≡ r = omega arith in
-    ap (λ (n : ℕ). eqb (bit_at (get_or words n 0) ((q * 64 + r) % 64)) 1) quotient ∙ ap (λ (n : ℕ). eqb (bit_at (get_or words q 0) n) 1) rest
+    ap (λ (n : ℕ). eqb (bit_at (get_or words n 0) ((q * 64 + r) % 64)) 1) quotient
+    ∙ ap (λ (n : ℕ). eqb (bit_at (get_or words q 0) n) 1) rest
 
 -- the words of a set, each with the highest bit of the one before it
 abbrev pub shifted : List ℕ → ℕ → ℕ
@@ -137,9 +141,12 @@ module _ (words : List ℕ) (fit : All (λ word. word < 2 ^ 64) words) where
   pub shifted-bit : (q r : ℕ) → r < 64 → eqb (bit_at (shifted words q) r) 1 ≡ previous words (q * 64 + r)
   shifted-bit q zero low =
       let small : carry words q % 2 ≡ carry words q = omega (arith, carry-lt q) in
-      bit-or _ (carry words q) 0 ∙ ap (λ x. x || eqb (bit_at (carry words q) 0) 1) (shl-lowest (get_or words q 0)) ∙ ap (λ x. eqb x 1) (bit_at_lowest (carry words q) ∙ small)
+      bit-or _ (carry words q) 0 ∙ ap (λ x. x || eqb (bit_at (carry words q) 0) 1) (shl-lowest (get_or words q 0))
+      ∙ ap (λ x. eqb x 1) (bit_at_lowest (carry words q) ∙ small)
       ∙ carry-previous q
   shifted-bit q (suc r) low =
       let index : suc (q * 64 + r) ≡ q * 64 + suc r = omega arith in
-      bit-or _ (carry words q) (suc r) ∙ ap (λ x. eqb (bit_at (get_or words q 0 * 2 % 18446744073709551616) (suc r)) 1 || eqb x 1) (bit_at_above (carry words q) 1 (suc r) (carry-lt q) (omega arith))
-      ∙ or-false _ ∙ ap (λ x. eqb x 1) (shl-others (get_or words q 0) r (omega (arith, low))) ∙ sym (has_bit-at words q r (omega (arith, low))) ∙ ap (previous words) index
+      bit-or _ (carry words q) (suc r) ∙ ap (λ x. eqb (bit_at (get_or words q 0 * 2 % 18446744073709551616) (suc r)) 1
+      || eqb x 1) (bit_at_above (carry words q) 1 (suc r) (carry-lt q) (omega arith))
+      ∙ or-false _ ∙ ap (λ x. eqb x 1) (shl-others (get_or words q 0) r (omega (arith, low)))
+      ∙ sym (has_bit-at words q r (omega (arith, low))) ∙ ap (previous words) index

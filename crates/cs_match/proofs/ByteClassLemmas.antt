@@ -24,8 +24,8 @@ SameStep b c = (b.char ≡ c.char) ⊎ ((b.char ≡ Single b.byte) × (c.char �
 
 -- a step over a byte that is in the same sets
 mutual
-  step_both : (t : Tree) (b c : Input) → HaveBoth t b.byte c.byte → SameStep b c → (enter : Bool) (ms : List Bool) (a : LookAround) → step t enter ms a b ≡ step t enter ms a c
-  step_both empty b c h e enter ms a = refl
+  step_both : (t : Tree) (b c : Input) → HaveBoth t b.byte c.byte → SameStep b c →
+      (enter : Bool) (ms : List Bool) (a : LookAround) → step t enter ms a b ≡ step t enter ms a c
   step_both (one_of set) b c h e enter ms a = rw h refl
   step_both (one_char ranges) b c h e enter ms a =
       elim e [
@@ -35,23 +35,28 @@ mutual
   step_both (cat ts) b c h e enter ms a = step_all_both ts b c h e enter ms a
   step_both (alt ts) b c h e enter ms a = step_each_both ts b c h e enter ms a
   step_both (rep x n m) b c h e enter ms a = step_both x b c h e (enter || is_final x ms a) ms a
-  step_both line_start b c h e enter ms a = refl
-  step_both line_end b c h e enter ms a = refl
-  step_both word_edge b c h e enter ms a = refl
-  step_both not_word_edge b c h e enter ms a = refl
+  step_both leaf b c h e enter ms a = refl
 
-  step_all_both : (ts : Trees) (b c : Input) → AllHaveBoth ts b.byte c.byte → SameStep b c → (enter : Bool) (ms : List Bool) (a : LookAround) → step_all ts enter ms a b ≡ step_all ts enter ms a c
+  step_all_both : (ts : Trees) (b c : Input) → AllHaveBoth ts b.byte c.byte → SameStep b c →
+      (enter : Bool) (ms : List Bool) (a : LookAround) → step_all ts enter ms a b ≡ step_all ts enter ms a c
   step_all_both none b c h e enter ms a = refl
   step_all_both (more t ts) b c h e enter ms a =
-      rw (step_both t b c h.0 e enter (take (position_count t) ms) a, step_all_both ts b c h.1 e (accepts t enter (take (position_count t) ms) a) (drop (position_count t) ms) a) refl
+      rw (
+        step_both t b c h.0 e enter (take (position_count t) ms) a,
+        step_all_both ts b c h.1 e
+            (accepts t enter (take (position_count t) ms) a) (drop (position_count t) ms) a,
+      ) refl
 
-  step_each_both : (ts : Trees) (b c : Input) → AllHaveBoth ts b.byte c.byte → SameStep b c → (enter : Bool) (ms : List Bool) (a : LookAround) → step_each ts enter ms a b ≡ step_each ts enter ms a c
+  step_each_both : (ts : Trees) (b c : Input) → AllHaveBoth ts b.byte c.byte → SameStep b c →
+      (enter : Bool) (ms : List Bool) (a : LookAround) → step_each ts enter ms a b ≡ step_each ts enter ms a c
   step_each_both none b c h e enter ms a = refl
   step_each_both (more t ts) b c h e enter ms a =
       rw (step_both t b c h.0 e enter (take (position_count t) ms) a, step_each_both ts b c h.1 e enter (drop (position_count t) ms) a) refl
 
 -- a byte below 128 is a character
-same_step : (t : Tree) (state : State) (b c : ℕ) → b < c → (c < 128) ⊎ (char_step_of t state.unfinished b ≡ char_step_of t state.unfinished c) → SameStep (input t state b) (input t state c)
+same_step : (t : Tree) (state : State) (b c : ℕ) → b < c →
+    (c < 128) ⊎ (char_step_of t state.unfinished b ≡ char_step_of t state.unfinished c) →
+    SameStep (input t state b) (input t state c)
 same_step t state b c lt (inr same) = inl same
 same_step t state b c lt (inl low) = by (look_behind t).char refl
   where
@@ -70,7 +75,12 @@ next_alike t state b h =
     let same = same_step t state b (suc b) (omega arith) h.step in
     record {
       newline = both.newline;
-      successor = rw (both.newline, both.word, step_both t (input t state b) (input t state (suc b)) both.sets same, same_unfinished (input t state b) (input t state (suc b)) same) refl;
+      successor = rw (
+        both.newline,
+        both.word,
+        step_both t (input t state b) (input t state (suc b)) both.sets same,
+        same_unfinished (input t state b) (input t state (suc b)) same,
+      ) refl;
       accepts = rw (both.newline, both.word) refl;
     }
 
@@ -90,7 +100,8 @@ module _ (t : Tree) (state : State) (low high byte : ℕ) (from : low ≤ byte) 
   from_low (suc n) lt =
       let next : suc (low + n) ≡ low + suc n = omega arith in
       subst (AreAlike t state low) next
-      (alike_on low (low + n) (suc (low + n)) (from_low n (omega arith)) (next_alike t state (low + n) (together (low + n) (omega arith) (omega arith))))
+      (alike_on low (low + n) (suc (low + n)) (from_low n (omega arith))
+      (next_alike t state (low + n) (together (low + n) (omega arith) (omega arith))))
 
   alike_low : (b : ℕ) → low ≤ b → b < high → AreAlike t state low b
   alike_low b le lt = subst (AreAlike t state low) (omega arith) (from_low (b - low) (omega arith))
@@ -114,14 +125,16 @@ marks_on test old new byte before kept here b lt e =
     ]
 
 -- the newline is a class of its own
-newlines : (new : List ℕ) (b : ℕ) → (begins_at new 10 ≡ false → ⊥) → (begins_at new 11 ≡ false → ⊥) → begins_at new (suc b) ≡ false → nat_eq b 10 ≡ nat_eq (suc b) 10
+newlines : (new : List ℕ) (b : ℕ) → (begins_at new 10 ≡ false → ⊥) → (begins_at new 11 ≡ false → ⊥) →
+    begins_at new (suc b) ≡ false → nat_eq b 10 ≡ nat_eq (suc b) 10
 newlines new b ten eleven e =
     let here = λ (h : b ≡ 10). eleven (subst (λ k. begins_at new k ≡ false) (ap suc h) e) in
     let next = λ (h : suc b ≡ 10). ten (subst (λ k. begins_at new k ≡ false) h e) in
     ne_eqb b 10 here ∙ sym (ne_eqb (suc b) 10 next)
 
 -- what a marked list says of its classes
-pub classes_by : (t : Tree) (bits : LookBehind) (first words new : List ℕ) → bits ≡ look_behind t → (begins_at first 10 ≡ false → ⊥) → (begins_at first 11 ≡ false → ⊥) →
+pub classes_by : (t : Tree) (bits : LookBehind) (first words new : List ℕ) → bits ≡ look_behind t →
+    (begins_at first 10 ≡ false → ⊥) → (begins_at first 11 ≡ false → ⊥) →
     AddsMarks (λ b c. (is_word b && bits.word) ≡ (is_word c && bits.word)) first words → AddsMarks (HaveBoth t) words new → AreClasses t new
 classes_by t bits first words new is ten eleven both marks b lt e =
     let kept = marks.kept (suc b) e in
@@ -132,14 +145,16 @@ classes_by t bits first words new is ten eleven both marks b lt e =
 pub clear_before : (begins : List ℕ) (n k : ℕ) → k < n → ¬ Passes (is_byte 1) (take n begins) k → begins_at begins k ≡ false
 clear_before begins n k lt h = false_from_ne_true _ (λ e. h (ap (λ x. nat_eq x 1) (get_or-take n begins k 0 lt) ∙ e))
 
-pub clear_after : (begins : List ℕ) (m n k : ℕ) → m ≤ k → k - m < n → ¬ Passes (is_byte 1) (take n (drop m begins)) (k - m) → begins_at begins k ≡ false
+pub clear_after : (begins : List ℕ) (m n k : ℕ) → m ≤ k → k - m < n → ¬ Passes (is_byte 1) (take n (drop m begins))
+    (k - m) → begins_at begins k ≡ false
 clear_after begins m n k le lt h =
     let index : m + (k - m) ≡ k = omega arith in
     let there = get_or-drop m begins (k - m) 0 ∙ ap (λ (i : ℕ). get_or begins i 0) index in
     false_from_ne_true _ (λ e. h (ap (λ x. nat_eq x 1) (get_or-take n (drop m begins) (k - m) 0 lt ∙ there) ∙ e))
 
 -- a class grows by a byte
-pub together_down : (t : Tree) (at : Unfinished) (low top : ℕ) → StepTogether t at low (suc low) → ((b : ℕ) → low + 1 ≤ b → b < top → StepTogether t at b (suc b)) →
+pub together_down : (t : Tree) (at : Unfinished) (low top : ℕ) → StepTogether t at low (suc low) →
+    ((b : ℕ) → low + 1 ≤ b → b < top → StepTogether t at b (suc b)) →
     (b : ℕ) → low ≤ b → b < top → StepTogether t at b (suc b)
 together_down t at low top here above b le lt =
     elim (cases_lt low b) [
@@ -147,7 +162,8 @@ together_down t at low top here above b le lt =
       | inr same ↦ subst (λ (k : ℕ). StepTogether t at k (suc k)) (omega arith) here
     ]
 
-pub together_up : (t : Tree) (at : Unfinished) (low high : ℕ) → 1 ≤ high → StepTogether t at (high - 1) (suc (high - 1)) → ((b : ℕ) → low ≤ b → suc b < high → StepTogether t at b (suc b)) →
+pub together_up : (t : Tree) (at : Unfinished) (low high : ℕ) → 1 ≤ high → StepTogether t at (high - 1) (suc (high - 1))
+    → ((b : ℕ) → low ≤ b → suc b < high → StepTogether t at b (suc b)) →
     (b : ℕ) → low ≤ b → suc b < high + 1 → StepTogether t at b (suc b)
 together_up t at low high some here below b le lt =
     elim (cases_lt (suc b) high) [

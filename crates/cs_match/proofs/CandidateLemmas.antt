@@ -23,7 +23,8 @@ word_is_match tree words line all has =
     (all a.0 a.1 a.2).found line has.0 (subst (WordAt line has.0) (sym a.3) a.4)
 
 -- no line of the rest has a match, if none contains a word
-pub no_candidate : (tree : Tree) (words : List Word) (block : List ℕ) (from : ℕ) → from ≤ length block → AreWholeLines (drop from block) → AreRequired tree words →
+pub no_candidate : (tree : Tree) (words : List Word) (block : List ℕ) (from : ℕ) → from ≤ length block →
+    AreWholeLines (drop from block) → AreRequired tree words →
     LackWords words (terminated_lines (drop from block)) → AreSkipped (λ has_match. Decides has_match tree) block from (length block)
 no_candidate tree words block from within whole required lack = record {
   lines = record { low = within; high = omega arith; whole = whole_rest block from whole };
@@ -38,11 +39,13 @@ pub before_candidate : (tree : Tree) (words : List Word) (block : List ℕ) (fro
     AreSkipped (λ has_match. Decides has_match tree) block from start
 before_candidate tree words block from start end has_word required e = record {
   lines = record { low = e.line.low; high = omega (arith, e.line.order, e.line.high); whole = e.line.before };
-  none = λ has_match decides. none_found tree (HasWord words) has_match (terminated_lines (take (start - from) (drop from block))) required decides e.lack;
+  none = λ has_match decides. none_found tree (HasWord words) has_match
+      (terminated_lines (take (start - from) (drop from block))) required decides e.lack;
 }
 
 -- a word of a list, none of which contains a newline
-pub in_line_of : (words : List Word) → All IsInLine words → (i : ℕ) (word : Word) → i < length words → get_or words i word ≡ word → IsInLine word
+pub in_line_of : (words : List Word) → All IsInLine words → (i : ℕ) (word : Word) → i < length words →
+    get_or words i word ≡ word → IsInLine word
 in_line_of words all i word low is = subst IsInLine is (all i word low)
 
 module _ (block : List ℕ) (from offset size end : ℕ) where
@@ -53,8 +56,11 @@ module _ (block : List ℕ) (from offset size end : ℕ) where
   start = from + size
 
   -- the line around an offset, from the whole lines before it and the newline after it
-  pub line_around : size ≤ length (take offset rest) → AreWholeLines (take size (take offset rest)) → HasNoNewline (drop size (take offset rest)) →
-      from + offset ≤ end → end < length block → HasNoNewline (take (end - (from + offset)) (drop (from + offset) block)) → drop end block ≡ newline ∷ drop (end + 1) block →
+  pub line_around : size ≤ length (take offset rest) → AreWholeLines (take size (take offset rest)) →
+      HasNoNewline (drop size (take offset rest)) →
+      from + offset ≤ end → end < length block →
+      HasNoNewline (take (end - (from + offset)) (drop (from + offset) block)) → drop end block
+      ≡ newline ∷ drop (end + 1) block →
       IsLineAfter block from start end
   line_around within whole part order last after here = record {
     low = omega arith;
@@ -63,7 +69,8 @@ module _ (block : List ℕ) (from offset size end : ℕ) where
     before = subst AreWholeLines (take-take size offset rest small ∙ ap (λ n. take n rest) (omega arith)) whole;
     part =
         subst HasNoNewline (sym (between_by block start (from + offset) end (omega (arith, small)) order))
-        (HasNoNewline-append (take (from + offset - start) (drop start block)) (take (end - (from + offset)) (drop (from + offset) block)) (subst HasNoNewline open_is part) after);
+        (HasNoNewline-append (take (from + offset - start) (drop start block))
+        (take (end - (from + offset)) (drop (from + offset) block)) (subst HasNoNewline open_is part) after);
     newline = here;
   }
     where

@@ -10,7 +10,8 @@ use Rattle.cs_match.specs.Glushkov.{cuts_of, char_step_of}
 use Rattle.cs_match.specs.LookBehind.{look_behind}
 
 -- the step of a program's cuts
-pub char_step_is : (t : Tree) (bits : LookBehind) (cuts : List ℕ) → bits ≡ look_behind t → bits.char ≡ true → AreCutsOf t cuts → (at : Unfinished) (b : ℕ) →
+pub char_step_is : (t : Tree) (bits : LookBehind) (cuts : List ℕ) → bits ≡ look_behind t → bits.char ≡ true →
+    AreCutsOf t cuts → (at : Unfinished) (b : ℕ) →
     char_step cuts at b ≡ char_step_of t at b
 char_step_is t bits cuts is on of at b =
     let char : (look_behind t).char ≡ true = sym (ap (λ (x : LookBehind). x.char) is) ∙ on in

@@ -19,11 +19,13 @@ copies_last zero t = refl
 copies_last (suc n) t = ap (more t) (copies_last n t)
 
 -- one more copy is pushed
-pub pushed_copy : (old xs : List Node) (x : Node) (t : Tree) (k : ℕ) → trees_of xs ≡ append (trees_of old) (copies k t none) → tree_of x ≡ t →
+pub pushed_copy : (old xs : List Node) (x : Node) (t : Tree) (k : ℕ) → trees_of xs
+    ≡ append (trees_of old) (copies k t none) → tree_of x ≡ t →
     trees_of (xs ++ x ∷ []) ≡ append (trees_of old) (copies (k + 1) t none)
 pushed_copy old xs x t k e is =
     let next : suc k ≡ k + 1 = omega arith in
-    trees_last xs x ∙ ap (λ ts. append ts (more (tree_of x) none)) e ∙ append_assoc_trees (trees_of old) (copies k t none) (more (tree_of x) none)
+    trees_last xs x ∙ ap (λ ts. append ts (more (tree_of x) none)) e
+    ∙ append_assoc_trees (trees_of old) (copies k t none) (more (tree_of x) none)
     ∙ ap (λ u. append (trees_of old) (append (copies k t none) (more u none))) is
     ∙ ap (append (trees_of old)) (append_copies k t (more t none) ∙ copies_last k t ∙ ap (λ n. copies n t none) next)
 

@@ -29,15 +29,18 @@ module _ (t u : Tree) (cached : List State) (used number : ℕ) (n : State) (sam
     pub scan_stays : i < length s → b ≡ slice_index s i → b ≢ 10 → number ≢ match_state → accepts_in s t i ≡ false
     scan_stays lt byte other e = sym (accepts_here lt byte other) ∙ (leads_on u cached used b number n leads e).0
 
-    pub scan_next : i < length s → b ≡ slice_index s i → b ≢ 10 → number ≢ match_state → IsStateNumber u cached used number (state t (take (i + 1) s))
+    pub scan_next : i < length s → b ≡ slice_index s i → b ≢ 10 → number ≢ match_state →
+        IsStateNumber u cached used number (state t (take (i + 1) s))
     scan_next lt byte other e =
         subst (λ (x : State). IsStateNumber u cached used number x)
-        (ap (λ x. successor x n b) same ∙ ap (λ x. successor t x b) is ∙ ap (successor t (state t (take i s))) byte ∙ beyond_more t s i lt (λ f. other (byte ∙ f)))
+        (ap (λ x. successor x n b) same ∙ ap (λ x. successor t x b) is ∙ ap (successor t (state t (take i s))) byte
+        ∙ beyond_more t s i lt (λ f. other (byte ∙ f)))
         (leads_on u cached used b number n leads e).1
 
     pub scan_ends : length s ≤ i → b ≡ 10 → used ≤ 254 → eqb number match_state ≡ accepts_in s t (length s)
     scan_ends le byte bound =
-        let all = accepts_is (state t s) b (is ∙ ap (state t) (take_all i s le)) ∙ ap (accepts_before t (state t s)) byte ∙ accepts_at_end t s in
+        let all = accepts_is (state t s) b (is ∙ ap (state t) (take_all i s le))
+        ∙ ap (accepts_before t (state t s)) byte ∙ accepts_at_end t s in
         elim (cases_eq number match_state) [
           | inl e ↦ eq-eqb number match_state e ∙ sym (leads_to_found u cached used b number n bound leads e) ∙ all
           | inr e ↦ ne_eqb number match_state e ∙ sym (leads_on u cached used b number n leads e).0 ∙ all

@@ -58,7 +58,8 @@ last_positions_of_sequences : lasts_of (1 ∷ 0 ∷ []) ≡ false ∷ true ∷ t
 last_positions_of_sequences = refl
 
 -- the second position is entered after the first one, and the end of a sequence does not enter the next one
-sequences_that_are_not_entered : (a : LookAround) → entered_each (runs (1 ∷ 0 ∷ [])) false (true ∷ true ∷ false ∷ []) a ≡ false ∷ true ∷ false ∷ []
+sequences_that_are_not_entered : (a : LookAround) → entered_each (runs (1 ∷ 0 ∷ [])) false (true ∷ true ∷ false ∷ []) a
+    ≡ false ∷ true ∷ false ∷ []
 sequences_that_are_not_entered a = refl
 
 a_last_position_is_accepted : intersect (true ∷ true ∷ false ∷ []) (false ∷ true ∷ true ∷ []) ≡ true
@@ -138,14 +139,16 @@ no_state_is_forgotten_where_there_is_room : ¬ GrowsOver 1 5 2
 no_state_is_forgotten_where_there_is_room h = omega (arith, h.kept (omega arith))
 
 -- of a run the first position is entered with it, and each other one after the position before it
-entries_of_a_run : entered (run 3) true (true ∷ false ∷ true ∷ []) (record { first = false; last = false; edge = false }) ≡ true ∷ true ∷ false ∷ []
+entries_of_a_run : entered (run 3) true (true ∷ false ∷ true ∷ [])
+    (record { first = false; last = false; edge = false }) ≡ true ∷ true ∷ false ∷ []
 entries_of_a_run = refl
 
 -- an option accepts where it can begin, with no position in the set, and the options after one that is left are entered
 optional_run_is_left : accepts (optional_run 2) true (false ∷ false ∷ []) (record { first = false; last = false; edge = false }) ≡ true
 optional_run_is_left = refl
 
-entries_of_options : entered (options 2 3) false (false ∷ true ∷ true ∷ false ∷ false ∷ false ∷ []) (record { first = false; last = false; edge = false })
+entries_of_options : entered (options 2 3) false (false ∷ true ∷ true ∷ false ∷ false ∷ false ∷ [])
+    (record { first = false; last = false; edge = false })
     ≡ false ∷ false ∷ true ∷ true ∷ true ∷ false ∷ []
 entries_of_options = refl
 
@@ -162,7 +165,8 @@ three_positions : position_list (cat (more (one_of []) (more (one_char []) none)
 three_positions = refl
 
 -- a lead byte begins a set of characters that was entered, and ends what was taken
-lead_byte_begins : moved false (Begun ∷ Taken [] ∷ []) (record { byte = 195; char = Begins finished }) (true ∷ false ∷ []) (false ∷ true ∷ []) ≡ true ∷ false ∷ []
+lead_byte_begins : moved false (Begun ∷ Taken [] ∷ []) (record { byte = 195; char = Begins finished })
+    (true ∷ false ∷ []) (false ∷ true ∷ []) ≡ true ∷ false ∷ []
 lead_byte_begins = refl
 
 -- a set, and a loop over a set

@@ -36,11 +36,13 @@ if_some None f h = tt
 if_some (Some x) f h = f x h
 
 module _ (s : List ℕ) where
-  copies_in : (x : Tree) (rest : Trees) (n i l j : ℕ) → Chain (MatchesSpan s x) n i l → MatchesSequence s rest l j → MatchesSequence s (copies n x rest) i j
+  copies_in : (x : Tree) (rest : Trees) (n i l j : ℕ) → Chain (MatchesSpan s x) n i l → MatchesSequence s rest l j →
+      MatchesSequence s (copies n x rest) i j
   copies_in x rest zero i l j h r = let P : ℕ → Type 0 = λ y. MatchesSequence s rest y j in subst P (sym h) r
   copies_in x rest (suc n) i l j h r = (h.0, h.1, copies_in x rest n h.0 l j h.2 r)
 
-  copies_out : (x : Tree) (rest : Trees) (n i j : ℕ) → MatchesSequence s (copies n x rest) i j → (l : ℕ) × Chain (MatchesSpan s x) n i l × MatchesSequence s rest l j
+  copies_out : (x : Tree) (rest : Trees) (n i j : ℕ) → MatchesSequence s (copies n x rest) i j →
+      (l : ℕ) × Chain (MatchesSpan s x) n i l × MatchesSequence s rest l j
   copies_out x rest zero i j h = (i, refl, h)
   copies_out x rest (suc n) i j h = let r = copies_out x rest n h.0 j h.2 in (r.0, (h.0, h.1, r.1), r.2)
 
@@ -50,7 +52,8 @@ module _ (s : List ℕ) where
   optional_in x (suc d) zero i j le h = (i, inr (inl refl), optional_in x d zero i j (omega arith) h)
   optional_in x (suc d) (suc k) i j le h = (h.0, inl h.1, optional_in x d k h.0 j (omega arith) h.2)
 
-  optional_out : (x : Tree) (d i j : ℕ) → MatchesSequence s (copies d (optional x) none) i j → (k : ℕ) × (k ≤ d) × Chain (MatchesSpan s x) k i j
+  optional_out : (x : Tree) (d i j : ℕ) → MatchesSequence s (copies d (optional x) none) i j →
+      (k : ℕ) × (k ≤ d) × Chain (MatchesSpan s x) k i j
   optional_out x zero i j h = (0, omega arith, h)
   optional_out x (suc d) i j h =
       let r = optional_out x d h.0 j h.2 in
@@ -71,7 +74,8 @@ module _ (s : List ℕ) where
   counted_in x n (Some m) i j h =
       let le : n ≤ m = omega (arith, h.1, h.2) in
       let r = chain_split (MatchesSpan s x) n (h.0 - n) h.0 i j (omega (arith, h.1)) h.3 in
-      rw (le-leb n m le) (copies_in x (copies (m - n) (optional x) none) n i r.0 j r.1 (optional_in x (m - n) (h.0 - n) r.0 j (omega (arith, h.1, h.2)) r.2))
+      rw (le-leb n m le) (copies_in x (copies (m - n) (optional x) none) n i r.0 j r.1
+      (optional_in x (m - n) (h.0 - n) r.0 j (omega (arith, h.1, h.2)) r.2))
 
   chosen_out : (x : Tree) (n m : ℕ) (b : Bool) (i j : ℕ) → nat_le n m ≡ b →
       MatchesSpan s (if b then cat (copies n x (copies (m - n) (optional x) none)) else never) i j → MatchesSpan s (rep x n (Some m)) i j
@@ -91,7 +95,8 @@ module _ (s : List ℕ) where
       (n + loop.0, omega (arith, loop.1), tt, chain_join (MatchesSpan s x) n loop.0 (n + loop.0) i r.0 j refl r.1 (subst P r.2.2 loop.3))
   counted_out x n (Some m) i j h = chosen_out x n m (nat_le n m) i j refl h
 
-  in_union : (set other : List Bool) (i j : ℕ) → MatchesSpan s (one_of set) i j ⊎ MatchesSpan s (one_of other) i j → MatchesSpan s (one_of (union set other)) i j
+  in_union : (set other : List Bool) (i j : ℕ) → MatchesSpan s (one_of set) i j ⊎ MatchesSpan s (one_of other) i j →
+      MatchesSpan s (one_of (union set other)) i j
   in_union set other i j h =
       let b = slice_index s i in
       elim h [
@@ -99,7 +104,8 @@ module _ (s : List ℕ) where
         | inr p ↦ (p.0, member_union set other b ∙ or_right (member set b) (member other b) p.1, p.2)
       ]
 
-  of_union : (set other : List Bool) (i j : ℕ) → MatchesSpan s (one_of (union set other)) i j → MatchesSpan s (one_of set) i j ⊎ MatchesSpan s (one_of other) i j
+  of_union : (set other : List Bool) (i j : ℕ) → MatchesSpan s (one_of (union set other)) i j →
+      MatchesSpan s (one_of set) i j ⊎ MatchesSpan s (one_of other) i j
   of_union set other i j h =
       let b = slice_index s i in
       elim (or_cases (member set b) (member other b) (sym (member_union set other b) ∙ h.1)) [
@@ -141,7 +147,13 @@ module _ (s : List ℕ) where
     matches_expansion (cat ts) i j h = matches_all_expansions ts i j h
     matches_expansion (alt ts) i j h = (alternation_matches (expansions ts) i j).1 (matches_some_expansions ts i j h)
     matches_expansion (rep x n m) i j h =
-        counted_in (expansion x) n m i j (h.0, h.1, h.2, chain_map (MatchesSpan s x) (MatchesSpan s (expansion x)) (matches_expansion x) h.0 i j h.3)
+        counted_in (expansion x) n m i j (
+          h.0,
+          h.1,
+          h.2,
+          chain_map (MatchesSpan s x) (MatchesSpan s (expansion x))
+              (matches_expansion x) h.0 i j h.3,
+        )
     matches_expansion line_start i j h = h
     matches_expansion line_end i j h = h
     matches_expansion word_edge i j h = h
@@ -153,7 +165,8 @@ module _ (s : List ℕ) where
 
     pub matches_some_expansions : (ts : Trees) (i j : ℕ) → MatchesBranch s ts i j → MatchesBranch s (expansions ts) i j
     matches_some_expansions none i j h = h
-    matches_some_expansions (more t ts) i j h = elim h [ inl p ↦ inl (matches_expansion t i j p) | inr p ↦ inr (matches_some_expansions ts i j p) ]
+    matches_some_expansions (more t ts) i j h =
+        elim h [ inl p ↦ inl (matches_expansion t i j p) | inr p ↦ inr (matches_some_expansions ts i j p) ]
 
   mutual
     pub matches_as_read : (t : Tree) (i j : ℕ) → MatchesSpan s (expansion t) i j → MatchesSpan s t i j
@@ -207,16 +220,10 @@ alternation_is P ts other h = chosen (union_of ts)
 
 mutual
   pub is_expanded : (t : Tree) → IsExpanded (expansion t)
-  is_expanded empty = tt
-  is_expanded (one_of set) = tt
-  is_expanded (one_char ranges) = tt
   is_expanded (cat ts) = are_expanded ts
   is_expanded (alt ts) = alternation_is IsExpanded (expansions ts) (are_expanded ts) (λ set. tt)
   is_expanded (rep x n m) = repeat_expanded (expansion x) n m (is_expanded x)
-  is_expanded line_start = tt
-  is_expanded line_end = tt
-  is_expanded word_edge = tt
-  is_expanded not_word_edge = tt
+  is_expanded leaf = tt
 
   pub are_expanded : (ts : Trees) → AreExpanded (expansions ts)
   are_expanded none = tt

@@ -33,7 +33,8 @@ module _ (a : List ℕ) (b : ℕ) where
   restarted : b ≡ newline → last_part (a ++ b ∷ []) ≡ []
   unfolding last_part
   restarted e =
-      last_part-append a (b ∷ []) ∙ ap (λ c. last_part (last_part a ++ c ∷ [])) e ∙ last_part-line (last_part a) [] (HasNoNewline-last_part a)
+      last_part-append a (b ∷ []) ∙ ap (λ c. last_part (last_part a ++ c ∷ [])) e
+      ∙ last_part-line (last_part a) [] (HasNoNewline-last_part a)
 
   module _ (other : nat_eq b newline ≡ false) where
     unended : HasNoNewline (last_part a ++ b ∷ [])
@@ -49,11 +50,13 @@ module _ (a : List ℕ) (b : ℕ) where
     longer = last_part-append a (b ∷ []) ∙ last_part-part (last_part a ++ b ∷ []) unended
 
 module _ (t : Tree) where
-  never_more : (n : State) (part : List ℕ) (b : ℕ) → NeverAccepted t n part → accepts_before t (state_through t n part) b ≡ false → NeverAccepted t n (part ++ b ∷ [])
+  never_more : (n : State) (part : List ℕ) (b : ℕ) → NeverAccepted t n part → accepts_before t (state_through t n part)
+      b ≡ false → NeverAccepted t n (part ++ b ∷ [])
   never_more n [] b never here = (here, tt)
   never_more n (c ∷ part) b never here = (never.0, never_more (next_state t n c) part b never.1 here)
 
-  never_to_end : (n : State) (part : List ℕ) → NeverAccepted t n part → accepts_before t (state_through t n part) newline ≡ false → NeverAccepts t n part
+  never_to_end : (n : State) (part : List ℕ) → NeverAccepted t n part → accepts_before t (state_through t n part)
+      newline ≡ false → NeverAccepts t n part
   never_to_end n [] never here = here
   never_to_end n (c ∷ part) never here = (never.0, never_to_end (next_state t n c) part never.1 here)
 
@@ -73,27 +76,35 @@ module _ (t : Tree) where
     state_on =
         elim (cases_Bool (nat_eq byte newline)) [
           | inl e ↦ rw e (sym (ap (λ a. state t (last_part a)) more ∙ ap (state t) (restarted before byte (eqb-true byte newline e))))
-          | inr e ↦ rw e (sym (ap (λ a. state t (last_part a)) more ∙ ap (state t) (longer before byte e) ∙ state_through-append t (start t) (last_part before) (byte ∷ [])))
+          | inr e ↦ rw e (sym (ap (λ a. state t (last_part a)) more ∙ ap (state t) (longer before byte e)
+              ∙ state_through-append t (start t) (last_part before) (byte ∷ [])))
         ]
 
-    pub scanned_on : IsExpanded t → AreScanned t text i → accepts_before t (state t (last_part before)) byte ≡ false → AreScanned t text (i + 1)
+    pub scanned_on : IsExpanded t → AreScanned t text i → accepts_before t (state t (last_part before)) byte ≡ false →
+        AreScanned t text (i + 1)
     scanned_on expanded scanned stays =
         elim (cases_Bool (nat_eq byte newline)) [
           | inl e ↦
               let here = eqb-true byte newline e in
-              let never = never_to_end (start t) (last_part before) scanned.part (subst (λ b. accepts_before t (state t (last_part before)) b ≡ false) here stays) in
+              let never = never_to_end (start t) (last_part before) scanned.part
+              (subst (λ b. accepts_before t (state t (last_part before)) b ≡ false) here stays) in
               record {
                 none = λ has_match decides.
-                    let miss = false_from_ne_true (has_match (last_part before)) (λ found. never_found t (last_part before) expanded (HasNoNewline-last_part before) never ((decides (last_part before)).0 found)) in
+                    let miss = false_from_ne_true (has_match (last_part before))
+                    (λ found. never_found t (last_part before) expanded (HasNoNewline-last_part before) never
+                    ((decides (last_part before)).0 found)) in
                     subst (NoneMatch has_match) (sym (ap terminated_lines more ∙ ended before byte here))
-                    (All-append (λ line. has_match line ≡ false) (terminated_lines before) (last_part before ∷ []) (scanned.none has_match decides)
+                    (All-append (λ line. has_match line ≡ false) (terminated_lines before) (last_part before ∷ [])
+                    (scanned.none has_match decides)
                     (All-cons (λ line. has_match line ≡ false) (last_part before) [] miss (All-nil (λ line. has_match line ≡ false))));
                 part = subst (NeverAccepted t (start t)) (sym (ap last_part more ∙ restarted before byte here)) tt;
               }
           | inr e ↦
               record {
-                none = λ has_match decides. subst (NoneMatch has_match) (sym (ap terminated_lines more ∙ same_lines before byte e)) (scanned.none has_match decides);
-                part = subst (NeverAccepted t (start t)) (sym (ap last_part more ∙ longer before byte e)) (never_more (start t) (last_part before) byte scanned.part stays);
+                none = λ has_match decides. subst (NoneMatch has_match)
+                    (sym (ap terminated_lines more ∙ same_lines before byte e)) (scanned.none has_match decides);
+                part = subst (NeverAccepted t (start t)) (sym (ap last_part more ∙ longer before byte e))
+                    (never_more (start t) (last_part before) byte scanned.part stays);
               }
         ]
 
@@ -123,8 +134,10 @@ module _ (t : Tree) (expanded : IsExpanded t) (block : List ℕ) (from to accept
   Accepts i b = accepts_before t (state t (take i line)) b ≡ true
 
   pub first_match_is : from ≤ to → to ≤ length block → AcceptsFirst t (take (to - from) rest) accepted →
-      size ≤ length (take (offset - from) rest) → AreWholeLines (take size (take (offset - from) rest)) → HasNoNewline (drop size (take (offset - from) rest)) →
-      offset ≤ end → end < length block → HasNoNewline (take (end - offset) (drop offset block)) → drop end block ≡ newline ∷ drop (end + 1) block →
+      size ≤ length (take (offset - from) rest) → AreWholeLines (take size (take (offset - from) rest)) →
+      HasNoNewline (drop size (take (offset - from) rest)) →
+      offset ≤ end → end < length block → HasNoNewline (take (end - offset) (drop offset block)) → drop end block
+      ≡ newline ∷ drop (end + 1) block →
       IsFirstMatch t block from line_start end
   first_match_is low high first within whole part order last after here = record {
     line = record {
@@ -139,7 +152,8 @@ module _ (t : Tree) (expanded : IsExpanded t) (block : List ℕ) (from to accept
       lines = record { low = omega arith; high = omega (arith, small, last, order); whole = subst AreWholeLines prefix_is before_it };
       none = λ has_match decides.
           subst (λ text. NoneMatch has_match (terminated_lines text)) prefix_is
-          (subst (NoneMatch has_match) (ap terminated_lines scanned_is ∙ ended_all scanned_bytes size before_it unfinished) (first.scanned.none has_match decides));
+          (subst (NoneMatch has_match) (ap terminated_lines scanned_is ∙ ended_all scanned_bytes size before_it
+          unfinished) (first.scanned.none has_match decides));
     };
     found = accepts_match t line expanded line_part (accepted - size) (omega (arith, line_size, small, order)) accepts_there;
   }
@@ -178,7 +192,8 @@ module _ (t : Tree) (expanded : IsExpanded t) (block : List ℕ) (from to accept
       line_part : HasNoNewline line
       line_part =
           subst HasNoNewline (sym (between_by block line_start offset end (omega (arith, small)) order))
-          (HasNoNewline-append (take (offset - line_start) (drop line_start block)) (take (end - offset) (drop offset block)) (subst HasNoNewline open_is unfinished) after)
+          (HasNoNewline-append (take (offset - line_start) (drop line_start block))
+          (take (end - offset) (drop offset block)) (subst HasNoNewline open_is unfinished) after)
 
       line_size : length line ≡ end - line_start
       line_size = omega (arith, length-take (end - line_start) (drop line_start block), length-drop line_start block, small, order, last)
@@ -200,17 +215,23 @@ module _ (t : Tree) (expanded : IsExpanded t) (block : List ℕ) (from to accept
           ∙ sym (get_or-take (to - from) rest accepted 0 inside ∙ get_or-drop from block accepted 0)
 
       accepts_there : Accepts (accepted - size) (get_or (line ++ newline ∷ []) (accepted - size) 0)
-      accepts_there = ap (λ p. accepts_before t (state t p) (get_or (line ++ newline ∷ []) (accepted - size) 0)) begins ∙ ap (accepts_before t (state t (last_part (take accepted (take (to - from) rest))))) byte_is ∙ first.accepts
+      accepts_there = ap (λ p. accepts_before t (state t p) (get_or (line ++ newline ∷ []) (accepted - size) 0)) begins
+          ∙ ap (accepts_before t (state t (last_part (take accepted (take (to - from) rest))))) byte_is ∙ first.accepts
 
   -- no line of the scanned part has a match
-  pub part_skipped : from ≤ to → to ≤ length block → AreWholeLines (take (to - from) rest) → AreScanned t (take (to - from) rest) (length (take (to - from) rest)) → AreSkipped (λ has_match. Decides has_match t) block from to
+  pub part_skipped : from ≤ to → to ≤ length block → AreWholeLines (take (to - from) rest) →
+      AreScanned t (take (to - from) rest) (length (take (to - from) rest)) →
+      AreSkipped (λ has_match. Decides has_match t) block from to
   part_skipped low high whole scanned = record {
     lines = record { low = low; high = high; whole = whole };
-    none = λ has_match decides. subst (λ text. NoneMatch has_match (terminated_lines text)) (take_all (length (take (to - from) rest)) (take (to - from) rest) (omega arith)) (scanned.none has_match decides);
+    none = λ has_match decides. subst (λ text. NoneMatch has_match (terminated_lines text))
+        (take_all (length (take (to - from) rest)) (take (to - from) rest) (omega arith)) (scanned.none has_match decides);
   }
 
 -- the first matching line after skipped lines
-pub first_match_after : (t : Tree) (block : List ℕ) (from offset start end : ℕ) → AreSkipped (λ has_match. Decides has_match t) block from offset → IsFirstMatch t block offset start end → IsFirstMatch t block from start end
+pub first_match_after : (t : Tree) (block : List ℕ) (from offset start end : ℕ) →
+    AreSkipped (λ has_match. Decides has_match t) block from offset → IsFirstMatch t block offset start end →
+    IsFirstMatch t block from start end
 first_match_after t block from offset start end p first =
     let all = skipped_append (λ has_match. Decides has_match t) block from offset start p first.skipped in
     record {
@@ -227,6 +248,8 @@ first_match_after t block from offset start end p first =
     }
 
 -- skipped lines, and then searched ones
-pub searched_after : (t : Tree) (block : List ℕ) (from start to : ℕ) (found : Option Line) → AreSkipped (λ has_match. Decides has_match t) block from start → IsSearched t block start to found → IsSearched t block from to found
+pub searched_after : (t : Tree) (block : List ℕ) (from start to : ℕ) (found : Option Line) →
+    AreSkipped (λ has_match. Decides has_match t) block from start → IsSearched t block start to found →
+    IsSearched t block from to found
 searched_after t block from start to None p searched = skipped_append (λ has_match. Decides has_match t) block from start to p searched
 searched_after t block from start to (Some line) p searched = first_match_after t block from start line.start line.end p searched

@@ -19,26 +19,23 @@ use Rattle.cs_match.specs.LookBehind.{look_behind, look_behind_of}
 use Rattle.cs_match.specs.declared.look_around.LookBehind.{LookBehind}
 
 mutual
-  pub length-step : (t : Tree) (enter : Bool) (ms : List Bool) (a : LookAround) (b : Input) → length (step t enter ms a b) ≡ position_count t
-  length-step empty enter ms a b = refl
-  length-step (one_of set) enter ms a b = refl
-  length-step (one_char ranges) enter ms a b = refl
+  pub length-step : (t : Tree) (enter : Bool) (ms : List Bool) (a : LookAround) (b : Input) →
+      length (step t enter ms a b) ≡ position_count t
   length-step (cat ts) enter ms a b = length-step_all ts enter ms a b
   length-step (alt ts) enter ms a b = length-step_each ts enter ms a b
   length-step (rep x n m) enter ms a b = length-step x (enter || is_final x ms a) ms a b
-  length-step line_start enter ms a b = refl
-  length-step line_end enter ms a b = refl
-  length-step word_edge enter ms a b = refl
-  length-step not_word_edge enter ms a b = refl
+  length-step leaf enter ms a b = refl
 
-  pub length-step_all : (ts : Trees) (enter : Bool) (ms : List Bool) (a : LookAround) (b : Input) → length (step_all ts enter ms a b) ≡ position_count_of ts
+  pub length-step_all : (ts : Trees) (enter : Bool) (ms : List Bool) (a : LookAround) (b : Input) →
+      length (step_all ts enter ms a b) ≡ position_count_of ts
   length-step_all none enter ms a b = refl
   length-step_all (more t ts) enter ms a b =
       let h = length-step t enter (take (position_count t) ms) a b in
       let k = length-step_all ts (accepts t enter (take (position_count t) ms) a) (drop (position_count t) ms) a b in
       omega (arith, h, k, length-append {A = Bool})
 
-  pub length-step_each : (ts : Trees) (enter : Bool) (ms : List Bool) (a : LookAround) (b : Input) → length (step_each ts enter ms a b) ≡ position_count_of ts
+  pub length-step_each : (ts : Trees) (enter : Bool) (ms : List Bool) (a : LookAround) (b : Input) →
+      length (step_each ts enter ms a b) ≡ position_count_of ts
   length-step_each none enter ms a b = refl
   length-step_each (more t ts) enter ms a b =
       let h = length-step t enter (take (position_count t) ms) a b in
@@ -103,7 +100,8 @@ module _ (a : ℕ → LookAround) (b : ℕ → Input) where
 
   pub is_final_cat : (t : Tree) (ts : Trees) (enter : ℕ → Bool) (i : ℕ) →
       is_final_all (more t ts) (positions a b (cat (more t ts)) enter i) (a i) ≡
-      (is_final t (positions a b t enter i) (a i) && nullable_all ts (a i)) || is_final_all ts (positions a b (cat ts) (accepts_at a b t enter) i) (a i)
+      (is_final t (positions a b t enter i) (a i) && nullable_all ts (a i)) || is_final_all ts
+      (positions a b (cat ts) (accepts_at a b t enter) i) (a i)
   is_final_cat t ts enter i =
       let A = positions a b t enter i in
       let B = positions a b (cat ts) (accepts_at a b t enter) i in
@@ -145,13 +143,15 @@ module _ (s : List ℕ) (a : ℕ → LookAround) (b : ℕ → Input) where
       accepts_at a b (cat (more t ts)) enter i ≡ accepts_at a b (cat ts) (accepts_at a b t enter) i
   accepts_at_cat t ts enter i =
       rw (is_final_cat a b t ts enter i)
-      (cat_bools (is_final t (positions a b t enter i) (a i)) (nullable_all ts (a i)) (is_final_all ts (positions a b (cat ts) (accepts_at a b t enter) i) (a i)) (enter i) (nullable t (a i)))
+      (cat_bools (is_final t (positions a b t enter i) (a i)) (nullable_all ts (a i))
+      (is_final_all ts (positions a b (cat ts) (accepts_at a b t enter) i) (a i)) (enter i) (nullable t (a i)))
 
   pub accepts_at_alt : (t : Tree) (ts : Trees) (enter : ℕ → Bool) (i : ℕ) →
       accepts_at a b (alt (more t ts)) enter i ≡ (accepts_at a b t enter i || accepts_at a b (alt ts) enter i)
   accepts_at_alt t ts enter i =
       rw (is_final_alt a b t ts enter i)
-      (alt_bools (is_final t (positions a b t enter i) (a i)) (is_final_some ts (positions a b (alt ts) enter i) (a i)) (enter i) (nullable t (a i)) (nullable_some ts (a i)))
+      (alt_bools (is_final t (positions a b t enter i) (a i)) (is_final_some ts (positions a b (alt ts) enter i) (a i))
+      (enter i) (nullable t (a i)) (nullable_some ts (a i)))
 
   -- the tree is expanded, `a` says what its assertions ask, and `b` what its sets ask
   abbrev mutual
@@ -213,7 +213,8 @@ module _ (s : List ℕ) (a : ℕ → LookAround) (b : ℕ → Input) where
   abbrev pub IsSound : Tree → Type 0
   IsSound t = (enter : ℕ → Bool) (i : ℕ) → i ≤ length s → is_final t (positions a b t enter i) (a i) ≡ true → Came t enter i
 
-  pub accepts_at_sound : (t : Tree) → Reads t → IsSound t → (enter : ℕ → Bool) (i : ℕ) → i ≤ length s → accepts_at a b t enter i ≡ true → Comes t enter i
+  pub accepts_at_sound : (t : Tree) → Reads t → IsSound t → (enter : ℕ → Bool) (i : ℕ) → i ≤ length s →
+      accepts_at a b t enter i ≡ true → Comes t enter i
   accepts_at_sound t st sound enter i le h =
       elim (or_cases (is_final t (positions a b t enter i) (a i)) (enter i && nullable t (a i)) h) [
         | inl p ↦ let c = sound enter i le p in (c.0, omega (arith, c.1), c.2, c.3)
@@ -236,8 +237,14 @@ module _ (s : List ℕ) (a : ℕ → LookAround) (b : ℕ → Input) where
         | inl p ↦ (i, omega arith, p, 0, refl)
         | inr p ↦
             let c = sound (again a b x n m enter) i le (rw (positions_rep a b x n m enter i) at p) in
-            let before = star_sound x n m sound enter room c.0 (omega (arith, c.1)) (omega (arith, c.1)) c.2 in
-            (before.0, omega (arith, before.1, c.1), before.2, suc before.3, Chain_more (MatchesSpan s x) before.3 before.0 c.0 i before.4 c.3)
+            let before = star_sound x n m sound enter room c.0 (omega (arith, c.1)) (omega (arith, c.1)) c.2 in (
+              before.0,
+              omega (arith, before.1, c.1),
+              before.2,
+              suc before.3,
+              Chain_more (MatchesSpan s x) before.3
+                  before.0 c.0 i before.4 c.3,
+            )
       ]
 
   -- the two positions of a set of characters
@@ -261,8 +268,18 @@ module _ (s : List ℕ) (a : ℕ → LookAround) (b : ℕ → Input) where
     sound (alt ts) st enter i le h = sound_some ts st enter i le h
     sound (rep x n m) st enter i le h =
         let c = sound x st.2 (again a b x n m enter) i le (rw (positions_rep a b x n m enter i) at h) in
-        let before = star_sound x n m (sound x st.2) enter (suc c.0) c.0 (omega arith) (omega (arith, c.1)) c.2 in
-        (before.0, omega (arith, before.1, c.1), before.2, (suc before.3, omega (arith, st.0), rw st.1 tt, Chain_more (MatchesSpan s x) before.3 before.0 c.0 i before.4 c.3))
+        let before = star_sound x n m (sound x st.2) enter (suc c.0) c.0 (omega arith) (omega (arith, c.1)) c.2 in (
+          before.0,
+          omega (arith, before.1, c.1),
+          before.2,
+          (
+            suc before.3,
+            omega (arith, st.0),
+            rw st.1 tt,
+            Chain_more (MatchesSpan s x) before.3 before.0 c.0 i before.4
+                c.3,
+          ),
+        )
     sound line_start st enter i le h = (cc)
     sound line_end st enter i le h = (cc)
     sound word_edge st enter i le h = (cc)
@@ -290,7 +307,8 @@ module _ (s : List ℕ) (a : ℕ → LookAround) (b : ℕ → Input) where
           | inr p ↦ let c = sound_some ts st.1 enter i le p in (c.0, c.1, c.2, inr c.3)
         ]
 
-  nullable_accepts : (t : Tree) (enter : ℕ → Bool) (k i : ℕ) → enter k ≡ true → k ≡ i → nullable t (a i) ≡ true → accepts_at a b t enter i ≡ true
+  nullable_accepts : (t : Tree) (enter : ℕ → Bool) (k i : ℕ) → enter k ≡ true → k ≡ i → nullable t (a i) ≡ true →
+      accepts_at a b t enter i ≡ true
   nullable_accepts t enter k i e same h =
       let P : ℕ → Type 0 = λ x. enter x ≡ true in
       or_right (is_final t (positions a b t enter i) (a i)) _ (and_from (enter i) (nullable t (a i)) (subst P same e) h)
@@ -298,7 +316,8 @@ module _ (s : List ℕ) (a : ℕ → LookAround) (b : ℕ → Input) where
   abbrev pub IsComplete : Tree → Type 0
   IsComplete t = (enter : ℕ → Bool) (k i : ℕ) → enter k ≡ true → MatchesSpan s t k i → accepts_at a b t enter i ≡ true
 
-  again_round : (x : Tree) (n : ℕ) (m : Option ℕ) (enter : ℕ → Bool) (i : ℕ) → accepts_at a b x (again a b x n m enter) i ≡ true → again a b x n m enter i ≡ true
+  again_round : (x : Tree) (n : ℕ) (m : Option ℕ) (enter : ℕ → Bool) (i : ℕ) → accepts_at a b x (again a b x n m enter)
+      i ≡ true → again a b x n m enter i ≡ true
   unfolding again
   again_round x n m enter i h =
       elim (or_cases (is_final x (positions a b x (again a b x n m enter) i) (a i)) (again a b x n m enter i && nullable x (a i)) h) [
@@ -311,7 +330,8 @@ module _ (s : List ℕ) (a : ℕ → LookAround) (b : ℕ → Input) where
   again_from x n m enter k e = or_left (enter k) _ e
 
   -- if the body accepts, so does the loop
-  round_accepts : (x : Tree) (n : ℕ) (m : Option ℕ) (enter : ℕ → Bool) (i : ℕ) → accepts_at a b x (again a b x n m enter) i ≡ true → accepts_at a b (rep x n m) enter i ≡ true
+  round_accepts : (x : Tree) (n : ℕ) (m : Option ℕ) (enter : ℕ → Bool) (i : ℕ) →
+      accepts_at a b x (again a b x n m enter) i ≡ true → accepts_at a b (rep x n m) enter i ≡ true
   unfolding again
   round_accepts x n m enter i h =
       let accepting = is_final x (positions a b (rep x n m) enter i) (a i) in
@@ -347,7 +367,8 @@ module _ (s : List ℕ) (a : ℕ → LookAround) (b : ℕ → Input) where
         subst P (sym h.2) (or_left (enter k && member set (b k).byte) _ (and_from (enter k) _ e (ap (member set) (st k) ∙ h.1)))
     complete (one_char ranges) st enter k i e h =
         let taken = (taken_matches st.0 s ranges st.1 enter i (char_span s ranges k i h).1).1 (k, e, h) in
-        or_left (slice_index_or (positions a b (one_char ranges) enter i) 1 false) _ (ap (λ ms. slice_index_or ms 1 false) (char_positions ranges st.0 st.2 enter i) ∙ taken)
+        or_left (slice_index_or (positions a b (one_char ranges) enter i) 1 false) _
+        (ap (λ ms. slice_index_or ms 1 false) (char_positions ranges st.0 st.2 enter i) ∙ taken)
     complete (cat ts) st enter k i e h = complete_all ts st enter k i e h
     complete (alt ts) st enter k i e h = complete_some ts st enter k i e h
     complete (rep x n m) st enter k i e h =
@@ -381,7 +402,8 @@ and-true false = refl
 -- the look-around of a tree says what the assertions of its subtrees ask
 module _ (t : Tree) (s : List ℕ) where
   abbrev Asked : LookBehind → Type 0
-  Asked bits = (bits.first ≡ true → (look_behind t).first ≡ true) × (bits.word ≡ true → (look_behind t).word ≡ true) × (bits.char ≡ true → (look_behind t).char ≡ true)
+  Asked bits = (bits.first ≡ true → (look_behind t).first ≡ true) × (bits.word ≡ true → (look_behind t).word ≡ true) ×
+      (bits.char ≡ true → (look_behind t).char ≡ true)
 
   edge_reads : (look_behind t).word ≡ true → (i : ℕ) → (look_around t s i).edge ≡ is_at_word_boundary s i
   edge_reads w i = rw w (and-true (is_at_word_boundary s i))
@@ -410,7 +432,8 @@ module _ (t : Tree) (s : List ℕ) where
     reads word_edge st asked divide = edge_reads (asked.1 refl)
     reads not_word_edge st asked divide = edge_reads (asked.1 refl)
 
-    all_read : (us : Trees) → AreExpanded us → Asked (look_behind_of us) → Divide (cuts_of t) (all_char_ranges us) → AllRead s (look_around t s) (input_at t s) us
+    all_read : (us : Trees) → AreExpanded us → Asked (look_behind_of us) → Divide (cuts_of t) (all_char_ranges us) →
+        AllRead s (look_around t s) (input_at t s) us
     all_read none st asked divide = tt
     all_read (more u us) st asked divide =
         let both = (divide_append (cuts_of t) (char_ranges u) (all_char_ranges us)).0 divide in (

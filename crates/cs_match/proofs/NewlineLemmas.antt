@@ -10,7 +10,9 @@ use Rattle.cs_match.proofs.LinesLemmas.{HasNoNewline-searched}
 pub part_nowhere : (hay : List ℕ) → Nowhere (Passes (is_byte 10) hay) 0 (length hay) → HasNoNewline hay
 part_nowhere hay h = HasNoNewline-searched hay (λ k low e. h k (omega arith) low e)
 
-pub next_none : (block : List ℕ) (from : ℕ) → Nowhere (Passes (is_byte 10) (take (length block - from) (drop from block))) 0 (length (take (length block - from) (drop from block))) → HasNoNewline (drop from block)
+pub next_none : (block : List ℕ) (from : ℕ) →
+    Nowhere (Passes (is_byte 10) (take (length block - from) (drop from block))) 0
+    (length (take (length block - from) (drop from block))) → HasNoNewline (drop from block)
 next_none block from h = subst HasNoNewline (take_rest block from) (part_nowhere _ h)
 
 module _ (hay : List ℕ) (at : ℕ) (low : at < length hay) (before : Nowhere (Passes (is_byte 10) hay) 0 at) where
@@ -21,33 +23,46 @@ module _ (hay : List ℕ) (at : ℕ) (low : at < length hay) (before : Nowhere (
       before k (omega arith) low-k (subst (λ b. nat_eq b 10 ≡ true) (get_or-take at hay k 0 low-k) e))
 
   pub here : Passes (is_byte 10) hay at → drop at hay ≡ newline ∷ drop (at + 1) hay
-  here e = drop-cons hay at 0 low ∙ ap (λ b. b ∷ drop (suc at) hay) (eqb-true (get_or hay at 0) 10 e) ∙ ap (λ i. newline ∷ drop i hay) (sym (add-one at))
+  here e = drop-cons hay at 0 low ∙ ap (λ b. b ∷ drop (suc at) hay) (eqb-true (get_or hay at 0) 10 e)
+      ∙ ap (λ i. newline ∷ drop i hay) (sym (add-one at))
 
 -- no newline follows the last one
 pub part_after : (hay : List ℕ) (at : ℕ) → NoneAfter (Passes (is_byte 10) hay) 0 (length hay) at → HasNoNewline (drop (at + 1) hay)
 part_after hay at last =
     HasNoNewline-searched (drop (at + 1) hay) (λ k low e.
-    last.after (at + 1 + k) (omega arith) (omega (arith, low, length-drop (at + 1) hay)) (subst (λ b. nat_eq b 10 ≡ true) (get_or-drop (at + 1) hay k 0) e))
+    last.after (at + 1 + k) (omega arith) (omega (arith, low, length-drop (at + 1) hay))
+    (subst (λ b. nat_eq b 10 ≡ true) (get_or-drop (at + 1) hay k 0) e))
 
 module _ (block : List ℕ) (from at : ℕ) where
-  pub next_some : NoneBefore (Passes (is_byte 10) (take (length block - from) (drop from block))) 0 (length (take (length block - from) (drop from block))) at × Passes (is_byte 10) (take (length block - from) (drop from block)) at → (from ≤ from + at) × (from + at < length block) × HasNoNewline (take (from + at - from) (drop from block)) × (drop (from + at) block ≡ newline ∷ drop (from + at + 1) block)
-  next_some h = next (subst (λ (hay : List ℕ). NoneBefore (Passes (is_byte 10) hay) 0 (length hay) at × Passes (is_byte 10) hay at) (take_rest block from) h)
+  pub next_some : NoneBefore (Passes (is_byte 10) (take (length block - from) (drop from block))) 0
+      (length (take (length block - from) (drop from block))) at × Passes (is_byte 10)
+      (take (length block - from) (drop from block)) at → (from ≤ from + at) × (from + at < length block) × HasNoNewline
+      (take (from + at - from) (drop from block)) × (drop (from + at) block ≡ newline ∷ drop (from + at + 1) block)
+  next_some h = next (subst (λ (hay : List ℕ). NoneBefore (Passes (is_byte 10) hay) 0 (length hay) at × Passes
+      (is_byte 10) hay at) (take_rest block from) h)
     where
-      next : NoneBefore (Passes (is_byte 10) (drop from block)) 0 (length (drop from block)) at × Passes (is_byte 10) (drop from block) at → (from ≤ from + at) × (from + at < length block) × HasNoNewline (take (from + at - from) (drop from block)) × (drop (from + at) block ≡ newline ∷ drop (from + at + 1) block)
+      next : NoneBefore (Passes (is_byte 10) (drop from block)) 0 (length (drop from block)) at × Passes (is_byte 10)
+          (drop from block) at → (from ≤ from + at) × (from + at < length block) × HasNoNewline
+          (take (from + at - from) (drop from block)) × (drop (from + at) block ≡ newline ∷ drop (from + at + 1) block)
       next h =
           let low : at < length (drop from block) = h.0.high in
           let size = length-drop from block in (
             omega arith,
             omega arith,
             subst (λ n. HasNoNewline (take n (drop from block))) (omega arith) (part_before (drop from block) at low h.0.before),
-            sym (drop-drop at from block) ∙ here (drop from block) at low h.0.before h.1 ∙ ap (λ r. newline ∷ r) (drop-drop (at + 1) from block ∙ ap (λ i. drop i block) (sym (add_assoc from at 1))),
+            sym (drop-drop at from block) ∙ here (drop from block) at low h.0.before h.1
+                ∙ ap (λ r. newline ∷ r) (drop-drop (at + 1) from block
+                ∙ ap (λ i. drop i block) (sym (add_assoc from at 1))),
           )
 
 -- a newline that a search of a part of the block finds
-pub newline_within : (block : List ℕ) (from size at : ℕ) → at < length (take size (drop from block)) → Passes (is_byte 10) (take size (drop from block)) at → drop (from + at) block ≡ newline ∷ drop (from + at + 1) block
+pub newline_within : (block : List ℕ) (from size at : ℕ) → at < length (take size (drop from block)) →
+    Passes (is_byte 10) (take size (drop from block)) at → drop (from + at) block ≡ newline ∷ drop (from + at + 1) block
 newline_within block from size at low e =
     let cut = length-take size (drop from block) in
     let size_of = length-drop from block in
-    let byte : get_or (take size (drop from block)) at 0 ≡ get_or block (from + at) 0 = get_or-take size (drop from block) at 0 (omega arith) ∙ get_or-drop from block at 0 in
+    let byte : get_or (take size (drop from block)) at 0 ≡ get_or block (from + at) 0 =
+    get_or-take size (drop from block) at 0 (omega arith) ∙ get_or-drop from block at 0 in
     let ten : get_or block (from + at) 0 ≡ 10 = sym byte ∙ eqb-true (get_or (take size (drop from block)) at 0) 10 e in
-    drop-cons block (from + at) 0 (omega arith) ∙ ap (λ b. b ∷ drop (suc (from + at)) block) ten ∙ ap (λ i. newline ∷ drop i block) (sym (add-one (from + at)))
+    drop-cons block (from + at) 0 (omega arith) ∙ ap (λ b. b ∷ drop (suc (from + at)) block) ten
+    ∙ ap (λ i. newline ∷ drop i block) (sym (add-one (from + at)))

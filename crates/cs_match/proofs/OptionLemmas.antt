@@ -46,11 +46,13 @@ ended-some n (suc j) ms zero lt h =
     rw (ap (λ (k : ℕ). get_or ms k false) start ∙ h) refl
 ended-some n (suc j) ms (suc i) lt h =
     let index : suc n + (i * suc n + n) ≡ suc i * suc n + n = omega arith in
-    ap (λ x. get_or ms n false || x) (ended-some n j (drop (suc n) ms) i (omega (arith, lt)) (get_or-drop (suc n) ms (i * suc n + n) false ∙ ap (λ (k : ℕ). get_or ms k false) index ∙ h))
+    ap (λ x. get_or ms n false || x) (ended-some n j (drop (suc n) ms) i (omega (arith, lt))
+    (get_or-drop (suc n) ms (i * suc n + n) false ∙ ap (λ (k : ℕ). get_or ms k false) index ∙ h))
     ∙ or-true _
 
 last_of : (n : ℕ) (ms : List Bool) (a : LookAround) → is_final (optional_run (suc n)) (take (suc n) ms) a ≡ get_or ms n false
-last_of n ms a = is_final_optional (suc n) (take (suc n) ms) a ∙ is_final_run n (take (suc n) ms) a ∙ get_or-take (suc n) ms n false (omega arith)
+last_of n ms a = is_final_optional (suc n) (take (suc n) ms) a ∙ is_final_run n (take (suc n) ms) a
+    ∙ get_or-take (suc n) ms n false (omega arith)
 
 is_final_options : (n count : ℕ) (ms : List Bool) (a : LookAround) → is_final (options (suc n) count) ms a ≡ ended n count ms
 is_final_options n zero ms a = refl
@@ -58,23 +60,29 @@ is_final_options n (suc count) ms a =
     let t = optional_run (suc n) in
     let ts = copies count t none in
     ap (λ (k : ℕ). (is_final t (take k ms) a && nullable_all ts a) || is_final_all ts (drop k ms) a) (position_count_optional (suc n))
-    ∙ ap₂ (λ x y. x || y) (ap₂ (λ x y. x && y) (last_of n ms a) (nullable_options (suc n) count a) ∙ and-true _) (is_final_options n count (drop (suc n) ms) a)
+    ∙ ap₂ (λ x y. x || y) (ap₂ (λ x y. x && y) (last_of n ms a) (nullable_options (suc n) count a) ∙ and-true _)
+    (is_final_options n count (drop (suc n) ms) a)
 
-accepts_options : (n count : ℕ) (enter : Bool) (ms : List Bool) (a : LookAround) → accepts (options (suc n) count) enter ms a ≡ (ended n count ms || enter)
-accepts_options n count enter ms a = rw (is_final_options n count ms a, nullable_options (suc n) count a) (ap (λ x. ended n count ms || x) (and-true enter))
+accepts_options : (n count : ℕ) (enter : Bool) (ms : List Bool) (a : LookAround) → accepts (options (suc n) count) enter
+    ms a ≡ (ended n count ms || enter)
+accepts_options n count enter ms a = rw (is_final_options n count ms a, nullable_options (suc n) count a)
+    (ap (λ x. ended n count ms || x) (and-true enter))
 
 -- the entries of the first option, and of the others
 entered_options : (n count : ℕ) (enter : Bool) (ms : List Bool) (a : LookAround) → suc n ≤ length ms →
-    entered (options (suc n) (suc count)) enter ms a ≡ (enter ∷ take n ms) ++ entered (options (suc n) count) (get_or ms n false || enter) (drop (suc n) ms) a
+    entered (options (suc n) (suc count)) enter ms a ≡ (enter ∷ take n ms) ++ entered (options (suc n) count)
+    (get_or ms n false || enter) (drop (suc n) ms) a
 entered_options n count enter ms a room =
     let t = optional_run (suc n) in
     let ts = copies count t none in
     let own : entered t enter (take (suc n) ms) a ≡ enter ∷ take n ms =
-    entered_optional (suc n) enter (take (suc n) ms) a ∙ entered_run n enter (take (suc n) ms) a (omega (arith, room, length-take (suc n) ms))
+    entered_optional (suc n) enter (take (suc n) ms) a ∙ entered_run n enter (take (suc n) ms) a
+    (omega (arith, room, length-take (suc n) ms))
     ∙ ap (λ xs. enter ∷ xs) (take-take n (suc n) ms (omega arith)) in
     let next : accepts t enter (take (suc n) ms) a ≡ (get_or ms n false || enter) =
     ap₂ (λ x y. x || (enter && y)) (last_of n ms a) (nullable_optional (suc n) a) ∙ ap (λ x. get_or ms n false || x) (and-true enter) in
-    ap (λ (k : ℕ). entered t enter (take k ms) a ++ entered_all ts (accepts t enter (take k ms) a) (drop k ms) a) (position_count_optional (suc n))
+    ap (λ (k : ℕ). entered t enter (take k ms) a ++ entered_all ts (accepts t enter (take k ms) a) (drop k ms) a)
+    (position_count_optional (suc n))
     ∙ ap₂ (λ xs e. xs ++ entered_all ts e (drop (suc n) ms) a) own next
 
 entered_first : (n count j : ℕ) (enter : Bool) (ms : List Bool) (a : LookAround) → j < count → count * suc n ≤ length ms →
@@ -91,7 +99,8 @@ entered_first n (suc count) (suc j) enter ms a lt room =
     ap (λ xs. get_or xs (suc j * suc n) false) (entered_options n count enter ms a (omega (arith, room)))
     ∙ get_or-append_right (enter ∷ take n ms) others (suc n) (suc j * suc n) false size (omega arith)
     ∙ ap (λ (k : ℕ). get_or others k false) index
-    ∙ entered_first n count j (get_or ms n false || enter) (drop (suc n) ms) a (omega (arith, lt)) (omega (arith, room, length-drop (suc n) ms))
+    ∙ entered_first n count j (get_or ms n false || enter) (drop (suc n) ms) a (omega (arith, lt))
+    (omega (arith, room, length-drop (suc n) ms))
     ∙ by (ended n j (drop (suc n) ms)) (get_or ms n false) enter
   where
     by : (x y e : Bool) → x || (y || e) ≡ (y || x) || e
@@ -107,7 +116,8 @@ entered_other n (suc count) zero r enter ms a low lt room =
     let back : r ≡ 0 * suc n + r = omega arith in
     ap (λ (k : ℕ). get_or (entered (options (suc n) (suc count)) enter ms a) k false) start
     ∙ ap (λ xs. get_or xs (suc r) false) (entered_options n count enter ms a (omega (arith, room)))
-    ∙ get_or_append_left (enter ∷ take n ms) others false (suc r) (omega (arith, length-take n ms, room, low)) ∙ get_or-take n ms r false low
+    ∙ get_or_append_left (enter ∷ take n ms) others false (suc r) (omega (arith, length-take n ms, room, low))
+    ∙ get_or-take n ms r false low
     ∙ ap (λ (k : ℕ). get_or ms k false) back
 entered_other n (suc count) (suc j) r enter ms a low lt room =
     let others = entered (options (suc n) count) (get_or ms n false || enter) (drop (suc n) ms) a in
@@ -117,7 +127,8 @@ entered_other n (suc count) (suc j) r enter ms a low lt room =
     ap (λ xs. get_or xs (suc j * suc n + suc r) false) (entered_options n count enter ms a (omega (arith, room)))
     ∙ get_or-append_right (enter ∷ take n ms) others (suc n) (suc j * suc n + suc r) false size (omega arith)
     ∙ ap (λ (k : ℕ). get_or others k false) index
-    ∙ entered_other n count j r (get_or ms n false || enter) (drop (suc n) ms) a low (omega (arith, lt)) (omega (arith, room, length-drop (suc n) ms))
+    ∙ entered_other n count j r (get_or ms n false || enter) (drop (suc n) ms) a low (omega (arith, lt))
+    (omega (arith, room, length-drop (suc n) ms))
     ∙ get_or-drop (suc n) ms (j * suc n + r) false ∙ ap (λ (k : ℕ). get_or ms k false) back
 
 -- where the options of one or two positions are
@@ -167,7 +178,8 @@ option_of (suc zero) count x h lt = elim (cases_eq (x % 2) 0) [
 option_of (suc (suc m)) count x h lt = absurd (omega (arith, h))
 
 -- `last` is the first of the last positions of options that is in the set, or the end of the row
-module _ (m p count last lasts : ℕ) (ms : List Bool) (short : m < 2) (bits : (k : ℕ) → eqb (bit_at lasts (k % 64)) 1 ≡ eqb ((p + suc m - 1 + k) % suc m) 0)
+module _ (m p count last lasts : ℕ) (ms : List Bool) (short : m < 2) (bits : (k : ℕ) → eqb (bit_at lasts (k % 64)) 1
+    ≡ eqb ((p + suc m - 1 + k) % suc m) 0)
     (found : last < p + count * suc m → is_selected lasts p (p + count * suc m) last && get_or ms last false ≡ true)
     (first : (k : ℕ) → k < last → is_selected lasts p (p + count * suc m) k && get_or ms k false ≡ false) where
   is-last : (i : ℕ) → i < count → is_selected lasts p (p + count * suc m) (p + (i * suc m + m)) ≡ true
@@ -193,22 +205,26 @@ module _ (m p count last lasts : ℕ) (ms : List Bool) (short : m < 2) (bits : (
         ∙ sym (le-leb (suc last) (p + j * suc m) (omega (arith, lt)))
     | inr ge ↦
         ended-none m j (drop p ms)
-        (λ i lt. get_or-drop p ms (i * suc m + m) false ∙ before-last i (omega (arith, lt, le)) (omega (arith, ge, last_within m i j short lt)))
+        (λ i lt. get_or-drop p ms (i * suc m + m) false
+        ∙ before-last i (omega (arith, lt, le)) (omega (arith, ge, last_within m i j short lt)))
         ∙ sym (lt-leb (suc last) (p + j * suc m) (omega (arith, ge)))
   ]
 
   pub is_final_row : (a : LookAround) → leb (suc last) (p + count * suc m) ≡ is_final (options (suc m) count) (drop p ms) a
   is_final_row a = sym (is_final_options m count (drop p ms) a ∙ ended-at count (omega arith))
 
-  pub accepts_row : (enter : Bool) (a : LookAround) → (leb (suc last) (p + count * suc m) || enter) ≡ accepts (options (suc m) count) enter (drop p ms) a
+  pub accepts_row : (enter : Bool) (a : LookAround) → (leb (suc last) (p + count * suc m) || enter)
+      ≡ accepts (options (suc m) count) enter (drop p ms) a
   accepts_row enter a = sym (accepts_options m count enter (drop p ms) a ∙ ap (λ x. x || enter) (ended-at count (omega arith)))
 
   -- the first positions of options are added from `from` on
-  module _ (enter : Bool) (from firsts : ℕ) (old new put : List Bool) (some : 0 < count) (room : p + count * suc m ≤ length ms) (shifted : AreShifted p ms old)
+  module _ (enter : Bool) (from firsts : ℕ) (old new put : List Bool) (some : 0 < count)
+      (room : p + count * suc m ≤ length ms) (shifted : AreShifted p ms old)
       (at-once : enter ≡ true → from ≡ p) (after : enter ≡ false → from ≡ last + 1)
       (first-bits : (k : ℕ) → eqb (bit_at firsts (k % 64)) 1 ≡ eqb ((p + k) % suc m) 0)
       (is-put : put ≡ take p old ++ enter ∷ drop (p + 1) old) (size : length new ≡ length put)
-      (each : (k : ℕ) → k < length put → get_or new k false ≡ (if is_selected firsts from (p + count * suc m) k then true else get_or put k false)) where
+      (each : (k : ℕ) → k < length put → get_or new k false
+      ≡ (if is_selected firsts from (p + count * suc m) k then true else get_or put k false)) where
     abbrev end : ℕ
     end = p + count * suc m
 
@@ -250,17 +266,28 @@ module _ (m p count last lasts : ℕ) (ms : List Bool) (short : m < 2) (bits : (
       where
         is : is_selected firsts from end (p + j * suc m) ≡ leb from (p + j * suc m)
         is =
-            rw (le-leb (suc (p + j * suc m)) end (omega (arith, last_within m j count short lt)), first-bits (p + j * suc m) ∙ eq-eqb _ 0 (first_offset m p j short))
+            rw (
+              le-leb (suc (p + j * suc m)) end (omega (arith, last_within m j count short lt)),
+              first-bits (p + j * suc m) ∙ eq-eqb _ 0 (first_offset m p j short),
+            )
             (and-true _ ∙ and-true _)
 
-        by : (e : Bool) → enter ≡ e → (if leb from (p + j * suc m) then true else get_or put (p + j * suc m) false) ≡ (leb (suc last) (p + j * suc m) || e)
+        by : (e : Bool) → enter ≡ e → (if leb from (p + j * suc m) then true else get_or put (p + j * suc m) false)
+            ≡ (leb (suc last) (p + j * suc m) || e)
         by true e = rw (le-leb from (p + j * suc m) (omega (arith, at-once e))) (sym (or-true _))
         by false e =
             let start : from ≡ suc last = omega (arith, after e) in
             elim (cases_lt last (p + j * suc m)) [
-              | inl above ↦ rw (le-leb from (p + j * suc m) (omega (arith, start, above)), le-leb (suc last) (p + j * suc m) (omega (arith, above))) refl
+              | inl above ↦ rw (
+                le-leb from (p + j * suc m) (omega (arith, start, above)),
+                le-leb (suc last) (p + j * suc m) (omega (arith, above)),
+              ) refl
               | inr below ↦
-                  rw (lt-leb from (p + j * suc m) (omega (arith, start, below)), lt-leb (suc last) (p + j * suc m) (omega (arith, below))) (no-later j lt below e)
+                  rw (
+                    lt-leb from (p + j * suc m) (omega (arith, start, below)),
+                    lt-leb (suc last) (p + j * suc m)
+                        (omega (arith, below)),
+                  ) (no-later j lt below e)
             ]
 
     other-entry : (j r : ℕ) → j < count → r < m → entry (p + (j * suc m + suc r)) ≡ get_or ms (p + (j * suc m + r)) false
@@ -284,8 +311,10 @@ module _ (m p count last lasts : ℕ) (ms : List Bool) (short : m < 2) (bits : (
           | inr ge ↦ omega (arith, after e, ge)
         ]
 
-    pub entered_row : (a : LookAround) → new ≡ take p old ++ (entered (options (suc m) count) enter (drop p ms) a ++ drop (p + position_count (options (suc m) count)) old)
-    entered_row a = ext_get_or false new _ (size ∙ long ∙ whole) (λ k h. each k (omega (arith, h, size)) ∙ by k (omega (arith, h, size, long)))
+    pub entered_row : (a : LookAround) → new ≡ take p old
+        ++ (entered (options (suc m) count) enter (drop p ms) a ++ drop (p + position_count (options (suc m) count)) old)
+    entered_row a = ext_get_or false new _ (size ∙ long ∙ whole) (λ k h. each k (omega (arith, h, size))
+        ∙ by k (omega (arith, h, size, long)))
       where
         n : ℕ
         n = position_count (options (suc m) count)
@@ -303,13 +332,24 @@ module _ (m p count last lasts : ℕ) (ms : List Bool) (short : m < 2) (bits : (
         length-first = omega (arith, length-take p old, shifted.long, room)
 
         whole : length old ≡ length (take p old ++ (es ++ drop (p + n) old))
-        whole = omega (arith, length-append (take p old) (es ++ drop (p + n) old), length-append es (drop (p + n) old), length-first, length-es, length-drop (p + n) old, shifted.long, room, size-n)
+        whole = omega (
+          arith,
+          length-append (take p old) (es ++ drop (p + n) old),
+          length-append es (drop (p + n) old),
+          length-first,
+          length-es,
+          length-drop (p + n) old,
+          shifted.long,
+          room,
+          size-n,
+        )
 
         by : (k : ℕ) → k < length old → entry k ≡ get_or (take p old ++ (es ++ drop (p + n) old)) k false
         by k h = elim (cases_lt k p) [
           | inl low ↦
               out-of-row k (none-before firsts from end k (omega (arith, low, not-before))) (λ same. omega (arith, low, same))
-              ∙ sym (get_or_append_left (take p old) (es ++ drop (p + n) old) false k (omega (arith, length-first, low)) ∙ get_or-take p old k false low)
+              ∙ sym (get_or_append_left (take p old) (es ++ drop (p + n) old) false k (omega (arith, length-first, low))
+              ∙ get_or-take p old k false low)
           | inr high ↦
               let rest : get_or (take p old ++ (es ++ drop (p + n) old)) k false ≡ get_or (es ++ drop (p + n) old) (k - p) false =
               get_or-append_right (take p old) (es ++ drop (p + n) old) p k false length-first high in
@@ -321,40 +361,53 @@ module _ (m p count last lasts : ℕ) (ms : List Bool) (short : m < 2) (bits : (
                       | inl start ↦
                           let index : p + start.0 * suc m ≡ k = omega (arith, start.2, high) in
                           ap entry (sym index) ∙ first-entry start.0 start.1
-                          ∙ sym (there ∙ ap (λ (i : ℕ). get_or es i false) start.2 ∙ entered_first m count start.0 enter (drop p ms) a start.1 space)
+                          ∙ sym (there ∙ ap (λ (i : ℕ). get_or es i false) start.2
+                          ∙ entered_first m count start.0 enter (drop p ms) a start.1 space)
                       | inr other ↦
                           let index : p + (other.0 * suc m + suc other.1) ≡ k = omega (arith, other.4, high) in
-                          ap entry (sym index) ∙ other-entry other.0 other.1 other.2 other.3 ∙ sym (get_or-drop p ms (other.0 * suc m + other.1) false)
-                          ∙ sym (there ∙ ap (λ (i : ℕ). get_or es i false) other.4 ∙ entered_other m count other.0 other.1 enter (drop p ms) a other.3 other.2 space)
+                          ap entry (sym index) ∙ other-entry other.0 other.1 other.2 other.3
+                          ∙ sym (get_or-drop p ms (other.0 * suc m + other.1) false)
+                          ∙ sym (there ∙ ap (λ (i : ℕ). get_or es i false) other.4
+                          ∙ entered_other m count other.0 other.1 enter (drop p ms) a other.3 other.2 space)
                     ]
                 | inr past ↦
                     let far : p + n + (k - p - n) ≡ k = omega (arith, past, high) in
-                    out-of-row k (none-after firsts from end k (omega (arith, past, size-n))) (λ same. omega (arith, past, same, size-n, some, fewer m 1 count short some))
-                    ∙ sym (rest ∙ get_or-append_right es (drop (p + n) old) n (k - p) false length-es past ∙ get_or-drop (p + n) old (k - p - n) false ∙ ap (λ (i : ℕ). get_or old i false) far)
+                    out-of-row k (none-after firsts from end k (omega (arith, past, size-n)))
+                    (λ same. omega (arith, past, same, size-n, some, fewer m 1 count short some))
+                    ∙ sym (rest ∙ get_or-append_right es (drop (p + n) old) n (k - p) false length-es past
+                    ∙ get_or-drop (p + n) old (k - p - n) false ∙ ap (λ (i : ℕ). get_or old i false) far)
               ]
         ]
 
 -- the same for options of one or two positions
-pub is_final_many : (n p count last lasts : ℕ) (ms : List Bool) → 0 < n → n ≤ 2 → ((k : ℕ) → eqb (bit_at lasts (k % 64)) 1 ≡ eqb ((p + n - 1 + k) % n) 0) →
+pub is_final_many : (n p count last lasts : ℕ) (ms : List Bool) → 0 < n → n ≤ 2 →
+    ((k : ℕ) → eqb (bit_at lasts (k % 64)) 1 ≡ eqb ((p + n - 1 + k) % n) 0) →
     (last < p + count * n → is_selected lasts p (p + count * n) last && get_or ms last false ≡ true) →
     ((k : ℕ) → k < last → is_selected lasts p (p + count * n) k && get_or ms k false ≡ false) → (a : LookAround) →
     leb (suc last) (p + count * n) ≡ is_final (options n count) (drop p ms) a
 is_final_many zero p count last lasts ms some short bits found first a = absurd (omega (arith, some))
-is_final_many (suc m) p count last lasts ms some short bits found first a = is_final_row m p count last lasts ms (omega (arith, short)) bits found first a
+is_final_many (suc m) p count last lasts ms some short bits found first a = is_final_row m p count last lasts ms
+    (omega (arith, short)) bits found first a
 
-pub accepts_many : (n p count last lasts : ℕ) (ms : List Bool) → 0 < n → n ≤ 2 → ((k : ℕ) → eqb (bit_at lasts (k % 64)) 1 ≡ eqb ((p + n - 1 + k) % n) 0) →
+pub accepts_many : (n p count last lasts : ℕ) (ms : List Bool) → 0 < n → n ≤ 2 →
+    ((k : ℕ) → eqb (bit_at lasts (k % 64)) 1 ≡ eqb ((p + n - 1 + k) % n) 0) →
     (last < p + count * n → is_selected lasts p (p + count * n) last && get_or ms last false ≡ true) →
     ((k : ℕ) → k < last → is_selected lasts p (p + count * n) k && get_or ms k false ≡ false) → (enter : Bool) (a : LookAround) →
     (leb (suc last) (p + count * n) || enter) ≡ accepts (options n count) enter (drop p ms) a
 accepts_many zero p count last lasts ms some short bits found first enter a = absurd (omega (arith, some))
-accepts_many (suc m) p count last lasts ms some short bits found first enter a = accepts_row m p count last lasts ms (omega (arith, short)) bits found first enter a
+accepts_many (suc m) p count last lasts ms some short bits found first enter a = accepts_row m p count last lasts ms
+    (omega (arith, short)) bits found first enter a
 
-pub entered_many : (n p count last lasts : ℕ) (ms : List Bool) → 0 < n → n ≤ 2 → ((k : ℕ) → eqb (bit_at lasts (k % 64)) 1 ≡ eqb ((p + n - 1 + k) % n) 0) →
+pub entered_many : (n p count last lasts : ℕ) (ms : List Bool) → 0 < n → n ≤ 2 →
+    ((k : ℕ) → eqb (bit_at lasts (k % 64)) 1 ≡ eqb ((p + n - 1 + k) % n) 0) →
     (last < p + count * n → is_selected lasts p (p + count * n) last && get_or ms last false ≡ true) →
-    ((k : ℕ) → k < last → is_selected lasts p (p + count * n) k && get_or ms k false ≡ false) → (enter : Bool) (from firsts : ℕ) (old new put : List Bool) →
+    ((k : ℕ) → k < last → is_selected lasts p (p + count * n) k && get_or ms k false ≡ false) →
+    (enter : Bool) (from firsts : ℕ) (old new put : List Bool) →
     0 < count → p + count * n ≤ length ms → AreShifted p ms old → (enter ≡ true → from ≡ p) → (enter ≡ false → from ≡ last + 1) →
-    ((k : ℕ) → eqb (bit_at firsts (k % 64)) 1 ≡ eqb ((p + k) % n) 0) → put ≡ take p old ++ enter ∷ drop (p + 1) old → length new ≡ length put →
-    ((k : ℕ) → k < length put → get_or new k false ≡ (if is_selected firsts from (p + count * n) k then true else get_or put k false)) → (a : LookAround) →
+    ((k : ℕ) → eqb (bit_at firsts (k % 64)) 1 ≡ eqb ((p + k) % n) 0) → put ≡ take p old ++ enter ∷ drop (p + 1) old →
+    length new ≡ length put →
+    ((k : ℕ) → k < length put → get_or new k false
+    ≡ (if is_selected firsts from (p + count * n) k then true else get_or put k false)) → (a : LookAround) →
     new ≡ take p old ++ (entered (options n count) enter (drop p ms) a ++ drop (p + position_count (options n count)) old)
 entered_many zero p count last lasts ms some short = absurd (omega (arith, some))
 entered_many (suc m) p count last lasts ms some short = entered_row m p count last lasts ms (omega (arith, short))

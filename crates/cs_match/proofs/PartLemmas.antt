@@ -54,7 +54,17 @@ pub shapes_last : (xs : List Part) (x : Part) → shapes_of (xs ++ x ∷ []) ≡
 shapes_last [] x = refl
 shapes_last (y ∷ xs) x = ap (more (shape_of y)) (shapes_last xs x)
 
-pub ruleset part_rules = (shape_of-Run, shape_of-Options, shape_of-Cat, shape_of-Alt, shape_of-Rep, shape_of-LineStart, shape_of-LineEnd, shape_of-WordEdge, shape_of-NotWordEdge)
+pub ruleset part_rules = (
+  shape_of-Run,
+  shape_of-Options,
+  shape_of-Cat,
+  shape_of-Alt,
+  shape_of-Rep,
+  shape_of-LineStart,
+  shape_of-LineEnd,
+  shape_of-WordEdge,
+  shape_of-NotWordEdge,
+)
 
 pub shapes_none : (xs : List Part) → length xs ≡ 0 → shapes_of xs ≡ none
 shapes_none [] h = refl
@@ -111,21 +121,26 @@ pub sizes_last : (xs : List Part) (x : Part) → sizes_of (xs ++ x ∷ []) ≡ s
 sizes_last [] x = omega (arith, sizes_cons x [])
 sizes_last (y ∷ xs) x = sizes_cons y (xs ++ x ∷ []) ∙ omega (arith, sizes_last xs x, sizes_cons y xs)
 
-pub ruleset size_rules = (size_of-Run, size_of-Alternation, size_of-Options, size_of-Cat, size_of-Alt, size_of-Rep, size_of-LineStart, size_of-LineEnd, size_of-WordEdge, size_of-NotWordEdge)
+pub ruleset size_rules = (
+  size_of-Run,
+  size_of-Alternation,
+  size_of-Options,
+  size_of-Cat,
+  size_of-Alt,
+  size_of-Rep,
+  size_of-LineStart,
+  size_of-LineEnd,
+  size_of-WordEdge,
+  size_of-NotWordEdge,
+)
 
 -- a node has at most two positions
 mutual
   few_positions : (t : Tree) → position_count t ≤ 2 * nodes t
-  few_positions empty = omega arith
-  few_positions (one_of set) = omega arith
-  few_positions (one_char ranges) = omega arith
   few_positions (cat ts) = omega (arith, few_positions_of ts)
   few_positions (alt ts) = omega (arith, few_positions_of ts)
   few_positions (rep x n m) = omega (arith, few_positions x)
-  few_positions line_start = omega arith
-  few_positions line_end = omega arith
-  few_positions word_edge = omega arith
-  few_positions not_word_edge = omega arith
+  few_positions leaf = omega arith
 
   few_positions_of : (ts : Trees) → position_count_of ts ≤ 2 * nodes_of ts
   few_positions_of none = omega arith

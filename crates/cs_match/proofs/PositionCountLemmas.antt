@@ -29,13 +29,20 @@ chosen_light x n m true e =
     let le : n ≤ m = leb-true n m e in
     let d = m - n in
     let split : n + d ≡ m = omega arith in
-    let shape : n * position_count x + d * position_count x ≡ m * position_count x = shared n d (position_count x) ∙ ap (λ k. k * position_count x) split in
+    let shape : n * position_count x + d * position_count x ≡ m * position_count x = shared n d (position_count x)
+    ∙ ap (λ k. k * position_count x) split in
     omega (arith, positions_copies n x (copies d (optional x) none), positions_copies d (optional x) none, shape)
 
-repeat_light : (x : Tree) (n : ℕ) (m : Option ℕ) (w : ℕ) → position_count x ≤ w → position_count (repeat_expansion x n m) ≤ 1 + times n m * w
+repeat_light : (x : Tree) (n : ℕ) (m : Option ℕ) (w : ℕ) → position_count x ≤ w →
+    position_count (repeat_expansion x n m) ≤ 1 + times n m * w
 repeat_light x zero None w le = omega (arith, mul_both 1 (position_count x) (times zero None) w (omega arith) le)
 repeat_light x (suc n) None w le =
-    omega (arith, positions_copies n x (more (rep x 1 None) none), mul_both (suc n) (position_count x) (times (suc n) None) w (omega arith) le)
+    omega (
+      arith,
+      positions_copies n x (more (rep x 1 None) none),
+      mul_both (suc n) (position_count x)
+          (times (suc n) None) w (omega arith) le,
+    )
 repeat_light x n (Some m) w le =
     omega (arith, chosen_light x n m (nat_le n m) refl, mul_both m (position_count x) (times n (Some m)) w (omega arith) le)
 
@@ -45,18 +52,12 @@ each_round t w = omega arith
 
 mutual
   pub positions_light : (t : Tree) → position_count (expansion t) ≤ 2 * weight t
-  positions_light empty = omega arith
-  positions_light (one_of set) = omega arith
-  positions_light (one_char ranges) = omega arith
   positions_light (cat ts) = omega (arith, all_light ts)
   positions_light (alt ts) =
       alternation_is (λ t. position_count t ≤ 2 * weight (alt ts)) (expansions ts) (omega (arith, all_light ts)) (λ set. omega arith)
   positions_light (rep x n m) =
       omega (arith, repeat_light (expansion x) n m (2 * weight x) (positions_light x), each_round (times n m) (weight x))
-  positions_light line_start = omega arith
-  positions_light line_end = omega arith
-  positions_light word_edge = omega arith
-  positions_light not_word_edge = omega arith
+  positions_light leaf = omega arith
 
   pub all_light : (ts : Trees) → position_count_of (expansions ts) ≤ 2 * weights ts
   all_light none = omega arith
@@ -85,17 +86,11 @@ repeat_few x n (Some m) w le =
 
 mutual
   pub repeats_light : (t : Tree) → repeats (expansion t) ≤ weight t
-  repeats_light empty = omega arith
-  repeats_light (one_of set) = omega arith
-  repeats_light (one_char ranges) = omega arith
   repeats_light (cat ts) = omega (arith, all_repeats_light ts)
   repeats_light (alt ts) =
       alternation_is (λ t. repeats t ≤ weight (alt ts)) (expansions ts) (omega (arith, all_repeats_light ts)) (λ set. omega arith)
   repeats_light (rep x n m) = repeat_few (expansion x) n m (weight x) (repeats_light x)
-  repeats_light line_start = omega arith
-  repeats_light line_end = omega arith
-  repeats_light word_edge = omega arith
-  repeats_light not_word_edge = omega arith
+  repeats_light leaf = omega arith
 
   pub all_repeats_light : (ts : Trees) → repeats_of (expansions ts) ≤ weights ts
   all_repeats_light none = omega arith
@@ -121,7 +116,13 @@ repeat_small : (x : Tree) (n : ℕ) (m : Option ℕ) (w : ℕ) → nodes x + 2 �
 repeat_small x zero None w le = omega (arith, mul_both 1 (nodes x + 2) (times zero None) w (omega arith) le)
 repeat_small x (suc n) None w le =
     let fewer : n * nodes x ≤ n * (nodes x + 2) = mul_both n (nodes x) n (nodes x + 2) (omega arith) (omega arith) in
-    omega (arith, nodes_copies n x (more (rep x 1 None) none), fewer, mul_both (suc n) (nodes x + 2) (times (suc n) None) w (omega arith) le)
+    omega (
+      arith,
+      nodes_copies n x (more (rep x 1 None) none),
+      fewer,
+      mul_both (suc n) (nodes x + 2)
+          (times (suc n) None) w (omega arith) le,
+    )
 repeat_small x n (Some m) w le =
     omega (arith, chosen_small x n m (nat_le n m) refl, mul_both m (nodes x + 2) (times n (Some m)) w (omega arith) le)
 
@@ -131,18 +132,12 @@ each_copy t w = omega arith
 
 mutual
   nodes_small : (t : Tree) → nodes (expansion t) + 2 ≤ 3 * weight t
-  nodes_small empty = omega arith
-  nodes_small (one_of set) = omega arith
-  nodes_small (one_char ranges) = omega arith
   nodes_small (cat ts) = omega (arith, all_small ts)
   nodes_small (alt ts) =
       alternation_is (λ t. nodes t + 2 ≤ 3 * weight (alt ts)) (expansions ts) (omega (arith, all_small ts)) (λ set. omega arith)
   nodes_small (rep x n m) =
       omega (arith, repeat_small (expansion x) n m (3 * weight x) (nodes_small x), each_copy (times n m) (weight x))
-  nodes_small line_start = omega arith
-  nodes_small line_end = omega arith
-  nodes_small word_edge = omega arith
-  nodes_small not_word_edge = omega arith
+  nodes_small leaf = omega arith
 
   all_small : (ts : Trees) → nodes_of (expansions ts) ≤ 3 * weights ts
   all_small none = omega arith

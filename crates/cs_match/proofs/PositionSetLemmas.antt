@@ -32,16 +32,20 @@ IsPositionSet-zeros n count e = record {
 }
 
 -- a position below the count, and its word
-pub position_within : (words : List ℕ) (count at : ℕ) (positions : List Bool) → positions_of words count ≡ positions → at < length positions → at < count
+pub position_within : (words : List ℕ) (count at : ℕ) (positions : List Bool) → positions_of words count
+    ≡ positions → at < length positions → at < count
 position_within words count at positions e h = omega (arith, h, length-positions_of words count, ap length e)
 
 pub word_within : (words : List ℕ) (count at : ℕ) → IsPositionSet words count → at < count → at / 64 < length words
 word_within words count at positions h = omega (arith, positions.enough)
 
-module _ (words : List ℕ) (at new : ℕ) (on : Bool) (bit : IsWithBit (get_or words (at / 64) 0) new (at % 64) on) (within : at / 64 < length words) where
+module _ (words : List ℕ) (at new : ℕ) (on : Bool) (bit : IsWithBit (get_or words (at / 64) 0) new (at % 64) on)
+    (within : at / 64 < length words) where
   -- the set after one bit is set or cleared
-  pub positions_of-set : (count : ℕ) → at < count → positions_of (set words (at / 64) new) count ≡ take at (positions_of words count) ++ on ∷ drop (at + 1) (positions_of words count)
-  positions_of-set count h = ext_get_or false _ _ size each ∙ set_split (positions_of words count) at on low ∙ ap (λ i. take at (positions_of words count) ++ on ∷ drop i (positions_of words count)) (sym (add-one at))
+  pub positions_of-set : (count : ℕ) → at < count → positions_of (set words (at / 64) new) count
+      ≡ take at (positions_of words count) ++ on ∷ drop (at + 1) (positions_of words count)
+  positions_of-set count h = ext_get_or false _ _ size each ∙ set_split (positions_of words count) at on low
+      ∙ ap (λ i. take at (positions_of words count) ++ on ∷ drop i (positions_of words count)) (sym (add-one at))
     where
       low : at < length (positions_of words count)
       low = omega (arith, length-positions_of words count)
@@ -49,19 +53,23 @@ module _ (words : List ℕ) (at new : ℕ) (on : Bool) (bit : IsWithBit (get_or 
       size : length (positions_of (set words (at / 64) new) count) ≡ length (set (positions_of words count) at on)
       size = length-positions_of _ count ∙ sym (length-positions_of words count) ∙ sym (length-set (positions_of words count) at on)
 
-      each : (k : ℕ) → k < length (positions_of (set words (at / 64) new) count) → get_or (positions_of (set words (at / 64) new) count) k false ≡ get_or (set (positions_of words count) at on) k false
+      each : (k : ℕ) → k < length (positions_of (set words (at / 64) new) count) →
+          get_or (positions_of (set words (at / 64) new) count) k false ≡ get_or (set (positions_of words count) at on) k
+          false
       each k inside =
           let k-in : k < count = omega (arith, inside, length-positions_of (set words (at / 64) new) count) in
           get_or-positions_of _ count k k-in ∙ (elim (cases_eq k at) [
             | inl same ↦
                 ap (has_bit (set words (at / 64) new)) same ∙ has_bit-set_same words at new on bit within
-                ∙ sym (ap (λ i. get_or (set (positions_of words count) at on) i false) same ∙ get_or-set_same (positions_of words count) at on false low)
+                ∙ sym (ap (λ i. get_or (set (positions_of words count) at on) i false) same
+                ∙ get_or-set_same (positions_of words count) at on false low)
             | inr other ↦
                 has_bit-set_other words at new on bit within k other ∙ sym (get_or-positions_of words count k k-in)
                 ∙ sym (get_or-set_other (positions_of words count) at k on false other)
           ])
 
-  pub IsPositionSet-set : (count : ℕ) → at < count → new < 2 ^ 64 → IsPositionSet words count → IsPositionSet (set words (at / 64) new) count
+  pub IsPositionSet-set : (count : ℕ) → at < count → new < 2 ^ 64 → IsPositionSet words count →
+      IsPositionSet (set words (at / 64) new) count
   IsPositionSet-set count h fits positions = record {
     enough = length-set words (at / 64) new ∙ positions.enough;
     fit = All-set (λ word. word < 2 ^ 64) words (at / 64) new fits positions.fit;
@@ -69,12 +77,14 @@ module _ (words : List ℕ) (at new : ℕ) (on : Bool) (bit : IsWithBit (get_or 
   }
 
 -- equal sets have the same number of positions
-pub same_count : (a b : List ℕ) (m n : ℕ) (xs ys : List Bool) → positions_of a m ≡ xs → positions_of b n ≡ ys → length xs ≡ length ys → m ≡ n
+pub same_count : (a b : List ℕ) (m n : ℕ) (xs ys : List Bool) → positions_of a m ≡ xs → positions_of b n ≡ ys →
+    length xs ≡ length ys → m ≡ n
 same_count a b m n xs ys of-a of-b same =
     sym (length-positions_of a m) ∙ ap length of-a ∙ same ∙ sym (ap length of-b) ∙ length-positions_of b n
 
 -- equal sets have the same number of words
-pub same_length : (a b : List ℕ) (m n : ℕ) (xs ys : List Bool) → IsPositionSet a m → IsPositionSet b n → positions_of a m ≡ xs → positions_of b n ≡ ys → length xs ≡ length ys → length a ≡ length b
+pub same_length : (a b : List ℕ) (m n : ℕ) (xs ys : List Bool) → IsPositionSet a m → IsPositionSet b n →
+    positions_of a m ≡ xs → positions_of b n ≡ ys → length xs ≡ length ys → length a ≡ length b
 same_length a b m n xs ys are-a are-b of-a of-b same = omega (arith, same_count a b m n xs ys of-a of-b same, are-a.enough, are-b.enough)
 
 -- two bits are equal if the tests for 1 are
@@ -89,7 +99,8 @@ same_bit a b low-a low-b e =
     ]
 
 -- equal sets have equal words
-pub same_words : (a b : List ℕ) (count : ℕ) → IsPositionSet a count → IsPositionSet b count → positions_of a count ≡ positions_of b count → a ≡ b
+pub same_words : (a b : List ℕ) (count : ℕ) → IsPositionSet a count → IsPositionSet b count → positions_of a count
+    ≡ positions_of b count → a ≡ b
 same_words a b count of-a of-b same = ext_get_or 0 a b (of-a.enough ∙ sym of-b.enough) (λ k h.
     let h-b : k < length b = omega (arith, of-a.enough, of-b.enough) in
     same_from_bits_below 64 (get_or a k 0) (get_or b k 0) (of-a.fit k 0 h) (of-b.fit k 0 h-b) (λ i low.
@@ -97,10 +108,12 @@ same_words a b count of-a of-b same = ext_get_or 0 a b (of-a.enough ∙ sym of-b
     let rest : (k * 64 + i) % 64 ≡ i = omega arith in
     same_bit _ _ (bit_at-lt (get_or a k 0) i) (bit_at-lt (get_or b k 0) i)
     (subst (λ (n : ℕ). eqb (bit_at (get_or a k 0) n) 1 ≡ eqb (bit_at (get_or b k 0) n) 1) rest
-    (subst (λ (n : ℕ). eqb (bit_at (get_or a n 0) ((k * 64 + i) % 64)) 1 ≡ eqb (bit_at (get_or b n 0) ((k * 64 + i) % 64)) 1) quotient (each (k * 64 + i))))))
+    (subst (λ (n : ℕ). eqb (bit_at (get_or a n 0) ((k * 64 + i) % 64)) 1
+    ≡ eqb (bit_at (get_or b n 0) ((k * 64 + i) % 64)) 1) quotient (each (k * 64 + i))))))
   where
     each : (at : ℕ) → has_bit a at ≡ has_bit b at
     each at = elim (cases_lt at count) [
-      | inl within ↦ sym (get_or-positions_of a count at within) ∙ ap (λ ms. get_or ms at false) same ∙ get_or-positions_of b count at within
+      | inl within ↦ sym (get_or-positions_of a count at within) ∙ ap (λ ms. get_or ms at false) same
+          ∙ get_or-positions_of b count at within
       | inr past ↦ of-a.no_other at past ∙ sym (of-b.no_other at past)
     ]

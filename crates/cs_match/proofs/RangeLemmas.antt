@@ -14,7 +14,8 @@ use Rattle.cs_match.proofs.PositionSetLemmas.{get_or-positions_of}
 use Rattle.cs_match.proofs.OffsetLemmas.{shl-above, shl-below}
 
 -- the bits of a word from one on
-pub high-bits : (word from i : ℕ) → i < 64 → eqb (bit_at (word / 2 ^ from * 2 ^ from % 18446744073709551616) i) 1 ≡ leb from i && eqb (bit_at word i) 1
+pub high-bits : (word from i : ℕ) → i < 64 → eqb (bit_at (word / 2 ^ from * 2 ^ from % 18446744073709551616) i) 1
+    ≡ leb from i && eqb (bit_at word i) 1
 high-bits word from i h = elim (cases_lt i from) [
   | inl lt ↦ ap (λ x. eqb x 1) (shl-below (word / 2 ^ from) from i h lt) ∙ sym (rw (lt-leb from i lt) refl)
   | inr le ↦
@@ -32,7 +33,8 @@ pub none-after : (which from end k : ℕ) → end ≤ k → is_selected which fr
 none-after which from end k le = rw (lt-leb (suc k) end (omega (arith, le)), and-false (leb from k)) refl
 
 -- what holds of a position of the range
-pub of-parts : (which from end k : ℕ) → is_selected which from end k ≡ true → (from ≤ k) × (k < end) × (eqb (bit_at which (k % 64)) 1 ≡ true)
+pub of-parts : (which from end k : ℕ) → is_selected which from end k ≡ true →
+    (from ≤ k) × (k < end) × (eqb (bit_at which (k % 64)) 1 ≡ true)
 of-parts which from end k e =
     let parts = and_parts _ _ e in
     let range = and_parts _ _ parts.0 in
@@ -49,7 +51,8 @@ pattern-bit (suc m) zero h = bit_at_cat_low (pattern m) 2 1 0 (omega arith)
 pattern-bit (suc m) (suc zero) h = bit_at_cat_low (pattern m) 2 1 1 (omega arith)
 pattern-bit (suc m) (suc (suc i)) h =
     let before : suc (suc i) - 2 ≡ i = omega arith in
-    bit_at_cat_high (pattern m) 2 1 (suc (suc i)) (omega arith) (omega arith) ∙ ap (bit_at (pattern m)) before ∙ pattern-bit m i (omega (arith, h)) ∙ omega arith
+    bit_at_cat_high (pattern m) 2 1 (suc (suc i)) (omega arith) (omega arith) ∙ ap (bit_at (pattern m)) before
+    ∙ pattern-bit m i (omega (arith, h)) ∙ omega arith
 
 alternate : (i : ℕ) → i < 64 → bit_at 6148914691236517205 i ≡ 1 - i % 2
 alternate i h = pattern-bit 32 i (omega (arith, h))
@@ -67,17 +70,20 @@ every-bit at k =
 
 pub other-bit : (at k : ℕ) → eqb (bit_at (6148914691236517205 * 2 ^ (at % 2) % 18446744073709551616) (k % 64)) 1 ≡ eqb ((at + k) % 2) 0
 other-bit at k = elim (cases_lt (k % 64) (at % 2)) [
-  | inl lt ↦ flag _ _ (λ e. absurd (omega (arith, e, shl-below 6148914691236517205 (at % 2) (k % 64) (omega arith) lt))) (λ e. absurd (omega (arith, e, lt)))
+  | inl lt ↦ flag _ _ (λ e. absurd (omega (arith, e, shl-below 6148914691236517205 (at % 2) (k % 64) (omega arith) lt)))
+      (λ e. absurd (omega (arith, e, lt)))
   | inr le ↦
       let bit = shl-above 6148914691236517205 (at % 2) (k % 64) (omega arith) le ∙ alternate (k % 64 - at % 2) (omega arith) in
       flag _ _ (λ e. omega (arith, e, bit, le)) (λ e. omega (arith, e, bit, le))
 ]
 
 -- the positions of a range that are in the set: none is in the words before one, and `bits` are those of its range
-module _ (words : List ℕ) (count which from end index word bits : ℕ) (room : end ≤ count) (word-is : word ≡ get_or words index 0) (fits : word < 2 ^ 64)
+module _ (words : List ℕ) (count which from end index word bits : ℕ) (room : end ≤ count)
+    (word-is : word ≡ get_or words index 0) (fits : word < 2 ^ 64)
     (range : (i : ℕ) → i < 64 → eqb (bit_at bits i) 1 ≡ is_selected which from end (index * 64 + i))
     (before : (k : ℕ) → k < index * 64 → is_selected which from end k && has_bit words k ≡ false) where
-  word-bit : (i : ℕ) → i < 64 → eqb (bit_at (bit_and word bits) i) 1 ≡ is_selected which from end (index * 64 + i) && has_bit words (index * 64 + i)
+  word-bit : (i : ℕ) → i < 64 → eqb (bit_at (bit_and word bits) i) 1 ≡ is_selected which from end (index * 64 + i)
+      && has_bit words (index * 64 + i)
   word-bit i h =
       bit-and word bits i
       ∙ ap₂ (λ x y. x && y) (ap (λ x. eqb (bit_at x i) 1) word-is ∙ sym (has_bit-at words index i h)) (range i h)
@@ -88,7 +94,8 @@ module _ (words : List ℕ) (count which from end index word bits : ℕ) (room :
       swap false y = sym (and-false y)
 
   -- none is below this bit of the word
-  up-to : (n : ℕ) → n ≤ 64 → ((i : ℕ) → i < n → eqb (bit_at (bit_and word bits) i) 1 ≡ false) → (k : ℕ) → k < index * 64 + n → is_selected which from end k && has_bit words k ≡ false
+  up-to : (n : ℕ) → n ≤ 64 → ((i : ℕ) → i < n → eqb (bit_at (bit_and word bits) i) 1 ≡ false) → (k : ℕ) →
+      k < index * 64 + n → is_selected which from end k && has_bit words k ≡ false
   up-to n low none k h = elim (cases_lt k (index * 64)) [
     | inl lt ↦ before k lt
     | inr le ↦
@@ -97,7 +104,8 @@ module _ (words : List ℕ) (count which from end index word bits : ℕ) (room :
         ∙ sym (word-bit (k - index * 64) (omega (arith, le, h, low))) ∙ none (k - index * 64) (omega (arith, le, h))
   ]
 
-  in-set : (k : ℕ) → is_selected which from end k && has_bit words k ≡ is_selected which from end k && get_or (positions_of words count) k false
+  in-set : (k : ℕ) → is_selected which from end k && has_bit words k ≡ is_selected which from end k
+      && get_or (positions_of words count) k false
   in-set k = elim (cases_lt k end) [
     | inl within ↦ ap (λ x. is_selected which from end k && x) (sym (get_or-positions_of words count k (omega (arith, within, room))))
     | inr past ↦ rw (none-after which from end k past) refl
@@ -126,18 +134,22 @@ module _ (words : List ℕ) (count which from end index word bits : ℕ) (room :
 
     pub found-first : (k : ℕ) → k < lowest → is_selected which from end k && get_or (positions_of words count) k false ≡ false
     found-first k h =
-        sym (in-set k) ∙ up-to (trailing_zeros w64 (bit_and word bits)) (omega (arith, found.0)) (λ i lt. ap (λ x. eqb x 1) (found.2 i lt)) k h
+        sym (in-set k) ∙ up-to (trailing_zeros w64 (bit_and word bits)) (omega (arith, found.0))
+        (λ i lt. ap (λ x. eqb x 1) (found.2 i lt)) k h
 
 -- none is in the set
-pub none-in-set : (words : List ℕ) (count which from end : ℕ) → end ≤ count → ((k : ℕ) → k < end → is_selected which from end k && has_bit words k ≡ false) →
+pub none-in-set : (words : List ℕ) (count which from end : ℕ) → end ≤ count →
+    ((k : ℕ) → k < end → is_selected which from end k && has_bit words k ≡ false) →
     (k : ℕ) → k < end → is_selected which from end k && get_or (positions_of words count) k false ≡ false
 none-in-set words count which from end room none k h =
     ap (λ x. is_selected which from end k && x) (get_or-positions_of words count k (omega (arith, h, room))) ∙ none k h
 
 -- the positions of a range are added
-module _ (new old : List ℕ) (count which from end past : ℕ) (are : IsPositionSet old count) (size : length new ≡ length old) (room : end ≤ count)
+module _ (new old : List ℕ) (count which from end past : ℕ) (are : IsPositionSet old count)
+    (size : length new ≡ length old) (room : end ≤ count)
     (fits : (k : ℕ) → get_or new k 0 < 18446744073709551616)
-    (done : (k i : ℕ) → k < past → i < 64 → eqb (bit_at (get_or new k 0) i) 1 ≡ (if is_selected which from end (k * 64 + i) then true else eqb (bit_at (get_or old k 0) i) 1))
+    (done : (k i : ℕ) → k < past → i < 64 → eqb (bit_at (get_or new k 0) i) 1
+    ≡ (if is_selected which from end (k * 64 + i) then true else eqb (bit_at (get_or old k 0) i) 1))
     (pending : (k : ℕ) → past ≤ k → get_or new k 0 ≡ get_or old k 0) (ends : end ≤ past * 64) where
   filled-at : (k : ℕ) → has_bit new k ≡ (if is_selected which from end k then true else has_bit old k)
   filled-at k = elim (cases_lt (k / 64) past) [
@@ -145,7 +157,8 @@ module _ (new old : List ℕ) (count which from end past : ℕ) (are : IsPositio
         let index : k / 64 * 64 + k % 64 ≡ k = omega arith in
         done (k / 64) (k % 64) within (omega arith) ∙ ap (λ j. if is_selected which from end j then true else has_bit old k) index
     | inr beyond ↦
-        ap (λ x. eqb (bit_at x (k % 64)) 1) (pending (k / 64) beyond) ∙ sym (rw (none-after which from end k (omega (arith, beyond, ends))) refl)
+        ap (λ x. eqb (bit_at x (k % 64)) 1) (pending (k / 64) beyond)
+        ∙ sym (rw (none-after which from end k (omega (arith, beyond, ends))) refl)
   ]
 
   pub IsPositionSet-filled : IsPositionSet new count
@@ -155,6 +168,8 @@ module _ (new old : List ℕ) (count which from end past : ℕ) (are : IsPositio
     no_other = λ k beyond. filled-at k ∙ rw (none-after which from end k (omega (arith, beyond, room))) (are.no_other k beyond);
   }
 
-  pub get_or-filled : (k : ℕ) → k < count → get_or (positions_of new count) k false ≡ (if is_selected which from end k then true else get_or (positions_of old count) k false)
+  pub get_or-filled : (k : ℕ) → k < count → get_or (positions_of new count) k false
+      ≡ (if is_selected which from end k then true else get_or (positions_of old count) k false)
   get_or-filled k h =
-      get_or-positions_of new count k h ∙ filled-at k ∙ ap (λ x. if is_selected which from end k then true else x) (sym (get_or-positions_of old count k h))
+      get_or-positions_of new count k h ∙ filled-at k ∙ ap (λ x. if is_selected which from end k then true else x)
+      (sym (get_or-positions_of old count k h))

@@ -14,7 +14,15 @@ use Rattle.cs_match.specs.Parts.{run, HaveSameShape}
 use Rattle.cs_match.proofs.GlushkovLemmas.{cat_bools}
 
 pub shape_refl : (t : Tree) → HaveSameShape t t
-shape_refl t = record { positions = refl; repeats = refl; nullable = λ a. refl; final = λ ms a. refl; ends = λ ms a. refl; entered = λ enter ms a. refl }
+shape_refl t = record {
+  positions = refl;
+  repeats = refl;
+  nullable = λ a. refl;
+  final = λ ms a. refl;
+  ends =
+      λ ms a. refl;
+  entered = λ enter ms a. refl;
+}
 
 pub shape_sym : (t s : Tree) → HaveSameShape t s → HaveSameShape s t
 shape_sym t s h = record {
@@ -36,7 +44,8 @@ shape_trans t s u h k = record {
   entered = λ enter ms a. h.entered enter ms a ∙ k.entered enter ms a;
 }
 
-same_accepts : (t s : Tree) → HaveSameShape t s → (enter : Bool) (ms : List Bool) (a : LookAround) → accepts t enter ms a ≡ accepts s enter ms a
+same_accepts : (t s : Tree) → HaveSameShape t s → (enter : Bool) (ms : List Bool) (a : LookAround) →
+    accepts t enter ms a ≡ accepts s enter ms a
 same_accepts t s h enter ms a = rw (h.final ms a, h.nullable a) refl
 
 -- a part of a concatenation, of an alternation or of a loop
@@ -47,7 +56,12 @@ cat_first t s ts h = record {
   nullable = λ a. ap (λ x. x && nullable_all ts a) (h.nullable a);
   final = λ ms a. rw (h.positions, h.final (take (position_count s) ms) a) refl;
   ends = λ ms a. rw (h.positions, h.ends ms a) refl;
-  entered = λ enter ms a. rw (h.positions, h.entered enter (take (position_count s) ms) a, same_accepts t s h enter (take (position_count s) ms) a) refl;
+  entered = λ enter ms a. rw (
+    h.positions,
+    h.entered enter (take (position_count s) ms) a,
+    same_accepts t s h enter
+        (take (position_count s) ms) a,
+  ) refl;
 }
 
 pub cat_rest : (t : Tree) (ts ss : Trees) → HaveSameShape (cat ts) (cat ss) → HaveSameShape (cat (more t ts)) (cat (more t ss))
@@ -57,7 +71,8 @@ cat_rest t ts ss h = record {
   nullable = λ a. ap (λ x. nullable t a && x) (h.nullable a);
   final = λ ms a. rw (h.nullable a, h.final (drop (position_count t) ms) a) refl;
   ends = λ ms a. ap (λ xs. loop_ends t ms a ++ xs) (h.ends (drop (position_count t) ms) a);
-  entered = λ enter ms a. ap (λ xs. entered t enter (take (position_count t) ms) a ++ xs) (h.entered (accepts t enter (take (position_count t) ms) a) (drop (position_count t) ms) a);
+  entered = λ enter ms a. ap (λ xs. entered t enter (take (position_count t) ms) a ++ xs)
+      (h.entered (accepts t enter (take (position_count t) ms) a) (drop (position_count t) ms) a);
 }
 
 pub alt_first : (t s : Tree) (ts : Trees) → HaveSameShape t s → HaveSameShape (alt (more t ts)) (alt (more s ts))
@@ -80,7 +95,8 @@ alt_rest t ts ss h = record {
   entered = λ enter ms a. ap (λ xs. entered t enter (take (position_count t) ms) a ++ xs) (h.entered enter (drop (position_count t) ms) a);
 }
 
-pub alt_more : (us : Trees) (t s : Tree) (ts : Trees) → HaveSameShape t s → HaveSameShape (alt (append us (more t ts))) (alt (append us (more s ts)))
+pub alt_more : (us : Trees) (t s : Tree) (ts : Trees) → HaveSameShape t s → HaveSameShape (alt (append us (more t ts)))
+    (alt (append us (more s ts)))
 alt_more none t s ts h = alt_first t s ts h
 alt_more (more u us) t s ts h = alt_rest u _ _ (alt_more us t s ts h)
 
@@ -102,7 +118,8 @@ no_first ts = record {
   entered = λ enter ms a. by enter ms a;
 }
   where
-    by : (enter : Bool) (ms : List Bool) (a : LookAround) → entered_all ts (false || (enter && true)) (drop 0 ms) a ≡ entered_all ts enter ms a
+    by : (enter : Bool) (ms : List Bool) (a : LookAround) → entered_all ts (false || (enter && true)) (drop 0 ms) a
+        ≡ entered_all ts enter ms a
     by true ms a = refl
     by false ms a = refl
 
@@ -113,8 +130,10 @@ two_first t us ts = record {
   nullable = λ a. and_assoc (nullable t a) (nullable_all us a) (nullable_all ts a);
   final = λ ms a.
       rw (take-take p (p + q) ms (omega arith), drop-take p q ms, ← drop-drop q p ms)
-      (final_bools (is_final t (take p ms) a) (nullable_all us a) (is_final_all us (take q (drop p ms)) a) (nullable_all ts a) (is_final_all ts (drop q (drop p ms)) a));
-  ends = λ ms a. rw (← drop-drop q p ms) (append_assoc (loop_ends t ms a) (loop_ends_of us (drop p ms) a) (loop_ends_of ts (drop q (drop p ms)) a));
+      (final_bools (is_final t (take p ms) a) (nullable_all us a) (is_final_all us (take q (drop p ms)) a)
+      (nullable_all ts a) (is_final_all ts (drop q (drop p ms)) a));
+  ends = λ ms a. rw (← drop-drop q p ms) (append_assoc (loop_ends t ms a) (loop_ends_of us (drop p ms) a)
+      (loop_ends_of ts (drop q (drop p ms)) a));
   entered = λ enter ms a.
       rw (
         take-take p (p + q) ms (omega arith),
@@ -122,7 +141,10 @@ two_first t us ts = record {
         ← drop-drop q p ms,
         cat_bools (is_final t (take p ms) a) (nullable_all us a) (is_final_all us (take q (drop p ms)) a) enter (nullable t a),
       )
-      (append_assoc (entered t enter (take p ms) a) (entered_all us (accepts t enter (take p ms) a) (take q (drop p ms)) a) (entered_all ts (accepts (cat us) (accepts t enter (take p ms) a) (take q (drop p ms)) a) (drop q (drop p ms)) a));
+      (append_assoc (entered t enter (take p ms) a)
+      (entered_all us (accepts t enter (take p ms) a) (take q (drop p ms)) a)
+      (entered_all ts (accepts (cat us) (accepts t enter (take p ms) a) (take q (drop p ms)) a) (drop q (drop p ms))
+      a));
 }
   where
     p : ℕ
@@ -161,16 +183,20 @@ pub is_final_run : (n : ℕ) (ms : List Bool) (a : LookAround) → is_final (run
 is_final_run zero [] a = refl
 is_final_run zero (true ∷ ms) a = refl
 is_final_run zero (false ∷ ms) a = refl
-is_final_run (suc n) ms a = by (get_or (take 1 ms) 0 false) (is_final (run (suc n)) (drop 1 ms) a) ∙ is_final_run n (drop 1 ms) a ∙ get_or-past_one ms n
+is_final_run (suc n) ms a = by (get_or (take 1 ms) 0 false) (is_final (run (suc n)) (drop 1 ms) a)
+    ∙ is_final_run n (drop 1 ms) a ∙ get_or-past_one ms n
   where
     by : (x y : Bool) → ((x && false) || y) ≡ y
     by true y = refl
     by false y = refl
 
-pub entered_run : (n : ℕ) (enter : Bool) (ms : List Bool) (a : LookAround) → n ≤ length ms → entered (run (suc n)) enter ms a ≡ enter ∷ take n ms
+pub entered_run : (n : ℕ) (enter : Bool) (ms : List Bool) (a : LookAround) → n ≤ length ms →
+    entered (run (suc n)) enter ms a ≡ enter ∷ take n ms
 entered_run zero enter ms a h = refl
 entered_run (suc n) enter [] a h = absurd (omega (arith, h))
-entered_run (suc n) enter (m ∷ ms) a h = ap (λ xs. enter ∷ xs) (entered_run n (m || (enter && false)) ms a (omega (arith, h)) ∙ ap (λ x. x ∷ take n ms) (by m enter))
+entered_run (suc n) enter (m ∷ ms) a h =
+    ap (λ xs. enter ∷ xs) (entered_run n (m || (enter && false)) ms a (omega (arith, h))
+    ∙ ap (λ x. x ∷ take n ms) (by m enter))
   where
     by : (m enter : Bool) → (m || (enter && false)) ≡ m
     by true enter = refl
@@ -182,12 +208,14 @@ pub copies_more : (x : Tree) (m n : ℕ) (ts : Trees) →
 copies_more x m n ts =
     shape_trans _ _ _ (cat_rest (cat (copies m x none)) _ _ (grouped (copies n x none) ts))
     (shape_trans _ _ _ (grouped (copies m x none) _)
-    (shape_trans _ _ _ (subst (λ ws. HaveSameShape (cat (append (copies m x none) (append (copies n x none) ts))) (cat ws)) (appended m) (shape_refl _))
+    (shape_trans _ _ _ (subst (λ ws. HaveSameShape (cat (append (copies m x none) (append (copies n x none) ts)))
+    (cat ws)) (appended m) (shape_refl _))
     (shape_sym _ _ (grouped (copies (m + n) x none) ts))))
   where
     appended : (m : ℕ) → append (copies m x none) (append (copies n x none) ts) ≡ append (copies (m + n) x none) ts
     appended zero = let e : n ≡ 0 + n = omega arith in ap (λ (i : ℕ). append (copies i x none) ts) e
-    appended (suc m) = let e : suc (m + n) ≡ suc m + n = omega arith in ap (more x) (appended m) ∙ ap (λ (i : ℕ). append (copies i x none) ts) e
+    appended (suc m) = let e : suc (m + n) ≡ suc m + n = omega arith in ap (more x) (appended m)
+        ∙ ap (λ (i : ℕ). append (copies i x none) ts) e
 
 -- the number of positions of parts in a concatenation
 pub position_count_append : (us vs : Trees) → position_count_of (append us vs) ≡ position_count_of us + position_count_of vs

@@ -28,7 +28,8 @@ words_placed words = record {
     word_prefix : (line rest : List ℕ) (k : ℕ) (w : Word) → WordAt line k w → WordAt (line ++ rest) k w
     word_prefix line rest k w h = record {
       within = omega (arith, h.within, length-append line rest);
-      each = λ i d low. ap (member (get_or w.sets.items i d)) (get_or_append_left line rest 0 (k + i) (omega (arith, h.within))) ∙ h.each i d low;
+      each = λ i d low. ap (member (get_or w.sets.items i d))
+          (get_or_append_left line rest 0 (k + i) (omega (arith, h.within))) ∙ h.each i d low;
     }
 
     word_later : (b : ℕ) (text : List ℕ) (k : ℕ) (w : Word) → WordAt text k w → WordAt (b ∷ text) (suc k) w
@@ -45,7 +46,8 @@ Begins text [] = Unit {0}
 Begins text (line ∷ lines) = (after : List ℕ) × (text ≡ line ++ newline ∷ after)
 
 module _ (b : ℕ) (text : List ℕ) where
-  begins_more : (t : Bool) → nat_eq b newline ≡ t → (lines : List (List ℕ)) → Begins text lines → Begins (b ∷ text) (cond t ([] ∷ lines) (with_byte_in_line b lines))
+  begins_more : (t : Bool) → nat_eq b newline ≡ t → (lines : List (List ℕ)) → Begins text lines →
+      Begins (b ∷ text) (cond t ([] ∷ lines) (with_byte_in_line b lines))
   begins_more true e lines h = (text, ap (λ x. x ∷ text) (eqb-true b newline e))
   begins_more false e [] h = tt
   begins_more false e (line ∷ lines) h = (h.0, ap (λ (xs : List ℕ). b ∷ xs) h.1)
@@ -69,7 +71,8 @@ module _ (Occurs : List ℕ → ℕ → Type 0) (placed : IsPlaced Occurs) where
       none has.0 (omega (arith, w, ap length e, length-append line (newline ∷ after)))
       (subst (λ (xs : List ℕ). Occurs xs has.0) (sym e) (placed.prefix line (newline ∷ after) has.0 has.1))
 
-  without_more : (b : ℕ) (text : List ℕ) (t : Bool) (lines : List (List ℕ)) → Begins (b ∷ text) (cond t ([] ∷ lines) (with_byte_in_line b lines)) → Nowhere (b ∷ text) → All IsFree lines →
+  without_more : (b : ℕ) (text : List ℕ) (t : Bool) (lines : List (List ℕ)) →
+      Begins (b ∷ text) (cond t ([] ∷ lines) (with_byte_in_line b lines)) → Nowhere (b ∷ text) → All IsFree lines →
       All IsFree (cond t ([] ∷ lines) (with_byte_in_line b lines))
   without_more b text true lines first none h = All-cons IsFree [] lines (first_without (b ∷ text) [] first.0 first.1 none) h
   without_more b text false [] first none h = h
@@ -86,7 +89,8 @@ module _ (Occurs : List ℕ → ℕ → Type 0) (placed : IsPlaced Occurs) where
       (begins_more b text (nat_eq b newline) refl (terminated_lines text) (begins text)) none (without text later)
 
   -- the lines before the first occurrence
-  pub without_before : (text : List ℕ) (at n : ℕ) → n ≤ at → at ≤ length text → ((k : ℕ) → k < at → ¬ Occurs text k) → All IsFree (terminated_lines (take n text))
+  pub without_before : (text : List ℕ) (at n : ℕ) → n ≤ at → at ≤ length text → ((k : ℕ) → k < at → ¬ Occurs text k) →
+      All IsFree (terminated_lines (take n text))
   without_before text at n le within none =
       without (take n text) (λ k low h.
       let long = length-take-le n text (omega arith) in
@@ -95,7 +99,8 @@ module _ (Occurs : List ℕ → ℕ → Type 0) (placed : IsPlaced Occurs) where
 
 pub whole_to : (text : List ℕ) (at : ℕ) → at < length text → nat_eq (get_or text at 0) newline ≡ true → AreWholeLines (take (at + 1) text)
 whole_to text at low is =
-    let last : take (at + 1) text ≡ take at text ++ newline ∷ [] = take_more text at 0 low ∙ ap (λ b. take at text ++ b ∷ []) (eqb-true _ _ is) in
+    let last : take (at + 1) text ≡ take at text ++ newline ∷ [] = take_more text at 0 low
+    ∙ ap (λ b. take at text ++ b ∷ []) (eqb-true _ _ is) in
     subst AreWholeLines (sym last) (whole_terminated (take at text))
 
 pub whole_none : AreWholeLines []
@@ -103,7 +108,8 @@ unfolding AreWholeLines
 whole_none = tt
 
 -- lines that lack what every matching line contains have no match
-pub none_found : (tree : Tree) (Has : List ℕ → Type 0) (has_match : List ℕ → Bool) (lines : List (List ℕ)) → ((line : List ℕ) → HasMatch tree line → Has line) → Decides has_match tree →
+pub none_found : (tree : Tree) (Has : List ℕ → Type 0) (has_match : List ℕ → Bool) (lines : List (List ℕ)) →
+    ((line : List ℕ) → HasMatch tree line → Has line) → Decides has_match tree →
     All (λ line. ¬ Has line) lines → NoneMatch has_match lines
 none_found tree Has has_match lines required decides lack k d low =
     let line = get_or lines k d in

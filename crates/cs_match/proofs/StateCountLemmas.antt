@@ -1,13 +1,10 @@
 -- The number of cached states after some bytes.
-use Rattle.std.proofs.Common.{◌≡◌, ◌+◌, ◌≤◌, ℕ, ap, arith}
-use Rattle.cs_match.specs.Automaton.{Automaton, GrowsOver}
+use Rattle.std.proofs.Common.{◌≡◌, ◌+◌, ◌≤◌, ℕ, arith}
+use Rattle.cs_match.specs.Automaton.{GrowsOver}
 
 -- no growth, over any number of bytes
 pub grows_none : (bytes old new : ℕ) → new ≡ old → GrowsOver bytes old new
 grows_none bytes old new same = record { added = omega (arith, same); kept = λ room. omega (arith, same) }
-
-pub same_tree : (old new : Automaton) → new ≡ old → new.tree ≡ old.tree
-same_tree old new same = ap (λ (a : Automaton). a.tree) same
 
 -- growth over some bytes, then over more
 pub grows_on : (first second bytes old middle new : ℕ) → GrowsOver first old middle → GrowsOver second middle new → first + second ≤ bytes →

@@ -15,7 +15,8 @@ use Rattle.cs_match.specs.Glushkov.{look_around, input_at, unfinished_before, po
 use Rattle.cs_match.specs.LookBehind.{look_behind}
 use Rattle.cs_match.specs.States.{start, is_word_for, ahead, input, look_at_end, next_state, state_through, state, successor, accepts_before}
 
-pub state_through-append : (t : Tree) (n : State) (xs ys : List ℕ) → state_through t n (xs ++ ys) ≡ state_through t (state_through t n xs) ys
+pub state_through-append : (t : Tree) (n : State) (xs ys : List ℕ) → state_through t n (xs ++ ys)
+    ≡ state_through t (state_through t n xs) ys
 state_through-append t n [] ys = refl
 state_through-append t n (x ∷ xs) ys = state_through-append t (next_state t n x) xs ys
 
@@ -50,7 +51,8 @@ xor-is false true = refl
 xor-is false false = refl
 
 -- a step over a byte, by its parts
-module _ (t u : Tree) (n : State) (b : ℕ) (edge word : Bool) (same : u ≡ t) (is_word : word ≡ is_word_for t b) (is_edge : edge ≡ xor n.word word) where
+module _ (t u : Tree) (n : State) (b : ℕ) (edge word : Bool) (same : u ≡ t) (is_word : word ≡ is_word_for t b)
+    (is_edge : edge ≡ xor n.word word) where
   abbrev here : LookAround
   here = record { first = n.first; last = false; edge = edge }
 
@@ -60,7 +62,8 @@ module _ (t u : Tree) (n : State) (b : ℕ) (edge word : Bool) (same : u ≡ t) 
   pub accepts_here : accepts u true n.positions here ≡ accepts t true n.positions (ahead t n b)
   accepts_here = ap (λ x. accepts x true n.positions here) same ∙ ap (accepts t true n.positions) here_is
 
-  pub moves_to : (char : CharStep) (after : Unfinished) (ps : List Bool) → char ≡ char_step_of t n.unfinished b → after ≡ unfinished_after char →
+  pub moves_to : (char : CharStep) (after : Unfinished) (ps : List Bool) → char ≡ char_step_of t n.unfinished b → after
+      ≡ unfinished_after char →
       ps ≡ step u true n.positions here (record { byte = b; char = char }) →
       record { positions = ps; first = false; word = word; unfinished = after } ≡ next_state t n b
   moves_to char after ps is_char is_after moved =
@@ -124,10 +127,12 @@ module _ (t : Tree) (s : List ℕ) where
   accepts_ahead i lt = rw (state_is i (omega arith), ahead_is i lt) refl
 
   -- the same for a byte that is not a newline
-  pub beyond_more : (i : ℕ) → i < length s → slice_index s i ≢ 10 → successor t (state t (take i s)) (slice_index s i) ≡ state t (take (i + 1) s)
+  pub beyond_more : (i : ℕ) → i < length s → slice_index s i ≢ 10 → successor t (state t (take i s)) (slice_index s i)
+      ≡ state t (take (i + 1) s)
   beyond_more i lt other = rw (ne_eqb (slice_index s i) 10 other) (next_more i lt)
 
-  pub accepts_in_line : (i : ℕ) → i < length s → slice_index s i ≢ 10 → accepts_before t (state t (take i s)) (slice_index s i) ≡ accepts_in s t i
+  pub accepts_in_line : (i : ℕ) → i < length s → slice_index s i ≢ 10 → accepts_before t (state t (take i s))
+      (slice_index s i) ≡ accepts_in s t i
   accepts_in_line i lt other = rw (ne_eqb (slice_index s i) 10 other) (accepts_ahead i lt)
 
   end_is : look_at_end (at_offset (length s)) ≡ look_around t s (length s)
@@ -136,7 +141,8 @@ module _ (t : Tree) (s : List ℕ) where
 
   pub accepts_by_end : accepts t true (state t s).positions (look_at_end (state t s)) ≡ accepts_in s t (length s)
   accepts_by_end =
-      ap (λ n. accepts t true n.positions (look_at_end n)) (ap (state t) (sym (take_all (length s) s (omega arith))) ∙ state_is (length s) (omega arith))
+      ap (λ n. accepts t true n.positions (look_at_end n)) (ap (state t) (sym (take_all (length s) s (omega arith)))
+      ∙ state_is (length s) (omega arith))
       ∙ ap (λ a. accepts t true (positions (look_around t s) (input_at t s) t (λ _. true) (length s)) a) end_is
 
   pub accepts_at_end : accepts_before t (state t s) 10 ≡ accepts_in s t (length s)

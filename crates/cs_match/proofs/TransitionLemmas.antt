@@ -21,11 +21,13 @@ transition_index from b whole lt =
     ap (λ n. bit_or n b) e ∙ or_shifted (from / 256) 8 b lt ∙ omega arith
 
 -- no cached state has a special number
-pub state_stays : (t : Tree) (cached : List State) (used number : ℕ) (n : State) → used ≤ 254 → IsStateNumber t cached used number n → number < match_state
+pub state_stays : (t : Tree) (cached : List State) (used number : ℕ) (n : State) → used ≤ 254 →
+    IsStateNumber t cached used number n → number < match_state
 state_stays t cached used number n bound slot = omega (arith, slot.whole, slot.in_use)
 
 -- a correct transition over a byte is correct over the bytes of its class
-pub leads_alike : (t : Tree) (cached : List State) (used : ℕ) (state : State) (b c number : ℕ) → AreAlike t state b c → Leads t cached used state b number → Leads t cached used state c number
+pub leads_alike : (t : Tree) (cached : List State) (used : ℕ) (state : State) (b c number : ℕ) → AreAlike t state b c →
+    Leads t cached used state b number → Leads t cached used state c number
 leads_alike t cached used state b c number alike (found is h) = found is (sym alike.accepts ∙ h)
 leads_alike t cached used state b c number alike (next h slot line) =
     next (sym alike.accepts ∙ h) (subst (λ (n : State). IsStateNumber t cached used number n) alike.successor slot)
@@ -65,7 +67,8 @@ pub leads_next : (t u : Tree) (cached : List State) (used number : ℕ) (n m k :
     b ≢ 10 → accepts_before t n b ≡ false → k ≡ successor t n b → IsStateNumber u cached used number k → Leads u cached used m b number
 leads_next t u cached used number n m k b e f other h is slot =
     next (ap (λ x. accepts_before x m b) e ∙ ap (λ x. accepts_before t x b) f ∙ h)
-    (subst (λ (x : State). IsStateNumber u cached used number x) (is ∙ ap (λ x. successor t x b) (sym f) ∙ ap (λ x. successor x m b) (sym e)) slot)
+    (subst (λ (x : State). IsStateNumber u cached used number x) (is ∙ ap (λ x. successor t x b) (sym f)
+    ∙ ap (λ x. successor x m b) (sym e)) slot)
     (λ line. absurd (other line))
 
 same_everywhere : (n k : ℕ) (x : State) → get_or (replicate n x) k x ≡ x
@@ -76,18 +79,22 @@ same_everywhere n k x =
     ]
 
 -- a known transition
-pub known_leads : (t : Tree) (cached : List State) (used slot b transition : ℕ) → IsTransition t cached used slot b transition → (transition ≡ unknown_state → ⊥) →
+pub known_leads : (t : Tree) (cached : List State) (used slot b transition : ℕ) →
+    IsTransition t cached used slot b transition → (transition ≡ unknown_state → ⊥) →
     Leads t cached used (get_or cached slot (start t)) b transition
 known_leads t cached used slot b transition (unknown is) other = absurd (other is)
 known_leads t cached used slot b transition (known lt leads) other = leads
 
 -- a state accepts before the byte if its correct transition is the match state
-pub leads_to_found : (t : Tree) (cached : List State) (used b number : ℕ) (n : State) → used ≤ 254 → Leads t cached used n b number → number ≡ match_state →
+pub leads_to_found : (t : Tree) (cached : List State) (used b number : ℕ) (n : State) → used ≤ 254 →
+    Leads t cached used n b number → number ≡ match_state →
     accepts_before t n b ≡ true
 leads_to_found t cached used b number n bound (found is h) e = h
-leads_to_found t cached used b number n bound (next h slot line) e = absurd (omega (arith, state_stays t cached used number (successor t n b) bound slot))
+leads_to_found t cached used b number n bound (next h slot line) e =
+    absurd (omega (arith, state_stays t cached used number (successor t n b) bound slot))
 
-pub leads_on : (t : Tree) (cached : List State) (used b number : ℕ) (n : State) → Leads t cached used n b number → (number ≡ match_state → ⊥) →
+pub leads_on : (t : Tree) (cached : List State) (used b number : ℕ) (n : State) → Leads t cached used n b number →
+    (number ≡ match_state → ⊥) →
     (accepts_before t n b ≡ false) × IsStateNumber t cached used number (successor t n b)
 leads_on t cached used b number n (found is h) e = absurd (e is)
 leads_on t cached used b number n (next h slot line) e = (h, slot)
@@ -108,9 +115,12 @@ pub blank_transitions : (t : Tree) (cached : List State) (used : ℕ) (transitio
     ((k : ℕ) → k < length transitions → get_or transitions k 0 ≡ blank_transition k) → AreTransitions t cached used transitions
 blank_transitions t cached used transitions long blank = record {
   all = long;
-  right = λ r b rl bl. unknown (blank (256 * r + b) (omega arith) ∙ ap (λ c. if c then match_state else unknown_state) (ne_eqb ((256 * r + b) / 256) 254 (λ e. omega arith)));
-  found = λ b bl. blank (match_state + b) (omega arith) ∙ ap (λ c. if c then match_state else unknown_state) (eq-eqb ((match_state + b) / 256) 254 (omega arith));
-  unknown = λ b bl. blank (unknown_state + b) (omega arith) ∙ ap (λ c. if c then match_state else unknown_state) (ne_eqb ((unknown_state + b) / 256) 254 (λ e. omega arith));
+  right = λ r b rl bl. unknown (blank (256 * r + b) (omega arith) ∙ ap (λ c. if c then match_state else unknown_state)
+      (ne_eqb ((256 * r + b) / 256) 254 (λ e. omega arith)));
+  found = λ b bl. blank (match_state + b) (omega arith) ∙ ap (λ c. if c then match_state else unknown_state)
+      (eq-eqb ((match_state + b) / 256) 254 (omega arith));
+  unknown = λ b bl. blank (unknown_state + b) (omega arith) ∙ ap (λ c. if c then match_state else unknown_state)
+      (ne_eqb ((unknown_state + b) / 256) 254 (λ e. omega arith));
 }
 
 -- a state is added
@@ -128,12 +138,15 @@ module _ (t : Tree) (cached : List State) (used : ℕ) (state : State) (low : us
   kept_leads n b number (found is h) = found is h
   kept_leads n b number (next h slot line) = next h (kept_number number (successor t n b) slot) line
 
-  kept_transition : (slot b transition : ℕ) → IsTransition t cached used slot b transition → IsTransition t more_cached (used + 1) slot b transition
+  kept_transition : (slot b transition : ℕ) → IsTransition t cached used slot b transition →
+      IsTransition t more_cached (used + 1) slot b transition
   kept_transition slot b transition (unknown is) = unknown is
   kept_transition slot b transition (known lt leads) =
-      known (omega arith) (subst (λ (n : State). Leads t more_cached (used + 1) n b transition) (sym (kept_slot slot lt)) (kept_leads (get_or cached slot (start t)) b transition leads))
+      known (omega arith) (subst (λ (n : State). Leads t more_cached (used + 1) n b transition)
+      (sym (kept_slot slot lt)) (kept_leads (get_or cached slot (start t)) b transition leads))
 
-  pub added_transitions : (transitions : List ℕ) → AreTransitions t cached used transitions → AreTransitions t more_cached (used + 1) transitions
+  pub added_transitions : (transitions : List ℕ) → AreTransitions t cached used transitions →
+      AreTransitions t more_cached (used + 1) transitions
   added_transitions transitions h = record {
     all = h.all;
     right = λ slot b sl bl. kept_transition slot b (get_or transitions (256 * slot + b) 0) (h.right slot b sl bl);
@@ -149,7 +162,8 @@ module _ (t : Tree) (cached : List State) (used : ℕ) (state : State) (low : us
     first = kept_slot 0 (omega (arith, given.some)) ∙ given.first;
     positions = λ slot. elim (cases_eq slot used) [
       | inl same ↦
-          let there = ap (λ k. get_or more_cached k (start t)) same ∙ get_or-set_same cached used state (start t) (omega (arith, given.all)) in
+          let there = ap (λ k. get_or more_cached k (start t)) same ∙ get_or-set_same cached used state (start t)
+          (omega (arith, given.all)) in
           ap (λ (n : State). length n.positions) there ∙ size
       | inr other ↦ ap (λ (n : State). length n.positions) (get_or-set_other cached used slot state (start t) other) ∙ given.positions slot
     ];

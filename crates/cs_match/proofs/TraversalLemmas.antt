@@ -25,69 +25,86 @@ prefix_drop p n ms le =
 -- a tree reads only its own positions
 mutual
   is_final-take : (t : Tree) (n : ℕ) (ms : List Bool) (a : LookAround) → position_count t ≤ n → is_final t (take n ms) a ≡ is_final t ms a
-  is_final-take empty n ms a le = refl
   is_final-take (one_of set) n ms a le = get_or-take n ms 0 false (omega arith)
   is_final-take (one_char ranges) n ms a le = get_or-take n ms 1 false (omega arith)
   is_final-take (cat ts) n ms a le = is_final_all-take ts n ms a le
   is_final-take (alt ts) n ms a le = is_final_some-take ts n ms a le
   is_final-take (rep x k m) n ms a le = is_final-take x n ms a le
-  is_final-take line_start n ms a le = refl
-  is_final-take line_end n ms a le = refl
-  is_final-take word_edge n ms a le = refl
-  is_final-take not_word_edge n ms a le = refl
+  is_final-take leaf n ms a le = refl
 
-  is_final_all-take : (ts : Trees) (n : ℕ) (ms : List Bool) (a : LookAround) → position_count_of ts ≤ n → is_final_all ts (take n ms) a ≡ is_final_all ts ms a
+  is_final_all-take : (ts : Trees) (n : ℕ) (ms : List Bool) (a : LookAround) → position_count_of ts ≤ n →
+      is_final_all ts (take n ms) a ≡ is_final_all ts ms a
   is_final_all-take none n ms a le = refl
   is_final_all-take (more t ts) n ms a le =
-      rw (take-take (position_count t) n ms (omega arith), prefix_drop (position_count t) n ms (omega arith), is_final_all-take ts (n - position_count t) (drop (position_count t) ms) a (omega arith)) refl
+      rw (
+        take-take (position_count t) n ms (omega arith),
+        prefix_drop (position_count t) n ms (omega arith),
+        is_final_all-take ts (n - position_count t) (drop (position_count t) ms) a (omega arith),
+      ) refl
 
-  is_final_some-take : (ts : Trees) (n : ℕ) (ms : List Bool) (a : LookAround) → position_count_of ts ≤ n → is_final_some ts (take n ms) a ≡ is_final_some ts ms a
+  is_final_some-take : (ts : Trees) (n : ℕ) (ms : List Bool) (a : LookAround) → position_count_of ts ≤ n →
+      is_final_some ts (take n ms) a ≡ is_final_some ts ms a
   is_final_some-take none n ms a le = refl
   is_final_some-take (more t ts) n ms a le =
-      rw (take-take (position_count t) n ms (omega arith), prefix_drop (position_count t) n ms (omega arith), is_final_some-take ts (n - position_count t) (drop (position_count t) ms) a (omega arith)) refl
+      rw (
+        take-take (position_count t) n ms (omega arith),
+        prefix_drop (position_count t) n ms (omega arith),
+        is_final_some-take ts (n - position_count t) (drop (position_count t) ms) a (omega arith),
+      ) refl
 
 mutual
-  entered-take : (t : Tree) (enter : Bool) (n : ℕ) (ms : List Bool) (a : LookAround) → position_count t ≤ n → entered t enter (take n ms) a ≡ entered t enter ms a
-  entered-take empty enter n ms a le = refl
-  entered-take (one_of set) enter n ms a le = refl
+  entered-take : (t : Tree) (enter : Bool) (n : ℕ) (ms : List Bool) (a : LookAround) → position_count t ≤ n →
+      entered t enter (take n ms) a ≡ entered t enter ms a
   entered-take (one_char ranges) enter n ms a le = rw (get_or-take n ms 0 false (omega arith)) refl
   entered-take (cat ts) enter n ms a le = entered_all-take ts enter n ms a le
   entered-take (alt ts) enter n ms a le = entered_each-take ts enter n ms a le
   entered-take (rep x k m) enter n ms a le = rw (is_final-take x n ms a le) (entered-take x (enter || is_final x ms a) n ms a le)
-  entered-take line_start enter n ms a le = refl
-  entered-take line_end enter n ms a le = refl
-  entered-take word_edge enter n ms a le = refl
-  entered-take not_word_edge enter n ms a le = refl
+  entered-take leaf enter n ms a le = refl
 
-  entered_all-take : (ts : Trees) (enter : Bool) (n : ℕ) (ms : List Bool) (a : LookAround) → position_count_of ts ≤ n → entered_all ts enter (take n ms) a ≡ entered_all ts enter ms a
+  entered_all-take : (ts : Trees) (enter : Bool) (n : ℕ) (ms : List Bool) (a : LookAround) → position_count_of ts ≤ n →
+      entered_all ts enter (take n ms) a ≡ entered_all ts enter ms a
   entered_all-take none enter n ms a le = refl
   entered_all-take (more t ts) enter n ms a le =
-      rw (take-take (position_count t) n ms (omega arith), prefix_drop (position_count t) n ms (omega arith), entered_all-take ts (accepts t enter (take (position_count t) ms) a) (n - position_count t) (drop (position_count t) ms) a (omega arith)) refl
+      rw (
+        take-take (position_count t) n ms (omega arith),
+        prefix_drop (position_count t) n ms (omega arith),
+        entered_all-take ts (accepts t enter (take (position_count t) ms) a) (n - position_count t)
+            (drop (position_count t) ms) a (omega arith),
+      ) refl
 
-  entered_each-take : (ts : Trees) (enter : Bool) (n : ℕ) (ms : List Bool) (a : LookAround) → position_count_of ts ≤ n → entered_each ts enter (take n ms) a ≡ entered_each ts enter ms a
+  entered_each-take : (ts : Trees) (enter : Bool) (n : ℕ) (ms : List Bool) (a : LookAround) → position_count_of ts ≤ n →
+      entered_each ts enter (take n ms) a ≡ entered_each ts enter ms a
   entered_each-take none enter n ms a le = refl
   entered_each-take (more t ts) enter n ms a le =
-      rw (take-take (position_count t) n ms (omega arith), prefix_drop (position_count t) n ms (omega arith), entered_each-take ts enter (n - position_count t) (drop (position_count t) ms) a (omega arith)) refl
+      rw (
+        take-take (position_count t) n ms (omega arith),
+        prefix_drop (position_count t) n ms (omega arith),
+        entered_each-take ts enter (n - position_count t) (drop (position_count t) ms) a (omega arith),
+      ) refl
 
 is_final-prefix : (t : Tree) (ms : List Bool) (a : LookAround) → is_final t (take (position_count t) ms) a ≡ is_final t ms a
 is_final-prefix t ms a = is_final-take t (position_count t) ms a (omega arith)
 
-accepts-prefix : (t : Tree) (enter : Bool) (ms : List Bool) (a : LookAround) → accepts t enter (take (position_count t) ms) a ≡ accepts t enter ms a
+accepts-prefix : (t : Tree) (enter : Bool) (ms : List Bool) (a : LookAround) →
+    accepts t enter (take (position_count t) ms) a ≡ accepts t enter ms a
 accepts-prefix t enter ms a = ap (λ l. l || (enter && nullable t a)) (is_final-prefix t ms a)
 
-entered-prefix : (t : Tree) (enter : Bool) (ms : List Bool) (a : LookAround) → entered t enter (take (position_count t) ms) a ≡ entered t enter ms a
+entered-prefix : (t : Tree) (enter : Bool) (ms : List Bool) (a : LookAround) →
+    entered t enter (take (position_count t) ms) a ≡ entered t enter ms a
 entered-prefix t enter ms a = entered-take t enter (position_count t) ms a (omega arith)
 
 -- a concatenation or an alternation is its first part and the others
 accepts_cat : (t : Tree) (ts : Trees) (enter : Bool) (ms : List Bool) (a : LookAround) →
     accepts (cat (more t ts)) enter ms a ≡ accepts (cat ts) (accepts t enter ms a) (drop (position_count t) ms) a
 accepts_cat t ts enter ms a =
-    rw (is_final-prefix t ms a) (cat_bools (is_final t ms a) (nullable_all ts a) (is_final_all ts (drop (position_count t) ms) a) enter (nullable t a))
+    rw (is_final-prefix t ms a) (cat_bools (is_final t ms a) (nullable_all ts a)
+    (is_final_all ts (drop (position_count t) ms) a) enter (nullable t a))
 
 accepts_alt : (t : Tree) (ts : Trees) (enter : Bool) (ms : List Bool) (a : LookAround) →
     accepts (alt (more t ts)) enter ms a ≡ (accepts t enter ms a || accepts (alt ts) enter (drop (position_count t) ms) a)
 accepts_alt t ts enter ms a =
-    rw (is_final-prefix t ms a) (alt_bools (is_final t ms a) (is_final_some ts (drop (position_count t) ms) a) enter (nullable t a) (nullable_some ts a))
+    rw (is_final-prefix t ms a) (alt_bools (is_final t ms a) (is_final_some ts (drop (position_count t) ms) a) enter
+    (nullable t a) (nullable_some ts a))
 
 entered_cat : (t : Tree) (ts : Trees) (enter : Bool) (ms : List Bool) (a : LookAround) →
     entered_all (more t ts) enter ms a ≡ entered t enter ms a ++ entered_all ts (accepts t enter ms a) (drop (position_count t) ms) a
@@ -99,16 +116,10 @@ entered_alt t ts enter ms a = rw (entered-prefix t enter ms a) refl
 
 mutual
   pub length-loop_ends : (t : Tree) (ms : List Bool) (a : LookAround) → length (loop_ends t ms a) ≡ repeats t
-  length-loop_ends empty ms a = refl
-  length-loop_ends (one_of set) ms a = refl
-  length-loop_ends (one_char ranges) ms a = refl
   length-loop_ends (cat ts) ms a = length-loop_ends_of ts ms a
   length-loop_ends (alt ts) ms a = length-loop_ends_of ts ms a
   length-loop_ends (rep x n m) ms a = ap suc (length-loop_ends x ms a)
-  length-loop_ends line_start ms a = refl
-  length-loop_ends line_end ms a = refl
-  length-loop_ends word_edge ms a = refl
-  length-loop_ends not_word_edge ms a = refl
+  length-loop_ends leaf ms a = refl
 
   length-loop_ends_of : (ts : Trees) (ms : List Bool) (a : LookAround) → length (loop_ends_of ts ms a) ≡ repeats_of ts
   length-loop_ends_of none ms a = refl
@@ -130,7 +141,8 @@ sets-append l i (v ∷ vs) ws =
 set-sets : (l : List Bool) (i j : ℕ) (b : Bool) (vs : List Bool) → i < j → set (sets l j vs) i b ≡ sets (set l i b) j vs
 set-sets l i j b [] lt = refl
 set-sets l i j b (v ∷ vs) lt =
-    set-sets (set l j v) i (suc j) b vs (omega arith) ∙ ap (λ (k : List Bool). sets k (suc j) vs) (set_comm l j i v b (λ e. absurd (omega arith)))
+    set-sets (set l j v) i (suc j) b vs (omega arith) ∙ ap (λ (k : List Bool). sets k (suc j) vs)
+    (set_comm l j i v b (λ e. absurd (omega arith)))
 
 -- nothing is written past the end of the list, at whatever index
 sets-min : (l : List Bool) (i j : ℕ) (vs : List Bool) → i ≡ min (length l) j → sets l i vs ≡ sets l j vs
@@ -175,7 +187,8 @@ module _ (t : Tree) (ts : Trees) (ms : List Bool) (a : LookAround) (p next : ℕ
       j ≡ min (length l) (i + repeats t) → new ≡ sets l i (loop_ends t (drop p ms) a) →
       sets new j (loop_ends_of ts (drop next ms) a) ≡ whole
   noted_more l new whole i j h e n =
-      rw next_drop (more_noted l new i j (repeats t) (loop_ends t (drop p ms) a) (loop_ends_of ts (drop (position_count t) (drop p ms)) a) (length-loop_ends t (drop p ms) a) e n ∙ h)
+      rw next_drop (more_noted l new i j (repeats t) (loop_ends t (drop p ms) a)
+      (loop_ends_of ts (drop (position_count t) (drop p ms)) a) (length-loop_ends t (drop p ms) a) e n ∙ h)
 
 -- ---- the second traversal: entries that are written part by part
 
@@ -198,10 +211,12 @@ pub first_noted : (ts : Trees) (l ms : List Bool) (a : LookAround) → take (rep
     take (first_repeats ts) l ≡ first_loop_ends ts ms a
 first_noted none l ms a h = refl
 first_noted (more t ts) l ms a h =
-    (split_prefix (repeats t) (repeats_of ts) l (loop_ends t ms a) (loop_ends_of ts (drop (position_count t) ms) a) (length-loop_ends t ms a) h).0
+    (split_prefix (repeats t) (repeats_of ts) l (loop_ends t ms a) (loop_ends_of ts (drop (position_count t) ms) a)
+    (length-loop_ends t ms a) h).0
 
 -- a part in the middle is replaced by one of the same length
-module _ (p n : ℕ) (old new mid : List Bool) (long : length mid ≡ n) (room : p + n ≤ length old) (is : new ≡ take p old ++ (mid ++ drop (p + n) old)) where
+module _ (p n : ℕ) (old new mid : List Bool) (long : length mid ≡ n) (room : p + n ≤ length old)
+    (is : new ≡ take p old ++ (mid ++ drop (p + n) old)) where
   prefix_long : length (take p old ++ mid) ≡ p + n
   prefix_long = omega (arith, length-append {A = Bool}, length-take {A = Bool})
 
@@ -222,7 +237,8 @@ module _ (t : Tree) (ts : Trees) (ms : List Bool) (a : LookAround) (p next : ℕ
       j ≡ i + repeats t → take (repeats_of ts) (drop j l) ≡ loop_ends_of ts (drop next ms) a
   noted_others l i j h e =
       rw (next_drop t ts ms a p next is, e, ← drop-drop)
-      (split_prefix (repeats t) (repeats_of ts) (drop i l) (loop_ends t (drop p ms) a) (loop_ends_of ts (drop (position_count t) (drop p ms)) a) (length-loop_ends t (drop p ms) a) h).1
+      (split_prefix (repeats t) (repeats_of ts) (drop i l) (loop_ends t (drop p ms) a)
+      (loop_ends_of ts (drop (position_count t) (drop p ms)) a) (length-loop_ends t (drop p ms) a) h).1
 
   pub accepted_each : (enter so_far : Bool) (whole : Bool) → (so_far || accepts (alt (more t ts)) enter (drop p ms) a) ≡ whole →
       ((so_far || accepts t enter (drop p ms) a) || accepts (alt ts) enter (drop next ms) a) ≡ whole
@@ -231,41 +247,50 @@ module _ (t : Tree) (ts : Trees) (ms : List Bool) (a : LookAround) (p next : ℕ
       (or_assoc so_far (accepts t enter (drop p ms) a) _ ∙ ap (λ b. so_far || b) (sym (accepts_alt t ts enter (drop p ms) a)) ∙ h)
 
 -- `ms` is the position set, `first` has the entries before the traversal, `old` those before a part, `new` those after it
-module _ (t : Tree) (ts : Trees) (ms first old new : List Bool) (a : LookAround) (p next : ℕ) (enter : Bool) (is : next ≡ p + position_count t)
+module _ (t : Tree) (ts : Trees) (ms first old new : List Bool) (a : LookAround) (p next : ℕ) (enter : Bool)
+    (is : next ≡ p + position_count t)
     (room : p + position_count t ≤ length ms) (shifted : AreShifted p ms old) (ahead : drop p old ≡ drop p first)
     (moved : new ≡ take p old ++ (entered t enter (drop p ms) a ++ drop (p + position_count t) old)) where
   within : p + position_count t ≤ length old
   within = omega (arith, shifted.long, room)
 
   same_rest : drop next new ≡ drop next old
-  same_rest = rw is (mid_rest p (position_count t) old new (entered t enter (drop p ms) a) (length-entered t enter (drop p ms) a) within moved)
+  same_rest = rw is (mid_rest p (position_count t) old new (entered t enter (drop p ms) a)
+      (length-entered t enter (drop p ms) a) within moved)
 
   pub entered_ahead : drop next new ≡ drop next first
   entered_ahead =
-      same_rest ∙ rw is (sym (drop-drop (position_count t) p old) ∙ ap (drop (position_count t)) ahead ∙ drop-drop (position_count t) p first)
+      same_rest ∙ rw is (sym (drop-drop (position_count t) p old) ∙ ap (drop (position_count t)) ahead
+      ∙ drop-drop (position_count t) p first)
 
   pub entered_shifted : AreShifted next ms new
   entered_shifted = record {
-    long = mid_long p (position_count t) old new (entered t enter (drop p ms) a) (length-entered t enter (drop p ms) a) within moved ∙ shifted.long;
+    long = mid_long p (position_count t) old new (entered t enter (drop p ms) a) (length-entered t enter (drop p ms) a)
+        within moved ∙ shifted.long;
     same =
         let one : next + 1 ≡ suc next = omega arith in
-        ap (λ k. drop k new) (sym one) ∙ sym (drop-drop 1 next new) ∙ ap (drop 1) same_rest ∙ drop-drop 1 next old ∙ ap (λ k. drop k old) one ∙ after_one;
+        ap (λ k. drop k new) (sym one) ∙ sym (drop-drop 1 next new) ∙ ap (drop 1) same_rest ∙ drop-drop 1 next old
+        ∙ ap (λ k. drop k old) one ∙ after_one;
   }
     where
       after_one : drop (suc next) old ≡ drop next ms
       after_one =
           let far : suc next ≡ suc p + position_count t = omega (arith, is) in
-          ap (λ k. drop k old) far ∙ sym (drop-drop (position_count t) (suc p) old) ∙ ap (drop (position_count t)) shifted.same ∙ drop-drop (position_count t) p ms
+          ap (λ k. drop k old) far ∙ sym (drop-drop (position_count t) (suc p) old)
+          ∙ ap (drop (position_count t)) shifted.same ∙ drop-drop (position_count t) p ms
           ∙ ap (λ k. drop k ms) (sym is)
 
   entered_before : take next new ≡ take p old ++ entered t enter (drop p ms) a
-  entered_before = rw is (mid_prefix p (position_count t) old new (entered t enter (drop p ms) a) (length-entered t enter (drop p ms) a) within moved)
+  entered_before = rw is (mid_prefix p (position_count t) old new (entered t enter (drop p ms) a)
+      (length-entered t enter (drop p ms) a) within moved)
 
-  entered_parts : (both others behind whole : List Bool) → both ≡ entered t enter (drop p ms) a ++ others → take p old ++ (both ++ behind) ≡ whole →
+  entered_parts : (both others behind whole : List Bool) → both ≡ entered t enter (drop p ms) a ++ others →
+      take p old ++ (both ++ behind) ≡ whole →
       take next new ++ (others ++ behind) ≡ whole
   entered_parts both others behind whole e h =
       let part = entered t enter (drop p ms) a in
-      rw entered_before (append_assoc (take p old) part (others ++ behind) ∙ ap (λ k. take p old ++ k) (sym (append_assoc part others behind))
+      rw entered_before (append_assoc (take p old) part (others ++ behind)
+      ∙ ap (λ k. take p old ++ k) (sym (append_assoc part others behind))
       ∙ ap (λ k. take p old ++ (k ++ behind)) (sym e) ∙ h)
 
   pub all_entered : (whole : List Bool) →
@@ -293,7 +318,8 @@ run_entered (suc n) p enter ms old a some room shifted =
     let one : p + 1 ≡ suc p = omega arith in
     let far : p + suc n ≡ suc p + n = omega arith in
     ap (λ k. take p old ++ enter ∷ drop k old) one
-    ∙ ap (λ xs. take p old ++ enter ∷ xs) (shifted.same ∙ sym (take-append-drop n rest) ∙ ap (λ xs. take n rest ++ xs) (ap (drop n) (sym shifted.same) ∙ drop-drop n (suc p) old))
+    ∙ ap (λ xs. take p old ++ enter ∷ xs) (shifted.same ∙ sym (take-append-drop n rest)
+    ∙ ap (λ xs. take n rest ++ xs) (ap (drop n) (sym shifted.same) ∙ drop-drop n (suc p) old))
     ∙ ap (λ xs. take p old ++ (xs ++ drop (suc p + n) old)) (sym (entered_run n enter rest a (omega (arith, length-drop p ms))))
     ∙ ap (λ k. take p old ++ (entered (run (suc n)) enter rest a ++ drop k old)) (sym far)
 
@@ -310,9 +336,11 @@ run_final (suc n) p ms a some =
     let last : p + suc n - 1 ≡ p + n = omega arith in
     ap (λ k. get_or ms k false) last ∙ sym (get_or-drop p ms n false) ∙ sym (is_final_run n (drop p ms) a)
 
-pub run_accepts : (n p : ℕ) (enter : Bool) (ms : List Bool) (a : LookAround) → 0 < n → get_or ms (p + n - 1) false ≡ accepts (run n) enter (drop p ms) a
+pub run_accepts : (n p : ℕ) (enter : Bool) (ms : List Bool) (a : LookAround) → 0 < n → get_or ms (p + n - 1) false
+    ≡ accepts (run n) enter (drop p ms) a
 run_accepts zero p enter ms a some = absurd (omega (arith, some))
-run_accepts (suc n) p enter ms a some = run_final (suc n) p ms a some ∙ sym (rw (and-false enter) (or-false (is_final (run (suc n)) (drop p ms) a)))
+run_accepts (suc n) p enter ms a some = run_final (suc n) p ms a some
+    ∙ sym (rw (and-false enter) (or-false (is_final (run (suc n)) (drop p ms) a)))
 
 -- a run, or nothing
 pub position_count_optional : (n : ℕ) → position_count (optional_run n) ≡ n
@@ -330,7 +358,8 @@ nullable_optional n a = or-true (nullable (run n) a)
 pub is_final_optional : (n : ℕ) (ms : List Bool) (a : LookAround) → is_final (optional_run n) ms a ≡ is_final (run n) ms a
 is_final_optional n ms a = or-false _ ∙ is_final-prefix (run n) ms a
 
-pub accepts_optional : (n : ℕ) (enter : Bool) (ms : List Bool) (a : LookAround) → accepts (optional_run n) enter ms a ≡ (accepts (run n) enter ms a || enter)
+pub accepts_optional : (n : ℕ) (enter : Bool) (ms : List Bool) (a : LookAround) → accepts (optional_run n) enter ms a
+    ≡ (accepts (run n) enter ms a || enter)
 accepts_optional n enter ms a = rw (is_final_optional n ms a, nullable_optional n a) (by (is_final (run n) ms a) enter (nullable (run n) a))
   where
     by : (f e n : Bool) → (f || (e && true)) ≡ ((f || (e && n)) || e)
@@ -338,7 +367,8 @@ accepts_optional n enter ms a = rw (is_final_optional n ms a, nullable_optional 
     by false true n = sym (or-true n)
     by false false n = refl
 
-pub entered_optional : (n : ℕ) (enter : Bool) (ms : List Bool) (a : LookAround) → entered (optional_run n) enter ms a ≡ entered (run n) enter ms a
+pub entered_optional : (n : ℕ) (enter : Bool) (ms : List Bool) (a : LookAround) → entered (optional_run n) enter ms a
+    ≡ entered (run n) enter ms a
 entered_optional n enter ms a = append-nil _ ∙ entered-prefix (run n) enter ms a
 
 -- options one after another
@@ -348,7 +378,8 @@ repeats_options n (suc count) = omega (arith, repeats_optional n, repeats_option
 
 pub loop_ends_options : (n count : ℕ) (ms : List Bool) (a : LookAround) → loop_ends (options n count) ms a ≡ []
 loop_ends_options n zero ms a = refl
-loop_ends_options n (suc count) ms a = rw (loop_ends_optional n ms a) (loop_ends_options n count (drop (position_count (optional_run n)) ms) a)
+loop_ends_options n (suc count) ms a = rw (loop_ends_optional n ms a)
+    (loop_ends_options n count (drop (position_count (optional_run n)) ms) a)
 
 -- options with positions are not more than these
 pub few_options : (n count : ℕ) → 0 < n → count ≤ position_count (options n count)

@@ -42,17 +42,21 @@ whole_part b (c ∷ text) w p = whole_part c text w p.1
 
 -- the terminated lines of a text of whole lines followed by another text
 module _ (ys : List ℕ) where
-  first_line : (b : ℕ) (text : List ℕ) → AreWholeLines (b ∷ text) → (line : List ℕ) × (rest : List (List ℕ)) × (terminated_lines (b ∷ text) ≡ line ∷ rest)
+  first_line : (b : ℕ) (text : List ℕ) → AreWholeLines (b ∷ text) → (line : List ℕ) × (rest : List (List ℕ)) ×
+      (terminated_lines (b ∷ text) ≡ line ∷ rest)
   unfolding terminated_lines AreWholeLines
   first_line b [] w = ([], [], rw w refl)
   first_line b (c ∷ text) w =
       let h = first_line c text w in
-      elim (nat_eq b newline) as (λ t. (line : List ℕ) × (rest : List (List ℕ)) × (cond t ([] ∷ terminated_lines (c ∷ text)) (with_byte_in_line b (terminated_lines (c ∷ text))) ≡ line ∷ rest)) [
+      elim (nat_eq b newline) as (λ t. (line : List ℕ) × (rest : List (List ℕ)) ×
+      (cond t ([] ∷ terminated_lines (c ∷ text)) (with_byte_in_line b (terminated_lines (c ∷ text))) ≡ line ∷ rest)) [
         | true ↦ ([], terminated_lines (c ∷ text), refl)
         | false ↦ (b ∷ h.0, h.1, rw h.2 refl)
       ]
 
-  one_more : (b : ℕ) (t : Bool) (ls all more : List (List ℕ)) (line : List ℕ) (rest : List (List ℕ)) → ls ≡ line ∷ rest → all ≡ ls ++ more → cond t ([] ∷ all) (with_byte_in_line b all) ≡ cond t ([] ∷ ls) (with_byte_in_line b ls) ++ more
+  one_more : (b : ℕ) (t : Bool) (ls all more : List (List ℕ)) (line : List ℕ) (rest : List (List ℕ)) →
+      ls ≡ line ∷ rest → all ≡ ls ++ more → cond t ([] ∷ all) (with_byte_in_line b all)
+      ≡ cond t ([] ∷ ls) (with_byte_in_line b ls) ++ more
   one_more b true ls all more line rest e h = ap (λ (w : List (List ℕ)). [] ∷ w) h
   one_more b false ls all more line rest e h = rw (h, e) refl
 
@@ -62,7 +66,8 @@ module _ (ys : List ℕ) where
   terminated_lines-whole (b ∷ []) w = rw w refl
   terminated_lines-whole (b ∷ c ∷ xs) w =
       let h = first_line c xs w in
-      one_more b (nat_eq b newline) (terminated_lines (c ∷ xs)) (terminated_lines ((c ∷ xs) ++ ys)) (terminated_lines ys) h.0 h.1 h.2 (terminated_lines-whole (c ∷ xs) w)
+      one_more b (nat_eq b newline) (terminated_lines (c ∷ xs)) (terminated_lines ((c ∷ xs) ++ ys))
+      (terminated_lines ys) h.0 h.1 h.2 (terminated_lines-whole (c ∷ xs) w)
 
 -- a text consists of whole lines if and only if nothing follows its last newline
 terminated_by : (b : ℕ) (t : Bool) (ls : List (List ℕ)) (rest : List ℕ) → cond t rest (unless_terminated b ls rest) ≡ [] → rest ≡ []
@@ -82,7 +87,8 @@ no_part_of_whole (b ∷ c ∷ text) w =
     let h = first_line [] c text w in
     let rest : last_part (c ∷ text) ≡ [] = no_part_of_whole (c ∷ text) w in
     last_part-cons b (c ∷ text)
-    ∙ elim (nat_eq b newline) as (λ t. cond t (last_part (c ∷ text)) (unless_terminated b (terminated_lines (c ∷ text)) (last_part (c ∷ text))) ≡ []) [
+    ∙ elim (nat_eq b newline) as (λ t. cond t (last_part (c ∷ text))
+    (unless_terminated b (terminated_lines (c ∷ text)) (last_part (c ∷ text))) ≡ []) [
       | true ↦ rest
       | false ↦ ap (λ ls. unless_terminated b ls (last_part (c ∷ text))) h.2 ∙ rest
     ]
@@ -91,7 +97,9 @@ whole_has_no_part : (text : List ℕ) → last_part text ≡ [] → AreWholeLine
 unfolding last_part terminated_lines AreWholeLines
 whole_has_no_part [] e = tt
 whole_has_no_part (b ∷ []) e = ends_it b (nat_eq b newline) refl (sym (last_part-cons b []) ∙ e)
-whole_has_no_part (b ∷ c ∷ text) e = whole_has_no_part (c ∷ text) (terminated_by b (nat_eq b newline) (terminated_lines (c ∷ text)) (last_part (c ∷ text)) (sym (last_part-cons b (c ∷ text)) ∙ e))
+whole_has_no_part (b ∷ c ∷ text) e = whole_has_no_part (c ∷ text)
+    (terminated_by b (nat_eq b newline) (terminated_lines (c ∷ text)) (last_part (c ∷ text))
+    (sym (last_part-cons b (c ∷ text)) ∙ e))
 
 pub whole_is_terminated : (text : List ℕ) → AreWholeLines text ↔ last_part text ≡ []
 whole_is_terminated text = (no_part_of_whole text, whole_has_no_part text)
@@ -113,19 +121,29 @@ module _ (block : List ℕ) (stop : ℕ) (whole : AreWholeLines (take stop block
       ∙ last_part-part (drop stop block) part)
 
 -- a slice is the concatenation of its parts before and after an offset
-pub between_by : (block : List ℕ) (from middle to : ℕ) → from ≤ middle → middle ≤ to → take (to - from) (drop from block) ≡ take (middle - from) (drop from block) ++ take (to - middle) (drop middle block)
+pub between_by : (block : List ℕ) (from middle to : ℕ) → from ≤ middle → middle ≤ to →
+    take (to - from) (drop from block) ≡ take (middle - from) (drop from block) ++ take (to - middle)
+    (drop middle block)
 between_by block from middle to low high =
     let size : to - from ≡ middle - from + (to - middle) = omega arith in
     let at : from + (middle - from) ≡ middle = omega arith in
     ap (λ n. take n (drop from block)) size
     ∙ take-add (middle - from) (to - middle) (drop from block)
-    ∙ ap (λ rest. take (middle - from) (drop from block) ++ take (to - middle) rest) (drop-drop (middle - from) from block ∙ ap (λ i. drop i block) at)
+    ∙ ap (λ rest. take (middle - from) (drop from block) ++ take (to - middle) rest)
+    (drop-drop (middle - from) from block ∙ ap (λ i. drop i block) at)
 
-pub whole_between : (block : List ℕ) (from middle to : ℕ) → from ≤ middle → middle ≤ to → AreWholeLines (take (middle - from) (drop from block)) → AreWholeLines (take (to - middle) (drop middle block)) → AreWholeLines (take (to - from) (drop from block))
+pub whole_between : (block : List ℕ) (from middle to : ℕ) → from ≤ middle → middle ≤ to →
+    AreWholeLines (take (middle - from) (drop from block)) → AreWholeLines (take (to - middle) (drop middle block)) →
+    AreWholeLines (take (to - from) (drop from block))
 whole_between block from middle to low high p q =
-    subst AreWholeLines (sym (between_by block from middle to low high)) (whole_append (take (middle - from) (drop from block)) (take (to - middle) (drop middle block)) p q)
+    subst AreWholeLines (sym (between_by block from middle to low high))
+    (whole_append (take (middle - from) (drop from block)) (take (to - middle) (drop middle block)) p q)
 
-pub none_between : (has_match : List ℕ → Bool) (block : List ℕ) (from middle to : ℕ) → from ≤ middle → middle ≤ to → AreWholeLines (take (middle - from) (drop from block)) → NoneMatch has_match (terminated_lines (take (middle - from) (drop from block))) → NoneMatch has_match (terminated_lines (take (to - middle) (drop middle block))) → NoneMatch has_match (terminated_lines (take (to - from) (drop from block)))
+pub none_between : (has_match : List ℕ → Bool) (block : List ℕ) (from middle to : ℕ) → from ≤ middle → middle ≤ to →
+    AreWholeLines (take (middle - from) (drop from block)) →
+    NoneMatch has_match (terminated_lines (take (middle - from) (drop from block))) →
+    NoneMatch has_match (terminated_lines (take (to - middle) (drop middle block))) →
+    NoneMatch has_match (terminated_lines (take (to - from) (drop from block)))
 none_between has_match block from middle to low high whole p q =
     let a = take (middle - from) (drop from block) in
     let b = take (to - middle) (drop middle block) in
@@ -134,24 +152,29 @@ none_between has_match block from middle to low high whole p q =
     (All-append (λ line. has_match line ≡ false) (terminated_lines a) (terminated_lines b) p q))
 
 -- the slice from an offset to the end of a newline is a part and the newline
-pub line_between : (block : List ℕ) (from at : ℕ) → from ≤ at → drop at block ≡ newline ∷ drop (at + 1) block → take (at + 1 - from) (drop from block) ≡ take (at - from) (drop from block) ++ newline ∷ []
+pub line_between : (block : List ℕ) (from at : ℕ) → from ≤ at → drop at block ≡ newline ∷ drop (at + 1) block →
+    take (at + 1 - from) (drop from block) ≡ take (at - from) (drop from block) ++ newline ∷ []
 line_between block from at low here =
     let one : at + 1 - at ≡ 1 = omega arith in
     between_by block from at (at + 1) low (omega arith)
     ∙ ap (λ n. take (at - from) (drop from block) ++ take n (drop at block)) one
     ∙ ap (λ rest. take (at - from) (drop from block) ++ take 1 rest) here
 
-pub whole_line : (block : List ℕ) (from at : ℕ) → from ≤ at → drop at block ≡ newline ∷ drop (at + 1) block → AreWholeLines (take (at + 1 - from) (drop from block))
+pub whole_line : (block : List ℕ) (from at : ℕ) → from ≤ at → drop at block ≡ newline ∷ drop (at + 1) block →
+    AreWholeLines (take (at + 1 - from) (drop from block))
 whole_line block from at low here =
     subst AreWholeLines (sym (line_between block from at low here)) (whole_terminated (take (at - from) (drop from block)))
 
-pub terminated_line : (block : List ℕ) (from at : ℕ) → from ≤ at → HasNoNewline (take (at - from) (drop from block)) → drop at block ≡ newline ∷ drop (at + 1) block → terminated_lines (take (at + 1 - from) (drop from block)) ≡ take (at - from) (drop from block) ∷ []
+pub terminated_line : (block : List ℕ) (from at : ℕ) → from ≤ at → HasNoNewline (take (at - from) (drop from block)) →
+    drop at block ≡ newline ∷ drop (at + 1) block → terminated_lines (take (at + 1 - from) (drop from block))
+    ≡ take (at - from) (drop from block) ∷ []
 unfolding terminated_lines
 terminated_line block from at low part here =
     ap terminated_lines (line_between block from at low here) ∙ terminated_lines-line (take (at - from) (drop from block)) [] part
 
 -- the rest of a block of whole lines, up to its end, consists of whole lines
-pub whole_rest : (block : List ℕ) (from : ℕ) → AreWholeLines (drop from block) → AreWholeLines (take (length block - from) (drop from block))
+pub whole_rest : (block : List ℕ) (from : ℕ) → AreWholeLines (drop from block) →
+    AreWholeLines (take (length block - from) (drop from block))
 whole_rest block from whole = subst AreWholeLines (sym (take_rest block from)) whole
 
 pub whole_from : (block : List ℕ) (from to : ℕ) → from ≤ to → AreWholeLines (drop from block) → AreWholeLines (drop to block)
@@ -160,7 +183,8 @@ whole_from block from to low whole =
     subst AreWholeLines (drop-drop (to - from) from block ∙ ap (λ i. drop i block) at) (whole_drop (to - from) (drop from block) whole)
 
 -- whole lines that are not empty contain a newline
-pub whole_has_newline : (block : List ℕ) (from : ℕ) → from < length block → AreWholeLines (drop from block) → HasNoNewline (drop from block) → ⊥
+pub whole_has_newline : (block : List ℕ) (from : ℕ) → from < length block → AreWholeLines (drop from block) →
+    HasNoNewline (drop from block) → ⊥
 whole_has_newline block from low whole part = none_of (drop from block) (omega (arith, length-drop from block)) whole part
   where
     none_of : (text : List ℕ) → 0 < length text → AreWholeLines text → HasNoNewline text → ⊥

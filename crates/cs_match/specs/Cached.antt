@@ -7,12 +7,5 @@ use Rattle.cs_match.specs.ConsistentDfa.{IsConsistent}
 
 -- with each borrow of a program that has this tree, the cache is a consistent DFA
 abbrev pub IsCacheOf : Tree → Cache → Type 0
-IsCacheOf tree cache = (program : Bor Tree) → program.now ≡ tree → IsConsistent (record {
-  program = program;
-  transitions = cache.transitions;
-  cached = cache.cached;
-  hashes = cache.hashes;
-  used = cache.used;
-  scratch = cache.scratch;
-  memory = cache.memory;
-})
+IsCacheOf tree cache =
+    (program : Bor Tree) → program.now ≡ tree → IsConsistent (record { program = program; states = cache.states })

@@ -15,14 +15,14 @@ tree_in dfa = dfa.program.now
 -- the tree is expanded, the states and the transitions are correct, and the scratch memory has the right size
 pub record IsConsistent (t : LazyDfa) : Type 0 where
   pub expanded : IsExpanded (tree_in t)
-  pub cached : dfa.AreStates (tree_in t) t.cached.items t.used
-  pub transitions : dfa.AreTransitions (tree_in t) t.cached.items t.used t.transitions.items
-  pub room : length t.scratch.positions ≡ position_count (tree_in t)
-  pub memory : IsScratch (tree_in t) t.memory
+  pub cached : dfa.AreStates (tree_in t) t.states.cached.items t.states.used
+  pub transitions : dfa.AreTransitions (tree_in t) t.states.cached.items t.states.used t.states.transitions.items
+  pub room : length t.states.scratch.positions ≡ position_count (tree_in t)
+  pub memory : IsScratch (tree_in t) t.states.memory
 
 -- the state with this number
 abbrev pub state_in : LazyDfa → ℕ → State
-state_in t number = dfa.state_of (tree_in t) t.cached.items number
+state_in t number = dfa.state_of (tree_in t) t.states.cached.items number
 
 -- the state with this number accepts before the byte
 abbrev pub accepts_from : LazyDfa → ℕ → ℕ → Bool
@@ -34,8 +34,8 @@ successor_in t number b = successor (tree_in t) (state_in t number) b
 
 -- the number is that of a cached state, which is this one
 abbrev pub HasState : LazyDfa → ℕ → State → Type 0
-HasState t number state = dfa.IsStateNumber (tree_in t) t.cached.items t.used number state
+HasState t number state = dfa.IsStateNumber (tree_in t) t.states.cached.items t.states.used number state
 
 -- the number is a correct transition of the state over the byte
 abbrev pub LeadsIn : LazyDfa → State → ℕ → ℕ → Type 0
-LeadsIn t state b number = dfa.Leads (tree_in t) t.cached.items t.used state b number
+LeadsIn t state b number = dfa.Leads (tree_in t) t.states.cached.items t.states.used state b number

@@ -5,7 +5,6 @@ ghost use Rattle.cs_syntax.specs.Matching.{member, is_word};
 ghost use Rattle.cs_syntax.specs.Characters.{has_char};
 ghost use Rattle.cs_syntax.specs.Node.{tree_of};
 ghost use Rattle.cs_syntax.specs.NodeList.{trees_of};
-ghost use Rattle.cs_match.specs.Glushkov.{char_step_of};
 ghost use Rattle.cs_match.specs.LookBehind.{look_behind};
 ghost use Rattle.cs_match.specs.ByteClasses.{AreClasses, StepTogether, begins_at, HaveBoth, AllHaveBoth, AddsMarks};
 
@@ -158,7 +157,11 @@ fn are_together(program: &Program, at: Unfinished, byte: usize) -> bool
     if is_begin(program.byte_classes(), byte + 1) {
         return false;
     }
-    byte < 127 || step_alike(program, at, byte as u8)
+    byte < 127
+        || is_same(
+            program.char_step(at, byte as u8),
+            program.char_step(at, byte as u8 + 1),
+        )
 }
 
 /// Whether a class begins at the byte.
@@ -167,16 +170,6 @@ fn is_begin(begins: &[u8; 256], byte: usize) -> bool
     ensures { result ≡ begins_at begins.now byte }
 {
     begins[byte] == 1
-}
-
-/// Whether the byte and the next one do the same to the unfinished character.
-fn step_alike(program: &Program, at: Unfinished, byte: u8) -> bool
-    requires { byte < 255 }
-    ensures { result ≡ true → char_step_of program.now at byte ≡ char_step_of program.now at (byte + 1) }
-{
-    let before = program.char_step(at, byte);
-    let here = program.char_step(at, byte + 1);
-    is_same(before, here)
 }
 
 /// Whether the steps are equal.

@@ -19,7 +19,6 @@ use crate::interleaved_scan::{FIRST_SPECIAL, MATCH};
 use crate::program::Program;
 use crate::state::State;
 use crate::steps::Steps;
-use cs_syntax::Unfinished;
 use memchr::memchr_iter;
 use std::alloc::{AllocError, Global};
 use std::sync::ledger::Ledger;
@@ -39,8 +38,7 @@ struct Scanned {
 
 /// The cached states and their transitions.
 #[derive(Drop)]
-pub(crate) struct LazyDfa<'a> {
-    pub(crate) program: &'a Program,
+pub(crate) struct StateCache {
     /// The transition table: 256 state numbers for each state.
     pub(crate) transitions: Vec<u16>,
     /// The cached states. The first is the start state.
@@ -53,6 +51,13 @@ pub(crate) struct LazyDfa<'a> {
     pub(crate) scratch: State,
     /// The memory of the steps.
     pub(crate) memory: Scratch,
+}
+
+/// A program with its cached states.
+#[derive(Drop)]
+pub(crate) struct LazyDfa<'a> {
+    pub(crate) program: &'a Program,
+    pub(crate) states: StateCache,
 }
 
 /// A full cache of copies of the start state.
@@ -161,7 +166,7 @@ impl<'a> LazyDfa<'a> {
     /// A DFA whose cache has only the start state.
     pub(crate) fn new(alloc: Global, program: &'a Program) -> Result<LazyDfa<'a>, AllocError>
         ensures { IfOk result (λ dfa. (tree_in dfa ≡ program.now)
-            × IsConsistent dfa × (dfa.used ≡ 1)) }
+            × IsConsistent dfa × (dfa.states.used ≡ 1)) }
     {
         let cached = start_states(alloc, program)?;
         let scratch = State::new(alloc, program)?;
@@ -169,15 +174,15 @@ impl<'a> LazyDfa<'a> {
         hashes[0] = scratch.hash();
         let memory = Scratch::new(alloc, program)?;
         let transitions = blank(alloc)?;
-        Ok(LazyDfa {
-            program,
+        let states = StateCache {
             transitions,
             cached,
             hashes,
             used: 1,
             scratch,
             memory,
-        })
+        };
+        Ok(LazyDfa { program, states })
     }
 
     /// The transition of a state over a byte, computed first if it is unknown. A newline is the end of the line.
@@ -188,32 +193,17 @@ impl<'a> LazyDfa<'a> {
         ensures leads { LeadsIn self.new (state_in self.old from) byte result }
         ensures right { IsConsistent self.new }
         ensures same { tree_in self.new ≡ tree_in self.old }
-        ensures states { GrowsOver 1 self.old.used self.new.used }
-        ensures work { steps.new + state_work * self.new.used
-            ≤ steps.old + state_work * self.old.used + byte_work (tree_in self.old) }
+        ensures states { GrowsOver 1 self.old.states.used self.new.states.used }
+        ensures work { steps.new + state_work * self.new.states.used
+            ≤ steps.old + state_work * self.old.states.used + byte_work (tree_in self.old) }
     {
         steps.add(1);
-        let next = self.transitions[(from | u16::from(byte)) as usize];
+        let next = self.states.transitions[(from | u16::from(byte)) as usize];
         if next == UNKNOWN {
             self.fill(from, byte, steps)
         } else {
             next
         }
-    }
-
-    /// Whether the line has a match, simulated byte by byte without the cache.
-    #[cold]
-    #[inline(never)]
-    fn search<L: Ledger>(&mut self, line: &[u8], steps: &mut Steps<L>) -> bool
-        requires right { IsConsistent self.old }
-        ensures found { IsTrue result ↔ HasMatch (tree_in self.old) line.now }
-        ensures right { IsConsistent self.new }
-        ensures same { tree_in self.new ≡ tree_in self.old }
-        ensures states { self.new.used ≡ self.old.used }
-        ensures work { steps.new ≤ steps.old + (length line.now + 1) * step_work (tree_in self.old) }
-    {
-        self.scratch
-            .search(self.program, &mut self.memory, line, steps)
     }
 
     /// Whether the line has a match. If the scan reaches a newline within the line, the whole line is simulated.
@@ -222,15 +212,18 @@ impl<'a> LazyDfa<'a> {
         ensures found { IsTrue result ↔ HasMatch (tree_in self.old) line.now }
         ensures right { IsConsistent self.new }
         ensures same { tree_in self.new ≡ tree_in self.old }
-        ensures states { GrowsOver (length line.now + 1) self.old.used self.new.used }
-        ensures work { steps.new + state_work * self.new.used
-            ≤ steps.old + state_work * self.old.used + line_work (tree_in self.old) (length line.now) }
+        ensures states { GrowsOver (length line.now + 1) self.old.states.used self.new.states.used }
+        ensures work { steps.new + state_work * self.new.states.used
+            ≤ steps.old + state_work * self.old.states.used + line_work (tree_in self.old) (length line.now) }
     {
         let mut number = 0;
         for b in line {
             // The transition table reads a newline as the end of the line.
             if *b == b'\n' {
-                return self.search(line, steps);
+                return self
+                    .states
+                    .scratch
+                    .search(self.program, &mut self.states.memory, line, steps);
             }
             number = self.next(number, *b, steps);
             if number == MATCH {
@@ -252,8 +245,9 @@ impl<'a> LazyDfa<'a> {
             (AcceptsFirst (tree_in self.old) text.now) }
         ensures right { IsConsistent self.new }
         ensures same { tree_in self.new ≡ tree_in self.old }
-        ensures states { GrowsOver (length text.now) self.old.used self.new.used }
-        ensures work { steps.new + state_work * self.new.used ≤ steps.old + state_work * self.old.used
+        ensures states { GrowsOver (length text.now) self.old.states.used self.new.states.used }
+        ensures work { steps.new + state_work * self.new.states.used
+            ≤ steps.old + state_work * self.old.states.used
             + scanned_bytes (length text.now) result * byte_work (tree_in self.old) }
     {
         let mut to = 0;
@@ -282,7 +276,7 @@ impl<'a> LazyDfa<'a> {
         ensures low { from.to ≤ result.to }
         ensures scanned { HasScanned self.now text.now result.to result.number }
     {
-        let transitions = &self.transitions[..];
+        let transitions = &self.states.transitions[..];
         let mut number = from.number;
         for to in from.to..text.len() {
             let column = &transitions[text[to] as usize..];
@@ -307,15 +301,15 @@ impl<'a> LazyDfa<'a> {
         ensures leads { LeadsIn self.new (state_in self.old from) byte result }
         ensures right { IsConsistent self.new }
         ensures same { tree_in self.new ≡ tree_in self.old }
-        ensures states { GrowsOver 1 self.old.used self.new.used }
-        ensures work { steps.new + state_work * self.new.used + 1
-            ≤ steps.old + state_work * self.old.used + byte_work (tree_in self.old) }
+        ensures states { GrowsOver 1 self.old.states.used self.new.states.used }
+        ensures work { steps.new + state_work * self.new.states.used + 1
+            ≤ steps.old + state_work * self.old.states.used + byte_work (tree_in self.old) }
     {
         if step_from(
             self.program,
-            &self.cached[(from >> 8) as usize],
-            &mut self.scratch,
-            &mut self.memory,
+            &self.states.cached[(from >> 8) as usize],
+            &mut self.states.scratch,
+            &mut self.states.memory,
             byte,
             steps,
         ) {
@@ -336,28 +330,29 @@ impl<'a> LazyDfa<'a> {
         requires number { HasState self.old from (state_in self.old from) }
         requires within { byte ≢ newline }
         requires stays { accepts_from self.old from byte ≡ false }
-        requires scratch { self.old.scratch ≡ successor_in self.old from byte }
+        requires scratch { self.old.states.scratch ≡ successor_in self.old from byte }
         ensures leads { LeadsIn self.new (state_in self.old from) byte result }
         ensures right { IsConsistent self.new }
         ensures same { tree_in self.new ≡ tree_in self.old }
-        ensures states { GrowsOver 1 self.old.used self.new.used }
-        ensures work { steps.new + state_work * self.new.used ≤ steps.old + state_work * self.old.used
+        ensures states { GrowsOver 1 self.old.states.used self.new.states.used }
+        ensures work { steps.new + state_work * self.new.states.used
+            ≤ steps.old + state_work * self.old.states.used
             + (256 * words (position_count (tree_in self.old)) + 1026) }
     {
-        let hash = self.scratch.hash();
-        steps.add(self.scratch.positions.len().div_ceil(64));
+        let hash = self.states.scratch.hash();
+        steps.add(self.states.scratch.positions.len().div_ceil(64));
         if let Some(slot) = find(
-            &self.cached,
-            &self.hashes[..self.used],
+            &self.states.cached,
+            &self.states.hashes[..self.states.used],
             hash,
-            &self.scratch,
+            &self.states.scratch,
             steps,
         ) {
             let next = slot as u16 * 256;
             self.put(from, byte, next, steps);
             return next;
         }
-        if self.used == MOST_STATES {
+        if self.states.used == MOST_STATES {
             // `from` is no longer cached, so its transition is not stored.
             self.empty(steps);
             return self.add(hash, steps);
@@ -365,15 +360,6 @@ impl<'a> LazyDfa<'a> {
         let next = self.add(hash, steps);
         self.put(from, byte, next, steps);
         next
-    }
-
-    /// The unfinished character of a cached state.
-    fn unfinished_of(&self, from: u16) -> Unfinished
-        requires right { IsConsistent self.now }
-        requires number { HasState self.now from (state_in self.now from) }
-        ensures { result ≡ (state_in self.now from).unfinished }
-    {
-        self.cached[(from >> 8) as usize].unfinished
     }
 
     /// Stores a transition for all bytes of the class.
@@ -384,45 +370,45 @@ impl<'a> LazyDfa<'a> {
         ensures leads { LeadsIn self.new (state_in self.old from) byte next }
         ensures right { IsConsistent self.new }
         ensures same { tree_in self.new ≡ tree_in self.old }
-        ensures states { self.new.used ≡ self.old.used }
+        ensures states { self.new.states.used ≡ self.old.states.used }
         ensures work { steps.new ≤ steps.old + 512 }
     {
-        let unfinished = self.unfinished_of(from);
+        let unfinished = self.states.cached[(from >> 8) as usize].unfinished;
         let class = class_of(self.program, unfinished, byte);
         steps.add(2 * (class.1 - class.0));
-        put_range(&mut self.transitions, from, class.0, class.1, next);
+        put_range(&mut self.states.transitions, from, class.0, class.1, next);
     }
 
     /// Caches the state under construction, and returns its number.
     fn add<L: Ledger>(&mut self, hash: u8, steps: &mut Steps<L>) -> u16
         requires right { IsConsistent self.old }
-        requires room { self.old.used < 254 }
-        ensures number { HasState self.new result self.old.scratch }
+        requires room { self.old.states.used < 254 }
+        ensures number { HasState self.new result self.old.states.scratch }
         ensures kept { (number : ℕ) (state : State) → HasState self.old number state
             → HasState self.new number state }
         ensures right { IsConsistent self.new }
         ensures same { tree_in self.new ≡ tree_in self.old }
-        ensures states { self.new.used ≡ self.old.used + 1 }
+        ensures states { self.new.states.used ≡ self.old.states.used + 1 }
         ensures work { steps.new ≡ steps.old + words (position_count (tree_in self.old)) }
     {
-        let slot = self.used;
-        put_state(&mut self.cached, slot, &self.scratch, steps);
-        self.hashes[slot] = hash;
-        self.used = slot + 1;
+        let slot = self.states.used;
+        put_state(&mut self.states.cached, slot, &self.states.scratch, steps);
+        self.states.hashes[slot] = hash;
+        self.states.used = slot + 1;
         slot as u16 * 256
     }
 
     /// Clears the cache except for the start state.
     fn empty<L: Ledger>(&mut self, steps: &mut Steps<L>)
         requires right { IsConsistent self.old }
-        ensures one { self.new.used ≡ 1 }
-        ensures scratch { self.new.scratch ≡ self.old.scratch }
+        ensures one { self.new.states.used ≡ 1 }
+        ensures scratch { self.new.states.scratch ≡ self.old.states.scratch }
         ensures right { IsConsistent self.new }
         ensures same { tree_in self.new ≡ tree_in self.old }
         ensures work { steps.new ≡ steps.old + 65536 }
     {
-        steps.add(self.transitions.len());
-        reset(&mut self.transitions);
-        self.used = 1;
+        steps.add(self.states.transitions.len());
+        reset(&mut self.states.transitions);
+        self.states.used = 1;
     }
 }

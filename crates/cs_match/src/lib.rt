@@ -5,7 +5,6 @@
 //! the definitions of the internals.
 #![tactic(auto)]
 
-mod backoff;
 mod byte_classes;
 mod dfa;
 mod expand;

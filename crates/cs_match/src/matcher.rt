@@ -6,7 +6,7 @@ ghost use Rattle.cs_match.specs.Deciding.{Decides};
 ghost use Rattle.cs_match.specs.FirstMatch.{IsFirstMatch, IsSearched};
 ghost use Rattle.cs_match.specs.Lines.{terminated_lines};
 ghost use Rattle.cs_match.specs.Skipped.{AreSkipped};
-ghost use Rattle.cs_match.specs.Work.{state_work, byte_work, line_work, search_work, count_work, searched_bytes, most_batch};
+ghost use Rattle.cs_match.specs.Work.{state_work, byte_work, line_work, search_work, count_work, searched_bytes};
 ghost use Rattle.cs_match.specs.PartWork.{part_work};
 ghost use Rattle.cs_match.specs.Skipping.{AreWholeLines, IsLineAfter, NoneMatch};
 
@@ -60,7 +60,7 @@ impl<'a> Model for Matcher<'a> {
     ghost use Rattle.cs_match.specs.ConsistentDfa.{IsConsistent, tree_in};
     ghost use Rattle.cs_prefilter.specs.WordAt.{IsPrefilterOf};
 
-    ghost view = { λ matcher. record { tree = tree_in matcher.dfa; states = matcher.dfa.used } };
+    ghost view = { λ matcher. record { tree = tree_in matcher.dfa; states = matcher.dfa.states.used } };
 
     ghost invariant = { λ matcher. IsConsistent matcher.dfa
         × IfSome matcher.prefilter (λ prefilter. IsPrefilterOf (tree_in matcher.dfa) prefilter.now) };
@@ -87,7 +87,7 @@ impl<'a> Matcher<'a> {
         ensures some { 1 ≤ result }
         ensures bound { result ≤ most_states }
     {
-        self.dfa.used
+        self.dfa.states.used
     }
 
     /// Whether the line has a match, whatever was asked before. It allocates nothing.
@@ -100,9 +100,7 @@ impl<'a> Matcher<'a> {
     }
 
     fn is_match_from_blank<L: Ledger>(&mut self, line: &[u8], blank: Blank) -> bool
-        requires name { blank.name ≡ L.name }
-        requires parts { blank.parts ≡ L.parts }
-        requires some { 0 < blank.parts }
+        requires blank { (blank.name ≡ L.name) × (blank.parts ≡ L.parts) × (0 < blank.parts) }
         ensures found { IsTrue result ↔ HasMatch self.old.tree line.now }
         ensures same { self.new.tree ≡ self.old.tree }
         ensures states { GrowsOver (length line.now + 1) self.old.states self.new.states }
@@ -148,9 +146,7 @@ impl<'a> Matcher<'a> {
     ) -> Option<Line>
         requires within { from ≤ length block.now }
         requires whole { AreWholeLines (drop from block.now) }
-        requires name { blank.name ≡ L.name }
-        requires parts { blank.parts ≡ L.parts }
-        requires some { 0 < blank.parts }
+        requires blank { (blank.name ≡ L.name) × (blank.parts ≡ L.parts) × (0 < blank.parts) }
         ensures line { IfSome result (λ line. IsLineAfter block.now from line.start line.end) }
         ensures found { IfSome result (λ line. HasMatch self.old.tree
             (slice_range block.now line.start line.end)) }
@@ -191,6 +187,7 @@ impl<'a> Matcher<'a> {
         let mut offset = from;
         'parts: while offset < block.len() {
             let searched = self.search_part(block, offset, steps);
+            self.note_part(offset, searched);
             match searched.line {
                 Some(line) => return Some(line),
                 None => offset = searched.to,
@@ -212,9 +209,7 @@ impl<'a> Matcher<'a> {
 
     fn count_from_blank<L: Ledger>(&mut self, block: &[u8], blank: Blank) -> u64
         requires whole { AreWholeLines block.now }
-        requires name { blank.name ≡ L.name }
-        requires parts { blank.parts ≡ L.parts }
-        requires some { 0 < blank.parts }
+        requires blank { (blank.name ≡ L.name) × (blank.parts ≡ L.parts) × (0 < blank.parts) }
         ensures found { (has_match : List ℕ → Bool) → Decides has_match self.old.tree →
             result ≡ count_by has_match (terminated_lines block.now) }
         ensures bound { result ≤ length (terminated_lines block.now) }
@@ -244,7 +239,8 @@ impl<'a> Matcher<'a> {
         matching_lines
     }
 
-    /// Searches some lines, at least one, by the method that suits the text.
+    /// Searches some lines, at least one, by the method that suits the text: the lines up to a candidate, some chunks or the
+    /// whole rest of the block.
     fn search_part<L: Ledger>(
         &mut self,
         block: &[u8],
@@ -262,94 +258,18 @@ impl<'a> Matcher<'a> {
             ≤ steps.old + state_work * self.old.states
             + part_work self.old.tree from result.to result.line }
     {
-        let method = self.method();
-        let searched = self.search_by(method, block, from, steps);
-        self.note_part(method, from, searched);
-        searched
-    }
-
-    /// Searches one line, some chunks or the whole rest of the block, after what the method skips.
-    fn search_by<L: Ledger>(
-        &mut self,
-        method: Method,
-        block: &[u8],
-        from: usize,
-        steps: &mut Steps<L>,
-    ) -> Searched
-        requires within { from < length block.now }
-        requires whole { AreWholeLines (drop from block.now) }
-        ensures moves { from < result.to }
-        ensures found { IsSearched self.old.tree block.now from result.to result.line }
-        ensures high { result.to ≤ length block.now }
-        ensures same { self.new.tree ≡ self.old.tree }
-        ensures states { GrowsOver (result.to - from) self.old.states self.new.states }
-        ensures work { steps.new + state_work * self.new.states
-            ≤ steps.old + state_work * self.old.states
-            + part_work self.old.tree from result.to result.line }
-    {
-        match method {
+        match self.method() {
             Method::Prefilter => self.search_candidate(block, from, steps),
-            Method::Line => self.search_line(block, from, steps),
             Method::Interleaved => self.search_chunks(block, from, steps),
-            Method::Single => self.search_to(block, from, block.len(), steps),
-        }
-    }
-
-    /// Searches the lines between two offsets by one scan.
-    fn search_to<L: Ledger>(
-        &mut self,
-        block: &[u8],
-        from: usize,
-        to: usize,
-        steps: &mut Steps<L>,
-    ) -> Searched
-        requires low { from ≤ to }
-        requires high { to ≤ length block.now }
-        requires whole { AreWholeLines (slice_range block.now from to) }
-        requires rest { AreWholeLines (drop from block.now) }
-        ensures found { IsSearched self.old.tree block.now from to result.line }
-        ensures to { result.to ≡ to }
-        ensures same { self.new.tree ≡ self.old.tree }
-        ensures states { GrowsOver (to - from) self.old.states self.new.states }
-        ensures work { steps.new + state_work * self.new.states
-            ≤ steps.old + state_work * self.old.states
-            + searched_bytes from to result.line * (byte_work self.old.tree + 2) }
-    {
-        Searched {
-            to,
-            line: self.first_match(block, from, to, steps),
-            wasted: 0,
-        }
-    }
-
-    /// Tests the line at the offset.
-    fn search_line<L: Ledger>(
-        &mut self,
-        block: &[u8],
-        from: usize,
-        steps: &mut Steps<L>,
-    ) -> Searched
-        requires within { from < length block.now }
-        requires whole { AreWholeLines (drop from block.now) }
-        ensures moves { from < result.to }
-        ensures found { IsSearched self.old.tree block.now from result.to result.line }
-        ensures high { result.to ≤ length block.now }
-        ensures same { self.new.tree ≡ self.old.tree }
-        ensures states { GrowsOver (result.to - from) self.old.states self.new.states }
-        ensures work { steps.new + state_work * self.new.states
-            ≤ steps.old + state_work * self.old.states
-            + part_work self.old.tree from result.to result.line }
-    {
-        let end = line_end(block, from, steps);
-        let found = self.is_match_counted(&block[from..end], steps);
-        Searched {
-            to: end + 1,
-            line: if found {
-                Some(Line { start: from, end })
-            } else {
-                None
-            },
-            wasted: 0,
+            Method::Single => {
+                let to = block.len();
+                let line = self.first_match(block, from, to, steps);
+                Searched {
+                    to,
+                    line,
+                    wasted: 0,
+                }
+            }
         }
     }
 
@@ -373,32 +293,35 @@ impl<'a> Matcher<'a> {
             + part_work self.old.tree from result.to result.line }
     {
         let Some(prefilter) = self.prefilter else {
-            return self.search_line(block, from, steps);
+            return self.search_chunks(block, from, steps);
         };
         let candidate = next_candidate(prefilter, block, from, steps);
+        let wasted = candidate.wasted;
         let Some(line) = candidate.line else {
             return Searched {
                 to: block.len(),
                 line: None,
-                wasted: candidate.wasted,
+                wasted,
             };
         };
+        let to = line.end + 1;
         if candidate.has_word && prefilter.is_exact() {
             return Searched {
-                to: line.end + 1,
+                to,
                 line: Some(line),
-                wasted: candidate.wasted,
+                wasted,
             };
         }
-        let found = self.is_match_counted(&block[line.start..line.end], steps);
+        let found = self.first_match(block, line.start, to, steps);
         Searched {
-            to: line.end + 1,
-            line: if found { Some(line) } else { None },
-            wasted: candidate.wasted,
+            to,
+            line: found,
+            wasted,
         }
     }
 
     /// Skips chunks by the interleaved scan, and searches the next one by one scan.
+    #[inline(always)]
     fn search_chunks<L: Ledger>(
         &mut self,
         block: &[u8],
@@ -416,21 +339,14 @@ impl<'a> Matcher<'a> {
             ≤ steps.old + state_work * self.old.states
             + part_work self.old.tree from result.to result.line }
     {
-        let start = self.skip_interleaved(block, from, steps);
+        let start = skip_interleaved(&self.dfa.states.transitions, block, from, steps);
         let to = cut(block, start, steps);
-        self.search_to(block, start, to, steps)
-    }
-
-    /// Skips chunks by the interleaved scan.
-    fn skip_interleaved<L: Ledger>(&self, block: &[u8], from: usize, steps: &mut Steps<L>) -> usize
-        requires within { from ≤ length block.now }
-        requires whole { AreWholeLines (drop from block.now) }
-        ensures skipped { AreSkipped (λ has_match. Decides has_match self.now.tree)
-            block.now from result }
-        ensures most { steps.new ≤ steps.old + 2 * (result - from) + 2 * most_batch }
-        ensures all { steps.new ≤ steps.old + 2 * (length block.now - from) }
-    {
-        skip_interleaved(&self.dfa.transitions, block, from, steps)
+        let line = self.first_match(block, start, to, steps);
+        Searched {
+            to,
+            line,
+            wasted: 0,
+        }
     }
 
     /// The first matching line of those between two offsets, by one scan.
@@ -467,15 +383,13 @@ impl<'a> Matcher<'a> {
         })
     }
 
-    /// Chooses the next method.
-    fn method(&mut self) -> Method
-        ensures { self.new ≡ self.old }
-    {
-        self.pacing.method()
+    /// The method for the next part.
+    fn method(&self) -> Method {
+        self.pacing.method
     }
 
-    /// Notes what a search by the method has shown.
-    fn note_part(&mut self, method: Method, from: usize, searched: Searched)
+    /// Notes what the search of a part has shown.
+    fn note_part(&mut self, from: usize, searched: Searched)
         ensures { self.new ≡ self.old }
     {
         let (end, found) = match searched.line {
@@ -487,6 +401,6 @@ impl<'a> Matcher<'a> {
             .wasted
             .saturating_sub(searched.to.saturating_sub(from));
         self.pacing
-            .note_part(method, end.saturating_sub(from), wasted, found);
+            .note_part(end.saturating_sub(from), wasted, found);
     }
 }

@@ -4,8 +4,8 @@ ghost use Rattle.cs_syntax.specs.Node.{tree_of};
 ghost use Rattle.cs_syntax.specs.NodeList.{trees_of};
 ghost use Rattle.cs_match.specs.Entered.{position_list, position_list_of, if_entered, if_previous, if_kept};
 
-use crate::input::{Input, is_begun, is_taken};
-use cs_syntax::{ByteSet, CharSet, Node};
+use crate::input::Input;
+use cs_syntax::{ByteSet, CharSet, CharStep, Node};
 use std::alloc::{AllocError, Global};
 
 /// A position of the automaton.
@@ -26,8 +26,11 @@ impl Position {
     {
         match self {
             Position::Bytes(set) => set.contains(input.byte),
-            Position::Begun => is_begun(true, false, input.char),
-            Position::Taken(set) => is_taken(set, false, true, input.char),
+            Position::Begun => matches!(input.char, CharStep::Begins(_)),
+            Position::Taken(set) => match input.char {
+                CharStep::Completes(low) => set.contains(low),
+                _ => false,
+            },
         }
     }
 
@@ -36,7 +39,10 @@ impl Position {
         ensures { result ≡ if_previous input self.now }
     {
         match self {
-            Position::Taken(set) => is_taken(set, true, false, input.char),
+            Position::Taken(set) => match input.char {
+                CharStep::Single(byte) => set.contains(u32::from(byte)),
+                _ => false,
+            },
             _ => false,
         }
     }
@@ -46,7 +52,7 @@ impl Position {
         ensures { result ≡ if_kept input self.now }
     {
         match self {
-            Position::Begun => is_begun(false, true, input.char),
+            Position::Begun => matches!(input.char, CharStep::Inside(_)),
             _ => false,
         }
     }

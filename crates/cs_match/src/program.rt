@@ -99,13 +99,6 @@ impl Program {
         })
     }
 
-    /// The expanded tree.
-    pub(crate) fn root(&self) -> &Node
-        ensures { tree_of result.now ≡ self.now }
-    {
-        &self.root
-    }
-
     /// The tree without its sets.
     pub(crate) fn part(&self) -> &Part
         ensures shape { HaveSameShape self.now (shape_of result.now) }

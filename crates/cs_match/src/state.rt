@@ -90,6 +90,8 @@ impl State {
     }
 
     /// Whether the line has a match, simulated byte by byte.
+    #[cold]
+    #[inline(never)]
     pub(crate) fn search<L: Ledger>(
         &mut self,
         program: &Program,

@@ -1,5 +1,5 @@
 -- Buckets of a byte and of three bytes.
-use Rattle.std.proofs.Common.{◌≡◌, ℕ, ◌+◌, ◌*◌, ◌/◌, ◌%◌, ◌^◌, ◌<◌, true, List, length, get_or, set, ap, sym, subst, ◌∙◌, bit_and, bit_or, inl, inr, arith, add-zero, w8}
+use Rattle.std.proofs.Common.{◌≡◌, ℕ, ◌+◌, ◌*◌, ◌/◌, ◌%◌, ◌^◌, ◌<◌, true, List, [], length, get_or, set, ap, sym, subst, ◌∙◌, bit_and, bit_or, inl, inr, arith, add-zero, w8}
 use Rattle.std.specs.Int.{bit_at}
 use Rattle.std.proofs.lemmas.Bool.{cases_eq}
 use Rattle.std.proofs.lemmas.Nat.Bits.{bit_at-zero, bit_at_and, bit_at_or, bit_at-lt, bit_at_set_same}
@@ -54,7 +54,8 @@ module _ (low high : List ℕ) (at_low at_high bucket : ℕ) (in_low : at_low < 
       (ap (λ i. bit_at (get_or (bit_is_set high at_high bucket) i 0) bucket) is_high ∙ bit_set_here high at_high bucket in_high small)
 
   -- other bytes keep their buckets
-  pub KeepsByteBuckets-bit_is_set : KeepsByteBuckets record { low = low; high = high } record { low = bit_is_set low at_low bucket; high = bit_is_set high at_high bucket }
+  pub KeepsByteBuckets-bit_is_set : KeepsByteBuckets record { low = low; high = high }
+      record { low = bit_is_set low at_low bucket; high = bit_is_set high at_high bucket }
   unfolding buckets
   KeepsByteBuckets-bit_is_set b g h =
       in_both _ _ g
@@ -62,7 +63,8 @@ module _ (low high : List ℕ) (at_low at_high bucket : ℕ) (in_low : at_low < 
       (bit_set_keeps high at_high bucket (b / 16) g in_high (in_right _ _ g h))
 
 -- three bytes are in a bucket if each of them is
-pub buckets_of_bytes : (trigram_masks : TrigramMasks) (a b c g : ℕ) → IsInBucket trigram_masks.first a g → IsInBucket trigram_masks.second b g → IsInBucket trigram_masks.third c g
+pub buckets_of_bytes : (trigram_masks : TrigramMasks) (a b c g : ℕ) → IsInBucket trigram_masks.first a g →
+    IsInBucket trigram_masks.second b g → IsInBucket trigram_masks.third c g
     → bit_at (buckets_of trigram_masks a b c) g ≡ 1
 unfolding buckets_of
 buckets_of_bytes trigram_masks a b c g one two three = in_both _ _ g one (in_both _ _ g two three)
@@ -78,23 +80,18 @@ KeepsBuckets-each old new one two three a b c g h =
 -- a word keeps its bucket
 pub HasBucket-kept : (old new : TrigramMasks) → KeepsBuckets old new → (word : Word) → HasBucket old word → HasBucket new word
 HasBucket-kept old new keeps word of = record {
-  trigram = of.trigram;
-  begins = of.begins;
+  long = of.long;
   bucket = of.bucket;
-  has = λ a b c in_a in_b in_c has_a has_b has_c. keeps a b c of.bucket (of.has a b c in_a in_b in_c has_a has_b has_c);
+  has = λ a b c d in_a in_b in_c has_a has_b has_c. keeps a b c of.bucket (of.has a b c d in_a in_b in_c has_a has_b has_c);
 }
 
 -- no word of a bucket occurs at an offset that is not a candidate
 pub none_without_candidate : (trigram_masks : TrigramMasks) (text : List ℕ) (k : ℕ) → ((i : ℕ) → get_or text i 0 < 256)
     → buckets_at trigram_masks text k ≡ 0 → (word : Word) → HasBucket trigram_masks word → WordAt text k word → ⊥
 none_without_candidate trigram_masks text k bytes none word of occurs =
-    let t = of.trigram in
-    let b = of.begins in
-    let first : member t.first (get_or text k 0) ≡ true =
-    ap (λ s. member s (get_or text k 0)) b.first ∙ ap (λ i. member (get_or word.sets.items 0 t.first) (get_or text i 0)) (sym (add-zero k)) ∙ occurs.each 0 t.first (omega (arith, b.long)) in
-    let second : member t.second (get_or text (k + 1) 0) ≡ true =
-    ap (λ s. member s (get_or text (k + 1) 0)) b.second ∙ occurs.each 1 t.second (omega (arith, b.long)) in
-    let third : member t.third (get_or text (k + 2) 0) ≡ true =
-    ap (λ s. member s (get_or text (k + 2) 0)) b.third ∙ occurs.each 2 t.third (omega (arith, b.long)) in
-    let set = of.has _ _ _ (bytes k) (bytes (k + 1)) (bytes (k + 2)) first second third in
+    let at = λ (i : ℕ) (within : i < length word.sets.items). occurs.each i [] within in
+    let first : member (get_or word.sets.items 0 []) (get_or text k 0) ≡ true =
+    ap (λ i. member (get_or word.sets.items 0 []) (get_or text i 0)) (sym (add-zero k)) ∙ at 0 (omega (arith, of.long)) in
+    let set = of.has _ _ _ [] (bytes k) (bytes (k + 1)) (bytes (k + 2)) first (at 1 (omega (arith, of.long)))
+    (at 2 (omega (arith, of.long))) in
     absurd (omega (arith, set, ap (λ n. bit_at n of.bucket) none, bit_at-zero of.bucket))

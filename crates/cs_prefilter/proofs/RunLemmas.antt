@@ -44,7 +44,8 @@ module _ (line : List ℕ) where
                 let low_n : i < n = omega (arith, long) in
                 ap (λ p. member (get_or word.sets.items i d) (slice_index line p)) (sym there)
                 ∙ ap (λ sets. member (get_or sets i d) (slice_index line (e.start + (from + i)))) is
-                ∙ ap (λ s. member s (slice_index line (e.start + (from + i)))) (get_or-take n (drop from run) i d low_n ∙ get_or-drop from run i d)
+                ∙ ap (λ s. member s (slice_index line (e.start + (from + i)))) (get_or-take n (drop from run) i d low_n
+                ∙ get_or-drop from run i d)
                 ∙ e.each (from + i) d (omega (arith, low_n));
           },
         ),
@@ -53,7 +54,8 @@ module _ (line : List ℕ) where
   ends_empty : (i : ℕ) → i ≤ length line → SetsEndAt line [] i
   ends_empty i le = record { within = le; start = i; long = omega arith; each = λ k d lt. absurd (omega arith) }
 
-  ends_more : (sets : List (List Bool)) (set : List Bool) (i j : ℕ) → SetsEndAt line sets i → i < length line → member set (slice_index line i) ≡ true → j ≡ suc i → SetsEndAt line (sets ++ set ∷ []) j
+  ends_more : (sets : List (List Bool)) (set : List Bool) (i j : ℕ) → SetsEndAt line sets i → i < length line →
+      member set (slice_index line i) ≡ true → j ≡ suc i → SetsEndAt line (sets ++ set ∷ []) j
   ends_more sets set i j e lt is next =
       let long : length (sets ++ set ∷ []) ≡ suc (length sets) = omega (arith, length-append sets (set ∷ [])) in
       record {
@@ -61,11 +63,13 @@ module _ (line : List ℕ) where
         start = e.start;
         long = omega (arith, e.long);
         each = λ k d low. elim (cases_lt k (length sets)) [
-          | inl before ↦ ap (λ s. member s (slice_index line (e.start + k))) (get_or_append_left sets (set ∷ []) d k before) ∙ e.each k d before
+          | inl before ↦ ap (λ s. member s (slice_index line (e.start + k)))
+              (get_or_append_left sets (set ∷ []) d k before) ∙ e.each k d before
           | inr after ↦
               let last : k ≡ length sets = omega arith in
               let at : e.start + k ≡ i = omega (arith, e.long) in
-              ap (λ s. member s (slice_index line (e.start + k))) (ap (λ n. get_or (sets ++ set ∷ []) n d) last ∙ get_or-append_seam sets set [] d)
+              ap (λ s. member s (slice_index line (e.start + k))) (ap (λ n. get_or (sets ++ set ∷ []) n d) last
+              ∙ get_or-append_seam sets set [] d)
               ∙ ap (λ p. member set (slice_index line p)) at ∙ is
         ];
       }
@@ -80,12 +84,14 @@ follow_none T still runs = record {
   grows = omega arith;
   ends = λ from low high line i j h ends.
       let to : from ≡ max from runs.start = omega arith in
-      subst (SetsEndAt line (sets_from (max from runs.start) runs)) (still line i j h) (ends_same line _ _ i (ap (λ n. sets_from n runs) to) ends);
+      subst (SetsEndAt line (sets_from (max from runs.start) runs)) (still line i j h)
+      (ends_same line _ _ i (ap (λ n. sets_from n runs) to) ends);
   best = λ line i j h ends has. has;
 }
 
 -- one more set
-pub follow_set : (set : List Bool) (old new : Runs) → new.sets.items ≡ old.sets.items ++ set ∷ [] → new.start ≡ old.start → new.best ≡ old.best →
+pub follow_set : (set : List Bool) (old new : Runs) → new.sets.items ≡ old.sets.items ++ set ∷ [] → new.start
+    ≡ old.start → new.best ≡ old.best →
     RunsFollow (λ line i j. MatchesSpan line (one_of set) i j) old new
 follow_set set old new sets start best = record {
   rises = omega (arith, start);
@@ -104,26 +110,30 @@ KeepsBest old new = (line : List ℕ) (j : ℕ) → SetsEndAt line (current_sets
 
 -- the run ends, and nothing is known of the bytes that the part matches
 pub follow_cut : (t : Tree) (old new : Runs) → new.sets.items ≡ old.sets.items → new.start ≡ vec_len old.sets →
-    ((line : List ℕ) (i j : ℕ) → SetsEndAt line (current_sets old) i → MatchesSpan line t i j → HasWordOf line old.best → HasWordOf line new.best) →
+    ((line : List ℕ) (i j : ℕ) → SetsEndAt line (current_sets old) i → MatchesSpan line t i j →
+    HasWordOf line old.best → HasWordOf line new.best) →
     RunsFollow (λ line i j. MatchesSpan line t i j) old new
 follow_cut t old new sets start best = record {
   rises = omega (arith, start, old.within);
   grows = omega (arith, ap length sets);
   ends = λ from low high line i j h e.
       let to : length old.sets.items ≡ max from new.start = omega (arith, start) in
-      let is : [] ≡ sets_from (max from new.start) new = sym (drop-length old.sets.items) ∙ ap (drop (length old.sets.items)) (sym sets) ∙ ap (λ n. sets_from n new) to in
+      let is : [] ≡ sets_from (max from new.start) new = sym (drop-length old.sets.items)
+      ∙ ap (drop (length old.sets.items)) (sym sets) ∙ ap (λ n. sets_from n new) to in
       ends_same line _ _ j is (ends_empty line j (within line t i j h e.within));
   best = λ line i j h e has. best line i j e h has;
 }
 
 -- the current run ends where the span of the part ends
-run_ends : (T : List ℕ → ℕ → ℕ → Type 0) (old new : Runs) → RunsFollow T old new → (line : List ℕ) (i j : ℕ) → T line i j → SetsEndAt line (current_sets old) i → SetsEndAt line (current_sets new) j
+run_ends : (T : List ℕ → ℕ → ℕ → Type 0) (old new : Runs) → RunsFollow T old new → (line : List ℕ) (i j : ℕ) →
+    T line i j → SetsEndAt line (current_sets old) i → SetsEndAt line (current_sets new) j
 run_ends T old new f line i j h e =
     let to : max old.start new.start ≡ new.start = omega (arith, f.rises) in
     ends_same line _ _ j (ap (λ n. sets_from n new) to) (f.ends old.start (omega arith) (omega (arith, old.within)) line i j h e)
 
 -- one part after another
-pub follow_more : (t : Tree) (ts : Trees) (first next last : Runs) → RunsFollow (λ line i j. MatchesSpan line t i j) first next → RunsFollow (λ line i j. MatchesSequence line ts i j) next last →
+pub follow_more : (t : Tree) (ts : Trees) (first next last : Runs) → RunsFollow (λ line i j. MatchesSpan line t i j)
+    first next → RunsFollow (λ line i j. MatchesSequence line ts i j) next last →
     RunsFollow (λ line i j. MatchesSequence line (more t ts) i j) first last
 follow_more t ts first next last f g = record {
   rises = omega (arith, f.rises, g.rises);
@@ -131,13 +141,15 @@ follow_more t ts first next last f g = record {
   ends = λ from low high line i j h e.
       let to : max (max from next.start) last.start ≡ max from last.start = omega (arith, g.rises) in
       let mid = f.ends from low high line i h.0 h.1 e in
-      ends_same line _ _ j (ap (λ n. sets_from n last) to) (g.ends (max from next.start) (omega arith) (omega (arith, f.grows, next.within)) line h.0 j h.2 mid);
+      ends_same line _ _ j (ap (λ n. sets_from n last) to)
+      (g.ends (max from next.start) (omega arith) (omega (arith, f.grows, next.within)) line h.0 j h.2 mid);
   best = λ line i j h e has.
       g.best line h.0 j h.2 (run_ends _ first next f line i h.0 h.1 e) (f.best line i h.0 h.1 e has);
 }
 
 -- at least one iteration
-pub follow_rounds : (x : Tree) (n at : ℕ) (m : Option ℕ) (first next last : Runs) → 0 < n → at ≡ vec_len first.sets → RunsFollow (λ line i j. MatchesSpan line x i j) first next →
+pub follow_rounds : (x : Tree) (n at : ℕ) (m : Option ℕ) (first next last : Runs) → 0 < n → at ≡ vec_len first.sets →
+    RunsFollow (λ line i j. MatchesSpan line x i j) first next →
     last.sets.items ≡ next.sets.items → last.start ≡ max next.start at → KeepsBest next last →
     RunsFollow (λ line i j. MatchesSpan line (rep x n m) i j) first last
 follow_rounds x n at m first next last some behind f sets start best = record {
@@ -148,7 +160,8 @@ follow_rounds x n at m first next last some behind f sets start best = record {
       let is : sets_from (max at next.start) next ≡ sets_from (max from last.start) last =
       ap (drop (max at next.start)) (sym sets) ∙ ap (λ k. sets_from k last) to in
       let round = last_round line x n m i j some h e.within in
-      let none_yet = ends_same line _ _ round.0 (sym (drop_of_length-le first.sets.items {i = at} (omega (arith, behind)))) (ends_empty line round.0 round.1) in
+      let none_yet = ends_same line _ _ round.0
+      (sym (drop_of_length-le first.sets.items {i = at} (omega (arith, behind)))) (ends_empty line round.0 round.1) in
       ends_same line _ _ j is (f.ends at (omega (arith, behind, first.within)) (omega (arith, behind)) line round.0 j round.2 none_yet);
   best = λ line i j h e has.
       let round = first_round line x n m i j some h in
@@ -156,7 +169,8 @@ follow_rounds x n at m first next last some behind f sets start best = record {
 }
 
 -- runs collected from the empty list
-pub chosen : (t : Tree) (first next last : Runs) → first.sets.items ≡ [] → first.best ≡ None → RunsFollow (λ line i j. MatchesSpan line t i j) first next → KeepsBest next last →
+pub chosen : (t : Tree) (first next last : Runs) → first.sets.items ≡ [] → first.best ≡ None →
+    RunsFollow (λ line i j. MatchesSpan line t i j) first next → KeepsBest next last →
     (line : List ℕ) (i j : ℕ) → i ≤ length line → MatchesSpan line t i j → HasWordOf line last.best
 chosen t first next last sets best f kept line i j here h =
     let empty_run : [] ≡ current_sets first = sym (drop_of_length-le first.sets.items {i = first.start} (omega (arith, ap length sets))) in
@@ -164,13 +178,15 @@ chosen t first next last sets best f kept line i j here h =
     kept line j (run_ends _ first next f line i j h start) (f.best line i j h start (subst (HasWordOf line) (sym best) tt))
 
 -- the same for an equal tree
-pub follow_same : (t u : Tree) (old new : Runs) → t ≡ u → RunsFollow (λ line i j. MatchesSpan line u i j) old new → RunsFollow (λ line i j. MatchesSpan line t i j) old new
+pub follow_same : (t u : Tree) (old new : Runs) → t ≡ u → RunsFollow (λ line i j. MatchesSpan line u i j) old new →
+    RunsFollow (λ line i j. MatchesSpan line t i j) old new
 follow_same t u old new e f = subst (λ (v : Tree). RunsFollow (λ line i j. MatchesSpan line v i j) old new) (sym e) f
 
 -- words that every span has to contain are required
 pub required : (t : Tree) (words : Option Words) (prefilter : Option (List Word × Bool)) →
     ((line : List ℕ) (i j : ℕ) → i ≤ length line → MatchesSpan line t i j → HasWordOf line words) →
-    ((line : List ℕ) → HasWordOf line words → IfSome prefilter (λ p. HasWord p.0 line)) → IfSome prefilter (λ p. p.1 ≡ true → AreSufficient t p.0) → IfSome prefilter (IsPrefilterOf t)
+    ((line : List ℕ) → HasWordOf line words → IfSome prefilter (λ p. HasWord p.0 line)) →
+    IfSome prefilter (λ p. p.1 ≡ true → AreSufficient t p.0) → IfSome prefilter (IsPrefilterOf t)
 required t words None has by all = tt
 required t words (Some p) has by all = record {
   required = λ line found. by line (has line found.0 found.1 (omega (arith, found.2, found.3)) found.4);

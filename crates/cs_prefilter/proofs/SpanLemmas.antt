@@ -7,7 +7,8 @@ use Rattle.cs_syntax.proofs.EncodingLemmas.{occurs_within}
 
 -- a span that begins within the line ends within it
 module _ (s : List ℕ) where
-  chain_within : (R : ℕ → ℕ → Type 0) → ((i j : ℕ) → R i j → i ≤ length s → j ≤ length s) → (k i j : ℕ) → Chain R k i j → i ≤ length s → j ≤ length s
+  chain_within : (R : ℕ → ℕ → Type 0) → ((i j : ℕ) → R i j → i ≤ length s → j ≤ length s) → (k i j : ℕ) →
+      Chain R k i j → i ≤ length s → j ≤ length s
   chain_within R each zero i j h le = omega (arith, h)
   chain_within R each (suc k) i j h le = chain_within R each k h.0 j h.2 (each i h.0 h.1 le)
 
@@ -37,7 +38,8 @@ module _ (s : List ℕ) where
   chain_last x (suc k) i j h le = chain_last x k h.0 j h.2 (within x i h.0 h.1 le)
 
   -- the last of some iterations begins within the line
-  pub last_round : (x : Tree) (n : ℕ) (m : Option ℕ) (i j : ℕ) → 0 < n → MatchesSpan s (rep x n m) i j → i ≤ length s → (l : ℕ) × (l ≤ length s) × MatchesSpan s x l j
+  pub last_round : (x : Tree) (n : ℕ) (m : Option ℕ) (i j : ℕ) → 0 < n → MatchesSpan s (rep x n m) i j → i ≤ length s →
+      (l : ℕ) × (l ≤ length s) × MatchesSpan s x l j
   last_round x n m i j some (zero, le, most, chain) here = absurd (omega arith)
   last_round x n m i j some (suc k, le, most, chain) here = chain_last x k i j chain here
 

@@ -1,9 +1,8 @@
 -- Buckets of class trigrams (Teddy): the buckets that the nibble masks give for three neighbouring bytes.
-use Rattle.std.specs.Prelude.{◌≡◌, ℕ, ◌+◌, ◌/◌, ◌%◌, ◌<◌, ◌≤◌, true, List, length, slice_index, slice_index_or, bit_and}
+use Rattle.std.specs.Prelude.{◌≡◌, ℕ, ◌+◌, ◌/◌, ◌%◌, ◌<◌, ◌≤◌, true, Bool, List, length, slice_index, slice_index_or, bit_and}
 use Rattle.std.specs.Int.{bit_at}
 use Rattle.cs_syntax.specs.Matching.{member}
 use Rattle.cs_prefilter.specs.declared.word.Word.{Word}
-use Rattle.cs_prefilter.specs.declared.class_trigram.ClassTrigram.{ClassTrigram}
 use Rattle.cs_prefilter.specs.declared.masks.NibbleMasks.{NibbleMasks}
 use Rattle.cs_prefilter.specs.declared.masks.TrigramMasks.{TrigramMasks}
 
@@ -38,23 +37,15 @@ abbrev pub KeepsBuckets : TrigramMasks → TrigramMasks → Type 0
 KeepsBuckets old new =
     (a b c bucket : ℕ) → bit_at (buckets_of old a b c) bucket ≡ 1 → bit_at (buckets_of new a b c) bucket ≡ 1
 
--- any three bytes that the trigram matches are in the bucket
-abbrev pub TrigramIsInBucket : TrigramMasks → ClassTrigram → ℕ → Type 0
-TrigramIsInBucket trigram_masks trigram bucket =
-    (a b c : ℕ) → a < 256 → b < 256 → c < 256
-    → member trigram.first a ≡ true → member trigram.second b ≡ true → member trigram.third c ≡ true
-    → bit_at (buckets_of trigram_masks a b c) bucket ≡ 1
-
--- the word begins with the sets of the trigram
-pub record BeginsWith (word : Word) (trigram : ClassTrigram) : Type 0 where
-  pub long : 3 ≤ length word.sets.items
-  pub first : trigram.first ≡ slice_index_or word.sets.items 0 trigram.first
-  pub second : trigram.second ≡ slice_index_or word.sets.items 1 trigram.second
-  pub third : trigram.third ≡ slice_index_or word.sets.items 2 trigram.third
+-- any three bytes that the first three sets of the word have are in the bucket
+abbrev pub TrigramIsInBucket : TrigramMasks → Word → ℕ → Type 0
+TrigramIsInBucket trigram_masks word bucket =
+    (a b c : ℕ) (d : List Bool) → a < 256 → b < 256 → c < 256
+    → member (slice_index_or word.sets.items 0 d) a ≡ true → member (slice_index_or word.sets.items 1 d) b ≡ true
+    → member (slice_index_or word.sets.items 2 d) c ≡ true → bit_at (buckets_of trigram_masks a b c) bucket ≡ 1
 
 -- the trigram that the word begins with is in some bucket
 pub record HasBucket (trigram_masks : TrigramMasks) (word : Word) : Type 0 where
-  pub trigram : ClassTrigram
-  pub begins : BeginsWith word trigram
+  pub long : 3 ≤ length word.sets.items
   pub bucket : ℕ
-  pub has : TrigramIsInBucket trigram_masks trigram bucket
+  pub has : TrigramIsInBucket trigram_masks word bucket

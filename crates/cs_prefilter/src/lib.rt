@@ -6,7 +6,6 @@
 #![tactic(auto)]
 
 mod byte_test;
-mod class_trigram;
 mod lanes;
 mod masks;
 mod pair;

@@ -1,11 +1,10 @@
 // Nibble masks (shufti) with a bit for each bucket of class trigrams (Teddy).
-ghost use Rattle.std.specs.Prelude.{◌≡◌, ◌≢◌, ◌↔◌, ℕ, ◌+◌, ◌<◌, ◌≤◌, length, slice_index, true, IsTrue, IfSome, All};
+ghost use Rattle.std.specs.Prelude.{◌≡◌, ◌≢◌, ◌↔◌, ℕ, ◌+◌, ◌<◌, ◌≤◌, length, vec_len, slice_index, true, IfSome, All};
 ghost use Rattle.std.specs.Int.{bit_at};
 ghost use Rattle.cs_syntax.specs.Matching.{member};
 ghost use Rattle.cs_prefilter.specs.Lanes.{HasLanes};
 ghost use Rattle.cs_prefilter.specs.Buckets.{buckets, buckets_of, buckets_at, IsInBucket, KeepsByteBuckets, KeepsBuckets, TrigramIsInBucket, HasBucket, NoCandidate};
 
-use crate::class_trigram::ClassTrigram;
 use crate::lanes::{both, by_high_nibble, by_low_nibble, load, next, nonzero};
 use crate::word::Word;
 use cs_syntax::ByteSet;
@@ -93,35 +92,24 @@ impl TrigramMasks {
             third: NibbleMasks::new(),
         };
         for (i, word) in words.iter().enumerate() {
-            let Some(trigram) = ClassTrigram::of(word) else {
+            if word.sets.len() < 3 {
                 return None;
-            };
-            trigram_masks.add(&trigram, i.wrapping_mul(BUCKETS) / words.len() % BUCKETS);
+            }
+            trigram_masks.add(word, i.wrapping_mul(BUCKETS) / words.len() % BUCKETS);
         }
         Some(trigram_masks)
     }
 
-    /// Adds the trigram to the bucket.
-    fn add(&mut self, trigram: &ClassTrigram, bucket: usize)
-        requires { bucket < BUCKETS }
-        ensures has { TrigramIsInBucket self.new trigram.now bucket }
+    /// Adds the trigram that the word begins with to the bucket.
+    fn add(&mut self, word: &Word, bucket: usize)
+        requires long { 3 ≤ vec_len word.now.sets }
+        requires bucket { bucket < BUCKETS }
+        ensures has { TrigramIsInBucket self.new word.now bucket }
         ensures keeps { KeepsBuckets self.old self.new }
     {
-        self.first.add(&trigram.first, bucket);
-        self.second.add(&trigram.second, bucket);
-        self.third.add(&trigram.third, bucket);
-    }
-
-    /// The buckets of the trigrams that may occur at the next offsets.
-    #[inline(always)]
-    fn bucket_lanes(&self, text: &[u8], offset: usize) -> u8x32
-        requires { offset + LANES ≤ length text.now }
-        ensures { (k : ℕ) → k < STRIDE
-            → slice_index result k ≡ buckets_at self.now text.now (offset + k) }
-    {
-        let bytes = load(text, offset);
-        let later = both(self.second.lanes(bytes), next(self.third.lanes(bytes)));
-        both(self.first.lanes(bytes), next(later))
+        self.first.add(&word.sets[0], bucket);
+        self.second.add(&word.sets[1], bucket);
+        self.third.add(&word.sets[2], bucket);
     }
 
     /// A bit for each of the next offsets, set if it is a candidate.
@@ -131,26 +119,9 @@ impl TrigramMasks {
         ensures { (k : ℕ) → k < STRIDE
             → (bit_at result k ≡ 1) ↔ (buckets_at self.now text.now (offset + k) ≢ 0) }
     {
-        nonzero(self.bucket_lanes(text, offset))
-    }
-
-    /// Whether none of the next offsets is a candidate.
-    #[inline(always)]
-    fn has_no_candidate(&self, text: &[u8], offset: usize) -> bool
-        requires { offset + LANES ≤ length text.now }
-        ensures { IsTrue result → NoCandidate self.now text.now offset (offset + STRIDE) }
-    {
-        self.candidate_mask(text, offset) == 0
-    }
-
-    /// The number of offsets before the first candidate among the next offsets; all of them if there is no candidate.
-    #[inline(always)]
-    fn len_before_candidate(&self, text: &[u8], offset: usize) -> usize
-        requires { offset + LANES ≤ length text.now }
-        ensures within { result ≤ STRIDE }
-        ensures none { NoCandidate self.now text.now offset (offset + result) }
-    {
-        (self.candidate_mask(text, offset).trailing_zeros() as usize).min(STRIDE)
+        let bytes = load(text, offset);
+        let later = both(self.second.lanes(bytes), next(self.third.lanes(bytes)));
+        nonzero(both(self.first.lanes(bytes), next(later)))
     }
 
     /// The first candidate at or after `from`. Fewer than 32 bytes before the end of the text it stops in any case, at
@@ -163,8 +134,9 @@ impl TrigramMasks {
     {
         let mut offset = from;
         'scan: while text.len() - offset >= LANES {
-            if !self.has_no_candidate(text, offset) {
-                return offset + self.len_before_candidate(text, offset);
+            let mask = self.candidate_mask(text, offset);
+            if mask != 0 {
+                return offset + (mask.trailing_zeros() as usize).min(STRIDE);
             }
             offset += STRIDE;
         }

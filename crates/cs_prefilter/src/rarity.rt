@@ -42,14 +42,9 @@ pub(crate) fn frequency_of(set: &ByteSet) -> u64 {
         return frequency(byte);
     }
     let mut sum = 0u64;
-    let mut left = set.len();
     for byte in 0..=255u8 {
-        if left == 0 {
-            break;
-        }
         if set.contains(byte) {
             sum = sum.saturating_add(frequency(byte));
-            left = left.saturating_sub(1);
         }
     }
     sum.min(10000)

@@ -4,22 +4,15 @@ ghost use Rattle.std.specs.Prelude.{◌≡◌, IfOk};
 ghost use Rattle.cs_match.specs.Cached.{IsCacheOf};
 
 use super::Matcher;
-use crate::dfa::LazyDfa;
-use crate::glushkov::Scratch;
+use crate::dfa::{LazyDfa, StateCache};
 use crate::pacing::Pacing;
 use crate::program::Program;
-use crate::state::State;
 use std::alloc::{AllocError, Global};
 
 /// The cached states of a matcher, and its counters.
 #[derive(Drop)]
 pub struct Cache {
-    pub(crate) transitions: Vec<u16>,
-    pub(crate) cached: Vec<State>,
-    pub(crate) hashes: [u8; 256],
-    pub(crate) used: usize,
-    pub(crate) scratch: State,
-    pub(crate) memory: Scratch,
+    pub(crate) states: StateCache,
     pacing: Pacing,
 }
 
@@ -38,25 +31,9 @@ impl<'a> Matcher<'a> {
         requires cache { IsCacheOf program.now cache }
         ensures tree { result.tree ≡ program.now }
     {
-        let Cache {
-            transitions,
-            cached,
-            hashes,
-            used,
-            scratch,
-            memory,
-            pacing,
-        } = cache;
+        let Cache { states, pacing } = cache;
         Matcher {
-            dfa: LazyDfa {
-                program,
-                transitions,
-                cached,
-                hashes,
-                used,
-                scratch,
-                memory,
-            },
+            dfa: LazyDfa { program, states },
             prefilter: program.prefilter(),
             pacing,
         }
@@ -71,23 +48,7 @@ impl<'a> Matcher<'a> {
             prefilter: _,
             pacing,
         } = self;
-        let LazyDfa {
-            program: _,
-            transitions,
-            cached,
-            hashes,
-            used,
-            scratch,
-            memory,
-        } = dfa;
-        Cache {
-            transitions,
-            cached,
-            hashes,
-            used,
-            scratch,
-            memory,
-            pacing,
-        }
+        let LazyDfa { program: _, states } = dfa;
+        Cache { states, pacing }
     }
 }

@@ -25,7 +25,8 @@ up-preserved c =
       from = given.from;
       to = omega (arith, given.to);
       bytes = omega (arith, c.up-test.true);
-      together = together_up c.args.program.now c.args.at c.down.low c.up.high (omega (arith, given.to)) (c.are_together-in-up.ensures c.if-are_together-2.true) given.together;
+      together = together_up c.args.program.now c.args.at c.down.low c.up.high (omega (arith, given.to))
+          (c.are_together-in-up.ensures c.if-are_together-2.true) given.together;
     }
 
 pub returns-then-byte-lt128-clause-together : goal.returns-then-byte-lt128-clause-together

@@ -11,5 +11,6 @@ loop-byte-preserved c =
       bytes = mark.bytes ∙ given.bytes;
       kept = λ b e. given.kept b (mark.kept b e);
       alike = marks_on (has_char c.args.set.now) c.loop-byte.begins c.mark.new.begins c.loop-byte.byte given.alike mark.kept
-          (λ e. ap (has_char c.args.set.now) (sym c.from.ensures) ∙ sym c.contains-before.ensures ∙ mark.marked e ∙ c.contains-here.ensures ∙ ap (has_char c.args.set.now) c.from-in-loop-byte.ensures);
+          (λ e. ap (has_char c.args.set.now) (sym c.from.ensures) ∙ sym c.contains-before.ensures ∙ mark.marked e
+          ∙ c.contains-here.ensures ∙ ap (has_char c.args.set.now) c.from-in-loop-byte.ensures);
     }

@@ -7,4 +7,5 @@ pub returns : goal.returns
 returns c =
     let all = c.reset.ensures.length ∙ c.deref_mut.ensures.len in
     let P : List ℕ → Type 0 = λ xs. (length xs ≡ 65536) × ((k : ℕ) → k < length xs → get_or xs k 0 ≡ blank_transition k) in
-    subst P (sym (with_items_is c.in_ok-transitions.transitions c.reset.new.transitions all)) (all ∙ c.in_ok-transitions.ensures.len, c.reset.ensures.blank)
+    subst P (sym (with_items_is c.in_ok-transitions.transitions c.reset.new.transitions all))
+    (all ∙ c.in_ok-transitions.ensures.len, c.reset.ensures.blank)

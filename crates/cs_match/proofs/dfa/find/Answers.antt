@@ -14,14 +14,19 @@ loop-slot-init g c =
     let hashes = c.args.hashes.now in
     let few : length (places test hashes) ≤ length hashes = omega (arith, length-places test hashes, count_by-le-length test hashes) in
     rw (c.into_iter-slot-iterator.ensures.into_iter_gives, c.memchr_iter-slot-items.ensures.value)
-    (record { slots = All-places test hashes; cost = omega (arith, c.add.ensures, scaled (length (places test hashes)) (length hashes) w few) })
+    (record {
+      slots = All-places test hashes;
+      cost =
+          omega (arith, c.add.ensures, scaled (length (places test hashes)) (length hashes) w few);
+    })
 
 pub loop-slot-preserved : goal.loop-slot-preserved
 loop-slot-preserved g c =
     let w = words (length c.args.state.now.positions) in
     let next : length c.loop-slot.slot-iterator ≡ suc (length c.next.new.self) = ap length c.in-Some.ensures.steps in
     record {
-      slots = All-rest (λ k. (k < length c.args.hashes.now) × Passes (is_byte c.args.hash) c.args.hashes.now k) c.in-Some.slot c.next.new.self c.loop-slot.slot-iterator
+      slots = All-rest (λ k. (k < length c.args.hashes.now) × Passes (is_byte c.args.hash) c.args.hashes.now k)
+          c.in-Some.slot c.next.new.self c.loop-slot.slot-iterator
           c.in-Some.ensures.steps c.loop-slot.invariant.slots;
       cost = omega (arith, c.loop-slot.invariant.cost, c.is_same.ensures.cost, ap (λ n. n * w) next);
     }

@@ -16,7 +16,8 @@ use Rattle.cs_match.proofs.expand.+expand.Goals as goal
 pub expand_all-returns : goal.expand_all-returns
 expand_all-returns t c =
     sym (append_none (trees_of c.loop-part.all.items))
-    ∙ ap (λ (ns : List Node). append (trees_of c.loop-part.all.items) (expansions (trees_of ns))) (sym (drop_of_length-le c.args.parts.now {i = c.loop-part.part-index} (omega arith)))
+    ∙ ap (λ (ns : List Node). append (trees_of c.loop-part.all.items) (expansions (trees_of ns)))
+    (sym (drop_of_length-le c.args.parts.now {i = c.loop-part.part-index} (omega arith)))
     ∙ c.loop-part.invariant
 
 pub expand_all-loop-part-preserved : goal.expand_all-loop-part-preserved
@@ -36,11 +37,15 @@ expand_repeat-returns-in_ok-push-in-None t c =
     let x = expansion (tree_of c.args.node.now) in
     let n = c.args.least in
     let some : 0 < n = omega arith in
-    let first : trees_of c.add_copies.new.parts.items ≡ copies (n - 1) x none = c.in_ok-add_copies-in-None.ensures ∙ ap (λ (ns : List Node). append (trees_of ns) (copies (n - 1) x none)) c.new-parts.ensures.items in
-    let loop : tree_of c.in_ok-last-in-None-2.last ≡ rep x 1 None = c.in_ok-last-in-None-2.ensures ∙ ap (λ u. rep u 1 None) c.in_ok-last-in-None.ensures in
+    let first : trees_of c.add_copies.new.parts.items ≡ copies (n - 1) x none = c.in_ok-add_copies-in-None.ensures
+    ∙ ap (λ (ns : List Node). append (trees_of ns) (copies (n - 1) x none)) c.new-parts.ensures.items in
+    let loop : tree_of c.in_ok-last-in-None-2.last ≡ rep x 1 None = c.in_ok-last-in-None-2.ensures
+    ∙ ap (λ u. rep u 1 None) c.in_ok-last-in-None.ensures in
     rw c.in-None.is
     (tree_of-Cat _ ∙ ap (λ (ns : List Node). cat (trees_of ns)) c.in_ok-push-in-None.ensures.items
-    ∙ ap cat (trees_last c.add_copies.new.parts.items c.in_ok-last-in-None-2.last ∙ ap (λ us. append us (more (tree_of c.in_ok-last-in-None-2.last) none)) first ∙ ap (λ u. append (copies (n - 1) x none) (more u none)) loop ∙ append_copies (n - 1) x (more (rep x 1 None) none))
+    ∙ ap cat (trees_last c.add_copies.new.parts.items c.in_ok-last-in-None-2.last
+    ∙ ap (λ us. append us (more (tree_of c.in_ok-last-in-None-2.last) none)) first
+    ∙ ap (λ u. append (copies (n - 1) x none) (more u none)) loop ∙ append_copies (n - 1) x (more (rep x 1 None) none))
     ∙ sym (counted_loop x n some))
 
 pub expand_repeat-returns-in_ok-add_copies-in-Some-2 : goal.expand_repeat-returns-in_ok-add_copies-in-Some-2
@@ -49,7 +54,8 @@ expand_repeat-returns-in_ok-add_copies-in-Some-2 t c =
     let n = c.args.least in
     let m = c.in-Some.most in
     let le : n ≤ m = omega arith in
-    let first : trees_of c.add_copies-in-Some.new.parts.items ≡ copies n x none = c.in_ok-add_copies-in-Some.ensures ∙ ap (λ (ns : List Node). append (trees_of ns) (copies n x none)) c.new-parts.ensures.items in
+    let first : trees_of c.add_copies-in-Some.new.parts.items ≡ copies n x none = c.in_ok-add_copies-in-Some.ensures
+    ∙ ap (λ (ns : List Node). append (trees_of ns) (copies n x none)) c.new-parts.ensures.items in
     let others = copies (m - n) (optional x) none in
     rw (c.in-Some.is, le-leb n m le)
     (tree_of-Cat _ ∙ ap cat (c.in_ok-add_copies-in-Some-2.ensures ∙ ap (λ us. append us others) first ∙ append_copies n x others))

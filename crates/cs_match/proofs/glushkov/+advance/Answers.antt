@@ -24,19 +24,26 @@ advance_all-loop-part-preserved g t c =
     let position = rw more at i.position in
     let repeat = rw more at i.repeat in
     let room : c.loop-part.cursor.position + position_count t ≤ length ms = omega arith in
-    let noted = noted_others t ts ms c.args.at.now.here c.loop-part.cursor.position _ next c.args.at.now.loops.now c.loop-part.cursor.repeat _
+    let noted = noted_others t ts ms c.args.at.now.here c.loop-part.cursor.position _ next c.args.at.now.loops.now
+    c.loop-part.cursor.repeat _
     (rw more at i.noted) c.advance-accepting.ensures.repeat in
     record {
       cost = omega (arith, c.advance-accepting.ensures.cost, i.cost, larger);
       position = omega arith;
       repeat = omega arith;
       noted = noted;
-      next = first_noted ts (drop c.advance-accepting.new.cursor.repeat c.args.at.now.loops.now) (drop c.advance-accepting.new.cursor.position ms) c.args.at.now.here noted;
+      next = first_noted ts (drop c.advance-accepting.new.cursor.repeat c.args.at.now.loops.now)
+          (drop c.advance-accepting.new.cursor.position ms) c.args.at.now.here noted;
       accepting = rw c.advance-accepting.ensures.accepting
-          (accepted_all t ts c.args.at.now.positions.now c.args.at.now.here c.loop-part.cursor.position _ next c.loop-part.accepting _ (rw more at i.accepting));
-      shifted = entered_shifted t ts ms first old new c.args.at.now.here c.loop-part.cursor.position _ c.loop-part.accepting next room i.shifted i.ahead moved;
-      ahead = entered_ahead t ts ms first old new c.args.at.now.here c.loop-part.cursor.position _ c.loop-part.accepting next room i.shifted i.ahead moved;
-      entries = rw c.advance-accepting.ensures.accepting (all_entered t ts ms first old new c.args.at.now.here c.loop-part.cursor.position _ c.loop-part.accepting next room i.shifted i.ahead moved _ (rw more at i.entries));
+          (accepted_all t ts c.args.at.now.positions.now c.args.at.now.here c.loop-part.cursor.position _ next
+          c.loop-part.accepting _ (rw more at i.accepting));
+      shifted = entered_shifted t ts ms first old new c.args.at.now.here c.loop-part.cursor.position _
+          c.loop-part.accepting next room i.shifted i.ahead moved;
+      ahead = entered_ahead t ts ms first old new c.args.at.now.here c.loop-part.cursor.position _ c.loop-part.accepting
+          next room i.shifted i.ahead moved;
+      entries = rw c.advance-accepting.ensures.accepting
+          (all_entered t ts ms first old new c.args.at.now.here c.loop-part.cursor.position _ c.loop-part.accepting next
+          room i.shifted i.ahead moved _ (rw more at i.entries));
     }
 
 pub advance_all-loop-part-init : goal.advance_all-loop-part-init
@@ -46,7 +53,8 @@ advance_all-loop-part-init g t c =
       position = refl;
       repeat = refl;
       noted = c.requires.noted;
-      next = first_noted (shapes_of c.args.parts.now) (drop c.args.cursor.now.repeat c.args.at.now.loops.now) (drop c.args.cursor.now.position c.args.at.now.positions.now) c.args.at.now.here c.requires.noted;
+      next = first_noted (shapes_of c.args.parts.now) (drop c.args.cursor.now.repeat c.args.at.now.loops.now)
+          (drop c.args.cursor.now.position c.args.at.now.positions.now) c.args.at.now.here c.requires.noted;
       accepting = refl;
       shifted = c.requires.shifted;
       ahead = refl;
@@ -69,19 +77,25 @@ advance_each-loop-part-preserved g t c =
     let position = rw more at i.position in
     let repeat = rw more at i.repeat in
     let room : c.loop-part.cursor.position + position_count t ≤ length ms = omega arith in
-    let noted = noted_others t ts ms c.args.at.now.here c.loop-part.cursor.position _ next c.args.at.now.loops.now c.loop-part.cursor.repeat _
+    let noted = noted_others t ts ms c.args.at.now.here c.loop-part.cursor.position _ next c.args.at.now.loops.now
+    c.loop-part.cursor.repeat _
     (rw more at i.noted) c.advance-accepting.ensures.repeat in
     record {
       cost = omega (arith, c.advance-accepting.ensures.cost, i.cost, larger);
       position = omega arith;
       repeat = omega arith;
       noted = noted;
-      next = first_noted ts (drop c.advance-accepting.new.cursor.repeat c.args.at.now.loops.now) (drop c.advance-accepting.new.cursor.position ms) c.args.at.now.here noted;
+      next = first_noted ts (drop c.advance-accepting.new.cursor.repeat c.args.at.now.loops.now)
+          (drop c.advance-accepting.new.cursor.position ms) c.args.at.now.here noted;
       accepting = rw c.advance-accepting.ensures.accepting
-          (accepted_each t ts c.args.at.now.positions.now c.args.at.now.here c.loop-part.cursor.position _ next c.args.enter c.loop-part.out _ (rw more at i.accepting));
-      shifted = entered_shifted t ts ms first old new c.args.at.now.here c.loop-part.cursor.position _ c.args.enter next room i.shifted i.ahead moved;
-      ahead = entered_ahead t ts ms first old new c.args.at.now.here c.loop-part.cursor.position _ c.args.enter next room i.shifted i.ahead moved;
-      entries = each_entered t ts ms first old new c.args.at.now.here c.loop-part.cursor.position _ c.args.enter next room i.shifted i.ahead moved _ (rw more at i.entries);
+          (accepted_each t ts c.args.at.now.positions.now c.args.at.now.here c.loop-part.cursor.position _ next
+          c.args.enter c.loop-part.out _ (rw more at i.accepting));
+      shifted = entered_shifted t ts ms first old new c.args.at.now.here c.loop-part.cursor.position _ c.args.enter next
+          room i.shifted i.ahead moved;
+      ahead = entered_ahead t ts ms first old new c.args.at.now.here c.loop-part.cursor.position _ c.args.enter next
+          room i.shifted i.ahead moved;
+      entries = each_entered t ts ms first old new c.args.at.now.here c.loop-part.cursor.position _ c.args.enter next
+          room i.shifted i.ahead moved _ (rw more at i.entries);
     }
 
 pub advance_each-loop-part-init : goal.advance_each-loop-part-init
@@ -91,7 +105,8 @@ advance_each-loop-part-init g t c =
       position = refl;
       repeat = refl;
       noted = c.requires.noted;
-      next = first_noted (shapes_of c.args.parts.now) (drop c.args.cursor.now.repeat c.args.at.now.loops.now) (drop c.args.cursor.now.position c.args.at.now.positions.now) c.args.at.now.here c.requires.noted;
+      next = first_noted (shapes_of c.args.parts.now) (drop c.args.cursor.now.repeat c.args.at.now.loops.now)
+          (drop c.args.cursor.now.position c.args.at.now.positions.now) c.args.at.now.here c.requires.noted;
       accepting = refl;
       shifted = c.requires.shifted;
       ahead = refl;
@@ -99,16 +114,20 @@ advance_each-loop-part-init g t c =
     }
 
 pub advance-returns-in-LineStart-clause-entries : goal.advance-returns-in-LineStart-clause-entries
-advance-returns-in-LineStart-clause-entries g t c = rw (ap shape_of c.in-LineStart.is ∙ shape_of-LineStart) (no_run_entered c.args.cursor.now.position c.args.entries.now)
+advance-returns-in-LineStart-clause-entries g t c = rw (ap shape_of c.in-LineStart.is ∙ shape_of-LineStart)
+    (no_run_entered c.args.cursor.now.position c.args.entries.now)
 
 pub advance-returns-in-LineEnd-clause-entries : goal.advance-returns-in-LineEnd-clause-entries
-advance-returns-in-LineEnd-clause-entries g t c = rw (ap shape_of c.in-LineEnd.is ∙ shape_of-LineEnd) (no_run_entered c.args.cursor.now.position c.args.entries.now)
+advance-returns-in-LineEnd-clause-entries g t c = rw (ap shape_of c.in-LineEnd.is ∙ shape_of-LineEnd)
+    (no_run_entered c.args.cursor.now.position c.args.entries.now)
 
 pub advance-returns-in-WordEdge-clause-entries : goal.advance-returns-in-WordEdge-clause-entries
-advance-returns-in-WordEdge-clause-entries g t c = rw (ap shape_of c.in-WordEdge.is ∙ shape_of-WordEdge) (no_run_entered c.args.cursor.now.position c.args.entries.now)
+advance-returns-in-WordEdge-clause-entries g t c = rw (ap shape_of c.in-WordEdge.is ∙ shape_of-WordEdge)
+    (no_run_entered c.args.cursor.now.position c.args.entries.now)
 
 pub advance-returns-in-NotWordEdge-clause-entries : goal.advance-returns-in-NotWordEdge-clause-entries
-advance-returns-in-NotWordEdge-clause-entries g t c = rw (ap shape_of c.in-NotWordEdge.is ∙ shape_of-NotWordEdge) (no_run_entered c.args.cursor.now.position c.args.entries.now)
+advance-returns-in-NotWordEdge-clause-entries g t c = rw (ap shape_of c.in-NotWordEdge.is ∙ shape_of-NotWordEdge)
+    (no_run_entered c.args.cursor.now.position c.args.entries.now)
 
 pub advance-enter_run-requires-clause-room : goal.advance-enter_run-requires-clause-room
 advance-enter_run-requires-clause-room g t c =

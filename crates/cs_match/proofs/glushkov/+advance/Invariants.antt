@@ -21,8 +21,11 @@ invariant-advance_all-loop-part g l =
       accepting : accepts (cat rest) l.accepting here l.at.here ≡ accepts (cat parts) l.enter first l.at.here;
       shifted : AreShifted l.cursor.position l.at.positions.now l.entries;
       ahead : drop l.cursor.position l.entries ≡ drop l.cursor.position l.fn.entries;
-      entries : take l.cursor.position l.entries ++ (entered_all rest l.accepting here l.at.here ++ drop (l.cursor.position + position_count_of rest) l.fn.entries)
-          ≡ take l.fn.cursor.position l.fn.entries ++ (entered_all parts l.enter first l.at.here ++ drop (l.fn.cursor.position + position_count_of parts) l.fn.entries);
+      entries : take l.cursor.position l.entries
+          ++ (entered_all rest l.accepting here l.at.here ++ drop (l.cursor.position + position_count_of rest) l.fn.entries)
+          ≡ take l.fn.cursor.position l.fn.entries
+          ++ (entered_all parts l.enter first l.at.here ++ drop (l.fn.cursor.position + position_count_of parts)
+          l.fn.entries);
     }
 
 abbrev pub invariant-advance_each-loop-part : goal.invariant-advance_each-loop-part
@@ -40,6 +43,9 @@ invariant-advance_each-loop-part g l =
       accepting : (l.out || accepts (alt rest) l.enter here l.at.here) ≡ accepts (alt parts) l.enter first l.at.here;
       shifted : AreShifted l.cursor.position l.at.positions.now l.entries;
       ahead : drop l.cursor.position l.entries ≡ drop l.cursor.position l.fn.entries;
-      entries : take l.cursor.position l.entries ++ (entered_each rest l.enter here l.at.here ++ drop (l.cursor.position + position_count_of rest) l.fn.entries)
-          ≡ take l.fn.cursor.position l.fn.entries ++ (entered_each parts l.enter first l.at.here ++ drop (l.fn.cursor.position + position_count_of parts) l.fn.entries);
+      entries : take l.cursor.position l.entries
+          ++ (entered_each rest l.enter here l.at.here ++ drop (l.cursor.position + position_count_of rest) l.fn.entries)
+          ≡ take l.fn.cursor.position l.fn.entries
+          ++ (entered_each parts l.enter first l.at.here ++ drop (l.fn.cursor.position + position_count_of parts)
+          l.fn.entries);
     }

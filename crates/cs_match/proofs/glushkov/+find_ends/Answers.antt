@@ -17,7 +17,8 @@ find_ends-returns-in-Rep-clause-noted g t c =
     ap shape_of c.in-Rep.is ∙ shape_of-Rep _ _ ∙ ap (λ n. rep (shape_of n) c.in-Rep.least None) (sym c.deref-in-Rep.ensures) in
     let ms = drop c.next_repeat-own.new.cursor.position c.args.positions.now in
     rw (e, ← c.next_repeat-own.ensures.position, c.note_loop.ensures, c.next_repeat-own.ensures.is, c.find_ends-ends.ensures.accepting)
-    (rep_noted c.args.loops.now c.find_ends-ends.new.loops c.args.cursor.now.repeat c.next_repeat-own.new.cursor.repeat (is_final x ms c.args.here) (loop_ends x ms c.args.here)
+    (rep_noted c.args.loops.now c.find_ends-ends.new.loops c.args.cursor.now.repeat c.next_repeat-own.new.cursor.repeat
+    (is_final x ms c.args.here) (loop_ends x ms c.args.here)
     c.next_repeat-own.ensures.repeat c.find_ends-ends.ensures.noted)
 
 pub find_ends_all-loop-part-preserved : goal.find_ends_all-loop-part-preserved
@@ -36,10 +37,12 @@ find_ends_all-loop-part-preserved g t c =
       within = omega arith;
       repeat = omega arith;
       accepting = rw (c.then-all.ensures.accepting, c.find_ends-ends.ensures.accepting, c.find_ends-ends.ensures.nullable)
-          (accepted_all t ts c.args.positions.now c.args.here c.loop-part.cursor.position _ next c.loop-part.all.accepting _ (rw more at i.accepting));
+          (accepted_all t ts c.args.positions.now c.args.here c.loop-part.cursor.position _ next
+          c.loop-part.all.accepting _ (rw more at i.accepting));
       nullable = rw (c.then-all.ensures.nullable, c.find_ends-ends.ensures.nullable)
           (and_assoc c.loop-part.all.nullable (nullable t c.args.here) (nullable_all ts c.args.here) ∙ rw more at i.nullable);
-      noted = noted_more t ts c.args.positions.now c.args.here c.loop-part.cursor.position _ next c.loop-part.loops c.find_ends-ends.new.loops _ c.loop-part.cursor.repeat _
+      noted = noted_more t ts c.args.positions.now c.args.here c.loop-part.cursor.position _ next c.loop-part.loops
+          c.find_ends-ends.new.loops _ c.loop-part.cursor.repeat _
           (rw more at i.noted) c.find_ends-ends.ensures.repeat c.find_ends-ends.ensures.noted;
     }
 
@@ -59,10 +62,12 @@ find_ends_some-loop-part-preserved g t c =
       within = omega arith;
       repeat = omega arith;
       accepting = rw (c.or-some.ensures.accepting, c.find_ends-ends.ensures.accepting)
-          (accepted_some t ts c.args.positions.now c.args.here c.loop-part.cursor.position _ next c.loop-part.some.accepting _ (rw more at i.accepting));
+          (accepted_some t ts c.args.positions.now c.args.here c.loop-part.cursor.position _ next
+          c.loop-part.some.accepting _ (rw more at i.accepting));
       nullable = rw (c.or-some.ensures.nullable, c.find_ends-ends.ensures.nullable)
           (or_assoc c.loop-part.some.nullable (nullable t c.args.here) (nullable_some ts c.args.here) ∙ rw more at i.nullable);
-      noted = noted_more t ts c.args.positions.now c.args.here c.loop-part.cursor.position _ next c.loop-part.loops c.find_ends-ends.new.loops _ c.loop-part.cursor.repeat _
+      noted = noted_more t ts c.args.positions.now c.args.here c.loop-part.cursor.position _ next c.loop-part.loops
+          c.find_ends-ends.new.loops _ c.loop-part.cursor.repeat _
           (rw more at i.noted) c.find_ends-ends.ensures.repeat c.find_ends-ends.ensures.noted;
     }
 

@@ -13,8 +13,10 @@ invariant-find_ends_all-loop-part g l =
       cost : l.steps + sizes_of (drop l.part-index l.parts) ≡ l.fn.steps + sizes_of l.parts;
       position : l.cursor.position + position_count_of rest ≡ l.fn.cursor.position + position_count_of parts;
       within : l.cursor.repeat ≤ length l.fn.loops;
-      repeat : min (length l.fn.loops) (l.cursor.repeat + repeats_of rest) ≡ min (length l.fn.loops) (l.fn.cursor.repeat + repeats_of parts);
-      accepting : accepts (cat rest) l.all.accepting (drop l.cursor.position l.positions) l.here ≡ is_final_all parts (drop l.fn.cursor.position l.positions) l.here;
+      repeat : min (length l.fn.loops) (l.cursor.repeat + repeats_of rest)
+          ≡ min (length l.fn.loops) (l.fn.cursor.repeat + repeats_of parts);
+      accepting : accepts (cat rest) l.all.accepting (drop l.cursor.position l.positions) l.here
+          ≡ is_final_all parts (drop l.fn.cursor.position l.positions) l.here;
       nullable : (l.all.nullable && nullable_all rest l.here) ≡ nullable_all parts l.here;
       noted : sets l.loops l.cursor.repeat (loop_ends_of rest (drop l.cursor.position l.positions) l.here)
           ≡ sets l.fn.loops l.fn.cursor.repeat (loop_ends_of parts (drop l.fn.cursor.position l.positions) l.here);
@@ -28,8 +30,10 @@ invariant-find_ends_some-loop-part g l =
       cost : l.steps + sizes_of (drop l.part-index l.parts) ≡ l.fn.steps + sizes_of l.parts;
       position : l.cursor.position + position_count_of rest ≡ l.fn.cursor.position + position_count_of parts;
       within : l.cursor.repeat ≤ length l.fn.loops;
-      repeat : min (length l.fn.loops) (l.cursor.repeat + repeats_of rest) ≡ min (length l.fn.loops) (l.fn.cursor.repeat + repeats_of parts);
-      accepting : (l.some.accepting || is_final_some rest (drop l.cursor.position l.positions) l.here) ≡ is_final_some parts (drop l.fn.cursor.position l.positions) l.here;
+      repeat : min (length l.fn.loops) (l.cursor.repeat + repeats_of rest)
+          ≡ min (length l.fn.loops) (l.fn.cursor.repeat + repeats_of parts);
+      accepting : (l.some.accepting || is_final_some rest (drop l.cursor.position l.positions) l.here)
+          ≡ is_final_some parts (drop l.fn.cursor.position l.positions) l.here;
       nullable : (l.some.nullable || nullable_some rest l.here) ≡ nullable_some parts l.here;
       noted : sets l.loops l.cursor.repeat (loop_ends_of rest (drop l.cursor.position l.positions) l.here)
           ≡ sets l.fn.loops l.fn.cursor.repeat (loop_ends_of parts (drop l.fn.cursor.position l.positions) l.here);

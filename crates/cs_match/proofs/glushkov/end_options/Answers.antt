@@ -12,7 +12,13 @@ use Rattle.cs_match.proofs.glushkov.end_options.Goals as goal
 pub end_run-ends-requires : goal.end_run-ends-requires
 end_run-ends-requires c =
     let one : c.args.count - c.loop-k.k ≡ suc (c.args.count - (c.loop-k.k + 1)) = omega arith in
-    omega (arith, c.requires, c.loop-k.invariant.position, ap (λ k. position_count (options c.args.n k)) one, position_count_optional c.args.n)
+    omega (
+      arith,
+      c.requires,
+      c.loop-k.invariant.position,
+      ap (λ k. position_count (options c.args.n k)) one,
+      position_count_optional c.args.n,
+    )
 
 pub loop-k-preserved : goal.loop-k-preserved
 loop-k-preserved c =
@@ -24,12 +30,15 @@ loop-k-preserved c =
     let t = optional_run n in
     let ts = copies (c.args.count - (c.loop-k.k + 1)) t none in
     let one : c.args.count - c.loop-k.k ≡ suc (c.args.count - (c.loop-k.k + 1)) = omega arith in
-    let next : c.end_run-ends.new.cursor.position ≡ p + position_count t = omega (arith, c.end_run-ends.ensures.position, position_count_optional n) in
+    let next : c.end_run-ends.new.cursor.position ≡ p + position_count t =
+    omega (arith, c.end_run-ends.ensures.position, position_count_optional n) in
     let final : (here : LookAround) → c.or.result.accepting ≡ is_final t ms here =
-    λ here. c.or.ensures.accepting ∙ ap (λ x. c.end_run-ends.result.accepting || x) c.within.ensures.accepting ∙ or-false _ ∙ c.end_run-ends.ensures.accepting here
+    λ here. c.or.ensures.accepting ∙ ap (λ x. c.end_run-ends.result.accepting || x) c.within.ensures.accepting
+    ∙ or-false _ ∙ c.end_run-ends.ensures.accepting here
     ∙ sym (is_final_optional n ms here) in
     let null : (here : LookAround) → c.or.result.nullable ≡ nullable t here =
-    λ here. c.or.ensures.nullable ∙ ap (λ x. c.end_run-ends.result.nullable || x) c.within.ensures.nullable ∙ or-true _ ∙ sym (nullable_optional n here) in
+    λ here. c.or.ensures.nullable ∙ ap (λ x. c.end_run-ends.result.nullable || x) c.within.ensures.nullable ∙ or-true _
+    ∙ sym (nullable_optional n here) in
     record {
       position = omega (arith, next, rw one at i.position);
       repeat = c.end_run-ends.ensures.repeat ∙ i.repeat;
@@ -52,7 +61,8 @@ first_in-requires c = omega (arith, c.requires, position_count_options c.args.n 
 
 pub returns-then-are_many-clause-accepting : goal.returns-then-are_many-clause-accepting
 returns-then-are_many-clause-accepting c = λ here.
-    is_final_many c.args.n c.args.cursor.now.position c.args.count c.first_in.result c.option_bits.result c.args.positions.now (c.if-are_many.ensures.some refl) (c.if-are_many.ensures.short refl)
+    is_final_many c.args.n c.args.cursor.now.position c.args.count c.first_in.result c.option_bits.result
+    c.args.positions.now (c.if-are_many.ensures.some refl) (c.if-are_many.ensures.short refl)
     c.option_bits.ensures c.first_in.ensures.found c.first_in.ensures.first here
 
 pub returns-then-are_many-clause-nullable : goal.returns-then-are_many-clause-nullable

@@ -11,6 +11,7 @@ invariant-loop-k l =
     record {
       position : l.cursor.position + position_count rest ≡ l.fn.cursor.position + position_count all;
       repeat : l.cursor.repeat ≡ l.fn.cursor.repeat;
-      accepting : (here : LookAround) → accepts rest l.all.accepting (drop l.cursor.position l.positions) here ≡ is_final all (drop l.fn.cursor.position l.positions) here;
+      accepting : (here : LookAround) → accepts rest l.all.accepting (drop l.cursor.position l.positions) here
+          ≡ is_final all (drop l.fn.cursor.position l.positions) here;
       nullable : (here : LookAround) → (l.all.nullable && nullable rest here) ≡ nullable all here;
     }

@@ -4,7 +4,15 @@ use Rattle.cs_match.proofs.AlternationLemmas.{length-lasts, nullable_runs, is_fi
 use Rattle.cs_match.proofs.glushkov.end_sequences.Goals as goal
 
 pub prove-unreachable-requires : goal.prove-unreachable-requires
-prove-unreachable-requires g c = omega (arith, c.if-prove.true, c.len.ensures, c.requires, c.len-n.ensures, ap length c.lasts.ensures, length-lasts c.args.sequences.now)
+prove-unreachable-requires g c = omega (
+  arith,
+  c.if-prove.true,
+  c.len.ensures,
+  c.requires,
+  c.len-n.ensures,
+  ap length c.lasts.ensures,
+  length-lasts c.args.sequences.now,
+)
 
 pub meets-requires : goal.meets-requires
 meets-requires g c = omega (arith, c.requires, ap length c.lasts-2.ensures, length-lasts c.args.sequences.now)
@@ -21,4 +29,11 @@ pub returns-clause-position : goal.returns-clause-position
 returns-clause-position g c = omega (arith, c.len-n.ensures, ap length c.lasts.ensures, length-lasts c.args.sequences.now)
 
 pub returns-clause-cost : goal.returns-clause-cost
-returns-clause-cost g c = omega (arith, c.add.ensures, c.div_ceil.ensures, c.len-n.ensures, ap length c.lasts.ensures, length-lasts c.args.sequences.now)
+returns-clause-cost g c = omega (
+  arith,
+  c.add.ensures,
+  c.div_ceil.ensures,
+  c.len-n.ensures,
+  ap length c.lasts.ensures,
+  length-lasts c.args.sequences.now,
+)

@@ -14,7 +14,8 @@ returns-clause-entries g c =
     let ms = c.args.positions.now in
     let same = c.part-part.ensures.shape in
     ap (take (position_count t)) c.advance.ensures.entries
-    ∙ take_at (entered s true ms c.args.here) (drop (0 + position_count s) c.shift_from.new.self) (position_count t) (length-entered s true ms c.args.here ∙ sym same.positions)
+    ∙ take_at (entered s true ms c.args.here) (drop (0 + position_count s) c.shift_from.new.self) (position_count t)
+    (length-entered s true ms c.args.here ∙ sym same.positions)
     ∙ sym (same.entered true ms c.args.here)
 
 pub returns-clause-scratch : goal.returns-clause-scratch
@@ -27,11 +28,19 @@ returns-clause-scratch g c =
     let room : 0 + position_count s ≤ length old = omega (arith, size, c.requires.one_each, same.positions) in
     record {
       loops = c.requires.scratch.loops;
-      entries = mid_long 0 (position_count s) old c.advance.new.entries (entered s true ms c.args.here) (length-entered s true ms c.args.here) room c.advance.ensures.entries
+      entries = mid_long 0 (position_count s) old c.advance.new.entries (entered s true ms c.args.here)
+          (length-entered s true ms c.args.here) room c.advance.ensures.entries
           ∙ omega (arith, size, c.requires.one_each);
       masks = c.requires.scratch.masks;
     }
 
 pub returns-clause-cost : goal.returns-clause-cost
 returns-clause-cost g c =
-    omega (arith, c.advance.ensures.cost, c.note_loops.ensures.cost, c.part-part.ensures.size, c.shift_from.ensures.cost, c.requires.scratch.entries)
+    omega (
+      arith,
+      c.advance.ensures.cost,
+      c.note_loops.ensures.cost,
+      c.part-part.ensures.size,
+      c.shift_from.ensures.cost,
+      c.requires.scratch.entries,
+    )

@@ -11,7 +11,13 @@ use Rattle.cs_match.proofs.glushkov.enter_options.Goals as goal
 pub enter_run-accepting-requires-clause-room : goal.enter_run-accepting-requires-clause-room
 enter_run-accepting-requires-clause-room c =
     let one : c.args.count - c.loop-k.k ≡ suc (c.args.count - (c.loop-k.k + 1)) = omega arith in
-    omega (arith, c.requires.room, c.loop-k.invariant.position, ap (λ k. position_count (options c.args.n k)) one, position_count_optional c.args.n)
+    omega (
+      arith,
+      c.requires.room,
+      c.loop-k.invariant.position,
+      ap (λ k. position_count (options c.args.n k)) one,
+      position_count_optional c.args.n,
+    )
 
 pub loop-k-preserved : goal.loop-k-preserved
 loop-k-preserved c =
@@ -26,7 +32,8 @@ loop-k-preserved c =
     let t = optional_run n in
     let ts = copies (c.args.count - (c.loop-k.k + 1)) t none in
     let one : c.args.count - c.loop-k.k ≡ suc (c.args.count - (c.loop-k.k + 1)) = omega arith in
-    let next : c.enter_run-accepting.new.cursor.position ≡ p + position_count t = omega (arith, c.enter_run-accepting.ensures.position, position_count_optional n) in
+    let next : c.enter_run-accepting.new.cursor.position ≡ p + position_count t =
+    omega (arith, c.enter_run-accepting.ensures.position, position_count_optional n) in
     let room : p + position_count t ≤ length ms = omega (arith, c.requires.room, rw one at i.position) in
     let moved : (here : LookAround) → new ≡ take p old ++ (entered t acc (drop p ms) here ++ drop (p + position_count t) old) =
     λ here. c.enter_run-accepting.ensures.entries here
@@ -41,5 +48,6 @@ loop-k-preserved c =
       accepting = λ here. rw (left here) (accepted_all t ts ms here p _ next acc _ ((rw one at i.accepting) here));
       shifted = entered_shifted t ts ms first old new here p _ acc next room i.shifted i.ahead (moved here);
       ahead = entered_ahead t ts ms first old new here p _ acc next room i.shifted i.ahead (moved here);
-      entries = λ here. rw (left here) (all_entered t ts ms first old new here p _ acc next room i.shifted i.ahead (moved here) _ ((rw one at i.entries) here));
+      entries = λ here. rw (left here) (all_entered t ts ms first old new here p _ acc next room i.shifted i.ahead
+          (moved here) _ ((rw one at i.entries) here));
     }

@@ -17,6 +17,8 @@ invariant-loop-k l =
       accepting : (here : LookAround) → accepts rest l.accepting ms here ≡ accepts all l.enter first here;
       shifted : AreShifted l.cursor.position l.positions l.entries;
       ahead : drop l.cursor.position l.entries ≡ drop l.cursor.position l.fn.entries;
-      entries : (here : LookAround) → take l.cursor.position l.entries ++ (entered rest l.accepting ms here ++ drop (l.cursor.position + position_count rest) l.fn.entries)
-          ≡ take l.fn.cursor.position l.fn.entries ++ (entered all l.enter first here ++ drop (l.fn.cursor.position + position_count all) l.fn.entries);
+      entries : (here : LookAround) → take l.cursor.position l.entries
+          ++ (entered rest l.accepting ms here ++ drop (l.cursor.position + position_count rest) l.fn.entries)
+          ≡ take l.fn.cursor.position l.fn.entries
+          ++ (entered all l.enter first here ++ drop (l.fn.cursor.position + position_count all) l.fn.entries);
     }

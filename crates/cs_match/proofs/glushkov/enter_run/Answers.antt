@@ -8,4 +8,5 @@ returns-clause-accepting c = λ here.
 
 pub returns-clause-entries : goal.returns-clause-entries
 returns-clause-entries c = λ here.
-    c.put.ensures ∙ run_entered c.args.n c.args.cursor.now.position c.args.enter c.args.positions.now c.args.entries.now here (omega arith) c.requires.room c.requires.shifted
+    c.put.ensures ∙ run_entered c.args.n c.args.cursor.now.position c.args.enter c.args.positions.now c.args.entries.now
+    here (omega arith) c.requires.room c.requires.shifted

@@ -8,22 +8,48 @@ pub move_over-requires-clause-room : goal.move_over-requires-clause-room
 move_over-requires-clause-room g c =
     let t = c.args.program.now in
     record {
-      entered = length-mask t (if_entered c.args.input) _ (mask_entered t c.positions.result.now c.index.result.now c.args.input (found c.positions.result.now c.find-slot.new.self.slots.items c.find-slot.result c.index.result.now c.index.ensures c.find-slot.ensures.mask) (found_input c.args.input c.find-slot.new.self.slots.items c.find-slot.result c.index.result.now c.index.ensures c.find-slot.ensures.input) c.positions.ensures.list) ∙ sym c.requires.one_each;
-      previous = length-mask t (if_previous c.args.input) _ (mask_previous t c.positions.result.now c.index.result.now c.args.input (found c.positions.result.now c.find-slot.new.self.slots.items c.find-slot.result c.index.result.now c.index.ensures c.find-slot.ensures.mask) (found_input c.args.input c.find-slot.new.self.slots.items c.find-slot.result c.index.result.now c.index.ensures c.find-slot.ensures.input) c.positions.ensures.list) ∙ sym c.requires.one_each;
-      kept = length-mask t (if_kept c.args.input) _ (mask_kept t c.positions.result.now c.index.result.now c.args.input (found c.positions.result.now c.find-slot.new.self.slots.items c.find-slot.result c.index.result.now c.index.ensures c.find-slot.ensures.mask) (found_input c.args.input c.find-slot.new.self.slots.items c.find-slot.result c.index.result.now c.index.ensures c.find-slot.ensures.input) c.positions.ensures.list) ∙ sym c.requires.one_each;
+      entered = length-mask t (if_entered c.args.input) _
+          (mask_entered t c.positions.result.now c.index.result.now c.args.input
+          (found c.positions.result.now c.find-slot.new.self.slots.items c.find-slot.result c.index.result.now
+          c.index.ensures c.find-slot.ensures.mask)
+          (found_input c.args.input c.find-slot.new.self.slots.items c.find-slot.result c.index.result.now c.index.ensures
+          c.find-slot.ensures.input) c.positions.ensures.list) ∙ sym c.requires.one_each;
+      previous = length-mask t (if_previous c.args.input) _
+          (mask_previous t c.positions.result.now c.index.result.now c.args.input
+          (found c.positions.result.now c.find-slot.new.self.slots.items c.find-slot.result c.index.result.now
+          c.index.ensures c.find-slot.ensures.mask)
+          (found_input c.args.input c.find-slot.new.self.slots.items c.find-slot.result c.index.result.now c.index.ensures
+          c.find-slot.ensures.input) c.positions.ensures.list) ∙ sym c.requires.one_each;
+      kept = length-mask t (if_kept c.args.input) _
+          (mask_kept t c.positions.result.now c.index.result.now c.args.input
+          (found c.positions.result.now c.find-slot.new.self.slots.items c.find-slot.result c.index.result.now
+          c.index.ensures c.find-slot.ensures.mask)
+          (found_input c.args.input c.find-slot.new.self.slots.items c.find-slot.result c.index.result.now c.index.ensures
+          c.find-slot.ensures.input) c.positions.ensures.list) ∙ sym c.requires.one_each;
     }
 
 pub move_over-requires-clause-one_mask : goal.move_over-requires-clause-one_mask
 move_over-requires-clause-one_mask g c =
-    (found c.positions.result.now c.find-slot.new.self.slots.items c.find-slot.result c.index.result.now c.index.ensures c.find-slot.ensures.mask).one_mask
+    (found c.positions.result.now c.find-slot.new.self.slots.items c.find-slot.result c.index.result.now c.index.ensures
+    c.find-slot.ensures.mask).one_mask
 
 pub returns-clause-positions : goal.returns-clause-positions
 returns-clause-positions g c =
     let t = c.args.program.now in
-    is_step t true c.args.positions.now c.args.here c.args.input c.enter-accepting.new.scratch.entries c.move_over.new.positions _ _ _ c.requires.one_each c.enter-accepting.ensures.entries
-    (mask_entered t c.positions.result.now c.index.result.now c.args.input (found c.positions.result.now c.find-slot.new.self.slots.items c.find-slot.result c.index.result.now c.index.ensures c.find-slot.ensures.mask) (found_input c.args.input c.find-slot.new.self.slots.items c.find-slot.result c.index.result.now c.index.ensures c.find-slot.ensures.input) c.positions.ensures.list)
-    (mask_previous t c.positions.result.now c.index.result.now c.args.input (found c.positions.result.now c.find-slot.new.self.slots.items c.find-slot.result c.index.result.now c.index.ensures c.find-slot.ensures.mask) (found_input c.args.input c.find-slot.new.self.slots.items c.find-slot.result c.index.result.now c.index.ensures c.find-slot.ensures.input) c.positions.ensures.list)
-    (mask_kept t c.positions.result.now c.index.result.now c.args.input (found c.positions.result.now c.find-slot.new.self.slots.items c.find-slot.result c.index.result.now c.index.ensures c.find-slot.ensures.mask) (found_input c.args.input c.find-slot.new.self.slots.items c.find-slot.result c.index.result.now c.index.ensures c.find-slot.ensures.input) c.positions.ensures.list)
+    is_step t true c.args.positions.now c.args.here c.args.input c.enter-accepting.new.scratch.entries
+    c.move_over.new.positions _ _ _ c.requires.one_each c.enter-accepting.ensures.entries
+    (mask_entered t c.positions.result.now c.index.result.now c.args.input
+    (found c.positions.result.now c.find-slot.new.self.slots.items c.find-slot.result c.index.result.now c.index.ensures
+    c.find-slot.ensures.mask) (found_input c.args.input c.find-slot.new.self.slots.items c.find-slot.result
+    c.index.result.now c.index.ensures c.find-slot.ensures.input) c.positions.ensures.list)
+    (mask_previous t c.positions.result.now c.index.result.now c.args.input
+    (found c.positions.result.now c.find-slot.new.self.slots.items c.find-slot.result c.index.result.now c.index.ensures
+    c.find-slot.ensures.mask) (found_input c.args.input c.find-slot.new.self.slots.items c.find-slot.result
+    c.index.result.now c.index.ensures c.find-slot.ensures.input) c.positions.ensures.list)
+    (mask_kept t c.positions.result.now c.index.result.now c.args.input
+    (found c.positions.result.now c.find-slot.new.self.slots.items c.find-slot.result c.index.result.now c.index.ensures
+    c.find-slot.ensures.mask) (found_input c.args.input c.find-slot.new.self.slots.items c.find-slot.result
+    c.index.result.now c.index.ensures c.find-slot.ensures.input) c.positions.ensures.list)
     c.move_over.ensures.length c.move_over.ensures.each
 
 pub returns-clause-cost : goal.returns-clause-cost

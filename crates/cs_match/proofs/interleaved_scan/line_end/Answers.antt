@@ -10,4 +10,5 @@ returns g c =
 
 pub unreachable-requires : goal.unreachable-requires
 unreachable-requires g c =
-    whole_has_newline c.args.block.now c.args.from c.requires.within c.requires.whole (next_none c.args.block.now c.args.from c.in-None.ensures)
+    whole_has_newline c.args.block.now c.args.from c.requires.within c.requires.whole
+    (next_none c.args.block.now c.args.from c.in-None.ensures)

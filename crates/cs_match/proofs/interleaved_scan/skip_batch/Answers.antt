@@ -12,10 +12,24 @@ returns-clause-skipped g c =
     let f = c.cut-e in
     let g = c.cut-f in
     skipped_parts c.args.transitions.now c.args.block.now c.type_inv.transitions c.type_inv.block c.args.from
-    (a.result ∷ b.result ∷ d.result ∷ e.result ∷ f.result ∷ g.result ∷ []) c.ordinary_prefix-ordinary.result c.requires.within
-    ((a.ensures.low, a.ensures.high, a.ensures.whole), ((b.ensures.low, b.ensures.high, b.ensures.whole), ((d.ensures.low, d.ensures.high, d.ensures.whole), ((e.ensures.low, e.ensures.high, e.ensures.whole), ((f.ensures.low, f.ensures.high, f.ensures.whole), ((g.ensures.low, g.ensures.high, g.ensures.whole), tt))))))
+    (a.result ∷ b.result ∷ d.result ∷ e.result ∷ f.result ∷ g.result ∷ []) c.ordinary_prefix-ordinary.result c.requires.within (
+      (a.ensures.low, a.ensures.high, a.ensures.whole),
+      (
+        (b.ensures.low, b.ensures.high, b.ensures.whole),
+        (
+          (d.ensures.low, d.ensures.high, d.ensures.whole),
+          (
+            (e.ensures.low, e.ensures.high, e.ensures.whole),
+            ((f.ensures.low, f.ensures.high, f.ensures.whole), ((g.ensures.low, g.ensures.high, g.ensures.whole), tt)),
+          ),
+        ),
+      ),
+    )
     (omega arith)
-    (λ k low. subst (λ states. get_or states k 0 < first_special) c.six_lanes-states.ensures (c.ordinary_prefix-ordinary.ensures.ordinary k low))
+    (λ k low. subst (λ states. get_or states k 0 < first_special) c.six_lanes-states.ensures
+    (c.ordinary_prefix-ordinary.ensures.ordinary k low))
 
 pub returns-then-f-from-gt-MOST_BATCH-clause-skipped : goal.returns-then-f-from-gt-MOST_BATCH-clause-skipped
-returns-then-f-from-gt-MOST_BATCH-clause-skipped g c = skipped_none (λ has_match. RulesOutLines has_match c.args.transitions.now) c.args.block.now c.args.from c.requires.within
+returns-then-f-from-gt-MOST_BATCH-clause-skipped g c =
+    skipped_none (λ has_match. RulesOutLines has_match c.args.transitions.now) c.args.block.now c.args.from
+    c.requires.within

@@ -11,7 +11,8 @@ batches-init g c = record {
 }
 
 pub skip_batch-skipped-requires-clause-whole : goal.skip_batch-skipped-requires-clause-whole
-skip_batch-skipped-requires-clause-whole g c = whole_from c.args.block.now c.args.from c.batches.offset c.batches.invariant.skipped.lines.low c.requires.whole
+skip_batch-skipped-requires-clause-whole g c = whole_from c.args.block.now c.args.from c.batches.offset
+    c.batches.invariant.skipped.lines.low c.requires.whole
 
 pub batches-preserved : goal.batches-preserved
 batches-preserved g c =
@@ -19,7 +20,8 @@ batches-preserved g c =
     let i = c.batches.invariant in
     let all : skipped.result.all ≡ true = search rules in
     record {
-      skipped = skipped_append (λ has_match. RulesOutLines has_match c.args.transitions.now) c.args.block.now c.args.from c.batches.offset skipped.result.to i.skipped skipped.ensures.skipped;
+      skipped = skipped_append (λ has_match. RulesOutLines has_match c.args.transitions.now) c.args.block.now
+          c.args.from c.batches.offset skipped.result.to i.skipped skipped.ensures.skipped;
       work = omega (arith, i.work, i.skipped.lines.low, skipped.ensures.skipped.lines.low, skipped.ensures.all all);
     }
 
@@ -29,7 +31,8 @@ returns-clause-rest g c = whole_from c.args.block.now c.args.from c.batches.offs
 pub returns-then-not-skipped : goal.returns-then-not-skipped
 returns-then-not-skipped g c =
     let to = c.skip_batch-skipped.result.to in
-    let p = skipped_append (λ has_match. RulesOutLines has_match c.args.transitions.now) c.args.block.now c.args.from c.batches.offset to c.batches.invariant.skipped c.skip_batch-skipped.ensures.skipped in
+    let p = skipped_append (λ has_match. RulesOutLines has_match c.args.transitions.now) c.args.block.now c.args.from
+    c.batches.offset to c.batches.invariant.skipped c.skip_batch-skipped.ensures.skipped in
     let e = c.skip_batch-skipped.ensures in
     let i = c.batches.invariant in
     record {

@@ -23,9 +23,11 @@ alternation_of-loop-node-preserved t c =
     let ss = shapes_of c.loop-node.parts.items in
     let all = trees_of c.args.nodes.now in
     let pushed : append (shapes_of c.push.new.self.items) ts ≡ append ss (more s ts) =
-    ap (λ us. append us ts) (ap shapes_of c.in_ok-push.ensures.items ∙ shapes_last c.loop-node.parts.items c.in_ok-part.part) ∙ append_assoc_trees ss (more s none) ts in
+    ap (λ us. append us ts) (ap shapes_of c.in_ok-push.ensures.items
+    ∙ shapes_last c.loop-node.parts.items c.in_ok-part.part) ∙ append_assoc_trees ss (more s none) ts in
     let same : HaveSameShape (alt all) (alt (append (shapes_of c.push.new.self.items) ts)) =
-    subst (λ (us : Trees). HaveSameShape (alt all) (alt us)) (sym pushed) (shape_trans _ _ _ (rw next at c.loop-node.invariant.same) (alt_more ss t s ts c.in_ok-part.ensures.shape)) in
+    subst (λ (us : Trees). HaveSameShape (alt all) (alt us)) (sym pushed)
+    (shape_trans _ _ _ (rw next at c.loop-node.invariant.same) (alt_more ss t s ts c.in_ok-part.ensures.shape)) in
     record {
       same = same;
       size = omega (
@@ -43,27 +45,34 @@ alternation_of-returns-in_ok-sequences-in-Some-clause-shape t c =
     let all = trees_of c.args.nodes.now in
     let ns = c.in-Some.following.items in
     let known : shapes_of c.deref.result.now ≡ runs ns = rw c.in-Some.is at c.in_ok-following.ensures in
-    let shapes : ss ≡ runs c.in_ok-sequences-in-Some.sequences = ap shapes_of (sym c.deref.ensures.value) ∙ known ∙ ap runs (sym c.in_ok-sequences-in-Some.ensures) in
+    let shapes : ss ≡ runs c.in_ok-sequences-in-Some.sequences = ap shapes_of (sym c.deref.ensures.value) ∙ known
+    ∙ ap runs (sym c.in_ok-sequences-in-Some.ensures) in
     let none_left : alt (append ss (trees_of (drop c.loop-node.node-index c.args.nodes.now))) ≡ alt ss =
-    ap (λ (rest : List Node). alt (append ss (trees_of rest))) (drop_of_length-le c.args.nodes.now {i = c.loop-node.node-index} (omega arith)) ∙ ap alt (append_none ss) in
-    subst (λ (u : Tree). HaveSameShape (alt all) u) (none_left ∙ ap alt shapes ∙ sym (shape_of-Alternation c.in_ok-sequences-in-Some.sequences)) c.loop-node.invariant.same
+    ap (λ (rest : List Node). alt (append ss (trees_of rest)))
+    (drop_of_length-le c.args.nodes.now {i = c.loop-node.node-index} (omega arith)) ∙ ap alt (append_none ss) in
+    subst (λ (u : Tree). HaveSameShape (alt all) u)
+    (none_left ∙ ap alt shapes ∙ sym (shape_of-Alternation c.in_ok-sequences-in-Some.sequences))
+    c.loop-node.invariant.same
 
 pub alternation_of-returns-in-None-clause-shape : goal.alternation_of-returns-in-None-clause-shape
 alternation_of-returns-in-None-clause-shape t c =
     let ss = shapes_of c.loop-node.parts.items in
     let none_left : alt (append ss (trees_of (drop c.loop-node.node-index c.args.nodes.now))) ≡ alt ss =
-    ap (λ (ns : List Node). alt (append ss (trees_of ns))) (drop_of_length-le c.args.nodes.now {i = c.loop-node.node-index} (omega arith)) ∙ ap alt (append_none ss) in
+    ap (λ (ns : List Node). alt (append ss (trees_of ns)))
+    (drop_of_length-le c.args.nodes.now {i = c.loop-node.node-index} (omega arith)) ∙ ap alt (append_none ss) in
     shape_trans _ _ _ (rw none_left at c.loop-node.invariant.same) c.alternation.ensures.shape
 
 pub alternation_of-returns-in_ok-sequences-in-Some-clause-size : goal.alternation_of-returns-in_ok-sequences-in-Some-clause-size
 alternation_of-returns-in_ok-sequences-in-Some-clause-size t c =
     let ns = c.in_ok-sequences-in-Some.sequences in
     let known : shapes_of c.deref.result.now ≡ runs c.in-Some.following.items = rw c.in-Some.is at c.in_ok-following.ensures in
-    let shapes : shapes_of c.loop-node.parts.items ≡ runs ns = ap shapes_of (sym c.deref.ensures.value) ∙ known ∙ ap runs (sym c.in_ok-sequences-in-Some.ensures) in
+    let shapes : shapes_of c.loop-node.parts.items ≡ runs ns = ap shapes_of (sym c.deref.ensures.value) ∙ known
+    ∙ ap runs (sym c.in_ok-sequences-in-Some.ensures) in
     omega (
       arith,
       size_of-Alternation ns,
-      words_few (trees_of c.args.nodes.now) (position_count_of (runs ns)) (omega (arith, ap position_count_of shapes, c.loop-node.invariant.total)),
+      words_few (trees_of c.args.nodes.now) (position_count_of (runs ns))
+          (omega (arith, ap position_count_of shapes, c.loop-node.invariant.total)),
     )
 
 pub alternation_of-returns-in-None-clause-size : goal.alternation_of-returns-in-None-clause-size
@@ -79,7 +88,8 @@ sequence_of-loop-node-preserved t c =
     let u = shape_of c.in_ok-last-2.last in
     let same : HaveSameShape (cat (trees_of c.args.nodes.now)) (cat (append us (more u ts))) =
     shape_trans _ _ _ (rw next at c.loop-node.invariant.same)
-    (shape_trans _ _ _ (before_same ss _ _ (cat_rest s _ _ (cat_first _ _ ts c.in_ok-part.ensures.shape))) (c.in_ok-last-2.ensures.shape ts)) in
+    (shape_trans _ _ _ (before_same ss _ _ (cat_rest s _ _ (cat_first _ _ ts c.in_ok-part.ensures.shape)))
+    (c.in_ok-last-2.ensures.shape ts)) in
     record {
       same = same;
       size = omega (arith, c.in_ok-part.ensures.size, c.in_ok-last-2.ensures.size, rw next at c.loop-node.invariant.size);
@@ -91,7 +101,11 @@ sequence_of-returns-then-is_empty-clause-shape t c =
     let empty : length c.loop-node.parts.items ≡ 0 = grind (arith, common_steps) in
     let others = take (length c.args.nodes.now - 1) (drop 1 c.args.nodes.now) in
     shape_trans _ _ _
-    (rw (drop_of_length-le others {i = c.loop-node.node-index} (omega arith), shapes_none c.loop-node.parts.items empty) at c.loop-node.invariant.same)
+    (rw (
+      drop_of_length-le others {i = c.loop-node.node-index} (omega arith),
+      shapes_none c.loop-node.parts.items
+          empty,
+    ) at c.loop-node.invariant.same)
     (only_one (shape_of c.loop-node.last))
 
 pub sequence_of-returns-clause-shape : goal.sequence_of-returns-clause-shape

@@ -13,7 +13,8 @@ invariant-sequence_of-loop-node l =
     record {
       same : HaveSameShape (cat (trees_of l.nodes)) (cat (append (shapes_of l.parts.items) (more (shape_of l.last) rest)));
       size : (sizes_of l.parts.items + size_of l.last) + nodes_of rest ≤ nodes_of (trees_of l.nodes);
-      total : (position_count_of (shapes_of l.parts.items) + position_count (shape_of l.last)) + position_count_of rest ≡ position_count_of (trees_of l.nodes);
+      total : (position_count_of (shapes_of l.parts.items) + position_count (shape_of l.last)) + position_count_of rest
+          ≡ position_count_of (trees_of l.nodes);
     }
 
 abbrev pub invariant-alternation_of-loop-node : goal.invariant-alternation_of-loop-node

@@ -57,6 +57,7 @@ returns-in_ok-push-in_default-clause-shape c = λ ts.
     let pushed : append (shapes_of c.push.new.self.items) rest ≡ whole =
     ap (λ ws. append ws rest) (ap shapes_of c.in_ok-push-in_default.ensures.items ∙ shapes_last c.args.parts.now.items c.args.last)
     ∙ append_assoc_trees us (more (shape_of c.args.last) none) rest in
-    let by : (part : Part) → part ≡ c.args.part → HaveSameShape (cat whole) (cat (append (shapes_of c.push.new.self.items) (more (shape_of part) ts))) =
+    let by : (part : Part) → part ≡ c.args.part →
+    HaveSameShape (cat whole) (cat (append (shapes_of c.push.new.self.items) (more (shape_of part) ts))) =
     λ part same. rw (same, pushed) (shape_refl (cat whole)) in
     by _ (search rules)

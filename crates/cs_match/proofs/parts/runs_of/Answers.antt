@@ -24,5 +24,6 @@ loop-part-preserved c =
 pub returns : goal.returns
 returns c =
     sym c.loop-part.invariant
-    ∙ ap (λ (ps : List Part). append (runs c.loop-part.following.items) (shapes_of ps)) (drop_of_length-le c.args.parts.now {i = c.loop-part.part-index} (omega arith))
+    ∙ ap (λ (ps : List Part). append (runs c.loop-part.following.items) (shapes_of ps))
+    (drop_of_length-le c.args.parts.now {i = c.loop-part.part-index} (omega arith))
     ∙ append_none (runs c.loop-part.following.items)

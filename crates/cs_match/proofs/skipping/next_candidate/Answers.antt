@@ -22,7 +22,12 @@ returns-then-stop-rest-clause-candidate g c =
     (λ k low h. c.skip-stop.ensures.none k (omega arith) (omega (arith, all)) h.0 h.1 h.2 (subst (WordAt text k) (sym h.3) h.4)))
 
 pub line_end-requires-clause-within : goal.line_end-requires-clause-within
-line_end-requires-clause-within g c = omega (arith, c.skip-stop.ensures.high, c.if-stop-rest.false, length-drop c.args.from c.args.block.now)
+line_end-requires-clause-within g c = omega (
+  arith,
+  c.skip-stop.ensures.high,
+  c.if-stop-rest.false,
+  length-drop c.args.from c.args.block.now,
+)
 
 pub line_end-requires-clause-whole : goal.line_end-requires-clause-whole
 line_end-requires-clause-whole g c = whole_from c.args.block.now c.args.from _ (omega arith) c.requires.whole
@@ -53,7 +58,8 @@ returns-clause-candidate g c =
           let n : size ≡ from + size - from = omega arith in
           subst (λ m. LackWords words (terminated_lines (take m rest))) n
           (without_before (λ xs k. Any (WordAt xs k) words) (words_placed words) rest offset size small below
-          (λ k low h. subst (λ (t : List ℕ). NoWordFrom words t 0 offset) all skip.none k (omega arith) low h.0 h.1 h.2 (subst (WordAt rest k) (sym h.3) h.4)));
+          (λ k low h. subst (λ (t : List ℕ). NoWordFrom words t 0 offset) all skip.none k (omega arith) low h.0 h.1 h.2
+          (subst (WordAt rest k) (sym h.3) h.4)));
       has = λ has_word in_line.
           let found = subst (λ (t : List ℕ). Any (WordAt t offset) words) all (skip.stops has_word) in (
             offset - size,
@@ -62,7 +68,8 @@ returns-clause-candidate g c =
               found.1,
               found.2,
               found.3,
-              word_in_line block from offset size end found.1 (in_line_of words in_line found.0 found.1 found.2 found.3) found.4 small e.low e.high e.newline,
+              word_in_line block from offset size end found.1 (in_line_of words in_line found.0 found.1 found.2 found.3)
+                  found.4 small e.low e.high e.newline,
             ),
           );
     }

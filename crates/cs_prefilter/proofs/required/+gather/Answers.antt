@@ -16,7 +16,8 @@ use Rattle.cs_prefilter.proofs.required.+gather.Goals as goal
 
 pub best-returns : goal.best-returns
 best-returns t c =
-    chosen (tree_of c.args.node.now) c.new-runs.result c.gather.new.runs c.keep.new.self c.new-runs.ensures.sets c.new-runs.ensures.best c.in_ok-gather.ensures c.in_ok-keep.ensures.best
+    chosen (tree_of c.args.node.now) c.new-runs.result c.gather.new.runs c.keep.new.self c.new-runs.ensures.sets
+    c.new-runs.ensures.best c.in_ok-gather.ensures c.in_ok-keep.ensures.best
 
 pub gather-returns-in-Set : goal.gather-returns-in-Set
 gather-returns-in-Set t c =
@@ -27,7 +28,8 @@ gather-returns-in-Set t c =
 pub gather-returns-in-Cat : goal.gather-returns-in-Cat
 gather-returns-in-Cat t c =
     let e = ap tree_of c.in-Cat.is ∙ tree_of-Cat c.in-Cat.parts ∙ ap (λ (ns : List Node). cat (trees_of ns)) (sym c.deref.ensures.value) in
-    on_ok_weaker c.gather_all.result (λ f. follow_same _ (cat (trees_of c.deref.result.now)) c.args.runs.now c.gather_all.new.runs e f) c.gather_all.ensures
+    on_ok_weaker c.gather_all.result (λ f. follow_same _ (cat (trees_of c.deref.result.now)) c.args.runs.now
+    c.gather_all.new.runs e f) c.gather_all.ensures
 
 pub gather-returns-in_ok-words-in-Alt : goal.gather-returns-in_ok-words-in-Alt
 gather-returns-in_ok-words-in-Alt t c =
@@ -35,13 +37,16 @@ gather-returns-in_ok-words-in-Alt t c =
     let old = c.args.runs.now in
     let mid = c.offer.new.self in
     let new = c.cut_here.new.self in
-    let e = ap tree_of c.in-Alt.is ∙ tree_of-Alt c.in-Alt.branches ∙ ap (λ (ns : List Node). alt (trees_of ns)) (sym c.deref-in-Alt.ensures.value) in
+    let e = ap tree_of c.in-Alt.is ∙ tree_of-Alt c.in-Alt.branches ∙ ap (λ (ns : List Node). alt (trees_of ns))
+    (sym c.deref-in-Alt.ensures.value) in
     let same : drop old.start old.sets.items ≡ drop mid.start mid.sets.items =
     ap (λ n. drop n old.sets.items) (sym c.offer.ensures.start) ∙ ap (λ v. drop mid.start v.items) (sym c.offer.ensures.sets) in
     on_ok_both c.cut_here.result (λ start best. follow_same _ (alt (trees_of branches)) old new e
-    (follow_cut (alt (trees_of branches)) old new (ap (λ v. v.items) (c.cut_here.ensures.sets ∙ c.offer.ensures.sets)) (start ∙ ap (λ v. v.len) c.offer.ensures.sets)
+    (follow_cut (alt (trees_of branches)) old new (ap (λ v. v.items) (c.cut_here.ensures.sets ∙ c.offer.ensures.sets))
+    (start ∙ ap (λ v. v.len) c.offer.ensures.sets)
     (λ line i j ends h has. best line i (subst (λ (s : List (List Bool)). SetsEndAt line s i) same ends)
-    (c.offer.ensures.best line (c.in_ok-words-in-Alt.ensures line i j ends.within h) has)))) c.cut_here.ensures.start c.cut_here.ensures.best
+    (c.offer.ensures.best line (c.in_ok-words-in-Alt.ensures line i j ends.within h) has)))) c.cut_here.ensures.start
+    c.cut_here.ensures.best
 
 pub gather-returns-in_ok-gather-in-Rep : goal.gather-returns-in_ok-gather-in-Rep
 gather-returns-in_ok-gather-in-Rep t c =
@@ -50,14 +55,17 @@ gather-returns-in_ok-gather-in-Rep t c =
     let next = c.gather.new.runs in
     let last = c.cut.new.self in
     on_ok_both c.cut.result (λ start best. follow_same _ _ c.args.runs.now last e
-    (follow_rounds (tree_of x) c.in-Rep.least c.len-start.result c.in-Rep.field-2 c.args.runs.now next last c.if-least-gt0.true c.len-start.ensures
-    (follow_same (tree_of x) (tree_of c.deref-in-Rep.result.now) c.args.runs.now next (ap tree_of (sym c.deref-in-Rep.ensures)) c.in_ok-gather-in-Rep.ensures)
+    (follow_rounds (tree_of x) c.in-Rep.least c.len-start.result c.in-Rep.field-2 c.args.runs.now next last
+    c.if-least-gt0.true c.len-start.ensures
+    (follow_same (tree_of x) (tree_of c.deref-in-Rep.result.now) c.args.runs.now next
+    (ap tree_of (sym c.deref-in-Rep.ensures)) c.in_ok-gather-in-Rep.ensures)
     (ap (λ v. v.items) c.cut.ensures.sets) start best)) c.cut.ensures.start c.cut.ensures.best
 
 pub gather-returns-in-Rep-2 : goal.gather-returns-in-Rep-2
 gather-returns-in-Rep-2 t c =
     let cut = c.cut_here-in-Rep-2 in
-    on_ok_both cut.result (λ start best. follow_cut (tree_of c.args.node.now) c.args.runs.now cut.new.self (ap (λ v. v.items) cut.ensures.sets) start
+    on_ok_both cut.result (λ start best. follow_cut (tree_of c.args.node.now) c.args.runs.now cut.new.self
+    (ap (λ v. v.items) cut.ensures.sets) start
     (λ line i j ends h has. best line i ends has)) cut.ensures.start cut.ensures.best
 
 pub gather_all-returns : goal.gather_all-returns
@@ -65,7 +73,8 @@ gather_all-returns t c =
     let runs = c.loop-part.runs in
     let end = drop_of_length-le c.args.parts.now {i = c.loop-part.part-index} (omega arith) in
     c.loop-part.invariant runs
-    (subst (λ (ns : List Node). RunsFollow (λ line i j. MatchesSequence line (trees_of ns) i j) runs runs) (sym end) (follow_none _ (λ line i j h. h) runs))
+    (subst (λ (ns : List Node). RunsFollow (λ line i j. MatchesSequence line (trees_of ns) i j) runs runs) (sym end)
+    (follow_none _ (λ line i j h. h) runs))
 
 pub gather_all-loop-part-preserved : goal.gather_all-loop-part-preserved
 gather_all-loop-part-preserved t c = λ last f.
@@ -74,7 +83,8 @@ gather_all-loop-part-preserved t c = λ last f.
     let others = trees_of (drop (c.loop-part.part-index + 1) c.args.parts.now) in
     let next = trees_from c.args.parts.now c.loop-part.part-index c.part-item.result c.loop-part-test.true c.part-item.is in
     c.loop-part.invariant last
-    (subst (λ (ts : Trees). RunsFollow (λ line i j. MatchesSequence line ts i j) first last) (sym next) (follow_more part others first c.gather.new.runs last c.in_ok-gather.ensures f))
+    (subst (λ (ts : Trees). RunsFollow (λ line i j. MatchesSequence line ts i j) first last) (sym next)
+    (follow_more part others first c.gather.new.runs last c.in_ok-gather.ensures f))
 
 pub best_of_each-loop-branch-preserved : goal.best_of_each-loop-branch-preserved
 best_of_each-loop-branch-preserved t c = λ line i j here h.
@@ -87,7 +97,9 @@ best_of_each-loop-branch-preserved t c = λ line i j here h.
     elim (c.loop-branch.invariant line i j here h) [
       | inl has ↦ inl (subst (λ (ws : List Word). HasWord ws line) joined (one_before line before more has))
       | inr left ↦ elim (subst (λ (ts : Trees). MatchesBranch line ts i j) next left) [
-        | inl here_matched ↦ inl (subst (λ (ws : List Word). HasWord ws line) joined (one_after line before more (subst (HasWordOf line) c.in-Some.is (c.in_ok-words.ensures line i j here here_matched))))
+        | inl here_matched ↦ inl (subst (λ (ws : List Word). HasWord ws line) joined
+            (one_after line before more (subst (HasWordOf line) c.in-Some.is
+            (c.in_ok-words.ensures line i j here here_matched))))
         | inr later ↦ inr later
       ]
     ]

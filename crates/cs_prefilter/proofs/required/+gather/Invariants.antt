@@ -8,7 +8,8 @@ use Rattle.cs_prefilter.proofs.required.+gather.Given as goal
 
 abbrev pub invariant-gather_all-loop-part : goal.invariant-gather_all-loop-part
 invariant-gather_all-loop-part l =
-    (last : Runs) → RunsFollow (λ line i j. MatchesSequence line (trees_of (drop l.part-index l.parts)) i j) l.runs last → RunsFollow (λ line i j. MatchesSequence line (trees_of l.parts) i j) l.fn.runs last
+    (last : Runs) → RunsFollow (λ line i j. MatchesSequence line (trees_of (drop l.part-index l.parts)) i j) l.runs last
+    → RunsFollow (λ line i j. MatchesSequence line (trees_of l.parts) i j) l.fn.runs last
 
 abbrev pub invariant-best_of_each-loop-branch : goal.invariant-best_of_each-loop-branch
 invariant-best_of_each-loop-branch l =

@@ -12,12 +12,15 @@ use Rattle.cs_prefilter.proofs.sufficient.+matched_to.Goals as goal
 pub matched_to-returns-in-Cat : goal.matched_to-returns-in-Cat
 matched_to-returns-in-Cat t c =
     let e = ap tree_of c.in-Cat.is ∙ tree_of-Cat c.in-Cat.parts ∙ ap (λ (ns : List Node). cat (trees_of ns)) (sym c.deref.ensures.value) in
-    subst (λ (u : Tree). IfSome c.matched_to_all.result (MatchesPart (λ line i j. MatchesSpan line u i j) c.args.word.now c.args.from)) (sym e) c.matched_to_all.ensures
+    subst (λ (u : Tree). IfSome c.matched_to_all.result
+    (MatchesPart (λ line i j. MatchesSpan line u i j) c.args.word.now c.args.from)) (sym e) c.matched_to_all.ensures
 
 pub matched_to-returns-in-Alt : goal.matched_to-returns-in-Alt
 matched_to-returns-in-Alt t c =
-    let e = ap tree_of c.in-Alt.is ∙ tree_of-Alt c.in-Alt.branches ∙ ap (λ (ns : List Node). alt (trees_of ns)) (sym c.deref-in-Alt.ensures.value) in
-    subst (λ (u : Tree). IfSome c.matched_to_some.result (MatchesPart (λ line i j. MatchesSpan line u i j) c.args.word.now c.args.from)) (sym e) c.matched_to_some.ensures
+    let e = ap tree_of c.in-Alt.is ∙ tree_of-Alt c.in-Alt.branches ∙ ap (λ (ns : List Node). alt (trees_of ns))
+    (sym c.deref-in-Alt.ensures.value) in
+    subst (λ (u : Tree). IfSome c.matched_to_some.result
+    (MatchesPart (λ line i j. MatchesSpan line u i j) c.args.word.now c.args.from)) (sym e) c.matched_to_some.ensures
 
 pub matched_to_all-loop-part-preserved : goal.matched_to_all-loop-part-preserved
 matched_to_all-loop-part-preserved t c =
@@ -26,7 +29,8 @@ matched_to_all-loop-part-preserved t c =
     record {
       within = first.high;
       rest = λ to f. c.loop-part.invariant.rest to
-          (subst (λ (ts : Trees). MatchesPart (λ line i j. MatchesSequence line ts i j) c.args.word.now c.loop-part.at to) (sym next) (record {
+          (subst (λ (ts : Trees). MatchesPart (λ line i j. MatchesSequence line ts i j) c.args.word.now c.loop-part.at
+          to) (sym next) (record {
             low = omega (arith, first.low, f.low);
             high = f.high;
             spans = λ line at occurs. (at + c.in-Some.next, first.spans line at occurs, f.spans line at occurs);
@@ -49,5 +53,6 @@ matched_to_some-returns-in-Some t c =
       low = found.low;
       high = found.high;
       spans = λ line at occurs. c.loop-branch.invariant line (at + c.args.from) (at + c.in-Some.to)
-          (subst (λ (ts : Trees). MatchesBranch line ts (at + c.args.from) (at + c.in-Some.to)) (sym next) (inl (found.spans line at occurs)));
+          (subst (λ (ts : Trees). MatchesBranch line ts (at + c.args.from) (at + c.in-Some.to)) (sym next)
+          (inl (found.spans line at occurs)));
     }

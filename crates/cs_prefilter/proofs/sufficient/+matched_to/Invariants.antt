@@ -8,9 +8,11 @@ use Rattle.cs_prefilter.proofs.sufficient.+matched_to.Given as goal
 abbrev pub invariant-matched_to_all-loop-part : goal.invariant-matched_to_all-loop-part
 invariant-matched_to_all-loop-part l = record {
   within : l.at ≤ vec_len l.word.sets;
-  rest : (to : ℕ) → MatchesPart (λ line i j. MatchesSequence line (trees_of (drop l.part-index l.parts)) i j) l.word l.at to → MatchesPart (λ line i j. MatchesSequence line (trees_of l.parts) i j) l.word l.from to;
+  rest : (to : ℕ) → MatchesPart (λ line i j. MatchesSequence line (trees_of (drop l.part-index l.parts)) i j) l.word
+      l.at to → MatchesPart (λ line i j. MatchesSequence line (trees_of l.parts) i j) l.word l.from to;
 }
 
 abbrev pub invariant-matched_to_some-loop-branch : goal.invariant-matched_to_some-loop-branch
 invariant-matched_to_some-loop-branch l =
-    (line : List ℕ) (i j : ℕ) → MatchesBranch line (trees_of (drop l.branch-index l.branches)) i j → MatchesBranch line (trees_of l.branches) i j
+    (line : List ℕ) (i j : ℕ) → MatchesBranch line (trees_of (drop l.branch-index l.branches)) i j →
+    MatchesBranch line (trees_of l.branches) i j

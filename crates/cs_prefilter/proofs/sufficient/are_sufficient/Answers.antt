@@ -14,4 +14,5 @@ loop-word-preserved c =
 
 pub returns : goal.returns
 returns c = λ _.
-    subst (All (IsSufficient (tree_of c.args.root.now))) (take_all c.loop-word.word-index c.args.words.now c.loop-word-test.false) c.loop-word.invariant
+    subst (All (IsSufficient (tree_of c.args.root.now)))
+    (take_all c.loop-word.word-index c.args.words.now c.loop-word-test.false) c.loop-word.invariant

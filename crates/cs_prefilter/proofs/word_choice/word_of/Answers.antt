@@ -8,4 +8,5 @@ returns c = λ line j e.
     let from = c.min-from.result in
     let to = from + c.min-len.result in
     part_occurs line run j from (to - from) _ e (omega (arith, c.min-from.ensures, c.min-len.ensures))
-    (c.in_ok-extend_from_slice.ensures.items ∙ ap (λ (sets : List (List Bool)). sets ++ take (to - from) (drop from run)) c.new-sets.ensures.items)
+    (c.in_ok-extend_from_slice.ensures.items
+    ∙ ap (λ (sets : List (List Bool)). sets ++ take (to - from) (drop from run)) c.new-sets.ensures.items)

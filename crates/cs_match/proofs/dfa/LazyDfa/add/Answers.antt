@@ -13,14 +13,18 @@ returns-clause-right g c =
     let s = c.args.self.now in
     let t = tree_in s in
     let given = c.requires.right in
-    let put : c.put_state.new.cached ≡ set s.cached.items s.used s.scratch = c.put_state.ensures.put ∙ ap (λ xs. set xs s.used s.scratch) c.deref_mut.ensures.value in
-    let size = ap length c.put_state.ensures.put ∙ length-set c.deref_mut.result.now s.used s.scratch ∙ c.deref_mut.ensures.len in
-    let is = sym (with_items_is s.cached c.put_state.new.cached size ∙ put) in
+    let put : c.put_state.new.cached ≡ set s.states.cached.items s.states.used s.states.scratch =
+    c.put_state.ensures.put ∙ ap (λ xs. set xs s.states.used s.states.scratch) c.deref_mut.ensures.value in
+    let size = ap length c.put_state.ensures.put ∙ length-set c.deref_mut.result.now s.states.used s.states.scratch
+    ∙ c.deref_mut.ensures.len in
+    let is = sym (with_items_is s.states.cached c.put_state.new.cached size ∙ put) in
     record {
       expanded = given.expanded;
-      cached = subst (λ (cached : List State). AreStates t cached (s.used + 1)) is (added_states t s.cached.items s.used s.scratch c.requires.room given.cached given.room);
-      transitions = subst (λ (cached : List State). AreTransitions t cached (s.used + 1) s.transitions.items) is
-          (added_transitions t s.cached.items s.used s.scratch c.requires.room given.cached s.transitions.items given.transitions);
+      cached = subst (λ (cached : List State). AreStates t cached (s.states.used + 1)) is
+          (added_states t s.states.cached.items s.states.used s.states.scratch c.requires.room given.cached given.room);
+      transitions = subst (λ (cached : List State). AreTransitions t cached (s.states.used + 1) s.states.transitions.items) is
+          (added_transitions t s.states.cached.items s.states.used s.states.scratch c.requires.room given.cached
+          s.states.transitions.items given.transitions);
       room = given.room;
       memory = given.memory;
     }

@@ -12,9 +12,17 @@ returns-clause-right g c =
     let blank = c.reset.new.transitions in
     record {
       expanded = given.expanded;
-      cached = record { some = omega arith; bound = omega arith; all = given.cached.all; first = given.cached.first; positions = given.cached.positions };
-      transitions = subst (AreTransitions (tree_in s) s.cached.items 1) (sym (with_items_is s.transitions blank (c.reset.ensures.length ∙ c.deref_mut.ensures.len)))
-          (blank_transitions (tree_in s) s.cached.items 1 blank (c.reset.ensures.length ∙ ap length c.deref_mut.ensures.value ∙ given.transitions.all) c.reset.ensures.blank);
+      cached = record {
+        some = omega arith;
+        bound = omega arith;
+        all = given.cached.all;
+        first = given.cached.first;
+        positions = given.cached.positions;
+      };
+      transitions = subst (AreTransitions (tree_in s) s.states.cached.items 1)
+          (sym (with_items_is s.states.transitions blank (c.reset.ensures.length ∙ c.deref_mut.ensures.len)))
+          (blank_transitions (tree_in s) s.states.cached.items 1 blank
+          (c.reset.ensures.length ∙ ap length c.deref_mut.ensures.value ∙ given.transitions.all) c.reset.ensures.blank);
       room = given.room;
       memory = given.memory;
     }

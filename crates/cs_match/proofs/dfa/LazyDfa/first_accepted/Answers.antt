@@ -53,9 +53,11 @@ scan-preserved g c =
     let m = state t (last_part (take i text)) in
     let lt : i < length text = before_end i (length text) known.within c.if-known-text.false in
     let same : tree_in new ≡ t = c.next-number.ensures.same in
-    let next = leads_on (tree_in new) new.cached.items new.used b c.next-number.result n c.next-number.ensures.leads c.if-number.false in
+    let next = leads_on (tree_in new) new.states.cached.items new.states.used b c.next-number.result n
+    c.next-number.ensures.leads c.if-number.false in
     let is : n ≡ m = known.at.same in
-    let stays : accepts_before t m b ≡ false = sym (ap (λ (u : Tree). accepts_before u n b) same ∙ ap (λ x. accepts_before t x b) is) ∙ next.0 in
+    let stays : accepts_before t m b ≡ false =
+    sym (ap (λ (u : Tree). accepts_before u n b) same ∙ ap (λ x. accepts_before t x b) is) ∙ next.0 in
     let walk = walked c.scan.to i (byte_work (tree_in c.args.self.now)) c.scan_known-known.ensures.low (omega arith) in
     record {
       work = omega (arith, given.work, c.add.ensures, c.next-number.ensures.work, ap byte_work given.same, walk);
@@ -64,9 +66,11 @@ scan-preserved g c =
       states = grows_on c.scan.to 1 (i + 1) _ _ _ given.states c.next-number.ensures.states (omega (arith, c.scan_known-known.ensures.low));
       scanned = record {
         within = omega (arith, lt);
-        scanned = subst (λ (u : Tree). AreScanned u text (i + 1)) (sym same) (scanned_on t text i lt given.right.expanded known.scanned stays);
-        at = subst (λ (x : State). IsStateNumber (tree_in new) new.cached.items new.used c.next-number.result x)
-            (ap (λ (u : Tree). successor u n b) same ∙ ap (λ x. successor t x b) is ∙ state_on t text i lt ∙ ap (λ (u : Tree). state u (last_part (take (i + 1) text))) (sym same)) next.1;
+        scanned = subst (λ (u : Tree). AreScanned u text (i + 1)) (sym same)
+            (scanned_on t text i lt given.right.expanded known.scanned stays);
+        at = subst (λ (x : State). IsStateNumber (tree_in new) new.states.cached.items new.states.used c.next-number.result x)
+            (ap (λ (u : Tree). successor u n b) same ∙ ap (λ x. successor t x b) is ∙ state_on t text i lt
+            ∙ ap (λ (u : Tree). state u (last_part (take (i + 1) text))) (sym same)) next.1;
       };
     }
 
@@ -75,14 +79,33 @@ returns-then-known-text-clause-work g c =
     let t = tree_in c.args.self.now in
     let known = c.scan_known-known in
     let all : known.result.to ≡ length c.args.text.now = c.if-known-text.true in
-    omega (arith, c.scan.invariant.work, c.add.ensures, walked c.scan.to known.result.to (byte_work t) known.ensures.low (omega arith), ap (λ n. n * byte_work t) all)
+    omega (
+      arith,
+      c.scan.invariant.work,
+      c.add.ensures,
+      walked c.scan.to known.result.to (byte_work t) known.ensures.low
+          (omega arith),
+      ap (λ n. n * byte_work t) all,
+    )
 
 pub returns-then-number-clause-work : goal.returns-then-number-clause-work
 returns-then-number-clause-work g c =
     let t = tree_in c.args.self.now in
     let known = c.scan_known-known in
-    omega (arith, c.scan.invariant.work, c.add.ensures, c.next-number.ensures.work, ap byte_work c.scan.invariant.same, walked c.scan.to known.result.to (byte_work t) known.ensures.low (omega arith))
+    omega (
+      arith,
+      c.scan.invariant.work,
+      c.add.ensures,
+      c.next-number.ensures.work,
+      ap byte_work c.scan.invariant.same,
+      walked c.scan.to known.result.to (byte_work t) known.ensures.low (omega arith),
+    )
 
 pub returns-clause-work : goal.returns-clause-work
 returns-clause-work g c =
-    omega (arith, c.scan.invariant.work, scaled c.scan.to (length c.args.text.now) (byte_work (tree_in c.args.self.now)) c.scan.invariant.scanned.within)
+    omega (
+      arith,
+      c.scan.invariant.work,
+      scaled c.scan.to (length c.args.text.now) (byte_work (tree_in c.args.self.now))
+          c.scan.invariant.scanned.within,
+    )

@@ -7,10 +7,10 @@ use Rattle.cs_match.proofs.dfa.LazyDfa.first_accepted.Given as goal
 
 abbrev pub invariant-scan : goal.invariant-scan
 invariant-scan g l = record {
-  work : l.steps + state_work * l.self.used ≤ l.fn.steps + state_work * l.fn.self.used + l.to * byte_work (tree_in l.fn.self);
+  work : l.steps + state_work * l.self.states.used ≤ l.fn.steps + state_work * l.fn.self.states.used + l.to * byte_work (tree_in l.fn.self);
   right : IsConsistent l.self;
   same : tree_in l.self ≡ tree_in l.fn.self;
-  states : GrowsOver l.to l.fn.self.used l.self.used;
+  states : GrowsOver l.to l.fn.self.states.used l.self.states.used;
   scanned : HasScanned l.self l.text l.to l.number;
 }
 

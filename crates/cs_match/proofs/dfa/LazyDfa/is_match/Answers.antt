@@ -8,7 +8,7 @@ use Rattle.cs_match.proofs.DfaSearchLemmas.{scan_found, scan_stays, scan_next, s
 use Rattle.cs_match.proofs.dfa.LazyDfa.is_match.Goals as goal
 
 pub returns-then-b-eq10-clause-states : goal.returns-then-b-eq10-clause-states
-returns-then-b-eq10-clause-states g c = grows_on _ 0 _ _ _ _ c.loop-b.invariant.states (grows_none 0 _ _ c.search.ensures.states) (omega arith)
+returns-then-b-eq10-clause-states g c = grows_on _ 0 _ _ _ _ c.loop-b.invariant.states (grows_none 0 _ _ refl) (omega arith)
 
 pub returns-then-number-clause-states : goal.returns-then-number-clause-states
 returns-then-number-clause-states g c = grows_on _ 1 _ _ _ _ c.loop-b.invariant.states c.next-number.ensures.states (omega arith)
@@ -21,7 +21,10 @@ returns-then-number-clause-found g c =
     let given = c.loop-b.invariant in
     let new = c.next-number.new.self in
     let lt : i < length line = omega arith in
-    let accepting = scan_found t (tree_in new) new.cached.items new.used c.next-number.result (state_in c.loop-b.self c.loop-b.number) (c.next-number.ensures.same ∙ given.same) line i (get_or line i 0) given.number.same c.next-number.ensures.leads lt refl c.if-b-eq10.false c.next-number.ensures.right.cached.bound c.if-number.true in
+    let accepting = scan_found t (tree_in new) new.states.cached.items new.states.used c.next-number.result
+    (state_in c.loop-b.self c.loop-b.number) (c.next-number.ensures.same ∙ given.same) line i (get_or line i 0)
+    given.number.same c.next-number.ensures.leads lt refl c.if-b-eq10.false c.next-number.ensures.right.cached.bound
+    c.if-number.true in
     let f = found_at t line c.requires.right.expanded i (omega arith) accepting in
     (λ _. f, λ _. refl)
 
@@ -40,8 +43,11 @@ loop-b-preserved g c =
       right = c.next-number.ensures.right;
       same = same;
       states = grows_on i 1 (i + 1) _ _ _ given.states c.next-number.ensures.states (omega arith);
-      number = scan_next t (tree_in new) new.cached.items new.used c.next-number.result n same line i (get_or line i 0) given.number.same c.next-number.ensures.leads lt refl c.if-b-eq10.false c.if-number.false;
-      none = below_more _ _ given.none (scan_stays t (tree_in new) new.cached.items new.used c.next-number.result n same line i (get_or line i 0) given.number.same c.next-number.ensures.leads lt refl c.if-b-eq10.false c.if-number.false);
+      number = scan_next t (tree_in new) new.states.cached.items new.states.used c.next-number.result n same line i
+          (get_or line i 0) given.number.same c.next-number.ensures.leads lt refl c.if-b-eq10.false c.if-number.false;
+      none = below_more _ _ given.none (scan_stays t (tree_in new) new.states.cached.items new.states.used
+          c.next-number.result n same line i (get_or line i 0) given.number.same c.next-number.ensures.leads lt refl
+          c.if-b-eq10.false c.if-number.false);
     }
 
 pub returns-clause-found : goal.returns-clause-found
@@ -51,7 +57,9 @@ returns-clause-found g c =
     let i = c.loop-b.b-index in
     let given = c.loop-b.invariant in
     let new = c.next.new.self in
-    let ends = scan_ends t (tree_in new) new.cached.items new.used c.next.result (state_in c.loop-b.self c.loop-b.number) (c.next.ensures.same ∙ given.same) line i 10 given.number.same c.next.ensures.leads (omega arith) refl c.next.ensures.right.cached.bound in
+    let ends = scan_ends t (tree_in new) new.states.cached.items new.states.used c.next.result
+    (state_in c.loop-b.self c.loop-b.number) (c.next.ensures.same ∙ given.same) line i 10 given.number.same
+    c.next.ensures.leads (omega arith) refl c.next.ensures.right.cached.bound in
     found_last t line c.requires.right.expanded _ ends (λ k lt. given.none k (omega arith))
 
 pub returns-clause-states : goal.returns-clause-states
@@ -67,8 +75,7 @@ returns-then-b-eq10-clause-work g c =
     omega (
       arith,
       given.work,
-      c.search.ensures.work,
-      c.search.ensures.states,
+      c.search.ensures.cost,
       ap step_work given.same,
       scaled i (n + 1) (byte_work t) (omega arith),
       mul_both (n + 1) (step_work t) (n + 1) (byte_work t) (omega arith) lighter,
@@ -80,11 +87,23 @@ returns-then-number-clause-work g c =
     let t = tree_in c.args.self.now in
     let i = c.loop-b.b-index in
     let n = length c.args.line.now in
-    omega (arith, c.loop-b.invariant.work, c.next-number.ensures.work, ap byte_work c.loop-b.invariant.same, scaled (i + 1) (n + 1) (byte_work t) (omega arith))
+    omega (
+      arith,
+      c.loop-b.invariant.work,
+      c.next-number.ensures.work,
+      ap byte_work c.loop-b.invariant.same,
+      scaled (i + 1) (n + 1) (byte_work t) (omega arith),
+    )
 
 pub returns-clause-work : goal.returns-clause-work
 returns-clause-work g c =
     let t = tree_in c.args.self.now in
     let i = c.loop-b.b-index in
     let n = length c.args.line.now in
-    omega (arith, c.loop-b.invariant.work, c.next.ensures.work, ap byte_work c.loop-b.invariant.same, scaled (i + 1) (n + 1) (byte_work t) (omega arith))
+    omega (
+      arith,
+      c.loop-b.invariant.work,
+      c.next.ensures.work,
+      ap byte_work c.loop-b.invariant.same,
+      scaled (i + 1) (n + 1) (byte_work t) (omega arith),
+    )

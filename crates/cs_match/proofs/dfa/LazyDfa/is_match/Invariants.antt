@@ -8,10 +8,11 @@ use Rattle.cs_match.proofs.dfa.LazyDfa.is_match.Given as goal
 
 abbrev pub invariant-loop-b : goal.invariant-loop-b
 invariant-loop-b g l = record {
-  work : l.steps + state_work * l.self.used ≤ l.fn.steps + state_work * l.fn.self.used + l.b-index * byte_work (tree_in l.fn.self);
+  work : l.steps + state_work * l.self.states.used ≤ l.fn.steps + state_work * l.fn.self.states.used
+      + l.b-index * byte_work (tree_in l.fn.self);
   right : IsConsistent l.self;
   same : tree_in l.self ≡ tree_in l.fn.self;
-  states : GrowsOver l.b-index l.fn.self.used l.self.used;
+  states : GrowsOver l.b-index l.fn.self.states.used l.self.states.used;
   number : HasState l.self l.number (state (tree_in l.fn.self) (take l.b-index l.line));
   none : (k : ℕ) → k < l.b-index → accepts_in l.line (tree_in l.fn.self) k ≡ false;
 }

@@ -9,7 +9,8 @@ put-requires-2-clause-leads g c =
     let old = c.args.self.now in
     let new = c.add-next.new.self in
     let kept = c.add-next.ensures.kept c.args.from (state_in old c.args.from) c.requires.number in
-    leads_next (tree_in old) (tree_in new) new.cached.items new.used c.add-next.result (state_in old c.args.from) (state_in new c.args.from) old.scratch c.args.byte
+    leads_next (tree_in old) (tree_in new) new.states.cached.items new.states.used c.add-next.result
+    (state_in old c.args.from) (state_in new c.args.from) old.states.scratch c.args.byte
     c.add-next.ensures.same kept.same c.requires.within c.requires.stays c.requires.scratch c.add-next.ensures.number
 
 pub returns-clause-leads : goal.returns-clause-leads

@@ -1,6 +1,8 @@
 use Rattle.std.proofs.Common.{◌≡◌, ◌∙◌, ◌+◌, ◌/◌, ◌<◌, ◌≤◌, ℕ, suc, slice_index, length, ap, sym, subst, arith}
-use Rattle.std.proofs.lemmas.List.{with_items_is}
+use Rattle.std.proofs.lemmas.List.{with_items_is, get_or_read}
 use Rattle.cs_syntax.specs.declared.char_step.Unfinished.{Unfinished}
+use Rattle.cs_match.specs.declared.state.State.{State}
+use Rattle.cs_match.specs.States.{start}
 use Rattle.cs_match.specs.ByteClasses.{StepTogether}
 use Rattle.cs_match.specs.LazyDfa.{AreTransitions}
 use Rattle.cs_match.specs.ConsistentDfa.{tree_in, state_in}
@@ -18,19 +20,30 @@ returns-clause-right g c =
     let put = c.put_range.ensures in
     let stored = c.put_range.new.transitions in
     let state = state_in s c.args.from in
-    let alike = class_alike t state low high c.args.byte class.from class.to (subst (λ (at : Unfinished). (b : ℕ) → low ≤ b → suc b < high → StepTogether t at b (suc b)) c.unfinished_of-unfinished.ensures class.together) in
+    let unfinished = ap (λ (n : State). n.unfinished)
+    (get_or_read s.states.cached.items (c.args.from / 256) c.index.result.now
+    (omega (arith, c.requires.number.in_use, c.requires.right.cached.bound, c.requires.right.cached.all))
+    c.index.ensures (start t)) in
+    let alike = class_alike t state low high c.args.byte class.from class.to
+    (subst (λ (at : Unfinished). (b : ℕ) → low ≤ b → suc b < high → StepTogether t at b (suc b)) unfinished
+    class.together) in
     let index = sym c.requires.number.whole in
     let same = λ (k : ℕ). ap (λ xs. slice_index xs k) c.deref_mut.ensures.value in
     record {
       expanded = c.requires.right.expanded;
       cached = c.requires.right.cached;
-      transitions = subst (AreTransitions t s.cached.items s.used) (sym (with_items_is s.transitions stored (put.length ∙ c.deref_mut.ensures.len)))
-          (put_transition t s.cached.items s.used s.transitions.items stored c.requires.right.transitions (c.args.from / 256) low high c.args.next
+      transitions = subst (AreTransitions t s.states.cached.items s.states.used)
+          (sym (with_items_is s.states.transitions stored (put.length ∙ c.deref_mut.ensures.len)))
+          (put_transition t s.states.cached.items s.states.used s.states.transitions.items stored
+          c.requires.right.transitions (c.args.from / 256) low high c.args.next
           c.requires.number.in_use c.requires.right.cached.bound class.bytes
-          (λ b from to. leads_alike t s.cached.items s.used state c.args.byte b c.args.next (alike b from to) c.requires.leads)
+          (λ b from to. leads_alike t s.states.cached.items s.states.used state c.args.byte b c.args.next
+          (alike b from to) c.requires.leads)
           (subst (λ (n : ℕ). (b : ℕ) → low ≤ b → b < high → slice_index stored (n + b) ≡ c.args.next) index put.inside)
-          (subst (λ (n : ℕ). (k : ℕ) → k < n + low → slice_index stored k ≡ slice_index s.transitions.items k) index (λ k lt. put.before k lt ∙ same k))
-          (subst (λ (n : ℕ). (k : ℕ) → n + high ≤ k → slice_index stored k ≡ slice_index s.transitions.items k) index (λ k le. put.after k le ∙ same k)) (put.length ∙ ap length c.deref_mut.ensures.value));
+          (subst (λ (n : ℕ). (k : ℕ) → k < n + low → slice_index stored k ≡ slice_index s.states.transitions.items k)
+          index (λ k lt. put.before k lt ∙ same k))
+          (subst (λ (n : ℕ). (k : ℕ) → n + high ≤ k → slice_index stored k ≡ slice_index s.states.transitions.items k)
+          index (λ k le. put.after k le ∙ same k)) (put.length ∙ ap length c.deref_mut.ensures.value));
       room = c.requires.right.room;
       memory = c.requires.right.memory;
     }

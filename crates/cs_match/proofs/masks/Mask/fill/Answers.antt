@@ -12,10 +12,14 @@ returns-clause-mask g c =
     let all : length ps ≤ c.loop-index.index = omega arith in
     record {
       entered = rw i.input (all_put (if_entered c.args.input) ps c.loop-index.self.entered c.loop-index.index i.entered_room all i.entered);
-      previous = rw i.input (all_put (if_previous c.args.input) ps c.loop-index.self.previous c.loop-index.index i.previous_room all i.previous);
+      previous = rw i.input (all_put (if_previous c.args.input) ps c.loop-index.self.previous c.loop-index.index
+          i.previous_room all i.previous);
       kept = rw i.input (all_put (if_kept c.args.input) ps c.loop-index.self.kept c.loop-index.index i.kept_room all i.kept);
       one_mask = λ one k. elim (cases_lt k (length ps)) [
         | inl lt ↦ i.one_mask one k (omega (arith, lt, all))
-        | inr past ↦ (get_or_past c.loop-index.self.previous k false (omega (arith, past, i.previous_room)), get_or_past c.loop-index.self.kept k false (omega (arith, past, i.kept_room)))
+        | inr past ↦ (
+          get_or_past c.loop-index.self.previous k false (omega (arith, past, i.previous_room)),
+          get_or_past c.loop-index.self.kept k false (omega (arith, past, i.kept_room)),
+        )
       ];
     }

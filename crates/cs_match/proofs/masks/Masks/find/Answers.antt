@@ -15,11 +15,16 @@ returns-then-not-is_of-clause-masks g c =
       all = length-set old at new ∙ c.requires.all;
       room = λ k other h. elim (cases_eq k at) [
         | inl same ↦
-            subst (λ (m : Mask). HasRoom (length ps) m) (sym (ap (λ i. get_or (set old at new) i other) same ∙ get_or-set_same old at new other within)) c.fill.ensures.room
-        | inr else ↦ subst (λ (m : Mask). HasRoom (length ps) m) (sym (get_or-set_other old at k new other else)) (c.requires.room k other h)
+            subst (λ (m : Mask). HasRoom (length ps) m)
+            (sym (ap (λ i. get_or (set old at new) i other) same ∙ get_or-set_same old at new other within))
+            c.fill.ensures.room
+        | inr else ↦ subst (λ (m : Mask). HasRoom (length ps) m) (sym (get_or-set_other old at k new other else))
+            (c.requires.room k other h)
       ];
       known = λ k other h is. elim (cases_eq k at) [
-        | inl same ↦ subst (λ (m : Mask). IsMask ps m) (sym (ap (λ i. get_or (set old at new) i other) same ∙ get_or-set_same old at new other within)) c.fill.ensures.mask
+        | inl same ↦ subst (λ (m : Mask). IsMask ps m)
+            (sym (ap (λ i. get_or (set old at new) i other) same ∙ get_or-set_same old at new other within))
+            c.fill.ensures.mask
         | inr else ↦
             subst (λ (m : Mask). IsMask ps m) (sym (get_or-set_other old at k new other else))
             (c.requires.known k other h (subst (λ (m : Mask). m.is_known ≡ true) (get_or-set_other old at k new other else) is))

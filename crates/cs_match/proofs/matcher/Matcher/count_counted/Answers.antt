@@ -31,23 +31,41 @@ lines-preserved g c =
     let i = c.lines.invariant in
     let e = c.in-Some.ensures in
     let line = c.in-Some.line in
-    let before : AreLinesBetween block c.lines.offset line.start = record { low = e.line.low; high = omega (arith, e.line.order, e.line.high); whole = e.line.before } in
+    let before : AreLinesBetween block c.lines.offset line.start =
+    record { low = e.line.low; high = omega (arith, e.line.order, e.line.high); whole = e.line.before } in
     record {
-      lines = lines_append block 0 line.start (line.end + 1) (lines_append block 0 c.lines.offset line.start i.lines before) (one_line block line.start line.end e.line.order e.line.high e.line.newline);
+      lines = lines_append block 0 line.start (line.end + 1)
+          (lines_append block 0 c.lines.offset line.start i.lines before)
+          (one_line block line.start line.end e.line.order e.line.high e.line.newline);
       bound = omega (arith, i.bound, e.line.low, e.line.order);
       count = λ has_match decides.
           let now = subst (Decides has_match) (sym i.same) decides in
-          omega (arith, i.count has_match decides, count_match has_match block c.lines.offset line.start line.end i.lines.whole e.line (e.none has_match now) ((now (take (line.end - line.start) (drop line.start block))).1 e.found));
+          omega (
+            arith,
+            i.count has_match decides,
+            count_match has_match block c.lines.offset line.start line.end
+                i.lines.whole e.line (e.none has_match now)
+                ((now (take (line.end - line.start) (drop line.start block))).1 e.found),
+          );
       same = e.same ∙ i.same;
       work =
           let w = searched_byte_work c.args.self.now.tree in
-          omega (arith, i.work, e.work, ap (λ t. (line.end + 1 - c.lines.offset + search_overhead) * searched_byte_work t) i.same, counted_on c.lines.offset c.lines.matching_lines line.end w (omega (arith, e.line.low, e.line.order)));
+          omega (
+            arith,
+            i.work,
+            e.work,
+            ap (λ t. (line.end + 1 - c.lines.offset + search_overhead) * searched_byte_work
+                t) i.same,
+            counted_on c.lines.offset c.lines.matching_lines line.end w
+                (omega (arith, e.line.low, e.line.order)),
+          );
     }
 
 pub returns-clause-found : goal.returns-clause-found
 returns-clause-found g c = λ has_match decides.
     let i = c.lines.invariant in
-    i.count has_match decides ∙ count_rest has_match c.args.block.now c.lines.offset i.lines.high i.lines.whole (c.in_default.ensures.none has_match (subst (Decides has_match) (sym i.same) decides))
+    i.count has_match decides ∙ count_rest has_match c.args.block.now c.lines.offset i.lines.high i.lines.whole
+    (c.in_default.ensures.none has_match (subst (Decides has_match) (sym i.same) decides))
 
 pub returns-clause-bound : goal.returns-clause-bound
 returns-clause-bound g c =
@@ -59,4 +77,11 @@ returns-clause-work g c =
     let i = c.lines.invariant in
     let n = length c.args.block.now in
     let w = searched_byte_work c.args.self.now.tree in
-    omega (arith, i.work, c.in_default.ensures.work, ap (λ t. (n - c.lines.offset + search_overhead) * searched_byte_work t) i.same, counted_end c.lines.offset c.lines.matching_lines n w i.lines.high)
+    omega (
+      arith,
+      i.work,
+      c.in_default.ensures.work,
+      ap (λ t. (n - c.lines.offset + search_overhead) * searched_byte_work t) i.same,
+      counted_end c.lines.offset
+          c.lines.matching_lines n w i.lines.high,
+    )

@@ -11,7 +11,8 @@ invariant-lines g l = record {
   bound : l.matching_lines ≤ l.offset;
   count : (has_match : List ℕ → Bool) → Decides has_match l.fn.self.tree → l.matching_lines ≡ count_between has_match l.block 0 l.offset;
   same : l.self.tree ≡ l.fn.self.tree;
-  work : l.steps + state_work * l.self.states ≤ l.fn.steps + state_work * l.fn.self.states + (l.offset + l.matching_lines * search_overhead) * searched_byte_work l.fn.self.tree;
+  work : l.steps + state_work * l.self.states ≤ l.fn.steps + state_work * l.fn.self.states
+      + (l.offset + l.matching_lines * search_overhead) * searched_byte_work l.fn.self.tree;
 }
 
 abbrev pub decreases-lines : goal.decreases-lines

@@ -11,5 +11,6 @@ returns-clause-found g c =
 
 pub returns-clause-work : goal.returns-clause-work
 returns-clause-work g c =
-    subst (λ (a : Automaton). c.is_match.new.steps + state_work * c.is_match.new.self.used ≤ c.args.steps.now + state_work * a.states + line_work a.tree (length c.args.line.now))
+    subst (λ (a : Automaton). c.is_match.new.steps + state_work * c.is_match.new.self.states.used ≤ c.args.steps.now
+    + state_work * a.states + line_work a.tree (length c.args.line.now))
     c.self.view_is c.is_match.ensures.work

@@ -6,5 +6,8 @@ use Rattle.cs_match.proofs.matcher.Matcher.new.Goals as goal
 
 pub invariant_of-result : goal.invariant_of-result
 invariant_of-result c =
-    let made = c.in_ok-dfa.ensures in
-    (made.1, subst (λ (t : Tree). IfSome c.prefilter-prefilter.result (λ prefilter. IsPrefilterOf t prefilter.now)) (sym made.0) c.prefilter-prefilter.ensures)
+    let made = c.in_ok-dfa.ensures in (
+      made.1,
+      subst (λ (t : Tree). IfSome c.prefilter-prefilter.result (λ prefilter. IsPrefilterOf t prefilter.now))
+          (sym made.0) c.prefilter-prefilter.ensures,
+    )

@@ -1,7 +1,8 @@
-use Rattle.std.proofs.Common.{◌≡◌, ◌≤◌, ◌+◌, ◌*◌, ◌-◌, ℕ, List, length, take, drop, arith, refl, subst, ◌∙◌, Option, Some}
+use Rattle.std.proofs.Common.{◌≡◌, ◌≤◌, ◌+◌, ◌*◌, ◌-◌, ℕ, List, length, take, drop, arith, refl, sym, ap, subst, ◌∙◌, Option, Some}
 use Rattle.std.proofs.lemmas.List.{take_rest}
 use Rattle.cs_syntax.specs.Matching.{Tree}
 use Rattle.cs_match.specs.declared.matcher.Line.{Line}
+use Rattle.cs_match.specs.Automaton.{Automaton, GrowsOver}
 use Rattle.cs_match.specs.Deciding.{Decides}
 use Rattle.cs_match.specs.FirstMatch.{IsSearched}
 use Rattle.cs_match.specs.Lines.{terminated_lines}
@@ -18,33 +19,60 @@ use Rattle.cs_match.proofs.FirstMatchLemmas.{searched_after}
 use Rattle.cs_match.proofs.matcher.Matcher.next_match_counted.Goals as goal
 
 -- a search after skipped lines, by an equal tree
-behind : (tree now : Tree) (block : List ℕ) (from offset to : ℕ) (found other : Option Line) → now ≡ tree → found ≡ other → AreSkipped (λ has_match. Decides has_match tree) block from offset → IsSearched now block offset to found → IsSearched tree block from to other
+behind : (tree now : Tree) (block : List ℕ) (from offset to : ℕ) (found other : Option Line) → now ≡ tree → found
+    ≡ other → AreSkipped (λ has_match. Decides has_match tree) block from offset → IsSearched now block offset to found
+    → IsSearched tree block from to other
 behind tree now block from offset to found other same is skipped searched =
-    searched_after tree block from offset to other skipped (subst (IsSearched tree block offset to) is (subst (λ t. IsSearched t block offset to found) same searched))
+    searched_after tree block from offset to other skipped
+    (subst (IsSearched tree block offset to) is (subst (λ t. IsSearched t block offset to found) same searched))
 
 pub parts-init : goal.parts-init
-parts-init g c = record { skipped = skipped_none (λ has_match. Decides has_match c.args.self.now.tree) c.args.block.now c.args.from c.requires.within; same = refl; states = grows_none _ _ _ refl; work = omega arith }
+parts-init g c = record {
+  skipped = skipped_none (λ has_match. Decides has_match c.args.self.now.tree) c.args.block.now
+      c.args.from c.requires.within;
+  same = refl;
+  states = grows_none _ _ _ refl;
+  work = omega arith;
+}
 
 pub search_part-searched-requires-clause-whole : goal.search_part-searched-requires-clause-whole
-search_part-searched-requires-clause-whole g c = whole_from c.args.block.now c.args.from c.parts.offset c.parts.invariant.skipped.lines.low c.requires.whole
+search_part-searched-requires-clause-whole g c = whole_from c.args.block.now c.args.from c.parts.offset
+    c.parts.invariant.skipped.lines.low c.requires.whole
 
 pub returns-in-Some-clause-line : goal.returns-in-Some-clause-line
 returns-in-Some-clause-line g c =
     let i = c.parts.invariant in
     let searched = c.search_part-searched.result in
-    (behind c.args.self.now.tree c.parts.self.tree c.args.block.now c.args.from c.parts.offset searched.to searched.line (Some c.in-Some.line) i.same c.in-Some.is i.skipped c.search_part-searched.ensures.found).line
+    (behind c.args.self.now.tree c.parts.self.tree c.args.block.now c.args.from c.parts.offset searched.to searched.line
+    (Some c.in-Some.line) i.same c.in-Some.is i.skipped c.search_part-searched.ensures.found).line
 
 pub returns-in-Some-clause-found : goal.returns-in-Some-clause-found
 returns-in-Some-clause-found g c =
     let i = c.parts.invariant in
     let searched = c.search_part-searched.result in
-    (behind c.args.self.now.tree c.parts.self.tree c.args.block.now c.args.from c.parts.offset searched.to searched.line (Some c.in-Some.line) i.same c.in-Some.is i.skipped c.search_part-searched.ensures.found).found
+    (behind c.args.self.now.tree c.parts.self.tree c.args.block.now c.args.from c.parts.offset searched.to searched.line
+    (Some c.in-Some.line) i.same c.in-Some.is i.skipped c.search_part-searched.ensures.found).found
 
 pub returns-in-Some-clause-none : goal.returns-in-Some-clause-none
 returns-in-Some-clause-none g c =
     let i = c.parts.invariant in
     let searched = c.search_part-searched.result in
-    (behind c.args.self.now.tree c.parts.self.tree c.args.block.now c.args.from c.parts.offset searched.to searched.line (Some c.in-Some.line) i.same c.in-Some.is i.skipped c.search_part-searched.ensures.found).skipped.none
+    (behind c.args.self.now.tree c.parts.self.tree c.args.block.now c.args.from c.parts.offset searched.to searched.line
+    (Some c.in-Some.line) i.same c.in-Some.is i.skipped c.search_part-searched.ensures.found).skipped.none
+
+pub returns-in-Some-clause-same : goal.returns-in-Some-clause-same
+returns-in-Some-clause-same g c = ap (λ (a : Automaton). a.tree) c.note_part.ensures
+    ∙ c.search_part-searched.ensures.same ∙ c.parts.invariant.same
+
+pub returns-in-Some-clause-states : goal.returns-in-Some-clause-states
+returns-in-Some-clause-states g c =
+    let i = c.parts.invariant in
+    let e = c.search_part-searched.ensures in
+    let searched = c.search_part-searched.result in
+    let bytes = length c.args.block.now - c.args.from in
+    subst (λ (a : Automaton). GrowsOver bytes c.args.self.now.states a.states) (sym c.note_part.ensures)
+    (grows_on (c.parts.offset - c.args.from) (searched.to - c.parts.offset) bytes _ _ _ i.states e.states
+    (omega (arith, i.skipped.lines.low, e.moves, e.high)))
 
 pub parts-preserved : goal.parts-preserved
 parts-preserved g c =
@@ -52,14 +80,27 @@ parts-preserved g c =
     let e = c.search_part-searched.ensures in
     let searched = c.search_part-searched.result in
     record {
-      skipped = behind c.args.self.now.tree c.parts.self.tree c.args.block.now c.args.from c.parts.offset searched.to searched.line _ i.same c.in-None.is i.skipped e.found;
-      same = e.same ∙ i.same;
-      states = grows_on (c.parts.offset - c.args.from) (searched.to - c.parts.offset) (searched.to - c.args.from) _ _ _ i.states e.states (omega (arith, i.skipped.lines.low, e.moves));
+      skipped = behind c.args.self.now.tree c.parts.self.tree c.args.block.now c.args.from c.parts.offset searched.to
+          searched.line _ i.same c.in-None.is i.skipped e.found;
+      same = ap (λ (a : Automaton). a.tree) c.note_part.ensures ∙ e.same ∙ i.same;
+      states = subst (λ (a : Automaton). GrowsOver (searched.to - c.args.from) c.args.self.now.states a.states) (sym c.note_part.ensures)
+          (grows_on (c.parts.offset - c.args.from) (searched.to - c.parts.offset) (searched.to - c.args.from) _ _ _
+          i.states e.states (omega (arith, i.skipped.lines.low, e.moves)));
       work =
           let w = searched_byte_work c.args.self.now.tree in
-          let part = subst (λ (found : Option Line). c.search_part-searched.new.steps + state_work * c.search_part-searched.new.self.states ≤ c.parts.steps + state_work * c.parts.self.states + part_work c.args.self.now.tree c.parts.offset searched.to found) c.in-None.is
-          (subst (λ (t : Tree). c.search_part-searched.new.steps + state_work * c.search_part-searched.new.self.states ≤ c.parts.steps + state_work * c.parts.self.states + part_work t c.parts.offset searched.to searched.line) i.same e.work) in
-          omega (arith, i.work, part, parts_on c.args.from c.parts.offset searched.to w i.skipped.lines.low (omega (arith, e.moves)));
+          let part = subst (λ (found : Option Line). c.search_part-searched.new.steps
+          + state_work * c.search_part-searched.new.self.states ≤ c.parts.steps + state_work * c.parts.self.states
+          + part_work c.args.self.now.tree c.parts.offset searched.to found) c.in-None.is
+          (subst (λ (t : Tree). c.search_part-searched.new.steps + state_work * c.search_part-searched.new.self.states
+          ≤ c.parts.steps + state_work * c.parts.self.states + part_work t c.parts.offset searched.to searched.line)
+          i.same e.work) in
+          omega (
+            arith,
+            i.work,
+            part,
+            ap (λ (a : Automaton). a.states) c.note_part.ensures,
+            parts_on c.args.from c.parts.offset searched.to w i.skipped.lines.low (omega (arith, e.moves)),
+          );
     }
 
 pub returns-clause-none : goal.returns-clause-none
@@ -68,7 +109,8 @@ returns-clause-none g c = λ has_match decides.
     let block = c.args.block.now in
     let all : c.parts.offset ≡ length block = omega (arith, i.skipped.lines.high, c.parts-test.false) in
     subst (λ text. NoneMatch has_match (terminated_lines text)) (take_rest block c.args.from)
-    (subst (λ n. NoneMatch has_match (terminated_lines (take (n - c.args.from) (drop c.args.from block)))) all (i.skipped.none has_match decides))
+    (subst (λ n. NoneMatch has_match (terminated_lines (take (n - c.args.from) (drop c.args.from block)))) all
+    (i.skipped.none has_match decides))
 
 pub returns-in-Some-clause-work : goal.returns-in-Some-clause-work
 returns-in-Some-clause-work g c =
@@ -76,10 +118,23 @@ returns-in-Some-clause-work g c =
     let e = c.search_part-searched.ensures in
     let searched = c.search_part-searched.result in
     let line = c.in-Some.line in
-    let found = subst (λ (f : Option Line). IsSearched c.parts.self.tree c.args.block.now c.parts.offset searched.to f) c.in-Some.is e.found in
-    let part = subst (λ (f : Option Line). c.search_part-searched.new.steps + state_work * c.search_part-searched.new.self.states ≤ c.parts.steps + state_work * c.parts.self.states + part_work c.args.self.now.tree c.parts.offset searched.to f) c.in-Some.is
-    (subst (λ (t : Tree). c.search_part-searched.new.steps + state_work * c.search_part-searched.new.self.states ≤ c.parts.steps + state_work * c.parts.self.states + part_work t c.parts.offset searched.to searched.line) i.same e.work) in
-    omega (arith, i.work, part, parts_found c.args.from c.parts.offset line.end (searched_byte_work c.args.self.now.tree) i.skipped.lines.low (omega (arith, found.line.low, found.line.order)))
+    let found = subst (λ (f : Option Line). IsSearched c.parts.self.tree c.args.block.now c.parts.offset searched.to f)
+    c.in-Some.is e.found in
+    let part = subst (λ (f : Option Line). c.search_part-searched.new.steps
+    + state_work * c.search_part-searched.new.self.states ≤ c.parts.steps + state_work * c.parts.self.states
+    + part_work c.args.self.now.tree c.parts.offset searched.to f) c.in-Some.is
+    (subst (λ (t : Tree). c.search_part-searched.new.steps + state_work * c.search_part-searched.new.self.states
+    ≤ c.parts.steps + state_work * c.parts.self.states + part_work t c.parts.offset searched.to searched.line) i.same
+    e.work) in
+    omega (
+      arith,
+      i.work,
+      part,
+      ap (λ (a : Automaton). a.states) c.note_part.ensures,
+      parts_found c.args.from
+          c.parts.offset line.end (searched_byte_work c.args.self.now.tree) i.skipped.lines.low
+          (omega (arith, found.line.low, found.line.order)),
+    )
 
 pub returns-clause-work : goal.returns-clause-work
 returns-clause-work g c =

@@ -10,7 +10,8 @@ invariant-parts g l = record {
   skipped : AreSkipped (λ has_match. Decides has_match l.fn.self.tree) l.block l.from l.offset;
   same : l.self.tree ≡ l.fn.self.tree;
   states : GrowsOver (l.offset - l.from) l.fn.self.states l.self.states;
-  work : l.steps + state_work * l.self.states ≤ l.fn.steps + state_work * l.fn.self.states + (l.offset - l.from) * searched_byte_work l.fn.self.tree;
+  work : l.steps + state_work * l.self.states ≤ l.fn.steps + state_work * l.fn.self.states + (l.offset - l.from)
+      * searched_byte_work l.fn.self.tree;
 }
 
 abbrev pub decreases-parts : goal.decreases-parts

@@ -13,6 +13,7 @@ invariant-loop-index l =
       as_many : length new ≡ length old;
       fits : (k : ℕ) → get_or new k 0 < 18446744073709551616;
       done : (k i : ℕ) → k < l.index → i < 64 →
-          eqb (bit_at (get_or new k 0) i) 1 ≡ (if is_selected l.which l.from l.end (k * 64 + i) then true else eqb (bit_at (get_or old k 0) i) 1);
+          eqb (bit_at (get_or new k 0) i) 1 ≡ (if is_selected l.which l.from l.end (k * 64 + i) then true else
+          eqb (bit_at (get_or old k 0) i) 1);
       pending : (k : ℕ) → l.index ≤ k → get_or new k 0 ≡ get_or old k 0;
     }

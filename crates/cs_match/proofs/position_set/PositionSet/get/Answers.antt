@@ -16,7 +16,8 @@ returns c =
     let m = c.self.inside in
     let low = position_within m.words.items m.count c.args.index _ c.self.view_is c.requires in
     let read : c.index.result.now ≡ get_or m.words.items (c.args.index / 64) 0 =
-    get_or_read m.words.items (c.args.index / 64) _ (word_within m.words.items m.count c.args.index c.self.invariant low) c.index.ensures 0 in
+    get_or_read m.words.items (c.args.index / 64) _
+    (word_within m.words.items m.count c.args.index c.self.invariant low) c.index.ensures 0 in
     ap (λ x. eqb x 1) (shr_and_one c.index.result.now (c.args.index % 64))
     ∙ ap (λ x. eqb (bit_at x (c.args.index % 64)) 1) read
     ∙ sym (get_or-positions_of m.words.items m.count c.args.index low)

@@ -9,12 +9,22 @@ use Rattle.cs_match.proofs.position_set.PositionSet.move_entered.Given.{Over}
 
 pub index-requires : goal.index-requires
 index-requires g c =
-    let more = one_more c.entries.inside.words.items c.self.inside.words.items _ _ _ _ c.entries.view_is c.self.view_is c.requires.entries in
-    omega (arith, more, c.entries.invariant.enough, c.self.invariant.enough, c.len-index-end.ensures, c.self.inside.words.ok.0, c.entries.inside.words.ok.0)
+    let more = one_more c.entries.inside.words.items c.self.inside.words.items _ _ _ _ c.entries.view_is c.self.view_is
+    c.requires.entries in
+    omega (
+      arith,
+      more,
+      c.entries.invariant.enough,
+      c.self.invariant.enough,
+      c.len-index-end.ensures,
+      c.self.inside.words.ok.0,
+      c.entries.inside.words.ok.0,
+    )
 
 pub index-requires-in-loop-index : goal.index-requires-in-loop-index
 index-requires-in-loop-index g c =
-    let as_many = same_length _ _ _ _ _ _ c.if_entered.invariant c.self.invariant c.if_entered.view_is c.self.view_is c.requires.if_entered in
+    let as_many = same_length _ _ _ _ _ _ c.if_entered.invariant c.self.invariant c.if_entered.view_is c.self.view_is
+    c.requires.if_entered in
     omega (arith, c.len-index-end.ensures, c.self.inside.words.ok.0, c.if_entered.inside.words.ok.0)
 
 pub loop-index-preserved : goal.loop-index-preserved
@@ -28,7 +38,12 @@ loop-index-preserved g c =
     let in-old : at < length old = omega (arith, c.len-index-end.ensures, c.self.inside.words.ok.0) in
     let in-now : at < length now = omega (arith, in-old, c.loop-index.invariant.as_many) in
     let in-entries : at < length entries = omega (arith, in-old, more, c.entries.invariant.enough, c.self.invariant.enough) in
-    let in-ins : at < length ins = omega (arith, in-old, same_length _ _ _ _ _ _ c.if_entered.invariant c.self.invariant c.if_entered.view_is c.self.view_is c.requires.if_entered) in
+    let in-ins : at < length ins = omega (
+      arith,
+      in-old,
+      same_length _ _ _ _ _ _ c.if_entered.invariant c.self.invariant
+          c.if_entered.view_is c.self.view_is c.requires.if_entered,
+    ) in
     let e : c.index.result.now ≡ get_or entries at 0 = get_or_read entries at _ in-entries c.index.ensures 0 in
     let i : c.index-in-loop-index.result.now ≡ get_or ins at 0 = get_or_read ins at _ in-ins c.index-in-loop-index.ensures 0 in
     let new : ℕ = bit_and c.index.result.now c.index-in-loop-index.result.now in
@@ -43,23 +58,27 @@ loop-index-preserved g c =
 
 -- the entries have one position more than the mask
 entries-are : (g : Over) (c : After-loop-index g) → IsPositionSet c.entries.inside.words.items (c.self.inside.count + 1)
-entries-are g c = rw (one_more c.entries.inside.words.items c.self.inside.words.items _ _ _ _ c.entries.view_is c.self.view_is c.requires.entries) at c.entries.invariant
+entries-are g c = rw (one_more c.entries.inside.words.items c.self.inside.words.items _ _ _ _ c.entries.view_is
+    c.self.view_is c.requires.entries) at c.entries.invariant
 
 ins-are : (g : Over) (c : After-loop-index g) → IsPositionSet c.if_entered.inside.words.items c.self.inside.count
-ins-are g c = rw (same_count c.if_entered.inside.words.items c.self.inside.words.items _ _ _ _ c.if_entered.view_is c.self.view_is c.requires.if_entered) at c.if_entered.invariant
+ins-are g c = rw (same_count c.if_entered.inside.words.items c.self.inside.words.items _ _ _ _ c.if_entered.view_is
+    c.self.view_is c.requires.if_entered) at c.if_entered.invariant
 
 as_many : (g : Over) (c : After-loop-index g) → length c.self.inside.words.items ≡ length c.if_entered.inside.words.items
 as_many g c = c.self.invariant.enough ∙ sym (ins-are g c).enough
 
 -- every word is moved
-all-done : (g : Over) (c : After-loop-index g) (k : ℕ) → k < length c.if_entered.inside.words.items → get_or c.loop-index.self-inside.words.items k 0
+all-done : (g : Over) (c : After-loop-index g) (k : ℕ) → k < length c.if_entered.inside.words.items →
+    get_or c.loop-index.self-inside.words.items k 0
     ≡ bit_and (get_or c.entries.inside.words.items k 0) (get_or c.if_entered.inside.words.items k 0)
 all-done g c k h = c.loop-index.invariant.done k (omega (arith, h, as_many g c, c.len-index-end.ensures, c.self.inside.words.ok.0))
 
 pub invariant_of-self : goal.invariant_of-self
 invariant_of-self g c =
     rw c.loop-index.invariant.position_count
-    (IsPositionSet-entered _ c.entries.inside.words.items c.if_entered.inside.words.items c.self.inside.count (entries-are g c) (ins-are g c) (c.loop-index.invariant.as_many ∙ as_many g c) (all-done g c))
+    (IsPositionSet-entered _ c.entries.inside.words.items c.if_entered.inside.words.items c.self.inside.count
+    (entries-are g c) (ins-are g c) (c.loop-index.invariant.as_many ∙ as_many g c) (all-done g c))
 
 pub returns-clause-length : goal.returns-clause-length
 returns-clause-length g c =
@@ -70,11 +89,22 @@ pub returns-clause-each : goal.returns-clause-each
 returns-clause-each g c = λ k h.
     let count = c.self.inside.count in
     let within : k < count = omega (arith, h, length-positions_of c.self.inside.words.items count, ap length c.self.view_is) in
-    let es = rw (one_more c.entries.inside.words.items c.self.inside.words.items _ _ _ _ c.entries.view_is c.self.view_is c.requires.entries) at c.entries.view_is in
-    let ins = rw (same_count c.if_entered.inside.words.items c.self.inside.words.items _ _ _ _ c.if_entered.view_is c.self.view_is c.requires.if_entered) at c.if_entered.view_is in
+    let es = rw (one_more c.entries.inside.words.items c.self.inside.words.items _ _ _ _ c.entries.view_is
+    c.self.view_is c.requires.entries) at c.entries.view_is in
+    let ins = rw (same_count c.if_entered.inside.words.items c.self.inside.words.items _ _ _ _ c.if_entered.view_is
+    c.self.view_is c.requires.if_entered) at c.if_entered.view_is in
     ap (λ n. get_or (positions_of c.loop-index.self-inside.words.items n) k false) c.loop-index.invariant.position_count
-    ∙ get_or-entered_words _ c.entries.inside.words.items c.if_entered.inside.words.items count (entries-are g c) (ins-are g c) (c.loop-index.invariant.as_many ∙ as_many g c) (all-done g c) k within
+    ∙ get_or-entered_words _ c.entries.inside.words.items c.if_entered.inside.words.items count (entries-are g c)
+    (ins-are g c) (c.loop-index.invariant.as_many ∙ as_many g c) (all-done g c) k within
     ∙ ap₂ (λ xs ys. get_or xs k false && get_or ys k false) es ins
 
 pub returns-clause-cost : goal.returns-clause-cost
-returns-clause-cost g c = omega (arith, c.loop-index.invariant.cost, c.len-index-end.ensures, c.self.inside.words.ok.0, c.self.invariant.enough, length-positions_of c.self.inside.words.items c.self.inside.count, ap length c.self.view_is)
+returns-clause-cost g c = omega (
+  arith,
+  c.loop-index.invariant.cost,
+  c.len-index-end.ensures,
+  c.self.inside.words.ok.0,
+  c.self.invariant.enough,
+  length-positions_of c.self.inside.words.items c.self.inside.count,
+  ap length c.self.view_is,
+)

@@ -6,5 +6,6 @@ invariant-loop-index g l = record {
   cost : l.steps ≡ l.fn.steps + l.index;
   position_count : l.self-inside.count ≡ l.initial.self-inside.count;
   as_many : length l.self-inside.words.items ≡ length l.initial.self-inside.words.items;
-  done : (k : ℕ) → k < l.index → get_or l.self-inside.words.items k 0 ≡ bit_and (get_or l.entries-inside.words.items k 0) (get_or l.if_entered-inside.words.items k 0);
+  done : (k : ℕ) → k < l.index → get_or l.self-inside.words.items k 0
+      ≡ bit_and (get_or l.entries-inside.words.items k 0) (get_or l.if_entered-inside.words.items k 0);
 }

@@ -10,17 +10,28 @@ use Rattle.cs_match.proofs.position_set.PositionSet.move_over.Given.{Over}
 
 pub index-entry-requires : goal.index-entry-requires
 index-entry-requires g c =
-    let more = one_more c.entries.inside.words.items c.self.inside.words.items _ _ _ _ c.entries.view_is c.self.view_is c.requires.entries in
-    omega (arith, more, c.entries.invariant.enough, c.self.invariant.enough, c.len-index-end.ensures, c.self.inside.words.ok.0, c.entries.inside.words.ok.0)
+    let more = one_more c.entries.inside.words.items c.self.inside.words.items _ _ _ _ c.entries.view_is c.self.view_is
+    c.requires.entries in
+    omega (
+      arith,
+      more,
+      c.entries.invariant.enough,
+      c.self.invariant.enough,
+      c.len-index-end.ensures,
+      c.self.inside.words.ok.0,
+      c.entries.inside.words.ok.0,
+    )
 
 pub index-requires : goal.index-requires
 index-requires g c =
-    let as_many = same_length _ _ _ _ _ _ c.if_entered.invariant c.self.invariant c.if_entered.view_is c.self.view_is c.requires.if_entered in
+    let as_many = same_length _ _ _ _ _ _ c.if_entered.invariant c.self.invariant c.if_entered.view_is c.self.view_is
+    c.requires.if_entered in
     omega (arith, c.len-index-end.ensures, c.self.inside.words.ok.0, c.if_entered.inside.words.ok.0)
 
 pub index-requires-in-loop-index : goal.index-requires-in-loop-index
 index-requires-in-loop-index g c =
-    let as_many = same_length _ _ _ _ _ _ c.if_previous.invariant c.self.invariant c.if_previous.view_is c.self.view_is c.requires.if_previous in
+    let as_many = same_length _ _ _ _ _ _ c.if_previous.invariant c.self.invariant c.if_previous.view_is c.self.view_is
+    c.requires.if_previous in
     omega (arith, c.len-index-end.ensures, c.self.inside.words.ok.0, c.if_previous.inside.words.ok.0)
 
 pub index-requires-in-loop-index-3 : goal.index-requires-in-loop-index-3
@@ -41,16 +52,33 @@ loop-index-preserved g c =
     let in-old : at < length old = omega (arith, c.len-index-end.ensures, c.self.inside.words.ok.0) in
     let in-now : at < length now = omega (arith, in-old, c.loop-index.invariant.as_many) in
     let in-entries : at < length entries = omega (arith, in-old, more, c.entries.invariant.enough, c.self.invariant.enough) in
-    let in-ins : at < length ins = omega (arith, in-old, same_length _ _ _ _ _ _ c.if_entered.invariant c.self.invariant c.if_entered.view_is c.self.view_is c.requires.if_entered) in
-    let in-befores : at < length befores = omega (arith, in-old, same_length _ _ _ _ _ _ c.if_previous.invariant c.self.invariant c.if_previous.view_is c.self.view_is c.requires.if_previous) in
-    let in-keeps : at < length keeps = omega (arith, in-old, same_length _ _ _ _ _ _ c.if_kept.invariant c.self.invariant c.if_kept.view_is c.self.view_is c.requires.if_kept) in
+    let in-ins : at < length ins = omega (
+      arith,
+      in-old,
+      same_length _ _ _ _ _ _ c.if_entered.invariant c.self.invariant
+          c.if_entered.view_is c.self.view_is c.requires.if_entered,
+    ) in
+    let in-befores : at < length befores = omega (
+      arith,
+      in-old,
+      same_length _ _ _ _ _ _ c.if_previous.invariant
+          c.self.invariant c.if_previous.view_is c.self.view_is c.requires.if_previous,
+    ) in
+    let in-keeps : at < length keeps = omega (
+      arith,
+      in-old,
+      same_length _ _ _ _ _ _ c.if_kept.invariant
+          c.self.invariant c.if_kept.view_is c.self.view_is c.requires.if_kept,
+    ) in
     let e : c.index-entry.result.now ≡ get_or entries at 0 = get_or_read entries at _ in-entries c.index-entry.ensures 0 in
     let i : c.index.result.now ≡ get_or ins at 0 = get_or_read ins at _ in-ins c.index.ensures 0 in
     let p : c.index-in-loop-index.result.now ≡ get_or befores at 0 = get_or_read befores at _ in-befores c.index-in-loop-index.ensures 0 in
-    let w : c.index-in-loop-index-2.result.now ≡ get_or old at 0 = get_or_read now at _ in-now c.index-in-loop-index-2.ensures 0 ∙ c.loop-index.invariant.pending at (omega arith) in
+    let w : c.index-in-loop-index-2.result.now ≡ get_or old at 0 =
+    get_or_read now at _ in-now c.index-in-loop-index-2.ensures 0 ∙ c.loop-index.invariant.pending at (omega arith) in
     let k : c.index-in-loop-index-3.result.now ≡ get_or keeps at 0 = get_or_read keeps at _ in-keeps c.index-in-loop-index-3.ensures 0 in
     let word : ℕ → ℕ → ℕ → ℕ → ℕ → ℕ → ℕ = λ e carried i p w k. moved_word e i (bit_or (e * 2 % 18446744073709551616) carried) p w k in
-    let new : ℕ = word c.index-entry.result.now c.loop-index.carried c.index.result.now c.index-in-loop-index.result.now c.index-in-loop-index-2.result.now c.index-in-loop-index-3.result.now in
+    let new : ℕ = word c.index-entry.result.now c.loop-index.carried c.index.result.now c.index-in-loop-index.result.now
+    c.index-in-loop-index-2.result.now c.index-in-loop-index-3.result.now in
     record {
       cost = omega (arith, c.loop-index.invariant.cost, c.add.ensures);
       position_count = c.loop-index.invariant.position_count;
@@ -59,37 +87,51 @@ loop-index-preserved g c =
       done = below_more _ _
           (λ k h. get_or-set_other now at k new 0 (λ same. omega (arith, h, same)) ∙ c.loop-index.invariant.done k h)
           (get_or-set_same now at new 0 in-now
-          ∙ ap (λ x. word x c.loop-index.carried c.index.result.now c.index-in-loop-index.result.now c.index-in-loop-index-2.result.now c.index-in-loop-index-3.result.now) e
-          ∙ ap (λ x. word (get_or entries at 0) x c.index.result.now c.index-in-loop-index.result.now c.index-in-loop-index-2.result.now c.index-in-loop-index-3.result.now) c.loop-index.invariant.carries
-          ∙ ap (λ x. word (get_or entries at 0) (carry entries at) x c.index-in-loop-index.result.now c.index-in-loop-index-2.result.now c.index-in-loop-index-3.result.now) i
-          ∙ ap (λ x. word (get_or entries at 0) (carry entries at) (get_or ins at 0) x c.index-in-loop-index-2.result.now c.index-in-loop-index-3.result.now) p
-          ∙ ap (λ x. word (get_or entries at 0) (carry entries at) (get_or ins at 0) (get_or befores at 0) x c.index-in-loop-index-3.result.now) w
+          ∙ ap (λ x. word x c.loop-index.carried c.index.result.now c.index-in-loop-index.result.now
+          c.index-in-loop-index-2.result.now c.index-in-loop-index-3.result.now) e
+          ∙ ap (λ x. word (get_or entries at 0) x c.index.result.now c.index-in-loop-index.result.now
+          c.index-in-loop-index-2.result.now c.index-in-loop-index-3.result.now) c.loop-index.invariant.carries
+          ∙ ap (λ x. word (get_or entries at 0) (carry entries at) x c.index-in-loop-index.result.now
+          c.index-in-loop-index-2.result.now c.index-in-loop-index-3.result.now) i
+          ∙ ap (λ x. word (get_or entries at 0) (carry entries at) (get_or ins at 0) x
+          c.index-in-loop-index-2.result.now c.index-in-loop-index-3.result.now) p
+          ∙ ap (λ x. word (get_or entries at 0) (carry entries at) (get_or ins at 0) (get_or befores at 0) x
+          c.index-in-loop-index-3.result.now) w
           ∙ ap (λ x. word (get_or entries at 0) (carry entries at) (get_or ins at 0) (get_or befores at 0) (get_or old at 0) x) k);
-      pending = λ k h. get_or-set_other now at k new 0 (λ same. omega (arith, h, same)) ∙ c.loop-index.invariant.pending k (omega (arith, h));
+      pending = λ k h. get_or-set_other now at k new 0 (λ same. omega (arith, h, same))
+          ∙ c.loop-index.invariant.pending k (omega (arith, h));
     }
 
 -- the other sets have as many positions, and the entries one more
 entries-are : (g : Over) (c : After-loop-index g) → IsPositionSet c.entries.inside.words.items (c.self.inside.count + 1)
-entries-are g c = rw (one_more c.entries.inside.words.items c.self.inside.words.items _ _ _ _ c.entries.view_is c.self.view_is c.requires.entries) at c.entries.invariant
+entries-are g c = rw (one_more c.entries.inside.words.items c.self.inside.words.items _ _ _ _ c.entries.view_is
+    c.self.view_is c.requires.entries) at c.entries.invariant
 
 ins-are : (g : Over) (c : After-loop-index g) → IsPositionSet c.if_entered.inside.words.items c.self.inside.count
-ins-are g c = rw (same_count c.if_entered.inside.words.items c.self.inside.words.items _ _ _ _ c.if_entered.view_is c.self.view_is c.requires.if_entered) at c.if_entered.invariant
+ins-are g c = rw (same_count c.if_entered.inside.words.items c.self.inside.words.items _ _ _ _ c.if_entered.view_is
+    c.self.view_is c.requires.if_entered) at c.if_entered.invariant
 
 befores-are : (g : Over) (c : After-loop-index g) → IsPositionSet c.if_previous.inside.words.items c.self.inside.count
-befores-are g c = rw (same_count c.if_previous.inside.words.items c.self.inside.words.items _ _ _ _ c.if_previous.view_is c.self.view_is c.requires.if_previous) at c.if_previous.invariant
+befores-are g c = rw (same_count c.if_previous.inside.words.items c.self.inside.words.items _ _ _ _
+    c.if_previous.view_is c.self.view_is c.requires.if_previous) at c.if_previous.invariant
 
 keeps-are : (g : Over) (c : After-loop-index g) → IsPositionSet c.if_kept.inside.words.items c.self.inside.count
-keeps-are g c = rw (same_count c.if_kept.inside.words.items c.self.inside.words.items _ _ _ _ c.if_kept.view_is c.self.view_is c.requires.if_kept) at c.if_kept.invariant
+keeps-are g c = rw (same_count c.if_kept.inside.words.items c.self.inside.words.items _ _ _ _ c.if_kept.view_is
+    c.self.view_is c.requires.if_kept) at c.if_kept.invariant
 
 -- every word is moved
-all-done : (g : Over) (c : After-loop-index g) (k : ℕ) → k < length c.self.inside.words.items → get_or c.loop-index.self-inside.words.items k 0
-    ≡ moved_word (get_or c.entries.inside.words.items k 0) (get_or c.if_entered.inside.words.items k 0) (shifted c.entries.inside.words.items k) (get_or c.if_previous.inside.words.items k 0) (get_or c.self.inside.words.items k 0) (get_or c.if_kept.inside.words.items k 0)
+all-done : (g : Over) (c : After-loop-index g) (k : ℕ) → k < length c.self.inside.words.items →
+    get_or c.loop-index.self-inside.words.items k 0
+    ≡ moved_word (get_or c.entries.inside.words.items k 0) (get_or c.if_entered.inside.words.items k 0)
+    (shifted c.entries.inside.words.items k) (get_or c.if_previous.inside.words.items k 0)
+    (get_or c.self.inside.words.items k 0) (get_or c.if_kept.inside.words.items k 0)
 all-done g c k h = c.loop-index.invariant.done k (omega (arith, h, c.len-index-end.ensures, c.self.inside.words.ok.0))
 
 pub invariant_of-self : goal.invariant_of-self
 invariant_of-self g c =
     rw c.loop-index.invariant.position_count
-    (IsPositionSet-moved _ c.self.inside.words.items c.entries.inside.words.items c.if_entered.inside.words.items c.if_previous.inside.words.items c.if_kept.inside.words.items c.self.inside.count
+    (IsPositionSet-moved _ c.self.inside.words.items c.entries.inside.words.items c.if_entered.inside.words.items
+    c.if_previous.inside.words.items c.if_kept.inside.words.items c.self.inside.count
     c.self.invariant (entries-are g c) (ins-are g c) (befores-are g c) (keeps-are g c) c.loop-index.invariant.as_many (all-done g c))
 
 pub returns-clause-length : goal.returns-clause-length
@@ -101,18 +143,37 @@ pub returns-clause-each : goal.returns-clause-each
 returns-clause-each g c = λ k h.
     let count = c.self.inside.count in
     let within : k < count = omega (arith, h, length-positions_of c.self.inside.words.items count, ap length c.self.view_is) in
-    let es = rw (one_more c.entries.inside.words.items c.self.inside.words.items _ _ _ _ c.entries.view_is c.self.view_is c.requires.entries) at c.entries.view_is in
-    let ins = rw (same_count c.if_entered.inside.words.items c.self.inside.words.items _ _ _ _ c.if_entered.view_is c.self.view_is c.requires.if_entered) at c.if_entered.view_is in
-    let befores = rw (same_count c.if_previous.inside.words.items c.self.inside.words.items _ _ _ _ c.if_previous.view_is c.self.view_is c.requires.if_previous) at c.if_previous.view_is in
-    let keeps = rw (same_count c.if_kept.inside.words.items c.self.inside.words.items _ _ _ _ c.if_kept.view_is c.self.view_is c.requires.if_kept) at c.if_kept.view_is in
+    let es = rw (one_more c.entries.inside.words.items c.self.inside.words.items _ _ _ _ c.entries.view_is
+    c.self.view_is c.requires.entries) at c.entries.view_is in
+    let ins = rw (same_count c.if_entered.inside.words.items c.self.inside.words.items _ _ _ _ c.if_entered.view_is
+    c.self.view_is c.requires.if_entered) at c.if_entered.view_is in
+    let befores = rw (same_count c.if_previous.inside.words.items c.self.inside.words.items _ _ _ _
+    c.if_previous.view_is c.self.view_is c.requires.if_previous) at c.if_previous.view_is in
+    let keeps = rw (same_count c.if_kept.inside.words.items c.self.inside.words.items _ _ _ _ c.if_kept.view_is
+    c.self.view_is c.requires.if_kept) at c.if_kept.view_is in
     ap (λ n. get_or (positions_of c.loop-index.self-inside.words.items n) k false) c.loop-index.invariant.position_count
-    ∙ get_or-moved_words _ c.self.inside.words.items c.entries.inside.words.items c.if_entered.inside.words.items c.if_previous.inside.words.items c.if_kept.inside.words.items count
-    c.self.invariant (entries-are g c) (ins-are g c) (befores-are g c) (keeps-are g c) c.loop-index.invariant.as_many (all-done g c) k within
-    ∙ ap (λ xs. is_moved xs (positions_of c.if_entered.inside.words.items count) (positions_of c.if_previous.inside.words.items count) (positions_of c.if_kept.inside.words.items count) (positions_of c.self.inside.words.items count) k) es
-    ∙ ap (λ xs. is_moved c.args.entries.now xs (positions_of c.if_previous.inside.words.items count) (positions_of c.if_kept.inside.words.items count) (positions_of c.self.inside.words.items count) k) ins
-    ∙ ap (λ xs. is_moved c.args.entries.now c.args.if_entered.now xs (positions_of c.if_kept.inside.words.items count) (positions_of c.self.inside.words.items count) k) befores
-    ∙ ap (λ xs. is_moved c.args.entries.now c.args.if_entered.now c.args.if_previous.now xs (positions_of c.self.inside.words.items count) k) keeps
+    ∙ get_or-moved_words _ c.self.inside.words.items c.entries.inside.words.items c.if_entered.inside.words.items
+    c.if_previous.inside.words.items c.if_kept.inside.words.items count
+    c.self.invariant (entries-are g c) (ins-are g c) (befores-are g c) (keeps-are g c) c.loop-index.invariant.as_many
+    (all-done g c) k within
+    ∙ ap (λ xs. is_moved xs (positions_of c.if_entered.inside.words.items count)
+    (positions_of c.if_previous.inside.words.items count) (positions_of c.if_kept.inside.words.items count)
+    (positions_of c.self.inside.words.items count) k) es
+    ∙ ap (λ xs. is_moved c.args.entries.now xs (positions_of c.if_previous.inside.words.items count)
+    (positions_of c.if_kept.inside.words.items count) (positions_of c.self.inside.words.items count) k) ins
+    ∙ ap (λ xs. is_moved c.args.entries.now c.args.if_entered.now xs (positions_of c.if_kept.inside.words.items count)
+    (positions_of c.self.inside.words.items count) k) befores
+    ∙ ap (λ xs. is_moved c.args.entries.now c.args.if_entered.now c.args.if_previous.now xs
+    (positions_of c.self.inside.words.items count) k) keeps
     ∙ ap (λ xs. is_moved c.args.entries.now c.args.if_entered.now c.args.if_previous.now c.args.if_kept.now xs k) c.self.view_is
 
 pub returns-clause-cost : goal.returns-clause-cost
-returns-clause-cost g c = omega (arith, c.loop-index.invariant.cost, c.len-index-end.ensures, c.self.inside.words.ok.0, c.self.invariant.enough, length-positions_of c.self.inside.words.items c.self.inside.count, ap length c.self.view_is)
+returns-clause-cost g c = omega (
+  arith,
+  c.loop-index.invariant.cost,
+  c.len-index-end.ensures,
+  c.self.inside.words.ok.0,
+  c.self.invariant.enough,
+  length-positions_of c.self.inside.words.items c.self.inside.count,
+  ap length c.self.view_is,
+)

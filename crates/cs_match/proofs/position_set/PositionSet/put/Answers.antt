@@ -22,17 +22,20 @@ invariant_of-self c =
     let m = c.self.inside in
     let low = position_within m.words.items m.count c.args.index _ c.self.view_is c.requires in
     let within = word_within m.words.items m.count c.args.index c.self.invariant low in
-    let read : c.index.result.now ≡ get_or m.words.items (c.args.index / 64) 0 = get_or_read m.words.items (c.args.index / 64) _ within c.index.ensures 0 in
+    let read : c.index.result.now ≡ get_or m.words.items (c.args.index / 64) 0 =
+    get_or_read m.words.items (c.args.index / 64) _ within c.index.ensures 0 in
     let bit : IsWithBit c.index.result.now c.with_bits.result (c.args.index % 64) c.args.on =
     with_one_bit c.index.result.now c.with_bits.result (c.args.index % 64) c.args.on (omega arith) c.with_bits.ensures in
-    IsPositionSet-set m.words.items c.args.index c.with_bits.result c.args.on (rw read at bit) within m.count low (omega (arith, c.with_bits.type_inv)) c.self.invariant
+    IsPositionSet-set m.words.items c.args.index c.with_bits.result c.args.on (rw read at bit) within m.count low
+    (omega (arith, c.with_bits.type_inv)) c.self.invariant
 
 pub returns : goal.returns
 returns c =
     let m = c.self.inside in
     let low = position_within m.words.items m.count c.args.index _ c.self.view_is c.requires in
     let within = word_within m.words.items m.count c.args.index c.self.invariant low in
-    let read : c.index.result.now ≡ get_or m.words.items (c.args.index / 64) 0 = get_or_read m.words.items (c.args.index / 64) _ within c.index.ensures 0 in
+    let read : c.index.result.now ≡ get_or m.words.items (c.args.index / 64) 0 =
+    get_or_read m.words.items (c.args.index / 64) _ within c.index.ensures 0 in
     let bit : IsWithBit c.index.result.now c.with_bits.result (c.args.index % 64) c.args.on =
     with_one_bit c.index.result.now c.with_bits.result (c.args.index % 64) c.args.on (omega arith) c.with_bits.ensures in
     positions_of-set m.words.items c.args.index c.with_bits.result c.args.on (rw read at bit) within m.count low

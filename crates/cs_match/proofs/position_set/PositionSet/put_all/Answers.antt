@@ -18,43 +18,82 @@ loop-index-preserved c =
     let by = c.args.from % 64 in
     let at = c.loop-index.index in
     let new = c.with_bits.result in
-    let in-now : at < length now = omega (arith, c.loop-index-test.true, c.min-end.ensures, c.len-2.ensures, c.self.inside.words.ok.0, c.loop-index.invariant.as_many) in
-    let word : c.index.result.now ≡ get_or old at 0 = get_or_read now at _ in-now c.index.ensures 0 ∙ c.loop-index.invariant.pending at (omega arith) in
+    let in-now : at < length now = omega (
+      arith,
+      c.loop-index-test.true,
+      c.min-end.ensures,
+      c.len-2.ensures,
+      c.self.inside.words.ok.0,
+      c.loop-index.invariant.as_many,
+    ) in
+    let word : c.index.result.now ≡ get_or old at 0 = get_or_read now at _ in-now c.index.ensures 0
+    ∙ c.loop-index.invariant.pending at (omega arith) in
     record {
       position_count = c.loop-index.invariant.position_count;
       as_many = length-set now at new ∙ c.loop-index.invariant.as_many;
       fits = λ k. elim (cases_eq k at) [
-        | inl same ↦ omega (arith, ap (λ (i : ℕ). get_or (set now at new) i 0) same, get_or-set_same now at new 0 in-now, c.with_bits.type_inv)
+        | inl same ↦ omega (
+          arith,
+          ap (λ (i : ℕ). get_or (set now at new) i 0) same,
+          get_or-set_same now at new 0
+              in-now,
+          c.with_bits.type_inv,
+        )
         | inr other ↦ omega (arith, get_or-set_other now at k new 0 other, c.loop-index.invariant.fits k)
       ];
       done = λ k i low high h.
-          let bits : ℕ → Type 0 = λ k. eqb (bit_at (get_or (set now at new) k 0) i) 1 ≡ (if has_bit_from which by ((k - first) * 64 + i) then c.args.on else eqb (bit_at (get_or old k 0) i) 1) in
+          let bits : ℕ → Type 0 = λ k. eqb (bit_at (get_or (set now at new) k 0) i) 1
+          ≡ (if has_bit_from which by ((k - first) * 64 + i) then c.args.on else eqb (bit_at (get_or old k 0) i) 1) in
           elim (cases_eq k at) [
             | inl same ↦
                 subst bits (sym same)
                 (ap (λ x. eqb (bit_at x i) 1) (get_or-set_same now at new 0 in-now) ∙ c.with_bits.ensures i h
-                ∙ ap (λ x. if x then c.args.on else eqb (bit_at c.index.result.now i) 1) (c.word_from-bits.ensures i h ∙ ap (λ (xs : List ℕ). has_bit_from xs by ((at - first) * 64 + i)) c.deref.ensures.value)
+                ∙ ap (λ x. if x then c.args.on else eqb (bit_at c.index.result.now i) 1)
+                (c.word_from-bits.ensures i h ∙ ap (λ (xs : List ℕ). has_bit_from xs by ((at - first) * 64 + i))
+                c.deref.ensures.value)
                 ∙ ap (λ x. if has_bit_from which by ((at - first) * 64 + i) then c.args.on else eqb (bit_at x i) 1) word)
             | inr other ↦
-                ap (λ x. eqb (bit_at x i) 1) (get_or-set_other now at k new 0 other) ∙ c.loop-index.invariant.done k i low (omega (arith, high, other)) h
+                ap (λ x. eqb (bit_at x i) 1) (get_or-set_other now at k new 0 other)
+                ∙ c.loop-index.invariant.done k i low (omega (arith, high, other)) h
           ];
-      before = λ k lt. get_or-set_other now at k new 0 (λ same. omega (arith, lt, same, c.loop-index.auto.index)) ∙ c.loop-index.invariant.before k lt;
-      pending = λ k le. get_or-set_other now at k new 0 (λ same. omega (arith, le, same)) ∙ c.loop-index.invariant.pending k (omega (arith, le));
+      before = λ k lt. get_or-set_other now at k new 0 (λ same. omega (arith, lt, same, c.loop-index.auto.index))
+          ∙ c.loop-index.invariant.before k lt;
+      pending = λ k le. get_or-set_other now at k new 0 (λ same. omega (arith, le, same))
+          ∙ c.loop-index.invariant.pending k (omega (arith, le));
     }
 
 room : (c : After-loop-index) → c.args.from + c.which.inside.count ≤ c.self.inside.count
 room c =
-    omega (arith, c.requires, length-positions_of c.which.inside.words.items c.which.inside.count, length-positions_of c.self.inside.words.items c.self.inside.count, ap length c.which.view_is, ap length c.self.view_is)
+    omega (
+      arith,
+      c.requires,
+      length-positions_of c.which.inside.words.items c.which.inside.count,
+      length-positions_of c.self.inside.words.items c.self.inside.count,
+      ap length c.which.view_is,
+      ap length c.self.view_is,
+    )
 
-ends : (c : After-loop-index) (k : ℕ) → c.loop-index.index ≤ k → k < length c.self.inside.words.items → c.args.from / 64 + length c.which.inside.words.items + 1 ≤ k
+ends : (c : After-loop-index) (k : ℕ) → c.loop-index.index ≤ k → k < length c.self.inside.words.items →
+    c.args.from / 64 + length c.which.inside.words.items + 1 ≤ k
 ends c k from h =
-    omega (arith, from, h, c.loop-index-test.false, c.min-end.ensures, c.len.ensures, c.len-2.ensures, c.self.inside.words.ok.0, c.which.inside.words.ok.0)
+    omega (
+      arith,
+      from,
+      h,
+      c.loop-index-test.false,
+      c.min-end.ensures,
+      c.len.ensures,
+      c.len-2.ensures,
+      c.self.inside.words.ok.0,
+      c.which.inside.words.ok.0,
+    )
 
 pub invariant_of-self : goal.invariant_of-self
 invariant_of-self c =
     let i = c.loop-index.invariant in
     rw i.position_count
-    (IsPositionSet-put _ c.self.inside.words.items c.which.inside.words.items c.self.inside.count c.which.inside.count c.args.from c.loop-index.index c.args.on
+    (IsPositionSet-put _ c.self.inside.words.items c.which.inside.words.items c.self.inside.count c.which.inside.count
+    c.args.from c.loop-index.index c.args.on
     c.self.invariant c.which.invariant i.as_many i.fits (room c) (ends c) i.done i.before i.pending)
 
 pub returns-clause-length : goal.returns-clause-length

@@ -13,7 +13,8 @@ invariant-loop-index l =
       as_many : length new ≡ length old;
       fits : (k : ℕ) → get_or new k 0 < 18446744073709551616;
       done : (k i : ℕ) → l.from / 64 ≤ k → k < l.index → i < 64 →
-          eqb (bit_at (get_or new k 0) i) 1 ≡ (if has_bit_from l.which-inside.words.items (l.from % 64) ((k - l.from / 64) * 64 + i) then l.on else eqb (bit_at (get_or old k 0) i) 1);
+          eqb (bit_at (get_or new k 0) i) 1 ≡ (if has_bit_from l.which-inside.words.items (l.from % 64)
+          ((k - l.from / 64) * 64 + i) then l.on else eqb (bit_at (get_or old k 0) i) 1);
       before : (k : ℕ) → k < l.from / 64 → get_or new k 0 ≡ get_or old k 0;
       pending : (k : ℕ) → l.index ≤ k → get_or new k 0 ≡ get_or old k 0;
     }

@@ -13,7 +13,8 @@ loop-index-preserved g c =
     let from = c.from.inside.words.items in
     let at = c.loop-index.index in
     let in-now : at < length now = omega (arith, c.loop-index.invariant.as_many, c.len-index-end.ensures, c.self.inside.words.ok.0) in
-    let word : c.word_at-word.result ≡ get_or from at 0 = c.word_at-word.ensures ∙ ap (λ (xs : List ℕ). get_or xs at 0) c.deref.ensures.value in
+    let word : c.word_at-word.result ≡ get_or from at 0 = c.word_at-word.ensures
+    ∙ ap (λ (xs : List ℕ). get_or xs at 0) c.deref.ensures.value in
     let new : ℕ = bit_or (c.word_at-word.result * 2 % 18446744073709551616) c.loop-index.carried in
     record {
       cost = omega (arith, c.loop-index.invariant.cost, c.add.ensures);
@@ -33,12 +34,15 @@ more g c = one_more c.self.inside.words.items c.from.inside.words.items _ _ _ _ 
 size : (g : Over) (c : After-loop-index g) → length c.loop-index.self-inside.words.items ≡ (c.from.inside.count + 1 + 63) / 64
 size g c = omega (arith, c.loop-index.invariant.as_many, c.self.invariant.enough, more g c)
 
-all-done : (g : Over) (c : After-loop-index g) (k : ℕ) → k < length c.loop-index.self-inside.words.items → get_or c.loop-index.self-inside.words.items k 0 ≡ shifted c.from.inside.words.items k
-all-done g c k h = c.loop-index.invariant.done k (omega (arith, h, c.loop-index.invariant.as_many, c.len-index-end.ensures, c.self.inside.words.ok.0))
+all-done : (g : Over) (c : After-loop-index g) (k : ℕ) → k < length c.loop-index.self-inside.words.items →
+    get_or c.loop-index.self-inside.words.items k 0 ≡ shifted c.from.inside.words.items k
+all-done g c k h = c.loop-index.invariant.done k
+    (omega (arith, h, c.loop-index.invariant.as_many, c.len-index-end.ensures, c.self.inside.words.ok.0))
 
 pub invariant_of-self : goal.invariant_of-self
 invariant_of-self g c =
-    rw (c.loop-index.invariant.position_count, more g c) (IsPositionSet-shifted _ c.from.inside.words.items c.from.inside.count c.from.invariant (size g c) (all-done g c))
+    rw (c.loop-index.invariant.position_count, more g c)
+    (IsPositionSet-shifted _ c.from.inside.words.items c.from.inside.count c.from.invariant (size g c) (all-done g c))
 
 pub returns-clause-shifted : goal.returns-clause-shifted
 returns-clause-shifted g c =
@@ -47,4 +51,12 @@ returns-clause-shifted g c =
     ∙ ap (λ xs. false ∷ xs) c.from.view_is
 
 pub returns-clause-cost : goal.returns-clause-cost
-returns-clause-cost g c = omega (arith, c.loop-index.invariant.cost, c.len-index-end.ensures, c.self.inside.words.ok.0, c.self.invariant.enough, length-positions_of c.self.inside.words.items c.self.inside.count, ap length c.self.view_is)
+returns-clause-cost g c = omega (
+  arith,
+  c.loop-index.invariant.cost,
+  c.len-index-end.ensures,
+  c.self.inside.words.ok.0,
+  c.self.invariant.enough,
+  length-positions_of c.self.inside.words.items c.self.inside.count,
+  ap length c.self.view_is,
+)

@@ -10,8 +10,21 @@ use Rattle.cs_match.proofs.ExpansionLemmas.{expansion_matches, is_expanded}
 use Rattle.cs_match.proofs.program.Program.compile.Goals as goal
 
 pub invariant_of-result : goal.invariant_of-result
-invariant_of-result c =
-    ((c.count_repeats-repeats.ensures, c.look_behind-look_behind.ensures, subst IsExpanded (sym c.in_ok-root.ensures) (is_expanded (tree_of c.tree.result.now))), c.in_ok-prefilter.ensures, c.in_ok-part.ensures.shape, c.in_ok-part.ensures.size, c.in_ok-add_positions.ensures ∙ ap (λ ps. ps ++ position_list (tree_of c.in_ok-root.root)) c.new-positions.ensures.items, c.byte_classes-byte_classes.ensures, c.in_ok-cuts.ensures)
+invariant_of-result c = (
+  (
+    c.count_repeats-repeats.ensures,
+    c.look_behind-look_behind.ensures,
+    subst IsExpanded (sym c.in_ok-root.ensures)
+        (is_expanded (tree_of c.tree.result.now)),
+  ),
+  c.in_ok-prefilter.ensures,
+  c.in_ok-part.ensures.shape,
+  c.in_ok-part.ensures.size,
+  c.in_ok-add_positions.ensures
+      ∙ ap (λ ps. ps ++ position_list (tree_of c.in_ok-root.root)) c.new-positions.ensures.items,
+  c.byte_classes-byte_classes.ensures,
+  c.in_ok-cuts.ensures,
+)
 
 pub returns-clause-alike : goal.returns-clause-alike
 returns-clause-alike c = λ line.

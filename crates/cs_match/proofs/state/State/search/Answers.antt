@@ -11,11 +11,13 @@ use Rattle.cs_match.proofs.state.State.search.Goals as goal
 
 pub step_in_line-requires-clause-one_each : goal.step_in_line-requires-clause-one_each
 step_in_line-requires-clause-one_each g c =
-    ap (λ (n : State). length n.positions) c.loop-b.invariant.here ∙ length-state c.args.program.now c.args.line.now c.loop-b.b-index (omega arith)
+    ap (λ (n : State). length n.positions) c.loop-b.invariant.here ∙ length-state c.args.program.now c.args.line.now
+    c.loop-b.b-index (omega arith)
 
 pub end-requires : goal.end-requires
 end-requires g c = record {
-  one_each = ap (λ (n : State). length n.positions) c.loop-b.invariant.here ∙ length-state c.args.program.now c.args.line.now c.loop-b.b-index (omega arith);
+  one_each = ap (λ (n : State). length n.positions) c.loop-b.invariant.here
+      ∙ length-state c.args.program.now c.args.line.now c.loop-b.b-index (omega arith);
 }
 
 pub returns-then-step_in_line-clause-found : goal.returns-then-step_in_line-clause-found
@@ -25,7 +27,8 @@ returns-then-step_in_line-clause-found g c =
     let i = c.loop-b.b-index in
     let byte = get_or line i 0 in
     let accepting : accepts_in line t i ≡ true =
-    sym (accepts_ahead t line i (omega arith)) ∙ ap (λ (n : State). accepts t true n.positions (ahead t n byte)) (sym c.loop-b.invariant.here) ∙ sym c.step_in_line.ensures.accepting ∙ c.if-step_in_line.true in
+    sym (accepts_ahead t line i (omega arith)) ∙ ap (λ (n : State). accepts t true n.positions (ahead t n byte))
+    (sym c.loop-b.invariant.here) ∙ sym c.step_in_line.ensures.accepting ∙ c.if-step_in_line.true in
     let f = found_at t line c.requires.expanded i (omega arith) accepting in
     (λ _. f, λ _. refl)
 
@@ -34,7 +37,8 @@ returns-then-step_in_line-clause-one_each g c =
     let t = c.args.program.now in
     let line = c.args.line.now in
     let i = c.loop-b.b-index in
-    ap (λ (n : State). length n.positions) (c.step_in_line.ensures.moved ∙ ap (λ (n : State). next_state t n (get_or line i 0)) c.loop-b.invariant.here ∙ next_more t line i (omega arith))
+    ap (λ (n : State). length n.positions) (c.step_in_line.ensures.moved
+    ∙ ap (λ (n : State). next_state t n (get_or line i 0)) c.loop-b.invariant.here ∙ next_more t line i (omega arith))
     ∙ length-state t line (i + 1) (omega arith)
 
 pub loop-b-preserved : goal.loop-b-preserved
@@ -44,7 +48,9 @@ loop-b-preserved g c =
     let i = c.loop-b.b-index in
     let given = c.loop-b.invariant in
     let byte = get_or line i 0 in
-    let stays = sym (accepts_ahead t line i (omega arith)) ∙ ap (λ (n : State). accepts t true n.positions (ahead t n byte)) (sym given.here) ∙ sym c.step_in_line.ensures.accepting ∙ c.if-step_in_line.false in
+    let stays = sym (accepts_ahead t line i (omega arith))
+    ∙ ap (λ (n : State). accepts t true n.positions (ahead t n byte)) (sym given.here)
+    ∙ sym c.step_in_line.ensures.accepting ∙ c.if-step_in_line.false in
     record {
       cost = omega (arith, given.cost, c.step_in_line.ensures.cost);
       here = c.step_in_line.ensures.moved ∙ ap (λ (n : State). next_state t n byte) given.here ∙ next_more t line i (omega arith);

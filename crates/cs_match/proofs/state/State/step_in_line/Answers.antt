@@ -7,12 +7,17 @@ use Rattle.cs_match.proofs.state.State.step_in_line.Goals as goal
 
 pub returns-clause-accepting : goal.returns-clause-accepting
 returns-clause-accepting g c =
-    let word : c.is_word-is_word.result ≡ is_word_for c.args.program.now c.args.byte = c.is_word-is_word.ensures ∙ ap (λ (bits : LookBehind). is_word c.args.byte && bits.word) c.look_behind-bits.ensures in
+    let word : c.is_word-is_word.result ≡ is_word_for c.args.program.now c.args.byte = c.is_word-is_word.ensures
+    ∙ ap (λ (bits : LookBehind). is_word c.args.byte && bits.word) c.look_behind-bits.ensures in
     c.step_over-accepting.ensures.accepting
-    ∙ accepts_here c.args.program.now c.args.program.now c.args.self.now c.args.byte _ c.is_word-is_word.result refl word (xor-is c.args.self.now.word c.is_word-is_word.result)
+    ∙ accepts_here c.args.program.now c.args.program.now c.args.self.now c.args.byte _ c.is_word-is_word.result refl
+    word (xor-is c.args.self.now.word c.is_word-is_word.result)
 
 pub returns-clause-moved : goal.returns-clause-moved
 returns-clause-moved g c =
-    let word : c.is_word-is_word.result ≡ is_word_for c.args.program.now c.args.byte = c.is_word-is_word.ensures ∙ ap (λ (bits : LookBehind). is_word c.args.byte && bits.word) c.look_behind-bits.ensures in
-    moves_to c.args.program.now c.args.program.now c.args.self.now c.args.byte _ c.is_word-is_word.result refl word (xor-is c.args.self.now.word c.is_word-is_word.result)
-    c.char_step-char.result c.unfinished-self.result c.step_over-accepting.new.positions c.char_step-char.ensures c.unfinished-self.ensures c.step_over-accepting.ensures.positions
+    let word : c.is_word-is_word.result ≡ is_word_for c.args.program.now c.args.byte = c.is_word-is_word.ensures
+    ∙ ap (λ (bits : LookBehind). is_word c.args.byte && bits.word) c.look_behind-bits.ensures in
+    moves_to c.args.program.now c.args.program.now c.args.self.now c.args.byte _ c.is_word-is_word.result refl word
+    (xor-is c.args.self.now.word c.is_word-is_word.result)
+    c.char_step-char.result c.unfinished-self.result c.step_over-accepting.new.positions c.char_step-char.ensures
+    c.unfinished-self.ensures c.step_over-accepting.ensures.positions

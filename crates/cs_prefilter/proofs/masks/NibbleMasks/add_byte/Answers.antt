@@ -3,7 +3,8 @@ use Rattle.cs_prefilter.proofs.BucketLemmas.{IsInBucket-bit_is_set, KeepsByteBuc
 use Rattle.cs_prefilter.proofs.masks.NibbleMasks.add_byte.Goals as goal
 
 pub returns-clause-has : goal.returns-clause-has
-returns-clause-has c = IsInBucket-bit_is_set c.args.self.now.low c.args.self.now.high _ _ c.args.bucket (omega arith) (omega arith) c.args.byte refl refl c.requires
+returns-clause-has c = IsInBucket-bit_is_set c.args.self.now.low c.args.self.now.high _ _ c.args.bucket (omega arith)
+    (omega arith) c.args.byte refl refl c.requires
 
 pub returns-clause-keeps : goal.returns-clause-keeps
 returns-clause-keeps c = KeepsByteBuckets-bit_is_set c.args.self.now.low c.args.self.now.high _ _ c.args.bucket (omega arith) (omega arith)

@@ -1,4 +1,4 @@
-use Rattle.std.proofs.Common.{take, subst}
+use Rattle.std.proofs.Common.{take, subst, arith}
 use Rattle.std.specs.List.{All}
 use Rattle.std.proofs.lemmas.List.{take_all}
 use Rattle.std.proofs.lemmas.List.Elements.{All-more, All-weaker}
@@ -13,9 +13,10 @@ loop-i-preserved c =
     let word = c.index-words-i.result in
     let old = HasBucket c.loop-i.trigram_masks in
     let new = HasBucket c.add.new.self in
-    let kept = All-weaker old new (HasBucket-kept c.loop-i.trigram_masks c.add.new.self c.add.ensures.keeps) (take i words) c.loop-i.invariant in
+    let kept = All-weaker old new (HasBucket-kept c.loop-i.trigram_masks c.add.new.self c.add.ensures.keeps)
+    (take i words) c.loop-i.invariant in
     All-more new words i word c.loop-i-test.true kept
-    (subst new c.index-words-i.is (record { trigram = c.in-Some.trigram; begins = c.in-Some.ensures; bucket = _; has = c.add.ensures.has }))
+    (subst new c.index-words-i.is (record { long = omega (arith, c.len.ensures, c.if-len-lt3.false); bucket = _; has = c.add.ensures.has }))
 
 pub returns : goal.returns
 returns c = subst (All (HasBucket c.loop-i.trigram_masks)) (take_all c.loop-i.i c.args.words.now c.loop-i-test.false) c.loop-i.invariant

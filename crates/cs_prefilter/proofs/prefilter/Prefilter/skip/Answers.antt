@@ -33,7 +33,9 @@ scan-preserved g c =
 
 pub returns-then-has_word-clause-stops : goal.returns-then-has_word-clause-stops
 returns-then-has_word-clause-stops g c = λ has_word.
-    subst (λ (ws : List Word). Any (WordAt c.args.text.now c.scan.offset) ws) (c.deref.ensures.value ∙ ap (λ (p : List Word × Bool). p.0) c.self.view_is) (c.occurs-has_word.ensures.found.0 has_word)
+    subst (λ (ws : List Word). Any (WordAt c.args.text.now c.scan.offset) ws)
+    (c.deref.ensures.value ∙ ap (λ (p : List Word × Bool). p.0) c.self.view_is)
+    (c.occurs-has_word.ensures.found.0 has_word)
 
 pub returns-clause-none : goal.returns-clause-none
 returns-clause-none g c k low high = c.scan.invariant.none k low (omega (arith, c.scan-test.false))

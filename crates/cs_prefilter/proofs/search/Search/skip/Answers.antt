@@ -12,5 +12,6 @@ returns-in-Pairs-clause-none c k low high word finds occurs =
 
 pub returns-in-Trigrams-clause-none : goal.returns-in-Trigrams-clause-none
 returns-in-Trigrams-clause-none c k low high word finds occurs =
-    none_without_candidate c.in-Trigrams.masks c.args.text.now k (λ i. (c.type_inv.text i).fits) (c.skip-in-Trigrams.ensures.none k low high) word
+    none_without_candidate c.in-Trigrams.masks c.args.text.now k (λ i. (c.type_inv.text i).fits)
+    (c.skip-in-Trigrams.ensures.none k low high) word
     (subst (λ (search : Search). Finds search word) c.in-Trigrams.is finds) occurs

@@ -1,6 +1,7 @@
-use Rattle.std.proofs.Common.{◌≡◌, ◌+◌, get_or, ap, ◌∙◌, bit_and, arith}
+use Rattle.std.proofs.Common.{◌≡◌, ◌≢◌, ◌↔◌, ◌+◌, get_or, ap, subst, ◌∙◌, bit_and, arith}
+use Rattle.std.specs.Int.{bit_at}
 use Rattle.cs_prefilter.specs.Buckets.{buckets, buckets_of}
-use Rattle.cs_prefilter.proofs.masks.TrigramMasks.bucket_lanes.Goals as goal
+use Rattle.cs_prefilter.proofs.masks.TrigramMasks.candidate_mask.Goals as goal
 
 pub returns : goal.returns
 unfolding buckets_of
@@ -17,7 +18,9 @@ returns c k below =
     let third : get_or c.next.result (k + 1) 0 ≡ buckets trigram_masks.third (get_or text (at + k + 2) 0) =
     c.next.ensures.each (k + 1) (omega arith) ∙ c.lanes-2.ensures.each (k + 1 + 1) (omega arith)
     ∙ ap (buckets trigram_masks.third) (byte (k + 1 + 1) (omega arith) ∙ ap (λ j. get_or text j 0) (omega arith)) in
-    let later : get_or c.next-2.result k 0 ≡ bit_and (buckets trigram_masks.second (get_or text (at + k + 1) 0)) (buckets trigram_masks.third (get_or text (at + k + 2) 0)) =
+    let later : get_or c.next-2.result k 0 ≡ bit_and (buckets trigram_masks.second (get_or text (at + k + 1) 0))
+    (buckets trigram_masks.third (get_or text (at + k + 2) 0)) =
     c.next-2.ensures.each k (omega arith) ∙ c.both-later.ensures.each (k + 1) (omega arith)
     ∙ (λ i. bit_and (second i) (third i)) in
-    c.both.ensures.each k (omega arith) ∙ (λ i. bit_and (first i) (later i))
+    subst (λ n. (bit_at c.nonzero.result k ≡ 1) ↔ (n ≢ 0)) (c.both.ensures.each k (omega arith)
+    ∙ (λ i. bit_and (first i) (later i))) (c.nonzero.ensures k)

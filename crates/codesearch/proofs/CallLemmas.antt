@@ -38,12 +38,8 @@ abbrev pub FindsFault : Result JobView WordFault → Result Job WordFault → Ty
 FindsFault parsed answer = (fault : WordFault) → fault ≢ Memory → (answer ≡ Err fault) ↔ (parsed ≡ Err fault)
 
 is_memory : (fault : WordFault) → (fault ≡ Memory) ⊎ (fault ≢ Memory)
-is_memory (UnknownOption i) = inr (λ e. cc)
-is_memory (NoValue i) = inr (λ e. cc)
-is_memory (BadTruth i) = inr (λ e. cc)
-is_memory NoPattern = inr (λ e. cc)
-is_memory (ExtraWord i) = inr (λ e. cc)
 is_memory Memory = inl refl
+is_memory fault = inr (λ e. cc)
 
 same_fault : (fault found : WordFault) → FindsFault (Err fault) (Err found) → ◌≡◌ {A = Result Job WordFault} (Err found) (Err fault)
 same_fault fault found finds =
@@ -148,8 +144,7 @@ unread_over (Index job) P Q old new on unread = (
     prints_over : UnreadPrints job (tree_of old new) P old.outputs.err new.outputs.err → UnreadPrints job (tree_of old new) Q old.outputs.err new.outputs.err
     prints_over (before silent) = before silent
     prints_over (after paths known prints) = after paths (λ index is. known index (on index is)) prints
-unread_over (Search job) P Q old new on unread = unread
-unread_over (Grep job) P Q old new on unread = unread
+unread_over job P Q old new on unread = unread
 
 ends_over : (given : Given) (file : IndexFile) (P Q : Option (List ℕ) → Type 0) (old new : Surroundings) → ((index : Option (List ℕ)) → Q index → P index) → IsUntouched old new ⊎ EndsUnread given file P old new → IsUntouched old new ⊎ EndsUnread given file Q old new
 ends_over given file P Q old new on (inl untouched) = inl untouched
@@ -206,15 +201,12 @@ has_folder call (Index job) is job-is =
     let at = index_folder call.tool _ _ job is-meant in
     let some = subst (λ tool. lacks_folder given tool ≡ false) at.0 is.folder in
     subst (λ folder. is_absolute folder ≡ true) (sym at.1) (absolute_at (option_map string_bytes given.folder) some)
-has_folder call (Search job) is job-is = tt
-has_folder call (Grep job) is job-is = tt
+has_folder call job is job-is = tt
 
 -- `cgrep` updates no index file
 keeps_at : (tool : Tool) (cwd : List ℕ) (args : List (List ℕ)) (job : Result Job WordFault) → GivesJob (parse_args tool cwd args) job → tool ≡ Cgrep → may_update job ≡ false
 keeps_at tool cwd args (Ok (Index job)) gives grep = absurd (let e = sym (index_folder tool cwd args job (meant (parse_args tool cwd args) (Index job) gives)).0 ∙ grep in cc)
-keeps_at tool cwd args (Ok (Search job)) gives grep = refl
-keeps_at tool cwd args (Ok (Grep job)) gives grep = refl
-keeps_at tool cwd args (Err fault) gives grep = refl
+keeps_at tool cwd args answer gives grep = refl
 
 pub grep_keeps : (call : Call) → IsCall call → call.tool ≡ Cgrep → may_update call.job ≡ false
 grep_keeps call is grep = keeps_at call.tool _ _ call.job is.job grep

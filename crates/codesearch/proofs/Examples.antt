@@ -11,7 +11,8 @@ use Rattle.codesearch.specs.declared.outcome.Outcome.TheVariants.{Done, Searched
 use Rattle.codesearch.specs.declared.outcome.ProgramFault.TheVariants.{NoFolder}
 use Rattle.cs_storage.specs.declared.update.IndexUpdate.TheVariants.{Remove}
 
-tools : (tool_named (codes "cindex") ≡ Some Cindex) × (tool_named (codes "cgrep") ≡ Some Cgrep) × (tool_named (codes "grep") ≡ None) × (tool_named [] ≡ None)
+tools : (tool_named (codes "cindex") ≡ Some Cindex) × (tool_named (codes "cgrep") ≡ Some Cgrep) ×
+    (tool_named (codes "grep") ≡ None) × (tool_named [] ≡ None)
 tools = (refl, refl, refl, refl)
 
 -- the third argument of `cgrep a b x` is not UTF-8
@@ -36,9 +37,11 @@ unreadable = refl
 foreign : leftover_line (codes "/x") (codes "/y~") ≡ codes "codesearch: cannot write /x: remove /y~\n"
 foreign = refl
 
-statuses : (exit_status (Done Remove) ≡ 0) × (exit_status (Searched Matched) ≡ 0) × (exit_status (Searched NoMatch) ≡ 1) × (exit_status (Refused NoFolder) ≡ 2)
+statuses : (exit_status (Done Remove) ≡ 0) × (exit_status (Searched Matched) ≡ 0) × (exit_status (Searched NoMatch) ≡ 1)
+    × (exit_status (Refused NoFolder) ≡ 2)
 statuses = (refl, refl, refl, refl)
 
 -- an error leaves the index file alone, and a done `-reset` without paths removes it
-updates : (file_after (update_of (Refused NoFolder)) (Some (1 ∷ [])) ≡ Some (1 ∷ [])) × (file_after (update_of (Done Remove)) (Some (1 ∷ [])) ≡ None)
+updates : (file_after (update_of (Refused NoFolder)) (Some (1 ∷ [])) ≡ Some (1 ∷ [])) ×
+    (file_after (update_of (Done Remove)) (Some (1 ∷ [])) ≡ None)
 updates = (refl, refl)

@@ -21,10 +21,11 @@ use Rattle.codesearch.specs.declared.outcome.Outcome.TheVariants.{Done, Searched
 use Rattle.cs_storage.specs.declared.update.IndexUpdate.{IndexUpdate}
 use Rattle.cs_storage.specs.declared.update.IndexUpdate.TheVariants.{Keep}
 
-pub keeps_history : (job : IndexJob) (tree : Option Snapshot) (answer : Reply) (outcome : Outcome) (earlier : History) {next : Option (List ℕ)} → IsReplied job answer outcome → next ≡ index_of (after earlier job (modelled_snapshot tree) answer) → next ≡ index_of (if nat_eq (exit_status outcome) 0 then after_done earlier job (modelled_snapshot tree) else earlier)
+pub keeps_history : (job : IndexJob) (tree : Option Snapshot) (answer : Reply) (outcome : Outcome)
+    (earlier : History) {next : Option (List ℕ)} → IsReplied job answer outcome →
+    next ≡ index_of (after earlier job (modelled_snapshot tree) answer) →
+    next ≡ index_of (if nat_eq (exit_status outcome) 0 then after_done earlier job (modelled_snapshot tree) else
+    earlier)
 keeps_history job tree reply.Done (Done update) earlier replied is = is
-keeps_history job tree reply.Done (Searched status) earlier replied is = absurd replied
-keeps_history job tree reply.Done (Refused fault) earlier replied is = absurd replied
-keeps_history job tree (reply.Refused why) (Done update) earlier replied is = absurd replied
-keeps_history job tree (reply.Refused why) (Searched status) earlier replied is = absurd replied
 keeps_history job tree (reply.Refused why) (Refused fault) earlier replied is = is
+keeps_history job tree reply outcome earlier replied is = absurd replied

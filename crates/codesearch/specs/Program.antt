@@ -409,10 +409,10 @@ abbrev pub PrintsErrorLine : ProgramFault → Option SinkModel → Option SinkMo
 PrintsErrorLine fault err later result =
     EndsAfter (fault_line fault) err later result ⊎ EndsAfter memory_line err later result
 
-abbrev pub Reports : Outcome → Option SinkModel → Option SinkModel → Result Unit IoFault → Type 0
-Reports (Refused fault) err later result = PrintsErrorLine fault err later result
-Reports (Done update) err later result = later ≡ err
-Reports (Searched status) err later result = later ≡ err
+abbrev pub ReportsOutcome : Outcome → Option SinkModel → Option SinkModel → Result Unit IoFault → Type 0
+ReportsOutcome (Refused fault) err later result = PrintsErrorLine fault err later result
+ReportsOutcome (Done update) err later result = later ≡ err
+ReportsOutcome (Searched status) err later result = later ≡ err
 
 -- ---- the main promise
 

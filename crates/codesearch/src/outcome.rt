@@ -1,7 +1,7 @@
 // How a call of the program ends: its exit status, the update of the index file, and the line of an error.
 ghost use Rattle.std.specs.Prelude.{◌≡◌, IfOk, string_bytes};
 ghost use Rattle.cs_tree.specs.TakesPrefix.{EndsAfter};
-ghost use Rattle.codesearch.specs.Program.{exit_status, fault_line, reading_line, writing_line, Reports, PrintsErrorLine};
+ghost use Rattle.codesearch.specs.Program.{exit_status, fault_line, reading_line, writing_line, ReportsOutcome, PrintsErrorLine};
 
 use cs_storage::{IndexUpdate, StorageFault};
 use cs_tools::{Refusal, Status, Tool, message};
@@ -81,7 +81,7 @@ impl Outcome<'_> {
 
     /// Prints the line of an error; other outcomes have none.
     pub(crate) fn report<E: Sink>(&self, alloc: Global, err: &mut E) -> Result<(), IoFault>
-        ensures { Reports self.now (E.model err.old) (E.model err.new) result }
+        ensures { ReportsOutcome self.now (E.model err.old) (E.model err.new) result }
     {
         match self {
             Outcome::Refused(fault) => print_fault(alloc, fault, err),

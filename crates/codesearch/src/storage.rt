@@ -133,10 +133,7 @@ impl DiskFolder {
 
     /// FILE~, which has to be held.
     fn temp(&self) -> Result<&File, StorageFault> {
-        match &self.temp {
-            Some(temp) => Ok(temp),
-            None => Err(StorageFault::Failed),
-        }
+        self.temp.as_ref().ok_or(StorageFault::Failed)
     }
 
     /// Appends bytes to FILE~, which has to be held.
@@ -370,20 +367,14 @@ fn is_stale(rt: &HostRuntime, there: &Metadata, seen: Option<&Metadata>) -> bool
 /// in a folder that is open to all anybody may at any time.
 fn check_same_file(rt: &HostRuntime, path: &str, opened: &File) -> io::Result<()> {
     let there = fs::symlink_metadata(rt, path)?;
-    if is_same(&there, &opened.metadata()?) {
-        Ok(())
-    } else {
-        Err(busy())
+    if !is_same(&there, &opened.metadata()?) {
+        return Err(io::Error::from(ErrorKind::WouldBlock));
     }
+    Ok(())
 }
 
 fn is_same(one: &Metadata, other: &Metadata) -> bool {
     one.dev() == other.dev() && one.ino() == other.ino()
-}
-
-/// The error when another process uses the file.
-fn busy() -> io::Error {
-    io::Error::from(ErrorKind::WouldBlock)
 }
 
 fn write_bytes(mut temp: &File, bytes: &[u8]) -> io::Result<()> {

@@ -55,12 +55,18 @@ module _ {S : Type 0} (bytes_of : S → List ℕ) (s : S) where
   pushed [] rest = refl
   pushed (path ∷ paths) rest = ap (λ l. bytes_of path ∷ l) (pushed paths rest)
 
-  pub one_more : (paths new : List S) (path rest : List ℕ) (more all : List (List ℕ)) → new ≡ paths ++ s ∷ [] → bytes_of s ≡ path → nul_parts rest ≡ path ∷ more → map bytes_of paths ++ nul_parts rest ≡ all → map bytes_of new ++ more ≡ all
+  pub one_more : (paths new : List S) (path rest : List ℕ) (more all : List (List ℕ)) → new ≡ paths ++ s ∷ [] →
+      bytes_of s ≡ path → nul_parts rest ≡ path ∷ more → map bytes_of paths ++ nul_parts rest ≡ all →
+      map bytes_of new ++ more ≡ all
   one_more paths new path rest more all e same cut before =
-      ap (λ items. map bytes_of items ++ more) e ∙ pushed paths more ∙ ap (λ p. map bytes_of paths ++ (p ∷ more)) same ∙ ap (λ l. map bytes_of paths ++ l) (sym cut) ∙ before
+      ap (λ items. map bytes_of items ++ more) e ∙ pushed paths more ∙ ap (λ p. map bytes_of paths ++ (p ∷ more)) same
+      ∙ ap (λ l. map bytes_of paths ++ l) (sym cut) ∙ before
 
 -- why a name is not added
-pub rejection : (name body : List ℕ) (old new : Built) (fault : BuildFault) (code : ℤ) → new ≡ old → code ≡ build_code fault → (fault ≡ build.BadName → is_storable name ≡ false) → (fault ≡ build.OutOfOrder → IsOutOfOrder old name) → (fault ≡ build.TooLarge → IsFull max_names old name) → fault ≢ build.BadPaths → IsAddition name body old new code
+pub rejection : (name body : List ℕ) (old new : Built) (fault : BuildFault) (code : ℤ) → new ≡ old →
+    code ≡ build_code fault → (fault ≡ build.BadName → is_storable name ≡ false) →
+    (fault ≡ build.OutOfOrder → IsOutOfOrder old name) → (fault ≡ build.TooLarge → IsFull max_names old name) →
+    fault ≢ build.BadPaths → IsAddition name body old new code
 rejection name body old new build.BadName code same e bad order full paths = rejected_name build.BadName (bad refl) e same
 rejection name body old new build.OutOfOrder code same e bad order full paths = rejected_name build.OutOfOrder (order refl) e same
 rejection name body old new build.TooLarge code same e bad order full paths = rejected_name build.TooLarge (full refl) e same
@@ -68,25 +74,31 @@ rejection name body old new build.BadPaths code same e bad order full paths = ab
 rejection name body old new build.Memory code same e bad order full paths = no_memory e same
 
 -- a text that a scan leaves out
-pub left_out : (o : Option Reason) (reason : Reason) (trigrams : List ℕ) (n : ℕ) → skipped_for reason ≡ skipped_or o (text trigrams n) → o ≡ Some reason
+pub left_out : (o : Option Reason) (reason : Reason) (trigrams : List ℕ) (n : ℕ) → skipped_for reason
+    ≡ skipped_or o (text trigrams n) → o ≡ Some reason
 left_out None reason trigrams n e = cc
 left_out (Some other) reason trigrams n e = cc
 
 -- a finished builder
-pub taken : (slot left : Option Held) (result : Option Built) (builder : Built) (Other : Type 0) (Holds : Built → Type 0) → OnBuilder slot ((result ≡ None) × (left ≡ slot)) (λ built. (result ≡ Some built) × (left ≡ None)) → result ≡ Some builder → Holds builder → OnBuilder slot Other (λ built. (left ≡ None) × Holds built)
-taken None left result builder Other Holds h e holds = absurd (none_some builder (sym h.0 ∙ e))
-taken (Some (Pattern held)) left result builder Other Holds h e holds = absurd (none_some builder (sym h.0 ∙ e))
-taken (Some (Bytes held)) left result builder Other Holds h e holds = absurd (none_some builder (sym h.0 ∙ e))
-taken (Some (Builder held)) left result builder Other Holds h e holds = (h.1, subst Holds (same_some builder held.builder (sym e ∙ h.0)) holds)
+pub taken : (slot left : Option Held) (result : Option Built) (builder : Built) (Other : Type 0)
+    (Holds : Built → Type 0) → OnBuilder slot ((result ≡ None) × (left ≡ slot))
+    (λ built. (result ≡ Some built) × (left ≡ None)) → result ≡ Some builder → Holds builder →
+    OnBuilder slot Other (λ built. (left ≡ None) × Holds built)
+taken (Some (Builder held)) left result builder Other Holds h e holds =
+    (h.1, subst Holds (same_some builder held.builder (sym e ∙ h.0)) holds)
+taken slot left result builder Other Holds h e holds = absurd (none_some builder (sym h.0 ∙ e))
 
-pub filled : (built : Built) (bytes : List ℕ) (slot : Option Held) (code shown : ℤ) → bytes ≡ encoding_of built.paths built.entries → shown ≡ code → OnBytes slot ((slot ≡ None) × (code ≡ memory)) (λ held. (held ≡ bytes) × (code ≡ done)) → IsFinished built slot shown
-filled built bytes None code shown e s h = (h.0, no_room (s ∙ h.1))
-filled built bytes (Some (Pattern held)) code shown e s h = (h.0, no_room (s ∙ h.1))
-filled built bytes (Some (Builder held)) code shown e s h = (h.0, no_room (s ∙ h.1))
+pub filled : (built : Built) (bytes : List ℕ) (slot : Option Held) (code shown : ℤ) → bytes
+    ≡ encoding_of built.paths built.entries → shown ≡ code → OnBytes slot ((slot ≡ None) × (code ≡ memory))
+    (λ held. (held ≡ bytes) × (code ≡ done)) → IsFinished built slot shown
 filled built bytes (Some (Bytes held)) code shown e s h = (h.0 ∙ e, s ∙ h.1)
+filled built bytes slot code shown e s h = (h.0, no_room (s ∙ h.1))
 
-pub not_finished : (built : Built) (slot : Option Held) (fault : BuildFault) (shown : ℤ) → slot ≡ None → shown ≡ build_code fault → (fault ≡ build.TooLarge → 2 ^ 32 ≤ length (encoding_of built.paths built.entries)) → (fault ≡ build.TooLarge) ⊎ (fault ≡ build.Memory) → IsFinished built slot shown
-not_finished built slot fault shown empty e large either = subst (λ (s : Option Held). IsFinished built s shown) (sym empty) (refl, why either)
+pub not_finished : (built : Built) (slot : Option Held) (fault : BuildFault) (shown : ℤ) → slot ≡ None → shown
+    ≡ build_code fault → (fault ≡ build.TooLarge → 2 ^ 32 ≤ length (encoding_of built.paths built.entries)) →
+    (fault ≡ build.TooLarge) ⊎ (fault ≡ build.Memory) → IsFinished built slot shown
+not_finished built slot fault shown empty e large either = subst (λ (s : Option Held). IsFinished built s shown)
+    (sym empty) (refl, why either)
   where
     why : (fault ≡ build.TooLarge) ⊎ (fault ≡ build.Memory) → IsRefusedIndex built shown
     why (inl is) = too_large (large is) (e ∙ ap build_code is)

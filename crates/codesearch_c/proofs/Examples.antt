@@ -6,7 +6,8 @@ use Rattle.codesearch_c.specs.Building.{nul_parts}
 use Rattle.codesearch_c.specs.Reports.{style_of}
 
 -- "a\n\nb": the lines of one byte
-lines_of_one_byte : matching_lines (λ line. nat_eq (length line) 1) (97 ∷ 10 ∷ 10 ∷ 98 ∷ []) 0 ≡ record { start = 0; end = 1 } ∷ record { start = 3; end = 4 } ∷ []
+lines_of_one_byte : matching_lines (λ line. nat_eq (length line) 1) (97 ∷ 10 ∷ 10 ∷ 98 ∷ []) 0
+    ≡ record { start = 0; end = 1 } ∷ record { start = 3; end = 4 } ∷ []
 unfolding matching_lines lines
 lines_of_one_byte = refl
 

@@ -184,9 +184,6 @@ module _ (t : List ℕ → Bool) (block : List ℕ) (old : List Line) where
     filled = ap (λ ls. set ls count line) listed.filled ∙ ap (λ n. set (filled_with listed.found old) n line) listed.number ∙ fill_one listed.found old line;
   }
 
-  pub listed_on : (new : List Line) (count offset next : ℕ) → AreListedTo t block old new count offset → matching_lines t block offset ≡ matching_lines t block next → AreListedTo t block old new count next
-  listed_on new count offset next listed same = record { found = listed.found; all = listed.all ∙ ap (λ ls. listed.found ++ ls) same; number = listed.number; filled = listed.filled }
-
   pub listed_all : (new : List Line) (count offset : ℕ) → AreListedTo t block old new count offset → matching_lines t block offset ≡ [] → (count ≡ length (matching_lines t block 0)) × (new ≡ filled_with (matching_lines t block 0) old)
   listed_all new count offset listed none =
       let all : matching_lines t block 0 ≡ listed.found = listed.all ∙ ap (λ ls. listed.found ++ ls) none ∙ append-nil listed.found in

@@ -48,10 +48,12 @@ IsNameFault built name fault = ⊥
 -- a name with the trigrams of its text is added; or nothing changes, as the name is not UTF-8, an index leaves the text
 -- out, the builder does not take the name, or memory is refused
 pub data IsAddition (name text : List ℕ) (old new : Built) (code : ℤ) : Type 0 where
-  added : IsUtf8 name → skip limits text ≡ None → ((fault : BuildFault) → ¬ (IsNameFault old name fault)) → new ≡ with_entry old name (tri text) → code ≡ done → IsAddition name text old new code
+  added : IsUtf8 name → skip limits text ≡ None → ((fault : BuildFault) → ¬ (IsNameFault old name fault)) →
+      new ≡ with_entry old name (tri text) → code ≡ done → IsAddition name text old new code
   foreign_name : ¬ (IsUtf8 name) → code ≡ not_utf8 → new ≡ old → IsAddition name text old new code
   skipped : (reason : Reason) → skip limits text ≡ Some reason → code ≡ reason_code reason → new ≡ old → IsAddition name text old new code
-  rejected_name : (fault : BuildFault) → IsNameFault old name fault → code ≡ build_code fault → new ≡ old → IsAddition name text old new code
+  rejected_name : (fault : BuildFault) → IsNameFault old name fault → code ≡ build_code fault → new ≡ old →
+      IsAddition name text old new code
   no_memory : code ≡ memory → new ≡ old → IsAddition name text old new code
 
 -- an empty slot is filled with the encoding of the paths and entries; or it stays empty, as the index is too long or

@@ -13,4 +13,5 @@ pub record Compiled : Type 0 where
 -- stored as the pair of its fields
 abbrev pub compiled_code : Coded Compiled
 compiled_code =
-    code_by (Tree × Query) (coded× tree_code (the_row.coded)) (λ c. (c.pattern, c.query)) (λ p. record { pattern = p.0; query = p.1 }) (λ _. refl)
+    code_by (Tree × Query) (coded× tree_code (the_row.coded)) (λ c. (c.pattern, c.query))
+    (λ p. record { pattern = p.0; query = p.1 }) (λ _. refl)

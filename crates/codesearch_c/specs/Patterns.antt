@@ -70,6 +70,8 @@ pub record IsCountCode (pattern : Tree) (block : List ℕ) (old new : ℕ) (code
   pub kept : code ≡ memory → new ≡ old
 
 -- the ids of the candidates are copied; or a list is damaged, or memory is refused, and nothing changes
-pub data AreCandidates (parts : Parts) (query : Query) (old new : List ℕ) (old_count count : ℕ) (code : ℤ) : Type 0 where
-  copied : IsCopy (candidates_of parts query) old new count code → is_answerable parts query ≡ true → AreCandidates parts query old new old_count count code
-  failed : (fault : IndexFault) → IsListFault (is_answerable parts query) fault → code ≡ index_code fault → new ≡ old → count ≡ old_count → AreCandidates parts query old new old_count count code
+pub data IsCandidatesCode (parts : Parts) (query : Query) (old new : List ℕ) (old_count count : ℕ) (code : ℤ) : Type 0 where
+  copied : IsCopy (candidates_of parts query) old new count code → is_answerable parts query ≡ true →
+      IsCandidatesCode parts query old new old_count count code
+  failed : (fault : IndexFault) → IsListFault (is_answerable parts query) fault → code ≡ index_code fault → new ≡ old →
+      count ≡ old_count → IsCandidatesCode parts query old new old_count count code

@@ -19,6 +19,9 @@ style_of flags = record {
 
 -- The output of the report of the whole text is copied; or nothing changes, as the name is not UTF-8 or memory is refused.
 pub data IsReportCode (pattern : Tree) (name text : List ℕ) (flags : ℕ) (old new : List ℕ) (old_len len : ℕ) (code : ℤ) : Type 0 where
-  reported : IsUtf8 name → ForEachTest pattern (λ has_match. IsCopy (text_report (style_of flags) name has_match text).output old new len code) → IsReportCode pattern name text flags old new old_len len code
-  foreign_name : ¬ (IsUtf8 name) → code ≡ not_utf8 → new ≡ old → len ≡ old_len → IsReportCode pattern name text flags old new old_len len code
+  reported : IsUtf8 name → ForEachTest pattern
+      (λ has_match. IsCopy (text_report (style_of flags) name has_match text).output old new len code) →
+      IsReportCode pattern name text flags old new old_len len code
+  foreign_name : ¬ (IsUtf8 name) → code ≡ not_utf8 → new ≡ old → len ≡ old_len → IsReportCode pattern name text flags
+      old new old_len len code
   no_memory : code ≡ memory → new ≡ old → len ≡ old_len → IsReportCode pattern name text flags old new old_len len code

@@ -3,7 +3,7 @@ ghost use Rattle.std.specs.Prelude.{◌≡◌, ◌≤◌, ◌<◌, IfSome, lengt
 ghost use Rattle.cs_match.specs.Lines.{lines};
 ghost use Rattle.cs_match.specs.NoNewline.{HasNoNewline};
 ghost use Rattle.cs_match.specs.Skipping.{AreWholeLines};
-ghost use Rattle.codesearch_c.specs.MatchingLines.{ForEachTest, IsFirstLine, AreListedTo, IsListing};
+ghost use Rattle.codesearch_c.specs.MatchingLines.{ForEachTest, IsFirstLine, IsListing};
 
 use cs_match::{Matcher, whole_lines_len};
 
@@ -20,7 +20,18 @@ pub(crate) fn first_line(matcher: &mut Matcher<'_>, block: &[u8], from: usize) -
     ensures found { IsFirstLine matcher.old.tree block.now from result }
     ensures same { matcher.new.tree ≡ matcher.old.tree }
 {
-    let whole = whole_lines_len(block);
+    line_from(matcher, block, whole_lines_len(block), from)
+}
+
+/// The same, in a block whose first `whole` bytes are its whole lines.
+fn line_from(matcher: &mut Matcher<'_>, block: &[u8], whole: usize, from: usize) -> Option<Line>
+    requires within { whole ≤ length block.now }
+    requires whole { AreWholeLines (take whole block.now) }
+    requires rest { HasNoNewline (drop whole block.now) }
+    ensures found { IsFirstLine matcher.old.tree block.now from result }
+    ensures order { IfSome result (λ line. (from ≤ line.end) × (line.end ≤ length block.now)) }
+    ensures same { matcher.new.tree ≡ matcher.old.tree }
+{
     if from >= whole {
         return last_line(matcher, block, from);
     }
@@ -59,44 +70,12 @@ pub(crate) fn list_lines(matcher: &mut Matcher<'_>, block: &[u8], lines: &mut [L
     ensures same { matcher.new.tree ≡ matcher.old.tree }
 {
     let whole = whole_lines_len(block);
-    let count = list_whole_lines(matcher, block, whole, lines);
-    match last_line(matcher, block, whole) {
-        Some(line) => {
-            put_line(lines, count, line);
-            count + 1
-        }
-        None => count,
-    }
-}
-
-/// The same, of the whole lines before an offset.
-fn list_whole_lines(
-    matcher: &mut Matcher<'_>,
-    block: &[u8],
-    whole: usize,
-    lines: &mut [Line],
-) -> usize
-    requires within { whole ≤ length block.now }
-    requires whole { AreWholeLines (take whole block.now) }
-    ensures listed { ForEachTest matcher.old.tree (λ has_match.
-        AreListedTo has_match block.now lines.old lines.new result whole) }
-    ensures bound { result ≤ whole }
-    ensures same { matcher.new.tree ≡ matcher.old.tree }
-{
-    let text = &block[..whole];
     let mut count = 0;
     let mut offset = 0;
-    'lines: while let Some(line) = matcher.next_match(text, offset) {
-        put_line(
-            lines,
-            count,
-            Line {
-                start: line.start,
-                end: line.end,
-            },
-        );
-        count += 1;
+    'lines: while let Some(line) = line_from(matcher, block, whole, offset) {
         offset = line.end + 1;
+        put_line(lines, count, line);
+        count += 1;
     }
     count
 }

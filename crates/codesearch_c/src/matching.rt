@@ -5,7 +5,7 @@ ghost use Rattle.cs_trigram.specs.Query.{LosesNoLine};
 ghost use Rattle.cs_index.specs.Opening.{opening};
 ghost use Rattle.codesearch_c.specs.Codes.{done};
 ghost use Rattle.codesearch_c.specs.Slots.{is_filled, OnPattern};
-ghost use Rattle.codesearch_c.specs.Patterns.{IsRefusal, IsCompiled, IsMisuse, IsMatchCode, IsNextCode, IsLinesCode, IsCountCode, AreCandidates, Keeps};
+ghost use Rattle.codesearch_c.specs.Patterns.{IsRefusal, IsCompiled, IsMisuse, IsMatchCode, IsNextCode, IsLinesCode, IsCountCode, IsCandidatesCode, Keeps};
 
 use crate::codes::{MEMORY, MISUSE, NOT_UTF8, OK, ROOM, index_code, pattern_code};
 use crate::copying::copy_items;
@@ -242,24 +242,11 @@ pub extern "C" fn cs_pattern_count(
         return MISUSE;
     };
     let code = match &mut *held {
-        Held::Pattern(pattern) => count_code(pattern, alloc, block, count),
+        Held::Pattern(pattern) => pattern.count_code(alloc, block, count),
         _ => MISUSE,
     };
     slot.fill(held);
     code
-}
-
-fn count_code(pattern: &mut HeldPattern, alloc: Global, block: &[u8], count: &mut u64) -> i32
-    ensures code { IsCountCode pattern.old.pattern block.now count.old count.new result }
-    ensures same { pattern.new ≡ pattern.old }
-{
-    match pattern.count(alloc, block) {
-        Ok(found) => {
-            *count = found;
-            OK
-        }
-        Err(AllocError) => MEMORY,
-    }
 }
 
 /// The ids of the names whose files may have a matching line, ascending, and how many they are.
@@ -276,7 +263,7 @@ pub extern "C" fn cs_pattern_candidates(
         (IsMisuse slot.old.handle.value slot.new.handle.value result
         × (ids.new ≡ ids.old) × (count.new ≡ count.old))
         (λ held. IfOk (opening index.now) (λ parts.
-        AreCandidates parts held.query ids.old ids.new count.old count.new result)
+        IsCandidatesCode parts held.query ids.old ids.new count.old count.new result)
         × Keeps held slot.new.handle.value) }
 {
     let Some(held) = slot.take(alloc) else {
@@ -299,7 +286,7 @@ fn candidates_code(
 ) -> i32
     requires opened { IsOk (opening index.now) }
     ensures { IfOk (opening index.now) (λ parts.
-        AreCandidates parts pattern.now.query ids.old ids.new count.old count.new result) }
+        IsCandidatesCode parts pattern.now.query ids.old ids.new count.old count.new result) }
 {
     match Index::reopen(index) {
         Ok(index) => match index.candidates(alloc, &pattern.query) {

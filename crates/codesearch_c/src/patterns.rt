@@ -1,12 +1,13 @@
-// Matches of a held pattern. The cache of its matcher is kept from one call to the next.
-ghost use Rattle.std.specs.Prelude.{◌≡◌, ◌↔◌, None, IfOk, IfSome, OnErr, IsTrue, count_by};
+// Calls over a held pattern. The cache of its matcher is kept from one call to the next.
+ghost use Rattle.std.specs.Prelude.{◌≡◌, ◌↔◌, None, IfOk, IfSome, OnErr, IsTrue};
 ghost use Rattle.cs_syntax.specs.Matching.{HasMatch};
 ghost use Rattle.cs_match.specs.Cached.{IsCacheOf};
-ghost use Rattle.cs_match.specs.Lines.{lines};
 ghost use Rattle.cs_tree.specs.MemStreams.{sink_model};
 ghost use Rattle.cs_search.specs.InputReport.{text_report};
 ghost use Rattle.codesearch_c.specs.MatchingLines.{ForEachTest, IsFirstLine, IsListing};
+ghost use Rattle.codesearch_c.specs.Patterns.{IsCountCode};
 
+use crate::codes::{MEMORY, OK};
 use crate::held::HeldPattern;
 use crate::lines::{Line, count_lines, first_line, list_lines};
 use cs_match::{Cache, Matcher, Program};
@@ -74,6 +75,20 @@ impl HeldPattern {
         Ok(found)
     }
 
+    /// The number of matching lines of a block.
+    pub(crate) fn count_code(&mut self, alloc: Global, block: &[u8], count: &mut u64) -> i32
+        ensures code { IsCountCode self.old.pattern block.now count.old count.new result }
+        ensures same { self.new ≡ self.old }
+    {
+        let Ok(cache) = cache_of(alloc, &mut self.cache, &self.program) else {
+            return MEMORY;
+        };
+        let mut matcher = Matcher::resume(&self.program, cache);
+        *count = count_lines(&mut matcher, block);
+        self.cache = Some(matcher.into_cache());
+        OK
+    }
+
     /// What is printed for a text.
     pub(crate) fn report(
         &mut self,
@@ -93,18 +108,5 @@ impl HeldPattern {
         self.cache = Some(matcher.into_cache());
         answer?;
         Ok(sink)
-    }
-
-    /// The number of matching lines.
-    pub(crate) fn count(&mut self, alloc: Global, block: &[u8]) -> Result<u64, AllocError>
-        ensures found { IfOk result (λ count. ForEachTest self.old.pattern (λ has_match.
-            count ≡ count_by has_match (lines block.now))) }
-        ensures same { self.new ≡ self.old }
-    {
-        let cache = cache_of(alloc, &mut self.cache, &self.program)?;
-        let mut matcher = Matcher::resume(&self.program, cache);
-        let found = count_lines(&mut matcher, block);
-        self.cache = Some(matcher.into_cache());
-        Ok(found)
     }
 }

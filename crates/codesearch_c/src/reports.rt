@@ -34,34 +34,46 @@ pub extern "C" fn cs_grep(
         return MISUSE;
     };
     let code = match &mut *held {
-        Held::Pattern(pattern) => report_code(pattern, alloc, name, text, style, out, len),
+        Held::Pattern(pattern) => report_code(
+            pattern,
+            alloc,
+            &Input { name, text, style },
+            out,
+            len,
+        ),
         _ => MISUSE,
     };
     slot.fill(held);
     code
 }
 
+/// An input, and the options of cgrep.
+#[derive(Drop)]
+struct Input<'a> {
+    name: &'a [u8],
+    text: &'a [u8],
+    style: u32,
+}
+
 fn report_code(
     pattern: &mut HeldPattern,
     alloc: Global,
-    name: &[u8],
-    text: &[u8],
-    style: u32,
+    input: &Input<'_>,
     out: &mut [u8],
     len: &mut usize,
 ) -> i32
-    ensures code { IsReportCode pattern.old.pattern name.now text.now style out.old out.new len.old len.new
-        result }
+    ensures code { IsReportCode pattern.old.pattern input.now.name.now input.now.text.now input.now.style
+        out.old out.new len.old len.new result }
     ensures same { pattern.new ≡ pattern.old }
 {
-    let Ok(name) = from_utf8(name) else {
+    let Ok(name) = from_utf8(input.name) else {
         return NOT_UTF8;
     };
     let printer = Printer {
         name,
-        style: style_of(style),
+        style: style_of(input.style),
     };
-    match pattern.report(alloc, &printer, text) {
+    match pattern.report(alloc, &printer, input.text) {
         Ok(report) => copy_items(report.bytes(), out, len),
         Err(_) => MEMORY,
     }

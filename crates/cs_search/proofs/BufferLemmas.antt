@@ -80,12 +80,6 @@ pending_size buffer =
     let rising : buffer.start ≤ buffer.end = buffer.ordered in
     omega (arith, slice_size buffer.bytes.items [] buffer.start buffer.end rising within)
 
--- a read into a prefix of a buffer
-pub Reads_prefix : (model later : Option SourceModel) (answer : Result ℕ IoFault) (buf rest : List ℕ) → IfOk answer (λ n. n ≤ length buf) → 0 < length buf → ReadGives model later answer buf → ReadGives model later answer (buf ++ rest)
-Reads_prefix model later (Ok n) buf rest within some r =
-    (subst (Consumes model later) (sym (take-append-le n buf rest within)) r.0, λ none room. r.1 none some)
-Reads_prefix model later (Err fault) buf rest within some r = r
-
 pub GrowsBy-split : (old new : List ℕ) (n : ℕ) → GrowsBy old new n → new ≡ old ++ drop (length old) new
 GrowsBy-split old new n gains = sym (take-append-drop (length old) new) ∙ ap (λ f. f ++ drop (length old) new) gains.prefix
 

@@ -51,10 +51,7 @@ pattern_refused text fold error refused = pattern_refused_at text fold error err
 pub begun_refused : (A B : Type 0) (text : List ℕ) (fold : Bool) (fault : ToolFault) → IsSearchFault {A = A} (Err fault) → IsAccepted text fold → PatternFirst {A = B} text fold (Err fault)
 begun_refused A B text fold Write only is = is
 begun_refused A B text fold Memory only is = tt
-begun_refused A B text fold (Pattern error) only is = absurd only
-begun_refused A B text fold (FilePattern error) only is = absurd only
-begun_refused A B text fold NoIndex only is = absurd only
-begun_refused A B text fold (BadIndex fault) only is = absurd only
+begun_refused A B text fold fault only is = absurd only
 
 -- nothing was printed
 pub all_silent : {A : Type 0} (Silent : Type 0) (answer : Result A ToolFault) → Silent → SilentOnError answer Silent

@@ -44,7 +44,7 @@ use Rattle.cs_search.specs.declared.plan.Plan.{Plan}
 use Rattle.cs_search.specs.declared.status.Status.{Status}
 use Rattle.cs_args.proofs.ArgSplitLemmas.{slice_get-prefix}
 use Rattle.cs_search.proofs.CgrepLemmas.{read_once, decides_program}
-use Rattle.cs_search.specs.IndexSearch.{FileRefused, file_fault_at, file_pattern_fault, names_at, IsCompiled, DecidesNames}
+use Rattle.cs_search.specs.IndexSearch.{FileRefused, file_fault_at, file_pattern_fault, names_at, IsFileProgram, DecidesNames}
 use Rattle.cs_search.specs.Printed.{Printed, NamedFault, AreFaultsOf, file_printed, all_printed}
 
 -- ---- errors of the `-f` pattern
@@ -92,11 +92,10 @@ right_query brute query text fold read reads right pattern wanted = subst (λ (t
 
 -- ---- errors, in their order
 
-pub accepted_file : (text : Option (List ℕ)) (program : Option Tree) → IsCompiled text program → IfSome text (λ text. IsAccepted text false)
+pub accepted_file : (text : Option (List ℕ)) (program : Option Tree) → IsFileProgram text program → IfSome text (λ text. IsAccepted text false)
 accepted_file None None is = tt
 accepted_file (Some text) (Some program) is = (is.0, is.1, is.2)
-accepted_file None (Some program) is = absurd is
-accepted_file (Some text) None is = absurd is
+accepted_file text program is = absurd is
 
 -- the job's pattern parses as this tree
 pub reads_job : (job : SearchJob) (text : List ℕ) (pattern : Tree) → text ≡ string_bytes job.pattern → ParsesAs text job.fold pattern → ParsesAs (string_bytes job.pattern) job.fold pattern
@@ -138,14 +137,7 @@ module _ (job : SearchJob) (index : Option (List ℕ)) where
 -- the answer of a search by an index that was not opened
 pub unopened_late : (A : Type 0) (job : SearchJob) (fault : IndexFault) → AreAccepted job → IsUnopened {A = A} job fault (Ok (Err (index_fault fault)))
 unopened_late A job IndexMemory accepted = inl (λ index. (All, tt))
-unopened_late A job BadMagic accepted = inr (accepted, refl, λ e. cc e)
-unopened_late A job BadTrailer accepted = inr (accepted, refl, λ e. cc e)
-unopened_late A job BadOffsets accepted = inr (accepted, refl, λ e. cc e)
-unopened_late A job BadPaths accepted = inr (accepted, refl, λ e. cc e)
-unopened_late A job BadNames accepted = inr (accepted, refl, λ e. cc e)
-unopened_late A job BadNameIndex accepted = inr (accepted, refl, λ e. cc e)
-unopened_late A job BadListIndex accepted = inr (accepted, refl, λ e. cc e)
-unopened_late A job BadList accepted = inr (accepted, refl, λ e. cc e)
+unopened_late A job fault accepted = inr (accepted, refl, λ e. cc e)
 
 -- an error of a list is not a failed write
 pub list_unwritten : (fault : IndexFault) → has_write_failed {A = Status} (Err (index_fault fault)) ≡ false
@@ -160,12 +152,11 @@ search_silent Silent fault is = absurd is
 
 -- ---- the selected names
 
-pub names_decided : (text : Option (List ℕ)) (program : Option Tree) (keeps : List ℕ → Bool) → IsCompiled text program → Keeps text keeps → DecidesNames keeps program
+pub names_decided : (text : Option (List ℕ)) (program : Option Tree) (keeps : List ℕ → Bool) → IsFileProgram text program → Keeps text keeps → DecidesNames keeps program
 names_decided None None keeps is names = names
 names_decided (Some text) (Some program) keeps is names =
     decides_program text false program names.0 keeps is names.1 names.2
-names_decided None (Some program) keeps is names = absurd is
-names_decided (Some text) None keeps is names = absurd is
+names_decided text program keeps is names = absurd is
 
 pub chosen : (limit : ℕ) (style : Style) (has_match keeps : List ℕ → Bool) (parts : Parts) (query : Query) (tree : Option Snapshot) (names : List (List ℕ)) → names ≡ filter keeps (names_at parts.names (candidates_of parts query)) →
     option_map (λ (s : Snapshot). all_printed (file_printed limit Csearch style has_match s) names) tree ≡ csearch_printed limit style has_match keeps parts query tree

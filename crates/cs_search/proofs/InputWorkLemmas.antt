@@ -5,6 +5,8 @@ use Rattle.std.proofs.lemmas.Bool.{false≢true}
 use Rattle.cs_syntax.specs.Matching.{Tree}
 use Rattle.cs_tree.specs.StreamModels.{SourceModel}
 use Rattle.cs_tree.specs.Transfers.{Consumes}
+use Rattle.cs_tree.specs.ConsumesAtMost.{ConsumesAtMost}
+use Rattle.cs_tree.proofs.ConsumesLemmas.{Consumes_few}
 use Rattle.cs_match.specs.Lines.{lines, terminated_lines}
 use Rattle.cs_match.specs.Work.{line_work}
 use Rattle.cs_match.specs.LastPart.{last_part, last_line}
@@ -129,3 +131,7 @@ module _ (t : Tree) (name : List ℕ) where
           size = h.steps.size;
           bound = omega (arith, a, ap (λ v. rest_work v name rest) same, h.steps.bound, rest_within rest h.steps.text last, ap (λ l. line_work t (length l)) last);
         }
+
+-- what was read bounds how much was read
+pub steps_lose : {most : ℕ} {work : List ℕ → ℕ} {model later : Option SourceModel} {before after : ℕ} → TakesSteps most work model later before after → ConsumesAtMost most model later
+steps_lose steps = Consumes_few _ _ steps.text _ steps.read steps.size

@@ -147,26 +147,14 @@ module _ (history : History) (bytes : List ℕ) (is : IsHistory history) (by : I
       let files = has_so.has_files (ascending_sets (files_of history) (history_content history is).sets_are) in
       subst (λ (p : Parts). ReadAsIndexed tree (files_read p)) same (subst (ReadAsIndexed tree) (sym files) still)
 
-module _ (job : SearchJob) (index : Option (List ℕ)) (tree : Option Snapshot) (has_match keeps : List ℕ → Bool) (query : Query) (index_query : IndexQuery job index query) (tests : DecidesSearch job has_match keeps) (snapshot : Snapshot) (modelled : tree ≡ Some snapshot) (earlier : History) (premises : SearchPremises tree index earlier) where
-  promised : all_printed (file_printed max_searched Csearch job.style has_match snapshot) (filter keeps (names_matching query (files_read index_query.parts))) ≡ searched_by_cgrep max_searched job.style has_match (modelled_snapshot tree) (filter keeps (indexed_names earlier))
-  promised = by_bytes index refl index_query.opens premises.jobs_left.is_index premises.jobs_left.short
-    where
-      snapshot_is : snapshot ≡ modelled_snapshot tree
-      snapshot_is = sym (ap modelled_snapshot modelled)
-
-      by_bytes : (i : Option (List ℕ)) → index ≡ i → OpensWith i index_query.parts → index_of earlier ≡ index → IsShort index →
-          all_printed (file_printed max_searched Csearch job.style has_match snapshot) (filter keeps (names_matching query (files_read index_query.parts))) ≡ searched_by_cgrep max_searched job.style has_match (modelled_snapshot tree) (filter keeps (indexed_names earlier))
-      by_bytes None e opens left short = absurd opens
-      by_bytes (Some bytes) e opens left short =
-          let left' : index_of earlier ≡ Some bytes = left ∙ e in
-          let short' = subst IsShort e short in
-          let agrees = agrees_still earlier bytes premises.jobs_left.is_history premises.by_jobs left' short' index_query.parts snapshot opens (subst (λ (s : Snapshot). ReadAsIndexed s (map'.entries (files_of earlier))) (sym snapshot_is) premises.still_reads) in
-          alike job index has_match keeps query index_query tests snapshot agrees
-          ∙ ap (λ (s : Snapshot). searched_by_cgrep max_searched job.style has_match s (filter keeps index_query.parts.names)) snapshot_is
-          ∙ ap (λ (names : List (List ℕ)). searched_by_cgrep max_searched job.style has_match (modelled_snapshot tree) (filter keeps names)) (named earlier bytes premises.jobs_left.is_history premises.by_jobs left' short' index_query.parts opens)
-
 pub as_promised : (job : SearchJob) (index : Option (List ℕ)) (query : Query) (tree : Option Snapshot) (Prints : Option Printed → Type 0) → PrintsCandidates job index query tree Prints → SearchesLikeGrep job index tree (λ printed. Prints (Some printed))
 as_promised job index query None Prints by_index earlier has_match keeps premises tests = absurd premises.jobs_left.trees_modelled.0
-as_promised job index query (Some snapshot) Prints by_index earlier has_match keeps premises tests =
-    subst (λ (p : Printed). Prints (Some p)) (promised job index (Some snapshot) has_match keeps query by_index.0 tests snapshot refl earlier premises)
-    (model_printed job index query (Some snapshot) Prints by_index snapshot has_match keeps refl tests)
+as_promised job None query (Some snapshot) Prints by_index earlier has_match keeps premises tests = absurd by_index.0.opens
+as_promised job (Some bytes) query (Some snapshot) Prints by_index earlier has_match keeps premises tests =
+    let left = premises.jobs_left in
+    let parts = by_index.0.parts in
+    let opens = by_index.0.opens in
+    let agrees = agrees_still earlier bytes left.is_history premises.by_jobs left.is_index left.short parts snapshot opens premises.still_reads in
+    subst (λ (names : List (List ℕ)). Prints (Some (searched_by_cgrep max_searched job.style has_match snapshot (filter keeps names))))
+    (named earlier bytes left.is_history premises.by_jobs left.is_index left.short parts opens)
+    (like_cgrep job (Some bytes) query (Some snapshot) Prints by_index parts snapshot has_match keeps opens refl agrees tests)

@@ -22,9 +22,9 @@ flat_none : (f : MatchingLine → List ℕ) → ((matching : MatchingLine) → f
 flat_none f e [] = refl
 flat_none f e (matching ∷ matches) = ap (λ l. l ++ flat_map f matches) (e matching) ∙ flat_none f e matches
 
-flat_same : (f g : MatchingLine → List ℕ) → ((matching : MatchingLine) → f matching ≡ g matching) → (matches : List MatchingLine) → flat_map f matches ≡ flat_map g matches
-flat_same f g e [] = refl
-flat_same f g e (matching ∷ matches) = ap (λ l. l ++ flat_map f matches) (e matching) ∙ ap (λ l. g matching ++ l) (flat_same f g e matches)
+pub kept_fault : (b : Bool) → ◌≡◌ {A = Option ReadFault} (cond b None None) None
+kept_fault true = refl
+kept_fault false = refl
 
 pub some_counted : (matches : List MatchingLine) → nat_lt 0 (length matches) ≡ any_match matches
 some_counted [] = refl
@@ -78,7 +78,7 @@ module _ (style : Style) (name : List ℕ) where
   printed_end matches bound =
       ⊎_elim (λ e. ap (λ l. flat_map (match_output style name) matches ++ l) (total_listed e (length matches)) ∙ append-nil (flat_map (match_output style name) matches) ∙ listed_once e matches (bound e) ∙ sym (matches_output_listed e true matches))
       (λ e. ⊎_elim (λ h. ap (λ l. l ++ total style name (length matches)) (flat_none (match_output style name) (match_output_counted e h) matches) ∙ total_counted e h (length matches) ∙ ap (λ b. cond b (count_line name (length matches)) []) (some_counted matches) ∙ sym (matches_output_counted e h true matches))
-      (λ h. ap (λ l. flat_map (match_output style name) matches ++ l) (total_plain e h (length matches)) ∙ append-nil (flat_map (match_output style name) matches) ∙ flat_same (match_output style name) (match_line style name) (match_output_plain e h) matches ∙ sym (matches_output_plain e h true matches))
+      (λ h. ap (λ l. flat_map (match_output style name) matches ++ l) (total_plain e h (length matches)) ∙ append-nil (flat_map (match_output style name) matches) ∙ (λ i. flat_map (λ matching. match_output_plain e h matching i) matches) ∙ sym (matches_output_plain e h true matches))
       (cases_Bool style.count)) (cases_Bool style.list)
 
   -- before the end
@@ -86,7 +86,7 @@ module _ (style : Style) (name : List ℕ) where
   printed_before_end matches none =
       ⊎_elim (λ e. ap (flat_map (match_output style name)) (none e) ∙ sym (matches_output_listed e false matches ∙ ap (λ b. cond b (name ++ newline ∷ []) []) (ap any_match (none e))))
       (λ e. ⊎_elim (λ h. flat_none (match_output style name) (match_output_counted e h) matches ∙ sym (matches_output_counted e h false matches))
-      (λ h. flat_same (match_output style name) (match_line style name) (match_output_plain e h) matches ∙ sym (matches_output_plain e h false matches))
+      (λ h. (λ i. flat_map (λ matching. match_output_plain e h matching i) matches) ∙ sym (matches_output_plain e h false matches))
       (cases_Bool style.count)) (cases_Bool style.list)
 
 pub few_last : (style : Style) (name : List ℕ) (has_match : List ℕ → Bool) (n : ℕ) (rest : List ℕ) → length (matches_from n has_match (last_line rest)) ≤ 1
@@ -138,10 +138,6 @@ module _ (style : Style) (name : List ℕ) (has_match : List ℕ → Bool) (text
           sym found,
           sym (ap (λ b. cond (b && any_match matches) None fault) s.listed ∙ ap (λ b. cond b None fault) found),
         )
-
-  kept_fault : (b : Bool) → ◌≡◌ {A = Option ReadFault} (cond b None None) None
-  kept_fault true = refl
-  kept_fault false = refl
 
   -- at the end of the input
   pub reported_end : (mid : Tally) (now : Option SinkModel) (rest : List ℕ) (later : Option SinkModel) → rest ≡ last_part text → SameNumber style mid.lines (length (terminated_lines text)) → (style.list ≡ true → mid.matches ≡ 0) → Tests style name has_match (terminated_lines text) before mid sink now → Tests style name has_match (last_line rest) mid after now out → Grows out later (total style name after.matches) → IsReported (report style name has_match text None) sink later (record { matched = nat_lt 0 after.matches; fault = None })

@@ -65,11 +65,8 @@ module _ (limit : ℕ) (tool : Tool) (style : Style) (has_match : List ℕ → B
 
   -- a file that was not opened
   refused-at : (fault : TreeFault) (opening : Result SourceModel TreeFault) (later : Option SourceModel) → fault ≢ tree.Memory → OpensFileAs (Err fault) opening later → opening ≡ Err fault
-  refused-at tree.Missing opening later not o = o.0
-  refused-at tree.Denied opening later not o = o.0
-  refused-at tree.Output opening later not o = o.0
-  refused-at tree.Failed opening later not o = o.0
   refused-at tree.Memory opening later not o = absurd (not refl)
+  refused-at fault opening later not o = o.0
 
   pub Prints-refused : (snapshot : Option Snapshot) (fault : TreeFault) (later : Option SourceModel) (out err err' : Option SinkModel) → fault ≢ tree.Memory → OpensFile snapshot name (Err fault) later → Grows err err' (fault_line_of tool name (file_fault_of fault)) → Prints (option_map (λ (s : Snapshot). file_printed limit tool style has_match s name) snapshot) out out err err' false
   unfolding file_printed
@@ -132,18 +129,8 @@ PrintsSome-all (Some printed) out now later err err-now err-later matched p ends
 same_printed : (output output' errors errors' : List ℕ) (matched matched' : Bool) → output ≡ output' → errors ≡ errors' → matched ≡ matched' → ◌≡◌ {A = Printed} (record { output = output; errors = errors; matched = matched }) (record { output = output'; errors = errors'; matched = matched' })
 same_printed output output' errors errors' matched matched' o e m = rw (o, e, m) refl
 
-pub both_printed-nothing : (printed : Printed) → both_printed printed none_printed ≡ printed
-both_printed-nothing printed = same_printed _ _ _ _ _ _ (append-nil printed.output) (append-nil printed.errors) (or-false printed.matched)
-
 pub both_printed-assoc : (a b c : Printed) → both_printed a (both_printed b c) ≡ both_printed (both_printed a b) c
 both_printed-assoc a b c = same_printed _ _ _ _ _ _ (sym (append_assoc a.output b.output c.output)) (sym (append_assoc a.errors b.errors c.errors)) (sym (or_assoc a.matched b.matched c.matched))
-
-pub all_more : (printed : List ℕ → Printed) (names : List (List ℕ)) (name : List ℕ) → all_printed printed (names ++ name ∷ []) ≡ both_printed (all_printed printed names) (printed name)
-unfolding all_printed
-all_more printed [] name = same_printed _ _ _ _ _ _ (append-nil _) (append-nil _) (or-false _)
-all_more printed (first ∷ names) name =
-    ap (λ (rest : Printed). both_printed (printed first) rest) (all_more printed names name)
-    ∙ same_printed _ _ _ _ _ _ (sym (append_assoc (printed first).output _ _)) (sym (append_assoc (printed first).errors _ _)) (sym (or_assoc (printed first).matched _ _))
 
 pub Prints-both : (tree : Option Snapshot) (first next both : Snapshot → Printed) (out now later err err-now err-later : Option SinkModel) (matched last : Bool) → ((s : Snapshot) → both s ≡ both_printed (first s) (next s)) → Prints (option_map first tree) out now err err-now matched → Prints (option_map next tree) now later err-now err-later last → Prints (option_map both tree) out later err err-later (matched || last)
 Prints-both None first next both out now later err err-now err-later matched last is p q = tt
@@ -169,6 +156,11 @@ all_append printed [] ys = refl
 all_append printed (name ∷ xs) ys =
     ap (λ (rest : Printed). both_printed (printed name) rest) (all_append printed xs ys)
     ∙ both_printed-assoc (printed name) (all_printed printed xs) (all_printed printed ys)
+
+pub all_more : (printed : List ℕ → Printed) (names : List (List ℕ)) (name : List ℕ) → all_printed printed (names ++ name ∷ []) ≡ both_printed (all_printed printed names) (printed name)
+unfolding all_printed
+all_more printed names name =
+    all_append printed names (name ∷ []) ∙ ap (both_printed (all_printed printed names)) (same_printed _ _ _ _ _ _ (append-nil (printed name).output) (append-nil (printed name).errors) (or-false (printed name).matched))
 
 pub mapped_rest : {X : Type 0} (f : X → List ℕ) (xs : List X) (i : ℕ) (x : X) → i < length xs → x ≡ get_or xs i x → map f xs ≡ (map f (take i xs) ++ f x ∷ []) ++ map f (drop (i + 1) xs)
 mapped_rest f xs i x low is =
@@ -204,10 +196,7 @@ left_may_be TooLong = inl refl
 
 open_may_be : (fault : TreeFault) → MayBe (file_fault_of fault)
 open_may_be tree.Missing = inr refl
-open_may_be tree.Denied = inr refl
-open_may_be tree.Output = inr refl
-open_may_be tree.Failed = inr refl
-open_may_be tree.Memory = inr refl
+open_may_be fault = inr refl
 
 faults_one : (name : List ℕ) (why : FileFault) → MayBe why → AreFaultsOf (name ∷ []) ((name, why) ∷ [])
 faults_one name why may = inr (why, [], refl, may, refl)
@@ -223,11 +212,8 @@ module _ (tool : Tool) where
   left_counted TooLong n = refl
 
   open_counted : (fault : TreeFault) (n : ℕ) → fault ≢ tree.Memory → count_after {A = Unit {0}} is_tree_failure (Err fault) n ≡ count_if (is_file_failure (file_fault_of fault)) n
-  open_counted tree.Missing n not = refl
-  open_counted tree.Denied n not = refl
-  open_counted tree.Output n not = refl
-  open_counted tree.Failed n not = refl
   open_counted tree.Memory n not = absurd (not refl)
+  open_counted fault n not = refl
 
   writes_bytes-line : {A E : Type 0} (r : Result A E) (name : List ℕ) (fault : FileFault) (err err' : Option SinkModel) → WritesBytes (fault_line_of tool name fault) err err' r → WritesBytes (fault_lines tool ((name, fault) ∷ [])) err err' r
   writes_bytes-line r name fault err err' writes_bytes = subst (λ bytes. WritesBytes bytes err err' r) (sym (append-nil (fault_line_of tool name fault))) writes_bytes

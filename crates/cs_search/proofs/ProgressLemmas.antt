@@ -111,8 +111,7 @@ module _ (style : Style) (name : List ℕ) (has_match : List ℕ → Bool) (befo
   TestsInput-past stop None left n rest lines full r h t = tt
   TestsInput-past stop (Some model) None n rest lines full r h t = absurd r.1
   TestsInput-past Listed (Some model) (Some left) n rest lines full r h t = absurd h
-  TestsInput-past End (Some model) (Some left) n rest lines full r h t = subst (λ k. OfLines (terminated_lines (take k model.bytes))) full t
-  TestsInput-past (Faulted fault) (Some model) (Some left) n rest lines full r h t = subst (λ k. OfLines (terminated_lines (take k model.bytes))) full t
+  TestsInput-past stop (Some model) (Some left) n rest lines full r h t = subst (λ k. OfLines (terminated_lines (take k model.bytes))) full t
 
 split_size : (model left : SourceModel) (n : ℕ) → n ≤ length model.bytes → model.bytes ≡ take n model.bytes ++ left.bytes → length model.bytes ≡ n + length left.bytes
 split_size model left n within split = omega (arith, ap (λ (b : List ℕ). length b) split, length-append (take n model.bytes) left.bytes, length-take n model.bytes)
@@ -140,27 +139,4 @@ pub Stops-past : (style : Style) (stop : Stop) (model left : Option SourceModel)
 Stops-past style stop None left n limit rest lines full r h = tt
 Stops-past style stop (Some model) None n limit rest lines full r h = absurd r.1
 Stops-past style Listed (Some model) (Some left) n limit rest lines full r h = absurd h
-Stops-past style End (Some model) (Some left) n limit rest lines full r h = (fault_here model left n limit full r.0 r.1.0 r.1.1 End h, r.2 ∙ ap (λ k. last_part (take k model.bytes)) full, (λ shown. r.3 shown ∙ ap (λ k. length (terminated_lines (take k model.bytes))) full))
-Stops-past style (Faulted fault) (Some model) (Some left) n limit rest lines full r h = (fault_here model left n limit full r.0 r.1.0 r.1.1 (Faulted fault) h, r.2 ∙ ap (λ k. last_part (take k model.bytes)) full, (λ shown. r.3 shown ∙ ap (λ k. length (terminated_lines (take k model.bytes))) full))
-
--- ---- how much is consumed
-
-pub Consumes-read : (style : Style) (model left : Option SourceModel) (n : ℕ) (rest : List ℕ) (lines : ℕ) → HasReadInput style model left n rest lines → ConsumesAtMost n model left
-Consumes-read style None left n rest lines r = tt
-Consumes-read style (Some model) None n rest lines r = absurd r.1
-Consumes-read style (Some model) (Some left) n rest lines r =
-    Consumes_few (Some model) (Some left) (take n model.bytes) n r.1 (omega (arith, length-take n model.bytes))
-
-pub ConsumesAtMost-more : (a b c : Option SourceModel) (m n limit : ℕ) → ConsumesAtMost m a b → ConsumesAtMost n b c → m + n ≤ limit → ConsumesAtMost limit a c
-ConsumesAtMost-more None b c m n limit g h w = tt
-ConsumesAtMost-more (Some a) None c m n limit g h w = absurd g
-ConsumesAtMost-more (Some a) (Some b) None m n limit g h w = absurd h
-ConsumesAtMost-more (Some a) (Some b) (Some c) m n limit g h w =
-    let i = length a.bytes - length b.bytes in
-    let j = length b.bytes - length c.bytes in
-    let shorter : length b.bytes ≤ length a.bytes = omega (arith, ap (λ (l : List ℕ). length l) g.0, length-drop i a.bytes) in
-    let shorter' : length c.bytes ≤ length b.bytes = omega (arith, ap (λ (l : List ℕ). length l) h.0, length-drop j b.bytes) in (
-      h.0 ∙ ap (λ l. drop j l) g.0 ∙ drop-drop j i a.bytes ∙ ap (λ k. drop k a.bytes) (omega arith),
-      omega (arith, g.1, h.1),
-      g.2 ∙ h.2,
-    )
+Stops-past style stop (Some model) (Some left) n limit rest lines full r h = (fault_here model left n limit full r.0 r.1.0 r.1.1 stop h, r.2 ∙ ap (λ k. last_part (take k model.bytes)) full, (λ shown. r.3 shown ∙ ap (λ k. length (terminated_lines (take k model.bytes))) full))

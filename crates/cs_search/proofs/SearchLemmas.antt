@@ -94,12 +94,8 @@ module _ (job : SearchJob) (index : Option (List ℕ)) (tree : Option Snapshot) 
 -- ---- an index in a store that does not open
 
 refusal_of : (A B : Type 0) (job : SearchJob) (index : Option (List ℕ)) (query : Query) (fault : ToolFault) → RefusedInOrder {A = A} job index query (Err fault) → RefusedInOrder {A = B} job index query (Err fault)
-refusal_of A B job index query (Pattern error) is = is
-refusal_of A B job index query (FilePattern error) is = is
-refusal_of A B job index query NoIndex is = is
-refusal_of A B job index query (BadIndex fault) is = is
-refusal_of A B job index query Write is = is
 refusal_of A B job index query Memory is = tt
+refusal_of A B job index query fault is = is
 
 module _ (A B : Type 0) (job : SearchJob) where
   -- an error of the plan, whatever the index is

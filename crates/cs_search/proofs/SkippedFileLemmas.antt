@@ -31,6 +31,7 @@ use Rattle.cs_match.specs.Lines.{newline, lines}
 use Rattle.cs_search.specs.Report.{Report, MatchingLine, matches_from, any_match, name_line, matches_output, report}
 use Rattle.cs_search.specs.InputReport.{input_report}
 use Rattle.cs_search.specs.Printed.{Printed, input_printed, opened_printed, file_printed, all_printed, both_printed}
+use Rattle.cs_search.proofs.MatchOutputLemmas.{kept_fault}
 use Rattle.cs_search.proofs.PrintedInputLemmas.{none_printed, fault_text}
 
 -- ---- the lines of a text are substrings of it
@@ -67,22 +68,6 @@ module _ (P : List ℕ → Type 0) (prefix : (u v : List ℕ) → P (u ++ v) →
           let more = begins text l ls is in
           (prefix (b ∷ l) more.0 (subst P (ap (λ (t : List ℕ). b ∷ t) more.1) h), all.1)
 
--- the bytes are a substring of the text
-IsIn : List ℕ → List ℕ → Type 0
-IsIn text part = (before after : List ℕ) × (text ≡ before ++ (part ++ after))
-
-in_prefix : (text u v : List ℕ) → IsIn text (u ++ v) → IsIn text u
-unfolding IsIn
-in_prefix text u v is = (is.0, v ++ is.1, is.2 ∙ ap (λ (l : List ℕ). is.0 ++ l) (append_assoc u v is.1))
-
-in_suffix : (text u v : List ℕ) → IsIn text (u ++ v) → IsIn text v
-unfolding IsIn
-in_suffix text u v is = (is.0 ++ u, is.1, is.2 ∙ ap (λ (l : List ℕ). is.0 ++ l) (append_assoc u v is.1) ∙ sym (append_assoc is.0 u (v ++ is.1)))
-
-in_itself : (text : List ℕ) → IsIn text text
-unfolding IsIn
-in_itself text = ([], [], sym (append-nil text))
-
 -- ---- the trigrams of each line are trigrams of the text
 
 all_of : (set : ℕ → Bool) (ns : List ℕ) → ((n : ℕ) → has ns n ≡ true → set n ≡ true) → list_all set ns ≡ true
@@ -91,17 +76,18 @@ all_of set (n ∷ ns) h =
     and_from (set n) (list_all set ns) (h n (ap (λ b. b || has ns n) (eq-eqb n n refl)))
     (all_of set ns (λ m there. h m (ap (λ b. nat_eq n m || b) there ∙ or-true (nat_eq n m))))
 
-part_known : (text part : List ℕ) → IsIn text part → HasTrigrams (has (tri text)) part
-unfolding IsIn
-part_known text part is =
-    all_of (has (tri text)) (tri part) (λ n there. ap (λ (t : List ℕ). has (tri t) n) is.2 ∙ has-part_of is.0 part is.1 n there)
+-- each trigram of the part is one of the text
+abbrev Knows : List ℕ → List ℕ → Type 0
+Knows text part = (n : ℕ) → has (tri part) n ≡ true → has (tri text) n ≡ true
 
 pub lines_known : (text : List ℕ) → AllByRecursion (HasTrigrams (has (tri text))) (lines text)
-lines_known text = each (lines text) (parts_have (IsIn text) (in_prefix text) (in_suffix text) text (in_itself text))
+lines_known text =
+    each (lines text) (parts_have (Knows text) (λ u v known n there. known n (has-part_of [] u v n there))
+    (λ u v known n there. known n (subst (λ (end : List ℕ). has (tri (u ++ end)) n ≡ true) (append-nil v) (has-part_of u v [] n there))) text (λ n there. there))
   where
-    each : (ls : List (List ℕ)) → AllByRecursion (IsIn text) ls → AllByRecursion (HasTrigrams (has (tri text))) ls
+    each : (ls : List (List ℕ)) → AllByRecursion (Knows text) ls → AllByRecursion (HasTrigrams (has (tri text))) ls
     each [] all = tt
-    each (line ∷ ls) all = (part_known text line all.0, each ls all.1)
+    each (line ∷ ls) all = (all_of (has (tri text)) (tri line) all.0, each ls all.1)
 
 -- ---- no matching line
 
@@ -136,10 +122,6 @@ nothing_found style name =
       | false ↦ elim style.count as (λ k. cond {A = List ℕ} k [] [] ≡ []) [ true ↦ refl | false ↦ refl ]
     ]
 
-no_fault : (b : Bool) → ◌≡◌ {A = Option ReadFault} (cond b None None) None
-no_fault true = refl
-no_fault false = refl
-
 module _ (limit : ℕ) (style : Style) (has_match : List ℕ → Bool) (name bytes : List ℕ) (small : length bytes ≤ limit) where
   abbrev whole : SourceModel
   whole = record { bytes = bytes; ending = ends }
@@ -164,7 +146,7 @@ module _ (limit : ℕ) (style : Style) (has_match : List ℕ → Bool) (name byt
   unfolding input_printed report
   printed_alike tool =
       ap (printed_of tool) text_reported
-      ∙ ap (λ (fault : Option ReadFault). printed_of tool (record { output = matches_output style name true matches_in; fault = fault; matched = any_match matches_in })) (no_fault (style.list && any_match matches_in))
+      ∙ ap (λ (fault : Option ReadFault). printed_of tool (record { output = matches_output style name true matches_in; fault = fault; matched = any_match matches_in })) (kept_fault (style.list && any_match matches_in))
 
   printed_nothing : matches_in ≡ [] → text_printed ≡ none_printed
   printed_nothing e =
@@ -217,20 +199,14 @@ module _ (style : Style) (has_match : List ℕ → Bool) (tree : Snapshot) (name
   file_alike (file bytes) e h a b =
       let small = (text_is bytes trigrams h).small in
       opened_at a bytes e ∙ printed_alike max_searched style has_match name bytes small a ∙ sym (opened_at b bytes e ∙ printed_alike max_searched style has_match name bytes small b)
-  file_alike (folder names unnamed) e h a b = cc
-  file_alike (cut bytes) e h a b = cc
-  file_alike other e h a b = cc
-  file_alike (bad fault) e h a b = cc
+  file_alike item e h a b = cc
 
   -- without a fault
   pub file_has_no_error : (item : Item) → item_at tree name ≡ item → read_item (text_trigrams limits) item ≡ Some trigrams → (a : Tool) → (file_printed max_searched a style has_match tree name).errors ≡ []
   file_has_no_error (file bytes) e h a =
       let small = (text_is bytes trigrams h).small in
       ap (λ (p : Printed). p.errors) (opened_at a bytes e ∙ printed_alike max_searched style has_match name bytes small a)
-  file_has_no_error (folder names unnamed) e h a = cc
-  file_has_no_error (cut bytes) e h a = cc
-  file_has_no_error other e h a = cc
-  file_has_no_error (bad fault) e h a = cc
+  file_has_no_error item e h a = cc
 
   -- the query excludes it
   module _ (query : Query) (pattern : Tree) (loses : LosesNoLine query pattern) (decides : Decides has_match pattern) where
@@ -240,10 +216,7 @@ module _ (style : Style) (has_match : List ℕ → Bool) (tree : Snapshot) (name
         let known : AllByRecursion (HasTrigrams (has trigrams)) (lines bytes) = subst (λ (ns : List ℕ). AllByRecursion (HasTrigrams (has ns)) (lines bytes)) text.are (lines_known bytes) in
         opened_at a bytes e ∙ printed_alike max_searched style has_match name bytes text.small a
         ∙ printed_nothing max_searched style has_match name bytes text.small (no_matches_in query pattern loses has_match decides (has trigrams) out bytes known)
-    file_empty (folder names unnamed) e h out a = cc
-    file_empty (cut bytes) e h out a = cc
-    file_empty other e h out a = cc
-    file_empty (bad fault) e h out a = cc
+    file_empty item e h out a = cc
 
 -- ---- all files
 

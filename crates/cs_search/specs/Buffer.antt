@@ -19,7 +19,7 @@ pub record GrowsBy (old new : List ℕ) (n : ℕ) : Type 0 where
   pub size : length new ≡ length old + n
 
 -- A read appends `bytes`, which is empty only at the end of the source. A failed read appends nothing.
-abbrev pub Fills : Option SourceModel → Option SourceModel → Result ℕ IoFault → List ℕ → Type 0
-Fills model later answer bytes =
+abbrev pub AppendsRead : Option SourceModel → Option SourceModel → Result ℕ IoFault → List ℕ → Type 0
+AppendsRead model later answer bytes =
     MatchResult answer (λ n. Consumes model later bytes × (n ≡ 0 → IsAt ends later))
     (λ fault. Consumes model later [] × (fault ≡ Failed → IsAt fails later))

@@ -31,10 +31,10 @@ abbrev pub matcher_tree : Option Automaton → Option Tree
 matcher_tree matcher = option_map (λ m. m.tree) matcher
 
 -- There is a program if there is a text, and it matches what the pattern of the text matches.
-abbrev pub IsCompiled : Option (List ℕ) → Option Tree → Type 0
-IsCompiled None None = Unit {0}
-IsCompiled (Some text) (Some program) = IsProgramOf text false program
-IsCompiled text program = ⊥
+abbrev pub IsFileProgram : Option (List ℕ) → Option Tree → Type 0
+IsFileProgram None None = Unit {0}
+IsFileProgram (Some text) (Some program) = IsProgramOf text false program
+IsFileProgram text program = ⊥
 
 abbrev pub file_fault_at : PatternFault → PatternError → ToolFault
 file_fault_at pattern.Memory error = Memory

@@ -13,7 +13,7 @@ use Rattle.cs_search.specs.declared.plan.Plan.{Plan}
 use Rattle.cs_search.specs.declared.status.Status.{Status}
 use Rattle.cs_search.specs.Refusals.{has_write_failed}
 use Rattle.cs_search.specs.Csearch.{file_text, IsQueryOf, OpensWith, RefusedInOrder}
-use Rattle.cs_search.specs.IndexSearch.{IsCompiled, AreKept}
+use Rattle.cs_search.specs.IndexSearch.{IsFileProgram, AreKept}
 use Rattle.cs_search.specs.Programs.{IsProgramOf}
 
 -- A plan has a query for the pattern, and programs that match what both patterns match.
@@ -21,7 +21,7 @@ pub record IsPlan (job : SearchJob) (plan : Plan) : Type 0 where
   pub query : (pattern : Tree) → ParsesAs (string_bytes job.pattern) job.fold pattern →
       IsQueryOf job.brute pattern plan.query
   pub program : IsProgramOf (string_bytes job.pattern) job.fold plan.program
-  pub file : IsCompiled (file_text job) plan.file
+  pub file : IsFileProgram (file_text job) plan.file
 
 -- The error is right for this job and index, and is not a failed write.
 abbrev pub RefusesPlan : SearchJob → Option (List ℕ) → ToolFault → Type 0

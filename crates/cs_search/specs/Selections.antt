@@ -12,7 +12,7 @@ use Rattle.cs_search.specs.declared.plan.Plan.{Plan}
 use Rattle.cs_search.specs.declared.selection.Selection.{Selection}
 
 -- The names with these ids were read, and the selection has those that its filter keeps.
-pub record HasRead (bytes : List ℕ) (parts : Parts) (ids : List ℕ) (selection : Selection) : Type 0 where
+pub record HasSelected (bytes : List ℕ) (parts : Parts) (ids : List ℕ) (selection : Selection) : Type 0 where
   pub reads : ReadsNames bytes parts selection.reader
   pub kept : AreKept (matcher_tree selection.filter.matcher) parts.names ids selection.names.items
 

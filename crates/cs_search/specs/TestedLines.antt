@@ -4,6 +4,8 @@ use Rattle.std.specs.List.{flat_map}
 use Rattle.cs_tree.specs.Sinks.{Grows, SinkModel}
 use Rattle.cs_args.specs.declared.jobs.Style.{Style}
 use Rattle.cs_search.specs.declared.tally.Tally.{Tally}
+use Rattle.cs_syntax.specs.Matching.{Tree}
+use Rattle.cs_match.specs.Deciding.{Decides}
 use Rattle.cs_match.specs.Lines.{newline}
 use Rattle.cs_tree.specs.TakesPrefix.{TakesPrefix}
 use Rattle.cs_search.specs.Report.{MatchingLine, matches_from, match_line, count_line, any_match, matches_output}
@@ -34,6 +36,16 @@ abbrev pub TestsPrefix : Style → List ℕ → (List ℕ → Bool) → List (Li
     Option SinkModel → Type 0
 TestsPrefix style name has_match lines first sink later =
     TakesPrefix (matches_output style name false (matches_from first has_match lines)) sink later
+
+-- both, by each test that decides which lines match
+module _ (tree : Tree) (style : Style) (name : List ℕ) (lines : List (List ℕ)) where
+  abbrev pub TestsBy : Tally → Tally → Option SinkModel → Option SinkModel → Type 0
+  TestsBy before after sink later =
+      (has_match : List ℕ → Bool) → Decides has_match tree → Tests style name has_match lines before after sink later
+
+  abbrev pub TestsPrefixBy : ℕ → Option SinkModel → Option SinkModel → Type 0
+  TestsPrefixBy first sink later =
+      (has_match : List ℕ → Bool) → Decides has_match tree → TestsPrefix style name has_match lines first sink later
 
 -- With `-l` one of these lines matches, and the name was written.
 pub record IsListed (style : Style) (name : List ℕ) (has_match : List ℕ → Bool) (lines : List (List ℕ))

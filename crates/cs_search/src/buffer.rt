@@ -22,7 +22,7 @@ pub struct LineBuffer {
 
 impl LineBuffer {
     ghost use Rattle.std.specs.Prelude.{◌^◌, [], OnOk, OnErr};
-    ghost use Rattle.cs_search.specs.Buffer.{pending_bytes, size_of, GrowsBy, Fills};
+    ghost use Rattle.cs_search.specs.Buffer.{pending_bytes, size_of, GrowsBy, AppendsRead};
 
     /// An empty buffer.
     #[tactic(auto, unfolding(crate::specs::Buffer::pending_bytes))]
@@ -114,7 +114,7 @@ impl LineBuffer {
         ensures within { IfOk result (λ n. n ≤ limit) }
         ensures gains { IfOk result
             (λ n. GrowsBy (pending_bytes self.old) (pending_bytes self.new) n) }
-        ensures model { Fills (R.model input.old) (R.model input.new) result
+        ensures model { AppendsRead (R.model input.old) (R.model input.new) result
             (drop (length (pending_bytes self.old)) (pending_bytes self.new)) }
         ensures same { OnErr result (pending_bytes self.new ≡ pending_bytes self.old) }
         ensures failed { R.failed input.new ≡

@@ -1,6 +1,5 @@
 // Reads one input block by block, and searches each block.
 ghost use Rattle.std.specs.Prelude.{◌≡◌, ◌≤◌, ◌<◌, ◌+◌, ◌*◌, ◌^◌, [], ℕ, Bool, true, List, IfOk, OnErr, IsOkUnless, length};
-ghost use Rattle.cs_tree.specs.ConsumesAtMost.{ConsumesAtMost};
 ghost use Rattle.cs_search.specs.GrepFaults.{is_grep_failure};
 ghost use Rattle.cs_tree.specs.Failures.{count_if};
 ghost use Rattle.cs_tree.specs.FailureCount.{count_after};
@@ -50,7 +49,6 @@ pub(crate) fn search_input<R: Source, O: Sink, L: Ledger>(
         (O.model out.old) (O.model out.new) limit (R.model input.old)) }
     ensures unlisted { IfOk result (λ stop. UnlessListed stop
         (printer.now.style.list ≡ true → tally.new.matches ≡ 0)) }
-    ensures loses { ConsumesAtMost (limit + 1) (R.model input.old) (R.model input.new) }
     ensures same { matcher.new.tree ≡ matcher.old.tree }
     ensures read_failed { R.failed input.new ≡
         count_if (has_stop_failed result) (R.failed input.old) }
@@ -94,7 +92,6 @@ pub(crate) fn search_input<R: Source, O: Sink, L: Ledger>(
 fn probe_end<R: Source>(input: &mut R) -> Result<Stop, GrepFault>
     ensures stop { IfOk result (λ stop. StopsHere stop (R.model input.old)) }
     ensures refused { IsOkUnless result GrepFault.Memory }
-    ensures loses { ConsumesAtMost 1 (R.model input.old) (R.model input.new) }
     ensures failed { R.failed input.new ≡ count_if (has_stop_failed result) (R.failed input.old) }
     ensures keeps { R.Keeps input.old input.new }
     ensures read { ReadsOne result (R.model input.old) (R.model input.new) }

@@ -8,7 +8,7 @@ ghost use Rattle.cs_match.specs.NoNewline.{HasNoNewline};
 ghost use Rattle.cs_match.specs.Skipping.{AreWholeLines};
 ghost use Rattle.cs_match.specs.LastPart.{last_part};
 ghost use Rattle.cs_match.specs.Work.{state_work, line_work};
-ghost use Rattle.cs_search.specs.TestedLines.{SameNumber, CountsLines, Tests, TestsPrefix, IsListed};
+ghost use Rattle.cs_search.specs.TestedLines.{SameNumber, CountsLines, Tests, TestsPrefix, TestsBy, TestsPrefixBy, IsListed};
 ghost use Rattle.cs_search.specs.Work.{printed_work, searched_work};
 ghost use Rattle.cs_search.specs.SearchedWork.{ended_work};
 
@@ -58,14 +58,10 @@ pub(crate) fn search_line<O: Sink, L: Ledger>(
 ) -> Result<(), GrepFault>
     requires { tally.old.lines + 1 < 2 ^ 64 }
     ensures lines { OnOk result (tally.new.lines ≡ tally.old.lines + 1) }
-    ensures tests { OnOk result ((has_match : List ℕ → Bool) → Decides has_match matcher.old.tree →
-        Tests printer.now.style printer.now.name.now has_match (line.now ∷ []) tally.old tally.new
-        (O.model out.old) (O.model out.new)) }
-    ensures prefix { OnErr result ((has_match : List ℕ → Bool) →
-        Decides has_match matcher.old.tree →
-        TestsPrefix printer.now.style printer.now.name.now has_match (line.now ∷ [])
-        (tally.old.lines + 1)
-        (O.model out.old) (O.model out.new)) }
+    ensures tests { OnOk result (TestsBy matcher.old.tree printer.now.style printer.now.name.now
+        (line.now ∷ []) tally.old tally.new (O.model out.old) (O.model out.new)) }
+    ensures prefix { OnErr result (TestsPrefixBy matcher.old.tree printer.now.style printer.now.name.now
+        (line.now ∷ []) (tally.old.lines + 1) (O.model out.old) (O.model out.new)) }
     ensures same { matcher.new.tree ≡ matcher.old.tree }
     ensures failed { O.failed out.new ≡ count_after is_grep_failure result (O.failed out.old) }
     ensures work { steps.new + state_work * matcher.new.states
@@ -178,10 +174,8 @@ fn search_lines<O: Sink, L: Ledger>(
         (tally.old.lines + 1) tally.new (O.model out.old) (O.model out.new))
         (Tests printer.now.style printer.now.name.now has_match (terminated_lines block.now)
         tally.old tally.new (O.model out.old) (O.model out.new))) }
-    ensures prefix { OnErr result ((has_match : List ℕ → Bool) →
-        Decides has_match matcher.old.tree →
-        TestsPrefix printer.now.style printer.now.name.now has_match (terminated_lines block.now)
-        (tally.old.lines + 1) (O.model out.old) (O.model out.new)) }
+    ensures prefix { OnErr result (TestsPrefixBy matcher.old.tree printer.now.style printer.now.name.now
+        (terminated_lines block.now) (tally.old.lines + 1) (O.model out.old) (O.model out.new)) }
     ensures unlisted { IfOk result (λ listed. listed ≡ false →
         printer.now.style.list ≡ true → tally.new.matches ≡ 0) }
     ensures same { matcher.new.tree ≡ matcher.old.tree }
@@ -239,10 +233,8 @@ pub(crate) fn search_block<O: Sink, L: Ledger>(
         (λ start. Tests printer.now.style printer.now.name.now has_match
         (terminated_lines block.now)
         tally.old tally.new (O.model out.old) (O.model out.new))) }
-    ensures prefix { OnErr result ((has_match : List ℕ → Bool) →
-        Decides has_match matcher.old.tree →
-        TestsPrefix printer.now.style printer.now.name.now has_match (terminated_lines block.now)
-        (tally.old.lines + 1) (O.model out.old) (O.model out.new)) }
+    ensures prefix { OnErr result (TestsPrefixBy matcher.old.tree printer.now.style printer.now.name.now
+        (terminated_lines block.now) (tally.old.lines + 1) (O.model out.old) (O.model out.new)) }
     ensures unlisted { IfOk result (λ answer. IfSome answer
         (λ start. printer.now.style.list ≡ true → tally.new.matches ≡ 0)) }
     ensures same { matcher.new.tree ≡ matcher.old.tree }

@@ -1,7 +1,7 @@
 // The names that `-f` keeps.
 ghost use Rattle.std.specs.Prelude.{◌≡◌, ℕ, Bool, List, IfOk, IfErr, option_copied};
 ghost use Rattle.cs_search.specs.Csearch.{file_text};
-ghost use Rattle.cs_search.specs.IndexSearch.{DecidesNames, matcher_tree, IsCompiled, FileRefused, file_pattern_fault};
+ghost use Rattle.cs_search.specs.IndexSearch.{DecidesNames, matcher_tree, IsFileProgram, FileRefused, file_pattern_fault};
 
 use cs_args::{SearchJob, ToolFault};
 use cs_match::{Matcher, Program};
@@ -10,7 +10,7 @@ use std::alloc::{AllocError, Global};
 
 /// Compiles the pattern of `-f`, if there is one.
 pub(crate) fn compile_file(alloc: Global, job: &SearchJob) -> Result<Option<Program>, ToolFault>
-    ensures compiled { IfOk result (IsCompiled (file_text job.now)) }
+    ensures compiled { IfOk result (IsFileProgram (file_text job.now)) }
     ensures refused { IfErr result (FileRefused (file_text job.now)) }
 {
     let Some(text) = &job.file else {

@@ -1,15 +1,14 @@
 // Searches of one input (Go: `Grep` in regexp/match.go).
-ghost use Rattle.std.specs.Prelude.{◌≡◌, ◌≤◌, ◌<◌, ◌+◌, ◌*◌, ◌^◌, ℕ, Bool, List, OnOk, OnErr, IfOk, length};
+ghost use Rattle.std.specs.Prelude.{◌≡◌, ◌≤◌, ◌<◌, ◌+◌, ◌*◌, ◌^◌, OnOk, OnErr, IfOk};
 ghost use Rattle.cs_tree.specs.ConsumesAtMost.{ConsumesAtMost};
 ghost use Rattle.cs_tree.specs.Failures.{count_if};
 ghost use Rattle.cs_tree.specs.FailureCount.{count_after};
-ghost use Rattle.cs_match.specs.Deciding.{Decides};
 ghost use Rattle.cs_match.specs.LastPart.{last_line};
-ghost use Rattle.cs_search.specs.GrepReports.{Reports, ReportsPrefix};
+ghost use Rattle.cs_search.specs.GrepReports.{ReportsBy, ReportsPrefixBy};
 ghost use Rattle.cs_search.specs.InputReport.{max_searched, input_report};
 ghost use Rattle.cs_search.specs.GrepFaults.{is_grep_failure, has_read_failed};
-ghost use Rattle.cs_search.specs.TestedLines.{Tests, TestsPrefix};
-ghost use Rattle.cs_match.specs.Work.{state_work, line_work};
+ghost use Rattle.cs_search.specs.TestedLines.{TestsBy, TestsPrefixBy};
+ghost use Rattle.cs_match.specs.Work.{state_work};
 ghost use Rattle.cs_search.specs.Work.{TakesSteps, input_work};
 ghost use Rattle.cs_search.specs.SearchedWork.{rest_work};
 
@@ -46,14 +45,10 @@ pub fn grep<R: Source, O: Sink>(
     style: Style,
     out: &mut O,
 ) -> Result<Grepped, GrepFault>
-    ensures report { IfOk result (λ answer. (has_match : List ℕ → Bool) →
-        Decides has_match matcher.old.tree →
-        Reports (R.model input.old) (input_report max_searched style name.now has_match)
-        (O.model out.old) (O.model out.new) answer) }
-    ensures prefix { OnErr result ((has_match : List ℕ → Bool) →
-        Decides has_match matcher.old.tree →
-        ReportsPrefix (R.model input.old) (input_report max_searched style name.now has_match)
-        (O.model out.old) (O.model out.new)) }
+    ensures report { IfOk result (ReportsBy matcher.old.tree (R.model input.old)
+        (input_report max_searched style name.now) (O.model out.old) (O.model out.new)) }
+    ensures prefix { OnErr result (ReportsPrefixBy matcher.old.tree (R.model input.old)
+        (input_report max_searched style name.now) (O.model out.old) (O.model out.new)) }
     ensures read_failed { R.failed input.new ≡
         count_if (has_read_failed result) (R.failed input.old) }
     ensures write_failed { O.failed out.new ≡
@@ -83,16 +78,10 @@ pub fn grep_within<R: Source, O: Sink>(
     out: &mut O,
 ) -> Result<Grepped, GrepFault>
     requires { limit < 2 ^ 32 }
-    ensures report { IfOk result (λ answer. (has_match : List ℕ → Bool) →
-        Decides has_match matcher.old.tree →
-        Reports (R.model input.old)
-        (input_report limit printer.now.style printer.now.name.now has_match)
-        (O.model out.old) (O.model out.new) answer) }
-    ensures prefix { OnErr result ((has_match : List ℕ → Bool) →
-        Decides has_match matcher.old.tree →
-        ReportsPrefix (R.model input.old)
-        (input_report limit printer.now.style printer.now.name.now has_match)
-        (O.model out.old) (O.model out.new)) }
+    ensures report { IfOk result (ReportsBy matcher.old.tree (R.model input.old)
+        (input_report limit printer.now.style printer.now.name.now) (O.model out.old) (O.model out.new)) }
+    ensures prefix { OnErr result (ReportsPrefixBy matcher.old.tree (R.model input.old)
+        (input_report limit printer.now.style printer.now.name.now) (O.model out.old) (O.model out.new)) }
     ensures read_failed { R.failed input.new ≡
         count_if (has_read_failed result) (R.failed input.old) }
     ensures write_failed { O.failed out.new ≡
@@ -117,16 +106,10 @@ pub fn grep_counted<R: Source, O: Sink, L: Ledger>(
     steps: &mut Steps<L>,
 ) -> Result<Grepped, GrepFault>
     requires { limit < 2 ^ 32 }
-    ensures report { IfOk result (λ answer. (has_match : List ℕ → Bool) →
-        Decides has_match matcher.old.tree →
-        Reports (R.model input.old)
-        (input_report limit printer.now.style printer.now.name.now has_match)
-        (O.model out.old) (O.model out.new) answer) }
-    ensures prefix { OnErr result ((has_match : List ℕ → Bool) →
-        Decides has_match matcher.old.tree →
-        ReportsPrefix (R.model input.old)
-        (input_report limit printer.now.style printer.now.name.now has_match)
-        (O.model out.old) (O.model out.new)) }
+    ensures report { IfOk result (ReportsBy matcher.old.tree (R.model input.old)
+        (input_report limit printer.now.style printer.now.name.now) (O.model out.old) (O.model out.new)) }
+    ensures prefix { OnErr result (ReportsPrefixBy matcher.old.tree (R.model input.old)
+        (input_report limit printer.now.style printer.now.name.now) (O.model out.old) (O.model out.new)) }
     ensures read_failed { R.failed input.new ≡
         count_if (has_read_failed result) (R.failed input.old) }
     ensures write_failed { O.failed out.new ≡
@@ -175,16 +158,10 @@ fn grep_from_blank<R: Source, O: Sink, L: Ledger>(
     requires parts { blank.parts ≡ L.parts }
     requires some { 0 < blank.parts }
     requires limit { limit < 2 ^ 32 }
-    ensures report { IfOk result (λ answer. (has_match : List ℕ → Bool) →
-        Decides has_match matcher.old.tree →
-        Reports (R.model input.old)
-        (input_report limit printer.now.style printer.now.name.now has_match)
-        (O.model out.old) (O.model out.new) answer) }
-    ensures prefix { OnErr result ((has_match : List ℕ → Bool) →
-        Decides has_match matcher.old.tree →
-        ReportsPrefix (R.model input.old)
-        (input_report limit printer.now.style printer.now.name.now has_match)
-        (O.model out.old) (O.model out.new)) }
+    ensures report { IfOk result (ReportsBy matcher.old.tree (R.model input.old)
+        (input_report limit printer.now.style printer.now.name.now) (O.model out.old) (O.model out.new)) }
+    ensures prefix { OnErr result (ReportsPrefixBy matcher.old.tree (R.model input.old)
+        (input_report limit printer.now.style printer.now.name.now) (O.model out.old) (O.model out.new)) }
     ensures read_failed { R.failed input.new ≡
         count_if (has_read_failed result) (R.failed input.old) }
     ensures write_failed { O.failed out.new ≡
@@ -207,15 +184,10 @@ pub(crate) fn search_rest<O: Sink, L: Ledger>(
     steps: &mut Steps<L>,
 ) -> Result<(), GrepFault>
     requires { tally.old.lines + 1 < 2 ^ 64 }
-    ensures tests { OnOk result ((has_match : List ℕ → Bool) → Decides has_match matcher.old.tree →
-        Tests printer.now.style printer.now.name.now has_match
-        (last_line rest.now) tally.old tally.new
-        (O.model out.old) (O.model out.new)) }
-    ensures prefix { OnErr result ((has_match : List ℕ → Bool) →
-        Decides has_match matcher.old.tree →
-        TestsPrefix printer.now.style printer.now.name.now has_match (last_line rest.now)
-        (tally.old.lines + 1)
-        (O.model out.old) (O.model out.new)) }
+    ensures tests { OnOk result (TestsBy matcher.old.tree printer.now.style printer.now.name.now
+        (last_line rest.now) tally.old tally.new (O.model out.old) (O.model out.new)) }
+    ensures prefix { OnErr result (TestsPrefixBy matcher.old.tree printer.now.style printer.now.name.now
+        (last_line rest.now) (tally.old.lines + 1) (O.model out.old) (O.model out.new)) }
     ensures same { matcher.new.tree ≡ matcher.old.tree }
     ensures failed { O.failed out.new ≡ count_after is_grep_failure result (O.failed out.old) }
     ensures work { steps.new + state_work * matcher.new.states

@@ -1,17 +1,15 @@
 // The state that a tool searches its inputs with.
-ghost use Rattle.std.specs.Prelude.{◌≡◌, ◌+◌, ℕ, Bool, List, [], ◌∷◌, IfOk, OnErr, option_map, map, string_bytes};
+ghost use Rattle.std.specs.Prelude.{◌≡◌, ◌+◌, [], ◌∷◌, IfOk, OnErr, map, string_bytes};
 ghost use Rattle.cs_args.specs.FileFaults.{fault_line_of};
 ghost use Rattle.cs_tree.specs.Failures.{count_if};
 ghost use Rattle.cs_tree.specs.Sinks.{CountsOne};
 ghost use Rattle.cs_tree.specs.ConsumesAtMost.{ConsumesAtMost};
 ghost use Rattle.cs_tree.specs.ReadCounts.{ReadsWithin};
-ghost use Rattle.cs_match.specs.Deciding.{Decides};
 ghost use Rattle.cs_tree.specs.WritesBytes.{WritesBytes};
 ghost use Rattle.cs_search.specs.InputReport.{max_searched};
-ghost use Rattle.cs_search.specs.Searcher.{Prints, PrintsPrefix, PrintsAllFaults};
+ghost use Rattle.cs_search.specs.Searcher.{input_shown, file_shown, files_shown, PrintsBy, PrintsPrefixBy, PrintsAllFaults};
 ghost use Rattle.cs_search.specs.Refusals.{has_write_failed};
 ghost use Rattle.cs_search.specs.GrepFaults.{IsSearchFault};
-ghost use Rattle.cs_search.specs.Printed.{input_printed, file_printed, all_printed};
 
 use crate::buffer::LineBuffer;
 use crate::grep_fault::ReadFault;
@@ -64,17 +62,10 @@ impl<'p> Searcher<'p> {
         out: &mut O,
         err: &mut E,
     ) -> Result<bool, ToolFault>
-        ensures prints { IfOk result (λ matched. (has_match : List ℕ → Bool) →
-            Decides has_match self.old.matcher.tree →
-            Prints (option_map
-            (input_printed max_searched self.old.tool self.old.style has_match name.now)
-            (R.model input.old))
-            (O.model out.old) (O.model out.new) (E.model err.old) (E.model err.new) matched) }
-        ensures prefix { OnErr result ((has_match : List ℕ → Bool) →
-            Decides has_match self.old.matcher.tree →
-            PrintsPrefix (option_map
-            (input_printed max_searched self.old.tool self.old.style has_match name.now)
-            (R.model input.old))
+        ensures prints { IfOk result (PrintsBy self.old (input_shown self.old name.now (R.model input.old))
+            (O.model out.old) (O.model out.new) (E.model err.old) (E.model err.new)) }
+        ensures prefix { OnErr result (PrintsPrefixBy self.old
+            (input_shown self.old name.now (R.model input.old))
             (O.model out.old) (O.model out.new) (E.model err.old) (E.model err.new)) }
         ensures loses { ConsumesAtMost (max_searched + 1) (R.model input.old) (R.model input.new) }
         ensures faults { PrintsAllFaults self.old.tool (name.now ∷ [])
@@ -111,17 +102,10 @@ impl<'p> Searcher<'p> {
         out: &mut O,
         err: &mut E,
     ) -> Result<bool, ToolFault>
-        ensures prints { IfOk result (λ matched. (has_match : List ℕ → Bool) →
-            Decides has_match self.old.matcher.tree →
-            Prints (option_map (λ tree.
-            file_printed max_searched self.old.tool self.old.style has_match tree name.now)
-            (T.snapshot tree.old))
-            (O.model out.old) (O.model out.new) (E.model err.old) (E.model err.new) matched) }
-        ensures prefix { OnErr result ((has_match : List ℕ → Bool) →
-            Decides has_match self.old.matcher.tree →
-            PrintsPrefix (option_map (λ tree.
-            file_printed max_searched self.old.tool self.old.style has_match tree name.now)
-            (T.snapshot tree.old))
+        ensures prints { IfOk result (PrintsBy self.old (file_shown self.old name.now (T.snapshot tree.old))
+            (O.model out.old) (O.model out.new) (E.model err.old) (E.model err.new)) }
+        ensures prefix { OnErr result (PrintsPrefixBy self.old
+            (file_shown self.old name.now (T.snapshot tree.old))
             (O.model out.old) (O.model out.new) (E.model err.old) (E.model err.new)) }
         ensures reads { ReadsWithin (max_searched + 1)
             (T.read_counts tree.old) (T.read_counts tree.new) }
@@ -151,19 +135,11 @@ impl<'p> Searcher<'p> {
         out: &mut O,
         err: &mut E,
     ) -> Result<bool, ToolFault>
-        ensures prints { IfOk result (λ matched. (has_match : List ℕ → Bool) →
-            Decides has_match self.old.matcher.tree →
-            Prints (option_map (λ tree. all_printed
-            (file_printed max_searched self.old.tool self.old.style has_match tree)
-            (map string_bytes names.now))
-            (T.snapshot tree.old))
-            (O.model out.old) (O.model out.new) (E.model err.old) (E.model err.new) matched) }
-        ensures prefix { OnErr result ((has_match : List ℕ → Bool) →
-            Decides has_match self.old.matcher.tree →
-            PrintsPrefix (option_map (λ tree. all_printed
-            (file_printed max_searched self.old.tool self.old.style has_match tree)
-            (map string_bytes names.now))
-            (T.snapshot tree.old))
+        ensures prints { IfOk result (PrintsBy self.old
+            (files_shown self.old (map string_bytes names.now) (T.snapshot tree.old))
+            (O.model out.old) (O.model out.new) (E.model err.old) (E.model err.new)) }
+        ensures prefix { OnErr result (PrintsPrefixBy self.old
+            (files_shown self.old (map string_bytes names.now) (T.snapshot tree.old))
             (O.model out.old) (O.model out.new) (E.model err.old) (E.model err.new)) }
         ensures reads { ReadsWithin (max_searched + 1)
             (T.read_counts tree.old) (T.read_counts tree.new) }

@@ -14,7 +14,7 @@ ghost use Rattle.cs_search.specs.CgrepFaults.{PatternFirst, PrintsFaultsOf};
 ghost use Rattle.cs_search.specs.Refusals.{IsAccepted, SilentOnError, has_write_failed};
 ghost use Rattle.cs_search.specs.GrepFaults.{IsSearchFault};
 ghost use Rattle.cs_search.specs.Programs.{IsProgramOf, RefusesPattern};
-ghost use Rattle.cs_search.specs.Searcher.{Prints, PrintsPrefix};
+ghost use Rattle.cs_search.specs.Searcher.{PrintsBy, PrintsPrefixBy};
 ghost use Rattle.cs_search.specs.Printed.{PrintsStatus, PrintsNothing, PrintsSome};
 
 use crate::searcher::Searcher;
@@ -121,15 +121,11 @@ fn search_job<T: Tree, R: Source, O: Sink, E: Sink>(
 ) -> Result<bool, ToolFault>
     requires tool { searcher.old.tool ≡ Tool.Cgrep }
     requires style { searcher.old.style ≡ job.now.style }
-    ensures prints { IfOk result (λ matched. (has_match : List ℕ → Bool) →
-        Decides has_match searcher.old.matcher.tree →
-        Prints (cgrep_printed max_searched job.now has_match (T.snapshot tree.old)
-        (R.model input.old))
-        (O.model out.old) (O.model out.new) (E.model err.old) (E.model err.new) matched) }
-    ensures prefix { OnErr result ((has_match : List ℕ → Bool) →
-        Decides has_match searcher.old.matcher.tree →
-        PrintsPrefix
-        (cgrep_printed max_searched job.now has_match (T.snapshot tree.old) (R.model input.old))
+    ensures prints { IfOk result (PrintsBy searcher.old (λ has_match.
+        cgrep_printed max_searched job.now has_match (T.snapshot tree.old) (R.model input.old))
+        (O.model out.old) (O.model out.new) (E.model err.old) (E.model err.new)) }
+    ensures prefix { OnErr result (PrintsPrefixBy searcher.old (λ has_match.
+        cgrep_printed max_searched job.now has_match (T.snapshot tree.old) (R.model input.old))
         (O.model out.old) (O.model out.new) (E.model err.old) (E.model err.new)) }
     ensures loses { ConsumesAtMost (max_searched + 1) (R.model input.old) (R.model input.new) }
     ensures reads { ReadsWithin (max_searched + 1)

@@ -7,7 +7,7 @@ ghost use Rattle.cs_tree.specs.Transfers.{is_io_failure};
 ghost use Rattle.cs_index.specs.OpenedParts.{Parts};
 ghost use Rattle.cs_index.specs.Stored.{StandsIn};
 ghost use Rattle.cs_search.specs.IndexSearch.{AreKept};
-ghost use Rattle.cs_search.specs.Selections.{HasRead, Selects};
+ghost use Rattle.cs_search.specs.Selections.{HasSelected, Selects};
 
 use crate::name_filter::NameFilter;
 use crate::plan::Plan;
@@ -83,8 +83,8 @@ impl<'p> Selection<'p> {
         id: u32,
     ) -> Result<Result<(), IndexFault>, IoFault>
         ensures read { (bytes : List ℕ) (parts : Parts) (ids : List ℕ) → S.model store.old ≡ Some bytes →
-            HasRead bytes parts ids self.old → id < length parts.names →
-            IfOk result (λ answer. IsOkAnd answer (λ _. HasRead bytes parts (ids ++ id ∷ []) self.new)) }
+            HasSelected bytes parts ids self.old → id < length parts.names →
+            IfOk result (λ answer. IsOkAnd answer (λ _. HasSelected bytes parts (ids ++ id ∷ []) self.new)) }
         ensures same { matcher_tree self.new.filter.matcher ≡ matcher_tree self.old.filter.matcher }
         ensures keeps { S.model store.new ≡ S.model store.old }
         ensures size { S.size store.new ≡ S.size store.old }

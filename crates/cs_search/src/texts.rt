@@ -1,12 +1,10 @@
 // Searches of texts in memory.
-ghost use Rattle.std.specs.Prelude.{◌≡◌, ◌≤◌, ◌<◌, ◌+◌, ◌*◌, ℕ, Bool, List, IfOk, OnErr};
+ghost use Rattle.std.specs.Prelude.{◌≡◌, ◌≤◌, ◌<◌, ◌+◌, ◌*◌, IfOk, OnErr};
 ghost use Rattle.cs_tree.specs.FailureCount.{count_after};
-ghost use Rattle.cs_tree.specs.TakesPrefix.{TakesPrefix};
-ghost use Rattle.cs_match.specs.Deciding.{Decides};
 ghost use Rattle.cs_match.specs.Work.{state_work};
 ghost use Rattle.cs_search.specs.Work.{input_work};
 ghost use Rattle.cs_search.specs.GrepFaults.{is_grep_failure};
-ghost use Rattle.cs_search.specs.GrepReports.{IsReported};
+ghost use Rattle.cs_search.specs.GrepReports.{IsReportedBy, TakesPrefixBy};
 ghost use Rattle.cs_search.specs.InputReport.{text_report};
 
 use crate::grep_fault::GrepFault;
@@ -27,13 +25,11 @@ pub fn grep_text<O: Sink>(
     matcher: &mut Matcher<'_>,
     out: &mut O,
 ) -> Result<Grepped, GrepFault>
-    ensures report { IfOk result (λ answer. (has_match : List ℕ → Bool) →
-        Decides has_match matcher.old.tree →
-        IsReported (text_report printer.now.style printer.now.name.now has_match text.now)
-        (O.model out.old) (O.model out.new) answer) }
-    ensures prefix { OnErr result ((has_match : List ℕ → Bool) →
-        Decides has_match matcher.old.tree →
-        TakesPrefix (text_report printer.now.style printer.now.name.now has_match text.now).output
+    ensures report { IfOk result (IsReportedBy matcher.old.tree
+        (λ has_match. text_report printer.now.style printer.now.name.now has_match text.now)
+        (O.model out.old) (O.model out.new)) }
+    ensures prefix { OnErr result (TakesPrefixBy matcher.old.tree
+        (λ has_match. text_report printer.now.style printer.now.name.now has_match text.now)
         (O.model out.old) (O.model out.new)) }
     ensures failed { O.failed out.new ≡ count_after is_grep_failure result (O.failed out.old) }
     ensures same { matcher.new.tree ≡ matcher.old.tree }
@@ -49,13 +45,11 @@ pub fn grep_text_counted<O: Sink, L: Ledger>(
     out: &mut O,
     steps: &mut Steps<L>,
 ) -> Result<Grepped, GrepFault>
-    ensures report { IfOk result (λ answer. (has_match : List ℕ → Bool) →
-        Decides has_match matcher.old.tree →
-        IsReported (text_report printer.now.style printer.now.name.now has_match text.now)
-        (O.model out.old) (O.model out.new) answer) }
-    ensures prefix { OnErr result ((has_match : List ℕ → Bool) →
-        Decides has_match matcher.old.tree →
-        TakesPrefix (text_report printer.now.style printer.now.name.now has_match text.now).output
+    ensures report { IfOk result (IsReportedBy matcher.old.tree
+        (λ has_match. text_report printer.now.style printer.now.name.now has_match text.now)
+        (O.model out.old) (O.model out.new)) }
+    ensures prefix { OnErr result (TakesPrefixBy matcher.old.tree
+        (λ has_match. text_report printer.now.style printer.now.name.now has_match text.now)
         (O.model out.old) (O.model out.new)) }
     ensures failed { O.failed out.new ≡ count_after is_grep_failure result (O.failed out.old) }
     ensures same { matcher.new.tree ≡ matcher.old.tree }
@@ -90,13 +84,11 @@ fn grep_text_from_blank<O: Sink, L: Ledger>(
     requires name { blank.name ≡ L.name }
     requires parts { blank.parts ≡ L.parts }
     requires some { 0 < blank.parts }
-    ensures report { IfOk result (λ answer. (has_match : List ℕ → Bool) →
-        Decides has_match matcher.old.tree →
-        IsReported (text_report printer.now.style printer.now.name.now has_match text.now)
-        (O.model out.old) (O.model out.new) answer) }
-    ensures prefix { OnErr result ((has_match : List ℕ → Bool) →
-        Decides has_match matcher.old.tree →
-        TakesPrefix (text_report printer.now.style printer.now.name.now has_match text.now).output
+    ensures report { IfOk result (IsReportedBy matcher.old.tree
+        (λ has_match. text_report printer.now.style printer.now.name.now has_match text.now)
+        (O.model out.old) (O.model out.new)) }
+    ensures prefix { OnErr result (TakesPrefixBy matcher.old.tree
+        (λ has_match. text_report printer.now.style printer.now.name.now has_match text.now)
         (O.model out.old) (O.model out.new)) }
     ensures failed { O.failed out.new ≡ count_after is_grep_failure result (O.failed out.old) }
     ensures same { matcher.new.tree ≡ matcher.old.tree }

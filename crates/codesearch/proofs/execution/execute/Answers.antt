@@ -12,9 +12,14 @@ returns-then-eq-clause-executes g c =
     let call = c.args.call.now in
     let world = c.args.world.now in
     let grep : call.tool ≡ Cgrep = search rules in
-    let old = surroundings g.T.Tree.snapshot g.T.Tree.failed g.R.Source.model g.R.Source.failed g.O.Sink.model g.O.Sink.failed g.E.Sink.model g.E.Sink.failed world in
-    let new = surroundings g.T.Tree.snapshot g.T.Tree.failed g.R.Source.model g.R.Source.failed g.O.Sink.model g.O.Sink.failed g.E.Sink.model g.E.Sink.failed c.run_over.new.world in
-    executes_grep g.F.Index.Store.model call (record world.file { index = None }) c.run_over.ensures.runs.0 (g.F.IndexFolder.model c.args.folder.now) (g.F.IndexFolder.model c.run_over.new.folder) old new c.run_over.result c.requires.call grep refl (c.run_over.ensures.unclaimed (grep_keeps call c.requires.call grep)) c.run_over.ensures.fills c.run_over.ensures.runs.1
+    let old = surroundings g.T.Tree.snapshot g.T.Tree.failed g.R.Source.model g.R.Source.failed g.O.Sink.model
+    g.O.Sink.failed g.E.Sink.model g.E.Sink.failed world in
+    let new = surroundings g.T.Tree.snapshot g.T.Tree.failed g.R.Source.model g.R.Source.failed g.O.Sink.model
+    g.O.Sink.failed g.E.Sink.model g.E.Sink.failed c.run_over.new.world in
+    executes_grep g.F.Index.Store.model call (record world.file { index = None }) c.run_over.ensures.runs.0
+    (g.F.IndexFolder.model c.args.folder.now) (g.F.IndexFolder.model c.run_over.new.folder) old new c.run_over.result
+    c.requires.call grep refl (c.run_over.ensures.unclaimed (grep_keeps call c.requires.call grep))
+    c.run_over.ensures.fills c.run_over.ensures.runs.1
 
 pub returns-then-eq-clause-kept : goal.returns-then-eq-clause-kept
 returns-then-eq-clause-kept g c = λ failed. filled_leaves _ _ c.run_over.ensures.fills
@@ -24,15 +29,25 @@ returns-in-Ok-clause-executes g c =
     let call = c.args.call.now in
     let world = c.args.world.now in
     let other : call.tool ≢ Cgrep = search rules in
-    let old = surroundings g.T.Tree.snapshot g.T.Tree.failed g.R.Source.model g.R.Source.failed g.O.Sink.model g.O.Sink.failed g.E.Sink.model g.E.Sink.failed world in
-    let new = surroundings g.T.Tree.snapshot g.T.Tree.failed g.R.Source.model g.R.Source.failed g.O.Sink.model g.O.Sink.failed g.E.Sink.model g.E.Sink.failed c.execute_opened.new.world in
-    let looks = subst (λ looked. Moves (Looks g.F.Index.Store.model looked) (g.F.IndexFolder.model c.args.folder.now) (g.F.IndexFolder.model c.look.new.self)) c.in-Ok.is c.look.ensures in
-    executes g.F.Index.Store.model c.in-Ok.index call world.file.name.now world.file.temp.now (g.F.IndexFolder.model c.args.folder.now) (g.F.IndexFolder.model c.look.new.self) (g.F.IndexFolder.model c.execute_opened.new.folder) old new c.execute_opened.result other looks c.execute_opened.ensures.executes
+    let old = surroundings g.T.Tree.snapshot g.T.Tree.failed g.R.Source.model g.R.Source.failed g.O.Sink.model
+    g.O.Sink.failed g.E.Sink.model g.E.Sink.failed world in
+    let new = surroundings g.T.Tree.snapshot g.T.Tree.failed g.R.Source.model g.R.Source.failed g.O.Sink.model
+    g.O.Sink.failed g.E.Sink.model g.E.Sink.failed c.execute_opened.new.world in
+    let looks = subst (λ looked. Moves (Looks g.F.Index.Store.model looked) (g.F.IndexFolder.model c.args.folder.now)
+    (g.F.IndexFolder.model c.look.new.self)) c.in-Ok.is c.look.ensures in
+    executes g.F.Index.Store.model c.in-Ok.index call world.file.name.now world.file.temp.now
+    (g.F.IndexFolder.model c.args.folder.now) (g.F.IndexFolder.model c.look.new.self)
+    (g.F.IndexFolder.model c.execute_opened.new.folder) old new c.execute_opened.result other looks
+    c.execute_opened.ensures.executes
 
 pub returns-in-Err-clause-executes : goal.returns-in-Err-clause-executes
 returns-in-Err-clause-executes g c =
     let call = c.args.call.now in
     let world = c.args.world.now in
-    let around = surroundings g.T.Tree.snapshot g.T.Tree.failed g.R.Source.model g.R.Source.failed g.O.Sink.model g.O.Sink.failed g.E.Sink.model g.E.Sink.failed world in
-    let looks = subst (λ looked. Moves (Looks g.F.Index.Store.model looked) (g.F.IndexFolder.model c.args.folder.now) (g.F.IndexFolder.model c.look.new.self)) c.in-Err.is c.look.ensures in
-    executes_unread g.F.Index.Store.model c.in-Err.fault call world.file.name.now world.file.temp.now (g.F.IndexFolder.model c.args.folder.now) (g.F.IndexFolder.model c.look.new.self) around around (Refused c.of_reading.result) c.requires.call looks c.of_reading.ensures refl (untouched around)
+    let around = surroundings g.T.Tree.snapshot g.T.Tree.failed g.R.Source.model g.R.Source.failed g.O.Sink.model
+    g.O.Sink.failed g.E.Sink.model g.E.Sink.failed world in
+    let looks = subst (λ looked. Moves (Looks g.F.Index.Store.model looked) (g.F.IndexFolder.model c.args.folder.now)
+    (g.F.IndexFolder.model c.look.new.self)) c.in-Err.is c.look.ensures in
+    executes_unread g.F.Index.Store.model c.in-Err.fault call world.file.name.now world.file.temp.now
+    (g.F.IndexFolder.model c.args.folder.now) (g.F.IndexFolder.model c.look.new.self) around around
+    (Refused c.of_reading.result) c.requires.call looks c.of_reading.ensures refl (untouched around)

@@ -15,5 +15,6 @@ returns-in_ok-answer-in-Some-clause-does g c = λ index is.
     let same = subst (λ model. IsSomeAnd model (λ bytes. index ≡ Some bytes)) (sym c.open.ensures.keeps) known in
     let old = search_outputs g.O.Sink.model g.E.Sink.model world.out world.err in
     let new = search_outputs g.O.Sink.model g.E.Sink.model c.csearch_stored.new.out c.csearch_stored.new.err in
-    let searches = of_known _ index (λ bytes. IsSearch c.args.job.now bytes (g.T.Tree.snapshot world.tree) (g.T.Tree.failed world.tree) (g.T.Tree.failed c.csearch_stored.new.tree) old new answer) same ran.searches in
+    let searches = of_known _ index (λ bytes. IsSearch c.args.job.now bytes (g.T.Tree.snapshot world.tree)
+    (g.T.Tree.failed world.tree) (g.T.Tree.failed c.csearch_stored.new.tree) old new answer) same ran.searches in
     (answer, c.searched.ensures, (refl, refl), ran.writes, searches)

@@ -15,5 +15,8 @@ returns-in-Builder c =
     let new : Held = Builder c.add_code.new.held in
     let code = c.add_code.result in
     let shown = to_z-of_z w32 code (record { sfits = c.add_code.type_inv }) in
-    let added = subst (λ (n : ℤ). IsAddition name text c.in-Builder.builder.builder c.add_code.new.held.builder n) (sym shown) c.add_code.ensures in
-    subst (λ (held : Held). OnBuilder (Some held) (IsMisuse (Some held) (Some new) (to_z w32 (of_z w32 code))) (λ old. OnBuilder (Some new) (false ≡ true) (λ built. IsAddition name text old built (to_z w32 (of_z w32 code))))) (sym c.in-Builder.is) added
+    let added = subst (λ (n : ℤ). IsAddition name text c.in-Builder.builder.builder c.add_code.new.held.builder n)
+    (sym shown) c.add_code.ensures in
+    subst (λ (held : Held). OnBuilder (Some held) (IsMisuse (Some held) (Some new) (to_z w32 (of_z w32 code)))
+    (λ old. OnBuilder (Some new) (false ≡ true) (λ built. IsAddition name text old built (to_z w32 (of_z w32 code)))))
+    (sym c.in-Builder.is) added

@@ -9,7 +9,14 @@ use Rattle.codesearch_c.proofs.lines.count_lines.Goals as goal
 pub overflow_add-result : goal.overflow_add-result
 overflow_add-result c =
     let text = take c.whole_lines_len-whole.result c.args.block.now in
-    omega (arith, c.count-count.ensures.bound, lines_within text, length-take c.whole_lines_len-whole.result c.args.block.now, c.in-Some.ensures.last.0)
+    omega (
+      arith,
+      c.count-count.ensures.bound,
+      lines_within text,
+      length-take c.whole_lines_len-whole.result
+          c.args.block.now,
+      c.in-Some.ensures.last.0,
+    )
 
 pub returns-in-Some-clause-found : goal.returns-in-Some-clause-found
 returns-in-Some-clause-found c = λ has_match decides.
@@ -18,13 +25,31 @@ returns-in-Some-clause-found c = λ has_match decides.
     let e = c.in-Some.ensures in
     let end = c.in-Some.field-0.end in
     let here = e.found has_match (subst (Decides has_match) (sym c.count-count.ensures.same) decides) in
-    let one : length (matching_lines has_match block whole) ≡ 1 + length (matching_lines has_match block (end + 1)) = ap (λ (ls : List Line). length ls) here ∙ omega arith in
-    let none : length (matching_lines has_match block (end + 1)) ≡ 0 = ap (λ (ls : List Line). length ls) (none_beyond has_match block (end + 1) (omega (arith, e.last.1))) in
-    omega (arith, c.count-count.ensures.found has_match decides, count_split has_match block whole c.whole_lines_len-whole.ensures.whole, count_is has_match block whole, one, none)
+    let one : length (matching_lines has_match block whole) ≡ 1 + length (matching_lines has_match block (end + 1)) =
+    ap (λ (ls : List Line). length ls) here ∙ omega arith in
+    let none : length (matching_lines has_match block (end + 1)) ≡ 0 = ap (λ (ls : List Line). length ls)
+    (none_beyond has_match block (end + 1) (omega (arith, e.last.1))) in
+    omega (
+      arith,
+      c.count-count.ensures.found has_match decides,
+      count_split has_match block whole
+          c.whole_lines_len-whole.ensures.whole,
+      count_is has_match block whole,
+      one,
+      none,
+    )
 
 pub returns-in-None-clause-found : goal.returns-in-None-clause-found
 returns-in-None-clause-found c = λ has_match decides.
     let block = c.args.block.now in
     let whole = c.whole_lines_len-whole.result in
-    let none : length (matching_lines has_match block whole) ≡ 0 = ap (λ (ls : List Line). length ls) (c.in-None.ensures.found has_match (subst (Decides has_match) (sym c.count-count.ensures.same) decides)) in
-    omega (arith, c.count-count.ensures.found has_match decides, count_split has_match block whole c.whole_lines_len-whole.ensures.whole, count_is has_match block whole, none)
+    let none : length (matching_lines has_match block whole) ≡ 0 = ap (λ (ls : List Line). length ls)
+    (c.in-None.ensures.found has_match (subst (Decides has_match) (sym c.count-count.ensures.same) decides)) in
+    omega (
+      arith,
+      c.count-count.ensures.found has_match decides,
+      count_split has_match block whole
+          c.whole_lines_len-whole.ensures.whole,
+      count_is has_match block whole,
+      none,
+    )

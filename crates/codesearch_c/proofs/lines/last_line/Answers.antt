@@ -19,4 +19,6 @@ returns-else-is_match-clause-found c = λ has_match decides.
     let block = c.args.block.now in
     let line = drop c.args.from block in
     last_none has_match block c.args.from (omega arith) c.requires.part
-    (not_passed (has_match line) (λ found. false≢true (c.if-is_match.ensures.found.1 (subst (HasMatch c.args.matcher.now.tree) (sym (take_rest block c.args.from)) ((decides line).0 found)))))
+    (not_passed (has_match line) (λ found. false≢true
+    (c.if-is_match.ensures.found.1 (subst (HasMatch c.args.matcher.now.tree) (sym (take_rest block c.args.from))
+    ((decides line).0 found)))))

@@ -9,4 +9,6 @@ returns-in_default-clause-refused c = foreign refl refl c.in_default.ensures.cas
 
 pub returns-in-Err-clause-refused : goal.returns-in-Err-clause-refused
 returns-in-Err-clause-refused c =
-    rejected c.in-Err.error (subst (λ (t : List ℕ). IsParseError t c.args.fold c.in-Err.error) c.in-Ok.ensures.cases.0 c.in-Err.ensures.rejected) (to_z-of_z w32 c.pattern_code.result (record { sfits = c.pattern_code.type_inv }) ∙ c.pattern_code.ensures) refl
+    rejected c.in-Err.error (subst (λ (t : List ℕ). IsParseError t c.args.fold c.in-Err.error) c.in-Ok.ensures.cases.0
+    c.in-Err.ensures.rejected) (to_z-of_z w32 c.pattern_code.result (record { sfits = c.pattern_code.type_inv })
+    ∙ c.pattern_code.ensures) refl

@@ -5,7 +5,6 @@ use Rattle.cs_tree.specs.StreamModels.{ends, fails}
 use Rattle.std.proofs.lemmas.Grind.{common_steps}
 use Rattle.cs_search.specs.declared.grep_fault.ReadFault.TheVariants.{Read}
 use Rattle.cs_search.specs.declared.stop.Stop.TheVariants.{End, Faulted}
-use Rattle.cs_tree.proofs.ConsumesLemmas.{Consumes_few}
 use Rattle.cs_match.specs.Lines.{terminated_lines}
 use Rattle.cs_match.specs.NoNewline.{HasNoNewline}
 use Rattle.cs_match.specs.LastPart.{last_part}
@@ -18,7 +17,7 @@ use Rattle.cs_search.specs.SearchedWork.{HasSearched}
 use Rattle.cs_search.proofs.InputWorkLemmas.{Consumes-none, block_bound, unless_err, searched_on, searched_last, stops_at}
 use Rattle.cs_search.proofs.BufferLemmas.{GrowsBy-split, GrowsBy-size}
 use Rattle.cs_search.proofs.LineTestLemmas.{Tests-none, Tests-more}
-use Rattle.cs_search.proofs.ProgressLemmas.{HasReadInput-none, HasTested-none, HasReadInput-more, HasTested-more, TestsInput-empty, TestsInput-listed, TestsInput-past, Stops-past, Consumes-read, ConsumesAtMost-more}
+use Rattle.cs_search.proofs.ProgressLemmas.{HasReadInput-none, HasTested-none, HasReadInput-more, HasTested-more, TestsInput-empty, TestsInput-listed, TestsInput-past, Stops-past}
 use Rattle.cs_index.proofs.common.ResultClauses.{any_err}
 use Rattle.cs_search.proofs.PrintedPrefixLemmas.{TestsInputPrefix-tested, TestsInputPrefix-piece}
 use Rattle.cs_search.proofs.input.search_input.Goals as goal
@@ -83,12 +82,6 @@ returns-in_err-stop-clause-prefix g c =
     let i = c.pieces.invariant in
     TestsInputPrefix-tested _ _ has_match _ c.pieces.tally _ _ _ (g.R.Source.model c.args.input.now) (c.args.limit - c.pieces.left) (omega arith) i.unlisted (i.tested has_match decides))
 
-pub returns-in_err-start-clause-loses : goal.returns-in_err-start-clause-loses
-returns-in_err-start-clause-loses g c =
-    let i = c.pieces.invariant in
-    let e = c.in-Ok.ensures in
-    ConsumesAtMost-more _ (g.R.Source.model c.pieces.input) _ (c.args.limit - c.pieces.left) c.in-Ok.n _ (Consumes-read c.args.printer.now.style _ _ _ _ _ i.read) (Consumes_few _ _ _ c.in-Ok.n e.model.0 (omega (arith, GrowsBy-size _ _ _ e.gains))) (omega (arith, e.within, i.bound))
-
 pub returns-in_default-clause-tests : goal.returns-in_default-clause-tests
 returns-in_default-clause-tests g c = λ has_match decides.
     let i = c.pieces.invariant in
@@ -101,12 +94,6 @@ returns-in_default-clause-tests g c = λ has_match decides.
     let is_listed = rw c.in_default.is at (s.tests has_match (subst (Decides has_match) (sym i.same) decides)) in
     TestsInput-listed _ _ has_match _ _ _ _ _ (g.R.Source.model c.args.input.now) (g.R.Source.model c.pieces.input) (g.R.Source.model c.fill.new.input) (c.args.limit - c.pieces.left) old piece c.pieces.tally.lines c.pieces.tally (g.O.Sink.model c.pieces.out) (omega (arith, e.within, i.bound, size)) i.read e.model.0 (i.unlisted is_listed.listed) (i.tested has_match decides)
     (subst (λ b. IsListed c.args.printer.now.style c.args.printer.now.name.now has_match (terminated_lines b) (c.pieces.tally.lines + 1) c.search_block.new.tally (g.O.Sink.model c.pieces.out) (g.O.Sink.model c.search_block.new.out)) block is_listed)
-
-pub returns-in_default-clause-loses : goal.returns-in_default-clause-loses
-returns-in_default-clause-loses g c =
-    let i = c.pieces.invariant in
-    let e = c.in-Ok.ensures in
-    ConsumesAtMost-more _ (g.R.Source.model c.pieces.input) _ (c.args.limit - c.pieces.left) c.in-Ok.n _ (Consumes-read c.args.printer.now.style _ _ _ _ _ i.read) (Consumes_few _ _ _ c.in-Ok.n e.model.0 (omega (arith, GrowsBy-size _ _ _ e.gains))) (omega (arith, e.within, i.bound))
 
 pub pieces-preserved : goal.pieces-preserved
 pieces-preserved g c =
@@ -152,16 +139,6 @@ pub returns-clause-tests : goal.returns-clause-tests
 returns-clause-tests g c = λ has_match decides.
     let i = c.pieces.invariant in
     TestsInput-past _ _ has_match _ _ _ _ _ c.in_ok-stop.stop _ (g.R.Source.model c.pieces.input) (c.args.limit - c.pieces.left) _ _ (omega (arith, c.pieces-test.false)) i.read c.in_ok-stop.ensures.stop (i.tested has_match decides)
-
-pub returns-clause-loses : goal.returns-clause-loses
-returns-clause-loses g c =
-    let i = c.pieces.invariant in
-    ConsumesAtMost-more _ (g.R.Source.model c.pieces.input) _ (c.args.limit - c.pieces.left) 1 _ (Consumes-read c.args.printer.now.style _ _ _ _ _ i.read) c.probe_end.ensures.loses (omega arith)
-
-pub returns-in_err-stop-clause-loses : goal.returns-in_err-stop-clause-loses
-returns-in_err-stop-clause-loses g c =
-    let i = c.pieces.invariant in
-    ConsumesAtMost-more _ (g.R.Source.model c.pieces.input) _ (c.args.limit - c.pieces.left) 1 _ (Consumes-read c.args.printer.now.style _ _ _ _ _ i.read) c.probe_end.ensures.loses (omega arith)
 
 pub returns-in-Err-Failed-clause-stops : goal.returns-in-Err-Failed-clause-stops
 returns-in-Err-Failed-clause-stops g c = grind (arith, common_steps)

@@ -1,7 +1,7 @@
 use Rattle.std.proofs.Common.{◌+◌, ◌*◌, sym, subst, arith}
 use Rattle.cs_match.specs.Work.{state_work}
 use Rattle.cs_search.specs.Buffer.{pending_bytes}
-use Rattle.cs_search.proofs.InputWorkLemmas.{ended_input, rest_input}
+use Rattle.cs_search.proofs.InputWorkLemmas.{ended_input, rest_input, steps_lose}
 use Rattle.cs_match.specs.Deciding.{Decides}
 use Rattle.cs_search.specs.declared.stop.Stop.TheVariants.{End}
 use Rattle.cs_search.specs.Progress.{Stops}
@@ -90,3 +90,21 @@ pub returns-in_err-print_total-in-End-clause-work : goal.returns-in_err-print_to
 returns-in_err-print_total-in-End-clause-work g c =
     let s = rw c.in-End.is at c.in_ok-search_input.ensures in
     rest_input c.args.matcher.now.tree c.args.printer.now.name.now (c.args.limit + 1) (g.R.Source.model c.args.input.now) (g.R.Source.model c.search_input.new.input) (c.args.steps.now + state_work * c.args.matcher.now.states) (pending_bytes c.search_input.new.buffer) c.pending.result.now c.search_input.new.matcher.tree (c.search_input.new.steps + state_work * c.search_input.new.matcher.states) (c.print_total.new.steps + state_work * c.search_rest.new.matcher.states) s.work s.same c.pending.ensures (omega (arith, c.search_rest.ensures.work, c.print_total.ensures.work))
+
+pub returns-in-Listed-clause-loses : goal.returns-in-Listed-clause-loses
+returns-in-Listed-clause-loses g c = steps_lose c.search_input.ensures.work.steps
+
+pub returns-in-Faulted-clause-loses : goal.returns-in-Faulted-clause-loses
+returns-in-Faulted-clause-loses g c = steps_lose c.search_input.ensures.work.steps
+
+pub returns-in_err-search_input-clause-loses : goal.returns-in_err-search_input-clause-loses
+returns-in_err-search_input-clause-loses g c = steps_lose c.search_input.ensures.work.steps
+
+pub returns-in_ok-print_total-in-End-clause-loses : goal.returns-in_ok-print_total-in-End-clause-loses
+returns-in_ok-print_total-in-End-clause-loses g c = steps_lose c.search_input.ensures.work.steps
+
+pub returns-in_err-search_rest-in-End-clause-loses : goal.returns-in_err-search_rest-in-End-clause-loses
+returns-in_err-search_rest-in-End-clause-loses g c = steps_lose c.search_input.ensures.work.steps
+
+pub returns-in_err-print_total-in-End-clause-loses : goal.returns-in_err-print_total-in-End-clause-loses
+returns-in_err-print_total-in-End-clause-loses g c = steps_lose c.search_input.ensures.work.steps

@@ -4,7 +4,7 @@ use Rattle.std.proofs.lemmas.List.{take_all, take_more}
 use Rattle.std.proofs.lemmas.List.Elements.{All-get_or}
 use Rattle.cs_index.specs.declared.fault.IndexFault.{IndexFault}
 use Rattle.cs_search.specs.IndexSearch.{AreKept, matcher_tree}
-use Rattle.cs_search.specs.Selections.{HasRead}
+use Rattle.cs_search.specs.Selections.{HasSelected}
 use Rattle.cs_search.proofs.SelectionLemmas.{kept_none}
 use Rattle.cs_search.proofs.selection.kept_names.Goals as goal
 
@@ -29,8 +29,8 @@ ids-preserved g c =
     record {
       read = λ bytes parts modelled stands below.
           let read = e.read bytes parts (take at ids) (i.keeps ∙ modelled) (i.read bytes parts modelled stands below) (All-get_or (λ id. id < length parts.names) ids at 0 c.ids-test.true below) in
-          subst (λ (done : List ℕ). HasRead bytes parts done c.read.new.self) (sym (take_more ids at 0 c.ids-test.true))
-          (subst (λ (answer : Result (Unit {0}) IndexFault). IsOkAnd answer (λ _. HasRead bytes parts (take at ids ++ get_or ids at 0 ∷ []) c.read.new.self)) c.in_default.is read);
+          subst (λ (done : List ℕ). HasSelected bytes parts done c.read.new.self) (sym (take_more ids at 0 c.ids-test.true))
+          (subst (λ (answer : Result (Unit {0}) IndexFault). IsOkAnd answer (λ _. HasSelected bytes parts (take at ids ++ get_or ids at 0 ∷ []) c.read.new.self)) c.in_default.is read);
       same = e.same ∙ i.same;
       keeps = e.keeps ∙ i.keeps;
       size = e.size ∙ i.size;
@@ -44,7 +44,7 @@ returns-in-Err-clause-kept g c = λ bytes parts modelled stands below.
     let ids = c.args.ids.now in
     let at = c.ids.id-index in
     let read = c.in_ok-fault.ensures.read bytes parts (take at ids) (i.keeps ∙ modelled) (i.read bytes parts modelled stands below) (All-get_or (λ id. id < length parts.names) ids at 0 c.ids-test.true below) in
-    subst (λ (answer : Result (Unit {0}) IndexFault). IsOkAnd answer (λ _. HasRead bytes parts (take at ids ++ get_or ids at 0 ∷ []) c.read.new.self)) c.in-Err.is read
+    subst (λ (answer : Result (Unit {0}) IndexFault). IsOkAnd answer (λ _. HasSelected bytes parts (take at ids ++ get_or ids at 0 ∷ []) c.read.new.self)) c.in-Err.is read
 
 -- all ids were read
 pub returns-clause-kept : goal.returns-clause-kept

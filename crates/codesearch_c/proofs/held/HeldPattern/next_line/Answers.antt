@@ -4,9 +4,15 @@ use Rattle.codesearch_c.proofs.MatchingLineLemmas.{decides_program}
 use Rattle.codesearch_c.proofs.held.HeldPattern.next_line.Goals as goal
 
 pub invariant_of-self-2 : goal.invariant_of-self-2
-invariant_of-self-2 c =
-    (c.self.invariant.0, c.self.invariant.1, λ program same. c.into_cache.ensures program (same ∙ sym (c.first_line-found.ensures.same ∙ c.resume-matcher.ensures.tree)))
+invariant_of-self-2 c = (
+  c.self.invariant.0,
+  c.self.invariant.1,
+  λ program same. c.into_cache.ensures program
+      (same ∙ sym (c.first_line-found.ensures.same ∙ c.resume-matcher.ensures.tree)),
+)
 
 pub returns-clause-found : goal.returns-clause-found
 returns-clause-found c = λ has_match decides.
-    c.first_line-found.ensures.found has_match (decides_program has_match _ _ _ _ c.resume-matcher.ensures.tree c.self.invariant.0 (ap (λ (p : Compiled). p.pattern) c.self.view_is) decides)
+    c.first_line-found.ensures.found has_match
+    (decides_program has_match _ _ _ _ c.resume-matcher.ensures.tree c.self.invariant.0
+    (ap (λ (p : Compiled). p.pattern) c.self.view_is) decides)

@@ -25,7 +25,8 @@ one_file : encoding_of (codes "/a" ∷ []) ((codes "/a/x", 0x616263 ∷ 0x626364
     ∷ 0x61 ∷ 0x62 ∷ 0x63 ∷ 0x00 ∷ 0x00 ∷ 0x00 ∷ 0x01 ∷ 0x00 ∷ 0x00 ∷ 0x00 ∷ 0x00
     ∷ 0x62 ∷ 0x63 ∷ 0x64 ∷ 0x00 ∷ 0x00 ∷ 0x00 ∷ 0x01 ∷ 0x00 ∷ 0x00 ∷ 0x00 ∷ 0x05
     ∷ 0x63 ∷ 0x64 ∷ 0x0a ∷ 0x00 ∷ 0x00 ∷ 0x00 ∷ 0x01 ∷ 0x00 ∷ 0x00 ∷ 0x00 ∷ 0x0a
-    ∷ 0x00 ∷ 0x00 ∷ 0x00 ∷ 0x10 ∷ 0x00 ∷ 0x00 ∷ 0x00 ∷ 0x14 ∷ 0x00 ∷ 0x00 ∷ 0x00 ∷ 0x1a ∷ 0x00 ∷ 0x00 ∷ 0x00 ∷ 0x2d ∷ 0x00 ∷ 0x00 ∷ 0x00 ∷ 0x35
+    ∷ 0x00 ∷ 0x00 ∷ 0x00 ∷ 0x10 ∷ 0x00 ∷ 0x00 ∷ 0x00 ∷ 0x14 ∷ 0x00 ∷ 0x00 ∷ 0x00 ∷ 0x1a ∷ 0x00 ∷ 0x00 ∷ 0x00 ∷ 0x2d
+    ∷ 0x00 ∷ 0x00 ∷ 0x00 ∷ 0x35
     ∷ 10 ∷ codes "csearch trailr" ++ 10 ∷ []
 unfolding varint
 one_file = refl
@@ -46,7 +47,8 @@ unfolding varint
 two_bytes = refl
 
 -- two names with two trigrams each, below `/a/b` and `/a/bc`
-two_names : length (encoding_of (codes "/a/b" ∷ codes "/a/bc" ∷ []) ((codes "/a/b/f", 0x69780a ∷ 0x736978 ∷ []) ∷ (codes "/a/bc/y", 0x74776f ∷ 0x776f0a ∷ []) ∷ [])) ≡ 160
+two_names : length (encoding_of (codes "/a/b" ∷ codes "/a/bc" ∷ [])
+    ((codes "/a/b/f", 0x69780a ∷ 0x736978 ∷ []) ∷ (codes "/a/bc/y", 0x74776f ∷ 0x776f0a ∷ []) ∷ [])) ≡ 160
 unfolding varint
 two_names = refl
 
@@ -59,7 +61,8 @@ short_files = refl
 whole_list : whole_ids (read_list (codes "abc" ++ 1 ∷ 0 ∷ []) 1 (record { trigram = 0x616263; count = 1; offset = 0 })) ≡ 0 ∷ []
 whole_list = refl
 
-damaged_list : read_list (codes "abc" ++ 1 ∷ 0 ∷ []) 1 (record { trigram = 0x616263; count = 2; offset = 0 }) ≡ record { ids = 0 ∷ []; whole = false }
+damaged_list : read_list (codes "abc" ++ 1 ∷ 0 ∷ []) 1 (record { trigram = 0x616263; count = 2; offset = 0 })
+    ≡ record { ids = 0 ∷ []; whole = false }
 damaged_list = refl
 
 no_list : whole_ids (read_list (codes "abc" ++ 1 ∷ 0 ∷ []) 1 (record { trigram = 0x616263; count = 2; offset = 0 })) ≡ []

@@ -27,4 +27,5 @@ list_of buffer tables (Some e) = list_in buffer.bytes (length tables.names) e
 
 -- the buffer has the whole list of the entry at this position, if there is one
 abbrev pub HasList : BufferState → Parts → ℕ → Type 0
-HasList buffer parts position = (e : ListEntry) → slice_get parts.entries position ≡ Some e → list_in buffer.bytes (length parts.names) e ≡ ids_read parts e
+HasList buffer parts position = (e : ListEntry) → slice_get parts.entries position ≡ Some e →
+    list_in buffer.bytes (length parts.names) e ≡ ids_read parts e

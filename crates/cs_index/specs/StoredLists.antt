@@ -41,16 +41,7 @@ IsReady bytes list =
 
 -- the same list with another piece
 abbrev pub with_piece : ListState → List ℕ → ListState
-with_piece list piece = record {
-  piece = piece;
-  at = list.at;
-  stop = list.stop;
-  left = list.left;
-  next = list.next;
-  name_count = list.name_count;
-  has_ended = list.has_ended;
-  is_whole = list.is_whole;
-}
+with_piece list piece = record list { piece = piece }
 
 -- The next id is less than `end` and is taken from the list, or there is none and the list has the same ids as before.
 abbrev pub GivesBelow : List ℕ → ℕ → ListState → ListState → Option ℕ → Type 0
@@ -61,7 +52,8 @@ GivesBelow bytes end list rest None =
 -- ids less than `end` are taken from the list
 abbrev pub SkipsBelow : List ℕ → ℕ → ListState → ListState → Type 0
 SkipsBelow bytes end list rest =
-    Holds bytes rest × (skipped : List ℕ) × (ids_left bytes list ≡ before skipped (ids_left bytes rest)) × AllByRecursion (λ id. id < end) skipped
+    Holds bytes rest × (skipped : List ℕ) × (ids_left bytes list ≡ before skipped (ids_left bytes rest)) ×
+    AllByRecursion (λ id. id < end) skipped
 
 -- The offsets, the ids and the piece of a list are within their bounds.
 pub record IsListState (piece : Vec ℕ Global) (used start stop size next name_count : ℕ) : Type 0 where

@@ -29,7 +29,8 @@ pub record AreTrailerOffsets (trailer : List ℕ) (at : ℕ) (s : SectionOffsets
 -- The section offsets of the trailer are not ascending.
 pub record AreDisorderedOffsets (trailer : List ℕ) (at : ℕ) (fault : IndexFault) : Type 0 where
   pub is : fault ≡ BadOffsets
-  pub disorder : are_section_offsets (number_at trailer 0) (number_at trailer 4) (number_at trailer 8) (number_at trailer 12) (number_at trailer 16) at ≡ false
+  pub disorder : are_section_offsets (number_at trailer 0) (number_at trailer 4) (number_at trailer 8)
+      (number_at trailer 12) (number_at trailer 16) at ≡ false
 
 -- the bytes split at these offsets, or have this error
 abbrev pub IsSplitAt : List ℕ → Result SectionOffsets IndexFault → Type 0
@@ -38,4 +39,5 @@ IsSplitAt bytes (Err fault) = split_of bytes ≡ Err fault
 
 -- the sections with these posting lists
 abbrev pub with_lists : List ℕ → List ℕ → List ℕ → List ℕ → List ℕ → SectionBytes
-with_lists paths names name_index list_index postings = record { paths = paths; names = names; postings = postings; name_index = name_index; list_index = list_index }
+with_lists paths names name_index list_index postings =
+    record { paths = paths; names = names; postings = postings; name_index = name_index; list_index = list_index }

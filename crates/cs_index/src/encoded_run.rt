@@ -1,5 +1,5 @@
 // Encoded runs: ids that are copied from one posting list to another as encoded varints.
-ghost use Rattle.std.specs.Prelude.{◌≡◌, ◌<◌, ◌≤◌, ◌+◌, ◌++◌, [], length, sum, take};
+ghost use Rattle.std.specs.Prelude.{◌≡◌, ◌<◌, ◌≤◌, ◌+◌, ◌^◌, ◌++◌, [], true, length, sum, take};
 ghost use Rattle.std.specs.List.{AllByRecursion};
 ghost use Rattle.cs_index.specs.Encoding.{varint, stream_of};
 ghost use Rattle.cs_index.specs.AscendingIds.{max_ids, next_after, AscendWithin};
@@ -47,7 +47,7 @@ impl<'a> EncodedRun<'a> {
         ensures bound { length result.0 ≤ limit }
         ensures below { next_after 0 result.0 ≤ room }
     {
-        let (len, count, next) = extent(bytes, limit, room);
+        let (len, count, next) = extent(bytes, limit, room, &mut [], 0, false);
         let (prefix, rest) = bytes.split_at(len);
         let ids = EncodedRun {
             bytes: prefix,
@@ -79,20 +79,33 @@ impl<'a> EncodedRun<'a> {
     }
 }
 
-/// The length of the prefix that `EncodedRun::prefix` returns, its number of ids, and one more than
-/// its last id.
-fn extent(bytes: &[u8], limit: u32, room: u32) -> (usize, u32, u32)
-    requires { room ≤ max_ids }
+/// The length of the prefix that `EncodedRun::prefix` returns, its number of ids, and one more than its last id. If
+/// `marks`, sets the flag of each id in a row, where the id 0 has the flag `at`.
+#[inline(always)]
+pub(crate) fn extent(
+    bytes: &[u8],
+    limit: u32,
+    room: u32,
+    row: &mut [bool],
+    at: usize,
+    marks: bool,
+) -> (usize, u32, u32)
+    requires bound { room ≤ max_ids }
+    requires fits { at + room < 2 ^ 64 }
+    requires within { marks ≡ true → at + room ≤ length row.old }
     ensures stream { IsStream (take result.0 bytes.now) result.1 result.2 }
     ensures within { result.0 ≤ length bytes.now }
     ensures bound { result.1 ≤ limit }
     ensures below { result.2 ≤ room }
+    ensures marks { marks ≡ true →
+        IsMarked at (ids_in (take result.0 bytes.now) result.1) row.old row.new }
 {
     let mut len = 0;
     let mut count = 0;
     let mut next = 0;
     'ids: while count < limit {
-        let (size, ids, end) = part(&bytes[len..], limit - count, room - next);
+        let first = at + next as usize;
+        let (size, ids, end) = part(&bytes[len..], limit - count, room - next, row, first, marks);
         if ids == 0 {
             return (len, count, next);
         }
@@ -104,79 +117,31 @@ fn extent(bytes: &[u8], limit: u32, room: u32) -> (usize, u32, u32)
 }
 
 /// One step of `extent`: eight ids if each delta is a single byte, else one id.
-#[inline]
-fn part(bytes: &[u8], limit: u32, room: u32) -> (usize, u32, u32)
-    requires { room ≤ max_ids }
-    ensures stream { IsStream (take result.0 bytes.now) result.1 result.2 }
-    ensures within { result.0 ≤ length bytes.now }
-    ensures bound { result.1 ≤ limit }
-    ensures below { result.2 ≤ room }
-{
-    if bytes.len() >= 8 && limit >= 8 {
-        let sum = sum_of_short(&bytes[..8]);
-        if sum > 0 && sum <= room {
-            return (8, 8, sum);
-        }
-    }
-    let (delta, size) = short_delta(bytes);
-    if delta == 0 || delta > room || limit == 0 {
-        return (0, 0, 0);
-    }
-    (size, 1, delta)
-}
-
-/// Does what `extent` does, and sets the flag of each id in a row, where the id 0 has the flag `at`.
-pub(crate) fn mark_extent(
+#[inline(always)]
+fn part(
     bytes: &[u8],
     limit: u32,
     room: u32,
     row: &mut [bool],
     at: usize,
+    marks: bool,
 ) -> (usize, u32, u32)
     requires bound { room ≤ max_ids }
-    requires within { at + room ≤ length row.old }
+    requires fits { at + room < 2 ^ 64 }
+    requires within { marks ≡ true → at + room ≤ length row.old }
     ensures stream { IsStream (take result.0 bytes.now) result.1 result.2 }
     ensures within { result.0 ≤ length bytes.now }
     ensures bound { result.1 ≤ limit }
     ensures below { result.2 ≤ room }
-    ensures marks { IsMarked at (ids_in (take result.0 bytes.now) result.1) row.old row.new }
-{
-    let mut len = 0;
-    let mut count = 0;
-    let mut next = 0;
-    'ids: while count < limit {
-        let (size, ids, end) = mark_part(
-            &bytes[len..],
-            limit - count,
-            room - next,
-            row,
-            at + next as usize,
-        );
-        if ids == 0 {
-            return (len, count, next);
-        }
-        len += size;
-        count += ids;
-        next += end;
-    }
-    (len, count, next)
-}
-
-/// One step of `mark_extent`: eight ids if each delta is a single byte, else one id.
-#[inline]
-fn mark_part(bytes: &[u8], limit: u32, room: u32, row: &mut [bool], at: usize) -> (usize, u32, u32)
-    requires bound { room ≤ max_ids }
-    requires within { at + room ≤ length row.old }
-    ensures stream { IsStream (take result.0 bytes.now) result.1 result.2 }
-    ensures within { result.0 ≤ length bytes.now }
-    ensures bound { result.1 ≤ limit }
-    ensures below { result.2 ≤ room }
-    ensures marks { IsMarked at (ids_in (take result.0 bytes.now) result.1) row.old row.new }
+    ensures marks { marks ≡ true →
+        IsMarked at (ids_in (take result.0 bytes.now) result.1) row.old row.new }
 {
     if bytes.len() >= 8 && limit >= 8 {
         let sum = sum_of_short(&bytes[..8]);
         if sum > 0 && sum <= room {
-            mark_deltas(&bytes[..8], row, at);
+            if marks {
+                mark_deltas(&bytes[..8], row, at);
+            }
             return (8, 8, sum);
         }
     }
@@ -184,7 +149,9 @@ fn mark_part(bytes: &[u8], limit: u32, room: u32, row: &mut [bool], at: usize) -
     if delta == 0 || delta > room || limit == 0 {
         return (0, 0, 0);
     }
-    row[at + delta as usize - 1] = true;
+    if marks {
+        row[at + delta as usize - 1] = true;
+    }
     (size, 1, delta)
 }
 

@@ -15,7 +15,8 @@ has_from a zero k h g = absurd (omega (arith, h, g))
 has_from a (suc n) k h g = elim (cases_order a k) [
   | inl e ↦ or_left (eqb a k) (has (range_with_len (a + 1) n) k) (eq-eqb a k e)
   | inr other ↦ elim other [
-    | inl less ↦ ap (λ b. b || has (range_with_len (a + 1) n) k) (ne_eqb a k (λ e. absurd (omega (arith, e, less)))) ∙ has_from (a + 1) n k (omega (arith, less)) (omega (arith, g))
+    | inl less ↦ ap (λ b. b || has (range_with_len (a + 1) n) k) (ne_eqb a k (λ e. absurd (omega (arith, e, less))))
+        ∙ has_from (a + 1) n k (omega (arith, less)) (omega (arith, g))
     | inr more ↦ absurd (omega (arith, h, more))
   ]
 ]
@@ -31,7 +32,8 @@ range_step a (suc n) h = ap (λ m. a ∷ range_with_len (a + 1) m) (let z : n �
 
 pub rise_ascends : (name_count next : ℕ) (ids : List ℕ) → AscendWithin name_count next ids → Ascends ids
 rise_ascends name_count next [] up = tt
-rise_ascends name_count next (id ∷ ids) up = ascends_cons id ids (first name_count (id + 1) ids up.2 (omega arith)) (rise_ascends name_count (id + 1) ids up.2)
+rise_ascends name_count next (id ∷ ids) up = ascends_cons id ids (first name_count (id + 1) ids up.2 (omega arith))
+    (rise_ascends name_count (id + 1) ids up.2)
   where
     first : (m k : ℕ) (is : List ℕ) → AscendWithin m k is → id < k → Above id is
     first m k [] u h = tt
@@ -41,16 +43,24 @@ pub read_rise : (name_count count next : ℕ) (bytes : List ℕ) → AscendWithi
 read_rise name_count zero next bytes = tt
 read_rise name_count (suc count) next bytes = rise_after (λ delta rest. read_rise name_count count (next + delta) rest) (read_varint bytes)
   where
-    rise_after : ((delta : ℕ) (rest : List ℕ) → AscendWithin name_count (next + delta) (read_ids name_count count (next + delta) rest).ids) → (found : Option (ℕ × List ℕ)) → AscendWithin name_count next (after_delta name_count next (read_ids name_count count) found).ids
+    rise_after : ((delta : ℕ) (rest : List ℕ) → AscendWithin name_count (next + delta)
+        (read_ids name_count count (next + delta) rest).ids) → (found : Option (ℕ × List ℕ)) →
+        AscendWithin name_count next (after_delta name_count next (read_ids name_count count) found).ids
     rise_after more None = tt
     rise_after more (Some (delta, rest)) =
-        cond_both (ltb 0 delta && ltb (next + delta) (name_count + 1)) (onto (next + delta - 1) (read_ids name_count count (next + delta) rest)) damage (λ (r : Ids). AscendWithin name_count next r.ids)
+        cond_both (ltb 0 delta && ltb (next + delta) (name_count + 1))
+        (onto (next + delta - 1) (read_ids name_count count (next + delta) rest)) damage
+        (λ (r : Ids). AscendWithin name_count next r.ids)
         (λ t.
         let both = and_parts (ltb 0 delta) (ltb (next + delta) (name_count + 1)) t in
         let above = ltb-true 0 delta both.0 in
         let below = ltb-true (next + delta) (name_count + 1) both.1 in
-        let after : next + delta ≡ next + delta - 1 + 1 = omega (arith, above) in
-        (omega (arith, above), omega (arith, above, below), subst (λ k. AscendWithin name_count k (read_ids name_count count (next + delta) rest).ids) after (more delta rest)))
+        let after : next + delta ≡ next + delta - 1 + 1 = omega (arith, above) in (
+          omega (arith, above),
+          omega (arith, above, below),
+          subst (λ k. AscendWithin name_count k (read_ids name_count count (next + delta) rest).ids) after
+              (more delta rest),
+        ))
         (λ _. tt)
 
 -- a member of bounded ids is bounded

@@ -1,5 +1,6 @@
 -- Queries by their members.
 use Rattle.std.proofs.Common.{◌≡◌, ℕ, ◌+◌, Bool, true, false, not, cond, ◌&&◌, ◌||◌, eqb, List, [], ◌∷◌, length, map, Vec, Global, Option, Some, None, refl, sym, ap, ◌∙◌, inl, inr, find, take, drop}
+use Rattle.std.proofs.Math.Bool.{and-true}
 use Rattle.std.specs.Option.{is_some}
 use Rattle.cs_index.specs.Postings.{entry_of, has_entry, nothing_read, read_for}
 use Rattle.cs_index.specs.AscendingIds.{AscendWithin}
@@ -52,21 +53,29 @@ module _ (g : ℕ) where
 -- ---- the lists of a query
 
 module _ (parts : Parts) where
-  pub answerable_as : (query : Query) (mentioned : ℕ → Bool) → ((g : ℕ) → mentions query g ≡ mentioned g) → is_answerable parts query ≡ list_all (λ (e : ListEntry). not (mentioned e.trigram) || (ids_read parts e).whole) parts.entries
+  pub answerable_as : (query : Query) (mentioned : ℕ → Bool) → ((g : ℕ) → mentions query g ≡ mentioned g) →
+      is_answerable parts query ≡ list_all (λ (e : ListEntry). not (mentioned e.trigram) || (ids_read parts e).whole)
+      parts.entries
   unfolding is_answerable
-  answerable_as query mentioned h = ap (λ (p : ListEntry → Bool). list_all p parts.entries) (λ i e. not (h e.trigram i) || (ids_read parts e).whole)
+  answerable_as query mentioned h = ap (λ (p : ListEntry → Bool). list_all p parts.entries)
+      (λ i e. not (h e.trigram i) || (ids_read parts e).whole)
 
 -- ---- the list of a trigram
 
-no_set : (f : ListEntry → Ids) (g k : ℕ) (es : List ListEntry) → has (map (λ (e : ListEntry). e.trigram) es) g ≡ false → has (set_at k (map (λ (e : ListEntry). (e.trigram, whole_ids (f e))) es)) g ≡ false
+no_set : (f : ListEntry → Ids) (g k : ℕ) (es : List ListEntry) → has (map (λ (e : ListEntry). e.trigram) es) g ≡ false →
+    has (set_at k (map (λ (e : ListEntry). (e.trigram, whole_ids (f e))) es)) g ≡ false
 no_set f g k [] h = refl
 no_set f g k (e ∷ es) h =
     let both = or_parts (eqb e.trigram g) (has (map (λ (d : ListEntry). d.trigram) es) g) h in
-    cond_both (has (whole_ids (f e)) k) ((e.trigram, whole_ids (f e)) ∷ filter (λ (p : PostingList). has p.1 k) (map (λ (d : ListEntry). (d.trigram, whole_ids (f d))) es)) (filter (λ (p : PostingList). has p.1 k) (map (λ (d : ListEntry). (d.trigram, whole_ids (f d))) es)) (λ ps. has (map (λ (p : PostingList). p.0) ps) g ≡ false)
+    cond_both (has (whole_ids (f e)) k) ((e.trigram, whole_ids (f e)) ∷ filter (λ (p : PostingList). has p.1 k)
+    (map (λ (d : ListEntry). (d.trigram, whole_ids (f d))) es))
+    (filter (λ (p : PostingList). has p.1 k) (map (λ (d : ListEntry). (d.trigram, whole_ids (f d))) es))
+    (λ ps. has (map (λ (p : PostingList). p.0) ps) g ≡ false)
     (λ _. ap (λ b. b || has (set_at k (map (λ (d : ListEntry). (d.trigram, whole_ids (f d))) es)) g) both.0 ∙ no_set f g k es both.1)
     (λ _. no_set f g k es both.1)
 
-none_mentioned : (whole : ListEntry → Bool) (g : ℕ) (es : List ListEntry) → has (map (λ (e : ListEntry). e.trigram) es) g ≡ false → list_all (λ (e : ListEntry). not (eqb e.trigram g) || whole e) es ≡ true
+none_mentioned : (whole : ListEntry → Bool) (g : ℕ) (es : List ListEntry) → has (map (λ (e : ListEntry). e.trigram) es)
+    g ≡ false → list_all (λ (e : ListEntry). not (eqb e.trigram g) || whole e) es ≡ true
 none_mentioned whole g [] h = refl
 none_mentioned whole g (e ∷ es) h =
     let both = or_parts (eqb e.trigram g) (has (map (λ (d : ListEntry). d.trigram) es) g) h in
@@ -76,12 +85,14 @@ none_mentioned whole g (e ∷ es) h =
 found_ids : (ListEntry → Ids) → List ListEntry → ℕ → Ids
 found_ids f es g = unwrap_or (option_map f (find (λ (e : ListEntry). eqb e.trigram g) es)) nothing_read
 
-no_more : (e : ListEntry) (es : List ListEntry) (g : ℕ) → Ascends (map (λ (d : ListEntry). d.trigram) (e ∷ es)) → eqb e.trigram g ≡ true → has (map (λ (d : ListEntry). d.trigram) es) g ≡ false
+no_more : (e : ListEntry) (es : List ListEntry) (g : ℕ) → Ascends (map (λ (d : ListEntry). d.trigram) (e ∷ es)) →
+    eqb e.trigram g ≡ true → has (map (λ (d : ListEntry). d.trigram) es) g ≡ false
 no_more e es g up here =
     let ts : List ℕ = map (λ (d : ListEntry). d.trigram) es in
     ap (has ts) (sym (eqb-true e.trigram g here)) ∙ below_none e.trigram ts (ascends_head e.trigram ts up) (ascends_tail e.trigram ts up)
 
-set_found : (f : ListEntry → Ids) (g k : ℕ) (es : List ListEntry) → Ascends (map (λ (e : ListEntry). e.trigram) es) → has (set_at k (map (λ (e : ListEntry). (e.trigram, whole_ids (f e))) es)) g ≡ has (whole_ids (found_ids f es g)) k
+set_found : (f : ListEntry → Ids) (g k : ℕ) (es : List ListEntry) → Ascends (map (λ (e : ListEntry). e.trigram) es) →
+    has (set_at k (map (λ (e : ListEntry). (e.trigram, whole_ids (f e))) es)) g ≡ has (whole_ids (found_ids f es g)) k
 unfolding found_ids
 set_found f g k [] up = refl
 set_found f g k (e ∷ es) up =
@@ -91,41 +102,48 @@ set_found f g k (e ∷ es) up =
           let none = no_set f g k es (no_more e es g up here) in
           elim (cases_Bool (has (whole_ids (f e)) k)) [
             | inl there ↦
-                ap (λ b. has (map (λ (p : PostingList). p.0) (cond b ((e.trigram, whole_ids (f e)) ∷ rest) rest)) g) there ∙ or_left (eqb e.trigram g) (has (map (λ (p : PostingList). p.0) rest) g) here
-                ∙ sym (ap (λ b. has (whole_ids (unwrap_or (option_map f (cond b (Some e) (find (λ (d : ListEntry). eqb d.trigram g) es))) nothing_read)) k) here ∙ there)
+                ap (λ b. has (map (λ (p : PostingList). p.0) (cond b ((e.trigram, whole_ids (f e)) ∷ rest) rest)) g)
+                there ∙ or_left (eqb e.trigram g) (has (map (λ (p : PostingList). p.0) rest) g) here
+                ∙ sym (ap (λ b. has (whole_ids (unwrap_or
+                (option_map f (cond b (Some e) (find (λ (d : ListEntry). eqb d.trigram g) es))) nothing_read)) k) here
+                ∙ there)
             | inr gone ↦
                 ap (λ b. has (map (λ (p : PostingList). p.0) (cond b ((e.trigram, whole_ids (f e)) ∷ rest) rest)) g) gone ∙ none
-                ∙ sym (ap (λ b. has (whole_ids (unwrap_or (option_map f (cond b (Some e) (find (λ (d : ListEntry). eqb d.trigram g) es))) nothing_read)) k) here ∙ gone)
+                ∙ sym (ap (λ b. has (whole_ids (unwrap_or
+                (option_map f (cond b (Some e) (find (λ (d : ListEntry). eqb d.trigram g) es))) nothing_read)) k) here
+                ∙ gone)
           ]
       | inr apart ↦
-          cond_both (has (whole_ids (f e)) k) ((e.trigram, whole_ids (f e)) ∷ rest) rest (λ ps. has (map (λ (p : PostingList). p.0) ps) g ≡ has (whole_ids (found_ids f es g)) k)
-          (λ _. ap (λ b. b || has (map (λ (p : PostingList). p.0) rest) g) apart ∙ set_found f g k es (ascends_tail e.trigram (map (λ (d : ListEntry). d.trigram) es) up))
+          cond_both (has (whole_ids (f e)) k) ((e.trigram, whole_ids (f e)) ∷ rest) rest
+          (λ ps. has (map (λ (p : PostingList). p.0) ps) g ≡ has (whole_ids (found_ids f es g)) k)
+          (λ _. ap (λ b. b || has (map (λ (p : PostingList). p.0) rest) g) apart
+          ∙ set_found f g k es (ascends_tail e.trigram (map (λ (d : ListEntry). d.trigram) es) up))
           (λ _. set_found f g k es (ascends_tail e.trigram (map (λ (d : ListEntry). d.trigram) es) up))
-          ∙ sym (ap (λ b. has (whole_ids (unwrap_or (option_map f (cond b (Some e) (find (λ (d : ListEntry). eqb d.trigram g) es))) nothing_read)) k) apart)
+          ∙ sym (ap (λ b. has (whole_ids (unwrap_or
+          (option_map f (cond b (Some e) (find (λ (d : ListEntry). eqb d.trigram g) es))) nothing_read)) k) apart)
     ]
 
-whole_found : (f : ListEntry → Ids) (g : ℕ) (es : List ListEntry) → Ascends (map (λ (e : ListEntry). e.trigram) es) → list_all (λ (e : ListEntry). not (eqb e.trigram g) || (f e).whole) es ≡ (found_ids f es g).whole
+whole_found : (f : ListEntry → Ids) (g : ℕ) (es : List ListEntry) → Ascends (map (λ (e : ListEntry). e.trigram) es) →
+    list_all (λ (e : ListEntry). not (eqb e.trigram g) || (f e).whole) es ≡ (found_ids f es g).whole
 unfolding found_ids
 whole_found f g [] up = refl
 whole_found f g (e ∷ es) up = elim (cases_Bool (eqb e.trigram g)) [
   | inl here ↦
-      (λ i. (not (here i) || (f e).whole) && none_mentioned (λ d. (f d).whole) g es (no_more e es g up here) i) ∙ and_true (f e).whole
+      (λ i. (not (here i) || (f e).whole) && none_mentioned (λ d. (f d).whole) g es (no_more e es g up here) i) ∙ and-true (f e).whole
       ∙ sym (ap (λ b. (unwrap_or (option_map f (cond b (Some e) (find (λ (d : ListEntry). eqb d.trigram g) es))) nothing_read).whole) here)
   | inr apart ↦
       ap (λ b. (not b || (f e).whole) && list_all (λ (d : ListEntry). not (eqb d.trigram g) || (f d).whole) es) apart
       ∙ whole_found f g es (ascends_tail e.trigram (map (λ (d : ListEntry). d.trigram) es) up)
       ∙ sym (ap (λ b. (unwrap_or (option_map f (cond b (Some e) (find (λ (d : ListEntry). eqb d.trigram g) es))) nothing_read).whole) apart)
 ]
-  where
-    and_true : (b : Bool) → (b && true) ≡ b
-    and_true true = refl
-    and_true false = refl
 
 module _ (parts : Parts) where
   -- the ids of an entry are ascending
   pub entry_rises : (e : ListEntry) → AscendWithin (length parts.names) 0 (ids_read parts e).ids
   entry_rises e =
-      cond_both (bytes_eq (take 3 (drop e.offset parts.postings)) (three_bytes e.trigram)) (read_ids (length parts.names) e.count 0 (drop (e.offset + 3) parts.postings)) damage (λ (r : Ids). AscendWithin (length parts.names) 0 r.ids)
+      cond_both (bytes_eq (take 3 (drop e.offset parts.postings)) (three_bytes e.trigram))
+      (read_ids (length parts.names) e.count 0 (drop (e.offset + 3) parts.postings)) damage
+      (λ (r : Ids). AscendWithin (length parts.names) 0 r.ids)
       (λ _. read_rise (length parts.names) e.count 0 (drop (e.offset + 3) parts.postings)) (λ _. tt)
 
   pub list_rises : (g : ℕ) → AscendWithin (length parts.names) 0 (read_for parts g).ids
@@ -152,7 +170,8 @@ module _ (parts : Parts) where
 module _ (parts : Parts) (up : rises parts.entries ≡ true) where
   pub answerable-Tri : (g : ℕ) → is_answerable parts (Tri g) ≡ (read_for parts g).whole
   unfolding read_for found_ids
-  answerable-Tri g = answerable_as parts (Tri g) (λ h. eqb h g) (λ h. is_mentioned-Tri h g) ∙ whole_found (ids_read parts) g parts.entries (rise_read parts.entries up)
+  answerable-Tri g = answerable_as parts (Tri g) (λ h. eqb h g) (λ h. is_mentioned-Tri h g)
+      ∙ whole_found (ids_read parts) g parts.entries (rise_read parts.entries up)
 
   pub set_is : (g k : ℕ) → has (set_at k (lists_in parts)) g ≡ has (whole_ids (read_for parts g)) k
   unfolding read_for found_ids

@@ -13,7 +13,8 @@ use Rattle.cs_index.specs.Answerable.{mentions}
 use Rattle.cs_index.proofs.candidates.QueryMembers.{is_mentioned-And, is_mentioned-Or}
 
 -- a trigram occurs in a query if it occurs in a member
-pub mentions_members : (query : Query) (members : Vec Query Global) (g : ℕ) → (query ≡ And members) ⊎ (query ≡ Or members) → mentions query g ≡ list_any (λ q. mentions q g) members.items
+pub mentions_members : (query : Query) (members : Vec Query Global) (g : ℕ) →
+    (query ≡ And members) ⊎ (query ≡ Or members) → mentions query g ≡ list_any (λ q. mentions q g) members.items
 mentions_members query members g (inl is) = ap (λ q. mentions q g) is ∙ is_mentioned-And g members
 mentions_members query members g (inr is) = ap (λ q. mentions q g) is ∙ is_mentioned-Or g members
 
@@ -36,13 +37,19 @@ has_dedup : (xs : List ℕ) (g : ℕ) → has (dedup eqb xs) g ≡ has xs g
 has_dedup [] g = refl
 has_dedup (x ∷ xs) g = has_once x xs g
 
-pub has_ordered : (gathered sorted left : List ℕ) (g : ℕ) → IsPermutation gathered sorted → left ≡ dedup eqb sorted → has left g ≡ has gathered g
-has_ordered gathered sorted left g moved is = ap (λ xs. has xs g) is ∙ has_dedup sorted g ∙ sym (list_any-IsPermutation (λ m. eqb m g) gathered sorted moved)
+pub has_ordered : (gathered sorted left : List ℕ) (g : ℕ) → IsPermutation gathered sorted → left ≡ dedup eqb sorted →
+    has left g ≡ has gathered g
+has_ordered gathered sorted left g moved is = ap (λ xs. has xs g) is ∙ has_dedup sorted g
+    ∙ sym (list_any-IsPermutation (λ m. eqb m g) gathered sorted moved)
 
 ascends_from : (xs : List ℕ) → IsStrictlyIncreasing xs → Ascends xs
 ascends_from [] up = tt
 ascends_from (x ∷ []) up = tt
-ascends_from (x ∷ y ∷ ys) up = (up 0 (omega arith), ascends_from (y ∷ ys) (λ k h. subst (λ m. get_or (y ∷ ys) k 0 < get_or (x ∷ y ∷ ys) m 0) (let z : suc k + 1 ≡ suc (k + 1) = omega arith in z) (up (suc k) (omega (arith, h)))))
+ascends_from (x ∷ y ∷ ys) up = (
+  up 0 (omega arith),
+  ascends_from (y ∷ ys) (λ k h. subst (λ m. get_or (y ∷ ys) k 0 < get_or (x ∷ y ∷ ys) m 0)
+      (let z : suc k + 1 ≡ suc (k + 1) = omega arith in z) (up (suc k) (omega (arith, h)))),
+)
 
 pub ascends_ordered : (sorted left : List ℕ) → IsSorted nat_cmp sorted → left ≡ dedup eqb sorted → Ascends left
 ascends_ordered sorted left up is = rw is (ascends_from (dedup eqb sorted) (IsStrictlyIncreasing-dedup sorted up))

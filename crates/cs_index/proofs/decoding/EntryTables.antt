@@ -1,6 +1,7 @@
 -- The name index and the list index, entry by entry.
 use Rattle.std.specs.Prelude.{bytes_eq}
 use Rattle.std.proofs.Common.{◌≡◌, ◌≢◌, ℕ, zero, suc, ◌+◌, ◌-◌, ◌*◌, ◌/◌, ◌<◌, ◌≤◌, true, false, ◌&&◌, eqb, ltb, cond, List, [], ◌∷◌, length, map, Some, None, refl, sym, ap, subst, ◌∙◌, inl, inr, arith, slice_get}
+use Rattle.std.proofs.lemmas.Option.{slice_get_past}
 use Rattle.cs_index.specs.Postings.{entry_of}
 use Rattle.std.proofs.lemmas.Bool.{and_parts, eq-eqb, ne_eqb, ltb-true, cases_order}
 use Rattle.std.proofs.lemmas.List.{length_push}
@@ -11,21 +12,25 @@ use Rattle.std.proofs.Math.Bool.{and-false, and-true}
 
 -- ---- offsets of names
 
-pub offsets_short : (bytes : List ℕ) (at offset : ℕ) (name : List ℕ) (names : List (List ℕ)) → at ≤ length bytes → length bytes - at < 8 → has_starts bytes at offset (name ∷ names) ≡ false
-offsets_short bytes at offset name names within h =
-    ap (λ b. b && bytes_eq (numbers_from bytes at (length (name ∷ names))) (starts_from offset (map with_nul (name ∷ names)))) (ne_eqb (length bytes) (at + 4 * (length (name ∷ names) + 1)) (λ e. absurd (omega (arith, e, within, h))))
-
-pub offsets_wrong : (bytes : List ℕ) (at offset : ℕ) (name : List ℕ) (names : List (List ℕ)) → number_at bytes at ≢ offset → has_starts bytes at offset (name ∷ names) ≡ false
+pub offsets_wrong : (bytes : List ℕ) (at offset : ℕ) (name : List ℕ) (names : List (List ℕ)) →
+    number_at bytes at ≢ offset → has_starts bytes at offset (name ∷ names) ≡ false
 offsets_wrong bytes at offset name names apart =
-    ap (λ b. eqb (length bytes) (at + 4 * (length (name ∷ names) + 1)) && (b && bytes_eq (numbers_from bytes (at + 4) (length names)) (starts_from (offset + length (with_nul name)) (map with_nul names)))) (ne_eqb (number_at bytes at) offset apart)
+    ap (λ b. eqb (length bytes) (at + 4 * (length (name ∷ names) + 1))
+    && (b && bytes_eq (numbers_from bytes (at + 4) (length names))
+    (starts_from (offset + length (with_nul name)) (map with_nul names)))) (ne_eqb (number_at bytes at) offset apart)
     ∙ and-false (eqb (length bytes) (at + 4 * (length (name ∷ names) + 1)))
 
-pub offsets_step : (bytes : List ℕ) (at offset later : ℕ) (name : List ℕ) (names : List (List ℕ)) → number_at bytes at ≡ offset → later ≡ offset + (length name + 1) → has_starts bytes at offset (name ∷ names) ≡ has_starts bytes (at + 4) later names
+pub offsets_step : (bytes : List ℕ) (at offset later : ℕ) (name : List ℕ) (names : List (List ℕ)) → number_at bytes at
+    ≡ offset → later ≡ offset + (length name + 1) → has_starts bytes at offset (name ∷ names)
+    ≡ has_starts bytes (at + 4) later names
 offsets_step bytes at offset later name names is more =
     let next : offset + length (with_nul name) ≡ later = omega (arith, more, length_push name 0) in
     let long : at + 4 * (length (name ∷ names) + 1) ≡ at + 4 + 4 * (length names + 1) = omega arith in
-    ap (λ b. eqb (length bytes) (at + 4 * (length (name ∷ names) + 1)) && (b && bytes_eq (numbers_from bytes (at + 4) (length names)) (starts_from (offset + length (with_nul name)) (map with_nul names)))) (eq-eqb (number_at bytes at) offset is)
-    ∙ (λ i. eqb (length bytes) (long i) && bytes_eq (numbers_from bytes (at + 4) (length names)) (starts_from (next i) (map with_nul names)))
+    ap (λ b. eqb (length bytes) (at + 4 * (length (name ∷ names) + 1))
+    && (b && bytes_eq (numbers_from bytes (at + 4) (length names))
+    (starts_from (offset + length (with_nul name)) (map with_nul names)))) (eq-eqb (number_at bytes at) offset is)
+    ∙ (λ i. eqb (length bytes) (long i) && bytes_eq (numbers_from bytes (at + 4) (length names))
+    (starts_from (next i) (map with_nul names)))
 
 pub offsets_end : (bytes : List ℕ) (at offset : ℕ) → at ≤ length bytes → has_starts bytes at offset [] ≡ eqb (length bytes - at) 4
 offsets_end bytes at offset within =
@@ -33,8 +38,10 @@ offsets_end bytes at offset within =
     ∙ elim (cases_order (length bytes - at) 4) [
       | inl e ↦ eq-eqb (length bytes) (at + 4 * (0 + 1)) (omega (arith, e, within)) ∙ sym (eq-eqb (length bytes - at) 4 e)
       | inr other ↦ elim other [
-        | inl less ↦ ne_eqb (length bytes) (at + 4 * (0 + 1)) (λ e. absurd (omega (arith, e, less))) ∙ sym (ne_eqb (length bytes - at) 4 (λ e. absurd (omega (arith, e, less))))
-        | inr more ↦ ne_eqb (length bytes) (at + 4 * (0 + 1)) (λ e. absurd (omega (arith, e, more))) ∙ sym (ne_eqb (length bytes - at) 4 (λ e. absurd (omega (arith, e, more))))
+        | inl less ↦ ne_eqb (length bytes) (at + 4 * (0 + 1)) (λ e. absurd (omega (arith, e, less)))
+            ∙ sym (ne_eqb (length bytes - at) 4 (λ e. absurd (omega (arith, e, less))))
+        | inr more ↦ ne_eqb (length bytes) (at + 4 * (0 + 1)) (λ e. absurd (omega (arith, e, more)))
+            ∙ sym (ne_eqb (length bytes - at) 4 (λ e. absurd (omega (arith, e, more))))
       ]
     ]
 
@@ -48,88 +55,120 @@ no_entry long at h = omega (arith, h)
 
 -- ---- ascending trigrams
 
-pub rise_at : (bytes : List ℕ) (at n : ℕ) (j : ℕ) → rises (entries_from bytes at n) ≡ true → j + 1 < n → trigram_at bytes (at + 11 * j) < trigram_at bytes (at + 11 * (j + 1))
+pub rise_at : (bytes : List ℕ) (at n : ℕ) (j : ℕ) → rises (entries_from bytes at n) ≡ true → j + 1 < n →
+    trigram_at bytes (at + 11 * j) < trigram_at bytes (at + 11 * (j + 1))
 rise_at bytes at zero j up h = absurd (omega (arith, h))
 rise_at bytes at (suc zero) j up h = absurd (omega (arith, h))
 rise_at bytes at (suc (suc n)) zero up h =
     let both = and_parts (ltb (trigram_at bytes at) (trigram_at bytes (at + 11))) (rises (entries_from bytes (at + 11) (suc n))) up in
     let here : at ≡ at + 11 * 0 = omega arith in
     let next : at + 11 ≡ at + 11 * (0 + 1) = omega arith in
-    subst (λ k. trigram_at bytes k < trigram_at bytes (at + 11 * (0 + 1))) here (subst (λ k. trigram_at bytes at < trigram_at bytes k) next (ltb-true (trigram_at bytes at) (trigram_at bytes (at + 11)) both.0))
+    subst (λ k. trigram_at bytes k < trigram_at bytes (at + 11 * (0 + 1))) here
+    (subst (λ k. trigram_at bytes at < trigram_at bytes k) next
+    (ltb-true (trigram_at bytes at) (trigram_at bytes (at + 11)) both.0))
 rise_at bytes at (suc (suc n)) (suc j) up h =
     let both = and_parts (ltb (trigram_at bytes at) (trigram_at bytes (at + 11))) (rises (entries_from bytes (at + 11) (suc n))) up in
     let rest = rise_at bytes (at + 11) (suc n) j both.1 (omega (arith, h)) in
     let here : at + 11 + 11 * j ≡ at + 11 * suc j = omega arith in
     let next : at + 11 + 11 * (j + 1) ≡ at + 11 * (suc j + 1) = omega arith in
-    subst (λ k. trigram_at bytes k < trigram_at bytes (at + 11 * (suc j + 1))) here (subst (λ k. trigram_at bytes (at + 11 + 11 * j) < trigram_at bytes k) next rest)
+    subst (λ k. trigram_at bytes k < trigram_at bytes (at + 11 * (suc j + 1))) here
+    (subst (λ k. trigram_at bytes (at + 11 + 11 * j) < trigram_at bytes k) next rest)
 
-pub rise_far : (bytes : List ℕ) (n j more : ℕ) → rises (entries_from bytes 0 n) ≡ true → j + more < n → trigram_at bytes (11 * j) ≤ trigram_at bytes (11 * (j + more))
-rise_far bytes n j zero up h = subst (λ k. trigram_at bytes (11 * j) ≤ trigram_at bytes (11 * k)) (let z : j ≡ j + 0 = omega arith in z) (omega arith)
+pub rise_far : (bytes : List ℕ) (n j more : ℕ) → rises (entries_from bytes 0 n) ≡ true → j + more < n →
+    trigram_at bytes (11 * j) ≤ trigram_at bytes (11 * (j + more))
+rise_far bytes n j zero up h = subst (λ k. trigram_at bytes (11 * j) ≤ trigram_at bytes (11 * k))
+    (let z : j ≡ j + 0 = omega arith in z) (omega arith)
 rise_far bytes n j (suc more) up h =
     let prefix = rise_far bytes n j more up (omega (arith, h)) in
-    let last : trigram_at bytes (0 + 11 * (j + more)) < trigram_at bytes (0 + 11 * (j + more + 1)) = rise_at bytes 0 n (j + more) up (omega (arith, h)) in
+    let last : trigram_at bytes (0 + 11 * (j + more)) < trigram_at bytes (0 + 11 * (j + more + 1)) =
+    rise_at bytes 0 n (j + more) up (omega (arith, h)) in
     let here : 0 + 11 * (j + more) ≡ 11 * (j + more) = omega arith in
     let next : 0 + 11 * (j + more + 1) ≡ 11 * (j + suc more) = omega arith in
-    let last' : trigram_at bytes (11 * (j + more)) < trigram_at bytes (11 * (j + suc more)) = subst (λ k. trigram_at bytes k < trigram_at bytes (11 * (j + suc more))) here (subst (λ k. trigram_at bytes (0 + 11 * (j + more)) < trigram_at bytes k) next last) in
+    let last' : trigram_at bytes (11 * (j + more)) < trigram_at bytes (11 * (j + suc more)) =
+    subst (λ k. trigram_at bytes k < trigram_at bytes (11 * (j + suc more))) here
+    (subst (λ k. trigram_at bytes (0 + 11 * (j + more)) < trigram_at bytes k) next last) in
     omega (arith, prefix, last')
 
-pub rise_to : (bytes : List ℕ) (n j k : ℕ) → rises (entries_from bytes 0 n) ≡ true → j ≤ k → k < n → trigram_at bytes (11 * j) ≤ trigram_at bytes (11 * k)
-rise_to bytes n j k up h g = subst (λ m. trigram_at bytes (11 * j) ≤ trigram_at bytes (11 * m)) (let z : j + (k - j) ≡ k = omega (arith, h) in z) (rise_far bytes n j (k - j) up (omega (arith, h, g)))
+pub rise_to : (bytes : List ℕ) (n j k : ℕ) → rises (entries_from bytes 0 n) ≡ true → j ≤ k → k < n →
+    trigram_at bytes (11 * j) ≤ trigram_at bytes (11 * k)
+rise_to bytes n j k up h g = subst (λ m. trigram_at bytes (11 * j) ≤ trigram_at bytes (11 * m))
+    (let z : j + (k - j) ≡ k = omega (arith, h) in z) (rise_far bytes n j (k - j) up (omega (arith, h, g)))
 
 -- ---- the entry of a trigram
 
-found_from : (bytes : List ℕ) (g at n position : ℕ) → position < n → ((k : ℕ) → k < position → trigram_at bytes (at + 11 * k) < g) → trigram_at bytes (at + 11 * position) ≡ g → entry_of (entries_from bytes at n) g ≡ Some (entry_at bytes (at + 11 * position))
+found_from : (bytes : List ℕ) (g at n position : ℕ) → position < n →
+    ((k : ℕ) → k < position → trigram_at bytes (at + 11 * k) ≢ g) → trigram_at bytes (at + 11 * position) ≡ g →
+    entry_of (entries_from bytes at n) g ≡ Some (entry_at bytes (at + 11 * position))
 found_from bytes g at zero position h below is = absurd (omega (arith, h))
 found_from bytes g at (suc n) zero h below is =
     let here : at + 11 * 0 ≡ at = omega arith in
-    ap (λ b. cond b (Some (entry_at bytes at)) (entry_of (entries_from bytes (at + 11) n) g)) (eq-eqb (trigram_at bytes at) g (ap (trigram_at bytes) (sym here) ∙ is))
+    ap (λ b. cond b (Some (entry_at bytes at)) (entry_of (entries_from bytes (at + 11) n) g))
+    (eq-eqb (trigram_at bytes at) g (ap (trigram_at bytes) (sym here) ∙ is))
     ∙ ap (λ k. Some (entry_at bytes k)) (sym here)
 found_from bytes g at (suc n) (suc position) h below is =
-    let first : trigram_at bytes at < g = subst (λ k. trigram_at bytes k < g) (let z : at + 11 * 0 ≡ at = omega arith in z) (below 0 (omega arith)) in
+    let first : trigram_at bytes at ≢ g = subst (λ k. trigram_at bytes k ≢ g) (let z : at + 11 * 0 ≡ at = omega arith in
+    z) (below 0 (omega arith)) in
     let there : at + 11 + 11 * position ≡ at + 11 * suc position = omega arith in
-    ap (λ b. cond b (Some (entry_at bytes at)) (entry_of (entries_from bytes (at + 11) n) g)) (ne_eqb (trigram_at bytes at) g (λ e. absurd (omega (arith, e, first))))
-    ∙ found_from bytes g (at + 11) n position (omega (arith, h)) (λ k l. subst (λ m. trigram_at bytes m < g) (let z : at + 11 * (k + 1) ≡ at + 11 + 11 * k = omega arith in z) (below (k + 1) (omega (arith, l)))) (ap (trigram_at bytes) there ∙ is)
+    ap (λ b. cond b (Some (entry_at bytes at)) (entry_of (entries_from bytes (at + 11) n) g)) (ne_eqb (trigram_at bytes at) g first)
+    ∙ found_from bytes g (at + 11) n position (omega (arith, h))
+    (λ k l. subst (λ m. trigram_at bytes m ≢ g) (let z : at + 11 * (k + 1) ≡ at + 11 + 11 * k = omega arith in z)
+    (below (k + 1) (omega (arith, l)))) (ap (trigram_at bytes) there ∙ is)
     ∙ ap (λ k. Some (entry_at bytes k)) there
 
-none_from : (bytes : List ℕ) (g at n : ℕ) → ((k : ℕ) → k < n → trigram_at bytes (at + 11 * k) ≢ g) → entry_of (entries_from bytes at n) g ≡ None
+none_from : (bytes : List ℕ) (g at n : ℕ) → ((k : ℕ) → k < n → trigram_at bytes (at + 11 * k) ≢ g) →
+    entry_of (entries_from bytes at n) g ≡ None
 none_from bytes g at zero apart = refl
 none_from bytes g at (suc n) apart =
-    let first : trigram_at bytes at ≢ g = subst (λ k. trigram_at bytes k ≢ g) (let z : at + 11 * 0 ≡ at = omega arith in z) (apart 0 (omega arith)) in
+    let first : trigram_at bytes at ≢ g = subst (λ k. trigram_at bytes k ≢ g) (let z : at + 11 * 0 ≡ at = omega arith in
+    z) (apart 0 (omega arith)) in
     ap (λ b. cond b (Some (entry_at bytes at)) (entry_of (entries_from bytes (at + 11) n) g)) (ne_eqb (trigram_at bytes at) g first)
-    ∙ none_from bytes g (at + 11) n (λ k l. subst (λ m. trigram_at bytes m ≢ g) (let z : at + 11 * (k + 1) ≡ at + 11 + 11 * k = omega arith in z) (apart (k + 1) (omega (arith, l))))
+    ∙ none_from bytes g (at + 11) n (λ k l. subst (λ m. trigram_at bytes m ≢ g)
+    (let z : at + 11 * (k + 1) ≡ at + 11 + 11 * k = omega arith in z) (apart (k + 1) (omega (arith, l))))
 
-pub entry_found : (bytes : List ℕ) (g position : ℕ) → position < length bytes / 11 → ((k : ℕ) → k < position → trigram_at bytes (11 * k) < g) → trigram_at bytes (11 * position) ≡ g → entry_of (entries_in bytes) g ≡ Some (entry_at bytes (11 * position))
+pub entry_found : (bytes : List ℕ) (g position : ℕ) → position < length bytes / 11 →
+    ((k : ℕ) → k < position → trigram_at bytes (11 * k) ≢ g) → trigram_at bytes (11 * position) ≡ g →
+    entry_of (entries_in bytes) g ≡ Some (entry_at bytes (11 * position))
 unfolding entries_in
 entry_found bytes g position h below is =
     let here : 0 + 11 * position ≡ 11 * position = omega arith in
-    found_from bytes g 0 (length bytes / 11) position h (λ k l. subst (λ m. trigram_at bytes m < g) (let z : 11 * k ≡ 0 + 11 * k = omega arith in z) (below k l)) (ap (trigram_at bytes) here ∙ is) ∙ ap (λ k. Some (entry_at bytes k)) here
+    found_from bytes g 0 (length bytes / 11) position h
+    (λ k l. subst (λ m. trigram_at bytes m ≢ g) (let z : 11 * k ≡ 0 + 11 * k = omega arith in z) (below k l))
+    (ap (trigram_at bytes) here ∙ is) ∙ ap (λ k. Some (entry_at bytes k)) here
 
-pub entry_none : (bytes : List ℕ) (g : ℕ) → ((k : ℕ) → k < length bytes / 11 → trigram_at bytes (11 * k) ≢ g) → entry_of (entries_in bytes) g ≡ None
+pub entry_none : (bytes : List ℕ) (g : ℕ) → ((k : ℕ) → k < length bytes / 11 → trigram_at bytes (11 * k) ≢ g) →
+    entry_of (entries_in bytes) g ≡ None
 unfolding entries_in
-entry_none bytes g apart = none_from bytes g 0 (length bytes / 11) (λ k l. subst (λ m. trigram_at bytes m ≢ g) (let z : 11 * k ≡ 0 + 11 * k = omega arith in z) (apart k l))
+entry_none bytes g apart = none_from bytes g 0 (length bytes / 11)
+    (λ k l. subst (λ m. trigram_at bytes m ≢ g) (let z : 11 * k ≡ 0 + 11 * k = omega arith in z) (apart k l))
 
 -- the entries before one with a lower trigram, and from one on with a higher one
-pub lower_before : (bytes : List ℕ) (n middle g k : ℕ) → n ≡ length bytes / 11 → rises (entries_in bytes) ≡ true → middle < n → trigram_at bytes (11 * middle) < g → k < middle + 1 → trigram_at bytes (11 * k) < g
+pub lower_before : (bytes : List ℕ) (n middle g k : ℕ) → n ≡ length bytes / 11 → rises (entries_in bytes) ≡ true →
+    middle < n → trigram_at bytes (11 * middle) < g → k < middle + 1 → trigram_at bytes (11 * k) < g
 unfolding entries_in
 lower_before bytes n middle g k at up h less l =
     let order = rise_to bytes (length bytes / 11) k middle up (omega (arith, l)) (omega (arith, h, at)) in
     omega (arith, order, less)
 
-pub higher_from : (bytes : List ℕ) (n middle g k : ℕ) → n ≡ length bytes / 11 → rises (entries_in bytes) ≡ true → g ≤ trigram_at bytes (11 * middle) → middle ≤ k → k < n → g ≤ trigram_at bytes (11 * k)
+pub higher_from : (bytes : List ℕ) (n middle g k : ℕ) → n ≡ length bytes / 11 → rises (entries_in bytes) ≡ true →
+    g ≤ trigram_at bytes (11 * middle) → middle ≤ k → k < n → g ≤ trigram_at bytes (11 * k)
 unfolding entries_in
 higher_from bytes n middle g k at up more l h =
     let order = rise_to bytes (length bytes / 11) middle k up l (omega (arith, h, at)) in
     omega (arith, order, more)
 
 -- a trigram that is not at its index in the ascending entries has no entry
-pub not_elsewhere : (bytes : List ℕ) (g position k : ℕ) → rises (entries_in bytes) ≡ true → position < length bytes / 11 → ((j : ℕ) → j < position → trigram_at bytes (11 * j) < g) → g ≤ trigram_at bytes (11 * position) → trigram_at bytes (11 * position) ≢ g → k < length bytes / 11 → trigram_at bytes (11 * k) ≢ g
+pub not_elsewhere : (bytes : List ℕ) (g position k : ℕ) → rises (entries_in bytes) ≡ true →
+    position < length bytes / 11 → ((j : ℕ) → j < position → trigram_at bytes (11 * j) < g) →
+    g ≤ trigram_at bytes (11 * position) → trigram_at bytes (11 * position) ≢ g → k < length bytes / 11 →
+    trigram_at bytes (11 * k) ≢ g
 unfolding entries_in
 not_elsewhere bytes g position k up within below above other l e =
     elim (cases_order k position) [
       | inl is ↦ other (ap (λ j. trigram_at bytes (11 * j)) (sym is) ∙ e)
       | inr order ↦ elim order [
         | inl before ↦ let less = below k before in omega (arith, e, less)
-        | inr behind ↦ let far = rise_to bytes (length bytes / 11) position k up (omega (arith, behind)) l in omega (arith, e, far, above, other)
+        | inr behind ↦ let far = rise_to bytes (length bytes / 11) position k up (omega (arith, behind)) l in
+            omega (arith, e, far, above, other)
       ]
     ]
 
@@ -148,8 +187,13 @@ length-in bytes = length-from bytes 0 (length bytes / 11)
 get-from : (bytes : List ℕ) (at n k : ℕ) → k < n → slice_get (entries_from bytes at n) k ≡ Some (entry_at bytes (at + 11 * k))
 get-from bytes at zero k h = absurd (omega (arith, h))
 get-from bytes at (suc n) zero h = ap (λ j. Some (entry_at bytes j)) (let z : at ≡ at + 11 * 0 = omega arith in z)
-get-from bytes at (suc n) (suc k) h = get-from bytes (at + 11) n k (omega (arith, h)) ∙ ap (λ j. Some (entry_at bytes j)) (let z : at + 11 + 11 * k ≡ at + 11 * suc k = omega arith in z)
+get-from bytes at (suc n) (suc k) h = get-from bytes (at + 11) n k (omega (arith, h))
+    ∙ ap (λ j. Some (entry_at bytes j)) (let z : at + 11 + 11 * k ≡ at + 11 * suc k = omega arith in z)
 
 pub get-in : (bytes : List ℕ) (k : ℕ) → k < length bytes / 11 → slice_get (entries_in bytes) k ≡ Some (entry_at bytes (11 * k))
 unfolding entries_in
-get-in bytes k h = get-from bytes 0 (length bytes / 11) k h ∙ ap (λ j. Some (entry_at bytes j)) (let z : 0 + 11 * k ≡ 11 * k = omega arith in z)
+get-in bytes k h = get-from bytes 0 (length bytes / 11) k h
+    ∙ ap (λ j. Some (entry_at bytes j)) (let z : 0 + 11 * k ≡ 11 * k = omega arith in z)
+
+pub none-in : (bytes : List ℕ) (k : ℕ) → length bytes / 11 ≤ k → slice_get (entries_in bytes) k ≡ None
+none-in bytes k h = slice_get_past (entries_in bytes) k (let l = length-in bytes in omega (arith, l, h))

@@ -1,16 +1,13 @@
 -- Facts about the fields of an `Index`.
-use Rattle.std.proofs.Common.{◌≡◌, ℕ, ◌+◌, ◌-◌, ◌*◌, ◌/◌, ◌<◌, ◌^◌, true, false, not, cond, eqb, List, length, map, ◌%◌, ◌&&◌, Option, Some, Err, sym, ap, ◌∙◌, arith, slice_get}
+use Rattle.std.proofs.Common.{◌≡◌, ℕ, ◌+◌, ◌-◌, ◌*◌, ◌<◌, ◌^◌, true, false, not, cond, eqb, List, length, map, ◌%◌, ◌&&◌, Err, ap, ◌∙◌, arith}
 use Rattle.cs_index.specs.ValidSections.{AreOpenedSections}
-use Rattle.cs_index.specs.PostingLists.{Ids, read_list}
 use Rattle.std.proofs.lemmas.Bool.{and_parts, eqb-true}
-use Rattle.std.specs.Prelude.{option_map, nat_eq, Result, if◌then◌else◌, bytes_eq}
+use Rattle.std.specs.Prelude.{nat_eq, Result, if◌then◌else◌, bytes_eq}
 use Rattle.cs_index.specs.declared.fault.IndexFault.{IndexFault}
 use Rattle.std.specs.List.{list_all, starts_with}
 use Rattle.cs_index.specs.declared.fault.IndexFault.TheVariants.{BadMagic, BadTrailer}
-use Rattle.cs_index.specs.Encoding.{magic, SectionBytes, ListEntry, starts_from, with_nul}
-use Rattle.cs_index.specs.Opening.{is_name_index, is_list_index, is_entry, rises, entries_in, entry_at, trigram_at, parts_of, texts_of, has_trailer, split_of, split_before, numbers_from}
-use Rattle.cs_index.specs.OpenedParts.{Parts, ids_read}
-use Rattle.cs_index.proofs.decoding.EntryTables.{get-in}
+use Rattle.cs_index.specs.Encoding.{magic, SectionBytes, starts_from, with_nul}
+use Rattle.cs_index.specs.Opening.{is_name_index, is_list_index, is_entry, rises, entries_in, texts_of, has_trailer, split_of, split_before, numbers_from}
 
 -- the sections of bytes that begin with the magic
 abbrev pub split_ended : List ℕ → Result SectionBytes IndexFault
@@ -22,31 +19,29 @@ no_magic bytes h = ap (λ b. cond (not b) (Err BadMagic) (split_ended bytes)) h
 
 pub no_trailer : (bytes : List ℕ) → starts_with nat_eq bytes magic ≡ true → has_trailer bytes ≡ false → split_of bytes ≡ Err BadTrailer
 unfolding split_of
-no_trailer bytes h g = ap (λ b. cond (not b) (Err BadMagic) (split_ended bytes)) h ∙ ap (λ b. cond (not b) (Err BadTrailer) (split_before bytes (length bytes - 36))) g
+no_trailer bytes h g = ap (λ b. cond (not b) (Err BadMagic) (split_ended bytes)) h
+    ∙ ap (λ b. cond (not b) (Err BadTrailer) (split_before bytes (length bytes - 36))) g
 
-pub split_there : (bytes : List ℕ) → starts_with nat_eq bytes magic ≡ true → has_trailer bytes ≡ true → split_of bytes ≡ split_before bytes (length bytes - 36)
+pub split_there : (bytes : List ℕ) → starts_with nat_eq bytes magic ≡ true → has_trailer bytes ≡ true → split_of bytes
+    ≡ split_before bytes (length bytes - 36)
 unfolding split_of
-split_there bytes h g = ap (λ b. cond (not b) (Err BadMagic) (split_ended bytes)) h ∙ ap (λ b. cond (not b) (Err BadTrailer) (split_before bytes (length bytes - 36))) g
+split_there bytes h g = ap (λ b. cond (not b) (Err BadMagic) (split_ended bytes)) h
+    ∙ ap (λ b. cond (not b) (Err BadTrailer) (split_before bytes (length bytes - 36))) g
 
 pub offsets_long : (bytes : List ℕ) (names : List (List ℕ)) → is_name_index bytes names ≡ true → length bytes ≡ 4 * (length names + 1)
 unfolding is_name_index
 offsets_long bytes names h =
-    let both = and_parts (eqb (length bytes) (4 * (length names + 1))) (bytes_eq (numbers_from bytes 0 (length names)) (starts_from 0 (map with_nul names))) h in
+    let both = and_parts (eqb (length bytes) (4 * (length names + 1)))
+    (bytes_eq (numbers_from bytes 0 (length names)) (starts_from 0 (map with_nul names))) h in
     let long = eqb-true (length bytes) (4 * (length names + 1)) both.0 in
     omega (arith, long)
 
 pub entries_rise : (room : ℕ) (bytes : List ℕ) → is_list_index room bytes ≡ true → rises (entries_in bytes) ≡ true
 unfolding is_list_index
 entries_rise room bytes h =
-    (and_parts (rises (entries_in bytes)) (list_all (is_entry room) (entries_in bytes)) (and_parts (eqb (length bytes % 11) 0) (rises (entries_in bytes) && list_all (is_entry room) (entries_in bytes)) h).1).0
+    (and_parts (rises (entries_in bytes)) (list_all (is_entry room) (entries_in bytes))
+    (and_parts (eqb (length bytes % 11) 0) (rises (entries_in bytes) && list_all (is_entry room) (entries_in bytes))
+    h).1).0
 
 pub few_read : {bytes : List ℕ} (s : SectionBytes) → AreOpenedSections bytes s → length (texts_of s.names) < 2 ^ 31
 few_read s is = let long = offsets_long s.name_index (texts_of s.names) is.read.offsets in omega (arith, long, is.names_bound)
-
-pub list_given : (s : SectionBytes) (now : Parts) (position name_count g : ℕ) → parts_of s ≡ now → position < length s.list_index / 11 → name_count ≡ length now.names → g ≡ trigram_at s.list_index (11 * position) → ◌≡◌ {A = Option (ℕ × Ids)} (Some (g, read_list s.postings name_count (entry_at s.list_index (11 * position)))) (option_map (λ (e : ListEntry). (e.trigram, ids_read now e)) (slice_get now.entries position))
-list_given s now position name_count g is h count tri =
-    (λ i. Some (tri i, read_list (postings i) (count i) (entry_at s.list_index (11 * position))))
-    ∙ sym (ap (option_map (λ (e : ListEntry). (e.trigram, ids_read now e))) (ap (λ (p : Parts). slice_get p.entries position) (sym is) ∙ get-in s.list_index position h))
-  where
-    postings : s.postings ≡ now.postings
-    postings = ap (λ (p : Parts). p.postings) is

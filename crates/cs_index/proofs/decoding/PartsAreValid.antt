@@ -9,10 +9,13 @@ use Rattle.cs_index.specs.ValidParts.{AreValidParts}
 use Rattle.cs_index.proofs.decoding.IndexFields.{offsets_long, entries_rise}
 use Rattle.cs_index.proofs.decoding.StringSections.{section_read}
 
-pub entries_fit : (room : ℕ) (bytes : List ℕ) → is_list_index room bytes ≡ true → list_all (λ (e : ListEntry). is_entry room e) (entries_in bytes) ≡ true
+pub entries_fit : (room : ℕ) (bytes : List ℕ) → is_list_index room bytes ≡ true →
+    list_all (λ (e : ListEntry). is_entry room e) (entries_in bytes) ≡ true
 unfolding is_list_index
 entries_fit room bytes h =
-    (and_parts (rises (entries_in bytes)) (list_all (is_entry room) (entries_in bytes)) (and_parts (eqb (length bytes % 11) 0) (rises (entries_in bytes) && list_all (is_entry room) (entries_in bytes)) h).1).1
+    (and_parts (rises (entries_in bytes)) (list_all (is_entry room) (entries_in bytes))
+    (and_parts (eqb (length bytes % 11) 0) (rises (entries_in bytes) && list_all (is_entry room) (entries_in bytes))
+    h).1).1
 
 pub parts_read : {bytes : List ℕ} (s : SectionBytes) → AreOpenedSections bytes s → AreValidParts (parts_of s)
 parts_read s is = record {

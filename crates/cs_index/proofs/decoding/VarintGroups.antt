@@ -20,13 +20,15 @@ room_five (suc (suc (suc (suc zero)))) h = omega arith
 room_five (suc (suc (suc (suc (suc zero))))) h = omega arith
 room_five (suc (suc (suc (suc (suc (suc room)))))) h = absurd (omega (arith, h))
 
-pub group_more : (room : ℕ) (bytes rest : List ℕ) (b high len : ℕ) → 1 ≤ room → slice_get bytes 0 ≡ Some b → 128 ≤ b → varint_at (room - 1) (drop 1 bytes) ≡ Some (high, rest) → varint_at room bytes ≡ Some (b - 128 + 128 * high, rest)
+pub group_more : (room : ℕ) (bytes rest : List ℕ) (b high len : ℕ) → 1 ≤ room → slice_get bytes 0 ≡ Some b → 128 ≤ b →
+    varint_at (room - 1) (drop 1 bytes) ≡ Some (high, rest) → varint_at room bytes ≡ Some (b - 128 + 128 * high, rest)
 group_more zero bytes rest b high len h first large more = absurd (omega (arith, h))
 group_more (suc room) [] rest b high len h first large more = cc
 group_more (suc room) (c ∷ bytes) rest b high len h first large more =
     let is : c ≡ b = cc in
     let down : suc room - 1 ≡ room = omega arith in
-    ap (λ t. cond t (Some (c, bytes)) (option_map (λ (found : ℕ × List ℕ). (c - 128 + 128 * found.0, found.1)) (varint_at room bytes))) (le-ltb c 128 (subst (λ n. 128 ≤ n) (sym is) large))
+    ap (λ t. cond t (Some (c, bytes)) (option_map (λ (found : ℕ × List ℕ). (c - 128 + 128 * found.0, found.1))
+    (varint_at room bytes))) (le-ltb c 128 (subst (λ n. 128 ≤ n) (sym is) large))
     ∙ ap (option_map (λ (found : ℕ × List ℕ). (c - 128 + 128 * found.0, found.1))) (ap (λ k. varint_at k bytes) (sym down) ∙ more)
     ∙ ap (λ n. Some (n - 128 + 128 * high, rest)) is
 

@@ -20,7 +20,9 @@ pub true_T : (b : Bool) → b ≡ true → T b
 true_T true h = tt
 true_T false h = absurd (true≢false (sym h))
 
-pub encoding_in_order : (paths : List (List ℕ)) (entries : List Entry) → are_paths paths ≡ true → map'.is_sorted bytes_cmp entries ≡ true → encoding_of paths entries ≡ encoding (set'.from_list paths) (map'.from_entries entries)
+pub encoding_in_order : (paths : List (List ℕ)) (entries : List Entry) → are_paths paths ≡ true →
+    map'.is_sorted bytes_cmp entries ≡ true → encoding_of paths entries ≡ encoding (set'.from_list paths)
+    (map'.from_entries entries)
 unfolding encoding
 encoding_in_order paths entries h up =
     let reduced = (and_parts (list_all is_storable paths) (are_reduced paths) h).1 in
@@ -29,7 +31,8 @@ encoding_in_order paths entries h up =
 
 -- ---- ascending entries are in the order of a map
 
-below_more : (name next : List ℕ) (names : List (List ℕ)) → is_lt (bytes_cmp name next) ≡ true → are_ascending (next ∷ names) ≡ true → are_ascending (name ∷ names) ≡ true
+below_more : (name next : List ℕ) (names : List (List ℕ)) → is_lt (bytes_cmp name next) ≡ true →
+    are_ascending (next ∷ names) ≡ true → are_ascending (name ∷ names) ≡ true
 below_more name next [] less up = refl
 below_more name next (other ∷ names) less up =
     let both = and_parts (is_lt (bytes_cmp next other)) (are_ascending (other ∷ names)) up in
@@ -39,11 +42,13 @@ below_named : (name : List ℕ) (es : List Entry) → are_ascending (name ∷ na
 below_named name [] up = refl
 below_named name (e ∷ es) up =
     let both = and_parts (is_lt (bytes_cmp name e.0)) (are_ascending (e.0 ∷ names_of es)) up in
-    and_from (is_lt (bytes_cmp name e.0)) (below_all bytes_cmp name es) both.0 (below_named name es (below_more name e.0 (names_of es) both.0 both.1))
+    and_from (is_lt (bytes_cmp name e.0)) (below_all bytes_cmp name es) both.0
+    (below_named name es (below_more name e.0 (names_of es) both.0 both.1))
 
 pub sorted_named : (es : List Entry) → are_ascending (names_of es) ≡ true → map'.is_sorted bytes_cmp es ≡ true
 sorted_named [] up = refl
-sorted_named (e ∷ es) up = and_from (below_all bytes_cmp e.0 es) (map'.is_sorted bytes_cmp es) (below_named e.0 es up) (sorted_named es (tail_up e.0 (names_of es) up))
+sorted_named (e ∷ es) up = and_from (below_all bytes_cmp e.0 es) (map'.is_sorted bytes_cmp es) (below_named e.0 es up)
+    (sorted_named es (tail_up e.0 (names_of es) up))
 
 pub encoding_built : (built : Built) → IsBuilt built → encoding_of built.paths built.entries ≡ encoding (path_set built) (file_map built)
 encoding_built built is = encoding_in_order built.paths built.entries is.paths (sorted_named built.entries is.ascend)

@@ -1,7 +1,8 @@
 -- Ascending paths, none of which covers another.
 use Rattle.std.specs.Prelude.{bytes_eq}
 use Rattle.std.specs.Path.{slash}
-use Rattle.std.proofs.Common.{◌≡◌, ℕ, ◌+◌, ◌-◌, ◌≤◌, Bool, true, false, not, ◌&&◌, ◌||◌, List, [], ◌∷◌, ◌++◌, length, map, drop, string_bytes, String, Global, length-drop, refl, sym, ap, ◌∙◌, arith}
+use Rattle.std.proofs.Common.{◌≡◌, ℕ, ◌+◌, ◌-◌, ◌≤◌, true, false, not, ◌&&◌, ◌||◌, List, [], ◌∷◌, ◌++◌, length, map, drop, string_bytes, String, Global, length-drop, refl, sym, ap, ◌∙◌, arith}
+use Rattle.std.proofs.Math.Bool.{and-false, and-true}
 use Rattle.std.specs.List.{list_all, list_any, AllByRecursion}
 use Rattle.std.specs.List.Sorted.{IsStrictlySortedBy}
 use Rattle.std.specs.Ordering.{is_lt, ordering_reverse, ordering_then}
@@ -16,11 +17,6 @@ use Rattle.cs_tree.specs.Covering.{Covers, itself, below, root}
 use Rattle.cs_tree.proofs.CoverLemmas.{covers_says}
 use Rattle.cs_index.specs.Built.{are_reduced, is_before}
 use Rattle.cs_tree.proofs.ReduceLemmas.{strictly_from}
-
-pub list_all-map : {X Y : Type 0} (test : Y → Bool) (f : X → Y) (xs : List X) →
-    list_all test (map f xs) ≡ list_all (λ x. test (f x)) xs
-list_all-map test f [] = refl
-list_all-map test f (x ∷ xs) = ap (λ b. test (f x) && b) (list_all-map test f xs)
 
 -- ---- a path that covers another is not greater
 
@@ -79,11 +75,7 @@ none_covers p (q ∷ ps) all =
     ∙ none_covers p ps all.1
 
 not_itself : (p : List ℕ) → (covers p p && not (bytes_eq p p)) ≡ false
-not_itself p = ap (λ b. covers p p && not b) ((bytes_decides p p).1 refl) ∙ and_false (covers p p)
-  where
-    and_false : (b : Bool) → (b && false) ≡ false
-    and_false true = refl
-    and_false false = refl
+not_itself p = ap (λ b. covers p p && not b) ((bytes_decides p p).1 refl) ∙ and-false (covers p p)
 
 alone_first : (p : List ℕ) (ps : List (List ℕ)) → AllByRecursion (λ q. bytes_cmp p q ≡ Less) ps →
     is_alone (p ∷ ps) p ≡ true
@@ -111,7 +103,7 @@ alone_fewer p all (q ∷ ps) up h =
     let neither = or_parts (covers p q && not (bytes_eq p q)) (list_any (λ other. covers other q && not (bytes_eq other q)) all)
     (not-true _ parts.0) in
     let rest = alone_fewer p all ps up.1 parts.1 in
-    let uncovered : covers p q ≡ false = sym (and_true (covers p q))
+    let uncovered : covers p q ≡ false = sym (and-true (covers p q))
     ∙ ap (λ b. covers p q && not b) (sym (apart p q up.0)) ∙ neither.0 in (
       and_from (is_before p q) (list_all (is_before p) ps)
           (and_from (is_lt (bytes_cmp p q)) (not (covers p q)) (ap is_lt up.0) (not_from_false (covers p q) uncovered))
@@ -119,10 +111,6 @@ alone_fewer p all (q ∷ ps) up h =
       and_from (is_alone all q) (list_all (is_alone all) ps) (not_from_false _ neither.1)
           rest.1,
     )
-  where
-    and_true : (b : Bool) → (b && true) ≡ b
-    and_true true = refl
-    and_true false = refl
 
 reduced_alone : (ps : List (List ℕ)) → are_ascending ps ≡ true → are_reduced ps ≡ true →
     list_all (is_alone ps) ps ≡ true

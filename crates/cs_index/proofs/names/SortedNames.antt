@@ -31,14 +31,17 @@ name_borrowed n = n.0.now
 abbrev with_from : ℕ → List (List ℕ) → List NameWithId
 with_from id names = zip names (range_with_len id (length names))
 
-pushed_from : (id : ℕ) (names : List (List ℕ)) (name : List ℕ) → with_from id (names ++ name ∷ []) ≡ with_from id names ++ (name, id + length names) ∷ []
+pushed_from : (id : ℕ) (names : List (List ℕ)) (name : List ℕ) → with_from id (names ++ name ∷ []) ≡ with_from id names
+    ++ (name, id + length names) ∷ []
 pushed_from id [] name = ap (λ n. (name, n) ∷ []) (let z : id ≡ id + 0 = omega arith in z)
 pushed_from id (x ∷ names) name =
     ap (λ ns. (x, id) ∷ ns) (pushed_from (id + 1) names name)
-    ∙ ap (λ n. (x, id) ∷ with_from (id + 1) names ++ (name, n) ∷ []) (let z : id + 1 + length names ≡ id + suc (length names) = omega arith in z)
+    ∙ ap (λ n. (x, id) ∷ with_from (id + 1) names ++ (name, n) ∷ [])
+    (let z : id + 1 + length names ≡ id + suc (length names) = omega arith in z)
 
 pub with_ids-push : (names : List (List ℕ)) (name : List ℕ) → with_ids (names ++ name ∷ []) ≡ with_ids names ++ (name, length names) ∷ []
-with_ids-push names name = pushed_from 0 names name ∙ ap (λ n. with_ids names ++ (name, n) ∷ []) (let z : 0 + length names ≡ length names = omega arith in z)
+with_ids-push names name = pushed_from 0 names name ∙ ap (λ n. with_ids names ++ (name, n) ∷ [])
+    (let z : 0 + length names ≡ length names = omega arith in z)
 
 names_from : (id : ℕ) (names : List (List ℕ)) → map name_in (with_from id names) ≡ names
 names_from id [] = refl
@@ -54,7 +57,8 @@ names_borrowed (n ∷ ns) = ap (λ xs. name_borrowed n ∷ xs) (names_borrowed n
 -- ---- adjacent names
 
 two_at : (ns : List Borrowed) (at : ℕ) (d : Borrowed) → 1 ≤ at → at < length ns →
-    map name_borrowed (drop (at - 1) ns) ≡ name_borrowed (get_or ns (at - 1) d) ∷ name_borrowed (get_or ns at d) ∷ map name_borrowed (drop (at + 1) ns)
+    map name_borrowed (drop (at - 1) ns) ≡ name_borrowed (get_or ns (at - 1) d) ∷ name_borrowed (get_or ns at d)
+    ∷ map name_borrowed (drop (at + 1) ns)
 two_at ns at d some within =
     let e : at - 1 + 1 ≡ at = omega (arith, some) in
     ap (map name_borrowed) (drop_more ns (at - 1) d (omega (arith, some, within)))
@@ -127,13 +131,21 @@ distinct_few name (n ∷ ns) h =
       | inr apart ↦ omega (arith, many-more name n ns, away name n apart, rest)
     ]
 
-alone_from : (n : Borrowed) (ns : List Borrowed) → ((name : List ℕ) → many name (n ∷ ns) ≤ 1) → dedup_from (same_key name_borrowed) n ns ≡ n ∷ ns
+alone_from : (n : Borrowed) (ns : List Borrowed) → ((name : List ℕ) → many name (n ∷ ns) ≤ 1) →
+    dedup_from (same_key name_borrowed) n ns ≡ n ∷ ns
 alone_from n [] bound = refl
 alone_from n (m ∷ ns) bound =
     elim (cases_Bool (same_key name_borrowed m n)) [
       | inl tied ↦
           let self : bytes_eq (name_borrowed n) (name_borrowed n) ≡ true = (bytes_decides (name_borrowed n) (name_borrowed n)).1 refl in
-          absurd (omega (arith, bound (name_borrowed n), many-more (name_borrowed n) n (m ∷ ns), many-more (name_borrowed n) m ns, here (name_borrowed n) n self, here (name_borrowed n) m tied))
+          absurd (omega (
+            arith,
+            bound (name_borrowed n),
+            many-more (name_borrowed n) n (m ∷ ns),
+            many-more (name_borrowed n) m ns,
+            here (name_borrowed n) n self,
+            here (name_borrowed n) m tied,
+          ))
       | inr apart ↦
           ap (λ b. cond b (dedup_from (same_key name_borrowed) n ns) (n ∷ dedup_from (same_key name_borrowed) m ns)) apart
           ∙ ap (λ ms. n ∷ ms) (alone_from m ns (λ name. omega (arith, bound name, many-more name n (m ∷ ns))))
@@ -149,8 +161,10 @@ pub sorted_twins : (ns sorted : List Borrowed) → IsPermutation ns sorted → I
 sorted_twins ns sorted moved up falling =
     elim (cases_Bool (are_distinct (map name_borrowed ns))) [
       | inl distinct ↦
-          let bound : (name : List ℕ) → many name sorted ≤ 1 = λ name. omega (arith, distinct_few name ns distinct, sum_by-IsPermutation (one name) ns sorted moved) in
-          absurd (true≢false (sym (sorted_once name_borrowed sorted up) ∙ ap (λ ms. are_ascending (map name_borrowed ms)) (alone sorted bound) ∙ falling))
+          let bound : (name : List ℕ) → many name sorted ≤ 1 =
+          λ name. omega (arith, distinct_few name ns distinct, sum_by-IsPermutation (one name) ns sorted moved) in
+          absurd (true≢false (sym (sorted_once name_borrowed sorted up)
+          ∙ ap (λ ms. are_ascending (map name_borrowed ms)) (alone sorted bound) ∙ falling))
       | inr twice ↦ twice
     ]
 
@@ -160,7 +174,8 @@ pub texts-push : (names : List (Bor (List ℕ))) (name : Bor (List ℕ)) → tex
 texts-push [] name = refl
 texts-push (x ∷ names) name = ap (λ ns. x.now ∷ ns) (texts-push names name)
 
-pub texts_more : (names : List (Bor (List ℕ))) (name : Bor (List ℕ)) (rest : List (List ℕ)) → texts (names ++ name ∷ []) ++ rest ≡ texts names ++ name.now ∷ rest
+pub texts_more : (names : List (Bor (List ℕ))) (name : Bor (List ℕ)) (rest : List (List ℕ)) → texts (names ++ name ∷ [])
+    ++ rest ≡ texts names ++ name.now ∷ rest
 texts_more [] name rest = refl
 texts_more (x ∷ names) name rest = ap (λ ns. x.now ∷ ns) (texts_more names name rest)
 
@@ -179,23 +194,23 @@ pub one_left : (names : List (List ℕ)) (name : List ℕ) (rest : List (List �
 one_left [] name rest = omega arith
 one_left (x ∷ names) name rest = omega (arith, one_left names name rest)
 
-pub all_taken : (names : List (List ℕ)) → names ++ [] ≡ names
-all_taken [] = refl
-all_taken (x ∷ names) = ap (λ ns. x ∷ ns) (all_taken names)
-
 -- ---- the sorted ids
 
-module _ (names : List (List ℕ)) (ns sorted : List Borrowed) (are : borrowed_names ns ≡ with_ids names) (moved : IsPermutation ns sorted) where
+module _ (names : List (List ℕ)) (ns sorted : List Borrowed) (are : borrowed_names ns ≡ with_ids names)
+    (moved : IsPermutation ns sorted) where
   names_are : map name_borrowed ns ≡ names
   names_are = sym (names_borrowed ns) ∙ ap (map name_in) are ∙ names_with_ids names
 
   pub in_order : are_ascending (map name_in (borrowed_names sorted)) ≡ true → IsOrder names (map id_in (borrowed_names sorted))
   in_order up = record {
     named = borrowed_names sorted;
-    moved = subst (λ ms. IsPermutation ms (borrowed_names sorted)) are (IsPermutation-map (λ (n : Borrowed). (n.0.now, n.1)) ns sorted moved);
+    moved = subst (λ ms. IsPermutation ms (borrowed_names sorted)) are
+        (IsPermutation-map (λ (n : Borrowed). (n.0.now, n.1)) ns sorted moved);
     ascend = up;
     have = refl;
   }
 
-  pub repeated_name : IsSorted (by_key name_borrowed) sorted → are_ascending (map name_in (borrowed_names sorted)) ≡ false → are_distinct names ≡ false
-  repeated_name up falling = subst (λ ms. are_distinct ms ≡ false) names_are (sorted_twins ns sorted moved up (ap are_ascending (sym (names_borrowed sorted)) ∙ falling))
+  pub repeated_name : IsSorted (by_key name_borrowed) sorted → are_ascending (map name_in (borrowed_names sorted))
+      ≡ false → are_distinct names ≡ false
+  repeated_name up falling = subst (λ ms. are_distinct ms ≡ false) names_are
+      (sorted_twins ns sorted moved up (ap are_ascending (sym (names_borrowed sorted)) ∙ falling))

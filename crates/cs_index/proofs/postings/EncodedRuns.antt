@@ -1,8 +1,8 @@
 -- Encoded runs: ids that are copied as varint deltas.
-use Rattle.std.proofs.Common.{◌≡◌, ℕ, suc, ◌+◌, ◌-◌, ◌*◌, ◌/◌, ◌%◌, ◌^◌, ◌<◌, ◌≤◌, Bool, true, false, cond, ◌||◌, eqb, ltb, List, [], ◌∷◌, ◌++◌, length, length-set, get_or, set, take, drop, refl, sym, ap, subst, ◌∙◌, arith, append_assoc}
-use Rattle.std.proofs.lemmas.Bool.{lt-ltb, le-ltb, and_from}
+use Rattle.std.proofs.Common.{◌≡◌, ℕ, suc, ◌+◌, ◌-◌, ◌*◌, ◌/◌, ◌%◌, ◌^◌, ◌<◌, ◌≤◌, Bool, true, false, cond, ◌||◌, eqb, List, [], ◌∷◌, ◌++◌, length, length-set, get_or, set, take, drop, refl, sym, ap, subst, ◌∙◌, arith}
+use Rattle.std.proofs.lemmas.Bool.{lt-ltb, le-ltb}
 use Rattle.std.proofs.lemmas.List.{append-nil, length-map}
-use Rattle.std.proofs.Math.Bool.{or-false}
+use Rattle.std.proofs.Math.Bool.{or-false, or_assoc}
 use Rattle.std.proofs.Math.Seq.{take-add}
 use Rattle.std.specs.List.{AllByRecursion}
 use Rattle.std.specs.Prelude.{flat_map, fold, sum}
@@ -10,10 +10,10 @@ use Rattle.cs_index.specs.Encoding.{varint, varint_within, deltas_from, stream_o
 use Rattle.cs_trigram.specs.Trigram.{has}
 use Rattle.cs_index.specs.IdStream.{ids_from, ids_in, IsMarked, IsStream}
 use Rattle.cs_index.specs.AscendingIds.{ids_onward, max_ids, next_after, AscendWithin}
-use Rattle.cs_index.specs.PostingLists.{Ids, before, read_ids, read_varint, onto, damage}
+use Rattle.cs_index.specs.PostingLists.{Ids, before, read_ids}
 use Rattle.cs_index.specs.PostingsInvariant.{remaining_ids}
 use Rattle.cs_index.proofs.postings.StreamPush.{decoded-stream_of, rise_length, short_varint, stream_from, stream_more}
-use Rattle.cs_index.proofs.encoding.VarintRoundtrip.{varint_read, after_delta}
+use Rattle.cs_index.proofs.encoding.VarintRoundtrip.{read_prefix}
 use Rattle.cs_index.proofs.postings.IteratorSteps.{mark_step}
 
 -- ---- relative ids
@@ -40,7 +40,8 @@ onward_deltas from next [] = refl
 onward_deltas from next (id ∷ ids) =
     let first : from + id + 1 - (from + next) ≡ id + 1 - next = omega arith in
     let at : from + id + 1 ≡ from + (id + 1) = omega arith in
-    let rest : deltas_from (from + id + 1) (ids_onward from ids) ≡ deltas_from (id + 1) ids = ap (λ n. deltas_from n (ids_onward from ids)) at ∙ onward_deltas from (id + 1) ids in
+    let rest : deltas_from (from + id + 1) (ids_onward from ids) ≡ deltas_from (id + 1) ids =
+    ap (λ n. deltas_from n (ids_onward from ids)) at ∙ onward_deltas from (id + 1) ids in
     λ i. first i ∷ rest i
 
 -- relative ids have the same deltas as the ids themselves
@@ -62,25 +63,6 @@ onward_from limit name_count from ids up h =
 
 -- ---- the first ids of a list that is read
 
-read_prefix : (name_count next more : ℕ) (ids rest : List ℕ) → name_count < 2 ^ 32 → AscendWithin name_count next ids →
-    read_ids name_count (length ids + more) next (flat_map varint (deltas_from next ids) ++ rest)
-    ≡ before ids (read_ids name_count more (next_after next ids) rest)
-read_prefix name_count next more [] rest bound up =
-    let none : 0 + more ≡ more = omega arith in ap (λ n. read_ids name_count n next rest) none
-read_prefix name_count next more (id ∷ ids) rest bound up =
-    let delta : ℕ = id + 1 - next in
-    let fits : delta < 2 ^ 32 = omega (arith, bound, up.1) in
-    let at : next + delta ≡ id + 1 = omega (arith, up.0) in
-    let one : suc (length ids) + more ≡ suc (length ids + more) = omega arith in
-    ap (λ n. read_ids name_count n next (flat_map varint (deltas_from next (id ∷ ids)) ++ rest)) one
-    ∙ ap (after_delta name_count next (read_ids name_count (length ids + more)))
-    (ap read_varint (append_assoc (varint delta) (flat_map varint (deltas_from (id + 1) ids)) rest) ∙ varint_read delta _ fits)
-    ∙ ap (λ b. cond b (onto (next + delta - 1) (read_ids name_count (length ids + more) (next + delta) (flat_map varint (deltas_from (id + 1) ids) ++ rest))) damage)
-    (and_from (ltb 0 delta) (ltb (next + delta) (name_count + 1)) (lt-ltb 0 delta (omega (arith, up.0))) (lt-ltb (next + delta) (name_count + 1) (omega (arith, at, up.1))))
-    ∙ ap (λ m. onto (m - 1) (read_ids name_count (length ids + more) m (flat_map varint (deltas_from (id + 1) ids) ++ rest))) at
-    ∙ ap (onto (id + 1 - 1)) (read_prefix name_count (id + 1) more ids rest bound up.2)
-    ∙ ap (λ m. onto m (before ids (read_ids name_count more (next_after (id + 1) ids) rest))) (let back : id + 1 - 1 ≡ id = omega arith in back)
-
 pub left_prefix : (name_count next left : ℕ) (bytes rest ids : List ℕ) → name_count < 2 ^ 31 → AscendWithin max_ids 0 ids →
     next + next_after 0 ids ≤ name_count → length ids ≤ left → bytes ≡ stream_of ids ++ rest →
     read_ids name_count left next bytes
@@ -88,9 +70,11 @@ pub left_prefix : (name_count next left : ℕ) (bytes rest ids : List ℕ) → n
 left_prefix name_count next left bytes rest ids bound up within count is =
     let long = length-map ids (λ id. next + id) in
     let all : left ≡ length (ids_onward next ids) + (left - length ids) = omega (arith, long, count) in
-    let written : bytes ≡ flat_map varint (deltas_from next (ids_onward next ids)) ++ rest = is ∙ ap (λ s. s ++ rest) (sym (onward_stream next ids)) in
+    let written : bytes ≡ flat_map varint (deltas_from next (ids_onward next ids)) ++ rest = is
+    ∙ ap (λ s. s ++ rest) (sym (onward_stream next ids)) in
     (λ i. read_ids name_count (all i) next (written i))
-    ∙ read_prefix name_count next (left - length ids) (ids_onward next ids) rest (omega (arith, bound)) (onward_from max_ids name_count next ids up within)
+    ∙ read_prefix name_count next (left - length ids) (ids_onward next ids) rest (omega (arith, bound))
+    (onward_from max_ids name_count next ids up within)
     ∙ ap (λ n. before (ids_onward next ids) (read_ids name_count (left - length ids) n rest)) (onward_last next ids)
 
 -- relative ids are less than their bound
@@ -101,7 +85,8 @@ all_below limit from end next (id ∷ ids) up h =
     let long = rise_length limit (id + 1) ids up.2 in
     (omega (arith, long, h), all_below limit from end (id + 1) ids up.2 h)
 
-pub onward_below : (from end : ℕ) (ids : List ℕ) → AllByRecursion (λ id. from + id < end) ids → AllByRecursion (λ id. id < end) (ids_onward from ids)
+pub onward_below : (from end : ℕ) (ids : List ℕ) → AllByRecursion (λ id. from + id < end) ids →
+    AllByRecursion (λ id. id < end) (ids_onward from ids)
 onward_below from end [] h = tt
 onward_below from end (id ∷ ids) h = (h.0, onward_below from end ids h.1)
 
@@ -118,7 +103,8 @@ joined bytes len count next size ids end is more fits =
     let push = stream_more (take len bytes) count next (ids_onward next some) is rise in
     let all : take len bytes ++ flat_map varint (deltas_from next (ids_onward next some)) ≡ take (len + size) bytes =
     ap (λ s. take len bytes ++ s) (onward_stream next some ∙ sym more.written) ∙ sym (take-add len size bytes) in
-    let many : count + length (ids_onward next some) ≡ count + ids = ap (λ n. count + n) (length-map some (λ id. next + id) ∙ sym more.counted) in
+    let many : count + length (ids_onward next some) ≡ count + ids =
+    ap (λ n. count + n) (length-map some (λ id. next + id) ∙ sym more.counted) in
     let at : next_after next (ids_onward next some) ≡ next + end = onward_last next some ∙ ap (λ n. next + n) (sym more.follows) in
     subst (IsStream (take (len + size) bytes) (count + ids)) at
     (subst (λ n. IsStream (take (len + size) bytes) n (next_after next (ids_onward next some))) many
@@ -127,14 +113,16 @@ joined bytes len count next size ids end is more fits =
 -- and its ids
 pub joined_ids : (bytes : List ℕ) (len count next size ids end : ℕ) → IsStream (take len bytes) count next →
     IsStream (take size (drop len bytes)) ids end → next + end ≤ max_ids →
-    ids_in (take (len + size) bytes) (count + ids) ≡ ids_in (take len bytes) count ++ ids_onward next (ids_in (take size (drop len bytes)) ids)
+    ids_in (take (len + size) bytes) (count + ids) ≡ ids_in (take len bytes) count ++ ids_onward next
+    (ids_in (take size (drop len bytes)) ids)
 joined_ids bytes len count next size ids end is more fits =
     let some : List ℕ = ids_in (take size (drop len bytes)) ids in
     let rise : AscendWithin max_ids next (ids_onward next some) =
     onward_from max_ids max_ids next some more.rise (omega (arith, fits, more.follows)) in
     let all : take len bytes ++ flat_map varint (deltas_from next (ids_onward next some)) ≡ take (len + size) bytes =
     ap (λ s. take len bytes ++ s) (onward_stream next some ∙ sym more.written) ∙ sym (take-add len size bytes) in
-    let many : count + length (ids_onward next some) ≡ count + ids = ap (λ n. count + n) (length-map some (λ id. next + id) ∙ sym more.counted) in
+    let many : count + length (ids_onward next some) ≡ count + ids =
+    ap (λ n. count + n) (length-map some (λ id. next + id) ∙ sym more.counted) in
     (λ i. ids_in (sym all i) (sym many i)) ∙ (stream_more (take len bytes) count next (ids_onward next some) is rise).ids
 
 -- the stream of one id
@@ -203,7 +191,8 @@ pub deltas_stream : (deltas : List ℕ) → AllByRecursion (λ delta. (0 < delta
     sum deltas ≤ max_ids → IsStream deltas (length deltas) (sum deltas)
 deltas_stream deltas short fits =
     let is = stream_from (ids_from 0 deltas) (ids_rising 0 deltas short (omega (arith, fits))) in
-    let end : next_after 0 (ids_from 0 deltas) ≡ sum deltas = ids_last 0 deltas short ∙ (let z : 0 + sum deltas ≡ sum deltas = omega arith in z) in
+    let end : next_after 0 (ids_from 0 deltas) ≡ sum deltas = ids_last 0 deltas short
+    ∙ (let z : 0 + sum deltas ≡ sum deltas = omega arith in z) in
     subst (IsStream deltas (length deltas)) end
     (subst (λ n. IsStream deltas n (next_after 0 (ids_from 0 deltas))) (ids_counted 0 deltas)
     (subst (λ s. IsStream s (length (ids_from 0 deltas)) (next_after 0 (ids_from 0 deltas))) (ids_written 0 deltas short) is))
@@ -224,7 +213,9 @@ two_bytes first second large byte some small =
     let high : second ≡ n / 128 = omega (arith, large, byte) in
     let more : 128 ≤ n = omega (arith, some) in
     (λ i. low i ∷ high i ∷ [])
-    ∙ ap (λ rest. (n % 128 + 128) ∷ rest) (sym (ap (λ b. cond b (n / 128 ∷ []) ((n / 128 % 128 + 128) ∷ varint_within 3 (n / 128 / 128))) (lt-ltb (n / 128) 128 (omega (arith, high, small)))))
+    ∙ ap (λ rest. (n % 128 + 128) ∷ rest) (sym
+    (ap (λ b. cond b (n / 128 ∷ []) ((n / 128 % 128 + 128) ∷ varint_within 3 (n / 128 / 128)))
+    (lt-ltb (n / 128) 128 (omega (arith, high, small)))))
     ∙ sym (ap (λ b. cond b (n ∷ []) ((n % 128 + 128) ∷ varint_within 4 (n / 128))) (le-ltb n 128 more))
 
 pub one_at : (bytes : List ℕ) → 1 ≤ length bytes → get_or bytes 0 0 < 128 → take 1 bytes ≡ varint (get_or bytes 0 0)
@@ -254,7 +245,8 @@ run_skipped ended name_count left next last len on bytes rest ids now view off a
 -- ---- flags of ids
 
 -- ids that are counted from another one
-pub from_onward : (at next : ℕ) (deltas : List ℕ) → AllByRecursion (λ delta. (0 < delta) × (delta < 128)) deltas → ids_from (at + next) deltas ≡ ids_onward at (ids_from next deltas)
+pub from_onward : (at next : ℕ) (deltas : List ℕ) → AllByRecursion (λ delta. (0 < delta) × (delta < 128)) deltas →
+    ids_from (at + next) deltas ≡ ids_onward at (ids_from next deltas)
 from_onward at next [] short = refl
 from_onward at next (delta ∷ deltas) short =
     let first : at + next + delta - 1 ≡ at + (next + delta - 1) = omega (arith, short.0.0) in
@@ -269,7 +261,8 @@ pub none_in : ids_in [] 0 ≡ []
 unfolding ids_in
 none_in = refl
 
-pub marked_one : (at delta : ℕ) (row : List Bool) → 0 < delta → at + delta ≤ length row → IsMarked at ((delta - 1) ∷ []) row (set row (at + delta - 1) true)
+pub marked_one : (at delta : ℕ) (row : List Bool) → 0 < delta → at + delta ≤ length row →
+    IsMarked at ((delta - 1) ∷ []) row (set row (at + delta - 1) true)
 marked_one at delta row some within = record {
   width = length-set row (at + delta - 1) true;
   flags = λ k.
@@ -278,23 +271,22 @@ marked_one at delta row some within = record {
       ∙ ap (λ n. get_or row k false || (eqb n k || false)) (let same : at + delta - 1 ≡ at + (delta - 1) = omega (arith, some) in same);
 }
 
-pub marked_more : (at next : ℕ) (xs ys all : List ℕ) (row one two : List Bool) → all ≡ xs ++ ids_onward next ys → IsMarked at xs row one → IsMarked (at + next) ys one two → IsMarked at all row two
+pub marked_more : (at next : ℕ) (xs ys all : List ℕ) (row one two : List Bool) → all ≡ xs ++ ids_onward next ys →
+    IsMarked at xs row one → IsMarked (at + next) ys one two → IsMarked at all row two
 marked_more at next xs ys all row one two is m n = record {
   width = n.width ∙ m.width;
   flags = λ k.
       n.flags k ∙ ap (λ b. b || has (ids_onward (at + next) ys) k) (m.flags k)
-      ∙ assoc (get_or row k false) (has (ids_onward at xs) k) (has (ids_onward (at + next) ys) k)
+      ∙ or_assoc (get_or row k false) (has (ids_onward at xs) k) (has (ids_onward (at + next) ys) k)
       ∙ ap (λ b. get_or row k false || b) (sym (both k xs) ∙ ap (λ (ids : List ℕ). has (ids_onward at ids) k) (sym is));
 }
   where
-    assoc : (a b c : Bool) → ((a || b) || c) ≡ (a || (b || c))
-    assoc true b c = refl
-    assoc false b c = refl
-
     twice : (k : ℕ) (zs : List ℕ) → has (ids_onward at (ids_onward next zs)) k ≡ has (ids_onward (at + next) zs) k
     twice k [] = refl
     twice k (z ∷ zs) = let same : at + (next + z) ≡ at + next + z = omega arith in λ i. eqb (same i) k || twice k zs i
 
-    both : (k : ℕ) (zs : List ℕ) → has (ids_onward at (zs ++ ids_onward next ys)) k ≡ (has (ids_onward at zs) k || has (ids_onward (at + next) ys) k)
+    both : (k : ℕ) (zs : List ℕ) → has (ids_onward at (zs ++ ids_onward next ys)) k
+        ≡ (has (ids_onward at zs) k || has (ids_onward (at + next) ys) k)
     both k [] = twice k ys
-    both k (z ∷ zs) = ap (λ b. eqb (at + z) k || b) (both k zs) ∙ sym (assoc (eqb (at + z) k) (has (ids_onward at zs) k) (has (ids_onward (at + next) ys) k))
+    both k (z ∷ zs) = ap (λ b. eqb (at + z) k || b) (both k zs)
+        ∙ sym (or_assoc (eqb (at + z) k) (has (ids_onward at zs) k) (has (ids_onward (at + next) ys) k))

@@ -1,19 +1,19 @@
 -- The items that an iterator over a posting list yields.
 use Rattle.std.proofs.Common.{◌≡◌, ℕ, ◌+◌, ◌-◌, ◌<◌, Bool, true, false, cond, ◌||◌, eqb, List, [], ◌∷◌, ◌++◌, length, get_or, set, Result, Ok, Err, refl, sym, ap, ◌∙◌, inl, inr, arith, append_assoc}
-use Rattle.cs_index.specs.Postings.{ids_given, IsListFault}
+use Rattle.cs_index.specs.Postings.{ids_given}
 use Rattle.cs_index.specs.PostingLists.{Ids}
 use Rattle.std.proofs.lemmas.Bool.{cases_Bool, eqb-true, eqb-false}
 use Rattle.std.proofs.lemmas.List.{get_or-set_other}
 use Rattle.std.proofs.lemmas.Grind.{get_or-set_at}
-use Rattle.std.specs.Prelude.{IfErr, filter}
-use Rattle.std.specs.Result.{IsErrAnd}
+use Rattle.std.specs.Prelude.{filter}
 use Rattle.std.specs.List.{range_with_len}
 use Rattle.cs_index.specs.declared.fault.IndexFault.{IndexFault}
 use Rattle.cs_index.specs.declared.fault.IndexFault.TheVariants.{BadList}
 use Rattle.cs_index.proofs.candidates.Intersection.{range_step}
 use Rattle.std.proofs.Math.Bool.{or-true}
 
-yields_once : (xs ys : List ℕ) (a b : Bool) → ids_given (record { ids = xs; whole = a }) ≡ ids_given (record { ids = ys; whole = b }) → (xs ≡ ys) × (a ≡ b)
+yields_once : (xs ys : List ℕ) (a b : Bool) → ids_given (record { ids = xs; whole = a })
+    ≡ ids_given (record { ids = ys; whole = b }) → (xs ≡ ys) × (a ≡ b)
 yields_once [] [] true true e = (refl, refl)
 yields_once [] [] false false e = (refl, refl)
 yields_once [] [] true false e = cc
@@ -42,7 +42,8 @@ yields_none r e = none r.ids r.whole e
 
 -- ---- one more id
 
-pub mark_step : (marks : List Bool) (id k : ℕ) (rest : Bool) → id < length marks → (get_or (set marks id true) k false || rest) ≡ (get_or marks k false || (eqb id k || rest))
+pub mark_step : (marks : List Bool) (id k : ℕ) (rest : Bool) → id < length marks →
+    (get_or (set marks id true) k false || rest) ≡ (get_or marks k false || (eqb id k || rest))
 mark_step marks id k rest h = elim (cases_Bool (eqb id k)) [
   | inl here ↦
       ap (λ b. b || rest) (get_or-set_at marks id k true false (sym (eqb-true id k here)) h)
@@ -52,22 +53,17 @@ mark_step marks id k rest h = elim (cases_Bool (eqb id k)) [
       ∙ sym (ap (λ b. get_or marks k false || (b || rest)) apart)
 ]
 
--- the error of a damaged list
-pub bad_list : {X : Type 0} (r : Result X IndexFault) (fault : IndexFault) (whole : Bool) → IsErrAnd r (λ f. f ≡ fault) → (fault ≡ BadList) × (whole ≡ false) → IfErr r (IsListFault whole)
-bad_list (Ok x) fault whole h bad = tt
-bad_list (Err f) fault whole h bad = inl (h ∙ bad.0, bad.1)
-
-pub marked_step : (test : ℕ → Bool) (count id : ℕ) (all ids new : List ℕ) → id < count → all ≡ ids ++ filter test (range_with_len id (count - id)) → new ≡ cond (test id) (ids ++ id ∷ []) ids → all ≡ new ++ filter test (range_with_len (id + 1) (count - (id + 1)))
+pub marked_step : (test : ℕ → Bool) (count id : ℕ) (all ids new : List ℕ) → id < count →
+    all ≡ ids ++ filter test (range_with_len id (count - id)) → new ≡ cond (test id) (ids ++ id ∷ []) ids →
+    all ≡ new ++ filter test (range_with_len (id + 1) (count - (id + 1)))
 marked_step test count id all ids new h so_far is =
     let rest : List ℕ = filter test (range_with_len (id + 1) (count - (id + 1))) in
-    so_far ∙ ap (λ t. ids ++ t) (ap (filter test) (range_step id (count - id) (omega (arith, h)) ∙ ap (λ n. id ∷ range_with_len (id + 1) n) (let z : count - id - 1 ≡ count - (id + 1) = omega arith in z)))
+    so_far ∙ ap (λ t. ids ++ t) (ap (filter test) (range_step id (count - id) (omega (arith, h))
+    ∙ ap (λ n. id ∷ range_with_len (id + 1) n) (let z : count - id - 1 ≡ count - (id + 1) = omega arith in z)))
     ∙ regroup (test id) ∙ ap (λ t. t ++ rest) (sym is)
   where
-    regroup : (b : Bool) → ids ++ cond b (id ∷ filter test (range_with_len (id + 1) (count - (id + 1)))) (filter test (range_with_len (id + 1) (count - (id + 1)))) ≡ cond b (ids ++ id ∷ []) ids ++ filter test (range_with_len (id + 1) (count - (id + 1)))
+    regroup : (b : Bool) → ids ++ cond b (id ∷ filter test (range_with_len (id + 1) (count - (id + 1))))
+        (filter test (range_with_len (id + 1) (count - (id + 1)))) ≡ cond b (ids ++ id ∷ []) ids
+        ++ filter test (range_with_len (id + 1) (count - (id + 1)))
     regroup true = sym (append_assoc ids (id ∷ []) (filter test (range_with_len (id + 1) (count - (id + 1)))))
     regroup false = refl
-
--- an error of a list is an error of the query
-pub fault_of : (fault : IndexFault) (whole mentioned : Bool) → (whole ≡ false → mentioned ≡ false) → IsListFault whole fault → IsListFault mentioned fault
-fault_of fault whole mentioned h (inl bad) = inl (bad.0, h bad.1)
-fault_of fault whole mentioned h (inr memory) = inr memory

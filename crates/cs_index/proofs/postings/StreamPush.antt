@@ -1,26 +1,14 @@
 -- Appending an id to a stream.
-use Rattle.std.proofs.Common.{◌≡◌, ℕ, suc, ◌+◌, ◌-◌, ◌*◌, ◌/◌, ◌%◌, ◌^◌, ◌<◌, ◌≤◌, Bool, true, cond, List, [], ◌∷◌, ◌++◌, length, refl, sym, ap, subst, ◌∙◌, arith, append_assoc, length-append, take, set}
+use Rattle.std.proofs.Common.{◌≡◌, ℕ, suc, ◌+◌, ◌-◌, ◌*◌, ◌/◌, ◌%◌, ◌^◌, ◌<◌, ◌≤◌, cond, List, [], ◌∷◌, ◌++◌, length, refl, sym, ap, subst, ◌∙◌, arith, append_assoc, length-append, take, set}
 use Rattle.cs_index.specs.AscendingIds.{max_ids, next_after, AscendWithin}
 use Rattle.cs_index.specs.PostingLists.{Ids}
 use Rattle.std.proofs.lemmas.Bool.{lt-ltb, le-ltb}
-use Rattle.std.proofs.lemmas.List.{append-nil, take_more_set}
+use Rattle.std.proofs.lemmas.List.{take_more_set}
 use Rattle.std.proofs.Math.Nat.{mul-le-mul_right}
 use Rattle.std.specs.Prelude.{flat_map}
 use Rattle.cs_index.specs.Encoding.{varint, varint_within, deltas_from, stream_of}
 use Rattle.cs_index.specs.IdStream.{ids_in, IsStream}
 use Rattle.cs_index.proofs.encoding.VarintRoundtrip.{ids_read}
-
-pub written_push : (next : ℕ) (ids : List ℕ) (id : ℕ) → flat_map varint (deltas_from next (ids ++ id ∷ [])) ≡ flat_map varint (deltas_from next ids) ++ varint (id + 1 - next_after next ids)
-written_push next [] id = append-nil (varint (id + 1 - next))
-written_push next (x ∷ ids) id = ap (λ rest. varint (x + 1 - next) ++ rest) (written_push (x + 1) ids id) ∙ sym (append_assoc (varint (x + 1 - next)) _ _)
-
-pub rise_push : (next : ℕ) (ids : List ℕ) (id : ℕ) → AscendWithin max_ids next ids → next_after next ids ≤ id → id < max_ids → AscendWithin max_ids next (ids ++ id ∷ [])
-rise_push next [] id up h bound = (h, bound, tt)
-rise_push next (x ∷ ids) id up h bound = (up.0, up.1, rise_push (x + 1) ids id up.2 h bound)
-
-pub next_push : (next : ℕ) (ids : List ℕ) (id : ℕ) → next_after next (ids ++ id ∷ []) ≡ id + 1
-next_push next [] id = refl
-next_push next (x ∷ ids) id = next_push (x + 1) ids id
 
 pub decoded-stream_of : (ids : List ℕ) → AscendWithin max_ids 0 ids → ids_in (stream_of ids) (length ids) ≡ ids
 unfolding ids_in
@@ -39,11 +27,14 @@ stream_from ids up =
 
 -- ---- several ids appended to a stream
 
-written_append : (next : ℕ) (xs ys : List ℕ) → flat_map varint (deltas_from next (xs ++ ys)) ≡ flat_map varint (deltas_from next xs) ++ flat_map varint (deltas_from (next_after next xs) ys)
+written_append : (next : ℕ) (xs ys : List ℕ) → flat_map varint (deltas_from next (xs ++ ys))
+    ≡ flat_map varint (deltas_from next xs) ++ flat_map varint (deltas_from (next_after next xs) ys)
 written_append next [] ys = refl
-written_append next (x ∷ xs) ys = ap (λ rest. varint (x + 1 - next) ++ rest) (written_append (x + 1) xs ys) ∙ sym (append_assoc (varint (x + 1 - next)) _ _)
+written_append next (x ∷ xs) ys = ap (λ rest. varint (x + 1 - next) ++ rest) (written_append (x + 1) xs ys)
+    ∙ sym (append_assoc (varint (x + 1 - next)) _ _)
 
-pub rise_append : (name_count next : ℕ) (xs ys : List ℕ) → AscendWithin name_count next xs → AscendWithin name_count (next_after next xs) ys → AscendWithin name_count next (xs ++ ys)
+pub rise_append : (name_count next : ℕ) (xs ys : List ℕ) → AscendWithin name_count next xs →
+    AscendWithin name_count (next_after next xs) ys → AscendWithin name_count next (xs ++ ys)
 rise_append name_count next [] ys up more = more
 rise_append name_count next (x ∷ xs) ys up more = (up.0, up.1, rise_append name_count (x + 1) xs ys up.2 more)
 
@@ -65,16 +56,22 @@ pub record Extended (stream : List ℕ) (count next : ℕ) (more bytes : List �
   pub ids : ids_in (stream ++ bytes) (count + length more) ≡ ids_in stream count ++ more
   pub bound : count + length more ≤ max_ids
 
-pub stream_more : (stream : List ℕ) (count next : ℕ) (more : List ℕ) → IsStream stream count next → AscendWithin max_ids next more → Extended stream count next more (flat_map varint (deltas_from next more))
+pub stream_more : (stream : List ℕ) (count next : ℕ) (more : List ℕ) → IsStream stream count next →
+    AscendWithin max_ids next more → Extended stream count next more (flat_map varint (deltas_from next more))
 stream_more stream count next more h rise =
     let ids : List ℕ = ids_in stream count in
     let all : List ℕ = ids ++ more in
     let up : AscendWithin max_ids 0 all = rise_append max_ids 0 ids more h.rise (subst (λ n. AscendWithin max_ids n more) h.follows rise) in
-    let bytes : stream ++ flat_map varint (deltas_from next more) ≡ stream_of all = ap (λ n. stream ++ flat_map varint (deltas_from n more)) h.follows ∙ ap (λ s. s ++ flat_map varint (deltas_from (next_after 0 ids) more)) h.written ∙ sym (written_append 0 ids more) in
+    let bytes : stream ++ flat_map varint (deltas_from next more) ≡ stream_of all =
+    ap (λ n. stream ++ flat_map varint (deltas_from n more)) h.follows
+    ∙ ap (λ s. s ++ flat_map varint (deltas_from (next_after 0 ids) more)) h.written
+    ∙ sym (written_append 0 ids more) in
     let many : count + length more ≡ length all = ap (λ n. n + length more) h.counted ∙ sym (length-append ids more) in
     let at : next_after 0 all ≡ next_after next more = next_append 0 ids more ∙ ap (λ n. next_after n more) (sym h.follows) in
     record {
-      is = subst (λ s. IsStream s (count + length more) (next_after next more)) (sym bytes) (subst (λ n. IsStream (stream_of all) n (next_after next more)) (sym many) (subst (IsStream (stream_of all) (length all)) at (stream_from all up)));
+      is = subst (λ s. IsStream s (count + length more) (next_after next more)) (sym bytes)
+          (subst (λ n. IsStream (stream_of all) n (next_after next more)) (sym many)
+          (subst (IsStream (stream_of all) (length all)) at (stream_from all up)));
       ids = ap (λ s. ids_in s (count + length more)) bytes ∙ ap (ids_in (stream_of all)) many ∙ decoded-stream_of all up;
       bound = omega (arith, many, rise_length max_ids 0 all up, next_within 0 all up (omega arith));
     }
@@ -94,7 +91,9 @@ pub group_first : (n : ℕ) (bytes : List ℕ) → varint n ≡ take 0 bytes ++ 
 unfolding varint
 group_first n bytes = refl
 
-pub group_more : (n at rest : ℕ) (bytes : List ℕ) → at < 4 → at < length bytes → 128 ≤ rest → varint n ≡ take at bytes ++ varint_within (5 - at) rest → varint n ≡ take (at + 1) (set bytes at (rest % 128 + 128)) ++ varint_within (5 - (at + 1)) (rest / 128)
+pub group_more : (n at rest : ℕ) (bytes : List ℕ) → at < 4 → at < length bytes → 128 ≤ rest → varint n ≡ take at bytes
+    ++ varint_within (5 - at) rest → varint n ≡ take (at + 1) (set bytes at (rest % 128 + 128))
+    ++ varint_within (5 - (at + 1)) (rest / 128)
 group_more n at rest bytes bound within large so_far =
     let room : 5 - at ≡ suc (5 - (at + 1)) = omega (arith, bound) in
     so_far
@@ -103,7 +102,8 @@ group_more n at rest bytes bound within large so_far =
     ∙ sym (append_assoc (take at bytes) ((rest % 128 + 128) ∷ []) (varint_within (5 - (at + 1)) (rest / 128)))
     ∙ ap (λ prefix. prefix ++ varint_within (5 - (at + 1)) (rest / 128)) (sym (take_more_set bytes at (rest % 128 + 128) within))
 
-pub group_end : (n at rest : ℕ) (bytes : List ℕ) → at ≤ 4 → at < length bytes → rest < 128 → varint n ≡ take at bytes ++ varint_within (5 - at) rest → varint n ≡ take (at + 1) (set bytes at rest)
+pub group_end : (n at rest : ℕ) (bytes : List ℕ) → at ≤ 4 → at < length bytes → rest < 128 → varint n ≡ take at bytes
+    ++ varint_within (5 - at) rest → varint n ≡ take (at + 1) (set bytes at rest)
 group_end n at rest bytes bound within small so_far =
     let room : 5 - at ≡ suc (5 - (at + 1)) = omega (arith, bound) in
     so_far
@@ -123,6 +123,3 @@ four_groups n len rest bound at_limit at_least h =
     let at : len ≡ 4 = omega (arith, at_limit, at_least) in
     let h' : rest * 268435456 ≤ n = subst (λ l. rest * 128 ^ l ≤ n) at h in
     omega (arith, h', bound)
-
-pub extended : (ok : Bool) (new old bytes groups : List ℕ) → groups ≡ bytes → new ≡ cond ok (old ++ bytes) old → ok ≡ true → new ≡ old ++ groups
-extended ok new old bytes groups e h is = h ∙ ap (λ b. cond b (old ++ bytes) old) is ∙ ap (λ g. old ++ g) (sym e)

@@ -1,13 +1,15 @@
 -- The entries of a list index that is tested piece by piece.
-use Rattle.std.proofs.Common.{◌≡◌, ℕ, zero, suc, ◌+◌, ◌*◌, ◌/◌, ◌%◌, ◌≤◌, Bool, true, false, ◌&&◌, leb, ltb, List, [], ◌∷◌, ◌++◌, length, get_or, refl, sym, ap, ◌∙◌, arith, length-append, Option, Some, None}
+use Rattle.std.proofs.Common.{◌≡◌, ℕ, zero, suc, ◌+◌, ◌*◌, ◌/◌, ◌%◌, ◌≤◌, Bool, true, false, ◌&&◌, leb, ltb, List, [], ◌∷◌, ◌++◌, length, refl, sym, ap, ◌∙◌, arith, length-append, Option, Some, None, take}
+use Rattle.cs_tree.specs.Store.{part_of}
+use Rattle.cs_index.proofs.stored.StoredEntries.{entry_part}
+use Rattle.std.proofs.Math.Seq.{take-append_seam, drop-append_seam, take-length}
 use Rattle.std.specs.Prelude.{IfSome}
 use Rattle.std.specs.Option.{IfNone, is_some}
 use Rattle.std.proofs.lemmas.Bool.{eq-eqb, le-leb, ne_eqb}
-use Rattle.std.proofs.lemmas.List.{append-nil, get_or-append-add, get_or_append_left}
-use Rattle.std.specs.Int.{from_be_bytes, w32}
+use Rattle.std.proofs.lemmas.List.{append-nil}
 use Rattle.std.specs.List.{list_all}
 use Rattle.cs_index.specs.Encoding.{ListEntry}
-use Rattle.cs_index.specs.Opening.{entries_from, entries_in, entry_at, is_entry, is_list_index, number_at, rises, trigram_at}
+use Rattle.cs_index.specs.Opening.{entries_from, entries_in, entry_at, is_entry, is_list_index, rises}
 use Rattle.cs_index.specs.SectionPieces.{are_entries}
 
 -- ---- both tests of entries at once
@@ -20,14 +22,16 @@ begins least (e ∷ es) = leb least e.trigram
 next_begins : (a b : ℕ) → leb (a + 1) b ≡ ltb a b
 next_begins a b = ap (λ n. leb n b) (let z : a + 1 ≡ suc a = omega arith in z)
 
-both_tests : (room least : ℕ) (es : List ListEntry) → are_entries room least es ≡ (begins least es && (rises es && list_all (is_entry room) es))
+both_tests : (room least : ℕ) (es : List ListEntry) → are_entries room least es
+    ≡ (begins least es && (rises es && list_all (is_entry room) es))
 both_tests room least [] = refl
 both_tests room least (e ∷ []) = refl
 both_tests room least (e ∷ d ∷ es) =
     let ok : Bool = is_entry room e in
     let up : Bool = rises (d ∷ es) in
     let all : Bool = list_all (is_entry room) (d ∷ es) in
-    ap (λ b. leb least e.trigram && (ok && b)) (both_tests room (e.trigram + 1) (d ∷ es) ∙ ap (λ b. b && (up && all)) (next_begins e.trigram d.trigram))
+    ap (λ b. leb least e.trigram && (ok && b)) (both_tests room (e.trigram + 1) (d ∷ es)
+    ∙ ap (λ b. b && (up && all)) (next_begins e.trigram d.trigram))
     ∙ shuffle (leb least e.trigram) ok (ltb e.trigram d.trigram) up all
   where
     shuffle : (a ok lt up all : Bool) → (a && (ok && (lt && (up && all)))) ≡ (a && ((lt && up) && (ok && all)))
@@ -42,11 +46,14 @@ from_none : (es : List ListEntry) → begins 0 es ≡ true
 from_none [] = refl
 from_none (e ∷ es) = le-leb 0 e.trigram (omega arith)
 
-pub entries_tested : (room : ℕ) (bytes : List ℕ) → are_entries room 0 (entries_in bytes) ≡ (rises (entries_in bytes) && list_all (is_entry room) (entries_in bytes))
+pub entries_tested : (room : ℕ) (bytes : List ℕ) → are_entries room 0 (entries_in bytes)
+    ≡ (rises (entries_in bytes) && list_all (is_entry room) (entries_in bytes))
 entries_tested room bytes =
-    both_tests room 0 (entries_in bytes) ∙ ap (λ b. b && (rises (entries_in bytes) && list_all (is_entry room) (entries_in bytes))) (from_none (entries_in bytes))
+    both_tests room 0 (entries_in bytes) ∙ ap
+    (λ b. b && (rises (entries_in bytes) && list_all (is_entry room) (entries_in bytes))) (from_none (entries_in bytes))
 
-pub list_index_tested : (room : ℕ) (bytes : List ℕ) → length bytes % 11 ≡ 0 → is_list_index room bytes ≡ are_entries room 0 (entries_in bytes)
+pub list_index_tested : (room : ℕ) (bytes : List ℕ) → length bytes % 11 ≡ 0 → is_list_index room bytes
+    ≡ are_entries room 0 (entries_in bytes)
 unfolding is_list_index
 list_index_tested room bytes whole =
     ap (λ b. b && (rises (entries_in bytes) && list_all (is_entry room) (entries_in bytes))) (eq-eqb (length bytes % 11) 0 whole)
@@ -54,50 +61,25 @@ list_index_tested room bytes whole =
 
 pub list_index_uneven : (room : ℕ) (bytes : List ℕ) → (length bytes % 11 ≡ 0 → ⊥) → is_list_index room bytes ≡ false
 unfolding is_list_index
-list_index_uneven room bytes uneven = ap (λ b. b && (rises (entries_in bytes) && list_all (is_entry room) (entries_in bytes))) (ne_eqb (length bytes % 11) 0 uneven)
+list_index_uneven room bytes uneven = ap
+    (λ b. b && (rises (entries_in bytes) && list_all (is_entry room) (entries_in bytes)))
+    (ne_eqb (length bytes % 11) 0 uneven)
 
 -- ---- entries of bytes that are joined
 
-number_left : (xs ys : List ℕ) (at : ℕ) → at + 4 ≤ length xs → number_at (xs ++ ys) at ≡ number_at xs at
-unfolding number_at
-number_left xs ys at h = λ i. from_be_bytes w32 (get_or_append_left xs ys 0 at (omega (arith, h)) i ∷ get_or_append_left xs ys 0 (at + 1) (omega (arith, h)) i ∷ get_or_append_left xs ys 0 (at + 2) (omega (arith, h)) i ∷ get_or_append_left xs ys 0 (at + 3) (omega (arith, h)) i ∷ [])
+entries_part : (bytes : List ℕ) (start len at k n : ℕ) → at ≡ start + k → k + 11 * n ≤ len → entries_from bytes at n
+    ≡ entries_from (part_of bytes start len) k n
+entries_part bytes start len at k zero is h = refl
+entries_part bytes start len at k (suc n) is h =
+    λ i. (ap (entry_at bytes) is ∙ sym (entry_part bytes start len k (omega (arith, h)))) i
+    ∷ entries_part bytes start len (at + 11) (k + 11) n (omega (arith, is)) (omega (arith, h)) i
 
-trigram_left : (xs ys : List ℕ) (at : ℕ) → at + 3 ≤ length xs → trigram_at (xs ++ ys) at ≡ trigram_at xs at
-unfolding trigram_at
-trigram_left xs ys at h = λ i. from_be_bytes w32 (0 ∷ get_or_append_left xs ys 0 at (omega (arith, h)) i ∷ get_or_append_left xs ys 0 (at + 1) (omega (arith, h)) i ∷ get_or_append_left xs ys 0 (at + 2) (omega (arith, h)) i ∷ [])
-
-byte_right : (xs ys : List ℕ) (n k j : ℕ) → n ≡ length xs + k → get_or (xs ++ ys) (n + j) 0 ≡ get_or ys (k + j) 0
-byte_right xs ys n k j is = ap (λ m. get_or (xs ++ ys) m 0) (let z : n + j ≡ length xs + (k + j) = omega (arith, is) in z) ∙ get_or-append-add xs ys (k + j) 0
-
-number_right : (xs ys : List ℕ) (n k : ℕ) → n ≡ length xs + k → number_at (xs ++ ys) n ≡ number_at ys k
-unfolding number_at
-number_right xs ys n k is = λ i. from_be_bytes w32 ((ap (λ m. get_or (xs ++ ys) m 0) is ∙ get_or-append-add xs ys k 0) i ∷ byte_right xs ys n k 1 is i ∷ byte_right xs ys n k 2 is i ∷ byte_right xs ys n k 3 is i ∷ [])
-
-trigram_right : (xs ys : List ℕ) (n k : ℕ) → n ≡ length xs + k → trigram_at (xs ++ ys) n ≡ trigram_at ys k
-unfolding trigram_at
-trigram_right xs ys n k is = λ i. from_be_bytes w32 (0 ∷ (ap (λ m. get_or (xs ++ ys) m 0) is ∙ get_or-append-add xs ys k 0) i ∷ byte_right xs ys n k 1 is i ∷ byte_right xs ys n k 2 is i ∷ [])
-
-entries_left : (xs ys : List ℕ) (at n : ℕ) → at + 11 * n ≤ length xs → entries_from (xs ++ ys) at n ≡ entries_from xs at n
-entries_left xs ys at zero h = refl
-entries_left xs ys at (suc n) h =
-    let g = trigram_left xs ys at (omega (arith, h)) in
-    let c = number_left xs ys (at + 3) (omega (arith, h)) in
-    let o = number_left xs ys (at + 7) (omega (arith, h)) in
-    let rest = entries_left xs ys (at + 11) n (omega (arith, h)) in
-    λ i. (record { trigram = g i; count = c i; offset = o i }) ∷ rest i
-
-entries_right : (xs ys : List ℕ) (at k n : ℕ) → at ≡ length xs + k → entries_from (xs ++ ys) at n ≡ entries_from ys k n
-entries_right xs ys at k zero is = refl
-entries_right xs ys at k (suc n) is =
-    let g = trigram_right xs ys at k is in
-    let c = number_right xs ys (at + 3) (k + 3) (omega (arith, is)) in
-    let o = number_right xs ys (at + 7) (k + 7) (omega (arith, is)) in
-    let rest = entries_right xs ys (at + 11) (k + 11) n (omega (arith, is)) in
-    λ i. (record { trigram = g i; count = c i; offset = o i }) ∷ rest i
-
-entries_split : (bytes : List ℕ) (at n m last : ℕ) → last ≡ at + 11 * n → entries_from bytes at (n + m) ≡ entries_from bytes at n ++ entries_from bytes last m
-entries_split bytes at zero m last is = λ i. entries_from bytes ((let z : at ≡ last = omega (arith, is) in z) i) ((let z : 0 + m ≡ m = omega arith in z) i)
-entries_split bytes at (suc n) m last is = ap (entries_from bytes at) (let z : suc n + m ≡ suc (n + m) = omega arith in z) ∙ ap (λ es. entry_at bytes at ∷ es) (entries_split bytes (at + 11) n m last (omega (arith, is)))
+entries_split : (bytes : List ℕ) (at n m last : ℕ) → last ≡ at + 11 * n → entries_from bytes at (n + m)
+    ≡ entries_from bytes at n ++ entries_from bytes last m
+entries_split bytes at zero m last is = λ i. entries_from bytes ((let z : at ≡ last = omega (arith, is) in z) i)
+    ((let z : 0 + m ≡ m = omega arith in z) i)
+entries_split bytes at (suc n) m last is = ap (entries_from bytes at) (let z : suc n + m ≡ suc (n + m) = omega arith in
+    z) ∙ ap (λ es. entry_at bytes at ∷ es) (entries_split bytes (at + 11) n m last (omega (arith, is)))
 
 pub entries_joined : (xs ys : List ℕ) → length xs % 11 ≡ 0 → entries_in (xs ++ ys) ≡ entries_in xs ++ entries_in ys
 unfolding entries_in
@@ -105,16 +87,25 @@ entries_joined xs ys whole =
     let n : ℕ = length xs / 11 in
     let m : ℕ = length ys / 11 in
     let a = length-append xs ys in
+    let right : part_of (xs ++ ys) (length xs) (length ys) ≡ ys = ap (take (length ys)) (drop-append_seam xs ys) ∙ take-length ys in
     ap (entries_from (xs ++ ys) 0) (let z : length (xs ++ ys) / 11 ≡ n + m = omega (arith, a, whole) in z)
     ∙ entries_split (xs ++ ys) 0 n m (length xs) (omega (arith, whole))
-    ∙ (λ i. entries_left xs ys 0 n (omega (arith, whole)) i ++ entries_right xs ys (length xs) 0 m (omega arith) i)
+    ∙ (λ i. (entries_part (xs ++ ys) 0 (length xs) 0 0 n (omega arith) (omega (arith, whole))
+    ∙ ap (λ bs. entries_from bs 0 n) (take-append_seam xs ys)) i
+    ++ (entries_part (xs ++ ys) (length xs) (length ys) (length xs) 0 m (omega arith) (omega arith)
+    ∙ ap (λ bs. entries_from bs 0 m) right) i)
 
 pub no_entries : entries_in [] ≡ []
 unfolding entries_in
 no_entries = refl
 
 -- the whole list index is tested
-pub tested_is : (room : ℕ) (bytes : List ℕ) (found : Option ℕ) → length bytes % 11 ≡ 0 → IfSome found (λ next. (more : List ListEntry) → are_entries room 0 (entries_in bytes ++ more) ≡ are_entries room next more)
-    → IfNone found ((more : List ListEntry) → are_entries room 0 (entries_in bytes ++ more) ≡ false) → is_some found ≡ is_list_index room bytes
-tested_is room bytes (Some next) whole some none = sym (list_index_tested room bytes whole ∙ ap (are_entries room 0) (sym (append-nil (entries_in bytes))) ∙ some [])
-tested_is room bytes None whole some none = sym (list_index_tested room bytes whole ∙ ap (are_entries room 0) (sym (append-nil (entries_in bytes))) ∙ none [])
+pub tested_is : (room : ℕ) (bytes : List ℕ) (found : Option ℕ) → length bytes % 11 ≡ 0 →
+    IfSome found (λ next. (more : List ListEntry) → are_entries room 0 (entries_in bytes ++ more)
+    ≡ are_entries room next more)
+    → IfNone found ((more : List ListEntry) → are_entries room 0 (entries_in bytes ++ more) ≡ false) → is_some found
+    ≡ is_list_index room bytes
+tested_is room bytes (Some next) whole some none =
+    sym (list_index_tested room bytes whole ∙ ap (are_entries room 0) (sym (append-nil (entries_in bytes))) ∙ some [])
+tested_is room bytes None whole some none =
+    sym (list_index_tested room bytes whole ∙ ap (are_entries room 0) (sym (append-nil (entries_in bytes))) ∙ none [])

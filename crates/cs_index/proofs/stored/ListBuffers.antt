@@ -23,45 +23,57 @@ varint_left : (room : ℕ) (bytes : List ℕ) → IfSome {T = ℕ × List ℕ} (
 varint_left zero bytes = tt
 varint_left (suc room) [] = tt
 varint_left (suc room) (b ∷ bytes) =
-    elim (ltb b 128) as (λ t. IfSome {T = ℕ × List ℕ} (cond t (Some (b, bytes)) (option_map (λ (high : ℕ × List ℕ). (b - 128 + 128 * high.0, high.1)) (varint_at room bytes))) (λ n. suc (length bytes) ≤ length n.1 + suc room)) [
+    elim (ltb b 128) as (λ t. IfSome {T = ℕ × List ℕ}
+    (cond t (Some (b, bytes)) (option_map (λ (high : ℕ × List ℕ). (b - 128 + 128 * high.0, high.1))
+    (varint_at room bytes))) (λ n. suc (length bytes) ≤ length n.1 + suc room)) [
       | true ↦ omega arith
       | false ↦ mapped (varint_at room bytes) (varint_left room bytes)
     ]
   where
-    mapped : (o : Option (ℕ × List ℕ)) → IfSome {T = ℕ × List ℕ} o (λ n. length bytes ≤ length n.1 + room) → IfSome {T = ℕ × List ℕ} (option_map (λ (high : ℕ × List ℕ). (b - 128 + 128 * high.0, high.1)) o) (λ n. suc (length bytes) ≤ length n.1 + suc room)
+    mapped : (o : Option (ℕ × List ℕ)) → IfSome {T = ℕ × List ℕ} o (λ n. length bytes ≤ length n.1 + room) →
+        IfSome {T = ℕ × List ℕ} (option_map (λ (high : ℕ × List ℕ). (b - 128 + 128 * high.0, high.1)) o)
+        (λ n. suc (length bytes) ≤ length n.1 + suc room)
     mapped None h = tt
     mapped (Some n) h = omega (arith, h)
 
 read_left : (bytes : List ℕ) → IfSome {T = ℕ × List ℕ} (read_varint bytes) (λ n. length bytes ≤ length n.1 + 5)
 read_left bytes = limited (varint_at 5 bytes) (varint_left 5 bytes)
   where
-    limited : (o : Option (ℕ × List ℕ)) → IfSome {T = ℕ × List ℕ} o (λ n. length bytes ≤ length n.1 + 5) → IfSome {T = ℕ × List ℕ} (option_and_then below_limit o) (λ n. length bytes ≤ length n.1 + 5)
+    limited : (o : Option (ℕ × List ℕ)) → IfSome {T = ℕ × List ℕ} o (λ n. length bytes ≤ length n.1 + 5) →
+        IfSome {T = ℕ × List ℕ} (option_and_then below_limit o) (λ n. length bytes ≤ length n.1 + 5)
     limited None h = tt
-    limited (Some n) h = elim (ltb n.0 (2 ^ 32)) as (λ t. IfSome {T = ℕ × List ℕ} (cond t (Some n) None) (λ m. length bytes ≤ length m.1 + 5)) [ true ↦ h | false ↦ tt ]
+    limited (Some n) h = elim (ltb n.0 (2 ^ 32)) as
+        (λ t. IfSome {T = ℕ × List ℕ} (cond t (Some n) None) (λ m. length bytes ≤ length m.1 + 5))
+        [ true ↦ h | false ↦ tt ]
 
-ids_of_more : (name_count count next : ℕ) (bytes more : List ℕ) → 5 * (count + 1) ≤ length bytes → read_ids name_count count next (bytes ++ more) ≡ read_ids name_count count next bytes
+ids_of_more : (name_count count next : ℕ) (bytes more : List ℕ) → 5 * (count + 1) ≤ length bytes →
+    read_ids name_count count next (bytes ++ more) ≡ read_ids name_count count next bytes
 ids_of_more name_count zero next bytes more long =
-    ap (λ o. let r : Ids = record { ids = []; whole = is_zero o } in r) (read_ready bytes more (inl (omega (arith, long)))) ∙ same (read_varint bytes)
+    ap (λ o. let r : Ids = record { ids = []; whole = is_zero o } in r)
+    (read_ready bytes more (inl (omega (arith, long)))) ∙ same (read_varint bytes)
   where
-    same : (o : Option (ℕ × List ℕ)) → ◌≡◌ {A = Ids} (record { ids = []; whole = is_zero (grow more o) }) (record { ids = []; whole = is_zero o })
+    same : (o : Option (ℕ × List ℕ)) → ◌≡◌ {A = Ids} (record { ids = []; whole = is_zero (grow more o) })
+        (record { ids = []; whole = is_zero o })
     same None = refl
     same (Some n) = refl
 ids_of_more name_count (suc count) next bytes more long =
     ap (after_delta name_count next (read_ids name_count count)) (read_ready bytes more (inl (omega (arith, long))))
     ∙ step (λ id rest left. ids_of_more name_count count id rest more (omega (arith, long, left))) (read_varint bytes) (read_left bytes)
   where
-    step : ((id : ℕ) (rest : List ℕ) → length bytes ≤ length rest + 5 → read_ids name_count count id (rest ++ more) ≡ read_ids name_count count id rest) → (o : Option (ℕ × List ℕ)) → IfSome {T = ℕ × List ℕ} o (λ n. length bytes ≤ length n.1 + 5)
+    step : ((id : ℕ) (rest : List ℕ) → length bytes ≤ length rest + 5 → read_ids name_count count id (rest ++ more)
+        ≡ read_ids name_count count id rest) → (o : Option (ℕ × List ℕ)) →
+        IfSome {T = ℕ × List ℕ} o (λ n. length bytes ≤ length n.1 + 5)
         → after_delta name_count next (read_ids name_count count) (grow more o) ≡ after_delta name_count next (read_ids name_count count) o
     step later None left = refl
-    step later (Some n) left = ap (λ ids. cond (ltb 0 n.0 && ltb (next + n.0) (name_count + 1)) (onto (next + n.0 - 1) ids) damage) (later (next + n.0) n.1 left)
+    step later (Some n) left = ap (λ ids. cond (ltb 0 n.0 && ltb (next + n.0) (name_count + 1))
+        (onto (next + n.0 - 1) ids) damage) (later (next + n.0) n.1 left)
 
 -- ---- the list at the beginning of bytes
 
-module _ (bytes piece : List ℕ) (start room name_count : ℕ) (e : ListEntry) (is : piece ≡ part_of bytes (start + e.offset) (length piece)) (fits : e.offset + 4 ≤ room) (within : length piece ≤ room - e.offset)
+module _ (bytes piece : List ℕ) (start room name_count : ℕ) (e : ListEntry)
+    (is : piece ≡ part_of bytes (start + e.offset) (length piece)) (fits : e.offset + 4 ≤ room)
+    (within : length piece ≤ room - e.offset)
     (enough : (room - e.offset ≤ length piece) ⊎ (3 + 5 * (e.count + 1) ≤ length piece)) where
-  len : ℕ
-  len = length piece
-
   long : 4 ≤ length piece
   long = elim enough [ inl all ↦ omega (arith, all, fits) | inr most ↦ omega (arith, most) ]
 
@@ -73,7 +85,8 @@ module _ (bytes piece : List ℕ) (start room name_count : ℕ) (e : ListEntry) 
   ids_there = elim enough [
     | inl all ↦
         let none : start + room - (start + e.offset) - length piece ≡ 0 = omega (arith, all) in
-        ap (read_ids name_count e.count 0) (sym (append-nil (drop 3 piece)) ∙ ap (λ n. drop 3 piece ++ part_of bytes (start + e.offset + length piece) n) (sym none))
+        ap (read_ids name_count e.count 0) (sym (append-nil (drop 3 piece))
+        ∙ ap (λ n. drop 3 piece ++ part_of bytes (start + e.offset + length piece) n) (sym none))
     | inr most ↦ let l = length-drop 3 piece in sym (ids_of_more name_count e.count 0 (drop 3 piece) more (omega (arith, most, l)))
   ]
 
@@ -83,7 +96,9 @@ module _ (bytes piece : List ℕ) (start room name_count : ℕ) (e : ListEntry) 
     | inl named ↦
         ap (λ b. cond b (read_ids name_count e.count 0 (drop 3 piece)) damage) named
         ∙ ids_there
-        ∙ ap (read_ids name_count e.count 0) (sym (holds_after bytes piece (start + e.offset) (start + room) (length piece) 3 is (omega (arith, within, fits)) (omega (arith, long))))
+        ∙ ap (read_ids name_count e.count 0) (sym
+        (holds_after bytes piece (start + e.offset) (start + room) (length piece) 3 is (omega (arith, within, fits))
+        (omega (arith, long))))
         ∙ open_read bytes piece start room e.offset (length piece) is within long fits name_count e refl named
     | inr other ↦
         ap (λ b. cond b (read_ids name_count e.count 0 (drop 3 piece)) damage) other
@@ -92,10 +107,13 @@ module _ (bytes piece : List ℕ) (start room name_count : ℕ) (e : ListEntry) 
 
 -- ---- the buffer has the list of an entry
 
-pub list_read : (bytes : List ℕ) (tables : TableParts) (parts : Parts) (stands : TablesIn bytes tables parts) (order : AreAscendingOffsets tables.starts) (entry : Entry) (position : ℕ)
+pub list_read : (bytes : List ℕ) (tables : TableParts) (parts : Parts) (stands : TablesIn bytes tables parts)
+    (order : AreAscendingOffsets tables.starts) (entry : Entry) (position : ℕ)
     → Some (entry_read entry) ≡ slice_get tables.entries position → entry.offset + 4 ≤ tables.starts.name_index - tables.starts.postings
-    → (buffer : BufferState) → IsBufferOf bytes buffer → buffer.at ≡ tables.starts.postings + entry.offset → buffer.at + length buffer.bytes ≤ tables.starts.name_index
-    → (tables.starts.name_index - (tables.starts.postings + entry.offset) ≤ length buffer.bytes) ⊎ (3 + 5 * (entry.count + 1) ≤ length buffer.bytes)
+    → (buffer : BufferState) → IsBufferOf bytes buffer → buffer.at ≡ tables.starts.postings + entry.offset →
+    buffer.at + length buffer.bytes ≤ tables.starts.name_index
+    → (tables.starts.name_index - (tables.starts.postings + entry.offset) ≤ length buffer.bytes) ⊎
+    (3 + 5 * (entry.count + 1) ≤ length buffer.bytes)
     → HasList buffer parts position
 list_read bytes tables parts stands order entry position found fits buffer is at within enough e there =
     let start : ℕ = tables.starts.postings in
@@ -103,7 +121,8 @@ list_read bytes tables parts stands order entry position found fits buffer is at
     let lists = stored_lists bytes _ parts stands.stands order in
     let same : entry_read entry ≡ e = only (found ∙ ap (λ es. slice_get es position) stands.entries ∙ there) in
     subst (λ (d : ListEntry). list_in buffer.bytes (length parts.names) d ≡ ids_read parts d) same
-    (list_there bytes buffer.bytes start room (length parts.names) (entry_read entry) (is ∙ ap (λ n. part_of bytes n (length buffer.bytes)) at) fits (omega (arith, within, at))
+    (list_there bytes buffer.bytes start room (length parts.names) (entry_read entry)
+    (is ∙ ap (λ n. part_of bytes n (length buffer.bytes)) at) fits (omega (arith, within, at))
     (elim enough [ inl all ↦ inl (omega (arith, all)) | inr most ↦ inr most ])
     ∙ ap (λ p. read_list p (length parts.names) (entry_read entry)) (sym lists.postings))
   where
@@ -113,14 +132,18 @@ list_read bytes tables parts stands order entry position found fits buffer is at
 -- ---- bytes that stay in the buffer
 
 -- later bytes of a part
-pub part_after : (bytes piece : List ℕ) (at k : ℕ) → k ≤ length piece → piece ≡ part_of bytes at (length piece) → drop k piece ≡ part_of bytes (at + k) (length (drop k piece))
+pub part_after : (bytes piece : List ℕ) (at k : ℕ) → k ≤ length piece → piece ≡ part_of bytes at (length piece) →
+    drop k piece ≡ part_of bytes (at + k) (length (drop k piece))
 part_after bytes piece at k within is =
     let whole : length piece ≡ k + (length piece - k) = omega (arith, within) in
     let l : length (drop k piece) ≡ length piece - k = length-drop k piece in
-    ap (drop k) (is ∙ ap (part_of bytes at) whole) ∙ drop-take k (length piece - k) (drop at bytes) ∙ ap (take (length piece - k)) (drop-drop k at bytes) ∙ ap (part_of bytes (at + k)) (sym l)
+    ap (drop k) (is ∙ ap (part_of bytes at) whole) ∙ drop-take k (length piece - k) (drop at bytes)
+    ∙ ap (take (length piece - k)) (drop-drop k at bytes) ∙ ap (part_of bytes (at + k)) (sym l)
 
 -- bytes that are read after a part
-pub part_joined : (bytes piece read : List ℕ) (at end n : ℕ) → end ≡ at + length piece → piece ≡ part_of bytes at (length piece) → read ≡ part_of bytes end n → piece ++ read ≡ part_of bytes at (length (piece ++ read))
+pub part_joined : (bytes piece read : List ℕ) (at end n : ℕ) → end ≡ at + length piece → piece
+    ≡ part_of bytes at (length piece) → read ≡ part_of bytes end n → piece ++ read
+    ≡ part_of bytes at (length (piece ++ read))
 part_joined bytes piece read at end n there is after =
     let m : ℕ = length piece + n in
     let whole : part_of bytes at m ≡ piece ++ read =
@@ -136,14 +159,16 @@ part_joined bytes piece read at end n there is after =
 
 -- the buffer begins at a later offset
 pub buffer_moved : (bytes items : List ℕ) (start used at : ℕ) → start + used ≤ at → at ≤ start + length items → used ≤ length items
-    → drop used items ≡ part_of bytes (start + used) (length (drop used items)) → drop (at - start) items ≡ part_of bytes (start + (at - start)) (length (drop (at - start) items))
+    → drop used items ≡ part_of bytes (start + used) (length (drop used items)) → drop (at - start) items
+    ≡ part_of bytes (start + (at - start)) (length (drop (at - start) items))
 buffer_moved bytes items start used at after within inside is =
     let k : ℕ = at - (start + used) in
     let l = length-drop used items in
     let moved : used + k ≡ at - start = omega (arith, after) in
     let there : start + used + k ≡ start + (at - start) = omega (arith, after) in
     let same : drop k (drop used items) ≡ drop (at - start) items = drop-drop k used items ∙ ap (λ n. drop n items) moved in
-    sym same ∙ part_after bytes (drop used items) (start + used) k (omega (arith, l, within, after, inside)) is ∙ (λ i. part_of bytes (there i) (length (same i)))
+    sym same ∙ part_after bytes (drop used items) (start + used) k (omega (arith, l, within, after, inside)) is
+    ∙ (λ i. part_of bytes (there i) (length (same i)))
 
 pub all_on_ok : {T E A B C D R : Type 0} (r : Result T E) → (A → B → C → D → R) → OnOk r A → OnOk r B → OnOk r C → OnOk r D → OnOk r R
 all_on_ok (Ok x) f a b c d = f a b c d

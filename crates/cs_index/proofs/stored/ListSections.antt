@@ -31,29 +31,35 @@ module _ (bytes : List ℕ) (s : ListSection) (parts : Parts) (has : HasLists by
 
   read_found : (e : Entry) → IsFound parts.entries e → list_read e ≡ read_for parts e.trigram
   unfolding read_for
-  read_found e found = sym (ap (λ o. unwrap_or (option_map (ids_read parts) o) nothing_read) found ∙ (λ i. read_list (has.postings i) (has.names i) (entry_read e)))
+  read_found e found = sym (ap (λ o. unwrap_or (option_map (ids_read parts) o) nothing_read) found
+      ∙ (λ i. read_list (has.postings i) (has.names i) (entry_read e)))
 
   -- the lists of the entries are those of their trigrams
-  pub listed_read : (listed : List Entry) → AllByRecursion (IsFound parts.entries) listed → map list_read listed ≡ map (read_for parts) (trigrams_listed listed)
+  pub listed_read : (listed : List Entry) → AllByRecursion (IsFound parts.entries) listed → map list_read listed
+      ≡ map (read_for parts) (trigrams_listed listed)
   listed_read [] all = refl
   listed_read (e ∷ es) all = λ i. read_found e all.0 i ∷ listed_read es all.1 i
 
 -- ---- the candidates that are returned
 
-pub ids_of : (query : Query) (parts : Parts) (answer : Result (Vec ℕ Global) IndexFault) → AreCandidates query parts answer → IfOk answer (λ ids. ids.items ≡ candidates_of parts query)
+pub ids_of : (query : Query) (parts : Parts) (answer : Result (Vec ℕ Global) IndexFault) →
+    AreCandidates query parts answer → IfOk answer (λ ids. ids.items ≡ candidates_of parts query)
 ids_of query parts (Ok ids) are = are.0
 ids_of query parts (Err fault) are = tt
 
-pub whole_of_ok : (query : Query) (parts : Parts) (answer : Result (Vec ℕ Global) IndexFault) → AreCandidates query parts answer → IfOk answer (λ _. is_answerable parts query ≡ true)
+pub whole_of_ok : (query : Query) (parts : Parts) (answer : Result (Vec ℕ Global) IndexFault) →
+    AreCandidates query parts answer → IfOk answer (λ _. is_answerable parts query ≡ true)
 whole_of_ok query parts (Ok ids) are = are.1
 whole_of_ok query parts (Err fault) are = tt
 
-pub fault_of_err : (query : Query) (parts : Parts) (answer : Result (Vec ℕ Global) IndexFault) → AreCandidates query parts answer → IfErr answer (IsListFault (is_answerable parts query))
+pub fault_of_err : (query : Query) (parts : Parts) (answer : Result (Vec ℕ Global) IndexFault) →
+    AreCandidates query parts answer → IfErr answer (IsListFault (is_answerable parts query))
 fault_of_err query parts (Ok ids) are = tt
 fault_of_err query parts (Err fault) are = inl are
 
 -- the entries of an index in memory, in a store of its list index, and its lists, in a store of its posting lists
-pub entries_of : (list_index : List ℕ) → rises (entries_in list_index) ≡ true → HasEntries list_index (record { start = 0; count = length list_index / 11 }) list_index
+pub entries_of : (list_index : List ℕ) → rises (entries_in list_index) ≡ true →
+    HasEntries list_index (record { start = 0; count = length list_index / 11 }) list_index
 entries_of list_index up = record { there = take_all (length list_index) list_index (omega arith); count = refl; rise = up }
 
 pub section_of : (s : SectionSlices) (now : Parts) (count : ℕ) → parts_of (borrowed_sections s) ≡ now → count ≡ length now.names
@@ -65,7 +71,8 @@ section_of s now count is counted = record {
 
 -- ---- the sections of a stored index
 
-module _ (bytes : List ℕ) (stored : StoredParts) (parts : Parts) (stands : StandsIn bytes stored parts) (order : AreAscendingOffsets stored.starts) where
+module _ (bytes : List ℕ) (stored : StoredParts) (parts : Parts) (stands : StandsIn bytes stored parts)
+    (order : AreAscendingOffsets stored.starts) where
   abbrev s : SectionOffsets
   s = stored.starts
 

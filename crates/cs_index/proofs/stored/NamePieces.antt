@@ -22,7 +22,9 @@ use Rattle.cs_index.proofs.stored.ListPieces.{left_after}
 use Rattle.cs_index.proofs.stored.StoredEntries.{number_part}
 
 -- the bytes of the piece from an offset on
-pub part_prefix : (bytes : List ℕ) (p : Piece) (at : ℕ) → IsPiece bytes p → p.start ≤ at → at ≤ p.start + length p.bytes.items → drop (at - p.start) p.bytes.items ≡ take (p.start + length p.bytes.items - at) (drop at bytes)
+pub part_prefix : (bytes : List ℕ) (p : Piece) (at : ℕ) → IsPiece bytes p → p.start ≤ at → at ≤ p.start
+    + length p.bytes.items → drop (at - p.start) p.bytes.items ≡ take (p.start + length p.bytes.items - at)
+    (drop at bytes)
 part_prefix bytes p at is from within =
     let len : ℕ = length p.bytes.items in
     let there : p.start + (at - p.start) ≡ at = omega (arith, from) in
@@ -31,7 +33,9 @@ part_prefix bytes p at is from within =
     ∙ sym (left_after bytes p.start (p.start + len) (at - p.start) (omega (arith, from, within)))
     ∙ ap (λ n. take (p.start + len - n) (drop n bytes)) there
 
-pub string_part : (bytes part text : List ℕ) (p : Piece) (at end : ℕ) → IsPiece bytes p → p.start ≤ at → at ≤ p.start + length p.bytes.items → part ≡ drop (at - p.start) p.bytes.items → (stands : StandsAt bytes at end text) → part ≡ take (p.start + length p.bytes.items - at) (with_nul text ++ stands.more)
+pub string_part : (bytes part text : List ℕ) (p : Piece) (at end : ℕ) → IsPiece bytes p → p.start ≤ at → at ≤ p.start
+    + length p.bytes.items → part ≡ drop (at - p.start) p.bytes.items → (stands : StandsAt bytes at end text) →
+    part ≡ take (p.start + length p.bytes.items - at) (with_nul text ++ stands.more)
 string_part bytes part text p at end is from within part_is stands =
     part_is ∙ part_prefix bytes p at is from within ∙ ap (take (p.start + length p.bytes.items - at)) stands.there
 
@@ -40,13 +44,15 @@ if_none None not p = p
 if_none (Some x) not p = absurd (not x refl)
 
 -- what is said of a name, if there is one
-pub named : (found : Option (List ℕ)) (answer : Result (Unit {0}) IndexFault) (reader : NameReader) → ((name : List ℕ) → found ≡ Some name → IsOkAnd answer (λ _. HasName reader name)) → IsName found answer reader
+pub named : (found : Option (List ℕ)) (answer : Result (Unit {0}) IndexFault) (reader : NameReader) →
+    ((name : List ℕ) → found ≡ Some name → IsOkAnd answer (λ _. HasName reader name)) → IsName found answer reader
 named None answer reader so = tt
 named (Some name) answer reader so = so name refl
 
 -- ---- the names of a reader
 
-module _ (bytes : List ℕ) (parts : Parts) (reader : NameReader) (reads : ReadsNames bytes parts reader) (id : ℕ) (below : id < reader.name_count) where
+module _ (bytes : List ℕ) (parts : Parts) (reader : NameReader) (reads : ReadsNames bytes parts reader) (id : ℕ)
+    (below : id < reader.name_count) where
   abbrev section : List ℕ
   section = name_section bytes reader
 
@@ -64,11 +70,14 @@ module _ (bytes : List ℕ) (parts : Parts) (reader : NameReader) (reads : Reads
       let n = counted in
       omega (arith, long, t, d, n, below)
 
-  pub stands_there : (offset : ℕ) (name : List ℕ) → offset ≡ number_at bytes (reader.name_index + 4 * id) → slice_get parts.names id ≡ Some name → StandsAt bytes (reader.start + offset) reader.end name
+  pub stands_there : (offset : ℕ) (name : List ℕ) → offset ≡ number_at bytes (reader.name_index + 4 * id) →
+      slice_get parts.names id ≡ Some name → StandsAt bytes (reader.start + offset) reader.end name
   stands_there offset name is named =
       let n = counted in
-      let same : number_at table (4 * id) ≡ offset = number_part bytes reader.name_index (4 * (reader.name_count + 1)) (4 * id) (omega (arith, below)) ∙ sym is in
-      let stands = name_stands section table id name reads.formed reads.offsets (omega (arith, n, below)) (ap (λ (ns : List (List ℕ)). slice_get ns id) (sym reads.names) ∙ named) in
+      let same : number_at table (4 * id) ≡ offset = number_part bytes reader.name_index (4 * (reader.name_count + 1))
+      (4 * id) (omega (arith, below)) ∙ sym is in
+      let stands = name_stands section table id name reads.formed reads.offsets (omega (arith, n, below))
+      (ap (λ (ns : List (List ℕ)). slice_get ns id) (sym reads.names) ∙ named) in
       lift offset name (subst (λ k. NameStands section k name) same stands)
     where
       lift : (offset : ℕ) (name : List ℕ) → NameStands section offset name → StandsAt bytes (reader.start + offset) reader.end name
@@ -83,7 +92,8 @@ module _ (bytes : List ℕ) (parts : Parts) (reader : NameReader) (reads : Reads
           let inside = stands.within in
           record {
             more = stands.more ++ drop room all;
-            there = sym (drop-drop offset reader.start bytes) ∙ ap (drop offset) (sym (take-append-drop room all)) ∙ drop-append-le offset section (drop room all) inside
+            there = sym (drop-drop offset reader.start bytes) ∙ ap (drop offset) (sym (take-append-drop room all))
+                ∙ drop-append-le offset section (drop room all) inside
                 ∙ ap (λ bs. bs ++ drop room all) stands.there ∙ append_assoc (with_nul name) stands.more (drop room all);
             string = stands.string;
             within = omega (arith, l, a, w, d, t, inside);
@@ -91,8 +101,19 @@ module _ (bytes : List ℕ) (parts : Parts) (reader : NameReader) (reads : Reads
           }
 
 -- the reader of a stored index
-pub reads_names : (bytes : List ℕ) (parts : Parts) (stored : StoredParts) (offsets names : Piece) (at len : ℕ) → AreAscendingOffsets stored.starts → StandsIn bytes stored parts → IsPiece bytes offsets → IsPiece bytes names
-    → ReadsNames bytes parts (record { start = stored.starts.names; end = stored.starts.postings; name_index = stored.starts.name_index; name_count = stored.name_count; offsets = offsets; names = names; at = at; len = len })
+pub reads_names : (bytes : List ℕ) (parts : Parts) (stored : StoredParts) (offsets names : Piece) (at len : ℕ) →
+    AreAscendingOffsets stored.starts → StandsIn bytes stored parts → IsPiece bytes offsets → IsPiece bytes names
+    → ReadsNames bytes parts (record {
+      start = stored.starts.names;
+      end = stored.starts.postings;
+      name_index =
+          stored.starts.name_index;
+      name_count = stored.name_count;
+      offsets = offsets;
+      names = names;
+      at = at;
+      len = len;
+    })
 reads_names bytes parts stored offsets names at len order stands one two =
     let s : SectionOffsets = stored.starts in
     let passed = pass_from (sections_at bytes s) parts stands.read in

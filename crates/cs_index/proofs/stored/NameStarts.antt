@@ -49,14 +49,22 @@ pub record IsCut (text : List ℕ) (texts : List (List ℕ)) (p : ℕ) : Type 0 
   pub either : ((p ≡ length text + 1) × (left ≡ texts)) ⊎ ((length text + 1 < p) × (length left < length texts))
 
 cut_here : (text : List ℕ) (texts : List (List ℕ)) (p : ℕ) → AllByRecursion IsString texts → p ≡ length text + 1 → IsCut text texts p
-cut_here text texts p all same = record { left = texts; each = all; bytes = ap (λ n. drop n (run_bytes (text ∷ texts))) same ∙ rest_after text texts; either = inl (same, refl) }
+cut_here text texts p all same = record {
+  left = texts;
+  each = all;
+  bytes = ap (λ n. drop n (run_bytes (text ∷ texts)))
+      same ∙ rest_after text texts;
+  either = inl (same, refl);
+}
 
 -- no NUL is inside a string
-cut_inside : (text : List ℕ) (texts : List (List ℕ)) (p : ℕ) → AllByRecursion (λ b. 0 < b) text → 0 < p → p < length text + 1 → get_or (run_bytes (text ∷ texts)) (p - 1) 0 ≢ 0
+cut_inside : (text : List ℕ) (texts : List (List ℕ)) (p : ℕ) → AllByRecursion (λ b. 0 < b) text → 0 < p →
+    p < length text + 1 → get_or (run_bytes (text ∷ texts)) (p - 1) 0 ≢ 0
 cut_inside text texts p all some less nul =
     above_at text (p - 1) all (omega (arith, some, less)) (sym (first_inside text texts (p - 1) (omega (arith, some, less))) ∙ nul)
 
-cut_later : (text t : List ℕ) (ts : List (List ℕ)) (p : ℕ) → length text + 1 < p → IsCut t ts (p - (length text + 1)) → IsCut text (t ∷ ts) p
+cut_later : (text t : List ℕ) (ts : List (List ℕ)) (p : ℕ) → length text + 1 < p → IsCut t ts (p - (length text + 1)) →
+    IsCut text (t ∷ ts) p
 cut_later text t ts p more rest =
     let m : ℕ = length text + 1 in
     record {
@@ -67,11 +75,13 @@ cut_later text t ts p more rest =
       either = inr (more, fewer rest.left rest.either);
     }
   where
-    fewer : (left : List (List ℕ)) → ((p - (length text + 1) ≡ length t + 1) × (left ≡ ts)) ⊎ ((length t + 1 < p - (length text + 1)) × (length left < length ts)) → length left < suc (length ts)
+    fewer : (left : List (List ℕ)) → ((p - (length text + 1) ≡ length t + 1) × (left ≡ ts)) ⊎
+        ((length t + 1 < p - (length text + 1)) × (length left < length ts)) → length left < suc (length ts)
     fewer left (inl same) = let l = ap length same.1 in omega (arith, l)
     fewer left (inr less) = let l = less.1 in omega (arith, l)
 
-pub cut : (text : List ℕ) (texts : List (List ℕ)) (p : ℕ) → AllByRecursion IsString (text ∷ texts) → 0 < p → p ≤ length (run_bytes (text ∷ texts)) → get_or (run_bytes (text ∷ texts)) (p - 1) 0 ≡ 0 → IsCut text texts p
+pub cut : (text : List ℕ) (texts : List (List ℕ)) (p : ℕ) → AllByRecursion IsString (text ∷ texts) → 0 < p →
+    p ≤ length (run_bytes (text ∷ texts)) → get_or (run_bytes (text ∷ texts)) (p - 1) 0 ≡ 0 → IsCut text texts p
 cut text [] p all some within nul = elim (cases_order p (length text + 1)) [
   | inl same ↦ cut_here text [] p all.1 same
   | inr other ↦ elim other [
@@ -97,7 +107,8 @@ cut text (t ∷ ts) p all some within nul = elim (cases_order p (length text + 1
 
 module _ (numbers : List ℕ) (at offset : ℕ) (number : number_at numbers at ≡ offset) where
   -- the next number is an offset after a NUL
-  pub starts_next : (next : ℕ) (text : List ℕ) (texts left : List (List ℕ)) → number_at numbers (at + 4) ≡ next → at + 4 * length (text ∷ texts) + 4 ≤ length numbers
+  pub starts_next : (next : ℕ) (text : List ℕ) (texts left : List (List ℕ)) → number_at numbers (at + 4) ≡ next → at
+      + 4 * length (text ∷ texts) + 4 ≤ length numbers
       → ((next ≡ offset + (length text + 1)) × (left ≡ texts)) ⊎ ((offset + (length text + 1) < next) × (length left < length texts))
       → has_starts numbers at offset (text ∷ texts) ≡ has_starts numbers (at + 4) next left
   starts_next next text texts left is few (inl same) =
@@ -112,8 +123,11 @@ module _ (numbers : List ℕ) (at offset : ℕ) (number : number_at numbers at �
       none (t ∷ ts) l = offsets_wrong numbers (at + 4) (offset + (length text + 1)) t ts (λ e. let n = less.0 in omega (arith, e, is, n))
 
   -- the next number is no offset of a string
-  pub starts_not : (texts : List (List ℕ)) → at + 12 ≤ length numbers → ((text : List ℕ) (more : List (List ℕ)) → texts ≡ text ∷ more → number_at numbers (at + 4) ≢ offset + (length text + 1)) → has_starts numbers at offset texts ≡ false
-  starts_not [] long apart = offsets_end numbers at offset (omega (arith, long)) ∙ ne_eqb (length numbers - at) 4 (λ e. omega (arith, e, long))
+  pub starts_not : (texts : List (List ℕ)) → at + 12 ≤ length numbers →
+      ((text : List ℕ) (more : List (List ℕ)) → texts ≡ text ∷ more → number_at numbers (at + 4) ≢ offset
+      + (length text + 1)) → has_starts numbers at offset texts ≡ false
+  starts_not [] long apart = offsets_end numbers at offset (omega (arith, long))
+      ∙ ne_eqb (length numbers - at) 4 (λ e. omega (arith, e, long))
   starts_not (text ∷ []) long apart =
       offsets_step numbers at offset (offset + (length text + 1)) text [] number refl
       ∙ offsets_end numbers (at + 4) (offset + (length text + 1)) (omega (arith, long))
@@ -123,7 +137,8 @@ module _ (numbers : List ℕ) (at offset : ℕ) (number : number_at numbers at �
       ∙ offsets_wrong numbers (at + 4) (offset + (length text + 1)) t ts (apart text (t ∷ ts) refl)
 
   -- the last number
-  pub starts_last : (texts : List (List ℕ)) (from long : ℕ) → at + 8 ≡ length numbers → at + 4 * length texts + 4 ≤ length numbers → long ≡ from + length (run_bytes texts) → ltb from long ≡ has_starts numbers at offset texts
+  pub starts_last : (texts : List (List ℕ)) (from long : ℕ) → at + 8 ≡ length numbers → at + 4 * length texts + 4
+      ≤ length numbers → long ≡ from + length (run_bytes texts) → ltb from long ≡ has_starts numbers at offset texts
   starts_last [] from long end few is =
       le-ltb from long (omega (arith, is))
       ∙ sym (offsets_end numbers at offset (omega (arith, end)) ∙ ne_eqb (length numbers - at) 4 (λ e. omega (arith, e, end)))
@@ -148,7 +163,8 @@ end_there names from text texts is =
     )
 
 -- the first number is no offset of the first string
-pub starts_wrong : (numbers : List ℕ) (at offset : ℕ) (texts : List (List ℕ)) → 0 < length texts → number_at numbers at ≢ offset → has_starts numbers at offset texts ≡ false
+pub starts_wrong : (numbers : List ℕ) (at offset : ℕ) (texts : List (List ℕ)) → 0 < length texts →
+    number_at numbers at ≢ offset → has_starts numbers at offset texts ≡ false
 starts_wrong numbers at offset [] some apart = absurd (omega (arith, some))
 starts_wrong numbers at offset (text ∷ texts) some apart = offsets_wrong numbers at offset text texts apart
 
@@ -162,8 +178,10 @@ pub record GoesOn (numbers names : List ℕ) (start at from to : ℕ) (texts : L
   pub few : at + 4 + 4 * length left + 4 ≤ length numbers
   pub starts : has_starts numbers at (start + from) texts ≡ has_starts numbers (at + 4) (start + to) left
 
-pub goes_on : (numbers names : List ℕ) (start at from to : ℕ) (texts : List (List ℕ)) → AllByRecursion IsString texts → drop from names ≡ run_bytes texts → number_at numbers at ≡ start + from → number_at numbers (at + 4) ≡ start + to
-    → at + 4 * length texts + 4 ≤ length numbers → from < to → to ≤ length names → get_or names (to - 1) 0 ≡ 0 → GoesOn numbers names start at from to texts
+pub goes_on : (numbers names : List ℕ) (start at from to : ℕ) (texts : List (List ℕ)) → AllByRecursion IsString texts →
+    drop from names ≡ run_bytes texts → number_at numbers at ≡ start + from → number_at numbers (at + 4) ≡ start + to
+    → at + 4 * length texts + 4 ≤ length numbers → from < to → to ≤ length names → get_or names (to - 1) 0 ≡ 0 →
+    GoesOn numbers names start at from to texts
 goes_on numbers names start at from to [] all bytes number next few order within nul =
     absurd (let l = ap length bytes in let d = length-drop from names in omega (arith, l, d, order, within))
 goes_on numbers names start at from to (text ∷ texts) all bytes number next few order within nul =
@@ -183,11 +201,14 @@ goes_on numbers names start at from to (text ∷ texts) all bytes number next fe
       starts = starts_next numbers at (start + from) number (start + to) text texts c.left next few (later c.left c.either);
     }
   where
-    fewer : (left : List (List ℕ)) → ((to - from ≡ length text + 1) × (left ≡ texts)) ⊎ ((length text + 1 < to - from) × (length left < length texts)) → at + 4 + 4 * length left + 4 ≤ length numbers
+    fewer : (left : List (List ℕ)) → ((to - from ≡ length text + 1) × (left ≡ texts)) ⊎
+        ((length text + 1 < to - from) × (length left < length texts)) → at + 4 + 4 * length left + 4 ≤ length numbers
     fewer left (inl same) = let m = ap length same.1 in omega (arith, m, few)
     fewer left (inr less) = let m = less.1 in omega (arith, m, few)
 
-    later : (left : List (List ℕ)) → ((to - from ≡ length text + 1) × (left ≡ texts)) ⊎ ((length text + 1 < to - from) × (length left < length texts))
-        → ((start + to ≡ start + from + (length text + 1)) × (left ≡ texts)) ⊎ ((start + from + (length text + 1) < start + to) × (length left < length texts))
+    later : (left : List (List ℕ)) → ((to - from ≡ length text + 1) × (left ≡ texts)) ⊎
+        ((length text + 1 < to - from) × (length left < length texts))
+        → ((start + to ≡ start + from + (length text + 1)) × (left ≡ texts)) ⊎
+        ((start + from + (length text + 1) < start + to) × (length left < length texts))
     later left (inl same) = let m = same.0 in inl (omega (arith, m, order), same.1)
     later left (inr less) = let m = less.0 in inr (omega (arith, m), less.1)

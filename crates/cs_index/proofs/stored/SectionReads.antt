@@ -24,7 +24,8 @@ if_modelled (Some bytes) P so = so bytes refl
 
 -- ---- facts about a store whose model does not change
 
-pub if_some_both : (A B : List ℕ → Type 0) (one two : Option (List ℕ)) → two ≡ one → IfSome one A → IfSome two B → IfSome one (λ b. A b × B b)
+pub if_some_both : (A B : List ℕ → Type 0) (one two : Option (List ℕ)) → two ≡ one → IfSome one A → IfSome two B →
+    IfSome one (λ b. A b × B b)
 if_some_both A B one two same a b = on one a (subst (λ t. IfSome t B) same b)
   where
     on : (t : Option (List ℕ)) → IfSome t A → IfSome t B → IfSome t (λ b. A b × B b)
@@ -38,10 +39,14 @@ if_some_map A B (Some bytes) so a = so bytes a
 -- ---- the sections
 
 -- valid sections open as their parts
-pub tested : (p n i l lists : List ℕ) (room : ℕ) → length lists ≡ room → AreValidSections p n i l room → read_sections (with_lists p n i l lists) ≡ Ok (parts_of (with_lists p n i l lists))
+pub tested : (p n i l lists : List ℕ) (room : ℕ) → length lists ≡ room → AreValidSections p n i l room →
+    read_sections (with_lists p n i l lists) ≡ Ok (parts_of (with_lists p n i l lists))
 tested p n i l lists room long is =
     let entries : is_list_index (length lists) l ≡ true = ap (λ k. is_list_index k l) long ∙ is.entries in
-    λ t. cond (not (is.each_path t)) (Err BadPaths) (cond (not (is.each_name t)) (Err BadNames) (cond (not (is.offsets t)) (Err BadNameIndex) (cond (not (entries t)) (Err BadListIndex) (Ok (parts_of (with_lists p n i l lists))))))
+    λ t. cond (not (is.each_path t)) (Err BadPaths)
+    (cond (not (is.each_name t)) (Err BadNames)
+    (cond (not (is.offsets t)) (Err BadNameIndex)
+    (cond (not (entries t)) (Err BadListIndex) (Ok (parts_of (with_lists p n i l lists))))))
 
 module _ (s : SectionBytes) where
   abbrev parts : Result Parts IndexFault
@@ -65,20 +70,30 @@ module _ (s : SectionBytes) where
 
     module _ (names : is_names_section s.names ≡ true) where
       pub bad_name_index : is_name_index s.name_index (texts_of s.names) ≡ false → read_sections s ≡ Err BadNameIndex
-      bad_name_index h = λ t. cond (not (paths t)) (Err BadPaths) (cond (not (names t)) (Err BadNames) (cond (not (h t)) (Err BadNameIndex) last_test))
+      bad_name_index h = λ t. cond (not (paths t)) (Err BadPaths)
+          (cond (not (names t)) (Err BadNames) (cond (not (h t)) (Err BadNameIndex) last_test))
 
-      pub bad_list_index : is_name_index s.name_index (texts_of s.names) ≡ true → is_list_index (length s.postings) s.list_index ≡ false → read_sections s ≡ Err BadListIndex
-      bad_list_index offsets h = λ t. cond (not (paths t)) (Err BadPaths) (cond (not (names t)) (Err BadNames) (cond (not (offsets t)) (Err BadNameIndex) (cond (not (h t)) (Err BadListIndex) parts)))
+      pub bad_list_index : is_name_index s.name_index (texts_of s.names) ≡ true →
+          is_list_index (length s.postings) s.list_index ≡ false → read_sections s ≡ Err BadListIndex
+      bad_list_index offsets h = λ t. cond (not (paths t)) (Err BadPaths)
+          (cond (not (names t)) (Err BadNames) (cond (not (offsets t)) (Err BadNameIndex)
+          (cond (not (h t)) (Err BadListIndex) parts)))
 
 -- ---- the sections of a store
 
 -- paths that were kept are valid
-pub closed_paths : (section : List ℕ) (found : Option (Vec ℕ Global)) (paths : Vec ℕ Global) → found ≡ Some paths → ArePathsRead section found → IfSome found (λ paths. is_section (0 ∷ []) paths.items ≡ true) → (paths.items ≡ section) × (is_section (0 ∷ []) section ≡ true)
+pub closed_paths : (section : List ℕ) (found : Option (Vec ℕ Global)) (paths : Vec ℕ Global) → found ≡ Some paths →
+    ArePathsRead section found → IfSome found (λ paths. is_section (0 ∷ []) paths.items ≡ true) →
+    (paths.items ≡ section) × (is_section (0 ∷ []) section ≡ true)
 closed_paths section found paths is read closed =
-    let same : paths.items ≡ section = subst (ArePathsRead section) is read in
-    (same, sym (ap (is_section (0 ∷ [])) same) ∙ subst (λ (f : Option (Vec ℕ Global)). IfSome f (λ paths. is_section (0 ∷ []) paths.items ≡ true)) is closed)
+    let same : paths.items ≡ section = subst (ArePathsRead section) is read in (
+      same,
+      sym (ap (is_section (0 ∷ [])) same)
+          ∙ subst (λ (f : Option (Vec ℕ Global)). IfSome f (λ paths. is_section (0 ∷ []) paths.items ≡ true)) is closed,
+    )
 
-pub lists_long : (bytes : List ℕ) (s : SectionOffsets) → AreAscendingOffsets s → s.trailer ≤ length bytes → length (slice_range bytes s.postings s.name_index) ≡ s.name_index - s.postings
+pub lists_long : (bytes : List ℕ) (s : SectionOffsets) → AreAscendingOffsets s → s.trailer ≤ length bytes →
+    length (slice_range bytes s.postings s.name_index) ≡ s.name_index - s.postings
 lists_long bytes s order within =
     let rise = rise_from s.paths s.names s.postings s.name_index s.list_index s.trailer order.order in
     let l = length-drop s.postings bytes in
@@ -86,7 +101,8 @@ lists_long bytes s order within =
 
 -- ---- the whole index
 
-pub opened : (bytes : List ℕ) (s : SectionBytes) (answer : Result Parts IndexFault) → split_of bytes ≡ Ok s → read_sections s ≡ answer → opening bytes ≡ answer
+pub opened : (bytes : List ℕ) (s : SectionBytes) (answer : Result Parts IndexFault) → split_of bytes ≡ Ok s →
+    read_sections s ≡ answer → opening bytes ≡ answer
 unfolding opening
 opened bytes s answer split read = ap read_split split ∙ read
 
@@ -96,8 +112,14 @@ not_opened bytes fault slices = ap read_split slices
 
 -- ---- what opens decodes
 
-decodes_or_fails : (bytes : List ℕ) (answer : Result StoredParts IndexFault) → AreBytes bytes → OpensAs bytes answer → DecodesOrFails bytes answer
-decodes_or_fails bytes (Ok stored) are (parts, stands) = (parts, opened_decodes bytes parts are (opened bytes (sections_at bytes stored.starts) (Ok parts) stands.split stands.read), stands)
+decodes_or_fails : (bytes : List ℕ) (answer : Result StoredParts IndexFault) → AreBytes bytes → OpensAs bytes answer →
+    DecodesOrFails bytes answer
+decodes_or_fails bytes (Ok stored) are (parts, stands) = (
+  parts,
+  opened_decodes bytes parts are (opened bytes (sections_at bytes stored.starts) (Ok parts) stands.split
+      stands.read),
+  stands,
+)
 decodes_or_fails bytes (Err fault) are closed = fails_so bytes fault are closed
 
 pub model_decodes : (model : Option (List ℕ)) (result : Result (Result StoredParts IndexFault) IoFault) → IfSome model AreBytes

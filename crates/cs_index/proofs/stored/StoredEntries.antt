@@ -1,5 +1,6 @@
 -- Entries that are read from a store by position.
 use Rattle.std.proofs.Common.{◌≡◌, ℕ, suc, ◌+◌, ◌*◌, ◌<◌, ◌≤◌, cond, List, [], ◌∷◌, ◌++◌, length, take, drop, get_or, Option, None, Some, refl, sym, ap, subst, ◌∙◌, arith, append_assoc, drop-cons, length-drop, length-take}
+use Rattle.cs_tree.proofs.GatherLemmas.{all-append}
 use Rattle.std.proofs.lemmas.List.{append-nil, get_or-drop, get_or-take, map-append, take_all, take_more}
 use Rattle.std.proofs.lemmas.List.Elements.{filter-append}
 use Rattle.std.specs.List.{AllByRecursion}
@@ -20,21 +21,25 @@ use Rattle.cs_index.specs.declared.reading.stored_entries.StoredEntries.{StoredE
 
 module _ (bytes : List ℕ) (at len k : ℕ) where
   byte_part : (j : ℕ) → k + j < len → get_or (part_of bytes at len) (k + j) 0 ≡ get_or bytes (at + k + j) 0
-  byte_part j h = get_or-take len (drop at bytes) (k + j) 0 h ∙ get_or-drop at bytes (k + j) 0 ∙ ap (λ n. get_or bytes n 0) (let z : at + (k + j) ≡ at + k + j = omega arith in z)
+  byte_part j h = get_or-take len (drop at bytes) (k + j) 0 h ∙ get_or-drop at bytes (k + j) 0
+      ∙ ap (λ n. get_or bytes n 0) (let z : at + (k + j) ≡ at + k + j = omega arith in z)
 
   first_part : k < len → get_or (part_of bytes at len) k 0 ≡ get_or bytes (at + k) 0
   first_part h = get_or-take len (drop at bytes) k 0 h ∙ get_or-drop at bytes k 0
 
   pub number_part : k + 4 ≤ len → number_at (part_of bytes at len) k ≡ number_at bytes (at + k)
   unfolding number_at
-  number_part h = λ i. from_be_bytes w32 (first_part (omega (arith, h)) i ∷ byte_part 1 (omega (arith, h)) i ∷ byte_part 2 (omega (arith, h)) i ∷ byte_part 3 (omega (arith, h)) i ∷ [])
+  number_part h = λ i. from_be_bytes w32 (first_part (omega (arith, h)) i ∷ byte_part 1 (omega (arith, h)) i
+      ∷ byte_part 2 (omega (arith, h)) i ∷ byte_part 3 (omega (arith, h)) i ∷ [])
 
   pub trigram_part : k + 3 ≤ len → trigram_at (part_of bytes at len) k ≡ trigram_at bytes (at + k)
   unfolding trigram_at
-  trigram_part h = λ i. from_be_bytes w32 (0 ∷ first_part (omega (arith, h)) i ∷ byte_part 1 (omega (arith, h)) i ∷ byte_part 2 (omega (arith, h)) i ∷ [])
+  trigram_part h = λ i. from_be_bytes w32 (0 ∷ first_part (omega (arith, h)) i ∷ byte_part 1 (omega (arith, h)) i
+      ∷ byte_part 2 (omega (arith, h)) i ∷ [])
 
 number_after : (bytes : List ℕ) (at len k j : ℕ) → k + j + 4 ≤ len → number_at (part_of bytes at len) (k + j) ≡ number_at bytes (at + k + j)
-number_after bytes at len k j h = number_part bytes at len (k + j) h ∙ ap (number_at bytes) (let z : at + (k + j) ≡ at + k + j = omega arith in z)
+number_after bytes at len k j h = number_part bytes at len (k + j) h
+    ∙ ap (number_at bytes) (let z : at + (k + j) ≡ at + k + j = omega arith in z)
 
 pub entry_part : (bytes : List ℕ) (at len k : ℕ) → k + 11 ≤ len → entry_at (part_of bytes at len) k ≡ entry_at bytes (at + k)
 entry_part bytes at len k h = λ i. record {
@@ -44,7 +49,8 @@ entry_part bytes at len k h = λ i. record {
 }
 
 -- a buffer that is filled where the bytes do not end
-pub filled : (bytes buf : List ℕ) (at n : ℕ) → take n buf ≡ part_of bytes at (length buf) → at + length buf ≤ length bytes → buf ≡ part_of bytes at (length buf)
+pub filled : (bytes buf : List ℕ) (at n : ℕ) → take n buf ≡ part_of bytes at (length buf) → at + length buf
+    ≤ length bytes → buf ≡ part_of bytes at (length buf)
 filled bytes buf at n is within =
     let l = ap length is in
     let t = length-take n buf in
@@ -87,38 +93,50 @@ ascends_without (x ∷ []) g [] up = tt
 ascends_without (x ∷ []) g (y ∷ ys) (first, up) = let next = up.0 in (omega (arith, first, next), up.1)
 ascends_without (x ∷ z ∷ xs) g ys (first, up) = (first, ascends_without (z ∷ xs) g ys up)
 
-pub still_ascend : (listed new : List Entry) (found : Option Entry) (gs : List ℕ) (i : ℕ) → new ≡ listed ++ found_items found → IfSome found (λ e. e.trigram ≡ get_or gs i 0) → i < length gs → Ascends (trigrams_listed listed ++ drop i gs) → Ascends (trigrams_listed new ++ drop (i + 1) gs)
+pub still_ascend : (listed new : List Entry) (found : Option Entry) (gs : List ℕ) (i : ℕ) →
+    new ≡ listed ++ found_items found → IfSome found (λ e. e.trigram ≡ get_or gs i 0) → i < length gs →
+    Ascends (trigrams_listed listed ++ drop i gs) → Ascends (trigrams_listed new ++ drop (i + 1) gs)
 still_ascend listed new found gs i is same h up =
     let g : ℕ = get_or gs i 0 in
     let before : Ascends (trigrams_listed listed ++ g ∷ drop (i + 1) gs) =
-    subst (λ rest. Ascends (trigrams_listed listed ++ rest)) (drop-cons gs i 0 h ∙ ap (λ k. g ∷ drop k gs) (let z : suc i ≡ i + 1 = omega arith in z)) up in
+    subst (λ rest. Ascends (trigrams_listed listed ++ rest))
+    (drop-cons gs i 0 h ∙ ap (λ k. g ∷ drop k gs) (let z : suc i ≡ i + 1 = omega arith in z)) up in
     subst (λ (l : List Entry). Ascends (trigrams_listed l ++ drop (i + 1) gs)) (sym is) (by found same before)
   where
-    by : (found : Option Entry) → IfSome found (λ e. e.trigram ≡ get_or gs i 0) → Ascends (trigrams_listed listed ++ get_or gs i 0 ∷ drop (i + 1) gs) → Ascends (trigrams_listed (listed ++ found_items found) ++ drop (i + 1) gs)
-    by None same up = subst (λ (l : List Entry). Ascends (trigrams_listed l ++ drop (i + 1) gs)) (sym (append-nil listed)) (ascends_without (trigrams_listed listed) (get_or gs i 0) (drop (i + 1) gs) up)
+    by : (found : Option Entry) → IfSome found (λ e. e.trigram ≡ get_or gs i 0) →
+        Ascends (trigrams_listed listed ++ get_or gs i 0 ∷ drop (i + 1) gs) →
+        Ascends (trigrams_listed (listed ++ found_items found) ++ drop (i + 1) gs)
+    by None same up = subst (λ (l : List Entry). Ascends (trigrams_listed l ++ drop (i + 1) gs))
+        (sym (append-nil listed)) (ascends_without (trigrams_listed listed) (get_or gs i 0) (drop (i + 1) gs) up)
     by (Some e) same up =
         subst Ascends
-        (sym (ap (λ ts. ts ++ drop (i + 1) gs) (map-append (λ (e : Entry). e.trigram) listed (e ∷ [])) ∙ append_assoc (trigrams_listed listed) (e.trigram ∷ []) (drop (i + 1) gs) ∙ ap (λ n. trigrams_listed listed ++ n ∷ drop (i + 1) gs) same)) up
+        (sym (ap (λ ts. ts ++ drop (i + 1) gs) (map-append (λ (e : Entry). e.trigram) listed (e ∷ []))
+        ∙ append_assoc (trigrams_listed listed) (e.trigram ∷ []) (drop (i + 1) gs)
+        ∙ ap (λ n. trigrams_listed listed ++ n ∷ drop (i + 1) gs) same)) up
 
 module _ (es : List ListEntry) where
   abbrev pub IsFound : Entry → Type 0
   IsFound e = entry_of es e.trigram ≡ Some (entry_read e)
 
-  pub all_found : (listed new : List Entry) (found : Option Entry) (g : ℕ) → new ≡ listed ++ found_items found → option_map entry_read found ≡ entry_of es g → IfSome found (λ e. e.trigram ≡ g) → AllByRecursion IsFound listed → AllByRecursion IsFound new
+  pub all_found : (listed new : List Entry) (found : Option Entry) (g : ℕ) → new ≡ listed ++ found_items found →
+      option_map entry_read found ≡ entry_of es g → IfSome found (λ e. e.trigram ≡ g) → AllByRecursion IsFound listed →
+      AllByRecursion IsFound new
   all_found listed new None g is here same all = subst (AllByRecursion IsFound) (sym (is ∙ append-nil listed)) all
-  all_found listed new (Some e) g is here same all = subst (AllByRecursion IsFound) (sym is) (pushed listed all)
-    where
-      pushed : (es' : List Entry) → AllByRecursion IsFound es' → AllByRecursion IsFound (es' ++ e ∷ [])
-      pushed [] all = (ap (entry_of es) same ∙ sym here, tt)
-      pushed (d ∷ ds) all = (all.0, pushed ds all.1)
+  all_found listed new (Some e) g is here same all =
+      subst (AllByRecursion IsFound) (sym is) (all-append IsFound listed (e ∷ []) all (ap (entry_of es) same ∙ sym here, tt))
 
-  pub still_listed : (listed new : List Entry) (found : Option Entry) (gs : List ℕ) (i : ℕ) → new ≡ listed ++ found_items found → option_map entry_read found ≡ entry_of es (get_or gs i 0) → IfSome found (λ e. e.trigram ≡ get_or gs i 0) → i < length gs
+  pub still_listed : (listed new : List Entry) (found : Option Entry) (gs : List ℕ) (i : ℕ) →
+      new ≡ listed ++ found_items found → option_map entry_read found ≡ entry_of es (get_or gs i 0) →
+      IfSome found (λ e. e.trigram ≡ get_or gs i 0) → i < length gs
       → trigrams_listed listed ≡ filter (has_entry es) (take i gs) → trigrams_listed new ≡ filter (has_entry es) (take (i + 1) gs)
   still_listed listed new found gs i is here same h all =
       ap trigrams_listed is ∙ map-append (λ (e : Entry). e.trigram) listed (found_items found)
       ∙ (λ j. all j ++ one found here same j)
       ∙ sym (ap (filter (has_entry es)) (take_more gs i 0 h) ∙ filter-append (has_entry es) (take i gs) (get_or gs i 0 ∷ []))
     where
-      one : (found : Option Entry) → option_map entry_read found ≡ entry_of es (get_or gs i 0) → IfSome found (λ e. e.trigram ≡ get_or gs i 0) → trigrams_listed (found_items found) ≡ filter (has_entry es) (get_or gs i 0 ∷ [])
+      one : (found : Option Entry) → option_map entry_read found ≡ entry_of es (get_or gs i 0) →
+          IfSome found (λ e. e.trigram ≡ get_or gs i 0) → trigrams_listed (found_items found)
+          ≡ filter (has_entry es) (get_or gs i 0 ∷ [])
       one None here same = sym (ap (λ (o : Option ListEntry). cond (is_some o) (get_or gs i 0 ∷ []) []) (sym here))
-      one (Some e) here same = ap (λ n. n ∷ []) same ∙ sym (ap (λ (o : Option ListEntry). cond (is_some o) (get_or gs i 0 ∷ []) []) (sym here))
+      one (Some e) here same = ap (λ n. n ∷ []) same
+          ∙ sym (ap (λ (o : Option ListEntry). cond (is_some o) (get_or gs i 0 ∷ []) []) (sym here))

@@ -22,9 +22,11 @@ use Rattle.cs_index.proofs.stored.ListSections.{stored_lists}
 use Rattle.cs_index.proofs.stored.SectionReads.{lists_long, opened, tested}
 
 abbrev pub tables_of : List ℕ → List ℕ → List ℕ → SectionOffsets → TableParts
-tables_of paths names list_index starts = record { paths = texts_of paths; names = texts_of names; entries = entries_in list_index; starts = starts }
+tables_of paths names list_index starts =
+    record { paths = texts_of paths; names = texts_of names; entries = entries_in list_index; starts = starts }
 
-pub tables_valid : (p n i l : List ℕ) (s : SectionOffsets) → AreBoundedSections p n i l (s.name_index - s.postings) → AreValidTables (tables_of p n l s)
+pub tables_valid : (p n i l : List ℕ) (s : SectionOffsets) → AreBoundedSections p n i l (s.name_index - s.postings) →
+    AreValidTables (tables_of p n l s)
 tables_valid p n i l s is = record {
   each_path = (section_read (0 ∷ []) p is.read.each_path).0;
   each_name = elim (or_cases (is_section (0 ∷ []) n) (is_section [] n) is.read.each_name) [
@@ -37,17 +39,20 @@ tables_valid p n i l s is = record {
 }
 
 -- each entry fits the section of posting lists
-pub fits_at : (room : ℕ) (es : List ListEntry) (k : ℕ) (e : ListEntry) → list_all (λ (d : ListEntry). is_entry room d) es ≡ true → slice_get es k ≡ Some e → e.offset + 4 ≤ room
+pub fits_at : (room : ℕ) (es : List ListEntry) (k : ℕ) (e : ListEntry) → list_all (λ (d : ListEntry). is_entry room d)
+    es ≡ true → slice_get es k ≡ Some e → e.offset + 4 ≤ room
 fits_at room [] k e all at = cc
 fits_at room (d ∷ es) zero e all at =
     let here = (and_parts (is_entry room d) (list_all (λ (d : ListEntry). is_entry room d) es) all).0 in
     let fits = (and_parts (leb (d.offset + 4) room) (nat_lt d.trigram closing_trigram || nat_eq d.count 0) here).0 in
     let same : d ≡ e = cc in
     subst (λ (x : ListEntry). x.offset + 4 ≤ room) same (leb-true (d.offset + 4) room fits)
-fits_at room (d ∷ es) (suc k) e all at = fits_at room es k e (and_parts (is_entry room d) (list_all (λ (d : ListEntry). is_entry room d) es) all).1 at
+fits_at room (d ∷ es) (suc k) e all at =
+    fits_at room es k e (and_parts (is_entry room d) (list_all (λ (d : ListEntry). is_entry room d) es) all).1 at
 
 -- the parts of these tables are valid
-pub parts_valid : (bytes : List ℕ) (tables : TableParts) (parts : Parts) → AreValidTables tables → AreAscendingOffsets tables.starts → TablesIn bytes tables parts → AreValidParts parts
+pub parts_valid : (bytes : List ℕ) (tables : TableParts) (parts : Parts) → AreValidTables tables →
+    AreAscendingOffsets tables.starts → TablesIn bytes tables parts → AreValidParts parts
 parts_valid bytes tables parts are order is = record {
   each_path = subst (AllByRecursion IsString) is.stands.paths are.each_path;
   each_name = subst (AllByRecursion IsString) is.names are.each_name;
@@ -62,9 +67,11 @@ parts_valid bytes tables parts are order is = record {
 
 -- ---- sections that were read
 
-module _ (bytes p n i l : List ℕ) (s : SectionOffsets) (order : AreAscendingOffsets s) (within : s.trailer ≤ length bytes) (split : split_of bytes ≡ Ok (sections_at bytes s))
+module _ (bytes p n i l : List ℕ) (s : SectionOffsets) (order : AreAscendingOffsets s)
+    (within : s.trailer ≤ length bytes) (split : split_of bytes ≡ Ok (sections_at bytes s))
     (paths : p ≡ part_of bytes s.paths (s.names - s.paths)) (names : n ≡ part_of bytes s.names (s.postings - s.names))
-    (numbers : i ≡ part_of bytes s.name_index (s.list_index - s.name_index)) (entries : l ≡ part_of bytes s.list_index (s.trailer - s.list_index)) where
+    (numbers : i ≡ part_of bytes s.name_index (s.list_index - s.name_index))
+    (entries : l ≡ part_of bytes s.list_index (s.trailer - s.list_index)) where
   abbrev postings : List ℕ
   postings = slice_range bytes s.postings s.name_index
 
@@ -74,7 +81,8 @@ module _ (bytes p n i l : List ℕ) (s : SectionOffsets) (order : AreAscendingOf
   long : length postings ≡ s.name_index - s.postings
   long = lists_long bytes s order within
 
-  pub tables_stand : AreValidSections p n i l (s.name_index - s.postings) → TablesIn bytes (tables_of p n l s) (parts_of (with_lists p n i l postings))
+  pub tables_stand : AreValidSections p n i l (s.name_index - s.postings) → TablesIn bytes (tables_of p n l s)
+      (parts_of (with_lists p n i l postings))
   tables_stand valid = record {
     stands = record {
       split = split;
@@ -87,18 +95,24 @@ module _ (bytes p n i l : List ℕ) (s : SectionOffsets) (order : AreAscendingOf
     entries = refl;
   }
 
-  pub tables_fail : (fault : IndexFault) → ((lists : List ℕ) → length lists ≡ s.name_index - s.postings → read_sections (with_lists p n i l lists) ≡ Err fault) → opening bytes ≡ Err fault
+  pub tables_fail : (fault : IndexFault) →
+      ((lists : List ℕ) → length lists ≡ s.name_index - s.postings → read_sections (with_lists p n i l lists)
+      ≡ Err fault) → opening bytes ≡ Err fault
   tables_fail fault fails = opened bytes (sections_at bytes s) (Err fault) split (ap read_sections same ∙ fails postings long)
 
 -- the offsets of an index that was opened
-pub starts_of : (bytes : List ℕ) (answer : Result StoredParts IndexFault) (s : SectionOffsets) {stored : StoredParts} {paths : List (List ℕ)} {count : ℕ} → answer ≡ Ok stored → record { paths = paths; name_count = count; starts = s } ≡ stored → OpensAs bytes answer
+pub starts_of : (bytes : List ℕ) (answer : Result StoredParts IndexFault)
+    (s : SectionOffsets) {stored : StoredParts} {paths : List (List ℕ)} {count : ℕ} → answer ≡ Ok stored →
+    record { paths = paths; name_count = count; starts = s } ≡ stored → OpensAs bytes answer
     → (split_of bytes ≡ Ok (sections_at bytes s)) × (s.trailer ≤ length bytes)
 starts_of bytes answer s {stored} is view opens =
     let stands = (subst (OpensAs bytes) is opens).1 in
     let same : stored.starts ≡ s = ap (λ (p : StoredParts). p.starts) (sym view) in
     subst (λ o. (split_of bytes ≡ Ok (sections_at bytes o)) × (o.trailer ≤ length bytes)) same (stands.split, stands.within)
 
-pub valid_same : {p n i l paths names numbers entries : List ℕ} {room : ℕ} → p ≡ paths → n ≡ names → i ≡ numbers → l ≡ entries → AreValidSections p n i l room → AreValidSections paths names numbers entries room
+pub valid_same : {p n i l paths names numbers entries : List ℕ} {room : ℕ} → p ≡ paths → n ≡ names → i ≡ numbers →
+    l ≡ entries → AreValidSections p n i l room → AreValidSections paths names numbers entries room
 valid_same {p} {n} {i} {l} {paths} {names} {numbers} {entries} {room} a b d e valid =
     subst (λ x. AreValidSections paths names numbers x room) e
-    (subst (λ x. AreValidSections paths names x l room) d (subst (λ x. AreValidSections paths x i l room) b (subst (λ x. AreValidSections x n i l room) a valid)))
+    (subst (λ x. AreValidSections paths names x l room) d
+    (subst (λ x. AreValidSections paths x i l room) b (subst (λ x. AreValidSections x n i l room) a valid)))

@@ -1,5 +1,6 @@
 -- The trigrams of each name in the posting lists of all trigrams.
-use Rattle.std.proofs.Common.{◌≡◌, ℕ, ◌+◌, ◌<◌, ◌≤◌, Bool, true, false, cond, eqb, ◌||◌, ◌&&◌, List, [], ◌∷◌, ◌++◌, length, refl, sym, ap, subst, ◌∙◌, inl, inr, arith}
+use Rattle.std.proofs.Common.{◌≡◌, ℕ, ◌+◌, ◌<◌, ◌≤◌, false, cond, eqb, ◌||◌, ◌&&◌, List, [], ◌∷◌, ◌++◌, length, refl, sym, ap, subst, ◌∙◌, inl, inr, arith}
+use Rattle.std.proofs.Math.Bool.{and-true, and-false, or-false}
 use Rattle.cs_index.specs.AscendingIds.{AscendWithin, IsPostingList, next_after}
 use Rattle.cs_index.specs.PostingLists.{set_at, entries_of}
 use Rattle.cs_trigram.specs.Trigram.{has, set_of_numbers, Ascends}
@@ -48,13 +49,8 @@ set_earlier n f more id k gs below below' given less =
     ascends_same _ _ (set_ascends n more k) (set_ascends n f k) (λ g.
     has_set n more g k below' ∙ given.ids g k
     ∙ ap (λ b. has (f g) k || (has gs g && b)) (ne_eqb id k (λ e. absurd (omega (arith, e, less))))
-    ∙ dropped (has (f g) k) (has gs g)
+    ∙ ap (λ b. has (f g) k || b) (and-false (has gs g)) ∙ or-false (has (f g) k)
     ∙ sym (has_set n f g k below))
-  where
-    dropped : (a b : Bool) → (a || (b && false)) ≡ a
-    dropped true b = refl
-    dropped false true = refl
-    dropped false false = refl
 
 set_last : (n : ℕ) (f more : ℕ → List ℕ) (id : ℕ) (gs : List ℕ) → AreBelow n more → WereGiven f more id gs →
     set_at id (lists_below n more) ≡ set_of_numbers gs
@@ -63,12 +59,8 @@ set_last n f more id gs below' given =
     has_set n more g id below' ∙ given.ids g id
     ∙ ap (λ b. b || (has gs g && eqb id id)) (given.fresh g)
     ∙ ap (λ b. has gs g && b) (eq-eqb id id refl)
-    ∙ kept (has gs g)
+    ∙ and-true (has gs g)
     ∙ sym (has-set_of_numbers g gs))
-  where
-    kept : (a : Bool) → (a && true) ≡ a
-    kept true = refl
-    kept false = refl
 
 -- ---- names
 

@@ -1,7 +1,7 @@
 -- The posting lists of trigrams in ascending order.
 use Rattle.std.proofs.Common.{◌≡◌, ℕ, zero, suc, ◌+◌, ◌<◌, ◌≤◌, Bool, true, false, eqb, ltb, ◌||◌, ◌&&◌, List, [], ◌∷◌, ◌++◌, length, map, get_or, add-one, refl, sym, ap, subst, ◌∙◌, inl, inr, arith, append_assoc}
 use Rattle.std.proofs.lemmas.Bool.{cases_lt, cases_order, eq-eqb, ne_eqb, lt-ltb, le-ltb}
-use Rattle.std.proofs.Math.Bool.{or-false}
+use Rattle.std.proofs.Math.Bool.{or-false, and-true, and-false}
 use Rattle.std.proofs.lemmas.List.{append-nil, map-append}
 use Rattle.std.specs.List.{AllByRecursion}
 use Rattle.cs_trigram.specs.Trigram.{has, Ascends}
@@ -128,34 +128,21 @@ has_below (suc n) f g =
       | inl here ↦
           let at : f n ≡ f g = ap f (sym here) in
           (λ i. (le-ltb g n (omega (arith, here)) i && some_ids (f g)) || (some_ids (at i) && eq-eqb n g (sym here) i))
-          ∙ and_true (some_ids (f g))
+          ∙ and-true (some_ids (f g))
           ∙ ap (λ b. b && some_ids (f g)) (sym (lt-ltb g (suc n) (omega (arith, here))))
       | inr other ↦ elim other [
         | inl less ↦
             (λ i. (lt-ltb g n less i && some_ids (f g)) || (some_ids (f n) && ne_eqb n g (λ e. absurd (omega
             (arith, e, less))) i))
-            ∙ dropped (some_ids (f g)) (some_ids (f n))
+            ∙ ap (λ b. some_ids (f g) || b) (and-false (some_ids (f n))) ∙ or-false (some_ids (f g))
             ∙ ap (λ b. b && some_ids (f g)) (sym (lt-ltb g (suc n) (omega (arith, less))))
         | inr more ↦
             (λ i. (le-ltb g n (omega (arith, more)) i && some_ids (f g)) || (some_ids (f n) && ne_eqb n g (λ e. absurd (omega
             (arith, e, more))) i))
-            ∙ neither (some_ids (f n))
+            ∙ and-false (some_ids (f n))
             ∙ ap (λ b. b && some_ids (f g)) (sym (le-ltb g (suc n) (omega (arith, more))))
       ]
     ]
-  where
-    and_true : (b : Bool) → (b && true) ≡ b
-    and_true true = refl
-    and_true false = refl
-
-    dropped : (a b : Bool) → (a || (b && false)) ≡ a
-    dropped true b = refl
-    dropped false true = refl
-    dropped false false = refl
-
-    neither : (b : Bool) → (b && false) ≡ false
-    neither true = refl
-    neither false = refl
 
 -- ---- consecutive lists
 

@@ -11,13 +11,13 @@ use Rattle.std.specs.Prelude.{flat_map}
 use Rattle.cs_index.specs.Indexable.{IsIndexable}
 use Rattle.cs_index.specs.Encoding.{PostingList, ListEntry, four_bytes, encoding_of, layout, list_entries, posting_list_bytes, sections_of, three_bytes, varint, deltas_from, stream_of}
 use Rattle.cs_index.specs.IdStream.{ids_in, IsStream}
-use Rattle.cs_index.specs.AscendingIds.{ids_onward, max_ids, next_after, ArePostingLists, IsPostingList, AscendWithin}
+use Rattle.cs_index.specs.AscendingIds.{ids_onward, max_ids, next_after, IsPostingList, AscendWithin}
 use Rattle.cs_index.specs.Gathering.{trigrams_in}
-use Rattle.cs_index.specs.Written.{ids_of, with_id, Written, entries_written, last_ids, with_written_id, with_last_id, with_last_ids, with_sent, AllBelow}
+use Rattle.cs_index.specs.Written.{ids_of, with_id, Written, entries_written, last_ids, with_written_id, with_last_id, with_last_ids, AllBelow}
 use Rattle.cs_index.specs.Sending.{Outgoing, bytes_in, with_bytes}
-use Rattle.cs_index.specs.WrittenLists.{IsLastList, IsWritten, with_posting}
+use Rattle.cs_index.specs.WrittenLists.{IsWritten, with_posting}
 use Rattle.cs_index.specs.SectionsInvariant.{prefix_of, ids_at, first_of, lists_at, IsFresh, IsOpen, IsSections, current_list, bytes_at_close, lists_of_fields, last_trigram_of, written_of}
-use Rattle.cs_index.proofs.postings.StreamPush.{decoded-stream_of, stream_from, written_push, next_push, rise_push, rise_length, rise_append}
+use Rattle.cs_index.proofs.postings.StreamPush.{decoded-stream_of, stream_from, next_append, rise_length, rise_append}
 use Rattle.cs_index.proofs.postings.EncodedRuns.{onward_from, onward_last, onward_stream}
 use Rattle.cs_index.proofs.encoding.ListsReadBack.{lists_are}
 use Rattle.cs_index.proofs.encoding.EncodingOpens.{lists_back}
@@ -197,172 +197,11 @@ none_before (x ∷ xs) ys e = absurd (not_none x (xs ++ ys) e)
 pub no_sent : (s : Inside) → IsSections s → s.count ≡ 0 → s.out.sent ≡ []
 no_sent s is zero = none_before s.out.sent s.out.unsent (is.silent zero)
 
--- ---- one more id
-
--- the fields after one more id
-abbrev pub after_id : Inside → Outgoing → ℕ → Inside
-after_id s out id = record {
-  alloc = s.alloc;
-  paths = s.paths;
-  names = s.names;
-  out = out;
-  entries = s.entries;
-  pending = s.pending;
-  trigram = s.trigram;
-  count = s.count + 1;
-  start = s.start;
-  next = id + 1;
-}
-
--- the premises of appending an id to the current list
-pub record AtCurrent (s : Inside) (id : ℕ) : Type 0 where
-  pub some : s.count ≢ 0
-  pub below : s.next ≤ id
-  pub bound : s.count ≤ id
-  pub small : id < 2 ^ 31
-  pub begun : last_trigram_of s ≡ Some s.trigram
-  pub last : ids_of (lists_of_fields s) s.trigram ≡ current_ids s
-  pub more : with_id (lists_of_fields s) s.trigram id ≡ closed_of s ++ (s.trigram, current_ids s ++ id ∷ []) ∷ []
-  pub closed_rise : Rise (closed_of s)
-  pub ids_rise : AscendWithin max_ids 0 (current_ids s)
-
-pub at_current : (s : Inside) (now : Written) (id : ℕ) → written_of s ≡ now → IsSections s → s.pending ≡ None →
-    now.last_trigram ≢ None → next_after 0 (last_ids now) ≤ id → id < length now.names → AtCurrent s id
-at_current s now id view is none begun above named =
-    record {
-      some = some;
-      below = below;
-      bound = (let long = rise_length max_ids 0 (current_ids s) rise in omega
-          (arith, long, below, open_list.counted, open_list.follows));
-      small = (let at : length s.names ≡ length now.names = ap (λ (output : Written). length output.names) view in omega
-          (arith, is.output.bound, named, at));
-      begun = has_begun;
-      last = last;
-      more = ap (λ ps. with_id ps s.trigram id) (some_lists s some)
-          ∙ with_last (closed_of s) s.trigram id (current_ids s) apart;
-      closed_rise = parts.0;
-      ids_rise = rise;
-    }
-  where
-    some : s.count ≢ 0
-    some zero = begun (ap (λ (output : Written). output.last_trigram) (sym view)
-        ∙ ap (λ o. option_map_or (λ trigram. Some trigram) o (cond (eqb s.count 0) None (Some s.trigram))) none
-        ∙ ap (λ b. cond b None (Some s.trigram)) (eq-eqb s.count 0 zero))
-
-    has_begun : last_trigram_of s ≡ Some s.trigram
-    has_begun = ap (λ o. option_map_or (λ trigram. Some trigram) o (cond (eqb s.count 0) None (Some s.trigram))) none
-        ∙ ap (λ b. cond b None (Some s.trigram)) (ne_eqb s.count 0 some)
-
-    open_list : IsOpenAs s (closed_of s) (current_ids s)
-    open_list = is.opened some
-
-    parts : Rise (closed_of s) × AscendWithin max_ids 0 (current_ids s)
-    parts = all_prefix (λ (p : PostingList). AscendWithin max_ids 0 p.1) (closed_of s) (s.trigram, current_ids s)
-        (subst Rise (some_lists s some)
-        (all_rise (length s.names) (lists_of_fields s) is.output.bound is.output.postings.each))
-
-    rise : AscendWithin max_ids 0 (current_ids s)
-    rise = parts.1
-
-    apart : has (trigrams_in (closed_of s)) s.trigram ≡ false
-    apart = last_apart (closed_of s) (s.trigram, current_ids s)
-        (subst (λ ps. Ascends (trigrams_in ps)) (some_lists s some) is.output.postings.ascend)
-
-    last : ids_of (lists_of_fields s) s.trigram ≡ current_ids s
-    last = ap (λ ps. ids_of ps s.trigram) (some_lists s some) ∙ of_last (closed_of s) s.trigram (current_ids s) apart
-
-    last_is : last_ids now ≡ current_ids s
-    last_is = ap last_ids (sym view) ∙ ap (λ o. option_map_or (ids_of (lists_of_fields s)) o []) has_begun ∙ last
-
-    below : s.next ≤ id
-    below = subst (λ n. n ≤ id) (sym open_list.follows) (subst (λ ids. next_after 0 ids ≤ id) last_is above)
-
-pub record Given (s : Inside) (now : Written) (out : Outgoing) (id : ℕ) : Type 0 where
-  pub are_sections : IsSections (after_id s out id)
-  pub is : written_of (after_id s out id) ≡ with_last_id now id
-
-pub given : (s : Inside) (now : Written) (out : Outgoing) (id : ℕ) → written_of s ≡ now → IsSections s →
-    s.pending ≡ None → now.last_trigram ≢ None → next_after 0 (last_ids now) ≤ id → id < length now.names →
-    out ≡ with_bytes s.out (varint (id + 1 - s.next)) → Given s now out id
-given s now out id view is none begun above named written =
-    record {
-      are_sections = record {
-        output = subst IsWritten (sym same)
-            (written_given (written_of s) s.trigram id is.output known.begun
-            (subst (λ ids. next_after 0 ids ≤ id) (sym known.last) (subst (λ n. n ≤ id) open_list.follows known.below))
-            (subst (λ (output : Written). id < length output.names) (sym view) named));
-        fresh = subst (IsFresh (lists_of_fields t)) (sym none) tt;
-        unwritten = λ zero. absurd (omega (arith, zero));
-        silent = λ zero. absurd (omega (arith, zero));
-        opened = λ _. now_open.opened;
-      };
-      is = same ∙ sym (ap (λ (output : Written). with_last_id output id) (sym view)
-          ∙ ap (λ o. option_map_or (λ trigram. with_written_id (written_of s) trigram id) o (written_of s)) known.begun);
-    }
-  where
-    t : Inside
-    t = after_id s out id
-
-    known : AtCurrent s id
-    known = at_current s now id view is none begun above named
-
-    open_list : IsOpenAs s (closed_of s) (current_ids s)
-    open_list = is.opened known.some
-
-    ids : List ℕ
-    ids = current_ids s
-
-    output : List ℕ
-    output = concat (map posting_list_bytes (closed_of s))
-
-    last : List ℕ
-    last = varint (id + 1 - next_after 0 ids)
-
-    bytes : bytes_in out ≡ prefix_of s.paths s.names
-        ++ (concat (map posting_list_bytes (closed_of s)) ++ (three_bytes s.trigram ++ stream_of (ids ++ id ∷ [])))
-    bytes =
-        ap bytes_in written ∙ bytes_more s.out (varint (id + 1 - s.next))
-        ∙ (λ i. open_list.written i ++ varint (id + 1 - open_list.follows i))
-        ∙ append_assoc (prefix_of s.paths s.names) (output ++ (three_bytes s.trigram ++ stream_of ids)) last
-        ∙ ap (λ bs. prefix_of s.paths s.names ++ bs) (append_assoc output (three_bytes s.trigram ++ stream_of ids) last
-        ∙ ap (λ bs. output ++ bs) (append_assoc (three_bytes s.trigram) (stream_of ids) last
-        ∙ ap (λ bs. three_bytes s.trigram ++ bs) (sym (written_push 0 ids id))))
-
-    now_open : Stated t (closed_of s) (ids ++ id ∷ [])
-    now_open = stated t (closed_of s) (ids ++ id ∷ []) (λ zero. absurd (omega (arith, zero))) (record {
-      written = bytes;
-      entries_are = open_list.entries_are;
-      counted = (let long = length_push ids id in omega (arith, long, open_list.counted));
-      starts = open_list.starts;
-      follows = sym (next_push 0 ids id);
-    }) known.closed_rise (rise_push 0 ids id known.ids_rise (subst (λ n. n ≤ id) open_list.follows known.below) known.small)
-
-    same : written_of t ≡ with_written_id (written_of s) s.trigram id
-    same = λ i. record {
-      paths = s.paths;
-      names = s.names;
-      lists = (now_open.lists ∙ sym known.more) i;
-      last_trigram = (ap (λ b. option_map_or (λ trigram. Some trigram) s.pending (cond b None (Some s.trigram)))
-          (ne_eqb (s.count + 1) 0 (λ zero. absurd (omega (arith, zero))) ∙ sym (ne_eqb s.count 0 known.some))) i;
-      sent = (written i).sent;
-    }
-
--- ---- several ids after the last one
+-- ---- the current list
 
 -- the fields after several ids
 abbrev pub after_ids : Inside → Outgoing → ℕ → ℕ → Inside
-after_ids s out count next = record {
-  alloc = s.alloc;
-  paths = s.paths;
-  names = s.names;
-  out = out;
-  entries = s.entries;
-  pending = s.pending;
-  trigram = s.trigram;
-  count = count;
-  start = s.start;
-  next = next;
-}
+after_ids s out count next = record s { out = out; count = count; next = next }
 
 no_list_below : (lists : List PostingList) (trigram : ℕ) → AllBelow lists trigram → ids_of lists trigram ≡ []
 no_list_below [] trigram all = refl
@@ -371,7 +210,7 @@ no_list_below (p ∷ lists) trigram all =
     ap (λ b. cond b p.1 (ids_of lists trigram)) (ne_eqb p.0 trigram (λ e. absurd (omega (arith, e, below))))
     ∙ no_list_below lists trigram all.1
 
--- the premises if the current list has an id
+-- the premises of appending ids to the current list
 pub record AtLast (s : Inside) (now : Written) : Type 0 where
   pub none : s.pending ≡ None
   pub some : s.count ≢ 0
@@ -382,8 +221,10 @@ pub record AtLast (s : Inside) (now : Written) : Type 0 where
   pub closed_rise : Rise (closed_of s)
   pub ids_rise : AscendWithin max_ids 0 (current_ids s)
 
-pub at_last : (s : Inside) (now : Written) → written_of s ≡ now → IsSections s → last_ids now ≢ [] → AtLast s now
-at_last s now view is has_last =
+-- a list that is not pending has an id
+pub at_current : (s : Inside) (now : Written) → written_of s ≡ now → IsSections s → s.pending ≡ None →
+    now.last_trigram ≢ None → AtLast s now
+at_current s now view is none begun =
     record {
       none = none;
       some = some;
@@ -396,27 +237,15 @@ at_last s now view is has_last =
       ids_rise = parts.1;
     }
   where
-    none : s.pending ≡ None
-    none = by_pending s.pending refl
-      where
-        by_pending : (o : Option ℕ) → s.pending ≡ o → s.pending ≡ None
-        by_pending None e = e
-        by_pending (Some trigram) e =
-            absurd (has_last
-            (ap last_ids (sym view)
-            ∙ ap (λ o. option_map_or (ids_of (lists_of_fields s)) (option_map_or (λ g. Some g) o (cond (eqb s.count 0) None (Some s.trigram))) []) e
-            ∙ no_list_below (lists_of_fields s) trigram (subst (IsFresh (lists_of_fields s)) e is.fresh)))
+    current : last_trigram_of s ≡ cond (eqb s.count 0) None (Some s.trigram)
+    current = ap (λ o. option_map_or (λ trigram. Some trigram) o (cond (eqb s.count 0) None (Some s.trigram))) none
 
     some : s.count ≢ 0
-    some zero =
-        has_last
-        (ap last_ids (sym view)
-        ∙ ap (λ o. option_map_or (ids_of (lists_of_fields s)) (option_map_or (λ g. Some g) o (cond (eqb s.count 0) None (Some s.trigram))) []) none
-        ∙ ap (λ b. option_map_or (ids_of (lists_of_fields s)) (cond b None (Some s.trigram)) []) (eq-eqb s.count 0 zero))
+    some zero = begun (ap (λ (l : Written). l.last_trigram) (sym view) ∙ current
+        ∙ ap (λ b. cond b None (Some s.trigram)) (eq-eqb s.count 0 zero))
 
     has_begun : last_trigram_of s ≡ Some s.trigram
-    has_begun = ap (λ o. option_map_or (λ trigram. Some trigram) o (cond (eqb s.count 0) None (Some s.trigram))) none
-        ∙ ap (λ b. cond b None (Some s.trigram)) (ne_eqb s.count 0 some)
+    has_begun = current ∙ ap (λ b. cond b None (Some s.trigram)) (ne_eqb s.count 0 some)
 
     parts : Rise (closed_of s) × AscendWithin max_ids 0 (current_ids s)
     parts = all_prefix (λ (p : PostingList). AscendWithin max_ids 0 p.1) (closed_of s) (s.trigram, current_ids s)
@@ -427,12 +256,25 @@ at_last s now view is has_last =
     apart = last_apart (closed_of s) (s.trigram, current_ids s)
         (subst (λ ps. Ascends (trigrams_in ps)) (some_lists s some) is.output.postings.ascend)
 
+-- a list that has ids is not pending
+pub at_last : (s : Inside) (now : Written) → written_of s ≡ now → IsSections s → last_ids now ≢ [] → AtLast s now
+at_last s now view is has_last =
+    at_current s now view is (by_pending s.pending refl) (λ no. has_last (ap (λ o. option_map_or (ids_of now.lists) o []) no))
+  where
+    by_pending : (o : Option ℕ) → s.pending ≡ o → s.pending ≡ None
+    by_pending None e = e
+    by_pending (Some trigram) e =
+        absurd (has_last
+        (ap last_ids (sym view)
+        ∙ ap (λ o. option_map_or (ids_of (lists_of_fields s))
+        (option_map_or (λ g. Some g) o (cond (eqb s.count 0) None (Some s.trigram))) []) e
+        ∙ no_list_below (lists_of_fields s) trigram (subst (IsFresh (lists_of_fields s)) e is.fresh)))
+
 -- there are at most as many ids as names
-pub count_all : (s : Inside) (now : Written) (more : List ℕ) → written_of s ≡ now → IsSections s → last_ids now ≢ [] →
+pub count_all : (s : Inside) (now : Written) (more : List ℕ) → written_of s ≡ now → IsSections s → AtLast s now →
     next_after 0 (last_ids now) + next_after 0 more ≤ length now.names → AscendWithin max_ids 0 more →
     (s.count + length more ≤ 2 ^ 31) × (s.next + next_after 0 more ≤ 2 ^ 31)
-count_all s now more view is has_last named rise =
-    let known = at_last s now view is has_last in
+count_all s now more view is known named rise =
     let at : length s.names ≡ length now.names = ap (λ (l : Written). length l.names) view in
     let here : next_after 0 (last_ids now) ≡ next_after 0 (current_ids s) = ap (next_after 0) known.last in
     let bound = rise_length max_ids 0 (current_ids s) known.ids_rise in
@@ -482,7 +324,7 @@ written_all output closed g ids (id ∷ more) is begun lists apart up =
     (sym (ap (λ o. option_map_or (λ trigram. with_written_id output trigram id) o output) begun))
     (written_all (with_written_id output g id) closed g (ids ++ id ∷ []) more one begun
     (ap (λ ps. with_id ps g id) lists ∙ with_last closed g id ids apart) apart
-    (subst (λ n. AscendWithin (length output.names) n more) (sym (next_push 0 ids id)) up.2))
+    (subst (λ n. AscendWithin (length output.names) n more) (sym (next_append 0 ids (id ∷ []))) up.2))
 
 -- bytes, ids and bounds of appended ids
 written_more : (next : ℕ) (ids more : List ℕ) →
@@ -502,10 +344,10 @@ pub record GivenAll (s : Inside) (now : Written) (out : Outgoing) (count next : 
   pub is : written_of (after_ids s out count next) ≡ with_last_ids now (ids_onward (next_after 0 (last_ids now)) more)
 
 pub given_all : (s : Inside) (now : Written) (out : Outgoing) (count next : ℕ) (more : List ℕ) → written_of s ≡ now →
-    IsSections s → last_ids now ≢ [] → next_after 0 (last_ids now) + next_after 0 more ≤ length now.names →
+    IsSections s → AtLast s now → next_after 0 (last_ids now) + next_after 0 more ≤ length now.names →
     AscendWithin max_ids 0 more → out ≡ with_bytes s.out (stream_of more) → count ≡ s.count + length more →
     next ≡ s.next + next_after 0 more → GivenAll s now out count next more
-given_all s now out count next more view is has_last named rise written counted follows =
+given_all s now out count next more view is known named rise written counted follows =
     record {
       are_sections = record {
         output = subst IsWritten (sym same) (written_all (written_of s) (closed_of s) s.trigram ids new is.output known.begun
@@ -521,9 +363,6 @@ given_all s now out count next more view is has_last named rise written counted 
   where
     t : Inside
     t = after_ids s out count next
-
-    known : AtLast s now
-    known = at_last s now view is has_last
 
     some : count ≢ 0
     some zero = known.some (omega (arith, zero, counted))
@@ -578,6 +417,39 @@ given_all s now out count next more view is has_last named rise written counted 
         })
         ∙ sym (with_all (written_of s) (closed_of s) s.trigram ids new known.begun (some_lists s known.some) known.apart)
 
+-- ---- one id
+
+one_varint : (id : ℕ) → stream_of (id ∷ []) ≡ varint (id + 1)
+one_varint id = append-nil (varint (id + 1 - 0)) ∙ ap varint (let same : id + 1 - 0 ≡ id + 1 = omega arith in same)
+
+-- one more id fits
+pub at_id : (s : Inside) (now : Written) (id : ℕ) → written_of s ≡ now → IsSections s → AtLast s now → next_after 0 (last_ids now) ≤ id →
+    id < length now.names → (s.next ≤ id) × (s.count ≤ id) × (id < 2 ^ 31)
+at_id s now id view is known above named =
+    let at : length s.names ≡ length now.names = ap (λ (l : Written). length l.names) view in
+    let last : next_after 0 (last_ids now) ≡ next_after 0 (current_ids s) = ap (next_after 0) known.last in
+    let long = rise_length max_ids 0 (current_ids s) known.ids_rise in (
+      omega (arith, last, above, known.open_list.follows),
+      omega (arith, long, last, above, known.open_list.counted),
+      omega (arith, is.output.bound, named, at),
+    )
+
+pub record Given (s : Inside) (now : Written) (out : Outgoing) (id : ℕ) : Type 0 where
+  pub are_sections : IsSections (after_ids s out (s.count + 1) (id + 1))
+  pub is : written_of (after_ids s out (s.count + 1) (id + 1)) ≡ with_last_id now id
+
+pub given : (s : Inside) (now : Written) (out : Outgoing) (id : ℕ) → written_of s ≡ now → IsSections s → AtLast s now →
+    next_after 0 (last_ids now) ≤ id → id < length now.names → out ≡ with_bytes s.out (varint (id + 1 - s.next)) → Given s now out id
+given s now out id view is known above named written =
+    let fits = at_id s now id view is known above named in
+    let next : s.next ≡ next_after 0 (last_ids now) = known.open_list.follows ∙ ap (next_after 0) (sym known.last) in
+    let delta : id + 1 - s.next ≡ id - s.next + 1 = omega (arith, fits.0) in
+    let here : next_after 0 (last_ids now) + (id - s.next) ≡ id = omega (arith, fits.0, next) in
+    let all = given_all s now out (s.count + 1) (id + 1) ((id - s.next) ∷ []) view is known (omega (arith, here, named))
+    (omega arith, omega (arith, fits.2), tt) (written ∙ ap (with_bytes s.out) (ap varint delta ∙ sym (one_varint (id - s.next))))
+    (omega arith) (omega (arith, fits.0)) in
+    record { are_sections = all.are_sections; is = all.is ∙ ap (with_last_id now) here }
+
 -- ---- one more list
 
 concat_push : (ps : List PostingList) (p : PostingList) →
@@ -603,19 +475,8 @@ entries_push at (q ∷ ps) p =
 
 -- the fields after a list is begun
 abbrev pub after_list : Inside → Outgoing → Vec ListEntry Global → ℕ → ℕ → ℕ → ℕ → Inside
-after_list s out entries trigram count start next = record {
-  alloc = s.alloc;
-  paths = s.paths;
-  names = s.names;
-  out = out;
-  entries = entries;
-  pending = None;
-  trigram =
-      trigram;
-  count = count;
-  start = start;
-  next = next;
-}
+after_list s out entries trigram count start next =
+    record s { out = out; entries = entries; pending = None; trigram = trigram; count = count; start = start; next = next }
 
 -- encoded ids at the start of a list
 pub record AreFirst (name_count trigram count next : ℕ) (bytes : List ℕ) : Type 0 where
@@ -807,18 +668,7 @@ ended_some s now bytes entries view is some written pushed =
 
 -- the fields after the lists are closed
 abbrev pub after_close : Inside → Outgoing → Vec ListEntry Global → Inside
-after_close s out entries = record {
-  alloc = s.alloc;
-  paths = s.paths;
-  names = s.names;
-  out = out;
-  entries = entries;
-  pending = s.pending;
-  trigram = s.trigram;
-  count = s.count;
-  start = s.start;
-  next = s.next;
-}
+after_close s out entries = record s { out = out; entries = entries }
 
 -- All lists are closed.
 pub record Closed (now : Written) (s : Inside) (entries : List ListEntry) : Type 0 where
@@ -874,61 +724,7 @@ pub short : (s : Inside) (now : Written) (bytes : List ℕ) (limit : ℕ) → wr
 short s now bytes limit view is bound encoding within = written_indexable now (subst IsWritten view is.output)
     (let long = ap length encoding in omega (arith, bound, within, long))
 
--- ---- the bytes are sent
-
--- the fields after the bytes are sent
-abbrev pub after_send : Inside → Outgoing → Inside
-after_send s out = record {
-  alloc = s.alloc;
-  paths = s.paths;
-  names = s.names;
-  out = out;
-  entries = s.entries;
-  pending = s.pending;
-  trigram = s.trigram;
-  count = s.count;
-  start = s.start;
-  next = s.next;
-}
-
-pub record AfterSend (s : Inside) (now : Written) (out : Outgoing) : Type 0 where
-  pub are_sections : IsSections (after_send s out)
-  pub is : written_of (after_send s out) ≡ with_sent now out.sent
-
-pub after_sent : (s : Inside) (now : Written) (out : Outgoing) → written_of s ≡ now → IsSections s →
-    bytes_in out ≡ bytes_in s.out → AfterSend s now out
-after_sent s now out view is same = record {
-  are_sections = record {
-    output = record {
-      each_path = is.output.each_path;
-      each_name = is.output.each_name;
-      bound = is.output.bound;
-      postings = subst (ArePostingLists (length s.names)) lists is.output.postings;
-      last = subst (λ ps. IsLastList ps (last_trigram_of s)) lists is.output.last;
-    };
-    fresh = subst (λ ps. IsFresh ps s.pending) lists is.fresh;
-    unwritten = is.unwritten;
-    silent = λ zero. same ∙ is.silent zero;
-    opened = λ some. subst (λ bs. IsOpen (prefix_of s.paths s.names) bs s.entries.items (current_list s) s.next
-        (lists_at (bs ++ 0 ∷ []) s.entries.items) (ids_at (bs ++ 0 ∷ []) (current_list s))) (sym same) (is.opened some);
-  };
-  is = (λ i. record {
-    paths = s.paths;
-    names = s.names;
-    lists = sym lists i;
-    last_trigram = last_trigram_of s;
-    sent = out.sent;
-  }) ∙ ap (λ (l : Written). with_sent l out.sent) view;
-}
-  where
-    lists : lists_of_fields s ≡ lists_of_fields (after_send s out)
-    lists = ap (λ bs. cond (eqb s.count 0) [] (lists_at (bs ++ 0 ∷ []) s.entries.items
-        ++ (s.trigram, ids_at (bs ++ 0 ∷ []) (current_list s)) ∷ [])) (sym same)
-
 -- ---- the first id of a list
-
-one_varint : (id : ℕ) → stream_of (id ∷ []) ≡ varint (id + 1)
-one_varint id = append-nil (varint (id + 1 - 0)) ∙ ap varint (let same : id + 1 - 0 ≡ id + 1 = omega arith in same)
 
 pub one_stream : (id : ℕ) (bytes : List ℕ) → id < 2 ^ 31 → bytes ≡ varint (id + 1) → IsStream bytes 1 (id + 1)
 one_stream id bytes small is = subst (λ bs. IsStream bs 1 (id + 1)) (one_varint id ∙ sym is)

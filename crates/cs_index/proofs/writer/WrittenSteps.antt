@@ -1,5 +1,6 @@
 -- The invariant of `Written` after each operation.
 use Rattle.std.proofs.Common.{◌≡◌, ◌≢◌, ℕ, ◌+◌, ◌*◌, ◌^◌, ◌<◌, ◌≤◌, false, cond, eqb, List, [], ◌∷◌, ◌++◌, length, map, Option, None, Some, refl, sym, subst, ◌∙◌, inl, inr, arith, append_assoc, length-append}
+use Rattle.cs_tree.proofs.GatherLemmas.{all-append}
 use Rattle.cs_trigram.specs.Trigram.{has, closing_trigram, Ascends}
 use Rattle.cs_trigram.proofs.SetLemmas.{Above, ascends_cons, ascends_tail, ascends_head}
 use Rattle.std.proofs.lemmas.Bool.{true≢false, cases_Bool, cond_both, eq-eqb}
@@ -89,11 +90,6 @@ written_given output trigram id is begun above named =
 
 -- ---- one more list
 
-pub each_push : (P : PostingList → Type 0) (lists : List PostingList) (p : PostingList) → AllByRecursion P lists → P p →
-    AllByRecursion P (lists ++ p ∷ [])
-each_push P [] p all h = (h, tt)
-each_push P (q ∷ lists) p all h = (all.0, each_push P lists p all.1 h)
-
 pub written_begun : (output : Written) (p : PostingList) → IsWritten output → p.0 < 16777215 → AllBelow output.lists p.0 →
     IsPostingList (length output.names) p → IsWritten (with_posting output p)
 written_begun output p is small above posting = record {
@@ -102,9 +98,9 @@ written_begun output p is small above posting = record {
   bound = is.bound;
   postings = record {
     ascend = ascend_push output.lists p is.postings.ascend above;
-    each = each_push (IsPostingList (length output.names)) output.lists p is.postings.each posting;
+    each = all-append (IsPostingList (length output.names)) output.lists (p ∷ []) is.postings.each (posting, tt);
   };
-  last = (small, each_push (λ (q : PostingList). q.0 ≤ p.0) output.lists p (at_limit output.lists p.0 above) (omega arith));
+  last = (small, all-append (λ (q : PostingList). q.0 ≤ p.0) output.lists (p ∷ []) (at_limit output.lists p.0 above) (omega arith, tt));
 }
 
 -- ---- the index

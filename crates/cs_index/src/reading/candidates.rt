@@ -127,11 +127,12 @@ fn candidates_in<S: Store>(
     let form = form_of(alloc, &trigrams, query)?;
     let mut lists = lists_of(alloc, store, section, listed)?;
     let ids = meet(alloc, store, &form, &mut lists, section.name_count)?;
-    if finish_all(alloc, store, lists)? {
-        Ok(Ok(ids))
+    let answer = if finish_all(alloc, store, lists)? {
+        Ok(ids)
     } else {
-        Ok(Err(IndexFault::BadList))
-    }
+        Err(IndexFault::BadList)
+    };
+    Ok(answer)
 }
 
 /// The trigrams of entries.
@@ -154,7 +155,8 @@ fn lists_of<S: Store>(
 ) -> Result<Vec<StoredList>, IoFault>
     requires { IsSection section.now }
     ensures lists { (bytes : List ℕ) → S.model store.old ≡ Some bytes → IfOk result (λ lists.
-        map (ids_left bytes) lists.items ≡ map (λ e. read_list (part_of bytes section.now.start section.now.room)
+        map (ids_left bytes) lists.items ≡ map (λ e.
+        read_list (part_of bytes section.now.start section.now.room)
         section.now.name_count (entry_read e)) entries.now) }
     ensures count { IfOk result (λ lists. length lists.items ≡ length entries.now) }
     ensures holds { (bytes : List ℕ) → S.model store.old ≡ Some bytes →

@@ -1,15 +1,11 @@
 // The name index and the list index.
-ghost use Rattle.std.specs.Prelude.{◌≡◌, ◌==◌, ◌≤◌, ◌<◌, ◌+◌, ◌*◌, ◌/◌, ◌^◌, ◌∷◌, ◌++◌, [], ◌≢◌, ◌-◌, ℕ, List, None, true, false, length, slice_index, Some, IfSome, IfNone, IsTrue};
-ghost use Rattle.cs_index.specs.Postings.{entry_of};
-ghost use Rattle.cs_index.specs.PostingLists.{read_list};
+ghost use Rattle.std.specs.Prelude.{◌≡◌, ◌==◌, ◌≤◌, ◌<◌, ◌+◌, ◌^◌, ◌++◌, [], ◌≢◌, ◌-◌, List, true, false, length, slice_index, IfSome, IfNone, IsTrue};
 ghost use Rattle.cs_index.specs.SectionPieces.{are_entries};
 ghost use Rattle.cs_index.specs.ValidSections.{has_starts};
 ghost use Rattle.cs_index.specs.Encoding.{ListEntry};
-ghost use Rattle.cs_index.specs.Opening.{entries_in, entry_at, trigram_at, is_entry, is_list_index, is_name_index, is_section, rises, texts_of};
-ghost use Rattle.cs_index.specs.AscendingIds.{max_ids};
+ghost use Rattle.cs_index.specs.Opening.{entries_in, entry_at, trigram_at, is_entry, is_list_index, is_section, texts_of};
 
-use crate::reading::bytes::{read_number, read_trigram};
-use crate::reading::postings::Postings;
+use crate::reading::bytes::read_number;
 
 pub(crate) const ENTRY_LEN: usize = 11;
 
@@ -111,68 +107,4 @@ fn entry_trigram(list_index: &[u8], at: usize) -> u32
     ensures { result ≡ trigram_at list_index.now at }
 {
     read_number(list_index, at) / 256
-}
-
-/// The offset of a trigram's entry in the list index.
-pub(crate) fn entry_offset(list_index: &[u8], trigram: u32) -> Option<usize>
-    requires { rises (entries_in list_index.now) ≡ true }
-    ensures some { IfSome result
-        (λ at. entry_of (entries_in list_index.now) trigram ≡ Some (entry_at list_index.now at)) }
-    ensures within { IfSome result (λ at. at + ENTRY_LEN ≤ length list_index.now) }
-    ensures none { IfNone result (entry_of (entries_in list_index.now) trigram ≡ None) }
-{
-    let count = list_index.len() / ENTRY_LEN;
-    let position = first_from(list_index, trigram, count);
-    let at = ENTRY_LEN * position;
-    if position >= count {
-        return None;
-    }
-    if read_trigram(list_index, at) != trigram {
-        return None;
-    }
-    Some(at)
-}
-
-/// Binary search: the index of the first entry whose trigram is not less than `trigram`.
-fn first_from(list_index: &[u8], trigram: u32, count: usize) -> usize
-    requires count { count ≡ length list_index.now / ENTRY_LEN }
-    requires rise { rises (entries_in list_index.now) ≡ true }
-    ensures within { result ≤ count }
-    ensures below { (k : ℕ) → k < result → trigram_at list_index.now (ENTRY_LEN * k) < trigram }
-    ensures above { (k : ℕ) → result ≤ k → k < count →
-        trigram ≤ trigram_at list_index.now (ENTRY_LEN * k) }
-{
-    let mut low = 0;
-    let mut high = count;
-    'halves: while low < high {
-        let middle = low + (high - low) / 2;
-        if read_trigram(list_index, ENTRY_LEN * middle) < trigram {
-            low = middle + 1;
-        } else {
-            high = middle;
-        }
-    }
-    low
-}
-
-/// The posting list of the entry at an offset.
-pub(crate) fn entry_postings<'a>(
-    postings: &'a [u8],
-    list_index: &[u8],
-    at: usize,
-    name_count: u32,
-) -> Postings<'a>
-    requires within { at + ENTRY_LEN ≤ length list_index.now }
-    requires bound { name_count < max_ids }
-    ensures { result ≡ read_list postings.now name_count (entry_at list_index.now at) }
-{
-    let count = read_number(list_index, at + 3);
-    let offset = read_number(list_index, at + 7) as usize;
-    if postings.len() < offset + 3 {
-        return Postings::damage();
-    }
-    if read_trigram(postings, offset) != read_trigram(list_index, at) {
-        return Postings::damage();
-    }
-    Postings::new(&postings[offset + 3..], count, name_count)
 }

@@ -246,7 +246,8 @@ fn intern(folding: &mut Folding, lists: usize, mut node: Node) -> Result<usize, 
 
 /// The number that is equal to a node without members, with a single one, or with one that decides it.
 fn decided(node: &Node) -> Option<usize>
-    ensures exists { IfSome result (λ n. (lists : ℕ) (nodes : List Node') → Exist lists nodes node.now.members.items →
+    ensures exists { IfSome result (λ n. (lists : ℕ) (nodes : List Node') →
+        Exist lists nodes node.now.members.items →
         n < numbers lists nodes) }
     ensures number { IfSome result (λ n. (bits : List Bool) (nodes : List Node') →
         number_matches bits nodes n ≡ node_matches (matched bits nodes) node.now) }
@@ -280,7 +281,8 @@ fn remember(slots: &mut [usize], slot: usize, at: usize) {
 /// The index of the node in its slot, if it is equal to this one.
 fn known(folding: &Folding, slot: usize, node: &Node) -> Option<usize>
     ensures { IfSome result (λ at. (at < length folding.now.nodes.items) × ((d : Node') →
-        (lists : List Bool) → node_matches lists (slice_index_or folding.now.nodes.items at d) ≡ node_matches lists node.now)) }
+        (lists : List Bool) → node_matches lists (slice_index_or folding.now.nodes.items at d)
+        ≡ node_matches lists node.now)) }
 {
     let at = *folding.slots.get(slot)?;
     let other = folding.nodes.get(at)?;

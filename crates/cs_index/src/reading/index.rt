@@ -11,15 +11,18 @@ ghost use Rattle.cs_index.specs.Failing.{Fails};
 ghost use Rattle.cs_index.specs.OpenedParts.{ids_read};
 ghost use Rattle.cs_index.specs.SectionSlices.{borrowed_sections};
 ghost use Rattle.cs_index.specs.ValidParts.{AreValidParts};
+ghost use Rattle.cs_index.specs.StoredEntries.{entry_read};
 ghost use Rattle.cs_index.specs.StoredOpening.{with_lists};
 ghost use Rattle.cs_index.specs.Order.{IsOrderOf};
 
 use crate::fault::IndexFault;
-use crate::reading::bytes::{is_closed, names_run, read_number, read_trigram};
-use crate::reading::entries::{entry_offset, entry_postings, has_entries, has_offsets};
+use crate::reading::bytes::{is_closed, names_run};
+use crate::reading::entries::{ENTRY_LEN, has_entries, has_offsets};
+use crate::reading::list_buffer::postings_of;
 use crate::reading::name_table::NameTable;
 use crate::reading::postings::Postings;
 use crate::reading::section_slices::{SectionSlices, split};
+use crate::reading::stored_entries::{Entry, entry_with, nth_entry};
 use crate::reading::texts::Texts;
 use std::alloc::{AllocError, Global};
 use std::marker::Model;
@@ -153,7 +156,7 @@ impl<'a> Index<'a> {
     pub fn lists(&self) -> u32
         ensures { result ≡ length self.now.entries }
     {
-        (self.slices.list_index.len() / 11) as u32
+        (self.slices.list_index.len() / ENTRY_LEN) as u32
     }
 
     /// The trigram and the ids of the list at a position of the list index.
@@ -162,22 +165,16 @@ impl<'a> Index<'a> {
             option_map (λ (e : ListEntry). (e.trigram, ids_read self.now e))
             (slice_get self.now.entries position) }
     {
-        if position >= self.lists() {
-            return None;
-        }
-        let at = 11 * position as usize;
-        Some((
-            read_trigram(self.slices.list_index, at),
-            entry_postings(self.slices.postings, self.slices.list_index, at, self.len()),
-        ))
+        let entry = nth_entry(self.slices.list_index, position)?;
+        Some((entry.trigram, self.list_of(&entry)))
     }
 
     /// The ids of a trigram, if it has an entry.
     pub fn postings(&self, trigram: u32) -> Option<Postings<'a>>
         ensures { result ≡ option_map (ids_read self.now) (entry_of self.now.entries trigram) }
     {
-        let at = entry_offset(self.slices.list_index, trigram)?;
-        Some(entry_postings(self.slices.postings, self.slices.list_index, at, self.len()))
+        let entry = entry_with(self.slices.list_index, trigram)?;
+        Some(self.list_of(&entry))
     }
 
     /// The number of ids of a trigram, as its entry says; 0 if it has no entry.
@@ -185,10 +182,21 @@ impl<'a> Index<'a> {
         ensures { result ≡
             option_map_or (λ (e : ListEntry). e.count) (entry_of self.now.entries trigram) 0 }
     {
-        match entry_offset(self.slices.list_index, trigram) {
-            Some(at) => read_number(self.slices.list_index, at + 3),
+        match entry_with(self.slices.list_index, trigram) {
+            Some(entry) => entry.count,
             None => 0,
         }
+    }
+
+    /// The ids of the list of an entry.
+    fn list_of(&self, entry: &Entry) -> Postings<'a>
+        ensures { result ≡ ids_read self.now (entry_read entry.now) }
+    {
+        let offset = entry.offset as usize;
+        if offset > self.slices.postings.len() {
+            return Postings::damage();
+        }
+        postings_of(&self.slices.postings[offset..], entry, self.len())
     }
 }
 

@@ -64,7 +64,8 @@ impl ListBuffer {
         position: u32,
     ) -> Result<(), IoFault>
         ensures list { (bytes : List ℕ) → S.model store.old ≡ Some bytes → IsBufferOf bytes self.old →
-            (parts : Parts) → TablesIn bytes tables.now parts → OnOk result (HasList self.new parts position) }
+            (parts : Parts) → TablesIn bytes tables.now parts →
+            OnOk result (HasList self.new parts position) }
         ensures buffer { (bytes : List ℕ) → S.model store.old ≡ Some bytes → IsBufferOf bytes self.old →
             OnOk result (IsBufferOf bytes self.new) }
         ensures keeps { S.model store.new ≡ S.model store.old }
@@ -84,7 +85,8 @@ impl ListBuffer {
         least: usize,
     ) -> Result<(), IoFault>
         ensures list { (bytes : List ℕ) → S.model store.old ≡ Some bytes → IsBufferOf bytes self.old →
-            (parts : Parts) → TablesIn bytes tables.now parts → OnOk result (HasList self.new parts position) }
+            (parts : Parts) → TablesIn bytes tables.now parts →
+            OnOk result (HasList self.new parts position) }
         ensures buffer { (bytes : List ℕ) → S.model store.old ≡ Some bytes → IsBufferOf bytes self.old →
             OnOk result (IsBufferOf bytes self.new) }
         ensures keeps { S.model store.new ≡ S.model store.old }
@@ -180,7 +182,7 @@ fn remove_prefix(bytes: &mut Vec<u8>, n: usize)
 }
 
 /// The ids of the list of an entry, which the bytes begin with.
-fn postings_of<'a>(bytes: &'a [u8], entry: &Entry, name_count: u32) -> Postings<'a>
+pub(crate) fn postings_of<'a>(bytes: &'a [u8], entry: &Entry, name_count: u32) -> Postings<'a>
     requires { name_count < max_ids }
     ensures { result ≡ list_in bytes.now name_count (entry_read entry.now) }
 {

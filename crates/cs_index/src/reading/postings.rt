@@ -117,21 +117,14 @@ pub(crate) fn decode_varint(bytes: &[u8]) -> Option<(u32, usize)>
 {
     match bytes {
         [first, ..] if *first < 128 => Some((*first as u32, 1)),
-        _ => long_varint(bytes),
+        _ => {
+            let (value, len) = groups(5, bytes)?;
+            if value > u32::MAX as u64 {
+                return None;
+            }
+            Some((value as u32, len))
+        }
     }
-}
-
-/// Decodes a varint of any length.
-fn long_varint(bytes: &[u8]) -> Option<(u32, usize)>
-    ensures value { MatchOption result (read_varint bytes.now ≡ None)
-        (λ found. read_varint bytes.now ≡ Some (found.0, drop found.1 bytes.now)) }
-    ensures within { IfSome result (λ found. found.1 ≤ length bytes.now) }
-{
-    let (value, len) = groups(5, bytes)?;
-    if value > u32::MAX as u64 {
-        return None;
-    }
-    Some((value as u32, len))
 }
 
 /// Decodes a varint of at most `room` bytes, from the last byte to the first.

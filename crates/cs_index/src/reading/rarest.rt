@@ -69,9 +69,11 @@ pub(crate) fn next_start<S: Store>(
     requires order { window.start ≤ window.end }
     ensures from { IfOk result (λ next. window.start ≤ next) }
     ensures to { IfOk result (λ next. next ≤ window.end) }
-    ensures lists { (bytes : List ℕ) → S.model store.old ≡ Some bytes → AllByRecursion (IsLeft bytes) lists.old →
+    ensures lists { (bytes : List ℕ) → S.model store.old ≡ Some bytes →
+        AllByRecursion (IsLeft bytes) lists.old →
         IfOk result (λ next. AllZip (IsReadOn bytes next) lists.old lists.new) }
-    ensures lacks { (bytes : List ℕ) → S.model store.old ≡ Some bytes → AllByRecursion (IsLeft bytes) lists.old →
+    ensures lacks { (bytes : List ℕ) → S.model store.old ≡ Some bytes →
+        AllByRecursion (IsLeft bytes) lists.old →
         IfOk result (λ next. (id : ℕ) → window.start ≤ id → id < next →
         LacksId (have_id bytes lists.old id) rarest) }
     ensures keeps { S.model store.new ≡ S.model store.old }

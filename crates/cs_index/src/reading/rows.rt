@@ -104,7 +104,7 @@ fn list_row<S: Store>(
         }
         // Only a store whose bytes change can have an id below the window.
         row[id.saturating_sub(window.start) as usize] = true;
-        list.mark_short(&mut row, window.start, window.end);
+        list.take_short(&mut row, window.start, window.end, true);
     }
     Ok(row)
 }
@@ -190,8 +190,10 @@ fn add_row(row: &mut Vec<bool>, other: &[bool]) -> Result<(), AllocError>
 
 /// The row with a number; without one, no id matches.
 pub(crate) fn row_at(rows: &[Vec<bool>], number: usize) -> &[bool]
-    ensures row { (k : ℕ) → slice_index_or result.now k false ≡ slice_index_or (column k rows.now) number false }
-    ensures width { (width : ℕ) → HaveWidth width rows.now → (length result.now ≡ 0) ⊎ (length result.now ≡ width) }
+    ensures row { (k : ℕ) → slice_index_or result.now k false
+        ≡ slice_index_or (column k rows.now) number false }
+    ensures width { (width : ℕ) → HaveWidth width rows.now → (length result.now ≡ 0) ⊎ (length result.now
+        ≡ width) }
 {
     match rows.get(number) {
         Some(row) => row,

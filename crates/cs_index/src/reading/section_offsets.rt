@@ -4,12 +4,12 @@ ghost use Rattle.cs_tree.specs.ByteList.{AreBytes};
 ghost use Rattle.cs_tree.specs.Store.{part_of};
 ghost use Rattle.cs_tree.specs.FailureCount.{count_after};
 ghost use Rattle.cs_tree.specs.Transfers.{is_io_failure};
+ghost use Rattle.cs_index.specs.Opening.{are_section_offsets};
 ghost use Rattle.cs_index.specs.StoredOpening.{AreDisorderedOffsets, AreTrailerOffsets, AreAscendingOffsets, IsSplitAt, is_tail};
 
 use crate::fault::IndexFault;
 use crate::format::{MAGIC, TRAILER_LEN, TRAILER_MAGIC};
 use crate::reading::bytes::read_number;
-use crate::reading::section_slices::rise;
 use cs_tree::{IoFault, Store, read_part};
 use std::alloc::Global;
 
@@ -43,10 +43,15 @@ pub(crate) fn find_offsets<S: Store>(
 }
 
 /// The section offsets of an index of `len` bytes, by its first and last bytes.
-fn offsets_of(header: &[u8], tail: &[u8], len: usize) -> Result<SectionOffsets, IndexFault>
+pub(crate) fn offsets_of(
+    header: &[u8],
+    tail: &[u8],
+    len: usize,
+) -> Result<SectionOffsets, IndexFault>
     ensures slices { (bytes : List ℕ) → length bytes ≡ len → header.now ≡ part_of bytes 0 16 →
         tail.now ≡ part_of bytes (len - TRAILER_LEN) TRAILER_LEN → IsSplitAt bytes result }
     ensures order { IfOk result AreAscendingOffsets }
+    ensures within { IfOk result (λ s. s.trailer ≤ len) }
 {
     if !header.starts_with(MAGIC) {
         return Err(IndexFault::BadMagic);
@@ -89,4 +94,12 @@ fn offsets_in(trailer: &[u8], at: usize) -> Result<SectionOffsets, IndexFault>
         list_index,
         trailer: at,
     })
+}
+
+/// Whether the section offsets are ascending, from 16 to the trailer.
+fn rise(a: usize, b: usize, c: usize, d: usize, e: usize, trailer: usize) -> bool
+    ensures value { result ≡ are_section_offsets a b c d e trailer }
+    ensures rise { IsTrue result → (a ≤ b) × (b ≤ c) × (c ≤ d) × (d ≤ e) × (e ≤ trailer) }
+{
+    a == 16 && a <= b && b <= c && c <= d && d <= e && e <= trailer
 }

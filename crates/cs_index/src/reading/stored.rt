@@ -75,7 +75,8 @@ impl StoredIndex {
 
     /// A reader of its names by their ids.
     pub fn name_reader(&self, alloc: Global) -> NameReader
-        ensures { (bytes : List ℕ) (parts : Parts) → StandsIn bytes self.now parts → ReadsNames bytes parts result }
+        ensures { (bytes : List ℕ) (parts : Parts) → StandsIn bytes self.now parts →
+            ReadsNames bytes parts result }
     {
         NameReader::new(alloc, self.starts, self.name_count)
     }

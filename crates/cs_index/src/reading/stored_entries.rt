@@ -1,8 +1,8 @@
 // The entries of a list index in a store, found by their trigrams.
-ghost use Rattle.std.specs.Prelude.{◌≡◌, ◌≤◌, ◌<◌, ◌+◌, ◌*◌, ◌^◌, ℕ, List, Some, length, option_map, IfSome, IfOk};
+ghost use Rattle.std.specs.Prelude.{◌≡◌, ◌≤◌, ◌<◌, ◌+◌, ◌*◌, ◌/◌, ◌^◌, ℕ, List, Some, true, length, option_map, slice_get, IfSome, IfOk};
 ghost use Rattle.cs_tree.specs.FailureCount.{count_after};
 ghost use Rattle.cs_tree.specs.Transfers.{is_io_failure};
-ghost use Rattle.cs_index.specs.Opening.{entries_in, entry_at, trigram_at};
+ghost use Rattle.cs_index.specs.Opening.{entries_in, entry_at, rises, trigram_at};
 ghost use Rattle.cs_index.specs.Postings.{entry_of};
 ghost use Rattle.cs_index.specs.StoredEntries.{entry_read, HasEntries};
 
@@ -60,7 +60,8 @@ impl StoredEntries {
             HasEntries bytes self.now list_index → IfOk result (λ first. (k : ℕ) → k < first →
             trigram_at list_index (ENTRY_LEN * k) < trigram) }
         ensures above { (bytes : List ℕ) → S.model store.old ≡ Some bytes → (list_index : List ℕ) →
-            HasEntries bytes self.now list_index → IfOk result (λ first. (k : ℕ) → first ≤ k → k < self.now.count →
+            HasEntries bytes self.now list_index → IfOk result (λ first. (k : ℕ) → first ≤ k →
+            k < self.now.count →
             trigram ≤ trigram_at list_index (ENTRY_LEN * k)) }
         ensures keeps { S.model store.new ≡ S.model store.old }
         ensures size { S.size store.new ≡ S.size store.old }
@@ -91,9 +92,66 @@ fn read_entry<S: Store>(store: &mut S, at: usize) -> Result<Entry, IoFault>
 {
     let mut bytes = [0u8; ENTRY_LEN];
     fill_at(store, &mut bytes, at)?;
-    Ok(Entry {
-        trigram: read_trigram(&bytes, 0),
-        count: read_number(&bytes, 3),
-        offset: read_number(&bytes, 7),
-    })
+    Ok(entry_in(&bytes, 0))
+}
+
+/// The entry at an offset of a list index.
+pub(crate) fn entry_in(list_index: &[u8], at: usize) -> Entry
+    requires { at + ENTRY_LEN ≤ length list_index.now }
+    ensures { entry_read result ≡ entry_at list_index.now at }
+{
+    Entry {
+        trigram: read_trigram(list_index, at),
+        count: read_number(list_index, at + 3),
+        offset: read_number(list_index, at + 7),
+    }
+}
+
+/// The entry at a position of a list index.
+pub(crate) fn nth_entry(list_index: &[u8], position: u32) -> Option<Entry>
+    ensures { option_map entry_read result ≡ slice_get (entries_in list_index.now) position }
+{
+    if position as usize >= list_index.len() / ENTRY_LEN {
+        return None;
+    }
+    Some(entry_in(list_index, ENTRY_LEN * position as usize))
+}
+
+/// The entry of a trigram in a list index.
+pub(crate) fn entry_with(list_index: &[u8], trigram: u32) -> Option<Entry>
+    requires { rises (entries_in list_index.now) ≡ true }
+    ensures { option_map entry_read result ≡ entry_of (entries_in list_index.now) trigram }
+{
+    let count = list_index.len() / ENTRY_LEN;
+    let position = first_from(list_index, trigram, count);
+    if position >= count {
+        return None;
+    }
+    let entry = entry_in(list_index, ENTRY_LEN * position);
+    if entry.trigram != trigram {
+        return None;
+    }
+    Some(entry)
+}
+
+/// Binary search: the index of the first entry whose trigram is not less than `trigram`.
+fn first_from(list_index: &[u8], trigram: u32, count: usize) -> usize
+    requires count { count ≡ length list_index.now / ENTRY_LEN }
+    requires rise { rises (entries_in list_index.now) ≡ true }
+    ensures within { result ≤ count }
+    ensures below { (k : ℕ) → k < result → trigram_at list_index.now (ENTRY_LEN * k) < trigram }
+    ensures above { (k : ℕ) → result ≤ k → k < count →
+        trigram ≤ trigram_at list_index.now (ENTRY_LEN * k) }
+{
+    let mut low = 0;
+    let mut high = count;
+    'halves: while low < high {
+        let middle = low + (high - low) / 2;
+        if read_trigram(list_index, ENTRY_LEN * middle) < trigram {
+            low = middle + 1;
+        } else {
+            high = middle;
+        }
+    }
+    low
 }

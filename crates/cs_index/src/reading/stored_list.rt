@@ -10,7 +10,7 @@ ghost use Rattle.cs_index.specs.StoredEntries.{entry_read};
 ghost use Rattle.cs_index.specs.Rows.{RowSoFar};
 ghost use Rattle.cs_index.specs.StoredLists.{GivesBelow, Holds, IsReady, SkipsBelow, IsSection, ids_left, with_piece};
 
-use crate::encoded_run::{EncodedRun, mark_extent};
+use crate::encoded_run::extent;
 use crate::reading::postings::decode_varint;
 use crate::reading::stored_entries::Entry;
 use cs_tree::{IoFault, Store, read_part};
@@ -80,7 +80,8 @@ impl StoredList {
         requires section { IsSection section.now }
         requires longest { 8 ≤ size }
         ensures holds { (bytes : List ℕ) → S.model store.old ≡ Some bytes → IfOk result (Holds bytes) }
-        ensures ids { (bytes : List ℕ) → S.model store.old ≡ Some bytes → IfOk result (λ list. ids_left bytes list
+        ensures ids { (bytes : List ℕ) → S.model store.old ≡ Some bytes →
+            IfOk result (λ list. ids_left bytes list
             ≡ read_list (part_of bytes section.now.start section.now.room) section.now.name_count
             (entry_read entry.now)) }
         ensures keeps { S.model store.new ≡ S.model store.old }
@@ -142,7 +143,8 @@ impl StoredList {
             IfOk result (GivesBelow bytes end self.old self.new) }
         ensures below { IfOk result (λ found. IfSome found (λ id. id < end)) }
         ensures left { IfOk result (λ found. IfSome found (λ _. self.new.left < self.old.left)) }
-        ensures ended { IfOk result (λ found. IfNone found (self.old.name_count ≤ end → self.new.has_ended ≡ true)) }
+        ensures ended { IfOk result (λ found. IfNone found (self.old.name_count ≤ end →
+            self.new.has_ended ≡ true)) }
         ensures names { self.new.name_count ≡ self.old.name_count }
         ensures keeps { S.model store.new ≡ S.model store.old }
         ensures size { S.size store.new ≡ S.size store.old }
@@ -190,7 +192,8 @@ impl StoredList {
 
     /// The next id of the piece; without one, a number past the ids.
     fn first_left(&self) -> u32
-        ensures { (bytes : List ℕ) → IsReady bytes self.now → BeginsFrom result (ids_left bytes self.now).ids }
+        ensures { (bytes : List ℕ) → IsReady bytes self.now →
+            BeginsFrom result (ids_left bytes self.now).ids }
     {
         if self.has_ended {
             return self.name_count;
@@ -220,46 +223,31 @@ impl StoredList {
         end: u32,
     ) -> Result<(), IoFault>
         ensures skips { (bytes : List ℕ) → S.model store.old ≡ Some bytes → Holds bytes self.old →
-            OnOk result (SkipsBelow bytes end self.old self.new × BeginsFrom end (ids_left bytes self.new).ids) }
+            OnOk result (SkipsBelow bytes end self.old self.new
+            × BeginsFrom end (ids_left bytes self.new).ids) }
         ensures ended { OnOk result (self.old.name_count ≤ end → self.new.has_ended ≡ true) }
         ensures keeps { S.model store.new ≡ S.model store.old }
         ensures size { S.size store.new ≡ S.size store.old }
         ensures failed { S.failed store.new ≡ count_after is_io_failure result (S.failed store.old) }
     {
         'ids: while let Some(_id) = self.next_below(alloc, store, end)? {
-            self.skip_short(end);
+            self.take_short(&mut [], 0, end, false);
         }
         Ok(())
     }
 
-    /// Skips ids of the piece that are less than `end`, eight at a time if each delta is a single byte, up to the first
-    /// delta that is longer than two bytes.
-    fn skip_short(&mut self, end: u32)
+    /// Takes ids of the piece that are less than `end`, eight at a time if each delta is a single byte, up to the first
+    /// delta that is longer than two bytes. If `marks`, sets their flags in the row of the window from `start` to `end`.
+    #[inline(always)]
+    pub(crate) fn take_short(&mut self, row: &mut [bool], start: u32, end: u32, marks: bool)
+        requires { marks ≡ true → start + length row.old ≡ end }
         ensures skips { (bytes : List ℕ) → Holds bytes self.old → SkipsBelow bytes end self.old self.new }
-        ensures left { self.new.left ≤ self.old.left }
-        ensures names { self.new.name_count ≡ self.old.name_count }
-    {
-        if self.has_ended {
-            return;
-        }
-        let room = end.min(self.name_count).saturating_sub(self.next);
-        let (ids, _) = EncodedRun::prefix(&self.piece[self.used..], self.left, room);
-        let len = ids.bytes().len();
-        let (count, next) = (ids.len(), ids.next());
-        self.used += len;
-        self.left -= count;
-        self.next += next;
-    }
-
-    /// Takes ids of the piece and sets their flags in the row of a window, up to the window's end or the first delta
-    /// that is longer than two bytes.
-    pub(crate) fn mark_short(&mut self, row: &mut [bool], start: u32, end: u32)
-        requires { start + length row.old ≡ end }
-        ensures row { (bytes : List ℕ) (list : Ids) → Holds bytes self.old →
+        ensures row { marks ≡ true → (bytes : List ℕ) (list : Ids) → Holds bytes self.old →
             RowSoFar start end list row.old (ids_left bytes self.old) →
-            Holds bytes self.new × RowSoFar start end list row.new (ids_left bytes self.new) }
+            RowSoFar start end list row.new (ids_left bytes self.new) }
         ensures width { length row.new ≡ length row.old }
         ensures left { self.new.left ≤ self.old.left }
+        ensures names { self.new.name_count ≡ self.old.name_count }
     {
         if self.has_ended || self.next < start {
             return;
@@ -269,13 +257,8 @@ impl StoredList {
             return;
         }
         let at = (self.next - start) as usize;
-        let (len, count, next) = mark_extent(
-            &self.piece[self.used..],
-            self.left,
-            end - self.next,
-            row,
-            at,
-        );
+        let piece = &self.piece[self.used..];
+        let (len, count, next) = extent(piece, self.left, end - self.next, row, at, marks);
         self.used += len;
         self.left -= count;
         self.next += next;
@@ -305,7 +288,8 @@ impl StoredList {
 
     /// The next id of the piece, if it is less than `end`; without one, the list stays as it is, or ends.
     fn take_below(&mut self, end: u32) -> Option<u32>
-        ensures gives { (bytes : List ℕ) → IsReady bytes self.old → GivesBelow bytes end self.old self.new result }
+        ensures gives { (bytes : List ℕ) → IsReady bytes self.old →
+            GivesBelow bytes end self.old self.new result }
         ensures below { IfSome result (λ id. id < end) }
         ensures left { IfSome result (λ _. self.new.left < self.old.left) }
         ensures ended { IfNone result (self.old.name_count ≤ end → self.new.has_ended ≡ true) }

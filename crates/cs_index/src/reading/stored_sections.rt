@@ -111,7 +111,8 @@ fn read_numbers<S: Store>(
     requires fits { done + count < 2 ^ 33 }
     ensures numbers { (bytes : List ℕ) → S.model store.old ≡ Some bytes →
         IfOk result (λ numbers. numbers.items ≡ part_of
-        (part_of bytes starts.now.name_index (starts.now.list_index - starts.now.name_index)) (4 * done) (4 * (count + 1))) }
+        (part_of bytes starts.now.name_index (starts.now.list_index - starts.now.name_index)) (4 * done)
+        (4 * (count + 1))) }
     ensures keeps { S.model store.new ≡ S.model store.old }
     ensures size { S.size store.new ≡ S.size store.old }
     ensures failed { S.failed store.new ≡ count_after is_io_failure result (S.failed store.old) }

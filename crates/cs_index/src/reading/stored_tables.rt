@@ -5,20 +5,19 @@ ghost use Rattle.cs_tree.specs.Transfers.{is_io_failure};
 ghost use Rattle.cs_index.specs.AscendingIds.{max_ids};
 ghost use Rattle.cs_index.specs.Encoding.{ListEntry};
 ghost use Rattle.cs_index.specs.OpenedParts.{Parts};
-ghost use Rattle.cs_index.specs.Opening.{entry_at, sections_at, split_of};
+ghost use Rattle.cs_index.specs.Opening.{sections_at, split_of};
 ghost use Rattle.cs_index.specs.StoredEntries.{entry_read};
 ghost use Rattle.cs_index.specs.StoredOpening.{AreAscendingOffsets};
 ghost use Rattle.cs_index.specs.StoredTables.{AreValidTables, OpensAsTables, TablesIn, lists_room};
 ghost use Rattle.cs_index.specs.ValidParts.{AreValidParts};
 
 use crate::fault::IndexFault;
-use crate::reading::bytes::{read_number, read_trigram};
 use crate::reading::entries::ENTRY_LEN;
 use crate::reading::index::test_sections;
 use crate::reading::name_table::NameTable;
 use crate::reading::section_offsets::SectionOffsets;
 use crate::reading::stored::StoredIndex;
-use crate::reading::stored_entries::Entry;
+use crate::reading::stored_entries::{Entry, nth_entry};
 use crate::reading::texts::Texts;
 use cs_tree::{IoFault, Store, read_part};
 use std::alloc::Global;
@@ -126,11 +125,7 @@ impl StoredTables {
         ensures fits { IfSome result (λ e. e.offset + 4 ≤ lists_room self.now) }
     {
         self.are_valid();
-        if position >= self.lists() {
-            return None;
-        }
-        let entry = entry_in(&self.list_index, ENTRY_LEN * position as usize);
-        Some(entry)
+        nth_entry(&self.list_index, position)
     }
 
     /// The number of names.
@@ -148,18 +143,6 @@ impl StoredTables {
         ensures order { AreAscendingOffsets result }
     {
         self.starts
-    }
-}
-
-/// The entry at an offset of a list index.
-fn entry_in(list_index: &[u8], at: usize) -> Entry
-    requires { at + ENTRY_LEN ≤ length list_index.now }
-    ensures { entry_read result ≡ entry_at list_index.now at }
-{
-    Entry {
-        trigram: read_trigram(list_index, at),
-        count: read_number(list_index, at + 3),
-        offset: read_number(list_index, at + 7),
     }
 }
 
@@ -183,14 +166,15 @@ fn read_tables<S: Store>(
     let len = starts.trailer - starts.list_index;
     let list_index = read_part(alloc, store, starts.list_index, len)?;
     let room = starts.name_index - starts.postings;
-    if let Err(fault) = test_sections(&paths, &names, &name_index, &list_index, room) {
-        return Ok(Err(fault));
-    }
-    Ok(Ok(StoredTables {
-        paths,
-        names,
-        name_index,
-        list_index,
-        starts,
-    }))
+    let answer = match test_sections(&paths, &names, &name_index, &list_index, room) {
+        Ok(()) => Ok(StoredTables {
+            paths,
+            names,
+            name_index,
+            list_index,
+            starts,
+        }),
+        Err(fault) => Err(fault),
+    };
+    Ok(answer)
 }

@@ -1,7 +1,7 @@
 // Big-endian numbers.
 ghost use Rattle.std.specs.Prelude.{◌≡◌, ◌<◌, ◌^◌, ◌++◌, OnOk, flat_map};
 ghost use Rattle.std.specs.List.{AllByRecursion};
-ghost use Rattle.cs_index.specs.Encoding.{entry_bytes, four_bytes, three_bytes};
+ghost use Rattle.cs_index.specs.Encoding.{entry_bytes, four_bytes};
 
 use std::alloc::AllocError;
 
@@ -10,13 +10,6 @@ pub(crate) fn write_number(out: &mut Vec<u8>, n: u32) -> Result<(), AllocError>
     ensures { OnOk result (out.new.items ≡ out.old.items ++ four_bytes n) }
 {
     out.extend_from_slice(&n.to_be_bytes())
-}
-
-/// Appends a trigram in three bytes.
-pub(crate) fn write_trigram(out: &mut Vec<u8>, trigram: u32) -> Result<(), AllocError>
-    ensures { OnOk result (out.new.items ≡ out.old.items ++ three_bytes trigram) }
-{
-    out.extend_from_slice(&trigram.to_be_bytes()[1..])
 }
 
 /// Appends numbers in four bytes each.
@@ -40,7 +33,7 @@ pub(crate) fn write_entry(
     ensures { OnOk result (out.new.items ≡ out.old.items ++
         entry_bytes (record { trigram = trigram; count = count; offset = offset })) }
 {
-    write_trigram(out, trigram)?;
+    out.extend_from_slice(&trigram.to_be_bytes()[1..])?;
     write_number(out, count)?;
     write_number(out, offset)
 }

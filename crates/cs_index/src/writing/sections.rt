@@ -15,7 +15,7 @@ ghost use Rattle.cs_index.specs.WrittenLists.{with_posting, IsWritten};
 use crate::encoded_run::EncodedRun;
 use crate::fault::BuildFault;
 use crate::writing::output::{WrittenList, write_prefix, write_tables};
-use crate::writing::send_buffer::{SendBuffer, append_both};
+use crate::writing::send_buffer::SendBuffer;
 use crate::writing::storable_texts::are_index_paths;
 use crate::writing::strings::{Strings, strings_of};
 use crate::writing::varint::encode_varint;
@@ -215,10 +215,10 @@ impl Sections {
             (self.new ≡ with_posting self.old (trigram, ids_in ids.now count)) }
         ensures err { OnErr result (self.new ≡ self.old) }
     {
-        let mut out = write_prefix(self.alloc, &self.paths, &self.names)?;
+        let mut out = SendBuffer::new(write_prefix(self.alloc, &self.paths, &self.names)?);
         let start = out.len();
-        append_both(&mut out, &trigram.to_be_bytes()[1..], ids)?;
-        self.out = SendBuffer::new(out);
+        out.append_both(&trigram.to_be_bytes()[1..], ids)?;
+        self.out = out;
         self.pending = None;
         self.trigram = trigram;
         self.count = count;

@@ -80,7 +80,13 @@ impl SendBuffer {
         ensures ok { OnOk result (self.new ≡ with_bytes self.old (header.now ++ ids.now)) }
         ensures err { OnErr result (self.new ≡ self.old) }
     {
-        append_both(&mut self.bytes, header, ids)
+        let len = self.bytes.len();
+        self.bytes.extend_from_slice(header)?;
+        if self.bytes.extend_from_slice(ids).is_err() {
+            self.bytes.truncate(len);
+            return Err(AllocError);
+        }
+        Ok(())
     }
 
     /// Sends all bytes. On error nothing changes.
@@ -107,18 +113,4 @@ impl SendBuffer {
     {
         self.sent
     }
-}
-
-/// Appends two slices. On error nothing is appended.
-pub(crate) fn append_both(out: &mut Vec<u8>, header: &[u8], ids: &[u8]) -> Result<(), AllocError>
-    ensures ok { OnOk result (out.new.items ≡ out.old.items ++ (header.now ++ ids.now)) }
-    ensures err { OnErr result (out.new.items ≡ out.old.items) }
-{
-    let len = out.len();
-    out.extend_from_slice(header)?;
-    if out.extend_from_slice(ids).is_err() {
-        out.truncate(len);
-        return Err(AllocError);
-    }
-    Ok(())
 }

@@ -4,7 +4,7 @@ ghost use Rattle.std.specs.List.{list_all};
 ghost use Rattle.std.specs.declared.string.String.{String};
 ghost use Rattle.std.specs.declared.alloc.Global.{Global};
 ghost use Rattle.cs_tree.specs.Cover.{is_alone as is_alone'};
-ghost use Rattle.cs_index.specs.Built.{are_paths, are_reduced, is_storable};
+ghost use Rattle.cs_index.specs.Built.{are_paths, is_storable};
 ghost use Rattle.cs_tree.specs.NamesAscending.{are_ascending};
 
 use cs_tree::is_alone;
@@ -26,7 +26,13 @@ fn has_no_nul(bytes: &[u8]) -> bool
 pub(crate) fn are_index_paths(paths: &[String]) -> bool
     ensures { result ≡ are_paths (map string_bytes paths.now) }
 {
-    are_texts(paths) && ascend_without_cover(paths)
+    if !are_texts(paths) {
+        return false;
+    }
+    if !ascend(paths) {
+        return false;
+    }
+    none_covers_another(paths)
 }
 
 fn are_texts(paths: &[String]) -> bool
@@ -34,13 +40,6 @@ fn are_texts(paths: &[String]) -> bool
         list_all (λ (path : String Global). is_storable (string_bytes path)) paths.now }
 {
     paths.iter().all(|path| is_text(path.as_str()))
-}
-
-/// Whether the paths are strictly ascending and none covers another.
-fn ascend_without_cover(paths: &[String]) -> bool
-    ensures { result ≡ are_reduced (map string_bytes paths.now) }
-{
-    ascend(paths) && none_covers_another(paths)
 }
 
 /// Whether the paths are strictly ascending.

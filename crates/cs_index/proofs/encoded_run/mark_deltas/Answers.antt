@@ -17,5 +17,6 @@ returns c =
       flags = λ k.
           sym (or-false (get_or c.deltas.row k false))
           ∙ ap (λ (ds : List ℕ). get_or c.deltas.row k false || has (ids_from c.deltas.next ds) k) (sym none) ∙ i.flags k
-          ∙ ap (λ (ids : List ℕ). get_or c.args.row.now k false || has ids k) (ap (λ n. ids_from n deltas) at ∙ from_onward c.args.at 0 deltas c.requires.short);
+          ∙ ap (λ (ids : List ℕ). get_or c.args.row.now k false || has ids k) (ap (λ n. ids_from n deltas) at
+          ∙ from_onward c.args.at 0 deltas c.requires.short);
     }

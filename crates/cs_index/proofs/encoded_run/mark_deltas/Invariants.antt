@@ -10,5 +10,6 @@ invariant-deltas l = record {
   width : length l.row ≡ length l.fn.row;
   within : l.next + sum (drop l.delta-index l.deltas) ≡ l.at + sum l.deltas;
   short : AllByRecursion (λ delta. (0 < delta) × (delta < 128)) (drop l.delta-index l.deltas);
-  flags : (k : ℕ) → (get_or l.row k false || has (ids_from l.next (drop l.delta-index l.deltas)) k) ≡ (get_or l.fn.row k false || has (ids_from l.at l.deltas) k);
+  flags : (k : ℕ) → (get_or l.row k false || has (ids_from l.next (drop l.delta-index l.deltas)) k)
+      ≡ (get_or l.fn.row k false || has (ids_from l.at l.deltas) k);
 }

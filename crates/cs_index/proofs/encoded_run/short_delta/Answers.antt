@@ -7,4 +7,5 @@ returns-in-len1-up-clause-written c = λ some. one_at c.args.bytes.now c.in-len1
 
 pub returns-in-len2-up-clause-written : goal.returns-in-len2-up-clause-written
 returns-in-len2-up-clause-written c = λ some.
-    two_at c.args.bytes.now c.in-len2-up.len_at_least (λ i. let f = c.type_inv.bytes i in omega (arith, f)) c.if-first-lt128.false c.if-second-gt0.true c.if-second-lt128.true
+    two_at c.args.bytes.now c.in-len2-up.len_at_least (λ i. let f = c.type_inv.bytes i in omega (arith, f))
+    c.if-first-lt128.false c.if-second-gt0.true c.if-second-lt128.true

@@ -15,7 +15,8 @@ returns-then-is_ge c =
     let next : List ℕ = c.in-Some.next.now in
     let texts = texts_after c.texts.rest.now text next c.in-Some.ensures.text c.in-Some.ensures.above c.in-Some.ensures.some in
     let high : is_ge (bytes_cmp c.texts.last.now text) ≡ true = ap is_ge (sym c.cmp.ensures) ∙ sym c.is_ge.ensures ∙ c.if-is_ge.true in
-    sym (c.texts.invariant.left ∙ ap (λ (ts : List (List ℕ)). are_ascending (c.texts.last.now ∷ ts)) texts ∙ falls c.texts.last.now text (texts_of next) high)
+    sym (c.texts.invariant.left ∙ ap (λ (ts : List (List ℕ)). are_ascending (c.texts.last.now ∷ ts)) texts
+    ∙ falls c.texts.last.now text (texts_of next) high)
 
 pub texts-preserved : goal.texts-preserved
 texts-preserved c =
@@ -24,10 +25,13 @@ texts-preserved c =
     let texts = texts_after c.texts.rest.now text next c.in-Some.ensures.text c.in-Some.ensures.above c.in-Some.ensures.some in
     let low : is_ge (bytes_cmp c.texts.last.now text) ≡ false = ap is_ge (sym c.cmp.ensures) ∙ sym c.is_ge.ensures ∙ c.if-is_ge.false in
     record {
-      formed = (formed_after c.texts.rest.now text next c.in-Some.ensures.text c.in-Some.ensures.above c.in-Some.ensures.some c.texts.invariant.formed).1;
-      left = c.texts.invariant.left ∙ ap (λ (ts : List (List ℕ)). are_ascending (c.texts.last.now ∷ ts)) texts ∙ climbs c.texts.last.now text (texts_of next) low;
+      formed = (formed_after c.texts.rest.now text next c.in-Some.ensures.text c.in-Some.ensures.above
+          c.in-Some.ensures.some c.texts.invariant.formed).1;
+      left = c.texts.invariant.left ∙ ap (λ (ts : List (List ℕ)). are_ascending (c.texts.last.now ∷ ts)) texts
+          ∙ climbs c.texts.last.now text (texts_of next) low;
     }
 
 pub returns : goal.returns
 returns c =
-    sym (c.texts.invariant.left ∙ ap (λ (ts : List (List ℕ)). are_ascending (c.texts.last.now ∷ ts)) (none_formed c.texts.rest.now c.in_default.ensures.none c.texts.invariant.formed))
+    sym (c.texts.invariant.left ∙ ap (λ (ts : List (List ℕ)). are_ascending (c.texts.last.now ∷ ts))
+    (none_formed c.texts.rest.now c.in_default.ensures.none c.texts.invariant.formed))

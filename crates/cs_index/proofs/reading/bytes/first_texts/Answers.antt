@@ -24,7 +24,9 @@ texts-preserved c =
     let few = c.texts.invariant.few in
     record {
       run = λ tail texts strings.
-          let all = c.texts.invariant.run tail (text ∷ texts) (plain_more c.texts.rest.now text next tail texts c.in-Some.ensures.text (c.in-Some.ensures.some, c.in-Some.ensures.above) strings) in
+          let all = c.texts.invariant.run tail (text ∷ texts)
+          (plain_more c.texts.rest.now text next tail texts c.in-Some.ensures.text
+          (c.in-Some.ensures.some, c.in-Some.ensures.above) strings) in
           (all.0, (let z = all.1 in omega (arith, z)), all.2);
       few = omega (arith, l, a, p, few);
     }
@@ -35,7 +37,9 @@ returns-then-is_err-clause-none c =
     let rest : List ℕ = c.texts.rest.now in
     let so_far = c.texts.invariant.run rest [] (tt, refl) in
     let taken = plain_taken piece rest so_far.0 so_far.2.1 in
-    let bad : is_utf8 (take (length piece - length rest) piece) ≡ false = not_utf8 _ _ c.from_utf8.result (take (length piece - length rest) piece) c.from_utf8.ensures.cases (sym c.is_err.ensures.value ∙ c.if-is_err.true) in
+    let bad : is_utf8 (take (length piece - length rest) piece) ≡ false =
+    not_utf8 _ _ c.from_utf8.result (take (length piece - length rest) piece) c.from_utf8.ensures.cases
+    (sym c.is_err.ensures.value ∙ c.if-is_err.true) in
     λ more. subst IsNoSection (sym (ap (λ (p : List ℕ). p ++ more) so_far.2.1 ∙ append_assoc (run_bytes so_far.0) rest more))
     (bad_run so_far.0 (rest ++ more) so_far.2.0 (ap is_utf8 (sym taken) ∙ bad))
 
@@ -45,8 +49,13 @@ returns-then-rest-eq0-clause-none c =
     let rest : List ℕ = c.texts.rest.now in
     let so_far = c.texts.invariant.run rest [] (tt, refl) in
     let taken = plain_taken piece rest so_far.0 so_far.2.1 in
-    let good : is_utf8 (take (length piece - length rest) piece) ≡ true = yes_utf8 _ _ c.from_utf8.result (take (length piece - length rest) piece) c.from_utf8.ensures.cases (sym c.is_err.ensures.value ∙ c.if-is_err.false) in
-    let strings : AreStrings rest so_far.0 piece = (good_run so_far.0 so_far.2.0 (IsUtf8-from_is_utf8 (run_bytes so_far.0) (ap is_utf8 (sym taken) ∙ good)), so_far.2.1) in
+    let good : is_utf8 (take (length piece - length rest) piece) ≡ true =
+    yes_utf8 _ _ c.from_utf8.result (take (length piece - length rest) piece) c.from_utf8.ensures.cases
+    (sym c.is_err.ensures.value ∙ c.if-is_err.false) in
+    let strings : AreStrings rest so_far.0 piece = (
+      good_run so_far.0 so_far.2.0 (IsUtf8-from_is_utf8 (run_bytes so_far.0) (ap is_utf8 (sym taken) ∙ good)),
+      so_far.2.1,
+    ) in
     let first : get_or rest 0 0 ≡ 0 = search rules in
     let long : 1 < length rest = search rules in
     λ more. none_on piece rest more so_far.0 strings (nul_no rest more first long)
@@ -58,8 +67,13 @@ returns-clause-run c =
     let so_far = c.texts.invariant.run rest [] (tt, refl) in
     let few = c.texts.invariant.few in
     let taken = plain_taken piece rest so_far.0 so_far.2.1 in
-    let good : is_utf8 (take (length piece - length rest) piece) ≡ true = yes_utf8 _ _ c.from_utf8.result (take (length piece - length rest) piece) c.from_utf8.ensures.cases (sym c.is_err.ensures.value ∙ c.if-is_err.false) in
-    let strings : AreStrings rest so_far.0 piece = (good_run so_far.0 so_far.2.0 (IsUtf8-from_is_utf8 (run_bytes so_far.0) (ap is_utf8 (sym taken) ∙ good)), so_far.2.1) in
+    let good : is_utf8 (take (length piece - length rest) piece) ≡ true =
+    yes_utf8 _ _ c.from_utf8.result (take (length piece - length rest) piece) c.from_utf8.ensures.cases
+    (sym c.is_err.ensures.value ∙ c.if-is_err.false) in
+    let strings : AreStrings rest so_far.0 piece = (
+      good_run so_far.0 so_far.2.0 (IsUtf8-from_is_utf8 (run_bytes so_far.0) (ap is_utf8 (sym taken) ∙ good)),
+      so_far.2.1,
+    ) in
     let dropped = rest_dropped piece rest so_far.0 strings in
     record {
       within = omega arith;

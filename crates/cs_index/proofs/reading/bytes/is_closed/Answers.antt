@@ -7,7 +7,8 @@ use Rattle.cs_index.proofs.reading.bytes.is_closed.Goals as goal
 pub returns-in-Some : goal.returns-in-Some
 returns-in-Some c =
     let section : List ℕ = c.args.section.now in
-    c.eq.ensures ∙ (λ i. bytes_eq (take_rest section c.in-Some.run'.len i) (c.as_slice.ensures i)) ∙ sym (closed_after section c.in-Some.run' c.in-Some.ensures.run)
+    c.eq.ensures ∙ (λ i. bytes_eq (take_rest section c.in-Some.run'.len i) (c.as_slice.ensures i))
+    ∙ sym (closed_after section c.in-Some.run' c.in-Some.ensures.run)
 
 pub returns-in-None : goal.returns-in-None
 returns-in-None c = sym (no_section c.args.section.now c.in-None.ensures.none).closed

@@ -4,7 +4,7 @@ use Rattle.std.specs.List.{AllByRecursion}
 use Rattle.cs_index.specs.AscendingIds.{max_ids}
 use Rattle.cs_index.specs.OpenedParts.{Parts}
 use Rattle.cs_trigram.specs.Trigram.{has, Ascends}
-use Rattle.cs_index.specs.Answerable.{mentions}
+use Rattle.cs_index.specs.Answerable.{mentions, AreCandidates}
 use Rattle.cs_index.specs.Postings.{has_entry, read_for}
 use Rattle.cs_index.specs.Form.{IsForm, IsNumberOf}
 use Rattle.cs_index.specs.Rows.{are_whole}
@@ -15,31 +15,10 @@ use Rattle.cs_index.proofs.candidates.MentionedLists.{all_left, ids_are, whole_a
 use Rattle.cs_index.proofs.candidates.WindowRows.{all_held, taken_back, whole_alike}
 use Rattle.cs_index.proofs.stored.ListSections.{listed_read}
 use Rattle.cs_index.proofs.reading.candidates.candidates_in.Goals as goal
+use Rattle.cs_index.proofs.reading.candidates.candidates_in.Goals.{then-branch, else-branch}
 
 few_names : (bytes : List ℕ) (s : ListSection) (parts : Parts) → IsSection s → HasLists bytes s parts → length parts.names < max_ids
 few_names bytes s parts is has = let same = has.names in let few = is.names in omega (arith, same, few)
-
-pub returns-then-branch-clause-answers : goal.returns-then-branch-clause-answers
-returns-then-branch-clause-answers g c bytes m parts has' up listed =
-    let s : ListSection = c.args.section.now in
-    let trigrams : List ℕ = c.in_ok-trigrams.trigrams.items in
-    let lists : List ListState = c.deref_mut.result.now in
-    let after : List ListState = c.meet.new.lists in
-    let are : (g : ℕ) → has trigrams g ≡ (mentions c.args.query.now g && has_entry parts.entries g) = λ g. ap (λ (xs : List ℕ). has xs g) c.in_ok-trigrams.ensures ∙ listed.all g in
-    let is : map (ids_left bytes) lists ≡ map (read_for parts) trigrams = ap (map (ids_left bytes)) c.deref_mut.ensures.value ∙ c.in_ok-lists.ensures.lists bytes m ∙ listed_read bytes s parts has' c.args.listed.now listed.each ∙ ap (map (read_for parts)) (sym c.in_ok-trigrams.ensures) in
-    let held = subst (AllByRecursion (Holds bytes)) (sym c.deref_mut.ensures.value) (c.in_ok-lists.ensures.holds bytes m) in
-    let left = all_left bytes parts up c.args.query.now trigrams are lists is (few_names bytes s parts c.requires.section has') held in
-    let modelled = c.lists_of.ensures.keeps ∙ m in
-    let read = c.in_ok-ids.ensures.lists bytes modelled left in
-    let kept : take c.in_ok-lists.lists.len (after ++ drop (length after) c.in_ok-lists.lists.items) ≡ after = taken_back c.in_ok-lists.lists.len after (drop (length after) c.in_ok-lists.lists.items) (sym (c.meet.auto.lists ∙ c.deref_mut.ensures.len)) in
-    let whole : c.in_ok-finish_all.field-0 ≡ are_whole bytes lists =
-    c.in_ok-finish_all.ensures.whole bytes (c.meet.ensures.keeps ∙ modelled) (subst (AllByRecursion (Holds bytes)) (sym kept) (all_held bytes s.name_count lists after read))
-    ∙ ap (are_whole bytes) kept ∙ whole_alike bytes s.name_count lists after read in
-    let all : are_whole bytes lists ≡ true = sym whole ∙ c.if-branch.true in (
-      ids_are bytes parts up c.args.query.now trigrams are lists is c.in_ok-form.form.nodes.items c.in_ok-form.form.root s.name_count c.in_ok-ids.ids.items (sym has'.names)
-          (subst (λ (gs : List ℕ). IsNumberOf gs c.in_ok-form.form.nodes.items c.args.query.now c.in_ok-form.form.root) c.deref.ensures.value c.in_ok-form.ensures.number) all (c.in_ok-ids.ensures.ids bytes modelled left),
-      sym (whole_answers bytes parts up c.args.query.now trigrams are lists is) ∙ all,
-    )
 
 pub returns-clause-answers : goal.returns-clause-answers
 returns-clause-answers g c bytes m parts has' up listed =
@@ -47,17 +26,38 @@ returns-clause-answers g c bytes m parts has' up listed =
     let trigrams : List ℕ = c.in_ok-trigrams.trigrams.items in
     let lists : List ListState = c.deref_mut.result.now in
     let after : List ListState = c.meet.new.lists in
-    let are : (g : ℕ) → has trigrams g ≡ (mentions c.args.query.now g && has_entry parts.entries g) = λ g. ap (λ (xs : List ℕ). has xs g) c.in_ok-trigrams.ensures ∙ listed.all g in
-    let is : map (ids_left bytes) lists ≡ map (read_for parts) trigrams = ap (map (ids_left bytes)) c.deref_mut.ensures.value ∙ c.in_ok-lists.ensures.lists bytes m ∙ listed_read bytes s parts has' c.args.listed.now listed.each ∙ ap (map (read_for parts)) (sym c.in_ok-trigrams.ensures) in
+    let are : (g : ℕ) → has trigrams g ≡ (mentions c.args.query.now g && has_entry parts.entries g) =
+    λ g. ap (λ (xs : List ℕ). has xs g) c.in_ok-trigrams.ensures ∙ listed.all g in
+    let is : map (ids_left bytes) lists ≡ map (read_for parts) trigrams =
+    ap (map (ids_left bytes)) c.deref_mut.ensures.value ∙ c.in_ok-lists.ensures.lists bytes m
+    ∙ listed_read bytes s parts has' c.args.listed.now listed.each
+    ∙ ap (map (read_for parts)) (sym c.in_ok-trigrams.ensures) in
     let held = subst (AllByRecursion (Holds bytes)) (sym c.deref_mut.ensures.value) (c.in_ok-lists.ensures.holds bytes m) in
     let left = all_left bytes parts up c.args.query.now trigrams are lists is (few_names bytes s parts c.requires.section has') held in
     let modelled = c.lists_of.ensures.keeps ∙ m in
     let read = c.in_ok-ids.ensures.lists bytes modelled left in
-    let kept : take c.in_ok-lists.lists.len (after ++ drop (length after) c.in_ok-lists.lists.items) ≡ after = taken_back c.in_ok-lists.lists.len after (drop (length after) c.in_ok-lists.lists.items) (sym (c.meet.auto.lists ∙ c.deref_mut.ensures.len)) in
+    let kept : take c.in_ok-lists.lists.len (after ++ drop (length after) c.in_ok-lists.lists.items) ≡ after =
+    taken_back c.in_ok-lists.lists.len after (drop (length after) c.in_ok-lists.lists.items)
+    (sym (c.meet.auto.lists ∙ c.deref_mut.ensures.len)) in
     let whole : c.in_ok-finish_all.field-0 ≡ are_whole bytes lists =
-    c.in_ok-finish_all.ensures.whole bytes (c.meet.ensures.keeps ∙ modelled) (subst (AllByRecursion (Holds bytes)) (sym kept) (all_held bytes s.name_count lists after read))
+    c.in_ok-finish_all.ensures.whole bytes (c.meet.ensures.keeps ∙ modelled)
+    (subst (AllByRecursion (Holds bytes)) (sym kept) (all_held bytes s.name_count lists after read))
     ∙ ap (are_whole bytes) kept ∙ whole_alike bytes s.name_count lists after read in
-    (refl, sym (whole_answers bytes parts up c.args.query.now trigrams are lists is) ∙ sym whole ∙ c.if-branch.false)
+    elim c.if-branch.branch [
+      | then-branch w ↦
+          let all : are_whole bytes lists ≡ true = sym whole ∙ w.if-branch.true in
+          subst (AreCandidates c.args.query.now parts) (sym w.answer-is) (
+            ids_are bytes parts up c.args.query.now trigrams are lists is c.in_ok-form.form.nodes.items
+                c.in_ok-form.form.root s.name_count c.in_ok-ids.ids.items (sym has'.names)
+                (subst (λ (gs : List ℕ). IsNumberOf gs c.in_ok-form.form.nodes.items c.args.query.now
+                c.in_ok-form.form.root) c.deref.ensures.value c.in_ok-form.ensures.number) all
+                (c.in_ok-ids.ensures.ids bytes modelled left),
+            sym (whole_answers bytes parts up c.args.query.now trigrams are lists is) ∙ all,
+          )
+      | else-branch w ↦
+          subst (AreCandidates c.args.query.now parts) (sym w.answer-is)
+          (refl, sym (whole_answers bytes parts up c.args.query.now trigrams are lists is) ∙ sym whole ∙ w.if-branch.false)
+    ]
 
 pub form_of-requires : goal.form_of-requires
 form_of-requires g c = subst Ascends (sym (c.deref.ensures.value ∙ c.in_ok-trigrams.ensures)) c.requires.ascend
@@ -65,4 +65,6 @@ form_of-requires g c = subst Ascends (sym (c.deref.ensures.value ∙ c.in_ok-tri
 pub meet-requires : goal.meet-requires
 meet-requires g c =
     subst (λ n. IsForm n c.in_ok-form.form.nodes.items)
-    (sym (ap length c.deref_mut.ensures.value ∙ c.in_ok-lists.ensures.count ∙ sym (length-map c.args.listed.now (λ (e : Entry). e.trigram)) ∙ sym (ap length (c.deref.ensures.value ∙ c.in_ok-trigrams.ensures)))) c.in_ok-form.ensures.form
+    (sym (ap length c.deref_mut.ensures.value ∙ c.in_ok-lists.ensures.count
+    ∙ sym (length-map c.args.listed.now (λ (e : Entry). e.trigram))
+    ∙ sym (ap length (c.deref.ensures.value ∙ c.in_ok-trigrams.ensures)))) c.in_ok-form.ensures.form

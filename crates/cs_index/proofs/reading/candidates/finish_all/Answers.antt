@@ -15,7 +15,8 @@ returns-then-not-branch-clause-whole g c bytes m all =
     let items = c.in-Some.ensures.items in
     let parts = held_parts bytes rest list (subst (λ (ls : List ListState). AllByRecursion (Holds bytes) ls) items before.0) in
     let bad : (ids_left bytes list).whole ≡ false = sym (c.in_ok-finish.ensures.whole bytes (i.keeps ∙ m) parts.1) ∙ c.if-not-branch.true in
-    sym (sym before.1 ∙ ap (are_whole bytes) items ∙ whole-append bytes rest list ∙ ap (λ b. are_whole bytes rest && b) bad ∙ and-false (are_whole bytes rest))
+    sym (sym before.1 ∙ ap (are_whole bytes) items ∙ whole-append bytes rest list
+    ∙ ap (λ b. are_whole bytes rest && b) bad ∙ and-false (are_whole bytes rest))
 
 pub lists-preserved : goal.lists-preserved
 lists-preserved g c =
@@ -27,8 +28,12 @@ lists-preserved g c =
       whole = λ bytes m all.
           let before = i.whole bytes m all in
           let parts = held_parts bytes rest list (subst (λ (ls : List ListState). AllByRecursion (Holds bytes) ls) items before.0) in
-          let good : (ids_left bytes list).whole ≡ true = sym (c.in_ok-finish.ensures.whole bytes (i.keeps ∙ m) parts.1) ∙ c.if-not-branch.false in
-          (parts.0, sym (and-true (are_whole bytes rest)) ∙ ap (λ b. are_whole bytes rest && b) (sym good) ∙ sym (whole-append bytes rest list) ∙ ap (are_whole bytes) (sym items) ∙ before.1);
+          let good : (ids_left bytes list).whole ≡ true = sym (c.in_ok-finish.ensures.whole bytes (i.keeps ∙ m) parts.1)
+          ∙ c.if-not-branch.false in (
+            parts.0,
+            sym (and-true (are_whole bytes rest)) ∙ ap (λ b. are_whole bytes rest && b) (sym good)
+                ∙ sym (whole-append bytes rest list) ∙ ap (are_whole bytes) (sym items) ∙ before.1,
+          );
       keeps = c.finish.ensures.keeps ∙ i.keeps;
       size = c.finish.ensures.size ∙ i.size;
       failed = c.in_ok-finish.ensures.failed ∙ i.failed;

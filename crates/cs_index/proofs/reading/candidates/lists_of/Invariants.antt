@@ -10,7 +10,8 @@ use Rattle.cs_index.proofs.reading.candidates.lists_of.Given as goal
 abbrev pub invariant-loop-entry : goal.invariant-loop-entry
 invariant-loop-entry g l = record {
   lists : (bytes : List ℕ) → g.S.Store.model l.fn.store ≡ Some bytes → map (ids_left bytes) l.lists.items
-      ≡ map (λ (e : Entry). read_list (part_of bytes l.section.start l.section.room) l.section.name_count (entry_read e)) (take l.entry-index l.entries);
+      ≡ map (λ (e : Entry). read_list (part_of bytes l.section.start l.section.room) l.section.name_count
+      (entry_read e)) (take l.entry-index l.entries);
   count : length l.lists.items ≡ l.entry-index;
   holds : (bytes : List ℕ) → g.S.Store.model l.fn.store ≡ Some bytes → AllByRecursion (Holds bytes) l.lists.items;
   keeps : g.S.Store.model l.store ≡ g.S.Store.model l.fn.store;

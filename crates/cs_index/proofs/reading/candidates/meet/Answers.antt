@@ -14,15 +14,20 @@ returns-then-form-eq-NOTHING-clause-ids g c bytes m all =
     let nodes : List Node = c.args.form.now.nodes.items in
     let test : ℕ → Bool = λ id. number_matches (have_id bytes c.args.lists.now id) nodes c.args.form.now.root in
     c.new-ids.ensures.items
-    ∙ sym (filter_false test 0 c.args.count (λ id from below. ap (number_matches (have_id bytes c.args.lists.now id) nodes) c.if-form-eq-NOTHING.true ∙ nothing_matches (have_id bytes c.args.lists.now id) nodes))
+    ∙ sym (filter_false test 0 c.args.count (λ id from below. ap
+    (number_matches (have_id bytes c.args.lists.now id) nodes) c.if-form-eq-NOTHING.true
+    ∙ nothing_matches (have_id bytes c.args.lists.now id) nodes))
 
 pub returns-then-form-eq-NOTHING-clause-lists : goal.returns-then-form-eq-NOTHING-clause-lists
 returns-then-form-eq-NOTHING-clause-lists g c bytes m all = not_read bytes c.args.count c.args.lists.now all
 
 -- an id that the rarest list does not have is no candidate
-passed : (bytes : List ℕ) (nodes : List Node) (root id : ℕ) (lists : List ListState) (rarest : Option ℕ) → IfSome rarest (IsRequired (length lists) nodes root) → LacksId (have_id bytes lists id) rarest → number_matches (have_id bytes lists id) nodes root ≡ false
+passed : (bytes : List ℕ) (nodes : List Node) (root id : ℕ) (lists : List ListState) (rarest : Option ℕ) →
+    IfSome rarest (IsRequired (length lists) nodes root) → LacksId (have_id bytes lists id) rarest →
+    number_matches (have_id bytes lists id) nodes root ≡ false
 passed bytes nodes root id lists rarest required lacks =
-    lacks_required nodes root (have_id bytes lists id) rarest (subst (λ n. IfSome rarest (IsRequired n nodes root)) (sym (have_length bytes id lists)) required) lacks
+    lacks_required nodes root (have_id bytes lists id) rarest
+    (subst (λ n. IfSome rarest (IsRequired n nodes root)) (sym (have_length bytes id lists)) required) lacks
 
 pub windows-init : goal.windows-init
 windows-init g c =
@@ -31,8 +36,10 @@ windows-init g c =
     let lists : List ListState = c.args.lists.now in
     record {
       within = c.in_ok-start.ensures.to;
-      ids = λ bytes m all. window_none (λ id. number_matches (have_id bytes lists id) nodes root) 0 c.in_ok-start.start c.new-ids.result.items (omega arith) c.new-ids.ensures.items
-          (λ id from below. passed bytes nodes root id lists c.rarest_list-rarest.result c.rarest_list-rarest.ensures (c.in_ok-start.ensures.lacks bytes m all id from below));
+      ids = λ bytes m all. window_none (λ id. number_matches (have_id bytes lists id) nodes root) 0 c.in_ok-start.start
+          c.new-ids.result.items (omega arith) c.new-ids.ensures.items
+          (λ id from below. passed bytes nodes root id lists c.rarest_list-rarest.result c.rarest_list-rarest.ensures
+          (c.in_ok-start.ensures.lacks bytes m all id from below));
       lists = λ bytes m all. c.in_ok-start.ensures.lists bytes m all;
       keeps = c.next_start.ensures.keeps;
       size = c.next_start.ensures.size;
@@ -56,23 +63,35 @@ windows-preserved g c =
     let start : ℕ = c.windows.start in
     let end : ℕ = start + c.min.result in
     let next : ℕ = c.in_ok-start-2.start in
-    let left : (bytes : List ℕ) → g.S.Store.model c.args.store.now ≡ Some bytes → AllByRecursion (IsLeft bytes) old → AllByRecursion (IsLeft bytes) lists =
+    let left : (bytes : List ℕ) → g.S.Store.model c.args.store.now ≡ Some bytes → AllByRecursion (IsLeft bytes) old →
+    AllByRecursion (IsLeft bytes) lists =
     λ bytes m all. all_from bytes start old lists (i.lists bytes m all) in
-    let read : (bytes : List ℕ) → g.S.Store.model c.args.store.now ≡ Some bytes → AllByRecursion (IsLeft bytes) old → AllZip (IsReadOn bytes end) old after =
-    λ bytes m all. read_all_on bytes start end old lists after (omega arith) (i.lists bytes m all) (c.in_ok-rows.ensures.lists bytes (i.keeps ∙ m) (left bytes m all)) in
+    let read : (bytes : List ℕ) → g.S.Store.model c.args.store.now ≡ Some bytes → AllByRecursion (IsLeft bytes) old →
+    AllZip (IsReadOn bytes end) old after =
+    λ bytes m all. read_all_on bytes start end old lists after (omega arith) (i.lists bytes m all)
+    (c.in_ok-rows.ensures.lists bytes (i.keeps ∙ m) (left bytes m all)) in
     record {
       within = c.in_ok-start-2.ensures.to;
-      ids = λ bytes m all. window_none (λ id. number_matches (have_id bytes old id) nodes root) end next c.push_ids.new.ids.items c.in_ok-start-2.ensures.from
-          (window_more (λ id. number_matches (have_id bytes old id) nodes root) (λ id. get_or row (id - start) false) start end c.windows.ids.items c.push_ids.new.ids.items (omega arith) (i.ids bytes m all) c.in_ok-push_ids.ensures (λ k below.
+      ids = λ bytes m all. window_none (λ id. number_matches (have_id bytes old id) nodes root) end next
+          c.push_ids.new.ids.items c.in_ok-start-2.ensures.from
+          (window_more (λ id. number_matches (have_id bytes old id) nodes root) (λ id. get_or row (id - start) false)
+          start end c.windows.ids.items c.push_ids.new.ids.items (omega arith) (i.ids bytes m all)
+          c.in_ok-push_ids.ensures (λ k below.
           let at : start + k - start ≡ k = omega arith in
           let from : start ≤ start + k = omega arith in
           ap (λ n. get_or row n false) at ∙ c.row_at.ensures.row k
           ∙ ap (λ (rows : List (Vec Bool Global)). get_or (column k rows) root false) c.deref-in-windows.ensures.value
-          ∙ ap (λ (known : List Bool). get_or known root false) (c.in_ok-rows.ensures.rows bytes (i.keeps ∙ m) (left bytes m all) k below ∙ (λ j. matched (have_alike bytes start (start + k) old lists from (i.lists bytes m all) j) (c.deref.ensures.value j)))))
+          ∙ ap (λ (known : List Bool). get_or known root false)
+          (c.in_ok-rows.ensures.rows bytes (i.keeps ∙ m) (left bytes m all) k below
+          ∙ (λ j. matched (have_alike bytes start (start + k) old lists from (i.lists bytes m all) j)
+          (c.deref.ensures.value j)))))
           (λ id from below. passed bytes nodes root id old c.rarest_list-rarest.result c.rarest_list-rarest.ensures
-          (subst (λ (bits : List Bool). LacksId bits c.rarest_list-rarest.result) (have_alike bytes end id old after from (read bytes m all))
-          (c.in_ok-start-2.ensures.lacks bytes (c.rows_of.ensures.keeps ∙ i.keeps ∙ m) (all_from bytes end old after (read bytes m all)) id from below)));
-      lists = λ bytes m all. read_all_on bytes end next old after c.next_start-in-windows.new.lists c.in_ok-start-2.ensures.from (read bytes m all)
+          (subst (λ (bits : List Bool). LacksId bits c.rarest_list-rarest.result)
+          (have_alike bytes end id old after from (read bytes m all))
+          (c.in_ok-start-2.ensures.lacks bytes (c.rows_of.ensures.keeps ∙ i.keeps ∙ m)
+          (all_from bytes end old after (read bytes m all)) id from below)));
+      lists = λ bytes m all. read_all_on bytes end next old after c.next_start-in-windows.new.lists
+          c.in_ok-start-2.ensures.from (read bytes m all)
           (c.in_ok-start-2.ensures.lists bytes (c.rows_of.ensures.keeps ∙ i.keeps ∙ m) (all_from bytes end old after (read bytes m all)));
       keeps = c.next_start-in-windows.ensures.keeps ∙ c.rows_of.ensures.keeps ∙ i.keeps;
       size = c.next_start-in-windows.ensures.size ∙ c.rows_of.ensures.size ∙ i.size;
@@ -83,4 +102,6 @@ pub returns-clause-ids : goal.returns-clause-ids
 returns-clause-ids g c bytes m all =
     let i = c.windows.invariant in
     i.ids bytes m all
-    ∙ ap (λ n. filter (λ id. number_matches (have_id bytes c.args.lists.now id) c.args.form.now.nodes.items c.args.form.now.root) (range_with_len 0 n)) (let z : c.windows.start ≡ c.args.count = omega (arith, i.within, c.windows-test.false) in z)
+    ∙ ap (λ n. filter (λ id. number_matches (have_id bytes c.args.lists.now id) c.args.form.now.nodes.items
+    c.args.form.now.root) (range_with_len 0 n)) (let z : c.windows.start ≡ c.args.count =
+    omega (arith, i.within, c.windows-test.false) in z)

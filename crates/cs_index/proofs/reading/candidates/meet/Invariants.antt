@@ -8,8 +8,11 @@ use Rattle.cs_index.proofs.reading.candidates.meet.Given as goal
 abbrev pub invariant-windows : goal.invariant-windows
 invariant-windows g l = record {
   within : l.start ≤ l.count;
-  ids : (bytes : List ℕ) → g.S.Store.model l.fn.store ≡ Some bytes → AllByRecursion (IsLeft bytes) l.fn.lists → l.ids.items ≡ filter (λ id. number_matches (have_id bytes l.fn.lists id) l.form.nodes.items l.form.root) (range_with_len 0 l.start);
-  lists : (bytes : List ℕ) → g.S.Store.model l.fn.store ≡ Some bytes → AllByRecursion (IsLeft bytes) l.fn.lists → AllZip (IsReadOn bytes l.start) l.fn.lists l.lists;
+  ids : (bytes : List ℕ) → g.S.Store.model l.fn.store ≡ Some bytes → AllByRecursion (IsLeft bytes) l.fn.lists →
+      l.ids.items ≡ filter (λ id. number_matches (have_id bytes l.fn.lists id) l.form.nodes.items l.form.root)
+      (range_with_len 0 l.start);
+  lists : (bytes : List ℕ) → g.S.Store.model l.fn.store ≡ Some bytes → AllByRecursion (IsLeft bytes) l.fn.lists →
+      AllZip (IsReadOn bytes l.start) l.fn.lists l.lists;
   keeps : g.S.Store.model l.store ≡ g.S.Store.model l.fn.store;
   size : g.S.Store.size l.store ≡ g.S.Store.size l.fn.store;
   failed : g.S.Store.failed l.store ≡ g.S.Store.failed l.fn.store;

@@ -20,14 +20,18 @@ loop-is_marked-preserved c =
       | then-is_marked+in_ok-push w ↦ record {
         id = omega (arith, c.loop-is_marked.invariant.id);
         ids = marked_step test (start + length row) id all ids c.if-is_marked.ids.items below c.loop-is_marked.invariant.ids
-            (ap (λ (v : Vec ℕ Global). v.items) w.ids-is ∙ w.in_ok-push.ensures.items ∙ sym (ap (λ b. cond b (ids ++ id ∷ []) ids) (ap (λ k. get_or row k false) at ∙ w.if-is_marked.true)));
+            (ap (λ (v : Vec ℕ Global). v.items) w.ids-is ∙ w.in_ok-push.ensures.items
+            ∙ sym (ap (λ b. cond b (ids ++ id ∷ []) ids) (ap (λ k. get_or row k false) at ∙ w.if-is_marked.true)));
       }
       | else-is_marked w ↦ record {
         id = omega (arith, c.loop-is_marked.invariant.id);
         ids = marked_step test (start + length row) id all ids c.if-is_marked.ids.items below c.loop-is_marked.invariant.ids
-            (ap (λ (v : Vec ℕ Global). v.items) w.ids-is ∙ sym (ap (λ b. cond b (ids ++ id ∷ []) ids) (ap (λ k. get_or row k false) at ∙ w.if-is_marked.false)));
+            (ap (λ (v : Vec ℕ Global). v.items) w.ids-is
+            ∙ sym (ap (λ b. cond b (ids ++ id ∷ []) ids) (ap (λ k. get_or row k false) at ∙ w.if-is_marked.false)));
       }
     ]
 
 pub returns : goal.returns
-returns c = all_pushed c.args.row.now c.args.start c.args.end c.loop-is_marked.id c.args.ids.now.items c.loop-is_marked.ids.items c.requires.width (omega (arith, c.loop-is_marked.invariant.id, c.loop-is_marked-test.false)) c.loop-is_marked.invariant.ids
+returns c = all_pushed c.args.row.now c.args.start c.args.end c.loop-is_marked.id c.args.ids.now.items
+    c.loop-is_marked.ids.items c.requires.width
+    (omega (arith, c.loop-is_marked.invariant.id, c.loop-is_marked-test.false)) c.loop-is_marked.invariant.ids

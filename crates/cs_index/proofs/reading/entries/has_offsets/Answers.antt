@@ -10,7 +10,8 @@ use Rattle.cs_index.proofs.reading.entries.has_offsets.Goals as goal
 pub returns-then-read_number-start : goal.returns-then-read_number-start
 returns-then-read_number-start c =
     let some : 0 < length (texts_of c.args.names.now) = omega arith in
-    sym (starts_wrong c.args.numbers.now 0 c.args.start (texts_of c.args.names.now) some (λ e. c.if-read_number-start.true (c.read_number.ensures ∙ e)))
+    sym (starts_wrong c.args.numbers.now 0 c.args.start (texts_of c.args.names.now) some
+    (λ e. c.if-read_number-start.true (c.read_number.ensures ∙ e)))
 
 pub names-init : goal.names-init
 names-init c =
@@ -34,7 +35,8 @@ returns-then-not-begins_later c =
     let names : List ℕ = c.args.names.now in
     let to : ℕ = c.saturating_sub-to.result in
     let from : ℕ = c.names.from in
-    let apart : (text : List ℕ) (more : List (List ℕ)) → i.texts ≡ text ∷ more → number_at c.args.numbers.now (c.names.at + 4) ≢ c.args.start + from + (length text + 1) = λ text more e n.
+    let apart : (text : List ℕ) (more : List (List ℕ)) → i.texts ≡ text ∷ more →
+    number_at c.args.numbers.now (c.names.at + 4) ≢ c.args.start + from + (length text + 1) = λ text more e n.
     let there = end_there names from text more (i.bytes ∙ ap run_bytes e) in
     let is : from + (length text + 1) ≡ to = omega (arith, n, c.read_number-in-names.ensures, c.saturating_sub-to.ensures) in
     let order : from < to = omega (arith, is) in
@@ -51,7 +53,8 @@ names-preserved c =
     let from : ℕ = c.names.from in
     let yes = c.if-not-begins_later.ensures.yes refl in
     let order : from < to = yes.0 in
-    let next : number_at numbers (c.names.at + 4) ≡ c.args.start + to = omega (arith, order, c.read_number-in-names.ensures, c.saturating_sub-to.ensures) in
+    let next : number_at numbers (c.names.at + 4) ≡ c.args.start + to =
+    omega (arith, order, c.read_number-in-names.ensures, c.saturating_sub-to.ensures) in
     let on = goes_on numbers names c.args.start c.names.at from to i.texts i.each i.bytes i.number next i.few order yes.1 yes.2 in
     record {
       texts = on.left;
@@ -73,5 +76,6 @@ returns c =
     let d = length-drop c.names.from names in
     let from = i.from in
     let within = i.within in
-    starts_last c.args.numbers.now c.names.at (c.args.start + c.names.from) i.number i.texts c.names.from (length names) (omega arith) i.few (omega (arith, l, d, from))
+    starts_last c.args.numbers.now c.names.at (c.args.start + c.names.from) i.number i.texts c.names.from (length names)
+    (omega arith) i.few (omega (arith, l, d, from))
     ∙ sym i.left

@@ -8,17 +8,27 @@ use Rattle.cs_index.proofs.decoding.EntryTables.{in_from, no_entry, one_entry}
 use Rattle.cs_index.proofs.reading.entries.test_entries.Goals as goal
 
 pub entries-init : goal.entries-init
-entries-init c = record { within = omega arith; left = λ more. ap (λ (es : List ListEntry). are_entries c.args.room c.args.least (es ++ more)) (in_from c.args.entries.now) }
+entries-init c = record {
+  within = omega arith;
+  left =
+      λ more. ap (λ (es : List ListEntry). are_entries c.args.room c.args.least (es ++ more))
+      (in_from c.args.entries.now);
+}
 
 -- the first of the remaining entries
-first_of : (bytes : List ℕ) (at : ℕ) (more : List ListEntry) → 11 ≤ length bytes - at → entries_from bytes at ((length bytes - at) / 11) ++ more ≡ entry_at bytes at ∷ (entries_from bytes (at + 11) ((length bytes - (at + 11)) / 11) ++ more)
+first_of : (bytes : List ℕ) (at : ℕ) (more : List ListEntry) → 11 ≤ length bytes - at →
+    entries_from bytes at ((length bytes - at) / 11) ++ more ≡ entry_at bytes at
+    ∷ (entries_from bytes (at + 11) ((length bytes - (at + 11)) / 11) ++ more)
 first_of bytes at more h = ap (λ n. entries_from bytes at n ++ more) (one_entry (length bytes) at h)
 
-refused : (room next : ℕ) (e : ListEntry) (es : List ListEntry) → (e.trigram < next) ⊎ (is_entry room e ≡ false) → are_entries room next (e ∷ es) ≡ false
+refused : (room next : ℕ) (e : ListEntry) (es : List ListEntry) → (e.trigram < next) ⊎ (is_entry room e ≡ false) →
+    are_entries room next (e ∷ es) ≡ false
 refused room next e es (inl low) = ap (λ b. b && (is_entry room e && are_entries room (e.trigram + 1) es)) (lt-leb next e.trigram low)
-refused room next e es (inr unfit) = ap (λ b. leb next e.trigram && (b && are_entries room (e.trigram + 1) es)) unfit ∙ and-false (leb next e.trigram)
+refused room next e es (inr unfit) = ap (λ b. leb next e.trigram && (b && are_entries room (e.trigram + 1) es)) unfit
+    ∙ and-false (leb next e.trigram)
 
-accepted : (room next : ℕ) (e : ListEntry) (es : List ListEntry) → next ≤ e.trigram → is_entry room e ≡ true → are_entries room next (e ∷ es) ≡ are_entries room (e.trigram + 1) es
+accepted : (room next : ℕ) (e : ListEntry) (es : List ListEntry) → next ≤ e.trigram → is_entry room e ≡ true →
+    are_entries room next (e ∷ es) ≡ are_entries room (e.trigram + 1) es
 accepted room next e es high fits =
     ap (λ b. b && (is_entry room e && are_entries room (e.trigram + 1) es)) (le-leb next e.trigram high)
     ∙ ap (λ b. b && are_entries room (e.trigram + 1) es) fits
@@ -41,11 +51,14 @@ entries-preserved c =
     record {
       within = omega arith;
       left = λ more. c.entries.invariant.left more ∙ ap (are_entries c.args.room c.entries.next) (first_of bytes at more (omega arith))
-          ∙ accepted c.args.room c.entries.next (entry_at bytes at) (entries_from bytes (at + 11) ((length bytes - (at + 11)) / 11) ++ more) high fits
+          ∙ accepted c.args.room c.entries.next (entry_at bytes at)
+          (entries_from bytes (at + 11) ((length bytes - (at + 11)) / 11) ++ more) high fits
           ∙ ap (λ n. are_entries c.args.room n (entries_from bytes (at + 11) ((length bytes - (at + 11)) / 11) ++ more)) (sym same);
     }
 
 pub returns-clause-some : goal.returns-clause-some
 returns-clause-some c =
     let bytes : List ℕ = c.args.entries.now in
-    λ more. c.entries.invariant.left more ∙ ap (λ n. are_entries c.args.room c.entries.next (entries_from bytes c.entries.at n ++ more)) (no_entry (length bytes) c.entries.at (omega arith))
+    λ more. c.entries.invariant.left more ∙ ap
+    (λ n. are_entries c.args.room c.entries.next (entries_from bytes c.entries.at n ++ more))
+    (no_entry (length bytes) c.entries.at (omega arith))

@@ -15,23 +15,31 @@ has_offsets-requires-clause-count c =
     sym is.count ∙ ap (λ (ts : List (List ℕ)). length ts) (sym (run_texts c.args.names.now c.in-Some.run' is))
 
 -- the test of the strings is that of the section
-tested : (name_index names : List ℕ) (run : TextRun) → IsTextRun names run → is_names_section names ≡ true → has_starts name_index 0 0 (texts_of (take run.len names)) ≡ is_name_index name_index (texts_of names)
-tested name_index names run is formed = ap (has_starts name_index 0 0) (run_all names run is formed) ∙ starts_all name_index (texts_of names)
+tested : (name_index names : List ℕ) (run : TextRun) → IsTextRun names run → is_names_section names ≡ true →
+    has_starts name_index 0 0 (texts_of (take run.len names)) ≡ is_name_index name_index (texts_of names)
+tested name_index names run is formed = ap (has_starts name_index 0 0) (run_all names run is formed)
+    ∙ starts_all name_index (texts_of names)
 
 pub returns-then-not-has_offsets-clause-fault : goal.returns-then-not-has_offsets-clause-fault
 returns-then-not-has_offsets-clause-fault c =
     let formed : is_names_section c.args.names.now ≡ true = c.in-Some.ensures.some in
-    let wrong : is_name_index c.args.name_index.now (texts_of c.args.names.now) ≡ false = sym (tested c.args.name_index.now c.args.names.now c.in-Some.run' c.in-Some.ensures.run formed) ∙ sym c.has_offsets.ensures ∙ c.if-not-has_offsets.true in
+    let wrong : is_name_index c.args.name_index.now (texts_of c.args.names.now) ≡ false =
+    sym (tested c.args.name_index.now c.args.names.now c.in-Some.run' c.in-Some.ensures.run formed)
+    ∙ sym c.has_offsets.ensures ∙ c.if-not-has_offsets.true in
     search rules
 
 pub returns-then-not-has_entries-clause-fault : goal.returns-then-not-has_entries-clause-fault
 returns-then-not-has_entries-clause-fault c =
     let formed : is_names_section c.args.names.now ≡ true = c.in-Some.ensures.some in
-    let right : is_name_index c.args.name_index.now (texts_of c.args.names.now) ≡ true = sym (tested c.args.name_index.now c.args.names.now c.in-Some.run' c.in-Some.ensures.run formed) ∙ sym c.has_offsets.ensures ∙ c.if-not-has_offsets.false in
+    let right : is_name_index c.args.name_index.now (texts_of c.args.names.now) ≡ true =
+    sym (tested c.args.name_index.now c.args.names.now c.in-Some.run' c.in-Some.ensures.run formed)
+    ∙ sym c.has_offsets.ensures ∙ c.if-not-has_offsets.false in
     search rules
 
 pub returns-clause-read : goal.returns-clause-read
 returns-clause-read c =
     let formed : is_names_section c.args.names.now ≡ true = c.in-Some.ensures.some in
-    let right : is_name_index c.args.name_index.now (texts_of c.args.names.now) ≡ true = sym (tested c.args.name_index.now c.args.names.now c.in-Some.run' c.in-Some.ensures.run formed) ∙ sym c.has_offsets.ensures ∙ c.if-not-has_offsets.false in
+    let right : is_name_index c.args.name_index.now (texts_of c.args.names.now) ≡ true =
+    sym (tested c.args.name_index.now c.args.names.now c.in-Some.run' c.in-Some.ensures.run formed)
+    ∙ sym c.has_offsets.ensures ∙ c.if-not-has_offsets.false in
     search rules

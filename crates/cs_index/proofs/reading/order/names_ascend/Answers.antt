@@ -10,12 +10,14 @@ loop-at-init c = refl
 pub returns-then-is_ge : goal.returns-then-is_ge
 returns-then-is_ge c =
     sym (ap are_ascending (names_borrowed c.args.named.now) ∙ c.loop-at.invariant
-    ∙ pair_falls c.args.named.now c.loop-at.at _ c.loop-at.auto.at c.loop-at-test.true (ap is_ge (sym c.cmp.ensures) ∙ sym c.is_ge.ensures ∙ c.if-is_ge.true))
+    ∙ pair_falls c.args.named.now c.loop-at.at _ c.loop-at.auto.at c.loop-at-test.true
+    (ap is_ge (sym c.cmp.ensures) ∙ sym c.is_ge.ensures ∙ c.if-is_ge.true))
 
 pub loop-at-preserved : goal.loop-at-preserved
 loop-at-preserved c =
     c.loop-at.invariant
-    ∙ pair_climbs c.args.named.now c.loop-at.at _ c.loop-at.auto.at c.loop-at-test.true (ap is_ge (sym c.cmp.ensures) ∙ sym c.is_ge.ensures ∙ c.if-is_ge.false)
+    ∙ pair_climbs c.args.named.now c.loop-at.at _ c.loop-at.auto.at c.loop-at-test.true
+    (ap is_ge (sym c.cmp.ensures) ∙ sym c.is_ge.ensures ∙ c.if-is_ge.false)
 
 pub returns : goal.returns
 returns c =

@@ -19,12 +19,17 @@ loop-trigram-preserved g c =
     let k : ℕ = c.loop-trigram.trigram-index in
     let found = c.in_ok-entry.field-0 in
     let is : new ≡ listed ++ found_items found = elim c.match-branch-3.branch [
-      | in-Some+in_ok-push w ↦ ap (λ (v : Vec Entry Global). v.items) w.listed-is ∙ w.in_ok-push.ensures.items ∙ ap (λ o. listed ++ found_items o) (sym w.in-Some.is)
+      | in-Some+in_ok-push w ↦ ap (λ (v : Vec Entry Global). v.items) w.listed-is ∙ w.in_ok-push.ensures.items
+          ∙ ap (λ o. listed ++ found_items o) (sym w.in-Some.is)
       | in_default w ↦ ap (λ (v : Vec Entry Global). v.items) w.listed-is ∙ none_found listed found w.in_default.not-Some
     ] in
     record {
-      each = λ bytes m list_index has. all_found (entries_in list_index) listed new found _ is (c.in_ok-entry.ensures.found bytes (i.keeps ∙ m) list_index has) c.in_ok-entry.ensures.same (i.each bytes m list_index has);
-      all = λ bytes m list_index has. still_listed (entries_in list_index) listed new found gs k is (c.in_ok-entry.ensures.found bytes (i.keeps ∙ m) list_index has) c.in_ok-entry.ensures.same (omega arith) (i.all bytes m list_index has);
+      each = λ bytes m list_index has. all_found (entries_in list_index) listed new found _ is
+          (c.in_ok-entry.ensures.found bytes (i.keeps ∙ m) list_index has) c.in_ok-entry.ensures.same
+          (i.each bytes m list_index has);
+      all = λ bytes m list_index has. still_listed (entries_in list_index) listed new found gs k is
+          (c.in_ok-entry.ensures.found bytes (i.keeps ∙ m) list_index has) c.in_ok-entry.ensures.same (omega arith)
+          (i.all bytes m list_index has);
       ascend = still_ascend listed new found gs k is c.in_ok-entry.ensures.same (omega arith) i.ascend;
       keeps = c.find.ensures.keeps ∙ i.keeps;
       size = c.find.ensures.size ∙ i.size;
@@ -39,7 +44,9 @@ returns-clause-listed g c bytes m list_index has' =
     record {
       each = i.each bytes m list_index has';
       all = λ n.
-          ap (λ (xs : List ℕ). has xs n) (i.all bytes m list_index has' ∙ ap (filter (has_entry (entries_in list_index))) (take_all k gs (omega arith)))
+          ap (λ (xs : List ℕ). has xs n) (i.all bytes m list_index has'
+          ∙ ap (filter (has_entry (entries_in list_index))) (take_all k gs (omega arith)))
           ∙ has-filter (has_entry (entries_in list_index)) gs n
-          ∙ ap (λ b. b && has_entry (entries_in list_index) n) (ap (λ (xs : List ℕ). has xs n) c.deref-trigram-items.ensures.value ∙ c.in_ok-trigrams.ensures.mentioned n);
+          ∙ ap (λ b. b && has_entry (entries_in list_index) n)
+          (ap (λ (xs : List ℕ). has xs n) c.deref-trigram-items.ensures.value ∙ c.in_ok-trigrams.ensures.mentioned n);
     }

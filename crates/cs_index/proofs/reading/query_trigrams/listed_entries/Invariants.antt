@@ -10,8 +10,12 @@ use Rattle.cs_index.proofs.reading.query_trigrams.listed_entries.Given as goal
 
 abbrev pub invariant-loop-trigram : goal.invariant-loop-trigram
 invariant-loop-trigram g l = record {
-  each : (bytes : List ℕ) → g.S.Store.model l.fn.store ≡ Some bytes → (list_index : List ℕ) → HasEntries bytes l.entries list_index → AllByRecursion (λ (e : Entry). entry_of (entries_in list_index) e.trigram ≡ Some (entry_read e)) l.listed.items;
-  all : (bytes : List ℕ) → g.S.Store.model l.fn.store ≡ Some bytes → (list_index : List ℕ) → HasEntries bytes l.entries list_index → trigrams_listed l.listed.items ≡ filter (has_entry (entries_in list_index)) (take l.trigram-index l.trigram-items);
+  each : (bytes : List ℕ) → g.S.Store.model l.fn.store ≡ Some bytes → (list_index : List ℕ) →
+      HasEntries bytes l.entries list_index → AllByRecursion (λ (e : Entry). entry_of (entries_in list_index) e.trigram
+      ≡ Some (entry_read e)) l.listed.items;
+  all : (bytes : List ℕ) → g.S.Store.model l.fn.store ≡ Some bytes → (list_index : List ℕ) →
+      HasEntries bytes l.entries list_index → trigrams_listed l.listed.items
+      ≡ filter (has_entry (entries_in list_index)) (take l.trigram-index l.trigram-items);
   ascend : Ascends (trigrams_listed l.listed.items ++ drop l.trigram-index l.trigram-items);
   keeps : g.S.Store.model l.store ≡ g.S.Store.model l.fn.store;
   size : g.S.Store.size l.store ≡ g.S.Store.size l.fn.store;

@@ -18,8 +18,13 @@ returns-clause-lists g c bytes m all =
     let below : at < length old = subst (λ (r : Option ℕ). IfSome r (λ k. k < length old)) c.in-Some.is c.requires.within in
     let left : IsLeft bytes list = held_at bytes old at d below all in
     let skips = c.in_ok-next.ensures.skips bytes m left.0 in
-    let read : IsReadTo c.args.window.start (ids_left bytes list) (ids_left bytes new) = skipped_to c.args.window.start (ids_left bytes list) (ids_left bytes new) skips.0.1 skips.0.2 skips.0.3 left.1 in
-    one_read bytes c.min.result old at d new all below (skips.0.0, read_weaker c.args.window.start c.min.result (ids_left bytes list) (ids_left bytes new) (omega (arith, c.max.ensures, c.min.ensures, c.requires.order)) read)
+    let read : IsReadTo c.args.window.start (ids_left bytes list) (ids_left bytes new) =
+    skipped_to c.args.window.start (ids_left bytes list) (ids_left bytes new) skips.0.1 skips.0.2 skips.0.3 left.1 in
+    one_read bytes c.min.result old at d new all below (
+      skips.0.0,
+      read_weaker c.args.window.start c.min.result (ids_left bytes list) (ids_left bytes new)
+          (omega (arith, c.max.ensures, c.min.ensures, c.requires.order)) read,
+    )
 
 pub returns-clause-lacks : goal.returns-clause-lacks
 returns-clause-lacks g c bytes m all id from before =
@@ -31,6 +36,8 @@ returns-clause-lacks g c bytes m all id from before =
     let below : at < length old = subst (λ (r : Option ℕ). IfSome r (λ k. k < length old)) c.in-Some.is c.requires.within in
     let left : IsLeft bytes list = held_at bytes old at d below all in
     let skips = c.in_ok-next.ensures.skips bytes m left.0 in
-    let read : IsReadTo c.args.window.start (ids_left bytes list) (ids_left bytes new) = skipped_to c.args.window.start (ids_left bytes list) (ids_left bytes new) skips.0.1 skips.0.2 skips.0.3 left.1 in
+    let read : IsReadTo c.args.window.start (ids_left bytes list) (ids_left bytes new) =
+    skipped_to c.args.window.start (ids_left bytes list) (ids_left bytes new) skips.0.1 skips.0.2 skips.0.3 left.1 in
     subst (LacksId (have_id bytes old id)) (sym c.in-Some.is)
-    (have_at bytes id old at d below ∙ none_between c.args.window.start c.in_ok-next.next id (ids_left bytes list) (ids_left bytes new) read skips.1 from (omega (arith, from, before, c.max.ensures, c.min.ensures)))
+    (have_at bytes id old at d below ∙ none_between c.args.window.start c.in_ok-next.next id (ids_left bytes list)
+    (ids_left bytes new) read skips.1 from (omega (arith, from, before, c.max.ensures, c.min.ensures)))

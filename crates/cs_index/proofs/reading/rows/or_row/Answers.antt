@@ -20,7 +20,8 @@ loop-member-preserved c =
     let at : ℕ = c.loop-member.member-index in
     let m : ℕ = get_or members at 0 in
     let next : suc at ≡ at + 1 = omega arith in
-    let first : drop at members ≡ m ∷ drop (at + 1) members = drop-cons members at 0 c.loop-member-test.true ∙ ap (λ k. m ∷ drop k members) next in
+    let first : drop at members ≡ m ∷ drop (at + 1) members = drop-cons members at 0 c.loop-member-test.true
+    ∙ ap (λ k. m ∷ drop k members) next in
     let row : List Bool = c.loop-member.row.items in
     let other : List Bool = c.row_at-other.result.now in
     elim c.if-not-is_empty.branch [
@@ -33,8 +34,10 @@ loop-member-preserved c =
             ];
             flags = λ k h.
                 let known : List Bool = column k c.args.rows.now in
-                or_step known (get_or row k false) (get_or c.if-not-is_empty.row.items k false) (list_any (λ n. get_or known n false) members) (drop at members) (drop (at + 1) members) m first
-                (ap (λ (r : List Bool). get_or r k false) items ∙ w.in_ok-add_row.ensures.flags k ∙ ap (λ b. get_or row k false || b) (c.row_at-other.ensures.row k)) (c.loop-member.invariant.flags k h);
+                or_step known (get_or row k false) (get_or c.if-not-is_empty.row.items k false)
+                (list_any (λ n. get_or known n false) members) (drop at members) (drop (at + 1) members) m first
+                (ap (λ (r : List Bool). get_or r k false) items ∙ w.in_ok-add_row.ensures.flags k
+                ∙ ap (λ b. get_or row k false || b) (c.row_at-other.ensures.row k)) (c.loop-member.invariant.flags k h);
           }
       | else-not-is_empty w ↦
           let items = ap (λ (v : Vec Bool Global). v.items) w.row-is in
@@ -43,7 +46,10 @@ loop-member-preserved c =
             flags = λ k h.
                 let known : List Bool = column k c.args.rows.now in
                 let none : length other ≡ 0 = eqb-true (length other) 0 (sym w.if-not-is_empty.ensures) in
-                or_step known (get_or row k false) (get_or c.if-not-is_empty.row.items k false) (list_any (λ n. get_or known n false) members) (drop at members) (drop (at + 1) members) m first
-                (ap (λ (r : List Bool). get_or r k false) items ∙ sym (or-false (get_or row k false)) ∙ ap (λ b. get_or row k false || b) (sym (no_flag other none k) ∙ c.row_at-other.ensures.row k)) (c.loop-member.invariant.flags k h);
+                or_step known (get_or row k false) (get_or c.if-not-is_empty.row.items k false)
+                (list_any (λ n. get_or known n false) members) (drop at members) (drop (at + 1) members) m first
+                (ap (λ (r : List Bool). get_or r k false) items ∙ sym (or-false (get_or row k false))
+                ∙ ap (λ b. get_or row k false || b) (sym (no_flag other none k) ∙ c.row_at-other.ensures.row k))
+                (c.loop-member.invariant.flags k h);
           }
     ]

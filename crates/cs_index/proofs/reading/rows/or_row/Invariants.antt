@@ -6,5 +6,6 @@ use Rattle.cs_index.proofs.reading.rows.or_row.Given as goal
 abbrev pub invariant-loop-member : goal.invariant-loop-member
 invariant-loop-member l = record {
   width : (length l.row.items ≡ 0) ⊎ (length l.row.items ≡ l.width);
-  flags : (k : ℕ) → k < l.width → (get_or l.row.items k false || list_any (λ m. get_or (column k l.rows) m false) (drop l.member-index l.members)) ≡ list_any (λ m. get_or (column k l.rows) m false) l.members;
+  flags : (k : ℕ) → k < l.width → (get_or l.row.items k false || list_any (λ m. get_or (column k l.rows) m false)
+      (drop l.member-index l.members)) ≡ list_any (λ m. get_or (column k l.rows) m false) l.members;
 }

@@ -1,15 +1,23 @@
-use Rattle.std.proofs.Common.{◌∙◌, sym}
-use Rattle.std.proofs.lemmas.Result.{MatchResult-from_both, IfOk-weaker, IfErr-weaker}
-use Rattle.cs_index.proofs.decoding.IndexFields.{no_magic, no_trailer, split_there}
+use Rattle.std.proofs.Common.{◌≡◌, ◌-◌, ◌∙◌, ap, refl, inl, inr, arith, ℕ, List, length, take, drop}
+use Rattle.std.specs.Prelude.{min}
+use Rattle.std.proofs.lemmas.Bool.{cases_lt}
+use Rattle.cs_tree.specs.Store.{part_of}
+use Rattle.cs_index.proofs.stored.SectionOffsets.{header_part, tail_part}
 use Rattle.cs_index.proofs.reading.section_slices.split.Goals as goal
 
-pub returns-then-not-starts_with-clause-value : goal.returns-then-not-starts_with-clause-value
-returns-then-not-starts_with-clause-value c = no_magic c.args.bytes.now (sym c.starts_with.ensures.value ∙ c.if-not-starts_with.true)
+header : (bytes : List ℕ) (n : ℕ) → n ≡ min (length bytes) 16 → take n bytes ≡ part_of bytes 0 16
+header bytes n is = header_part bytes n (elim (cases_lt (length bytes) 16)
+    [ inl less ↦ inl (omega (arith, less, is)) | inr more ↦ inr (omega (arith, more, is)) ]) (omega (arith, is))
 
-pub returns-then-not-is_ended-clause-value : goal.returns-then-not-is_ended-clause-value
-returns-then-not-is_ended-clause-value c = no_trailer c.args.bytes.now (sym c.starts_with.ensures.value ∙ c.if-not-starts_with.false) (sym c.is_ended.ensures.value ∙ c.if-not-is_ended.true)
+tail : (bytes : List ℕ) (k : ℕ) → k ≡ length bytes - 36 → take (length bytes - k) (drop k bytes) ≡ part_of bytes (length bytes - 36) 36
+tail bytes k is = tail_part bytes k (omega (arith, is)) ∙ ap (λ n. part_of bytes n 36) is
 
-pub returns-clause-value : goal.returns-clause-value
-returns-clause-value c =
-    let whole = split_there c.args.bytes.now (sym c.starts_with.ensures.value ∙ c.if-not-starts_with.false) (sym c.is_ended.ensures.value ∙ c.if-not-is_ended.false) in
-    MatchResult-from_both c.split_there.result _ _ (IfOk-weaker c.split_there.result _ _ (λ slices e. whole ∙ e) c.split_there.ensures.ok) (IfErr-weaker c.split_there.result _ _ (λ fault e. whole ∙ e) c.split_there.ensures.err)
+pub returns-in-Ok-clause-value : goal.returns-in-Ok-clause-value
+returns-in-Ok-clause-value c =
+    (c.in-Ok.ensures.slices c.args.bytes.now refl (header c.args.bytes.now c.min.result c.min.ensures)
+    (tail c.args.bytes.now c.saturating_sub.result c.saturating_sub.ensures)).0
+
+pub returns-in-Err-clause-value : goal.returns-in-Err-clause-value
+returns-in-Err-clause-value c =
+    c.in-Err.ensures.slices c.args.bytes.now refl (header c.args.bytes.now c.min.result c.min.ensures)
+    (tail c.args.bytes.now c.saturating_sub.result c.saturating_sub.ensures)

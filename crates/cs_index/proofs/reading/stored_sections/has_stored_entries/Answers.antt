@@ -13,16 +13,20 @@ returns-then-starts-at-ne0-clause-entries g c bytes m within =
     let s = c.args.starts.now in
     let order = rise_from s.paths s.names s.postings s.name_index s.list_index s.trailer c.requires.order in
     let long = part_long bytes s.list_index s.trailer order.ea within in
-    sym (list_index_uneven (s.name_index - s.postings) (part_of bytes s.list_index (s.trailer - s.list_index)) (λ e. c.if-starts-at-ne0.true (ap (λ n. n % 11) (sym long) ∙ e)))
+    sym (list_index_uneven (s.name_index - s.postings) (part_of bytes s.list_index (s.trailer - s.list_index))
+    (λ e. c.if-starts-at-ne0.true (ap (λ n. n % 11) (sym long) ∙ e)))
 
 -- the test of the rest, after a piece
-module _ (bytes piece : List ℕ) (at trailer len : ℕ) (is : piece ≡ part_of bytes at len) (fits : length piece ≡ len) (within : len ≤ trailer - at) (whole : len % 11 ≡ 0) where
+module _ (bytes piece : List ℕ) (at trailer len : ℕ) (is : piece ≡ part_of bytes at len) (fits : length piece ≡ len)
+    (within : len ≤ trailer - at) (whole : len % 11 ≡ 0) where
   abbrev after : List ℕ
   after = part_of bytes (at + len) (trailer - (at + len))
 
   joined : entries_in (part_of bytes at (trailer - at)) ≡ entries_in piece ++ entries_in after
   joined =
-      ap entries_in (part_split bytes at len (trailer - at) within ∙ (λ i. sym is i ++ part_of bytes (at + len) ((let z : trailer - at - len ≡ trailer - (at + len) = omega arith in z) i)))
+      ap entries_in (part_split bytes at len (trailer - at) within
+      ∙ (λ i. sym is i ++ part_of bytes (at + len)
+      ((let z : trailer - at - len ≡ trailer - (at + len) = omega arith in z) i)))
       ∙ entries_joined piece after (ap (λ n. n % 11) fits ∙ whole)
 
 pub returns-in_default-clause-entries : goal.returns-in_default-clause-entries
@@ -39,8 +43,12 @@ returns-in_default-clause-entries g c bytes m within =
     let read = c.in_ok-read_into.ensures.part bytes (i.keeps ∙ m) in
     sym (list_index_tested room section (ap (λ n. n % 11) long ∙ c.if-starts-at-ne0.false)
     ∙ i.left bytes m within
-    ∙ ap (are_entries room c.pieces.least) (joined bytes piece c.pieces.at s.trailer len read (omega (arith, c.if-len.false, c.in_ok-read_into.ensures.bound)) (omega (arith, c.min-len.ensures)) (omega (arith, c.min-len.ensures, left))
-    ∙ ap (λ p. entries_in p ++ entries_in (after bytes piece c.pieces.at s.trailer len read (omega (arith, c.if-len.false, c.in_ok-read_into.ensures.bound)) (omega (arith, c.min-len.ensures)) (omega (arith, c.min-len.ensures, left)))) (sym c.deref.ensures.value))
+    ∙ ap (are_entries room c.pieces.least) (joined bytes piece c.pieces.at s.trailer len read
+    (omega (arith, c.if-len.false, c.in_ok-read_into.ensures.bound)) (omega (arith, c.min-len.ensures))
+    (omega (arith, c.min-len.ensures, left))
+    ∙ ap (λ p. entries_in p ++ entries_in (after bytes piece c.pieces.at s.trailer len read
+    (omega (arith, c.if-len.false, c.in_ok-read_into.ensures.bound)) (omega (arith, c.min-len.ensures))
+    (omega (arith, c.min-len.ensures, left)))) (sym c.deref.ensures.value))
     ∙ c.in_default.ensures.none (entries_in (part_of bytes (c.pieces.at + len) (s.trailer - (c.pieces.at + len)))))
 
 pub pieces-preserved : goal.pieces-preserved
@@ -59,8 +67,11 @@ pieces-preserved g c =
       left = λ bytes m within.
           let read = c.in_ok-read_into.ensures.part bytes (i.keeps ∙ m) in
           i.left bytes m within
-          ∙ ap (are_entries room c.pieces.least) (joined bytes piece c.pieces.at s.trailer len read (omega (arith, c.if-len.false, c.in_ok-read_into.ensures.bound)) (omega (arith, c.min-len.ensures)) (omega (arith, c.min-len.ensures, left))
-          ∙ ap (λ p. entries_in p ++ entries_in (part_of bytes (c.pieces.at + len) (s.trailer - (c.pieces.at + len)))) (sym c.deref.ensures.value))
+          ∙ ap (are_entries room c.pieces.least) (joined bytes piece c.pieces.at s.trailer len read
+          (omega (arith, c.if-len.false, c.in_ok-read_into.ensures.bound)) (omega (arith, c.min-len.ensures))
+          (omega (arith, c.min-len.ensures, left))
+          ∙ ap (λ p. entries_in p ++ entries_in (part_of bytes (c.pieces.at + len) (s.trailer - (c.pieces.at + len))))
+          (sym c.deref.ensures.value))
           ∙ c.in-Some.ensures.some (entries_in (part_of bytes (c.pieces.at + len) (s.trailer - (c.pieces.at + len))));
       keeps = c.read_into.ensures.keeps ∙ i.keeps;
       size = c.read_into.ensures.size ∙ i.size;
@@ -78,5 +89,6 @@ returns-clause-entries g c bytes m within =
     let end = i.within in
     sym (list_index_tested room section (ap (λ n. n % 11) long ∙ c.if-starts-at-ne0.false)
     ∙ i.left bytes m within
-    ∙ ap (λ n. are_entries room c.pieces.least (entries_in (part_of bytes c.pieces.at n))) (let z : s.trailer - c.pieces.at ≡ 0 = omega (arith, end, c.pieces-test.false) in z)
+    ∙ ap (λ n. are_entries room c.pieces.least (entries_in (part_of bytes c.pieces.at n)))
+    (let z : s.trailer - c.pieces.at ≡ 0 = omega (arith, end, c.pieces-test.false) in z)
     ∙ ap (are_entries room c.pieces.least) no_entries)

@@ -11,7 +11,8 @@ returns-in_default-clause-paths g c bytes m within =
     let new = c.read_on.new.self in
     let piece : List ℕ = new.piece.items in
     let more : List ℕ = part_of bytes (new.start + length piece) (new.stop - new.start - length piece) in
-    let begins = window_begins bytes c.pieces.window new c.pieces.used c.in_ok-read_on.ensures.start c.read_on.ensures.stop c.read_on.ensures.window (c.in_ok-read_on.ensures.piece bytes (i.keeps ∙ m)) in
+    let begins = window_begins bytes c.pieces.window new c.pieces.used c.in_ok-read_on.ensures.start
+    c.read_on.ensures.stop c.read_on.ensures.window (c.in_ok-read_on.ensures.piece bytes (i.keeps ∙ m)) in
     ap (is_section (0 ∷ [])) (i.left bytes m ∙ ap (λ l. c.pieces.paths.items ++ l) begins)
     ∙ i.strings (0 ∷ []) (piece ++ more)
     ∙ ap (λ p. is_section (0 ∷ []) (p ++ more)) (sym c.deref.ensures.value)
@@ -25,17 +26,21 @@ pieces-preserved g c =
     let run = c.in-Some.run' in
     let is : IsTextRun piece run = subst (λ (p : List ℕ). IsTextRun p run) c.deref.ensures.value c.in-Some.ensures.run in
     let strings = run_taken piece run.len is.texts is.within is.strings in
-    let paths = c.in_ok-extend_from_slice.ensures.items ∙ ap (λ p. c.pieces.paths.items ++ take run.len p) c.deref-in-pieces.ensures.value ∙ ap (λ s. c.pieces.paths.items ++ s) strings in
+    let paths = c.in_ok-extend_from_slice.ensures.items ∙ ap (λ p. c.pieces.paths.items ++ take run.len p)
+    c.deref-in-pieces.ensures.value ∙ ap (λ s. c.pieces.paths.items ++ s) strings in
     record {
       window = c.read_on.ensures.window;
       used = is.within;
       stop = c.read_on.ensures.stop ∙ i.stop;
       strings = λ closing rest.
-          ap (λ p. is_section closing (p ++ rest)) paths ∙ ap (is_section closing) (append_assoc c.pieces.paths.items (run_bytes is.texts) rest)
+          ap (λ p. is_section closing (p ++ rest)) paths
+          ∙ ap (is_section closing) (append_assoc c.pieces.paths.items (run_bytes is.texts) rest)
           ∙ i.strings closing (run_bytes is.texts ++ rest) ∙ strings_before closing rest is.texts is.strings.0;
       left = λ bytes m.
           i.left bytes m
-          ∙ ap (λ l. c.pieces.paths.items ++ l) (window_run bytes c.pieces.window new c.pieces.used run c.in_ok-read_on.ensures.start c.read_on.ensures.stop c.read_on.ensures.window (c.in_ok-read_on.ensures.piece bytes (i.keeps ∙ m)) is).1
+          ∙ ap (λ l. c.pieces.paths.items ++ l) (window_run bytes c.pieces.window new c.pieces.used run
+          c.in_ok-read_on.ensures.start c.read_on.ensures.stop c.read_on.ensures.window
+          (c.in_ok-read_on.ensures.piece bytes (i.keeps ∙ m)) is).1
           ∙ sym (append_assoc c.pieces.paths.items (run_bytes is.texts) (left_from bytes new run.len))
           ∙ ap (λ p. p ++ left_from bytes new run.len) (sym paths);
       keeps = c.read_on.ensures.keeps ∙ i.keeps;

@@ -10,7 +10,8 @@ invariant-pieces g l = record {
   used : l.used ≤ length l.window.piece.items;
   stop : l.window.stop ≡ l.starts.names;
   strings : (closing rest : List ℕ) → is_section closing (l.paths.items ++ rest) ≡ is_section closing rest;
-  left : (bytes : List ℕ) → g.S.Store.model l.fn.store ≡ Some bytes → part_of bytes l.starts.paths (l.starts.names - l.starts.paths) ≡ l.paths.items ++ left_from bytes l.window l.used;
+  left : (bytes : List ℕ) → g.S.Store.model l.fn.store ≡ Some bytes →
+      part_of bytes l.starts.paths (l.starts.names - l.starts.paths) ≡ l.paths.items ++ left_from bytes l.window l.used;
   keeps : g.S.Store.model l.store ≡ g.S.Store.model l.fn.store;
   size : g.S.Store.size l.store ≡ g.S.Store.size l.fn.store;
   failed : g.S.Store.failed l.store ≡ g.S.Store.failed l.fn.store;

@@ -26,8 +26,10 @@ pieces-init g c =
           let index : List ℕ = part_of bytes s.name_index (s.list_index - s.name_index) in
           let begin : s.names ≡ w.start + 0 = omega (arith, c.new-window.ensures.start) in
           let size : s.postings - s.names ≡ w.stop - (w.start + 0) = omega (arith, c.new-window.ensures.start, c.new-window.ensures.stop) in
-          subst (λ (o : ℕ). AreNamesBefore section index (left_from bytes w 0) 0 o true) (let z : 0 ≡ w.start + 0 - s.names = omega (arith, begin) in z)
-          (subst (λ (l : List ℕ). AreNamesBefore section index l 0 0 true) (λ i. part_of bytes (begin i) (size i)) (none_before section index));
+          subst (λ (o : ℕ). AreNamesBefore section index (left_from bytes w 0) 0 o true)
+          (let z : 0 ≡ w.start + 0 - s.names = omega (arith, begin) in z)
+          (subst (λ (l : List ℕ). AreNamesBefore section index l 0 0 true) (λ i. part_of bytes (begin i) (size i))
+          (none_before section index));
       rest = λ e. absurd (true≢false e);
       last = λ bytes m within e. absurd (true≢false e);
       keeps = refl;
@@ -41,7 +43,8 @@ returns-in_default-clause-names g c bytes m within =
     let new = c.read_on.new.self in
     let piece : List ℕ = new.piece.items in
     let more : List ℕ = part_of bytes (new.start + length piece) (new.stop - new.start - length piece) in
-    let begins = window_begins bytes c.pieces.window new c.pieces.used c.in_ok-more.ensures.start c.read_on.ensures.stop c.read_on.ensures.window (c.in_ok-more.ensures.piece bytes (i.keeps ∙ m)) in
+    let begins = window_begins bytes c.pieces.window new c.pieces.used c.in_ok-more.ensures.start c.read_on.ensures.stop
+    c.read_on.ensures.window (c.in_ok-more.ensures.piece bytes (i.keeps ∙ m)) in
     names_not _ _ (left_from bytes c.pieces.window c.pieces.used) _ _ _ (i.before bytes m)
     (subst IsNoSection (ap (λ p. p ++ more) c.deref.ensures.value ∙ sym begins) (c.in_default.ensures.none more))
 
@@ -57,7 +60,8 @@ has_offsets-have-requires-clause-count g c =
     let piece : List ℕ = c.read_on.new.self.piece.items in
     let run = c.in-Some.run' in
     let is : IsTextRun piece run = subst (λ (p : List ℕ). IsTextRun p run) c.deref.ensures.value c.in-Some.ensures.run in
-    sym is.count ∙ ap (λ (ts : List (List ℕ)). length ts) (sym (ap (λ p. texts_of (take run.len p)) c.deref-in-pieces-2.ensures.value ∙ run_texts piece run is))
+    sym is.count ∙ ap (λ (ts : List (List ℕ)). length ts)
+    (sym (ap (λ p. texts_of (take run.len p)) c.deref-in-pieces-2.ensures.value ∙ run_texts piece run is))
 
 pub pieces-preserved : goal.pieces-preserved
 pieces-preserved g c =
@@ -78,10 +82,12 @@ pieces-preserved g c =
     let same : new.start - s.names ≡ offset = omega (arith, begin) in
     let have : c.has_offsets-have.result ≡ has_starts c.in_ok-numbers.numbers.items 0 offset is.texts =
     c.has_offsets-have.ensures
-    ∙ (λ j. has_starts (c.deref-in-pieces.ensures.value j) 0 (same j) ((ap (λ p. texts_of (take run.len p)) c.deref-in-pieces-2.ensures.value ∙ run_texts piece run is) j)) in
+    ∙ (λ j. has_starts (c.deref-in-pieces.ensures.value j) 0 (same j)
+    ((ap (λ p. texts_of (take run.len p)) c.deref-in-pieces-2.ensures.value ∙ run_texts piece run is) j)) in
     let good : c.if-have_offsets.have_offsets ≡ (c.pieces.have_offsets && c.has_offsets-have.result) = elim c.if-have_offsets.branch [
       | then-have_offsets w ↦ w.have_offsets-is ∙ sym (ap (λ b. b && c.has_offsets-have.result) w.if-have_offsets.true)
-      | else-have_offsets w ↦ w.have_offsets-is ∙ w.if-have_offsets.false ∙ sym (ap (λ b. b && c.has_offsets-have.result) w.if-have_offsets.false)
+      | else-have_offsets w ↦ w.have_offsets-is ∙ w.if-have_offsets.false
+          ∙ sym (ap (λ b. b && c.has_offsets-have.result) w.if-have_offsets.false)
     ] in
     record {
       window = c.read_on.ensures.window;
@@ -93,15 +99,21 @@ pieces-preserved g c =
           let section : List ℕ = part_of bytes s.names (s.postings - s.names) in
           let index : List ℕ = part_of bytes s.name_index (s.list_index - s.name_index) in
           let rest : List ℕ = left_from bytes new run.len in
-          let strings = window_run bytes old new c.pieces.used run begin c.read_on.ensures.stop c.read_on.ensures.window (c.in_ok-more.ensures.piece bytes (i.keeps ∙ m)) is in
-          let numbers = c.in_ok-numbers.ensures.numbers bytes (c.read_on.ensures.keeps ∙ i.keeps ∙ m) ∙ ap (λ n. part_of index (4 * c.pieces.count) (4 * (n + 1))) (sym is.count) in
-          subst (AreNamesBefore section index rest (c.pieces.count + run.count) (new.start + run.len - s.names)) (ap (λ b. c.pieces.have_offsets && b) (sym have) ∙ sym good)
-          (names_more section index (left_from bytes old c.pieces.used) rest c.in_ok-numbers.numbers.items c.pieces.count (c.pieces.count + run.count) offset (new.start + run.len - s.names) c.pieces.have_offsets is.texts (i.before bytes m) strings numbers
+          let strings = window_run bytes old new c.pieces.used run begin c.read_on.ensures.stop c.read_on.ensures.window
+          (c.in_ok-more.ensures.piece bytes (i.keeps ∙ m)) is in
+          let numbers = c.in_ok-numbers.ensures.numbers bytes (c.read_on.ensures.keeps ∙ i.keeps ∙ m)
+          ∙ ap (λ n. part_of index (4 * c.pieces.count) (4 * (n + 1))) (sym is.count) in
+          subst (AreNamesBefore section index rest (c.pieces.count + run.count) (new.start + run.len - s.names))
+          (ap (λ b. c.pieces.have_offsets && b) (sym have) ∙ sym good)
+          (names_more section index (left_from bytes old c.pieces.used) rest c.in_ok-numbers.numbers.items
+          c.pieces.count (c.pieces.count + run.count) offset (new.start + run.len - s.names) c.pieces.have_offsets
+          is.texts (i.before bytes m) strings numbers
           (ap (λ n. c.pieces.count + n) (sym is.count)) (omega (arith, begin, begun, long)));
       rest = λ e. is.rest;
       last = λ bytes m within e.
           window_last bytes new run.len c.read_on.ensures.window is.within
-          (c.in_ok-more.ensures.end bytes (i.keeps ∙ m) (let stop = i.stop in let a = order.cd in let b = order.de in let d = order.ea in omega (arith, stop, within, a, b, d)) e);
+          (c.in_ok-more.ensures.end bytes (i.keeps ∙ m) (let stop = i.stop in let a = order.cd in let b = order.de in
+          let d = order.ea in omega (arith, stop, within, a, b, d)) e);
       keeps = c.read_numbers.ensures.keeps ∙ c.read_on.ensures.keeps ∙ i.keeps;
       size = c.read_numbers.ensures.size ∙ c.read_on.ensures.size ∙ i.size;
       failed = c.in_ok-numbers.ensures.failed ∙ c.in_ok-more.ensures.failed ∙ i.failed;
@@ -116,11 +128,20 @@ returns-clause-names g c bytes m within =
     let section : List ℕ = part_of bytes s.names (s.postings - s.names) in
     let index : List ℕ = part_of bytes s.name_index (s.list_index - s.name_index) in
     let order = rise_from s.paths s.names s.postings s.name_index s.list_index s.trailer c.requires.order in
-    let long : length index ≡ s.list_index - s.name_index = part_long bytes s.name_index s.list_index order.de (let d = order.ea in omega (arith, within, d)) in
-    let before = subst (λ (l : List ℕ). AreNamesBefore section index l c.pieces.count (w.start + c.pieces.used - s.names) c.pieces.have_offsets) (i.last bytes m within c.pieces-test.false) (i.before bytes m) in
-    let ending = ap (λ (p : List ℕ). bytes_eq p (0 ∷ []) || bytes_eq p []) (sym (take_rest w.piece.items c.pieces.used) ∙ ap (λ (p : List ℕ). take (length p - c.pieces.used) (drop c.pieces.used p)) (sym c.deref-2.ensures.value)) ∙ sym c.is_ending.ensures ∙ c.if-not-is_ending.false in
-    let has : c.if-have_offsets-2.have_offsets ≡ (c.pieces.have_offsets && eqb (length index) (4 * (c.pieces.count + 1))) = elim c.if-have_offsets-2.branch [
+    let long : length index ≡ s.list_index - s.name_index = part_long bytes s.name_index s.list_index order.de
+    (let d = order.ea in omega (arith, within, d)) in
+    let before = subst (λ (l : List ℕ). AreNamesBefore section index l c.pieces.count
+    (w.start + c.pieces.used - s.names) c.pieces.have_offsets) (i.last bytes m within c.pieces-test.false)
+    (i.before bytes m) in
+    let ending = ap (λ (p : List ℕ). bytes_eq p (0 ∷ []) || bytes_eq p []) (sym (take_rest w.piece.items c.pieces.used)
+    ∙ ap (λ (p : List ℕ). take (length p - c.pieces.used) (drop c.pieces.used p)) (sym c.deref-2.ensures.value))
+    ∙ sym c.is_ending.ensures ∙ c.if-not-is_ending.false in
+    let has : c.if-have_offsets-2.have_offsets
+    ≡ (c.pieces.have_offsets && eqb (length index) (4 * (c.pieces.count + 1))) = elim c.if-have_offsets-2.branch [
       | then-have_offsets-2 v ↦ v.have_offsets-is ∙ sym (λ j. v.if-have_offsets-2.true j && eqb (long j) (4 * (c.pieces.count + 1)))
-      | else-have_offsets-2 v ↦ v.have_offsets-is ∙ v.if-have_offsets-2.false ∙ sym (ap (λ b. b && eqb (length index) (4 * (c.pieces.count + 1))) v.if-have_offsets-2.false)
+      | else-have_offsets-2 v ↦ v.have_offsets-is ∙ v.if-have_offsets-2.false
+          ∙ sym (ap (λ b. b && eqb (length index) (4 * (c.pieces.count + 1))) v.if-have_offsets-2.false)
     ] in
-    names_end section index rest (w.start + c.pieces.used - s.names) c.pieces.have_offsets (record { count = c.pieces.count; have_offsets = c.if-have_offsets-2.have_offsets }) before (i.rest c.pieces-test.false) ending has
+    names_end section index rest (w.start + c.pieces.used - s.names) c.pieces.have_offsets
+    (record { count = c.pieces.count; have_offsets = c.if-have_offsets-2.have_offsets }) before
+    (i.rest c.pieces-test.false) ending has

@@ -13,7 +13,8 @@ invariant-pieces g l = record {
   few : l.count + l.starts.names ≤ l.window.start + l.used;
   begun : l.starts.names ≤ l.window.start;
   before : (bytes : List ℕ) → g.S.Store.model l.fn.store ≡ Some bytes →
-      AreNamesBefore (part_of bytes l.starts.names (l.starts.postings - l.starts.names)) (part_of bytes l.starts.name_index (l.starts.list_index - l.starts.name_index))
+      AreNamesBefore (part_of bytes l.starts.names (l.starts.postings - l.starts.names))
+      (part_of bytes l.starts.name_index (l.starts.list_index - l.starts.name_index))
       (left_from bytes l.window l.used) l.count (l.window.start + l.used - l.starts.names) l.have_offsets;
   rest : l.more ≡ false → HasNoText (drop l.used l.window.piece.items);
   last : (bytes : List ℕ) → g.S.Store.model l.fn.store ≡ Some bytes → l.starts.trailer ≤ length bytes → l.more ≡ false →

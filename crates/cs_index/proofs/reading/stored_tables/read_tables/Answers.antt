@@ -1,27 +1,14 @@
-use Rattle.std.proofs.Common.{◌≡◌, ◌-◌, ◌∙◌, List, ℕ}
+use Rattle.std.proofs.Common.{◌≡◌, ◌-◌, ◌∙◌, sym, subst, List, ℕ}
 use Rattle.std.specs.Prelude.{slice_range}
 use Rattle.cs_tree.specs.Store.{part_of}
 use Rattle.cs_index.specs.Opening.{parts_of}
 use Rattle.cs_index.specs.StoredOpening.{with_lists}
+use Rattle.cs_index.specs.StoredTables.{OpensAsTables}
 use Rattle.cs_index.proofs.stored.ListPieces.{shown}
 use Rattle.cs_index.proofs.stored.SectionReads.{if_modelled}
 use Rattle.cs_index.proofs.stored.StoredTables.{tables_fail, tables_stand, valid_same}
 use Rattle.cs_index.proofs.reading.stored_tables.read_tables.Goals as goal
-
-pub returns-in-Err-clause-opens : goal.returns-in-Err-clause-opens
-returns-in-Err-clause-opens g c =
-    if_modelled (g.S.Store.model c.args.store.now) _
-    (λ bytes m within split.
-    let s = c.args.starts in
-    let m2 = c.read_part.ensures.keeps ∙ m in
-    let m3 = c.read_part-2.ensures.keeps ∙ m2 in
-    let m4 = c.read_part-3.ensures.keeps ∙ m3 in
-    let paths = shown (λ b. c.in_ok-paths.paths.items ≡ part_of b s.paths (s.names - s.paths)) (g.S.Store.model c.args.store.now) bytes m c.in_ok-paths.ensures.bytes in
-    let names = shown (λ b. c.in_ok-names.names.items ≡ part_of b s.names (s.postings - s.names)) (g.S.Store.model c.read_part.new.store) bytes m2 c.in_ok-names.ensures.bytes in
-    let numbers = shown (λ b. c.in_ok-name_index.name_index.items ≡ part_of b s.name_index (s.list_index - s.name_index)) (g.S.Store.model c.read_part-2.new.store) bytes m3 c.in_ok-name_index.ensures.bytes in
-    let entries = shown (λ b. c.in_ok-list_index.list_index.items ≡ part_of b s.list_index (s.trailer - s.list_index)) (g.S.Store.model c.read_part-3.new.store) bytes m4 c.in_ok-list_index.ensures.bytes in
-    tables_fail bytes c.deref.result.now c.deref-2.result.now c.deref-3.result.now c.deref-4.result.now s c.requires within split
-    (c.deref.ensures.value ∙ paths) (c.deref-2.ensures.value ∙ names) (c.deref-3.ensures.value ∙ numbers) (c.deref-4.ensures.value ∙ entries) c.in-Err.fault c.in-Err.ensures.fault)
+use Rattle.cs_index.proofs.reading.stored_tables.read_tables.Goals.{in-Ok, in-Err}
 
 pub returns-clause-opens : goal.returns-clause-opens
 returns-clause-opens g c =
@@ -35,9 +22,25 @@ returns-clause-opens g c =
     let n : List ℕ = c.in_ok-names.names.items in
     let i : List ℕ = c.in_ok-name_index.name_index.items in
     let l : List ℕ = c.in_ok-list_index.list_index.items in
-    let paths = shown (λ b. p ≡ part_of b s.paths (s.names - s.paths)) (g.S.Store.model c.args.store.now) bytes m c.in_ok-paths.ensures.bytes in
-    let names = shown (λ b. n ≡ part_of b s.names (s.postings - s.names)) (g.S.Store.model c.read_part.new.store) bytes m2 c.in_ok-names.ensures.bytes in
-    let numbers = shown (λ b. i ≡ part_of b s.name_index (s.list_index - s.name_index)) (g.S.Store.model c.read_part-2.new.store) bytes m3 c.in_ok-name_index.ensures.bytes in
-    let entries = shown (λ b. l ≡ part_of b s.list_index (s.trailer - s.list_index)) (g.S.Store.model c.read_part-3.new.store) bytes m4 c.in_ok-list_index.ensures.bytes in
-    let valid = valid_same c.deref.ensures.value c.deref-2.ensures.value c.deref-3.ensures.value c.deref-4.ensures.value c.in_default.ensures.read in
-    (parts_of (with_lists p n i l (slice_range bytes s.postings s.name_index)), tables_stand bytes p n i l s c.requires within split paths names numbers entries valid))
+    let paths = shown (λ b. p ≡ part_of b s.paths (s.names - s.paths)) (g.S.Store.model c.args.store.now) bytes m
+    c.in_ok-paths.ensures.bytes in
+    let names = shown (λ b. n ≡ part_of b s.names (s.postings - s.names)) (g.S.Store.model c.read_part.new.store) bytes
+    m2 c.in_ok-names.ensures.bytes in
+    let numbers = shown (λ b. i ≡ part_of b s.name_index (s.list_index - s.name_index))
+    (g.S.Store.model c.read_part-2.new.store) bytes m3 c.in_ok-name_index.ensures.bytes in
+    let entries = shown (λ b. l ≡ part_of b s.list_index (s.trailer - s.list_index))
+    (g.S.Store.model c.read_part-3.new.store) bytes m4 c.in_ok-list_index.ensures.bytes in
+    elim c.match-test_sections.branch [
+      | in-Ok w ↦
+          let valid = valid_same c.deref.ensures.value c.deref-2.ensures.value c.deref-3.ensures.value
+          c.deref-4.ensures.value w.in-Ok.ensures.read in
+          subst (OpensAsTables bytes) (sym w.answer-is) (
+            parts_of (with_lists p n i l (slice_range bytes s.postings s.name_index)),
+            tables_stand bytes p n i l s c.requires within split paths names numbers entries valid,
+          )
+      | in-Err w ↦
+          subst (OpensAsTables bytes) (sym w.answer-is)
+          (tables_fail bytes c.deref.result.now c.deref-2.result.now c.deref-3.result.now c.deref-4.result.now s c.requires within split
+          (c.deref.ensures.value ∙ paths) (c.deref-2.ensures.value ∙ names) (c.deref-3.ensures.value ∙ numbers)
+          (c.deref-4.ensures.value ∙ entries) w.in-Err.fault w.in-Err.ensures.fault)
+    ])

@@ -7,11 +7,16 @@ use Rattle.cs_index.proofs.reading.index.Index.reopen.Goals as goal
 
 pub invariant_of-result : goal.invariant_of-result
 unfolding opening
-invariant_of-result c = (opened_sections c.args.bytes.now (borrowed_sections c.in-Ok.slices) c.in-Ok.ensures.value (subst (λ r. IsOk (read_split r)) c.in-Ok.ensures.value c.requires.opened) c.in-Ok.ensures.names_bound c.in-Ok.ensures.lists_bound).0
+invariant_of-result c = (opened_sections c.args.bytes.now (borrowed_sections c.in-Ok.slices) c.in-Ok.ensures.value
+    (subst (λ r. IsOk (read_split r)) c.in-Ok.ensures.value c.requires.opened) c.in-Ok.ensures.names_bound
+    c.in-Ok.ensures.lists_bound).0
 
 pub returns-in-Ok : goal.returns-in-Ok
 unfolding opening
-returns-in-Ok c = sym (ap read_split c.in-Ok.ensures.value ∙ (opened_sections c.args.bytes.now (borrowed_sections c.in-Ok.slices) c.in-Ok.ensures.value (subst (λ r. IsOk (read_split r)) c.in-Ok.ensures.value c.requires.opened) c.in-Ok.ensures.names_bound c.in-Ok.ensures.lists_bound).1)
+returns-in-Ok c = sym (ap read_split c.in-Ok.ensures.value
+    ∙ (opened_sections c.args.bytes.now (borrowed_sections c.in-Ok.slices) c.in-Ok.ensures.value
+    (subst (λ r. IsOk (read_split r)) c.in-Ok.ensures.value c.requires.opened) c.in-Ok.ensures.names_bound
+    c.in-Ok.ensures.lists_bound).1)
 
 pub returns-in-Err : goal.returns-in-Err
 unfolding opening

@@ -19,7 +19,8 @@ returns-clause-list g c bytes m is parts tables =
     let trailer : s.trailer ≤ length bytes = tables.stands.within in
     all_on_ok c.fill.result
     (λ at within enough buffer.
-    list_read bytes c.args.tables.now parts tables order entry c.args.position c.in-Some.ensures.entry c.in-Some.ensures.fits c.fill.new.self buffer
+    list_read bytes c.args.tables.now parts tables order entry c.args.position c.in-Some.ensures.entry
+    c.in-Some.ensures.fits c.fill.new.self buffer
     (let z : c.fill.new.self.at ≡ s.postings + entry.offset = omega (arith, at, c.seek.ensures.at, first) in z)
     (let z : c.fill.new.self.at + length c.fill.new.self.bytes ≤ s.name_index = omega (arith, within, stop) in z)
     (elim (cases_lt most room) [

@@ -7,5 +7,6 @@ pub returns-then-end-stop-clause-buffer : goal.returns-then-end-stop-clause-buff
 returns-then-end-stop-clause-buffer c bytes is =
     let s = c.self.inside in
     let len = c.len.ensures ∙ s.bytes.ok.0 in
-    buffer_moved bytes s.bytes.items s.start s.used c.args.at (omega (arith, c.if-self-at.true)) (omega (arith, c.if-at-end.true, len)) (omega (arith, c.self.invariant.0))
+    buffer_moved bytes s.bytes.items s.start s.used c.args.at (omega (arith, c.if-self-at.true))
+    (omega (arith, c.if-at-end.true, len)) (omega (arith, c.self.invariant.0))
     (subst (IsBufferOf bytes) (sym c.self.view_is) is)

@@ -13,13 +13,16 @@ use Rattle.cs_index.proofs.reading.name_table.NameTable.order.Goals as goal
 pub returns-then-not-names_ascend : goal.returns-then-not-names_ascend
 returns-then-not-names_ascend c =
     let sorted = c.sort_unstable_by.new.self.items in
-    let up = c.sort_unstable_by.ensures.sorted (λ x y. is_lt (by_key name_borrowed x y)) (ranks_by nat_list_cmp_total name_borrowed) (answers_always _ _ _ (λ f a r g h. search rules)) in
+    let up = c.sort_unstable_by.ensures.sorted (λ x y. is_lt (by_key name_borrowed x y))
+    (ranks_by nat_list_cmp_total name_borrowed) (answers_always _ _ _ (λ f a r g h. search rules)) in
     repeated_name c.args.self.now c.in_ok-named.named.items sorted c.in_ok-named.ensures c.sort_unstable_by.ensures.permutation up
-    (ap (λ ns. are_ascending (map name_in (borrowed_names ns))) (sym c.deref.ensures.value) ∙ sym c.names_ascend.ensures ∙ c.if-not-names_ascend.true)
+    (ap (λ ns. are_ascending (map name_in (borrowed_names ns))) (sym c.deref.ensures.value) ∙ sym c.names_ascend.ensures
+    ∙ c.if-not-names_ascend.true)
 
 pub returns : goal.returns
 returns c =
     let sorted = c.sort_unstable_by.new.self.items in
     subst (IsOrder c.args.self.now) (sym (c.in_ok-ids.ensures ∙ ap (λ ns. map id_in (borrowed_names ns)) c.deref-2.ensures.value))
     (in_order c.args.self.now c.in_ok-named.named.items sorted c.in_ok-named.ensures c.sort_unstable_by.ensures.permutation
-    (ap (λ ns. are_ascending (map name_in (borrowed_names ns))) (sym c.deref.ensures.value) ∙ sym c.names_ascend.ensures ∙ c.if-not-names_ascend.false))
+    (ap (λ ns. are_ascending (map name_in (borrowed_names ns))) (sym c.deref.ensures.value) ∙ sym c.names_ascend.ensures
+    ∙ c.if-not-names_ascend.false))

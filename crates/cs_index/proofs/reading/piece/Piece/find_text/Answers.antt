@@ -7,8 +7,10 @@ returns-in-Some-clause-text g c bytes m is text stands =
     let i = c.pieces.invariant in
     let new = c.reach.new.self in
     let piece = c.in_ok-reach.ensures.piece bytes (i.keeps ∙ m) (i.piece bytes m is) in
-    let part = string_part bytes c.part-part.result.now text new c.args.at c.args.end piece c.in_ok-reach.ensures.from c.in_ok-reach.ensures.within c.part-part.ensures stands in
-    let same : c.in-Some.text.now ≡ text = c.in-Some.ensures.some text stands.more (new.start + length new.bytes.items - c.args.at) stands.string.1 part in
+    let part = string_part bytes c.part-part.result.now text new c.args.at c.args.end piece c.in_ok-reach.ensures.from
+    c.in_ok-reach.ensures.within c.part-part.ensures stands in
+    let same : c.in-Some.text.now ≡ text = c.in-Some.ensures.some text stands.more
+    (new.start + length new.bytes.items - c.args.at) stands.string.1 part in
     let long = ap length same in
     let size = ap length c.part-part.ensures in
     let rest = length-drop (c.args.at - new.start) new.bytes.items in
@@ -26,8 +28,11 @@ pieces-preserved g c =
     record {
       none = λ bytes m is text stands.
           let piece = c.in_ok-reach.ensures.piece bytes (i.keeps ∙ m) (i.piece bytes m is) in
-          let part = string_part bytes c.part-part.result.now text c.reach.new.self c.args.at c.args.end piece c.in_ok-reach.ensures.from c.in_ok-reach.ensures.within c.part-part.ensures stands in
-          if_none c.before_nul.result c.in_default.not-Some (c.before_nul.ensures.none text stands.more (c.reach.new.self.start + length c.reach.new.self.bytes.items - c.args.at) stands.string.1 part);
+          let part = string_part bytes c.part-part.result.now text c.reach.new.self c.args.at c.args.end piece
+          c.in_ok-reach.ensures.from c.in_ok-reach.ensures.within c.part-part.ensures stands in
+          if_none c.before_nul.result c.in_default.not-Some
+          (c.before_nul.ensures.none text stands.more
+          (c.reach.new.self.start + length c.reach.new.self.bytes.items - c.args.at) stands.string.1 part);
       piece = λ bytes m is. c.in_ok-reach.ensures.piece bytes (i.keeps ∙ m) (i.piece bytes m is);
       keeps = c.reach.ensures.keeps ∙ i.keeps;
       size = c.reach.ensures.size ∙ i.size;

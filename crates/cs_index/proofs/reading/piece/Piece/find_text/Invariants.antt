@@ -4,7 +4,8 @@ use Rattle.cs_index.proofs.reading.piece.Piece.find_text.Given as goal
 
 abbrev pub invariant-pieces : goal.invariant-pieces
 invariant-pieces g l = record {
-  none : (bytes : List ℕ) → g.S.Store.model l.fn.store ≡ Some bytes → IsPiece bytes l.fn.self → (text : List ℕ) → StandsAt bytes l.at l.end text → l.searched ≤ length text;
+  none : (bytes : List ℕ) → g.S.Store.model l.fn.store ≡ Some bytes → IsPiece bytes l.fn.self → (text : List ℕ) →
+      StandsAt bytes l.at l.end text → l.searched ≤ length text;
   piece : (bytes : List ℕ) → g.S.Store.model l.fn.store ≡ Some bytes → IsPiece bytes l.fn.self → IsPiece bytes l.self;
   keeps : g.S.Store.model l.store ≡ g.S.Store.model l.fn.store;
   size : g.S.Store.size l.store ≡ g.S.Store.size l.fn.store;

@@ -9,6 +9,8 @@ returns-clause-number g c bytes m is within =
     let at : ℕ = c.args.at in
     let long = c.in_ok-reach.ensures.long bytes m within in
     c.read_number.ensures
-    ∙ ap (λ bs. number_at bs 0) (c.part-part.ensures ∙ part_prefix bytes c.reach.new.self at (c.in_ok-reach.ensures.piece bytes m is) c.in_ok-reach.ensures.from c.in_ok-reach.ensures.within)
+    ∙ ap (λ bs. number_at bs 0) (c.part-part.ensures
+    ∙ part_prefix bytes c.reach.new.self at (c.in_ok-reach.ensures.piece bytes m is) c.in_ok-reach.ensures.from
+    c.in_ok-reach.ensures.within)
     ∙ number_part bytes at (c.reach.new.self.start + length c.reach.new.self.bytes.items - at) 0 (omega (arith, long))
     ∙ ap (number_at bytes) (let z : at + 0 ≡ at = omega arith in z)

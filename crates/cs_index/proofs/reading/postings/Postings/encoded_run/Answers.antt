@@ -8,10 +8,20 @@ use Rattle.cs_index.proofs.reading.postings.Postings.encoded_run.Goals as goal
 pub returns-clause-ids : goal.returns-clause-ids
 returns-clause-ids c =
     let s = c.self.inside in
-    let is : c.args.self.now ≡ before (ids_onward (c.args.last + 1) c.prefix-ids.result.0) (remaining_ids s.has_ended s.name_count (s.left - c.len.result) (s.next + c.next.result) c.prefix-ids.result.1.now) =
-    run_skipped s.has_ended s.name_count s.left s.next c.args.last c.len.result c.next.result s.bytes.now c.prefix-ids.result.1.now c.prefix-ids.result.0 c.args.self.now
+    let is : c.args.self.now ≡ before (ids_onward (c.args.last + 1) c.prefix-ids.result.0)
+    (remaining_ids s.has_ended s.name_count (s.left - c.len.result) (s.next + c.next.result)
+    c.prefix-ids.result.1.now) =
+    run_skipped s.has_ended s.name_count s.left s.next c.args.last c.len.result c.next.result s.bytes.now
+    c.prefix-ids.result.1.now c.prefix-ids.result.0 c.args.self.now
     c.self.view_is c.if-self.false (omega (arith, c.if-self-eq0.false, c.if-last-self.false)) c.self.invariant.bound
-    c.next.ensures.rise (omega (arith, c.next.ensures.value, c.prefix-ids.ensures.below, c.saturating_sub-room.ensures, c.min.ensures, c.self.invariant.within))
+    c.next.ensures.rise (omega (
+      arith,
+      c.next.ensures.value,
+      c.prefix-ids.ensures.below,
+      c.saturating_sub-room.ensures,
+      c.min.ensures,
+      c.self.invariant.within,
+    ))
     c.len.ensures (omega (arith, c.len.ensures, c.prefix-ids.ensures.bound)) c.next.ensures.value c.prefix-ids.ensures.bytes in
     ap (λ (r : Ids). r.ids) is
 
@@ -23,9 +33,19 @@ returns-clause-below c =
 pub returns-clause-whole : goal.returns-clause-whole
 returns-clause-whole c =
     let s = c.self.inside in
-    let is : c.args.self.now ≡ before (ids_onward (c.args.last + 1) c.prefix-ids.result.0) (remaining_ids s.has_ended s.name_count (s.left - c.len.result) (s.next + c.next.result) c.prefix-ids.result.1.now) =
-    run_skipped s.has_ended s.name_count s.left s.next c.args.last c.len.result c.next.result s.bytes.now c.prefix-ids.result.1.now c.prefix-ids.result.0 c.args.self.now
+    let is : c.args.self.now ≡ before (ids_onward (c.args.last + 1) c.prefix-ids.result.0)
+    (remaining_ids s.has_ended s.name_count (s.left - c.len.result) (s.next + c.next.result)
+    c.prefix-ids.result.1.now) =
+    run_skipped s.has_ended s.name_count s.left s.next c.args.last c.len.result c.next.result s.bytes.now
+    c.prefix-ids.result.1.now c.prefix-ids.result.0 c.args.self.now
     c.self.view_is c.if-self.false (omega (arith, c.if-self-eq0.false, c.if-last-self.false)) c.self.invariant.bound
-    c.next.ensures.rise (omega (arith, c.next.ensures.value, c.prefix-ids.ensures.below, c.saturating_sub-room.ensures, c.min.ensures, c.self.invariant.within))
+    c.next.ensures.rise (omega (
+      arith,
+      c.next.ensures.value,
+      c.prefix-ids.ensures.below,
+      c.saturating_sub-room.ensures,
+      c.min.ensures,
+      c.self.invariant.within,
+    ))
     c.len.ensures (omega (arith, c.len.ensures, c.prefix-ids.ensures.bound)) c.next.ensures.value c.prefix-ids.ensures.bytes in
     ap (λ (r : Ids). r.whole) (sym is)

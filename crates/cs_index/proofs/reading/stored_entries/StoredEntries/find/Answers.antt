@@ -9,7 +9,8 @@ use Rattle.cs_index.proofs.reading.stored_entries.StoredEntries.find.Goals as go
 pub returns-then-position-self-clause-found : goal.returns-then-position-self-clause-found
 returns-then-position-self-clause-found g c bytes m list_index has =
     sym (entry_none list_index c.args.trigram (λ k l e.
-    let less = c.in_ok-position.ensures.below bytes m list_index has k (let n = has.count in omega (arith, l, n, c.if-position-self.true)) in omega (arith, e, less)))
+    let less = c.in_ok-position.ensures.below bytes m list_index has k
+    (let n = has.count in omega (arith, l, n, c.if-position-self.true)) in omega (arith, e, less)))
 
 pub returns-then-entry-trigram-clause-found : goal.returns-then-entry-trigram-clause-found
 returns-then-entry-trigram-clause-found g c bytes m list_index has =
@@ -17,9 +18,13 @@ returns-then-entry-trigram-clause-found g c bytes m list_index has =
     let position : ℕ = c.in_ok-position.position in
     let count = has.count in
     let is : entry_read c.in_ok-entry.entry ≡ entry_at list_index (11 * position) =
-    c.in_ok-entry.ensures.entry bytes (c.first_from.ensures.keeps ∙ m) (entry_within bytes list_index s has position c.if-position-self.false) ∙ entry_there bytes list_index s has position c.if-position-self.false in
-    sym (entry_none list_index c.args.trigram (λ k l. not_elsewhere list_index c.args.trigram position k has.rise (omega (arith, count, c.if-position-self.false))
-    (c.in_ok-position.ensures.below bytes m list_index has) (c.in_ok-position.ensures.above bytes m list_index has position (omega arith) c.if-position-self.false)
+    c.in_ok-entry.ensures.entry bytes (c.first_from.ensures.keeps ∙ m)
+    (entry_within bytes list_index s has position c.if-position-self.false)
+    ∙ entry_there bytes list_index s has position c.if-position-self.false in
+    sym (entry_none list_index c.args.trigram
+    (λ k l. not_elsewhere list_index c.args.trigram position k has.rise (omega (arith, count, c.if-position-self.false))
+    (c.in_ok-position.ensures.below bytes m list_index has)
+    (c.in_ok-position.ensures.above bytes m list_index has position (omega arith) c.if-position-self.false)
     (λ e. c.if-entry-trigram.true (ap (λ (e : ListEntry). e.trigram) is ∙ e)) l))
 
 pub returns-clause-found : goal.returns-clause-found
@@ -28,7 +33,10 @@ returns-clause-found g c bytes m list_index has =
     let position : ℕ = c.in_ok-position.position in
     let count = has.count in
     let is : entry_read c.in_ok-entry.entry ≡ entry_at list_index (11 * position) =
-    c.in_ok-entry.ensures.entry bytes (c.first_from.ensures.keeps ∙ m) (entry_within bytes list_index s has position c.if-position-self.false) ∙ entry_there bytes list_index s has position c.if-position-self.false in
+    c.in_ok-entry.ensures.entry bytes (c.first_from.ensures.keeps ∙ m)
+    (entry_within bytes list_index s has position c.if-position-self.false)
+    ∙ entry_there bytes list_index s has position c.if-position-self.false in
     ap Some is
-    ∙ sym (entry_found list_index c.args.trigram position (omega (arith, count, c.if-position-self.false)) (c.in_ok-position.ensures.below bytes m list_index has)
+    ∙ sym (entry_found list_index c.args.trigram position (omega (arith, count, c.if-position-self.false))
+    (λ k l e. let less = c.in_ok-position.ensures.below bytes m list_index has k l in omega (arith, e, less))
     (sym (ap (λ (e : ListEntry). e.trigram) is) ∙ c.if-entry-trigram.false))

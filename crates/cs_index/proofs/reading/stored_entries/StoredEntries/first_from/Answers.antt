@@ -17,8 +17,10 @@ halves-preserved-then-branch-trigram g c =
       within = i.within;
       below = λ bytes m list_index has k l.
           let is : c.in_ok-read_entry.field-0.trigram ≡ trigram_at list_index (11 * middle) =
-          ap (λ (e : ListEntry). e.trigram) (c.in_ok-read_entry.ensures.entry bytes (i.keeps ∙ m) (entry_within bytes list_index s has middle inside)) ∙ trigram_there bytes list_index s has middle inside in
-          lower_before list_index s.count middle c.args.trigram k has.count has.rise inside (subst (λ n. n < c.args.trigram) is c.if-branch-trigram.true) l;
+          ap (λ (e : ListEntry). e.trigram) (c.in_ok-read_entry.ensures.entry bytes (i.keeps ∙ m)
+          (entry_within bytes list_index s has middle inside)) ∙ trigram_there bytes list_index s has middle inside in
+          lower_before list_index s.count middle c.args.trigram k has.count has.rise inside
+          (subst (λ n. n < c.args.trigram) is c.if-branch-trigram.true) l;
       above = i.above;
       keeps = c.read_entry.ensures.keeps ∙ i.keeps;
       size = c.read_entry.ensures.size ∙ i.size;
@@ -38,8 +40,10 @@ halves-preserved g c =
       below = i.below;
       above = λ bytes m list_index has k l h.
           let is : c.in_ok-read_entry.field-0.trigram ≡ trigram_at list_index (11 * middle) =
-          ap (λ (e : ListEntry). e.trigram) (c.in_ok-read_entry.ensures.entry bytes (i.keeps ∙ m) (entry_within bytes list_index s has middle inside)) ∙ trigram_there bytes list_index s has middle inside in
-          higher_from list_index s.count middle c.args.trigram k has.count has.rise (subst (λ n. c.args.trigram ≤ n) is c.if-branch-trigram.false) l h;
+          ap (λ (e : ListEntry). e.trigram) (c.in_ok-read_entry.ensures.entry bytes (i.keeps ∙ m)
+          (entry_within bytes list_index s has middle inside)) ∙ trigram_there bytes list_index s has middle inside in
+          higher_from list_index s.count middle c.args.trigram k has.count has.rise
+          (subst (λ n. c.args.trigram ≤ n) is c.if-branch-trigram.false) l h;
       keeps = c.read_entry.ensures.keeps ∙ i.keeps;
       size = c.read_entry.ensures.size ∙ i.size;
       failed = c.in_ok-read_entry.ensures.failed ∙ i.failed;

@@ -7,8 +7,11 @@ abbrev pub invariant-halves : goal.invariant-halves
 invariant-halves g l = record {
   order : l.low ≤ l.high;
   within : l.high ≤ l.self.count;
-  below : (bytes : List ℕ) → g.S.Store.model l.fn.store ≡ Some bytes → (list_index : List ℕ) → HasEntries bytes l.self list_index → (k : ℕ) → k < l.low → trigram_at list_index (11 * k) < l.trigram;
-  above : (bytes : List ℕ) → g.S.Store.model l.fn.store ≡ Some bytes → (list_index : List ℕ) → HasEntries bytes l.self list_index → (k : ℕ) → l.high ≤ k → k < l.self.count → l.trigram ≤ trigram_at list_index (11 * k);
+  below : (bytes : List ℕ) → g.S.Store.model l.fn.store ≡ Some bytes → (list_index : List ℕ) →
+      HasEntries bytes l.self list_index → (k : ℕ) → k < l.low → trigram_at list_index (11 * k) < l.trigram;
+  above : (bytes : List ℕ) → g.S.Store.model l.fn.store ≡ Some bytes → (list_index : List ℕ) →
+      HasEntries bytes l.self list_index → (k : ℕ) → l.high ≤ k → k < l.self.count →
+      l.trigram ≤ trigram_at list_index (11 * k);
   keeps : g.S.Store.model l.store ≡ g.S.Store.model l.fn.store;
   size : g.S.Store.size l.store ≡ g.S.Store.size l.fn.store;
   failed : g.S.Store.failed l.store ≡ g.S.Store.failed l.fn.store;

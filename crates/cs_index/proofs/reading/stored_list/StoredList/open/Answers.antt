@@ -16,10 +16,13 @@ pub returns-then-not-is_list_of-clause-ids : goal.returns-then-not-is_list_of-cl
 returns-then-not-is_list_of-clause-ids g c bytes is =
     let s = c.args.section.now in
     let e : ListEntry = entry_read c.args.entry.now in
-    let read = shown (λ b. c.in_ok-piece.piece.items ≡ part_of b (s.start + e.offset) c.min-len.result) (g.S.Store.model c.args.store.now) bytes is c.in_ok-piece.ensures.bytes in
+    let read = shown (λ b. c.in_ok-piece.piece.items ≡ part_of b (s.start + e.offset) c.min-len.result)
+    (g.S.Store.model c.args.store.now) bytes is c.in_ok-piece.ensures.bytes in
     c.ended-then-not-is_list_of.ensures.ids bytes
     ∙ open_damaged bytes c.in_ok-piece.piece.items s.start s.room e.offset c.min-len.result read
-    (omega (arith, c.min.ensures, c.min-len.ensures)) (omega (arith, c.min.ensures, c.min-len.ensures, c.if-section-offset.false, c.requires.longest)) (omega (arith, c.if-section-offset.false))
+    (omega (arith, c.min.ensures, c.min-len.ensures))
+    (omega (arith, c.min.ensures, c.min-len.ensures, c.if-section-offset.false, c.requires.longest))
+    (omega (arith, c.if-section-offset.false))
     s.name_count e refl
     (ap (λ p. bytes_eq (take 3 p) (three_bytes e.trigram)) (sym c.deref.ensures.value) ∙ sym c.if-not-is_list_of.ensures.named)
 
@@ -27,7 +30,8 @@ pub returns-clause-holds : goal.returns-clause-holds
 returns-clause-holds g c bytes is =
     let s = c.args.section.now in
     let offset : ℕ = c.args.entry.now.offset in
-    let read = shown (λ b. c.in_ok-piece.piece.items ≡ part_of b (s.start + offset) c.min-len.result) (g.S.Store.model c.args.store.now) bytes is c.in_ok-piece.ensures.bytes in (
+    let read = shown (λ b. c.in_ok-piece.piece.items ≡ part_of b (s.start + offset) c.min-len.result)
+    (g.S.Store.model c.args.store.now) bytes is c.in_ok-piece.ensures.bytes in (
       part_of bytes (s.start + offset + c.min-len.result) (s.start + s.room - (s.start + offset) - c.min-len.result),
       holds_after bytes c.in_ok-piece.piece.items (s.start + offset) (s.start + s.room) c.min-len.result 3 read
           (omega (arith, c.min.ensures, c.min-len.ensures, c.if-section-offset.false))
@@ -38,8 +42,11 @@ pub returns-clause-ids : goal.returns-clause-ids
 returns-clause-ids g c bytes is =
     let s = c.args.section.now in
     let e : ListEntry = entry_read c.args.entry.now in
-    let read = shown (λ b. c.in_ok-piece.piece.items ≡ part_of b (s.start + e.offset) c.min-len.result) (g.S.Store.model c.args.store.now) bytes is c.in_ok-piece.ensures.bytes in
+    let read = shown (λ b. c.in_ok-piece.piece.items ≡ part_of b (s.start + e.offset) c.min-len.result)
+    (g.S.Store.model c.args.store.now) bytes is c.in_ok-piece.ensures.bytes in
     open_read bytes c.in_ok-piece.piece.items s.start s.room e.offset c.min-len.result read
-    (omega (arith, c.min.ensures, c.min-len.ensures)) (omega (arith, c.min.ensures, c.min-len.ensures, c.if-section-offset.false, c.requires.longest)) (omega (arith, c.if-section-offset.false))
+    (omega (arith, c.min.ensures, c.min-len.ensures))
+    (omega (arith, c.min.ensures, c.min-len.ensures, c.if-section-offset.false, c.requires.longest))
+    (omega (arith, c.if-section-offset.false))
     s.name_count e refl
     (ap (λ p. bytes_eq (take 3 p) (three_bytes e.trigram)) (sym c.deref.ensures.value) ∙ sym c.if-not-is_list_of.ensures.named)

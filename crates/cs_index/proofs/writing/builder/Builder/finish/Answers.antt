@@ -6,7 +6,8 @@ use Rattle.cs_index.proofs.common.ResultClauses.{both_ok}
 use Rattle.cs_index.proofs.writing.builder.Builder.finish.Goals as goal
 
 pub returns-clause-encoding : goal.returns-clause-encoding
-returns-clause-encoding c = IfOk-weaker c.finish_within.result _ _ (λ index is. is ∙ encoding_built c.args.self c.finish_within.ensures.built) c.finish_within.ensures.ok
+returns-clause-encoding c = IfOk-weaker c.finish_within.result _ _
+    (λ index is. is ∙ encoding_built c.args.self c.finish_within.ensures.built) c.finish_within.ensures.ok
 
 pub returns-clause-indexable : goal.returns-clause-indexable
 returns-clause-indexable c =

@@ -42,7 +42,8 @@ of-sections-requires-clause-bound g c =
 
 -- the lists of the buckets are written
 wrote : (b : Inside) (now : Built) (buckets : List BucketPostings) (start output : Written) → built_of b ≡ now → buckets ≡ b.buckets.items →
-    start ≡ empty b → output ≡ with_sent (with_postings start (lists_below trigram_count (ids_in_buckets (postings_of buckets)))) output.sent →
+    start ≡ empty b → output ≡ with_sent (with_postings start
+    (lists_below trigram_count (ids_in_buckets (postings_of buckets)))) output.sent →
     encoding_of output.paths (entries_written output) ≡ encoding_of now.paths now.entries
 wrote b now buckets start output view same none is = whole b now output view
     (is ∙ (λ i. with_sent (with_postings (none i) (lists_below trigram_count (ids_in_buckets (postings_of (same i))))) output.sent))

@@ -33,7 +33,8 @@ fault_of other (Err fault) = fault
 pub returns-in_err-tables-clause-too_large : goal.returns-in_err-tables-clause-too_large
 returns-in_err-tables-clause-too_large g c = λ is.
     let p = err_from_is_err_and c.from_residual-in_err-tables.result c.from_residual-in_err-tables.ensures.1 in
-    subst (λ (bs : List ℕ). c.args.limit < length bs) (closed g (goal.at.returns-in_err-tables-clause-too_large g c).After-deref).end.encoding
+    subst (λ (bs : List ℕ). c.args.limit < length bs)
+    (closed g (goal.at.returns-in_err-tables-clause-too_large g c).After-deref).end.encoding
     (c.in_err-tables.ensures.too_large (ap Err (sym p.2 ∙ ap (fault_of p.0) (sym p.1 ∙ is))))
 
 -- all bytes, with the tables
@@ -51,7 +52,8 @@ returns-clause-ok g c =
 pub returns-clause-indexable : goal.returns-clause-indexable
 returns-clause-indexable g c =
     short c.self.inside c.args.self (bytes_in c.if-self-eq0.self-inside.out ++ c.in_ok-tables.tables.items) c.args.limit
-    c.self.view_is c.self.invariant c.ranges.limit.fits (c.in_ok-tables.ensures.ok ∙ (closed g (goal.at.returns-clause-indexable g c).After-deref).end.encoding)
+    c.self.view_is c.self.invariant c.ranges.limit.fits
+    (c.in_ok-tables.ensures.ok ∙ (closed g (goal.at.returns-clause-indexable g c).After-deref).end.encoding)
     c.in_ok-tables.ensures.within
 
 pub returns-clause-given : goal.returns-clause-given

@@ -1,29 +1,31 @@
 use Rattle.std.proofs.Common.{arith, ◌∙◌, take, rules}
 use Rattle.std.proofs.lemmas.Result.{on_ok_weaker}
-use Rattle.cs_index.proofs.writer.SectionsSteps.{given, at_current, at_first, one_stream, one_posting}
+use Rattle.cs_index.proofs.writer.SectionsSteps.{given, at_current, at_id, at_first, one_stream, one_posting}
 use Rattle.cs_index.proofs.writing.sections.Sections.id.Goals as goal
 
 pub overflow_sub-id : goal.overflow_sub-id
 overflow_sub-id c =
-    let known = at_current c.self.inside c.args.self.now c.args.id c.self.view_is c.self.invariant c.in-None.is
-    c.requires.begun c.requires.above c.requires.named in
-    omega (arith, known.below)
+    let known = at_current c.self.inside c.args.self.now c.self.view_is c.self.invariant c.in-None.is c.requires.begun in
+    let fits = at_id c.self.inside c.args.self.now c.args.id c.self.view_is c.self.invariant known c.requires.above c.requires.named in
+    omega (arith, fits.0)
 
 pub overflow_add-self : goal.overflow_add-self
 overflow_add-self c =
-    let known = at_current c.self.inside c.args.self.now c.args.id c.self.view_is c.self.invariant c.in-None.is
-    c.requires.begun c.requires.above c.requires.named in
-    omega (arith, known.bound, known.small)
+    let known = at_current c.self.inside c.args.self.now c.self.view_is c.self.invariant c.in-None.is c.requires.begun in
+    let fits = at_id c.self.inside c.args.self.now c.args.id c.self.view_is c.self.invariant known c.requires.above c.requires.named in
+    omega (arith, fits.1, fits.2)
 
 pub invariant_of-self-in-None : goal.invariant_of-self-in-None
 invariant_of-self-in-None c =
-    (given c.self.inside c.args.self.now c.append_varint.new.self c.args.id c.self.view_is c.self.invariant c.in-None.is
-    c.requires.begun c.requires.above c.requires.named c.in_ok-append_varint-in-None.ensures.ok).are_sections
+    let known = at_current c.self.inside c.args.self.now c.self.view_is c.self.invariant c.in-None.is c.requires.begun in
+    (given c.self.inside c.args.self.now c.append_varint.new.self c.args.id c.self.view_is c.self.invariant known
+    c.requires.above c.requires.named c.in_ok-append_varint-in-None.ensures.ok).are_sections
 
 pub returns-in_ok-append_varint-in-None-clause-ok : goal.returns-in_ok-append_varint-in-None-clause-ok
 returns-in_ok-append_varint-in-None-clause-ok c =
-    (given c.self.inside c.args.self.now c.append_varint.new.self c.args.id c.self.view_is c.self.invariant c.in-None.is
-    c.requires.begun c.requires.above c.requires.named c.in_ok-append_varint-in-None.ensures.ok).is
+    let known = at_current c.self.inside c.args.self.now c.self.view_is c.self.invariant c.in-None.is c.requires.begun in
+    (given c.self.inside c.args.self.now c.append_varint.new.self c.args.id c.self.view_is c.self.invariant known
+    c.requires.above c.requires.named c.in_ok-append_varint-in-None.ensures.ok).is
 
 pub begin-requires-clause-stream : goal.begin-requires-clause-stream
 begin-requires-clause-stream c =

@@ -7,5 +7,7 @@ use Rattle.cs_index.proofs.writing.strings.Strings.write_starts.Goals as goal
 pub write_numbers-requires : goal.write_numbers-requires
 write_numbers-requires c =
     let texts : List (List ℕ) = c.args.self.now in
-    let starts_are : c.deref.result.now ≡ starts_from 0 (map with_nul texts) = c.deref.ensures.value ∙ c.self.invariant.starts_are ∙ ap (λ (ts : List (List ℕ)). starts_from 0 (map with_nul ts)) c.self.view_is in
-    subst (AllByRecursion (λ n. n < 4294967296)) (sym starts_are) (starts_below 4294967296 0 (map with_nul texts) (omega (arith, c.requires)))
+    let starts_are : c.deref.result.now ≡ starts_from 0 (map with_nul texts) = c.deref.ensures.value
+    ∙ c.self.invariant.starts_are ∙ ap (λ (ts : List (List ℕ)). starts_from 0 (map with_nul ts)) c.self.view_is in
+    subst (AllByRecursion (λ n. n < 4294967296)) (sym starts_are)
+    (starts_below 4294967296 0 (map with_nul texts) (omega (arith, c.requires)))

@@ -1,6 +1,6 @@
 use Rattle.std.proofs.Common.{◌≤◌, ◌<◌, ◌-◌, ◌*◌, ℕ}
 use Rattle.cs_index.specs.Opening.{trigram_at}
-use Rattle.cs_index.proofs.reading.entries.first_from.Given as goal
+use Rattle.cs_index.proofs.reading.stored_entries.first_from.Given as goal
 
 abbrev pub invariant-halves : goal.invariant-halves
 invariant-halves l = record {

@@ -1,7 +1,7 @@
 use Rattle.std.proofs.Common.{◌≤◌, ◌<◌, ◌+◌, ◌-◌, ◌*◌, ◌/◌, subst, ℕ, arith}
 use Rattle.cs_index.specs.Opening.{trigram_at}
 use Rattle.cs_index.proofs.decoding.EntryTables.{higher_from, lower_before}
-use Rattle.cs_index.proofs.reading.entries.first_from.Goals as goal
+use Rattle.cs_index.proofs.reading.stored_entries.first_from.Goals as goal
 
 pub halves-preserved-then-read_trigram-trigram : goal.halves-preserved-then-read_trigram-trigram
 halves-preserved-then-read_trigram-trigram c =

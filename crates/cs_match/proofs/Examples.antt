@@ -3,8 +3,9 @@ use Rattle.std.proofs.Common.{◌≡◌, true, false, [], ◌∷◌, refl, ap, a
 use Rattle.std.specs.Prelude.{None}
 use mathlib.Core.Bool.{xor}
 use Rattle.std.proofs.lemmas.Bool.{both_ways}
-use Rattle.cs_syntax.specs.Matching.{Tree, empty, one_of, one_char, cat, alt, rep, none, more, word_edge, line_end}
+use Rattle.cs_syntax.specs.Matching.{Tree, empty, one_of, one_char, cat, alt, rep, none, more, word_edge, line_start, line_end}
 use Rattle.cs_syntax.specs.ByteSet.{union}
+use Rattle.cs_match.specs.Anchored.{is_anchored}
 use Rattle.cs_match.specs.Expansion.{expansion, optional}
 use Rattle.cs_match.specs.declared.look_around.LookAround.{LookAround}
 use Rattle.cs_match.specs.Lines.{lines, terminated_lines}
@@ -64,6 +65,15 @@ sequences_that_are_not_entered a = refl
 
 a_last_position_is_accepted : intersect (true ∷ true ∷ false ∷ []) (false ∷ true ∷ true ∷ []) ≡ true
 a_last_position_is_accepted = refl
+
+-- `^a` and `(^a)+` are anchored; `^|a`, `a^` and `(^a)*` are not
+anchored_trees :
+    (is_anchored (cat (more line_start (more (one_of []) none))) ≡ true)
+    × (is_anchored (rep (cat (more line_start (more (one_of []) none))) 1 None) ≡ true)
+    × (is_anchored (alt (more line_start (more (one_of []) none))) ≡ false)
+    × (is_anchored (cat (more (one_of []) (more line_start none))) ≡ false)
+    × (is_anchored (rep (cat (more line_start (more (one_of []) none))) 0 None) ≡ false)
+anchored_trees = (refl, refl, refl, refl, refl)
 
 -- `(a*b)+`
 abbrev nested : Tree

@@ -12,7 +12,7 @@ use Rattle.cs_match.specs.Glushkov.{position_count}
 use Rattle.cs_match.specs.ByteClasses.{AreAlike}
 use Rattle.cs_match.specs.States.{start, successor, accepts_before}
 use Rattle.cs_match.specs.Scan.{match_state, unknown_state}
-use Rattle.cs_match.specs.LazyDfa.{IsStateNumber, Leads, found, next, IsTransition, unknown, known, AreStates, AreTransitions, blank_transition}
+use Rattle.cs_match.specs.LazyDfa.{IsStateNumber, Leads, found, next, IsTransition, unknown, known, IsDeadNumber, missing, present, AreStates, AreTransitions, blank_transition}
 
 -- the index of a transition from the state number and the byte
 pub transition_index : (from b : ℕ) → 256 * (from / 256) ≡ from → b < 256 → bit_or from b ≡ 256 * (from / 256) + b
@@ -144,6 +144,19 @@ module _ (t : Tree) (cached : List State) (used : ℕ) (state : State) (low : us
   kept_transition slot b transition (known lt leads) =
       known (omega arith) (subst (λ (n : State). Leads t more_cached (used + 1) n b transition)
       (sym (kept_slot slot lt)) (kept_leads (get_or cached slot (start t)) b transition leads))
+
+  pub added_number : (number : ℕ) → number ≡ used * 256 → IsStateNumber t more_cached (used + 1) number state
+  added_number number is =
+      let slot : number / 256 ≡ used = omega (arith, is) in
+      record {
+        whole = omega (arith, is);
+        in_use = omega (arith, slot);
+        same = ap (λ k. get_or more_cached k (start t)) slot ∙ get_or-set_same cached used state (start t) (omega (arith, given.all));
+      }
+
+  pub kept_dead : (number : ℕ) → IsDeadNumber t cached used number → IsDeadNumber t more_cached (used + 1) number
+  kept_dead number (missing is) = missing is
+  kept_dead number (present n at dead) = present n (kept_number number n at) dead
 
   pub added_transitions : (transitions : List ℕ) → AreTransitions t cached used transitions →
       AreTransitions t more_cached (used + 1) transitions

@@ -12,11 +12,12 @@ use Rattle.cs_match.specs.LazyDfa as dfa
 abbrev pub tree_in : LazyDfa → Tree
 tree_in dfa = dfa.program.now
 
--- the tree is expanded, the states and the transitions are correct, and the scratch memory has the right size
+-- the tree is expanded, the states, the transitions and the dead state are correct, and the scratch memory has the right size
 pub record IsConsistent (t : LazyDfa) : Type 0 where
   pub expanded : IsExpanded (tree_in t)
   pub cached : dfa.AreStates (tree_in t) t.states.cached.items t.states.used
   pub transitions : dfa.AreTransitions (tree_in t) t.states.cached.items t.states.used t.states.transitions.items
+  pub dead : dfa.IsDeadNumber (tree_in t) t.states.cached.items t.states.used t.states.dead
   pub room : length t.states.scratch.positions ≡ position_count (tree_in t)
   pub memory : IsScratch (tree_in t) t.states.memory
 

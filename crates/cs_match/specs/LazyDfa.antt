@@ -5,7 +5,7 @@ use Rattle.cs_syntax.specs.Matching.{Tree}
 use Rattle.cs_match.specs.declared.state.State.{State}
 use Rattle.cs_match.specs.Lines.{newline}
 use Rattle.cs_match.specs.Glushkov.{position_count}
-use Rattle.cs_match.specs.States.{start, successor, accepts_before}
+use Rattle.cs_match.specs.States.{start, successor, accepts_before, IsDead}
 use Rattle.cs_match.specs.Scan.{match_state, unknown_state}
 
 -- the state with this number
@@ -17,6 +17,12 @@ pub record IsStateNumber (t : Tree) (cached : List State) (used number : ℕ) (s
   pub whole : 256 * (number / 256) ≡ number
   pub in_use : number / 256 < used
   pub same : state_of t cached number ≡ state
+
+-- the number is unknown, or that of a cached dead state
+pub data IsDeadNumber (t : Tree) (cached : List State) (used number : ℕ) : Type 0 where
+  missing : number ≡ unknown_state → IsDeadNumber t cached used number
+  present : (state : State) → IsStateNumber t cached used number state → IsDead t state →
+      IsDeadNumber t cached used number
 
 -- A correct transition of a state over the byte b: the match state if the state accepts before the byte;
 -- otherwise the number of its successor, which is 0 (the start state) over a newline.

@@ -1,6 +1,6 @@
 -- DFA states: a position set, two look-behind bits and the unfinished character. A state keeps only what its tree
 -- reads (`specs/LookBehind.antt`). The rest of a line has the same result from equal states.
-use Rattle.std.specs.Prelude.{ℕ, Bool, true, false, ◌&&◌, List, [], ◌∷◌, replicate, nat_eq, if◌then◌else◌}
+use Rattle.std.specs.Prelude.{ℕ, ◌≡◌, Bool, true, false, ◌&&◌, List, [], ◌∷◌, replicate, nat_eq, if◌then◌else◌}
 use Rattle.std.specs.Bool.{xor}
 use Rattle.cs_syntax.specs.Matching.{Tree, is_word}
 use Rattle.cs_syntax.specs.CharSteps.{finished, unfinished_after}
@@ -60,3 +60,7 @@ successor t state b = if nat_eq b newline then start t else next_state t state b
 -- the state accepts before the byte b
 abbrev pub accepts_before : Tree → State → ℕ → Bool
 accepts_before t state b = accepts t true state.positions (before t state b)
+
+-- a dead state: after no bytes from there on does the tree accept
+abbrev pub IsDead : Tree → State → Type 0
+IsDead t state = (bytes : List ℕ) (b : ℕ) → accepts_before t (state_through t state bytes) b ≡ false

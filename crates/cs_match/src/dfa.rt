@@ -6,16 +6,17 @@ ghost use Rattle.cs_match.specs.Automaton.{GrowsOver};
 ghost use Rattle.cs_match.specs.Work.{words, step_work, state_work, byte_work, line_work};
 ghost use Rattle.cs_match.specs.FirstMatch.{AcceptsFirst, AreScanned, HasScanned, scanned_bytes};
 ghost use Rattle.cs_match.specs.Lines.{newline};
+ghost use Rattle.cs_match.specs.Skipping.{AreWholeLines};
 ghost use Rattle.cs_match.specs.Glushkov.{position_count, IsExpanded};
 ghost use Rattle.cs_match.specs.Masks.{IsScratch};
-ghost use Rattle.cs_match.specs.States.{start, successor, accepts_before};
+ghost use Rattle.cs_match.specs.States.{start, successor, accepts_before, IsDead};
 ghost use Rattle.cs_match.specs.LazyDfa.{blank_transition};
 ghost use Rattle.cs_match.specs.declared.state.State.{State};
 ghost use Rattle.cs_match.specs.ConsistentDfa.{IsConsistent, HasState, LeadsIn, tree_in, state_in, accepts_from, successor_in};
 
 use crate::byte_classes::class_of;
 use crate::glushkov::Scratch;
-use crate::interleaved_scan::{FIRST_SPECIAL, MATCH};
+use crate::interleaved_scan::{FIRST_SPECIAL, MATCH, line_end};
 use crate::program::Program;
 use crate::state::State;
 use crate::steps::Steps;
@@ -47,6 +48,8 @@ pub(crate) struct StateCache {
     pub(crate) hashes: [u8; 256],
     /// The number of cached states.
     pub(crate) used: usize,
+    /// The number of a cached dead state, or `UNKNOWN`: no rest of the line is accepted from it.
+    pub(crate) dead: u16,
     /// The state under construction.
     pub(crate) scratch: State,
     /// The memory of the steps.
@@ -179,6 +182,7 @@ impl<'a> LazyDfa<'a> {
             cached,
             hashes,
             used: 1,
+            dead: UNKNOWN,
             scratch,
             memory,
         };
@@ -240,6 +244,7 @@ impl<'a> LazyDfa<'a> {
         steps: &mut Steps<L>,
     ) -> Option<usize>
         requires right { IsConsistent self.old }
+        requires whole { AreWholeLines text.now }
         ensures found { MatchOption result
             (AreScanned (tree_in self.old) text.now (length text.now))
             (AcceptsFirst (tree_in self.old) text.now) }
@@ -258,6 +263,11 @@ impl<'a> LazyDfa<'a> {
             if known.to == text.len() {
                 return None;
             }
+            if known.number == self.states.dead {
+                to = line_end(text, known.to, steps) + 1;
+                number = 0;
+                continue 'scan;
+            }
             number = self.next(known.number, text[known.to], steps);
             if number == MATCH {
                 return Some(known.to);
@@ -267,8 +277,8 @@ impl<'a> LazyDfa<'a> {
         None
     }
 
-    /// Scans up to the first byte whose transition is special. The column of a byte does not depend on the state, so
-    /// that a step waits for one load alone.
+    /// Scans up to the first byte whose transition is special, or that is reached in the dead state. The column of a
+    /// byte does not depend on the state, so that a step waits for one load alone.
     #[inline(always)]
     fn scan_known(&self, text: &[u8], from: Scanned) -> Scanned
         requires right { IsConsistent self.now }
@@ -277,8 +287,12 @@ impl<'a> LazyDfa<'a> {
         ensures scanned { HasScanned self.now text.now result.to result.number }
     {
         let transitions = &self.states.transitions[..];
+        let dead = self.states.dead;
         let mut number = from.number;
         for to in from.to..text.len() {
+            if number == dead {
+                return Scanned { to, number };
+            }
             let column = &transitions[text[to] as usize..];
             let next = column[number as usize];
             if next >= FIRST_SPECIAL {
@@ -355,11 +369,23 @@ impl<'a> LazyDfa<'a> {
         if self.states.used == MOST_STATES {
             // `from` is no longer cached, so its transition is not stored.
             self.empty(steps);
-            return self.add(hash, steps);
+            return self.add(hash, false, steps);
         }
-        let next = self.add(hash, steps);
+        let is_dead = self.is_dead(steps);
+        let next = self.add(hash, is_dead, steps);
         self.put(from, byte, next, steps);
         next
+    }
+
+    /// Whether the state under construction is known to be dead: each match begins at the start of the line, and no
+    /// position is in the set.
+    fn is_dead<L: Ledger>(&self, steps: &mut Steps<L>) -> bool
+        requires right { IsConsistent self.now }
+        requires later { self.now.states.scratch.first ≡ false }
+        ensures dead { result ≡ true → IsDead (tree_in self.now) self.now.states.scratch }
+        ensures work { steps.new ≤ steps.old + words (position_count (tree_in self.now)) }
+    {
+        self.program.is_anchored() && self.states.scratch.is_empty(steps)
     }
 
     /// Stores a transition for all bytes of the class.
@@ -380,9 +406,10 @@ impl<'a> LazyDfa<'a> {
     }
 
     /// Caches the state under construction, and returns its number.
-    fn add<L: Ledger>(&mut self, hash: u8, steps: &mut Steps<L>) -> u16
+    fn add<L: Ledger>(&mut self, hash: u8, is_dead: bool, steps: &mut Steps<L>) -> u16
         requires right { IsConsistent self.old }
         requires room { self.old.states.used < 254 }
+        requires dead { is_dead ≡ true → IsDead (tree_in self.old) self.old.states.scratch }
         ensures number { HasState self.new result self.old.states.scratch }
         ensures kept { (number : ℕ) (state : State) → HasState self.old number state
             → HasState self.new number state }
@@ -395,7 +422,11 @@ impl<'a> LazyDfa<'a> {
         put_state(&mut self.states.cached, slot, &self.states.scratch, steps);
         self.states.hashes[slot] = hash;
         self.states.used = slot + 1;
-        slot as u16 * 256
+        let number = slot as u16 * 256;
+        if is_dead {
+            self.states.dead = number;
+        }
+        number
     }
 
     /// Clears the cache except for the start state.
@@ -410,5 +441,6 @@ impl<'a> LazyDfa<'a> {
         steps.add(self.states.transitions.len());
         reset(&mut self.states.transitions);
         self.states.used = 1;
+        self.states.dead = UNKNOWN;
     }
 }

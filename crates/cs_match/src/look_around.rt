@@ -4,6 +4,7 @@ ghost use Rattle.cs_syntax.specs.Matching.{is_word};
 ghost use Rattle.cs_syntax.specs.Node.{tree_of};
 ghost use Rattle.cs_syntax.specs.NodeList.{trees_of};
 ghost use Rattle.cs_match.specs.LookBehind.{look_behind, look_behind_of, either};
+ghost use Rattle.cs_match.specs.Anchored.{is_anchored, begins_anchored, are_anchored};
 
 use cs_syntax::Node;
 
@@ -95,4 +96,40 @@ fn look_behind_of(parts: &[Node]) -> LookBehind
         bits = bits.or(look_behind(part));
     }
     bits
+}
+
+/// Whether each match begins at the start of the line.
+#[cycle(is_anchored)]
+pub(crate) fn is_anchored(node: &Node) -> bool
+    ensures { result ≡ is_anchored (tree_of node.now) }
+{
+    match node {
+        Node::Cat(parts) => begins_anchored(parts),
+        Node::Alt(parts) => are_anchored(parts),
+        Node::Rep(x, least, _) => *least > 0 && is_anchored(x),
+        Node::LineStart => true,
+        _ => false,
+    }
+}
+
+#[cycle(is_anchored)]
+fn begins_anchored(parts: &[Node]) -> bool
+    ensures { result ≡ begins_anchored (trees_of parts.now) }
+{
+    let [first, ..] = parts else {
+        return false;
+    };
+    is_anchored(first)
+}
+
+#[cycle(is_anchored)]
+fn are_anchored(parts: &[Node]) -> bool
+    ensures { result ≡ are_anchored (trees_of parts.now) }
+{
+    for part in parts {
+        if !is_anchored(part) {
+            return false;
+        }
+    }
+    true
 }

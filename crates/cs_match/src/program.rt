@@ -5,6 +5,7 @@ ghost use Rattle.cs_match.specs.SameLines.{MatchSameLines};
 ghost use Rattle.cs_match.specs.Glushkov.{position_count, repeats, char_step_of, IsExpanded};
 ghost use Rattle.cs_prefilter.specs.WordAt.{IsPrefilterOf};
 ghost use Rattle.cs_match.specs.LookBehind.{look_behind};
+ghost use Rattle.cs_match.specs.Anchored.{is_anchored};
 ghost use Rattle.cs_match.specs.ByteClasses.{AreClasses};
 ghost use Rattle.cs_match.specs.Parts.{HaveSameShape, shape_of, size_of};
 ghost use Rattle.cs_match.specs.Entered.{position_list};
@@ -13,7 +14,7 @@ ghost use Rattle.cs_match.specs.Size.{nodes, FitsWeight};
 use crate::byte_classes::byte_classes;
 use crate::expand::expand;
 use crate::glushkov::count_repeats;
-use crate::look_around::{LookBehind, look_behind};
+use crate::look_around::{LookBehind, is_anchored, look_behind};
 use crate::parts::{Part, part_of};
 use crate::position::{Position, add_positions};
 use cs_prefilter::Prefilter;
@@ -34,6 +35,8 @@ pub struct Program {
     repeats: usize,
     /// The look-behind bits that the tree reads.
     look_behind: LookBehind,
+    /// Each match begins at the start of the line.
+    is_anchored: bool,
     /// The flags of the bytes at which a class begins.
     byte_classes: [u8; 256],
     /// The cuts of the sets of characters.
@@ -59,6 +62,7 @@ impl Model for Program {
     ghost use Rattle.cs_match.specs.Parts.{HaveSameShape, shape_of, size_of};
     ghost use Rattle.cs_match.specs.Size.{nodes};
     ghost use Rattle.cs_match.specs.Entered.{position_list};
+    ghost use Rattle.cs_match.specs.Anchored.{IsAnchorFlag};
 
     ghost view = { λ program. tree_of program.root };
 
@@ -68,7 +72,8 @@ impl Model for Program {
         × (size_of program.part ≤ nodes (tree_of program.root))
         × (program.positions.items ≡ position_list (tree_of program.root))
         × AreClasses (tree_of program.root) program.byte_classes
-        × AreCutsOf (tree_of program.root) program.cuts };
+        × AreCutsOf (tree_of program.root) program.cuts
+        × IsAnchorFlag (tree_of program.root) program.is_anchored };
 }
 
 impl Program {
@@ -81,6 +86,7 @@ impl Program {
         let root = expand(alloc, pattern.tree())?;
         let repeats = count_repeats(&root);
         let look_behind = look_behind(&root);
+        let is_anchored = is_anchored(&root);
         let byte_classes = byte_classes(&root, look_behind);
         let cuts = Cuts::of_tree(alloc, &root)?;
         let prefilter = Prefilter::of(alloc, &root)?;
@@ -93,6 +99,7 @@ impl Program {
             positions,
             repeats,
             look_behind,
+            is_anchored,
             byte_classes,
             cuts,
             prefilter,
@@ -128,6 +135,13 @@ impl Program {
         ensures { result ≡ look_behind self.now }
     {
         self.look_behind
+    }
+
+    /// Whether each match begins at the start of the line.
+    pub(crate) fn is_anchored(&self) -> bool
+        ensures { result ≡ is_anchored self.now }
+    {
+        self.is_anchored
     }
 
     /// The flags of the bytes at which a class begins.

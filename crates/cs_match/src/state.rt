@@ -1,5 +1,5 @@
 // States of the DFA.
-ghost use Rattle.std.specs.Prelude.{◌≡◌, ◌+◌, ◌*◌, ◌≤◌, ◌↔◌, IfOk, IsTrue, length, true, false};
+ghost use Rattle.std.specs.Prelude.{◌≡◌, ◌+◌, ◌*◌, ◌≤◌, ◌↔◌, IfOk, IsTrue, length, replicate, true, false};
 ghost use Rattle.cs_syntax.specs.Matching.{HasMatch};
 ghost use Rattle.cs_match.specs.Glushkov.{position_count, accepts, IsExpanded};
 ghost use Rattle.cs_match.specs.Masks.{IsScratch};
@@ -80,6 +80,16 @@ impl State {
             && self.word == other.word
             && self.unfinished == other.unfinished
             && self.positions.is_same(&other.positions)
+    }
+
+    /// Whether the state has no positions, and no character is unfinished.
+    pub(crate) fn is_empty<L: Ledger>(&self, steps: &mut Steps<L>) -> bool
+        ensures none { result ≡ true
+            → self.now.positions ≡ replicate (length self.now.positions) false }
+        ensures cost { steps.new ≡ steps.old + words (length self.now.positions) }
+    {
+        steps.add(self.positions.len().div_ceil(64));
+        self.unfinished == Unfinished::none() && !self.positions.meets(0, &self.positions)
     }
 
     /// A hash of the state.

@@ -1,33 +1,63 @@
-use Rattle.std.proofs.Common.{◌≡◌, ◌+◌, ◌∙◌, List, length, set, ap, sym, subst}
+use Rattle.std.proofs.Common.{◌≡◌, ℕ, refl, ◌+◌, ◌*◌, ◌<◌, ◌∙◌, List, length, set, ap, sym, subst}
 use Rattle.std.proofs.Math.ListN.{length-set}
 use Rattle.std.proofs.lemmas.List.{with_items_is}
+use Rattle.cs_match.specs.declared.dfa.LazyDfa.{LazyDfa}
 use Rattle.cs_match.specs.declared.state.State.{State}
-use Rattle.cs_match.specs.LazyDfa.{AreStates, AreTransitions}
-use Rattle.cs_match.specs.ConsistentDfa.{tree_in}
+use Rattle.cs_match.specs.LazyDfa.{AreStates, AreTransitions, IsDeadNumber, present}
+use Rattle.cs_match.specs.ConsistentDfa.{IsConsistent, tree_in}
+use Rattle.cs_match.specs.States.{IsDead}
 use Rattle.cs_match.specs.Work.{words}
-use Rattle.cs_match.proofs.TransitionLemmas.{added_states, added_transitions}
+use Rattle.cs_match.proofs.TransitionLemmas.{added_states, added_transitions, kept_dead, added_number}
 use Rattle.cs_match.proofs.dfa.LazyDfa.add.Goals as goal
 
-pub returns-clause-right : goal.returns-clause-right
-returns-clause-right g c =
+-- the state under construction is cached, and the dead state is one of those before or this one
+module _ (s : LazyDfa) (given : IsConsistent s) (room : s.states.used < 254) (cached : List State) (is : cached ≡ set s.states.cached.items s.states.used s.states.scratch) where
+  states : AreStates (tree_in s) cached (s.states.used + 1)
+  states = subst (λ (xs : List State). AreStates (tree_in s) xs (s.states.used + 1)) (sym is) (added_states (tree_in s) s.states.cached.items s.states.used s.states.scratch room given.cached given.room)
+
+  transitions : AreTransitions (tree_in s) cached (s.states.used + 1) s.states.transitions.items
+  transitions = subst (λ (xs : List State). AreTransitions (tree_in s) xs (s.states.used + 1) s.states.transitions.items) (sym is) (added_transitions (tree_in s) s.states.cached.items s.states.used s.states.scratch room given.cached s.states.transitions.items given.transitions)
+
+  same_dead : IsDeadNumber (tree_in s) cached (s.states.used + 1) s.states.dead
+  same_dead = subst (λ (xs : List State). IsDeadNumber (tree_in s) xs (s.states.used + 1) s.states.dead) (sym is) (kept_dead (tree_in s) s.states.cached.items s.states.used s.states.scratch room given.cached s.states.dead given.dead)
+
+  new_dead : (number : ℕ) → number ≡ s.states.used * 256 → IsDead (tree_in s) s.states.scratch → IsDeadNumber (tree_in s) cached (s.states.used + 1) number
+  new_dead number e dead = subst (λ (xs : List State). IsDeadNumber (tree_in s) xs (s.states.used + 1) number) (sym is) (present s.states.scratch (added_number (tree_in s) s.states.cached.items s.states.used s.states.scratch room given.cached number e) dead)
+
+pub returns-then-is_dead-clause-right : goal.returns-then-is_dead-clause-right
+returns-then-is_dead-clause-right g c =
     let s = c.args.self.now in
-    let t = tree_in s in
     let given = c.requires.right in
-    let put : c.put_state.new.cached ≡ set s.states.cached.items s.states.used s.states.scratch =
-    c.put_state.ensures.put ∙ ap (λ xs. set xs s.states.used s.states.scratch) c.deref_mut.ensures.value in
-    let size = ap length c.put_state.ensures.put ∙ length-set c.deref_mut.result.now s.states.used s.states.scratch
-    ∙ c.deref_mut.ensures.len in
-    let is = sym (with_items_is s.states.cached c.put_state.new.cached size ∙ put) in
+    let put : c.put_state.new.cached ≡ set s.states.cached.items s.states.used s.states.scratch = c.put_state.ensures.put ∙ ap (λ xs. set xs s.states.used s.states.scratch) c.deref_mut.ensures.value in
+    let size = ap length c.put_state.ensures.put ∙ length-set c.deref_mut.result.now s.states.used s.states.scratch ∙ c.deref_mut.ensures.len in
+    let is = with_items_is s.states.cached c.put_state.new.cached size ∙ put in
     record {
       expanded = given.expanded;
-      cached = subst (λ (cached : List State). AreStates t cached (s.states.used + 1)) is
-          (added_states t s.states.cached.items s.states.used s.states.scratch c.requires.room given.cached given.room);
-      transitions = subst (λ (cached : List State). AreTransitions t cached (s.states.used + 1) s.states.transitions.items) is
-          (added_transitions t s.states.cached.items s.states.used s.states.scratch c.requires.room given.cached
-          s.states.transitions.items given.transitions);
+      cached = states s given c.requires.room _ is;
+      transitions = transitions s given c.requires.room _ is;
+      dead = new_dead s given c.requires.room _ is (s.states.used * 256) refl (c.requires.dead c.if-is_dead.true);
       room = given.room;
       memory = given.memory;
     }
 
-pub returns-clause-work : goal.returns-clause-work
-returns-clause-work g c = c.put_state.ensures.cost ∙ ap (λ n. c.args.steps.now + words n) c.requires.right.room
+pub returns-else-is_dead-clause-right : goal.returns-else-is_dead-clause-right
+returns-else-is_dead-clause-right g c =
+    let s = c.args.self.now in
+    let given = c.requires.right in
+    let put : c.put_state.new.cached ≡ set s.states.cached.items s.states.used s.states.scratch = c.put_state.ensures.put ∙ ap (λ xs. set xs s.states.used s.states.scratch) c.deref_mut.ensures.value in
+    let size = ap length c.put_state.ensures.put ∙ length-set c.deref_mut.result.now s.states.used s.states.scratch ∙ c.deref_mut.ensures.len in
+    let is = with_items_is s.states.cached c.put_state.new.cached size ∙ put in
+    record {
+      expanded = given.expanded;
+      cached = states s given c.requires.room _ is;
+      transitions = transitions s given c.requires.room _ is;
+      dead = same_dead s given c.requires.room _ is;
+      room = given.room;
+      memory = given.memory;
+    }
+
+pub returns-then-is_dead-clause-work : goal.returns-then-is_dead-clause-work
+returns-then-is_dead-clause-work g c = c.put_state.ensures.cost ∙ ap (λ n. c.args.steps.now + words n) c.requires.right.room
+
+pub returns-else-is_dead-clause-work : goal.returns-else-is_dead-clause-work
+returns-else-is_dead-clause-work g c = c.put_state.ensures.cost ∙ ap (λ n. c.args.steps.now + words n) c.requires.right.room

@@ -1,6 +1,6 @@
-use Rattle.std.proofs.Common.{◌∙◌, length, ap, sym, subst, arith}
+use Rattle.std.proofs.Common.{◌∙◌, length, refl, ap, sym, subst, arith}
 use Rattle.std.proofs.lemmas.List.{with_items_is}
-use Rattle.cs_match.specs.LazyDfa.{AreTransitions}
+use Rattle.cs_match.specs.LazyDfa.{AreTransitions, missing}
 use Rattle.cs_match.specs.ConsistentDfa.{tree_in}
 use Rattle.cs_match.proofs.TransitionLemmas.{blank_transitions}
 use Rattle.cs_match.proofs.dfa.LazyDfa.empty.Goals as goal
@@ -23,6 +23,7 @@ returns-clause-right g c =
           (sym (with_items_is s.states.transitions blank (c.reset.ensures.length ∙ c.deref_mut.ensures.len)))
           (blank_transitions (tree_in s) s.states.cached.items 1 blank
           (c.reset.ensures.length ∙ ap length c.deref_mut.ensures.value ∙ given.transitions.all) c.reset.ensures.blank);
+      dead = missing refl;
       room = given.room;
       memory = given.memory;
     }

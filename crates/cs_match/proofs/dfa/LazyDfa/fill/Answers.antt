@@ -11,6 +11,19 @@ put-requires-clause-right g c =
       expanded = c.requires.right.expanded;
       cached = c.requires.right.cached;
       transitions = c.requires.right.transitions;
+      dead = c.requires.right.dead;
+      room = ap (λ (n : State). length n.positions) c.step_from.ensures.moved ∙ length-successor (tree_in s) c.index.result.now c.args.byte;
+      memory = c.step_from.ensures.memory;
+    }
+
+pub put-requires-then-byte-eq10-clause-right : goal.put-requires-then-byte-eq10-clause-right
+put-requires-then-byte-eq10-clause-right g c =
+    let s = c.args.self.now in
+    record {
+      expanded = c.requires.right.expanded;
+      cached = c.requires.right.cached;
+      transitions = c.requires.right.transitions;
+      dead = c.requires.right.dead;
       room = ap (λ (n : State). length n.positions) c.step_from.ensures.moved ∙ length-successor (tree_in s) c.index.result.now c.args.byte;
       memory = c.step_from.ensures.memory;
     }
@@ -22,6 +35,7 @@ next_number-requires-clause-right g c =
       expanded = c.requires.right.expanded;
       cached = c.requires.right.cached;
       transitions = c.requires.right.transitions;
+      dead = c.requires.right.dead;
       room = ap (λ (n : State). length n.positions) c.step_from.ensures.moved ∙ length-successor (tree_in s) c.index.result.now c.args.byte;
       memory = c.step_from.ensures.memory;
     }

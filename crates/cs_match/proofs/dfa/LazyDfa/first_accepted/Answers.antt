@@ -5,9 +5,11 @@ use Rattle.cs_match.specs.declared.state.State.{State}
 use Rattle.cs_match.specs.ConsistentDfa.{tree_in, state_in}
 use Rattle.cs_match.specs.FirstMatch.{AreScanned}
 use Rattle.cs_match.specs.LastPart.{last_part}
-use Rattle.cs_match.specs.LazyDfa.{IsStateNumber}
+use Rattle.cs_match.specs.LazyDfa.{IsStateNumber, IsDeadNumber}
 use Rattle.cs_match.specs.Work.{byte_work}
 use Rattle.cs_match.specs.States.{state, successor, accepts_before}
+use Rattle.cs_match.proofs.DeadLemmas.{dead_state, dead_line}
+use Rattle.cs_match.proofs.WholeLineLemmas.{whole_drop}
 use Rattle.cs_match.proofs.FirstMatchLemmas.{scanned_none, scanned_on, state_on}
 use Rattle.cs_match.proofs.PositionCountLemmas.{scaled}
 use Rattle.cs_match.proofs.SearchWorkLemmas.{walked}
@@ -71,6 +73,39 @@ scan-preserved g c =
         at = subst (λ (x : State). IsStateNumber (tree_in new) new.states.cached.items new.states.used c.next-number.result x)
             (ap (λ (u : Tree). successor u n b) same ∙ ap (λ x. successor t x b) is ∙ state_on t text i lt
             ∙ ap (λ (u : Tree). state u (last_part (take (i + 1) text))) (sym same)) next.1;
+      };
+    }
+
+pub line_end-to-requires-clause-within : goal.line_end-to-requires-clause-within
+line_end-to-requires-clause-within g c =
+    let i = c.scan_known-known.result.to in
+    before_end i (length c.args.text.now) c.scan_known-known.ensures.scanned.within c.if-known-text.false
+
+pub line_end-to-requires-clause-whole : goal.line_end-to-requires-clause-whole
+line_end-to-requires-clause-whole g c = whole_drop c.scan_known-known.result.to c.args.text.now c.requires.whole
+
+pub scan-preserved-then-known-self : goal.scan-preserved-then-known-self
+scan-preserved-then-known-self g c =
+    let s = c.scan.self in
+    let t = tree_in s in
+    let text = c.args.text.now in
+    let i = c.scan_known-known.result.to in
+    let end = c.line_end-to.result in
+    let given = c.scan.invariant in
+    let known = c.scan_known-known.ensures in
+    let line = c.line_end-to.ensures in
+    let number = subst (IsDeadNumber t s.states.cached.items s.states.used) (sym c.if-known-self.true) given.right.dead in
+    let dead = dead_state t s.states.cached.items s.states.used c.scan_known-known.result.number (state t (last_part (take i text))) given.right.cached.bound number known.scanned.at in
+    let next = dead_line t given.right.expanded text i end line.low line.high line.part line.newline known.scanned.scanned dead in
+    record {
+      work = omega (arith, given.work, c.add.ensures, line.work, walked c.scan.to (end + 1) (byte_work (tree_in c.args.self.now)) (omega (arith, known.low, line.low)) (omega arith));
+      right = given.right;
+      same = given.same;
+      states = grows_on c.scan.to 0 (end + 1) _ _ _ given.states (grows_none 0 _ _ refl) (omega (arith, known.low, line.low));
+      scanned = record {
+        within = omega (arith, line.high);
+        scanned = next.0;
+        at = record { whole = refl; in_use = omega (arith, given.right.cached.some); same = given.right.cached.first ∙ next.1 };
       };
     }
 

@@ -1,8 +1,15 @@
-use Rattle.std.proofs.Common.{subst}
+use Rattle.std.proofs.Common.{subst, ◌≡◌, ◌∙◌, false, refl, ap}
+use Rattle.std.proofs.lemmas.Bool.{ne_eqb}
 use Rattle.cs_match.proofs.TransitionLemmas.{leads_next}
 use Rattle.cs_match.specs.declared.state.State.{State}
-use Rattle.cs_match.specs.ConsistentDfa.{LeadsIn, tree_in, state_in}
+use Rattle.cs_match.specs.ConsistentDfa.{LeadsIn, tree_in, state_in, successor_in}
 use Rattle.cs_match.proofs.dfa.LazyDfa.next_number.Goals as goal
+
+pub is_dead-is_dead-requires-clause-later : goal.is_dead-is_dead-requires-clause-later
+is_dead-is_dead-requires-clause-later g c =
+    let old = c.args.self.now in
+    let later : (successor_in old c.args.from c.args.byte).first ≡ false = rw (ne_eqb c.args.byte 10 c.requires.within) refl in
+    ap (λ (n : State). n.first) c.requires.scratch ∙ later
 
 pub put-requires-2-clause-leads : goal.put-requires-2-clause-leads
 put-requires-2-clause-leads g c =

@@ -44,6 +44,7 @@ returns-clause-right g c =
           index (λ k lt. put.before k lt ∙ same k))
           (subst (λ (n : ℕ). (k : ℕ) → n + high ≤ k → slice_index stored k ≡ slice_index s.states.transitions.items k)
           index (λ k le. put.after k le ∙ same k)) (put.length ∙ ap length c.deref_mut.ensures.value));
+      dead = c.requires.right.dead;
       room = c.requires.right.room;
       memory = c.requires.right.memory;
     }

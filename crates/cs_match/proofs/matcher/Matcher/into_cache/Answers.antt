@@ -16,6 +16,7 @@ consistent_with t program same c = record {
   cached = subst (λ tree. dfa.AreStates tree t.states.cached.items t.states.used) (sym same) c.cached;
   transitions = subst (λ tree. dfa.AreTransitions tree t.states.cached.items t.states.used t.states.transitions.items)
       (sym same) c.transitions;
+  dead = subst (λ tree. dfa.IsDeadNumber tree t.states.cached.items t.states.used t.states.dead) (sym same) c.dead;
   room = subst (λ tree. length t.states.scratch.positions ≡ position_count tree) (sym same) c.room;
   memory = subst (λ tree. IsScratch tree t.states.memory) (sym same) c.memory;
 }

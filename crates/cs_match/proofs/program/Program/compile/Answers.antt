@@ -24,6 +24,7 @@ invariant_of-result c = (
       ∙ ap (λ ps. ps ++ position_list (tree_of c.in_ok-root.root)) c.new-positions.ensures.items,
   c.byte_classes-byte_classes.ensures,
   c.in_ok-cuts.ensures,
+  c.is_anchored-is_anchored.ensures,
 )
 
 pub returns-clause-alike : goal.returns-clause-alike

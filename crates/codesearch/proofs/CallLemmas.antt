@@ -51,9 +51,11 @@ same_fault fault found finds =
       ]
     ]
 
-pub gives_job : (parsed : Result JobView WordFault) (answer : Result Job WordFault) → IfOk answer (λ job. parsed ≡ Ok (job_view job)) → FindsFault parsed answer → GivesJob parsed answer
+pub gives_job : (parsed : Result JobView WordFault) (answer : Result Job WordFault) →
+    IfOk answer (λ job. parsed ≡ Ok (job_view job)) → FindsFault parsed answer → GivesJob parsed answer
 gives_job (Ok job) (Ok found) is finds = let e = is in cc
-gives_job (Ok job) (Err fault) is finds = elim (is_memory fault) [ inl memory ↦ memory | inr other ↦ absurd (let e = (finds fault other).0 refl in cc) ]
+gives_job (Ok job) (Err fault) is finds =
+    elim (is_memory fault) [ inl memory ↦ memory | inr other ↦ absurd (let e = (finds fault other).0 refl in cc) ]
 gives_job (Err fault) (Ok found) is finds = absurd (let e = is in cc)
 gives_job (Err fault) (Err found) is finds = same_fault fault found finds
 
@@ -63,33 +65,51 @@ pub meant : (parsed : Result JobView WordFault) (job : Job) → GivesJob parsed 
 meant (Ok view) job gives = ap Ok (sym gives)
 meant (Err fault) job gives = absurd (let e = gives in cc)
 
-pub early_line_at : (given : Given) (tool : Tool) (file : IndexFile) → tool_of given ≡ Some tool → given.has_non_text ≡ false → lacks_folder given tool ≡ false → early_line given file ≡ option_or (option_map (reading_line file.name) file.unreadable) (option_or (word_line tool (tool_args given) (meaning given tool)) (option_map (writing_line file.name file.temp) file.unclaimed))
+pub early_line_at : (given : Given) (tool : Tool) (file : IndexFile) → tool_of given ≡ Some tool → given.has_non_text
+    ≡ false → lacks_folder given tool ≡ false → early_line given file
+    ≡ option_or (option_map (reading_line file.name) file.unreadable)
+    (option_or (word_line tool (tool_args given) (meaning given tool))
+    (option_map (writing_line file.name file.temp) file.unclaimed))
 early_line_at given tool file is text folder = rw (is, text, folder) refl
 
 call_means : (call : Call) (job : Job) → IsCall call → call.job ≡ Ok job → meaning call.given.now call.tool ≡ Ok (job_view job)
-call_means call job is job-is = meant (meaning call.given.now call.tool) job (subst (GivesJob (meaning call.given.now call.tool)) job-is is.job)
+call_means call job is job-is = meant (meaning call.given.now call.tool) job
+    (subst (GivesJob (meaning call.given.now call.tool)) job-is is.job)
 
 -- without an error the job is done
-pub runs_job : (call : Call) (job : Job) (file : IndexFile) (IsIndex : Option (List ℕ) → Type 0) (old new : Surroundings) (outcome : Outcome) → IsCall call → call.job ≡ Ok job → file.unreadable ≡ None → file.unclaimed ≡ None → ((index : Option (List ℕ)) → IsIndex index → DoesJob job index old new outcome) → Runs call.given.now file IsIndex old new outcome
+pub runs_job : (call : Call) (job : Job) (file : IndexFile) (IsIndex : Option (List ℕ) → Type 0)
+    (old new : Surroundings) (outcome : Outcome) → IsCall call → call.job ≡ Ok job → file.unreadable ≡ None →
+    file.unclaimed ≡ None → ((index : Option (List ℕ)) → IsIndex index → DoesJob job index old new outcome) →
+    Runs call.given.now file IsIndex old new outcome
 runs_job call job file IsIndex old new outcome is job-is readable claimed does =
     let given = call.given.now in
     let is-meant = call_means call job is job-is in
-    let none : early_line given file ≡ None = early_line_at given call.tool file is.tool is.text is.folder ∙ rw (readable, is-meant, claimed) refl in
+    let none : early_line given file ≡ None = early_line_at given call.tool file is.tool is.text is.folder
+    ∙ rw (readable, is-meant, claimed) refl in
     inl (subst (λ line. RunsAfter line given file IsIndex old new outcome) (sym none) (call.tool, job, is.tool, is-meant, does))
 
 -- an index file that cannot be read ends the program with its line
-pub refuses_reading : (call : Call) (file : IndexFile) (fault : StorageFault) (IsIndex : Option (List ℕ) → Type 0) (old new : Surroundings) (outcome : Outcome) → IsCall call → file.unreadable ≡ Some fault → Refuses outcome (reading_line file.name fault) → IsUntouched old new → Runs call.given.now file IsIndex old new outcome
+pub refuses_reading : (call : Call) (file : IndexFile) (fault : StorageFault) (IsIndex : Option (List ℕ) → Type 0)
+    (old new : Surroundings) (outcome : Outcome) → IsCall call → file.unreadable ≡ Some fault →
+    Refuses outcome (reading_line file.name fault) → IsUntouched old new → Runs call.given.now file IsIndex old new
+    outcome
 refuses_reading call file fault IsIndex old new outcome is unreadable ends untouched =
     let given = call.given.now in
-    let some : early_line given file ≡ Some (reading_line file.name fault) = early_line_at given call.tool file is.tool is.text is.folder ∙ rw (unreadable) refl in
+    let some : early_line given file ≡ Some (reading_line file.name fault) = early_line_at given call.tool file is.tool
+    is.text is.folder ∙ rw (unreadable) refl in
     inl (subst (λ line. RunsAfter line given file IsIndex old new outcome) (sym some) (ends, inl untouched))
 
 -- an index file that cannot be claimed ends the program with its line
-pub refuses_claim : (call : Call) (job : Job) (file : IndexFile) (fault : StorageFault) (IsIndex : Option (List ℕ) → Type 0) (old new : Surroundings) (outcome : Outcome) → IsCall call → call.job ≡ Ok job → file.unreadable ≡ None → file.unclaimed ≡ Some fault → Refuses outcome (writing_line file.name file.temp fault) → IsUntouched old new → Runs call.given.now file IsIndex old new outcome
+pub refuses_claim : (call : Call) (job : Job) (file : IndexFile) (fault : StorageFault)
+    (IsIndex : Option (List ℕ) → Type 0) (old new : Surroundings) (outcome : Outcome) → IsCall call → call.job
+    ≡ Ok job → file.unreadable ≡ None → file.unclaimed ≡ Some fault →
+    Refuses outcome (writing_line file.name file.temp fault) → IsUntouched old new →
+    Runs call.given.now file IsIndex old new outcome
 refuses_claim call job file fault IsIndex old new outcome is job-is readable unclaimed ends untouched =
     let given = call.given.now in
     let is-meant = call_means call job is job-is in
-    let some : early_line given file ≡ Some (writing_line file.name file.temp fault) = early_line_at given call.tool file is.tool is.text is.folder ∙ rw (readable, is-meant, unclaimed) refl in
+    let some : early_line given file ≡ Some (writing_line file.name file.temp fault) =
+    early_line_at given call.tool file is.tool is.text is.folder ∙ rw (readable, is-meant, unclaimed) refl in
     inl (subst (λ line. RunsAfter line given file IsIndex old new outcome) (sym some) (ends, inl untouched))
 
 words_line : (fault : WordFault) (parsed : Result JobView WordFault) → GivesJob parsed (Err fault) → (fault ≡ Memory) ⊎ (parsed ≡ Err fault)
@@ -97,27 +117,44 @@ words_line fault (Ok view) gives = inl gives
 words_line fault (Err found) gives = let same : found ≡ fault = (let e = gives in cc) in inr (ap Err same)
 
 -- an error of the arguments ends the program with its line
-pub refuses_words : (call : Call) (fault : WordFault) (arg : List ℕ) (file : IndexFile) (IsIndex : Option (List ℕ) → Type 0) (old new : Surroundings) (outcome : Outcome) → IsCall call → call.job ≡ Err fault → file.unreadable ≡ None → arg ≡ arg_at fault (map string_bytes call.args.now) → Refuses outcome (line_of call.tool (A_word fault) arg) → IsUntouched old new → Runs call.given.now file IsIndex old new outcome
+pub refuses_words : (call : Call) (fault : WordFault) (arg : List ℕ) (file : IndexFile)
+    (IsIndex : Option (List ℕ) → Type 0) (old new : Surroundings) (outcome : Outcome) → IsCall call → call.job
+    ≡ Err fault → file.unreadable ≡ None → arg ≡ arg_at fault (map string_bytes call.args.now) →
+    Refuses outcome (line_of call.tool (A_word fault) arg) → IsUntouched old new → Runs call.given.now file IsIndex old
+    new outcome
 refuses_words call fault arg file IsIndex old new outcome is job-is readable arg-is refuses untouched =
     let given = call.given.now in
     let parsed = meaning given call.tool in
     let line = line_of call.tool (A_word fault) (arg_at fault (tool_args given)) in
-    let ends : Refuses outcome line = subst (λ text. Refuses outcome (line_of call.tool (A_word fault) text)) (arg-is ∙ ap (arg_at fault) is.args) refuses in
+    let ends : Refuses outcome line = subst (λ text. Refuses outcome (line_of call.tool (A_word fault) text))
+    (arg-is ∙ ap (arg_at fault) is.args) refuses in
     elim (words_line fault parsed (subst (GivesJob parsed) job-is is.job)) [
-      | inl memory ↦ inr (inr (call.tool, subst (λ f. Refuses outcome (line_of call.tool (A_word f) (arg_at f (tool_args given)))) memory ends), untouched)
+      | inl memory ↦ inr (
+        inr (
+          call.tool,
+          subst
+              (λ f. Refuses outcome (line_of call.tool (A_word f) (arg_at f (tool_args given)))) memory ends,
+        ),
+        untouched,
+      )
       | inr failed ↦
-          let some : early_line given file ≡ Some line = early_line_at given call.tool file is.tool is.text is.folder ∙ rw (readable, failed) refl in
+          let some : early_line given file ≡ Some line = early_line_at given call.tool file is.tool is.text is.folder
+          ∙ rw (readable, failed) refl in
           inl (subst (λ some. RunsAfter some given file IsIndex old new outcome) (sym some) (ends, inl untouched))
     ]
 
 -- a read of the index file that fails in the job ends the program with its line
-pub refuses_unread : (call : Call) (file : IndexFile) (IsIndex : Option (List ℕ) → Type 0) (old new : Surroundings) (outcome : Outcome) → IsCall call → file.unreadable ≡ Some Failed → Refuses outcome (reading_line file.name Failed) → IsUnreadIn call.job IsIndex old new → Runs call.given.now file IsIndex old new outcome
+pub refuses_unread : (call : Call) (file : IndexFile) (IsIndex : Option (List ℕ) → Type 0) (old new : Surroundings)
+    (outcome : Outcome) → IsCall call → file.unreadable ≡ Some Failed → Refuses outcome (reading_line file.name Failed)
+    → IsUnreadIn call.job IsIndex old new → Runs call.given.now file IsIndex old new outcome
 refuses_unread call file IsIndex old new outcome is unreadable ends unread =
     let given = call.given.now in
-    let some : early_line given file ≡ Some (reading_line file.name Failed) = early_line_at given call.tool file is.tool is.text is.folder ∙ rw (unreadable) refl in
+    let some : early_line given file ≡ Some (reading_line file.name Failed) = early_line_at given call.tool file is.tool
+    is.text is.folder ∙ rw (unreadable) refl in
     inl (subst (λ line. RunsAfter line given file IsIndex old new outcome) (sym some) (ends, by_job call.job refl unread))
   where
-    by_job : (parsed : Result Job WordFault) → call.job ≡ parsed → IsUnreadIn parsed IsIndex old new → IsUntouched old new ⊎ EndsUnread call.given.now file IsIndex old new
+    by_job : (parsed : Result Job WordFault) → call.job ≡ parsed → IsUnreadIn parsed IsIndex old new →
+        IsUntouched old new ⊎ EndsUnread call.given.now file IsIndex old new
     by_job (Err fault) job-is untouched = inl untouched
     by_job (Ok job) job-is unread = inr (record {
       failed = unreadable;
@@ -129,7 +166,8 @@ refuses_unread call file IsIndex old new outcome is unreadable ends unread =
     })
 
 -- what holds of each index of a set holds of those of a part of it
-unread_over : (job : Job) (P Q : Option (List ℕ) → Type 0) (old new : Surroundings) → ((index : Option (List ℕ)) → Q index → P index) → IsUnreadBy job P old new → IsUnreadBy job Q old new
+unread_over : (job : Job) (P Q : Option (List ℕ) → Type 0) (old new : Surroundings) →
+    ((index : Option (List ℕ)) → Q index → P index) → IsUnreadBy job P old new → IsUnreadBy job Q old new
 unread_over (Index job) P Q old new on unread = (
   record {
     reads = unread.0.reads;
@@ -141,12 +179,15 @@ unread_over (Index job) P Q old new on unread = (
   unread.1,
 )
   where
-    prints_over : UnreadPrints job (tree_of old new) P old.outputs.err new.outputs.err → UnreadPrints job (tree_of old new) Q old.outputs.err new.outputs.err
+    prints_over : UnreadPrints job (tree_of old new) P old.outputs.err new.outputs.err →
+        UnreadPrints job (tree_of old new) Q old.outputs.err new.outputs.err
     prints_over (before silent) = before silent
     prints_over (after paths known prints) = after paths (λ index is. known index (on index is)) prints
 unread_over job P Q old new on unread = unread
 
-ends_over : (given : Given) (file : IndexFile) (P Q : Option (List ℕ) → Type 0) (old new : Surroundings) → ((index : Option (List ℕ)) → Q index → P index) → IsUntouched old new ⊎ EndsUnread given file P old new → IsUntouched old new ⊎ EndsUnread given file Q old new
+ends_over : (given : Given) (file : IndexFile) (P Q : Option (List ℕ) → Type 0) (old new : Surroundings) →
+    ((index : Option (List ℕ)) → Q index → P index) → IsUntouched old new ⊎ EndsUnread given file P old new →
+    IsUntouched old new ⊎ EndsUnread given file Q old new
 ends_over given file P Q old new on (inl untouched) = inl untouched
 ends_over given file P Q old new on (inr ends) = inr (record {
   failed = ends.failed;
@@ -157,11 +198,15 @@ ends_over given file P Q old new on (inr ends) = inr (record {
   unread = unread_over ends.job P Q old new on ends.unread;
 })
 
-runs_after : (line : Option (List ℕ)) (given : Given) (file : IndexFile) (P Q : Option (List ℕ) → Type 0) (old new : Surroundings) (outcome : Outcome) → ((index : Option (List ℕ)) → Q index → P index) → RunsAfter line given file P old new outcome → RunsAfter line given file Q old new outcome
+runs_after : (line : Option (List ℕ)) (given : Given) (file : IndexFile) (P Q : Option (List ℕ) → Type 0)
+    (old new : Surroundings) (outcome : Outcome) → ((index : Option (List ℕ)) → Q index → P index) →
+    RunsAfter line given file P old new outcome → RunsAfter line given file Q old new outcome
 runs_after (Some line) given file P Q old new outcome on ran = (ran.0, ends_over given file P Q old new on ran.1)
 runs_after None given file P Q old new outcome on ran = (ran.0, ran.1, ran.2, ran.3, λ index is. ran.4 index (on index is))
 
-pub runs_over : (given : Given) (file : IndexFile) (P Q : Option (List ℕ) → Type 0) (old new : Surroundings) (outcome : Outcome) → ((index : Option (List ℕ)) → Q index → P index) → Runs given file P old new outcome → Runs given file Q old new outcome
+pub runs_over : (given : Given) (file : IndexFile) (P Q : Option (List ℕ) → Type 0) (old new : Surroundings)
+    (outcome : Outcome) → ((index : Option (List ℕ)) → Q index → P index) → Runs given file P old new outcome →
+    Runs given file Q old new outcome
 runs_over given file P Q old new outcome on (inl ran) = inl (runs_after (early_line given file) given file P Q old new outcome on ran)
 runs_over given file P Q old new outcome on (inr memory) = inr memory
 
@@ -171,7 +216,8 @@ fault_or_ok : (fault : Option WordFault) (job : Result JobView WordFault) (view 
 fault_or_ok None job view is = is
 fault_or_ok (Some fault) job view is = absurd (let e = is in cc)
 
-search_is : (all : ℕ) (items : List OptionItem) (rest : List (List ℕ)) (job : IndexJob) → search_job all items rest ≡ Ok (job_view (Index job)) → ⊥
+search_is : (all : ℕ) (items : List OptionItem) (rest : List (List ℕ)) (job : IndexJob) → search_job all items rest
+    ≡ Ok (job_view (Index job)) → ⊥
 search_is all items [] job is = let e = is in cc
 search_is all items (pattern ∷ []) job is = let e = is in cc
 search_is all items (pattern ∷ extra ∷ more) job is = let e = is in cc
@@ -180,17 +226,25 @@ grep_is : (items : List OptionItem) (rest : List (List ℕ)) (job : IndexJob) �
 grep_is items [] job is = let e = is in cc
 grep_is items (pattern ∷ files) job is = let e = is in cc
 
-index_folder : (tool : Tool) (cwd : List ℕ) (args : List (List ℕ)) (job : IndexJob) → parse_args tool cwd args ≡ Ok (job_view (Index job)) → (tool ≡ Cindex) × (string_bytes job.cwd ≡ cwd)
+index_folder : (tool : Tool) (cwd : List ℕ) (args : List (List ℕ)) (job : IndexJob) → parse_args tool cwd args
+    ≡ Ok (job_view (Index job)) → (tool ≡ Cindex) × (string_bytes job.cwd ≡ cwd)
 unfolding parse_args
 index_folder Cindex cwd args job is = (refl, let e = fault_or_ok (first_fault Cindex (option_items Cindex args)) _ _ is in cc)
-index_folder Csearch cwd args job is = absurd (search_is (length args) (option_items Csearch args) _ job (fault_or_ok (first_fault Csearch (option_items Csearch args)) _ _ is))
-index_folder Cgrep cwd args job is = absurd (grep_is (option_items Cgrep args) _ job (fault_or_ok (first_fault Cgrep (option_items Cgrep args)) _ _ is))
+index_folder Csearch cwd args job is = absurd
+    (search_is (length args) (option_items Csearch args) _ job
+    (fault_or_ok (first_fault Csearch (option_items Csearch args)) _ _ is))
+index_folder Cgrep cwd args job is = absurd
+    (grep_is (option_items Cgrep args) _ job (fault_or_ok (first_fault Cgrep (option_items Cgrep args)) _ _ is))
 
-absolute_if : (b : Bool) (folder : List ℕ) → is_absolute folder ≡ b → is_none (if b then Some folder else None) ≡ false → is_absolute (unwrap_or (if b then Some folder else None) []) ≡ true
+absolute_if : (b : Bool) (folder : List ℕ) → is_absolute folder ≡ b → is_none (if b then Some folder else None)
+    ≡ false → is_absolute (unwrap_or (if b then Some folder else None) []) ≡ true
 absolute_if true folder is some = is
 absolute_if false folder is some = absurd (let e = some in cc)
 
-absolute_at : (folder : Option (List ℕ)) → is_none (option_and_then (λ folder. if is_absolute folder then Some folder else None) folder) ≡ false → is_absolute (unwrap_or (option_and_then (λ folder. if is_absolute folder then Some folder else None) folder) []) ≡ true
+absolute_at : (folder : Option (List ℕ)) →
+    is_none (option_and_then (λ folder. if is_absolute folder then Some folder else None) folder) ≡ false →
+    is_absolute (unwrap_or (option_and_then (λ folder. if is_absolute folder then Some folder else None) folder) [])
+    ≡ true
 absolute_at None some = absurd (let e = some in cc)
 absolute_at (Some folder) some = absolute_if (is_absolute folder) folder refl some
 
@@ -204,8 +258,11 @@ has_folder call (Index job) is job-is =
 has_folder call job is job-is = tt
 
 -- `cgrep` updates no index file
-keeps_at : (tool : Tool) (cwd : List ℕ) (args : List (List ℕ)) (job : Result Job WordFault) → GivesJob (parse_args tool cwd args) job → tool ≡ Cgrep → may_update job ≡ false
-keeps_at tool cwd args (Ok (Index job)) gives grep = absurd (let e = sym (index_folder tool cwd args job (meant (parse_args tool cwd args) (Index job) gives)).0 ∙ grep in cc)
+keeps_at : (tool : Tool) (cwd : List ℕ) (args : List (List ℕ)) (job : Result Job WordFault) →
+    GivesJob (parse_args tool cwd args) job → tool ≡ Cgrep → may_update job ≡ false
+keeps_at tool cwd args (Ok (Index job)) gives grep =
+    absurd (let e = sym (index_folder tool cwd args job (meant (parse_args tool cwd args) (Index job) gives)).0
+    ∙ grep in cc)
 keeps_at tool cwd args answer gives grep = refl
 
 pub grep_keeps : (call : Call) → IsCall call → call.tool ≡ Cgrep → may_update call.job ≡ false
@@ -214,7 +271,8 @@ grep_keeps call is grep = keeps_at call.tool _ _ call.job is.job grep
 -- ---- the index file
 
 -- what holds of each index that a store may have holds of the known one
-pub of_known : (model : Option (List ℕ)) (index : Option (List ℕ)) (Claim : Option (List ℕ) → Type 0) → IsSomeAnd model (λ bytes. index ≡ Some bytes) → IfSome model (λ bytes. Claim (Some bytes)) → Claim index
+pub of_known : (model : Option (List ℕ)) (index : Option (List ℕ)) (Claim : Option (List ℕ) → Type 0) →
+    IsSomeAnd model (λ bytes. index ≡ Some bytes) → IfSome model (λ bytes. Claim (Some bytes)) → Claim index
 of_known None index Claim is claim = absurd is
 of_known (Some bytes) index Claim is claim = subst Claim (sym is) claim
 

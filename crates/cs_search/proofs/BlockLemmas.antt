@@ -13,28 +13,39 @@ use Rattle.cs_match.proofs.WholeLineLemmas.{whole_terminated, whole_append, term
 
 -- a backward search for the last newline of a block whose first `scanned` bytes have none
 module _ (block : List ℕ) (scanned : ℕ) where
-  pub part_searched : HasNoNewline (take scanned block) → Nowhere (Passes (is_byte 10) (take (length block - scanned) (drop scanned block))) 0 (length (take (length block - scanned) (drop scanned block))) → HasNoNewline block
+  pub part_searched : HasNoNewline (take scanned block) →
+      Nowhere (Passes (is_byte 10) (take (length block - scanned) (drop scanned block))) 0
+      (length (take (length block - scanned) (drop scanned block))) → HasNoNewline block
   part_searched prefix h = subst HasNoNewline (take-append-drop scanned block) (HasNoNewline-append _ _ prefix (next_none block scanned h))
 
-  module _ (offset : ℕ) (found : NoneAfter (Passes (is_byte 10) (take (length block - scanned) (drop scanned block))) 0 (length (take (length block - scanned) (drop scanned block))) offset × Passes (is_byte 10) (take (length block - scanned) (drop scanned block)) offset) where
-    last : NoneAfter (Passes (is_byte 10) (drop scanned block)) 0 (length (drop scanned block)) offset × Passes (is_byte 10) (drop scanned block) offset
-    last = subst (λ (hay : List ℕ). NoneAfter (Passes (is_byte 10) hay) 0 (length hay) offset × Passes (is_byte 10) hay offset) (take_rest block scanned) found
+  module _ (offset : ℕ) (found : NoneAfter (Passes (is_byte 10) (take (length block - scanned) (drop scanned block))) 0
+      (length (take (length block - scanned) (drop scanned block))) offset × Passes (is_byte 10)
+      (take (length block - scanned) (drop scanned block)) offset) where
+    last : NoneAfter (Passes (is_byte 10) (drop scanned block)) 0 (length (drop scanned block)) offset × Passes
+        (is_byte 10) (drop scanned block) offset
+    last = subst (λ (hay : List ℕ). NoneAfter (Passes (is_byte 10) hay) 0 (length hay) offset × Passes (is_byte 10) hay
+        offset) (take_rest block scanned) found
 
     pub last_within : scanned + offset < length block
     last_within = omega (arith, last.0.high, length-drop scanned block)
 
     pub whole_last : AreWholeLines (take (scanned + offset + 1) block)
     whole_last =
-        let here : get_or block (scanned + offset) 0 ≡ 10 = sym (get_or-drop scanned block offset 0) ∙ eqb-true (get_or (drop scanned block) offset 0) 10 last.1 in
-        subst AreWholeLines (sym (take_more block (scanned + offset) 0 last_within ∙ ap (λ b. take (scanned + offset) block ++ b ∷ []) here))
+        let here : get_or block (scanned + offset) 0 ≡ 10 = sym (get_or-drop scanned block offset 0)
+        ∙ eqb-true (get_or (drop scanned block) offset 0) 10 last.1 in
+        subst AreWholeLines (sym (take_more block (scanned + offset) 0 last_within
+        ∙ ap (λ b. take (scanned + offset) block ++ b ∷ []) here))
         (whole_terminated (take (scanned + offset) block))
 
     pub part_last : HasNoNewline (drop (scanned + offset + 1) block)
     part_last =
         let size = length-drop (scanned + offset + 1) block in
         HasNoNewline-searched (drop (scanned + offset + 1) block) (λ k low e.
-        let there : get_or (drop (scanned + offset + 1) block) k 0 ≡ get_or (drop scanned block) (offset + 1 + k) 0 = get_or-drop (scanned + offset + 1) block k 0 ∙ ap (λ i. get_or block i 0) (omega arith) ∙ sym (get_or-drop scanned block (offset + 1 + k) 0) in
-        last.0.after (offset + 1 + k) (omega arith) (omega (arith, low, size, length-drop scanned block, last_within)) (subst (λ b. nat_eq b 10 ≡ true) there e))
+        let there : get_or (drop (scanned + offset + 1) block) k 0 ≡ get_or (drop scanned block) (offset + 1 + k) 0 =
+        get_or-drop (scanned + offset + 1) block k 0 ∙ ap (λ i. get_or block i 0) (omega arith)
+        ∙ sym (get_or-drop scanned block (offset + 1 + k) 0) in
+        last.0.after (offset + 1 + k) (omega arith) (omega (arith, low, size, length-drop scanned block, last_within))
+        (subst (λ b. nat_eq b 10 ≡ true) there e))
 
 -- whole lines up to one offset, and on to the next
 module _ (block : List ℕ) (from to : ℕ) (rising : from ≤ to) (before : AreWholeLines (take from block)) where
@@ -43,7 +54,8 @@ module _ (block : List ℕ) (from to : ℕ) (rising : from ≤ to) (before : Are
       let split : to ≡ from + (to - from) = omega arith in
       ap (λ n. take n block) split ∙ take_on from (to - from) block
 
-  pub lines_on : terminated_lines (take to block) ≡ terminated_lines (take from block) ++ terminated_lines (take (to - from) (drop from block))
+  pub lines_on : terminated_lines (take to block) ≡ terminated_lines (take from block) ++ terminated_lines
+      (take (to - from) (drop from block))
   lines_on = ap terminated_lines prefix_is ∙ terminated_lines-whole (take (to - from) (drop from block)) (take from block) before
 
   pub whole_on : AreWholeLines (take (to - from) (drop from block)) → AreWholeLines (take to block)

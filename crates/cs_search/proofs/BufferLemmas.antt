@@ -8,7 +8,8 @@ use Rattle.cs_tree.proofs.GrowsLemmas.{take_on}
 use Rattle.cs_search.specs.Buffer.{GrowsBy, pending_bytes}
 use Rattle.cs_search.specs.declared.buffer.LineBuffer.{LineBuffer}
 
-pub slice_skip : (bytes : List ℕ) (start end n : ℕ) → start + n ≤ end → take (end - (start + n)) (drop (start + n) bytes) ≡ drop n (take (end - start) (drop start bytes))
+pub slice_skip : (bytes : List ℕ) (start end n : ℕ) → start + n ≤ end →
+    take (end - (start + n)) (drop (start + n) bytes) ≡ drop n (take (end - start) (drop start bytes))
 slice_skip bytes start end n h =
     ap (λ r. take (end - (start + n)) r) (sym (drop-drop n start bytes))
     ∙ sym (drop-take n (end - (start + n)) (drop start bytes))
@@ -31,12 +32,14 @@ module _ (bytes more : List ℕ) (start end : ℕ) (rising : start ≤ end) (wit
   pub slice_same : take (end - start) (drop start (take end bytes ++ more)) ≡ take (end - start) (drop start bytes)
   slice_same = ap (λ r. take (end - start) r) slice_prefix ∙ take_at (take (end - start) (drop start bytes)) more (end - start) slice_size
 
-  pub slice_more : (n : ℕ) → take (end + n - start) (drop start (take end bytes ++ more)) ≡ take (end - start) (drop start bytes) ++ take n more
+  pub slice_more : (n : ℕ) → take (end + n - start) (drop start (take end bytes ++ more))
+      ≡ take (end - start) (drop start bytes) ++ take n more
   slice_more n =
       ap (λ i. take i (drop start (take end bytes ++ more))) (omega arith)
       ∙ take_on (end - start) n (drop start (take end bytes ++ more))
       ∙ ap (λ f. f ++ take n (drop (end - start) (drop start (take end bytes ++ more)))) slice_same
-      ∙ ap (λ r. take (end - start) (drop start bytes) ++ take n r) (ap (λ r. drop (end - start) r) slice_prefix ∙ drop_at (take (end - start) (drop start bytes)) more (end - start) slice_size)
+      ∙ ap (λ r. take (end - start) (drop start bytes) ++ take n r) (ap (λ r. drop (end - start) r) slice_prefix
+      ∙ drop_at (take (end - start) (drop start bytes)) more (end - start) slice_size)
 
 -- the bytes that a read appends
 pub GrowsBy-append : (old new more : List ℕ) (n : ℕ) → new ≡ old ++ more → length more ≡ n → GrowsBy old new n
@@ -61,7 +64,8 @@ module _ (buffer : LineBuffer) (bytes : List ℕ) (before : take buffer.end byte
   bytes_are = sym (take-append-drop buffer.end bytes) ∙ ap (λ f. f ++ drop buffer.end bytes) before
 
   -- the pending bytes after a write at their end
-  pub pending_more : (n : ℕ) → take (buffer.end + n - buffer.start) (drop buffer.start bytes) ≡ pending_bytes buffer ++ take n (drop buffer.end bytes)
+  pub pending_more : (n : ℕ) → take (buffer.end + n - buffer.start) (drop buffer.start bytes) ≡ pending_bytes buffer
+      ++ take n (drop buffer.end bytes)
   unfolding pending_bytes
   pending_more n =
       ap (λ l. take (buffer.end + n - buffer.start) (drop buffer.start l)) bytes_are

@@ -17,7 +17,8 @@ use Rattle.cs_trigram.proofs.SetLemmas.{has-filter}
 use Rattle.cs_index.proofs.candidates.Intersection.{has_range}
 use Rattle.cs_search.proofs.SkippedFileLemmas.{lines_known, text_is}
 
-module _ (query : Query) (pattern : Tree) (has_match : List ℕ → Bool) (loses : LosesNoLine query pattern) (decides : Decides has_match pattern) (set : ℕ → Bool) where
+module _ (query : Query) (pattern : Tree) (has_match : List ℕ → Bool) (loses : LosesNoLine query pattern)
+    (decides : Decides has_match pattern) (set : ℕ → Bool) where
   some_line : (ls : List (List ℕ)) → AllByRecursion (HasTrigrams set) ls → list_any has_match ls ≡ true → matches_set query set ≡ true
   some_line [] known found = cc
   some_line (line ∷ ls) known found = elim (or_cases (has_match line) (list_any has_match ls) found) [
@@ -26,9 +27,11 @@ module _ (query : Query) (pattern : Tree) (has_match : List ℕ → Bool) (loses
   ]
 
   -- a text with these trigrams and a matching line
-  pub text_meets : (bytes trigrams : List ℕ) → text_trigrams limits bytes ≡ Some trigrams → has trigrams ≡ set → list_any has_match (lines bytes) ≡ true → matches_set query set ≡ true
+  pub text_meets : (bytes trigrams : List ℕ) → text_trigrams limits bytes ≡ Some trigrams → has trigrams ≡ set →
+      list_any has_match (lines bytes) ≡ true → matches_set query set ≡ true
   text_meets bytes trigrams is same found =
-      some_line (lines bytes) (subst (λ (s : ℕ → Bool). AllByRecursion (HasTrigrams s) (lines bytes)) (ap has (text_is bytes trigrams is).are ∙ same) (lines_known bytes)) found
+      some_line (lines bytes) (subst (λ (s : ℕ → Bool). AllByRecursion (HasTrigrams s) (lines bytes))
+      (ap has (text_is bytes trigrams is).are ∙ same) (lines_known bytes)) found
 
 module _ (query : Query) (pattern : Tree) (parts : Parts) (id : ℕ) (within : id < length parts.names) where
   abbrev set : ℕ → Bool
@@ -38,10 +41,15 @@ module _ (query : Query) (pattern : Tree) (parts : Parts) (id : ℕ) (within : i
   unfolding candidates_of
   candidate = has-filter (name_matches parts query) (range_with_len 0 (length parts.names)) id
 
-  pub with_a_line : (has_match : List ℕ → Bool) (bytes : List ℕ) → LosesNoLine query pattern → Decides has_match pattern → text_trigrams limits bytes ≡ Some (set_at id (lists_in parts)) → list_any has_match (lines bytes) ≡ true → has (candidates_of parts query) id ≡ true
+  pub with_a_line : (has_match : List ℕ → Bool) (bytes : List ℕ) → LosesNoLine query pattern →
+      Decides has_match pattern → text_trigrams limits bytes ≡ Some (set_at id (lists_in parts)) →
+      list_any has_match (lines bytes) ≡ true → has (candidates_of parts query) id ≡ true
   with_a_line has_match bytes loses decides is found =
-      candidate ∙ and_from (has (range_with_len 0 (length parts.names)) id) (name_matches parts query id) (has_range (length parts.names) id within)
+      candidate ∙ and_from (has (range_with_len 0 (length parts.names)) id) (name_matches parts query id)
+      (has_range (length parts.names) id within)
       (text_meets query pattern has_match loses decides set bytes (set_at id (lists_in parts)) is (λ i. set) found)
 
-  pub with_exact_runs : IsSelective query pattern → has (candidates_of parts query) id ≡ true → HasExactRuns (has (set_at id (lists_in parts))) pattern
-  with_exact_runs selective is = selective set (and_parts (has (range_with_len 0 (length parts.names)) id) (name_matches parts query id) (sym candidate ∙ is)).1
+  pub with_exact_runs : IsSelective query pattern → has (candidates_of parts query) id ≡ true →
+      HasExactRuns (has (set_at id (lists_in parts))) pattern
+  with_exact_runs selective is = selective set
+      (and_parts (has (range_with_len 0 (length parts.names)) id) (name_matches parts query id) (sym candidate ∙ is)).1

@@ -31,24 +31,30 @@ use Rattle.cs_search.proofs.PrintedInputLemmas.{PrintsFaults-no}
 use Rattle.cs_args.specs.Faults.{pattern_fault, pattern_fault_at}
 
 module _ (limit : ℕ) (job : GrepJob) (has_match : List ℕ → Bool) (snapshot : Option Snapshot) (input : Option SourceModel) where
-  pub cgrep_standard : job.standard ≡ true → cgrep_printed limit job has_match snapshot input ≡ option_map (input_printed limit Cgrep job.style has_match standard_name) input
+  pub cgrep_standard : job.standard ≡ true → cgrep_printed limit job has_match snapshot input
+      ≡ option_map (input_printed limit Cgrep job.style has_match standard_name) input
   unfolding cgrep_printed
   cgrep_standard e = rw e refl
 
-  pub cgrep_files : job.standard ≡ false → cgrep_printed limit job has_match snapshot input ≡ option_map (λ (s : Snapshot). all_printed (file_printed limit Cgrep job.style has_match s) (map string_bytes job.files.items)) snapshot
+  pub cgrep_files : job.standard ≡ false → cgrep_printed limit job has_match snapshot input
+      ≡ option_map (λ (s : Snapshot). all_printed (file_printed limit Cgrep job.style has_match s)
+      (map string_bytes job.files.items)) snapshot
   unfolding cgrep_printed searched_by_cgrep
   cgrep_files e = rw e refl
 
 -- a pattern with an error
-pattern_refused_at : (text : List ℕ) (fold : Bool) (error : PatternError) (fault : PatternFault) → error.fault ≡ fault → IsParseError text fold error → RefusesPattern text fold (pattern_fault_at fault error)
+pattern_refused_at : (text : List ℕ) (fold : Bool) (error : PatternError) (fault : PatternFault) → error.fault ≡ fault →
+    IsParseError text fold error → RefusesPattern text fold (pattern_fault_at fault error)
 pattern_refused_at text fold error pattern.Memory is refused = (tt, refl)
 pattern_refused_at text fold error fault is refused = ((refused, λ memory. cc), refl)
 
-pub pattern_refused : (text : List ℕ) (fold : Bool) (error : PatternError) → IsParseError text fold error → RefusesPattern text fold (pattern_fault error)
+pub pattern_refused : (text : List ℕ) (fold : Bool) (error : PatternError) → IsParseError text fold error →
+    RefusesPattern text fold (pattern_fault error)
 pattern_refused text fold error refused = pattern_refused_at text fold error error.fault refl refused
 
 -- a search that fails after it began
-pub begun_refused : (A B : Type 0) (text : List ℕ) (fold : Bool) (fault : ToolFault) → IsSearchFault {A = A} (Err fault) → IsAccepted text fold → PatternFirst {A = B} text fold (Err fault)
+pub begun_refused : (A B : Type 0) (text : List ℕ) (fold : Bool) (fault : ToolFault) →
+    IsSearchFault {A = A} (Err fault) → IsAccepted text fold → PatternFirst {A = B} text fold (Err fault)
 begun_refused A B text fold Write only is = is
 begun_refused A B text fold Memory only is = tt
 begun_refused A B text fold fault only is = absurd only
@@ -62,11 +68,14 @@ abbrev status_of : Bool → Status
 status_of matched = cond matched Matched NoMatch
 
 -- both outputs are flushed
-pub PrintsStatus-flushed : (printed : Option Printed) (out now later err err-now err-later : Option SinkModel) (matched : Bool) (status : Status) → Prints printed out now err err-now matched → GrowsFlushed now later [] → GrowsFlushed err-now err-later [] → status ≡ status_of matched → PrintsStatus printed out later err err-later status
+pub PrintsStatus-flushed : (printed : Option Printed) (out now later err err-now err-later : Option SinkModel)
+    (matched : Bool) (status : Status) → Prints printed out now err err-now matched → GrowsFlushed now later [] →
+    GrowsFlushed err-now err-later [] → status ≡ status_of matched → PrintsStatus printed out later err err-later status
 PrintsStatus-flushed None out now later err err-now err-later matched status p flushed flushed-err is = tt
 PrintsStatus-flushed (Some printed) out now later err err-now err-later matched status p flushed flushed-err is = (
   subst (GrowsFlushed out later) (append-nil printed.output) (GrowsFlushed-chain out now later printed.output [] p.0 flushed),
-  subst (GrowsFlushed err err-later) (append-nil printed.errors) (GrowsFlushed-chain err err-now err-later printed.errors [] p.1 flushed-err),
+  subst (GrowsFlushed err err-later) (append-nil printed.errors)
+      (GrowsFlushed-chain err err-now err-later printed.errors [] p.1 flushed-err),
   is ∙ ap status_of p.2,
 )
 
@@ -74,37 +83,53 @@ PrintsStatus-flushed (Some printed) out now later err err-now err-later matched 
 
 module _ (job : GrepJob) (tree tree' input input' : ℕ) where
   module _ (Writes : List ℕ → Type 0) where
-    pub PrintsFaultsOf-standard : job.standard ≡ true → tree' ≡ tree → PrintsFaults Cgrep (standard_name ∷ []) input input' Writes → PrintsFaultsOf job tree tree' input input' Writes
+    pub PrintsFaultsOf-standard : job.standard ≡ true → tree' ≡ tree → PrintsFaults Cgrep (standard_name ∷ []) input
+        input' Writes → PrintsFaultsOf job tree tree' input input' Writes
     PrintsFaultsOf-standard e same faults = rw e (same, faults)
 
-    pub PrintsFaultsOf-files : job.standard ≡ false → input' ≡ input → PrintsFaults Cgrep (map string_bytes job.files.items) tree tree' Writes → PrintsFaultsOf job tree tree' input input' Writes
+    pub PrintsFaultsOf-files : job.standard ≡ false → input' ≡ input →
+        PrintsFaults Cgrep (map string_bytes job.files.items) tree tree' Writes → PrintsFaultsOf job tree tree' input
+        input' Writes
     PrintsFaultsOf-files e same faults = rw e (same, faults)
 
   -- the same for another statement about the lines
-  module _ (Writes Wanted : List ℕ → Type 0) (gives : (tool : Tool) (names : List (List ℕ)) (failed failed' : ℕ) → PrintsFaults tool names failed failed' Writes → PrintsFaults tool names failed failed' Wanted) where
-    as_by : (b : Bool) → job.standard ≡ b → PrintsFaultsOf job tree tree' input input' Writes → PrintsFaultsOf job tree tree' input input' Wanted
-    as_by true e faults = let now = rw e at faults in PrintsFaultsOf-standard Wanted e now.0 (gives Cgrep (standard_name ∷ []) input input' now.1)
-    as_by false e faults = let now = rw e at faults in PrintsFaultsOf-files Wanted e now.0 (gives Cgrep (map string_bytes job.files.items) tree tree' now.1)
+  module _ (Writes Wanted : List ℕ → Type 0) (gives : (tool : Tool) (names : List (List ℕ)) (failed failed' : ℕ) →
+      PrintsFaults tool names failed failed' Writes → PrintsFaults tool names failed failed' Wanted) where
+    as_by : (b : Bool) → job.standard ≡ b → PrintsFaultsOf job tree tree' input input' Writes →
+        PrintsFaultsOf job tree tree' input input' Wanted
+    as_by true e faults = let now = rw e at faults in PrintsFaultsOf-standard Wanted e now.0
+        (gives Cgrep (standard_name ∷ []) input input' now.1)
+    as_by false e faults = let now = rw e at faults in PrintsFaultsOf-files Wanted e now.0
+        (gives Cgrep (map string_bytes job.files.items) tree tree' now.1)
 
     pub PrintsFaultsOf-as : PrintsFaultsOf job tree tree' input input' Writes → PrintsFaultsOf job tree tree' input input' Wanted
     PrintsFaultsOf-as faults = as_by job.standard refl faults
 
-pub PrintsFaultsOf-nothing : {A E : Type 0} (r : Result A E) (fault : E) (job : GrepJob) (tree input : ℕ) (err : Option SinkModel) → r ≡ Err fault → PrintsFaultsOf job tree tree input input (λ lines. EndsAfter lines err err r)
+pub PrintsFaultsOf-nothing : {A E : Type 0} (r : Result A E) (fault : E) (job : GrepJob) (tree input : ℕ)
+    (err : Option SinkModel) → r ≡ Err fault → PrintsFaultsOf job tree tree input input
+    (λ lines. EndsAfter lines err err r)
 PrintsFaultsOf-nothing r fault job tree input err is = by_standard job.standard refl
   where
     by_standard : (b : Bool) → job.standard ≡ b → PrintsFaultsOf job tree tree input input (λ lines. EndsAfter lines err err r)
-    by_standard true e = PrintsFaultsOf-standard job tree tree input input (λ lines. EndsAfter lines err err r) e refl (PrintsFaults-no Cgrep r fault (standard_name ∷ []) input input err err is refl (Grows-same err))
-    by_standard false e = PrintsFaultsOf-files job tree tree input input (λ lines. EndsAfter lines err err r) e refl (PrintsFaults-no Cgrep r fault (map string_bytes job.files.items) tree tree err err is refl (Grows-same err))
+    by_standard true e = PrintsFaultsOf-standard job tree tree input input (λ lines. EndsAfter lines err err r) e refl
+        (PrintsFaults-no Cgrep r fault (standard_name ∷ []) input input err err is refl (Grows-same err))
+    by_standard false e = PrintsFaultsOf-files job tree tree input input (λ lines. EndsAfter lines err err r) e refl
+        (PrintsFaults-no Cgrep r fault (map string_bytes job.files.items) tree tree err err is refl (Grows-same err))
 
 -- a text parses as one tree
 pub read_once : (text : List ℕ) (fold : Bool) (t u : Tree) → ParsesAs text fold t → ParsesAs text fold u → t ≡ u
 read_once text fold t u r s = cc
 
 -- a test that decides a pattern also decides its program
-pub Decides-program : (has_match : List ℕ → Bool) (read compiled wanted : Tree) → ((line : List ℕ) → HasMatch compiled line ↔ HasMatch read line) → read ≡ wanted → Decides has_match wanted → Decides has_match compiled
+pub Decides-program : (has_match : List ℕ → Bool) (read compiled wanted : Tree) →
+    ((line : List ℕ) → HasMatch compiled line ↔ HasMatch read line) → read ≡ wanted → Decides has_match wanted →
+    Decides has_match compiled
 Decides-program has_match read compiled wanted same is decides =
-    λ line. let d = subst (λ (t : Tree). Decides has_match t) (sym is) decides line in (λ h. (same line).1 (d.0 h), λ f. d.1 ((same line).0 f))
+    λ line. let d = subst (λ (t : Tree). Decides has_match t) (sym is) decides line in
+    (λ h. (same line).1 (d.0 h), λ f. d.1 ((same line).0 f))
 
 -- the same for the program of a text
-pub decides_program : (text : List ℕ) (fold : Bool) (program pattern : Tree) (has_match : List ℕ → Bool) → IsProgramOf text fold program → ParsesAs text fold pattern → Decides has_match pattern → Decides has_match program
-decides_program text fold program pattern has_match is reads decides = Decides-program has_match is.0 program pattern is.3 (read_once text fold is.0 pattern is.1 reads) decides
+pub decides_program : (text : List ℕ) (fold : Bool) (program pattern : Tree) (has_match : List ℕ → Bool) →
+    IsProgramOf text fold program → ParsesAs text fold pattern → Decides has_match pattern → Decides has_match program
+decides_program text fold program pattern has_match is reads decides = Decides-program has_match is.0 program pattern
+    is.3 (read_once text fold is.0 pattern is.1 reads) decides

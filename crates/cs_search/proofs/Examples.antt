@@ -30,7 +30,8 @@ listed = record { count = true; list = true; number = false; bare = false }
 numbered : Style
 numbered = record { count = false; list = false; number = true; bare = true }
 
-numbers_without_names : (report {Fault = ReadFault} numbered (codes "/t/p") one (codes "one\ntwo\none\n") None).output ≡ codes "1:one\n3:one\n"
+numbers_without_names : (report {Fault = ReadFault} numbered (codes "/t/p") one (codes "one\ntwo\none\n") None).output
+    ≡ codes "1:one\n3:one\n"
 unfolding one numbered report matches_output matches_from match_line lines digits
 numbers_without_names = refl
 

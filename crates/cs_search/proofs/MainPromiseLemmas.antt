@@ -48,7 +48,8 @@ use Rattle.cs_search.proofs.CsearchLemmas.{names_of_files, names_decided, accept
 
 -- `-brute` loses no line either
 loses : (brute : Bool) (pattern : Tree) (query : Query) → IsQueryOf brute pattern query → LosesNoLine query pattern
-loses true pattern query all = λ line set found has. ap (λ (q : Query). matches_set q set) (all ∙ sym rolls-All) ∙ fold-roll-Query Bool (matches_set_step set) Query-F.All
+loses true pattern query all = λ line set found has. ap (λ (q : Query). matches_set q set) (all ∙ sym rolls-All)
+    ∙ fold-roll-Query Bool (matches_set_step set) Query-F.All
 loses false pattern query right = right.0
 
 -- bytes open as one index
@@ -56,21 +57,32 @@ pub opens_once : (index : Option (List ℕ)) (a b : Parts) → OpensWith index a
 opens_once None a b x y = absurd x
 opens_once (Some bytes) a b x y = decoding_is_unique bytes a b x y
 
-module _ (job : SearchJob) (index : Option (List ℕ)) (has_match keeps : List ℕ → Bool) (query : Query) (index_query : IndexQuery job index query) (tests : DecidesSearch job has_match keeps) (tree : Snapshot) where
+module _ (job : SearchJob) (index : Option (List ℕ)) (has_match keeps : List ℕ → Bool) (query : Query)
+    (index_query : IndexQuery job index query) (tests : DecidesSearch job has_match keeps) (tree : Snapshot) where
   -- the search by the index and the search by cgrep print the same
-  alike : ReadAsIndexed tree (files_read index_query.parts) → all_printed (file_printed max_searched Csearch job.style has_match tree) (filter keeps (names_matching query (files_read index_query.parts))) ≡ searched_by_cgrep max_searched job.style has_match tree (filter keeps index_query.parts.names)
+  alike : ReadAsIndexed tree (files_read index_query.parts) →
+      all_printed (file_printed max_searched Csearch job.style has_match tree)
+      (filter keeps (names_matching query (files_read index_query.parts))) ≡ searched_by_cgrep max_searched job.style
+      has_match tree (filter keeps index_query.parts.names)
   unfolding names_matching searched_by_cgrep
   alike agrees =
-      search_alike job.style has_match keeps tree query tests.pattern (loses job.brute tests.pattern query (index_query.is_right tests.pattern tests.reads)) tests.decides Csearch Cgrep (files_read index_query.parts) agrees
-      ∙ ap (λ (names : List (List ℕ)). all_printed (file_printed max_searched Cgrep job.style has_match tree) (filter keeps names)) (names_of_files 0 index_query.parts.names (lists_in index_query.parts))
+      search_alike job.style has_match keeps tree query tests.pattern
+      (loses job.brute tests.pattern query (index_query.is_right tests.pattern tests.reads)) tests.decides Csearch Cgrep
+      (files_read index_query.parts) agrees
+      ∙ ap (λ (names : List (List ℕ)). all_printed (file_printed max_searched Cgrep job.style has_match tree)
+      (filter keeps names)) (names_of_files 0 index_query.parts.names (lists_in index_query.parts))
 
 -- a required list is damaged
-pub lists_refused : (job : SearchJob) (index : Option (List ℕ)) (plan : Plan) → IsPlan job plan → (parts : Parts) → OpensWith index parts → (fault : IndexFault) → IsListFault (is_answerable parts plan.query) fault → RefusesPlan job index (index_fault fault)
+pub lists_refused : (job : SearchJob) (index : Option (List ℕ)) (plan : Plan) → IsPlan job plan → (parts : Parts) →
+    OpensWith index parts → (fault : IndexFault) → IsListFault (is_answerable parts plan.query) fault →
+    RefusesPlan job index (index_fault fault)
 lists_refused job index plan is parts opens fault refused =
-    lists_fourth job index plan.query fault (accepted_plan job plan is) (record { parts = parts; opens = opens; is_right = is.query }) refused
+    lists_fourth job index plan.query fault (accepted_plan job plan is)
+    (record { parts = parts; opens = opens; is_right = is.query }) refused
 
 -- a plan, and the names that it selects
-module _ (job : SearchJob) (index : Option (List ℕ)) (plan : Plan) (is : IsPlan job plan) (texts : List (String Global)) (selected : AreSelected plan index texts) where
+module _ (job : SearchJob) (index : Option (List ℕ)) (plan : Plan) (is : IsPlan job plan) (texts : List (String Global))
+    (selected : AreSelected plan index texts) where
   abbrev index_query : IndexQuery job index plan.query
   index_query = record { parts = selected.parts; opens = selected.opens; is_right = is.query }
 
@@ -80,42 +92,59 @@ module _ (job : SearchJob) (index : Option (List ℕ)) (plan : Plan) (is : IsPla
 
   -- what is printed for them
   pub searched : (tree : Option Snapshot) (Prints : Option Printed → Type 0) →
-      ((has_match : List ℕ → Bool) → Decides has_match plan.program → Prints (option_map (λ (s : Snapshot). all_printed (file_printed max_searched Csearch job.style has_match s) (map string_bytes texts)) tree)) →
+      ((has_match : List ℕ → Bool) → Decides has_match plan.program →
+      Prints (option_map (λ (s : Snapshot). all_printed (file_printed max_searched Csearch job.style has_match s)
+      (map string_bytes texts)) tree)) →
       PrintsCandidates job index plan.query tree Prints
   searched tree Prints prints = (
     index_query,
     selected.whole,
     λ has_match keeps decides_search.
-        let decides = decides_program (string_bytes job.pattern) job.fold plan.program decides_search.pattern has_match is.program decides_search.reads decides_search.decides in
+        let decides = decides_program (string_bytes job.pattern) job.fold plan.program decides_search.pattern has_match
+        is.program decides_search.reads decides_search.decides in
         let kept = names_decided (file_text job) plan.file keeps is.file decides_search.names in
-        subst Prints (chosen max_searched job.style has_match keeps selected.parts plan.query tree (map string_bytes texts) (selected.kept keeps kept)) (prints has_match decides),
+        subst Prints (chosen max_searched job.style has_match keeps selected.parts plan.query tree
+        (map string_bytes texts) (selected.kept keeps kept)) (prints has_match decides),
   )
 
   -- faults of the selected names are faults of indexed names
-  pub faults_chosen : MatchingIsDecidable → {A E : Type 0} (r : Result A E) (opened : Parts) (failed failed' : ℕ) (err err' : Option SinkModel) → OpensWith index opened →
-      PrintsAllFaults Csearch (map string_bytes texts) failed failed' err err' r → PrintsAllFaults Csearch opened.names failed failed' err err' r
+  pub faults_chosen : MatchingIsDecidable → {A E : Type 0} (r : Result A E) (opened : Parts) (failed failed' : ℕ)
+      (err err' : Option SinkModel) → OpensWith index opened →
+      PrintsAllFaults Csearch (map string_bytes texts) failed failed' err err' r → PrintsAllFaults Csearch opened.names
+      failed failed' err err' r
   faults_chosen decidable r opened failed failed' err err' opens faults =
       let test = decided decidable plan.file in
-      subst (λ (p : Parts). PrintsAllFaults Csearch p.names failed failed' err err' r) (opens_once index selected.parts opened selected.opens opens)
-      (PrintsAllFaults-chosen r Csearch selected.parts plan.query test.0 (map string_bytes texts) failed failed' err err' (selected.kept test.0 test.1) faults)
+      subst (λ (p : Parts). PrintsAllFaults Csearch p.names failed failed' err err' r)
+      (opens_once index selected.parts opened selected.opens opens)
+      (PrintsAllFaults-chosen r Csearch selected.parts plan.query test.0 (map string_bytes texts) failed failed' err
+      err' (selected.kept test.0 test.1) faults)
 
-module _ (job : SearchJob) (index : Option (List ℕ)) (query : Query) (tree : Option Snapshot) (Prints : Option Printed → Type 0) (by_index : PrintsCandidates job index query tree Prints) where
+module _ (job : SearchJob) (index : Option (List ℕ)) (query : Query) (tree : Option Snapshot)
+    (Prints : Option Printed → Type 0) (by_index : PrintsCandidates job index query tree Prints) where
   -- what is printed over a tree with a snapshot
-  model_printed : (snapshot : Snapshot) (has_match keeps : List ℕ → Bool) → tree ≡ Some snapshot → DecidesSearch job has_match keeps → Prints (Some (all_printed (file_printed max_searched Csearch job.style has_match snapshot) (filter keeps (names_matching query (files_read by_index.0.parts)))))
+  model_printed : (snapshot : Snapshot) (has_match keeps : List ℕ → Bool) → tree ≡ Some snapshot →
+      DecidesSearch job has_match keeps → Prints
+      (Some (all_printed (file_printed max_searched Csearch job.style has_match snapshot)
+      (filter keeps (names_matching query (files_read by_index.0.parts)))))
   unfolding csearch_printed
   model_printed snapshot has_match keeps is tests =
-      subst (λ (t : Option Snapshot). Prints (csearch_printed max_searched job.style has_match keeps by_index.0.parts query t)) is (by_index.2 has_match keeps tests)
+      subst (λ (t : Option Snapshot). Prints (csearch_printed max_searched job.style has_match keeps by_index.0.parts
+      query t)) is (by_index.2 has_match keeps tests)
 
   pub like_cgrep : PrintsLikeCgrep job index tree (λ printed. Prints (Some printed))
   like_cgrep parts snapshot has_match keeps opens is agrees tests =
       let index_query = by_index.0 in
       let same : parts ≡ index_query.parts = opens_once index parts index_query.parts opens index_query.opens in
-      let there : ReadAsIndexed snapshot (files_read index_query.parts) = subst (λ (p : Parts). ReadAsIndexed snapshot (files_read p)) same agrees in
-      subst Prints (ap (λ (p : Printed). Some p) (alike job index has_match keeps query index_query tests snapshot there ∙ ap (λ (p : Parts). searched_by_cgrep max_searched job.style has_match snapshot (filter keeps p.names)) (sym same))) (model_printed snapshot has_match keeps is tests)
+      let there : ReadAsIndexed snapshot (files_read index_query.parts) =
+      subst (λ (p : Parts). ReadAsIndexed snapshot (files_read p)) same agrees in
+      subst Prints (ap (λ (p : Printed). Some p) (alike job index has_match keeps query index_query tests snapshot there
+      ∙ ap (λ (p : Parts). searched_by_cgrep max_searched job.style has_match snapshot (filter keeps p.names))
+      (sym same))) (model_printed snapshot has_match keeps is tests)
 
 -- ---- an index that jobs built
 
-module _ (history : History) (bytes : List ℕ) (is : IsHistory history) (by : IsBuiltByJobs history) (left : index_of history ≡ Some bytes) (short : length bytes < 2 ^ 32) where
+module _ (history : History) (bytes : List ℕ) (is : IsHistory history) (by : IsBuiltByJobs history)
+    (left : index_of history ≡ Some bytes) (short : length bytes < 2 ^ 32) where
   pub written : Parts
   written = parts_written (set.items (paths_of history)) (map'.entries (files_of history))
 
@@ -128,33 +157,39 @@ module _ (history : History) (bytes : List ℕ) (is : IsHistory history) (by : I
   opens_so =
       let small = subst (λ (b : List ℕ). length b < 2 ^ 32) (sym there) short in
       subst (λ (b : List ℕ). DecodesAs b (parts_written (set.items (paths_of history)) (map'.entries (files_of history)))) there
-      (encoding_decodes (set.items (paths_of history)) (map'.entries (files_of history)) (content_indexable (paths_of history) (files_of history) (history_content history is) small))
+      (encoding_decodes (set.items (paths_of history)) (map'.entries (files_of history))
+      (content_indexable (paths_of history) (files_of history) (history_content history is) small))
 
   pub has_so : IsIndexWith written (set.items (paths_of history)) (map'.entries (files_of history))
   unfolding written
   has_so =
       let small = subst (λ (b : List ℕ). length b < 2 ^ 32) (sym there) short in
-      encoding_has (set.items (paths_of history)) (map'.entries (files_of history)) (content_indexable (paths_of history) (files_of history) (history_content history is) small)
+      encoding_has (set.items (paths_of history)) (map'.entries (files_of history))
+      (content_indexable (paths_of history) (files_of history) (history_content history is) small)
 
   pub named : (parts : Parts) → DecodesAs bytes parts → parts.names ≡ indexed_names history
   named parts opens =
       let same : parts ≡ written = opens_once (Some bytes) parts written opens opens_so in
       ap (λ (p : Parts). p.names) same ∙ has_so.has_names
 
-  pub agrees_still : (parts : Parts) (tree : Snapshot) → DecodesAs bytes parts → ReadAsIndexed tree (map'.entries (files_of history)) → ReadAsIndexed tree (files_read parts)
+  pub agrees_still : (parts : Parts) (tree : Snapshot) → DecodesAs bytes parts →
+      ReadAsIndexed tree (map'.entries (files_of history)) → ReadAsIndexed tree (files_read parts)
   agrees_still parts tree opens still =
       let same : written ≡ parts = opens_once (Some bytes) written parts opens_so opens in
       let files = has_so.has_files (ascending_sets (files_of history) (history_content history is).sets_are) in
       subst (λ (p : Parts). ReadAsIndexed tree (files_read p)) same (subst (ReadAsIndexed tree) (sym files) still)
 
-pub as_promised : (job : SearchJob) (index : Option (List ℕ)) (query : Query) (tree : Option Snapshot) (Prints : Option Printed → Type 0) → PrintsCandidates job index query tree Prints → SearchesLikeGrep job index tree (λ printed. Prints (Some printed))
+pub as_promised : (job : SearchJob) (index : Option (List ℕ)) (query : Query) (tree : Option Snapshot)
+    (Prints : Option Printed → Type 0) → PrintsCandidates job index query tree Prints →
+    SearchesLikeGrep job index tree (λ printed. Prints (Some printed))
 as_promised job index query None Prints by_index earlier has_match keeps premises tests = absurd premises.jobs_left.trees_modelled.0
 as_promised job None query (Some snapshot) Prints by_index earlier has_match keeps premises tests = absurd by_index.0.opens
 as_promised job (Some bytes) query (Some snapshot) Prints by_index earlier has_match keeps premises tests =
     let left = premises.jobs_left in
     let parts = by_index.0.parts in
     let opens = by_index.0.opens in
-    let agrees = agrees_still earlier bytes left.is_history premises.by_jobs left.is_index left.short parts snapshot opens premises.still_reads in
+    let agrees = agrees_still earlier bytes left.is_history premises.by_jobs left.is_index left.short parts snapshot
+    opens premises.still_reads in
     subst (λ (names : List (List ℕ)). Prints (Some (searched_by_cgrep max_searched job.style has_match snapshot (filter keeps names))))
     (named earlier bytes left.is_history premises.by_jobs left.is_index left.short parts opens)
     (like_cgrep job (Some bytes) query (Some snapshot) Prints by_index parts snapshot has_match keeps opens refl agrees tests)

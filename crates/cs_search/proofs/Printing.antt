@@ -6,7 +6,8 @@ use Rattle.cs_tree.proofs.PrefixLemmas.{prefix_none, prefix_written, prefix_left
 use Rattle.cs_tree.specs.TakesPrefix.{TakesPrefix}
 use Rattle.cs_tree.specs.WritesBytes.{WritesBytes}
 
-pub refused : {A E : Type 0} (xs : List ℕ) (a b : Option SinkModel) (r : Result A E) (fault : E) → r ≡ Err fault → TakesPrefix xs a b → WritesBytes xs a b r
+pub refused : {A E : Type 0} (xs : List ℕ) (a b : Option SinkModel) (r : Result A E) (fault : E) → r ≡ Err fault →
+    TakesPrefix xs a b → WritesBytes xs a b r
 refused xs a b r fault is prefix = rw is prefix
 
 pub ruleset printing = (Grows-same, Grows-chain, prefix_none, prefix_written, prefix_left, prefix_right)

@@ -43,7 +43,8 @@ abbrev item_in : List ℕ → Item
 item_in name = unwrap_or (find bytes_cmp name rows) (bad missing)
 
 item_is : (name : List ℕ) → item_at tree name ≡ item_in name
-item_is name = ap (λ (o : Option Item). unwrap_or o (bad missing)) (map'.get-entries tree name ∙ ap (find bytes_cmp name) (entries_in_order rows tt))
+item_is name = ap (λ (o : Option Item). unwrap_or o (bad missing))
+    (map'.get-entries tree name ∙ ap (find bytes_cmp name) (entries_in_order rows tt))
 
 module _ (tool : Tool) (style : Style) where
   abbrev printed_in : List ℕ → Printed
@@ -70,14 +71,17 @@ counted = record { count = true; list = false; number = false; bare = false }
 listed : Style
 listed = record { count = false; list = true; number = false; bare = false }
 
-a_file : file_printed max_searched Cgrep plain one tree (codes "/t/a") ≡ record { output = codes "/t/a:one\n/t/a:one\n"; errors = []; matched = true }
+a_file : file_printed max_searched Cgrep plain one tree (codes "/t/a")
+    ≡ record { output = codes "/t/a:one\n/t/a:one\n"; errors = []; matched = true }
 unfolding one plain input_printed input_report report matches_output matches_from match_line lines
 a_file = printed_is Cgrep plain (codes "/t/a")
 
-a_file_that_is_missing : file_printed max_searched Csearch plain one tree (codes "/t/b") ≡ record { output = []; errors = codes "csearch: /t/b: no such file\n"; matched = false }
+a_file_that_is_missing : file_printed max_searched Csearch plain one tree (codes "/t/b")
+    ≡ record { output = []; errors = codes "csearch: /t/b: no such file\n"; matched = false }
 a_file_that_is_missing = printed_is Csearch plain (codes "/t/b")
 
-a_file_that_is_cut : file_printed max_searched Cgrep plain one tree (codes "/t/c") ≡ record { output = codes "/t/c:one\n"; errors = codes "cgrep: /t/c: cannot be read\n"; matched = true }
+a_file_that_is_cut : file_printed max_searched Cgrep plain one tree (codes "/t/c")
+    ≡ record { output = codes "/t/c:one\n"; errors = codes "cgrep: /t/c: cannot be read\n"; matched = true }
 unfolding one plain input_printed input_report report matches_output matches_from match_line terminated_lines
 a_file_that_is_cut = printed_is Cgrep plain (codes "/t/c")
 
@@ -88,7 +92,8 @@ names = codes "/t/a" ∷ codes "/t/b" ∷ codes "/t/c" ∷ []
 
 -- a job of cgrep over these names
 module _ (job : GrepJob) (files : job.standard ≡ false) (over : map string_bytes job.files.items ≡ names) where
-  by_cgrep : (style : Style) → job.style ≡ style → cgrep_printed max_searched job one (Some tree) None ≡ Some (all_printed (printed_in Cgrep style) names)
+  by_cgrep : (style : Style) → job.style ≡ style → cgrep_printed max_searched job one (Some tree) None
+      ≡ Some (all_printed (printed_in Cgrep style) names)
   by_cgrep style is =
       cgrep_files max_searched job one (Some tree) None files
       ∙ (λ i. Some (all_printed (file_printed max_searched Cgrep (is i) one tree) (over i)))
@@ -138,11 +143,15 @@ unfolding names_matching
 matching_names = λ i. names_of (filter (λ (entry : Entry). matches_set-Tri (has entry.1) 0x6f6e65 i) entries)
 
 module _ (parts : Parts) (has_files : files_read parts ≡ entries) where
-  by_csearch : (style : Style) (keeps : List ℕ → Bool) → csearch_printed max_searched style one keeps parts (Tri 0x6f6e65) (Some tree) ≡ Some (all_printed (printed_in Csearch style) (filter keeps (codes "/t/a" ∷ codes "/t/b" ∷ [])))
+  by_csearch : (style : Style) (keeps : List ℕ → Bool) → csearch_printed max_searched style one keeps parts
+      (Tri 0x6f6e65) (Some tree) ≡ Some (all_printed (printed_in Csearch style)
+      (filter keeps (codes "/t/a" ∷ codes "/t/b" ∷ [])))
   unfolding csearch_printed
   by_csearch style keeps =
-      ap (λ (files : List Entry). Some (all_printed (file_printed max_searched Csearch style one tree) (filter keeps (names_matching (Tri 0x6f6e65) files)))) has_files
-      ∙ ap (λ (names : List (List ℕ)). Some (all_printed (file_printed max_searched Csearch style one tree) (filter keeps names))) matching_names
+      ap (λ (files : List Entry). Some (all_printed (file_printed max_searched Csearch style one tree)
+      (filter keeps (names_matching (Tri 0x6f6e65) files)))) has_files
+      ∙ ap (λ (names : List (List ℕ)). Some (all_printed (file_printed max_searched Csearch style one tree)
+      (filter keeps names))) matching_names
       ∙ ap (λ (printed : Printed). Some printed) (all_is Csearch style (filter keeps (codes "/t/a" ∷ codes "/t/b" ∷ [])))
 
   csearch_prints_lines : csearch_printed max_searched plain one (λ name. true) parts (Tri 0x6f6e65) (Some tree) ≡ Some (record {
@@ -153,6 +162,7 @@ module _ (parts : Parts) (has_files : files_read parts ≡ entries) where
   unfolding one plain all_printed input_printed input_report report matches_output matches_from match_line lines
   csearch_prints_lines = by_csearch plain (λ name. true)
 
-  csearch_prints_names_that_are_kept : csearch_printed max_searched listed one (λ name. bytes_eq name (codes "/t/a")) parts (Tri 0x6f6e65) (Some tree) ≡ Some (record { output = codes "/t/a\n"; errors = []; matched = true })
+  csearch_prints_names_that_are_kept : csearch_printed max_searched listed one (λ name. bytes_eq name (codes "/t/a"))
+      parts (Tri 0x6f6e65) (Some tree) ≡ Some (record { output = codes "/t/a\n"; errors = []; matched = true })
   unfolding one listed all_printed input_printed input_report report matches_output matches_from name_line lines
   csearch_prints_names_that_are_kept = by_csearch listed (λ name. bytes_eq name (codes "/t/a"))

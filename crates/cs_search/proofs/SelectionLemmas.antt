@@ -39,30 +39,37 @@ decided decidable None = (λ name. true, λ name. refl)
 decided decidable (Some tree) = decidable tree
 
 -- an id of a name is read as that name
-pub name_read : (names : List (List ℕ)) (id : ℕ) (answer : Result (Unit {0}) IndexFault) (reader : NameReader) → id < length names → IsName (slice_get names id) answer reader →
+pub name_read : (names : List (List ℕ)) (id : ℕ) (answer : Result (Unit {0}) IndexFault) (reader : NameReader) →
+    id < length names → IsName (slice_get names id) answer reader →
     IsOkAnd answer (λ _. HasName reader (get_or names id []))
-name_read names id answer reader low is = subst (λ (name : Option (List ℕ)). IsName name answer reader) (slice_get-get_or names id [] low) is
+name_read names id answer reader low is = subst (λ (name : Option (List ℕ)). IsName name answer reader)
+    (slice_get-get_or names id [] low) is
 
 pub kept_none : (file : Option Tree) (names : List (List ℕ)) → AreKept file names [] []
 unfolding names_at
 kept_none file names = λ keeps decides. refl
 
-module _ (file : Option Tree) (names : List (List ℕ)) (ids : List ℕ) (id : ℕ) (texts : List (String Global)) (low : id < length names) (kept : AreKept file names ids texts) where
+module _ (file : Option Tree) (names : List (List ℕ)) (ids : List ℕ) (id : ℕ) (texts : List (String Global))
+    (low : id < length names) (kept : AreKept file names ids texts) where
   abbrev name : List ℕ
   name = get_or names id []
 
-  one_more : (keeps : List ℕ → Bool) → filter keeps (names_at names (ids ++ id ∷ [])) ≡ filter keeps (names_at names ids) ++ cond (keeps name) (name ∷ []) []
+  one_more : (keeps : List ℕ → Bool) → filter keeps (names_at names (ids ++ id ∷ []))
+      ≡ filter keeps (names_at names ids) ++ cond (keeps name) (name ∷ []) []
   unfolding names_at
   one_more keeps =
-      ap (filter keeps) (filter_map-append (slice_get names) ids (id ∷ []) ∙ ap (λ (o : Option (List ℕ)). names_at names ids ++ cons_option o []) (slice_get-get_or names id [] low))
+      ap (filter keeps) (filter_map-append (slice_get names) ids (id ∷ [])
+      ∙ ap (λ (o : Option (List ℕ)). names_at names ids ++ cons_option o []) (slice_get-get_or names id [] low))
       ∙ filter-append keeps (names_at names ids) (name ∷ [])
 
   module _ (passes : Bool) (tested : (keeps : List ℕ → Bool) → DecidesNames keeps file → passes ≡ keeps name) where
-    after : (keeps : List ℕ → Bool) → DecidesNames keeps file → filter keeps (names_at names (ids ++ id ∷ [])) ≡ map string_bytes texts ++ cond passes (name ∷ []) []
+    after : (keeps : List ℕ → Bool) → DecidesNames keeps file → filter keeps (names_at names (ids ++ id ∷ []))
+        ≡ map string_bytes texts ++ cond passes (name ∷ []) []
     after keeps decides = one_more keeps ∙ sym (λ i. kept keeps decides i ++ cond (tested keeps decides i) (name ∷ []) [])
 
     -- the name is kept
-    pub kept_more : (text : String Global) → string_bytes text ≡ name → passes ≡ true → AreKept file names (ids ++ id ∷ []) (texts ++ text ∷ [])
+    pub kept_more : (text : String Global) → string_bytes text ≡ name → passes ≡ true →
+        AreKept file names (ids ++ id ∷ []) (texts ++ text ∷ [])
     kept_more text same is = λ keeps decides.
         map-append string_bytes texts (text ∷ []) ∙ ap (λ (t : List ℕ). map string_bytes texts ++ t ∷ []) same
         ∙ sym (after keeps decides ∙ ap (λ t. map string_bytes texts ++ cond t (name ∷ []) []) is)
@@ -73,9 +80,14 @@ module _ (file : Option Tree) (names : List (List ℕ)) (ids : List ℕ) (id : �
         sym (after keeps decides ∙ ap (λ t. map string_bytes texts ++ cond t (name ∷ []) []) is ∙ append-nil (map string_bytes texts))
 
 -- the kept names of the candidates are selected
-pub selects : (plan : Plan) (parts : Parts) (file : Option Tree) (ids : List ℕ) (result : Result (Result (Vec (String Global) Global) IndexFault) IoFault) → file ≡ plan.file → ids ≡ candidates_of parts plan.query → is_answerable parts plan.query ≡ true →
+pub selects : (plan : Plan) (parts : Parts) (file : Option Tree) (ids : List ℕ)
+    (result : Result (Result (Vec (String Global) Global) IndexFault) IoFault) → file ≡ plan.file →
+    ids ≡ candidates_of parts plan.query → is_answerable parts plan.query ≡ true →
     IfOk result (λ answer. IsOkAnd answer (λ names. AreKept file parts.names ids names.items)) → IfOk result (Selects plan parts)
-selects plan parts file ids (Ok (Ok names)) is are whole kept =
-    (subst (λ (program : Option Tree). AreKept program parts.names (candidates_of parts plan.query) names.items) is (subst (λ (l : List ℕ). AreKept file parts.names l names.items) are kept), whole)
+selects plan parts file ids (Ok (Ok names)) is are whole kept = (
+  subst (λ (program : Option Tree). AreKept program parts.names (candidates_of parts plan.query) names.items) is
+      (subst (λ (l : List ℕ). AreKept file parts.names l names.items) are kept),
+  whole,
+)
 selects plan parts file ids (Ok (Err fault)) is are whole kept = absurd kept
 selects plan parts file ids (Err fault) is are whole kept = tt

@@ -51,11 +51,14 @@ module _ (t : Tree) (name : List ℕ) where
 
   -- the steps up to the next line, and those of this one: `search` for the search, `skipped` and `line` bytes before it and of it
   pub line_more : (before searched skipped after offset start end lines more : ℕ) → offset ≤ start → start ≤ end → lines + 1 ≤ more →
-      searched ≤ before + search_work t (end + 1 - offset) → skipped ≤ searched + (start - offset) → after ≤ skipped + (end - start) + printed_work name →
+      searched ≤ before + search_work t (end + 1 - offset) → skipped ≤ searched + (start - offset) →
+      after ≤ skipped + (end - start) + printed_work name →
       after + searched_work t name offset lines ≤ before + searched_work t name (end + 1) more
   line_more before searched skipped after offset start end lines more low order fewer s k a =
-      let sum : searched_work t name (offset + (end + 1 - offset)) (lines + 1) ≡ searched_work t name offset lines + searched_work t name (end + 1 - offset) 1 = searched_more offset (end + 1 - offset) lines 1 in
-      let last : searched_work t name (offset + (end + 1 - offset)) (lines + 1) ≤ searched_work t name (end + 1) more = searched_fewer (offset + (end + 1 - offset)) (end + 1) (lines + 1) more (omega arith) fewer in
+      let sum : searched_work t name (offset + (end + 1 - offset)) (lines + 1) ≡ searched_work t name offset lines
+      + searched_work t name (end + 1 - offset) 1 = searched_more offset (end + 1 - offset) lines 1 in
+      let last : searched_work t name (offset + (end + 1 - offset)) (lines + 1) ≤ searched_work t name (end + 1) more =
+      searched_fewer (offset + (end + 1 - offset)) (end + 1) (lines + 1) more (omega arith) fewer in
       omega (arith, low, order, s, k, a, sum, last, one_search (end + 1 - offset))
 
   -- the rest of a block, where no line matches
@@ -63,27 +66,52 @@ module _ (t : Tree) (name : List ℕ) where
       searched ≤ before + search_work t (size - offset) → after ≤ searched + (size - offset) →
       after + searched_work t name offset lines ≤ before + searched_work t name size (more + 1)
   rest_more before searched after offset size lines more within fewer s a =
-      let sum : searched_work t name (offset + (size - offset)) (lines + 1) ≡ searched_work t name offset lines + searched_work t name (size - offset) 1 = searched_more offset (size - offset) lines 1 in
-      let last : searched_work t name (offset + (size - offset)) (lines + 1) ≤ searched_work t name size (more + 1) = searched_fewer (offset + (size - offset)) size (lines + 1) (more + 1) (omega arith) (omega (arith, fewer)) in
+      let sum : searched_work t name (offset + (size - offset)) (lines + 1) ≡ searched_work t name offset lines
+      + searched_work t name (size - offset) 1 = searched_more offset (size - offset) lines 1 in
+      let last : searched_work t name (offset + (size - offset)) (lines + 1) ≤ searched_work t name size (more + 1) =
+      searched_fewer (offset + (size - offset)) size (lines + 1) (more + 1) (omega arith) (omega (arith, fewer)) in
       omega (arith, within, s, a, sum, last, one_search (size - offset))
 
   -- ---- blocks
 
   -- the lines of a block that have ended
-  pub ended : (block : List ℕ) (stop : ℕ) → stop ≤ length block → AreWholeLines (take stop block) → HasNoNewline (drop stop block) → searched_work t name (length (take stop block)) (2 * length (terminated_lines (take stop block))) ≤ ended_work t name block
+  pub ended : (block : List ℕ) (stop : ℕ) → stop ≤ length block → AreWholeLines (take stop block) →
+      HasNoNewline (drop stop block) → searched_work t name (length (take stop block))
+      (2 * length (terminated_lines (take stop block))) ≤ ended_work t name block
   ended block stop within whole rest =
       searched_fewer _ _ _ _
-      (omega (arith, within, length-take stop block, length-drop stop block, ap (λ (b : List ℕ). length b) (rest_is_last block stop whole rest)))
+      (omega (
+        arith,
+        within,
+        length-take stop block,
+        length-drop stop block,
+        ap (λ (b : List ℕ). length b)
+            (rest_is_last block stop whole rest),
+      ))
       (omega (arith, ap (λ (ls : List (List ℕ)). length ls) (ended_all block stop whole rest)))
 
   -- the steps of a text, and of the next block
-  pub ended_more : (text piece : List ℕ) → ended_work t name (text ++ piece) ≡ ended_work t name text + ended_work t name (last_part text ++ piece)
+  pub ended_more : (text piece : List ℕ) → ended_work t name (text ++ piece) ≡ ended_work t name text
+      + ended_work t name (last_part text ++ piece)
   ended_more text piece =
       let next = last_part text ++ piece in
-      let size : length (text ++ piece) - length (last_part (text ++ piece)) ≡ length text - length (last_part text) + (length next - length (last_part next)) =
-      omega (arith, length-append text piece, length-append (last_part text) piece, ap (λ (b : List ℕ). length b) (last_part-append text piece), lines_within text, lines_within next) in
+      let size : length (text ++ piece) - length (last_part (text ++ piece)) ≡ length text - length (last_part text)
+      + (length next - length (last_part next)) =
+      omega (
+        arith,
+        length-append text piece,
+        length-append (last_part text) piece,
+        ap (λ (b : List ℕ). length b)
+            (last_part-append text piece),
+        lines_within text,
+        lines_within next,
+      ) in
       let count : 2 * length (terminated_lines (text ++ piece)) ≡ 2 * length (terminated_lines text) + 2 * length (terminated_lines next) =
-      omega (arith, ap (λ (ls : List (List ℕ)). length ls) (terminated_lines-append text piece), length-append (terminated_lines text) (terminated_lines next)) in
+      omega (
+        arith,
+        ap (λ (ls : List (List ℕ)). length ls) (terminated_lines-append text piece),
+        length-append (terminated_lines text) (terminated_lines next),
+      ) in
       ap (λ n. searched_work t name n (2 * length (terminated_lines (text ++ piece)))) size
       ∙ ap (λ m. searched_work t name (length text - length (last_part text) + (length next - length (last_part next))) m) count
       ∙ searched_more _ _ _ _

@@ -25,11 +25,13 @@ ReportsPrefix None report before after = Unit {0}
 ReportsPrefix (Some model) report before after = TakesPrefix (report model).output before after
 
 -- the same, by each test that decides whether a line has a match
-abbrev pub ReportsBy : Tree → Option SourceModel → ((List ℕ → Bool) → SourceModel → Report ReadFault) → Option SinkModel → Option SinkModel → Grepped → Type 0
+abbrev pub ReportsBy : Tree → Option SourceModel → ((List ℕ → Bool) → SourceModel → Report ReadFault) →
+    Option SinkModel → Option SinkModel → Grepped → Type 0
 ReportsBy tree model report before after answer =
     (has_match : List ℕ → Bool) → Decides has_match tree → Reports model (report has_match) before after answer
 
-abbrev pub ReportsPrefixBy : Tree → Option SourceModel → ((List ℕ → Bool) → SourceModel → Report ReadFault) → Option SinkModel → Option SinkModel → Type 0
+abbrev pub ReportsPrefixBy : Tree → Option SourceModel → ((List ℕ → Bool) → SourceModel → Report ReadFault) →
+    Option SinkModel → Option SinkModel → Type 0
 ReportsPrefixBy tree model report before after =
     (has_match : List ℕ → Bool) → Decides has_match tree → ReportsPrefix model (report has_match) before after
 

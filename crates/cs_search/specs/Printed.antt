@@ -97,7 +97,8 @@ abbrev pub AreFaultsOf : List (List ℕ) → List NamedFault → Type 0
 AreFaultsOf [] faults = faults ≡ []
 AreFaultsOf (name ∷ names) faults =
     AreFaultsOf names faults
-    ⊎ ((why : FileFault) × (rest : List NamedFault) × (faults ≡ (name, why) ∷ rest) × ((why ≡ InputTooLong) ⊎ (is_file_failure why ≡ true)) × AreFaultsOf names rest)
+    ⊎ ((why : FileFault) × (rest : List NamedFault) × (faults ≡ (name, why) ∷ rest) ×
+    ((why ≡ InputTooLong) ⊎ (is_file_failure why ≡ true)) × AreFaultsOf names rest)
 
 -- Only fault lines of some of the names are written, and the counted failures are those among these faults. `Writes`
 -- says how the lines are written.

@@ -46,11 +46,13 @@ module _ (searcher : Searcher) where
       option_map (λ (tree : Snapshot). all_printed (file_printed max_searched searcher.tool searcher.style has_match tree) names) tree
 
   -- this was printed, or a prefix of it, by each test that decides what the searcher's matcher matches
-  abbrev pub PrintsBy : ((List ℕ → Bool) → Option Printed) → Option SinkModel → Option SinkModel → Option SinkModel → Option SinkModel → Bool → Type 0
+  abbrev pub PrintsBy : ((List ℕ → Bool) → Option Printed) → Option SinkModel → Option SinkModel → Option SinkModel →
+      Option SinkModel → Bool → Type 0
   PrintsBy printed out out' err err' matched =
       (has_match : List ℕ → Bool) → Decides has_match searcher.matcher.tree → Prints (printed has_match) out out' err err' matched
 
-  abbrev pub PrintsPrefixBy : ((List ℕ → Bool) → Option Printed) → Option SinkModel → Option SinkModel → Option SinkModel → Option SinkModel → Type 0
+  abbrev pub PrintsPrefixBy : ((List ℕ → Bool) → Option Printed) → Option SinkModel → Option SinkModel →
+      Option SinkModel → Option SinkModel → Type 0
   PrintsPrefixBy printed out out' err err' =
       (has_match : List ℕ → Bool) → Decides has_match searcher.matcher.tree → PrintsPrefix (printed has_match) out out' err err'
 

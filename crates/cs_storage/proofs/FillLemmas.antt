@@ -29,10 +29,17 @@ stays_held None new held moves = subst IsHeld (sym moves) tt
 stays_held (Some x) None held moves = absurd moves
 stays_held (Some x) (Some y) held moves = stays_held_at x y x.own refl held moves
 
-keeps_at : (x y : Folder) (own : Option OwnFile) → x.own ≡ own → Filled x y own → (y.seen ≡ x.seen) × (y.stuck ≡ x.stuck) × (y.replaced ≡ x.replaced) × (x.own ≡ None → y.own ≡ None)
+keeps_at : (x y : Folder) (own : Option OwnFile) → x.own ≡ own → Filled x y own →
+    (y.seen ≡ x.seen) × (y.stuck ≡ x.stuck) × (y.replaced ≡ x.replaced) × (x.own ≡ None → y.own ≡ None)
 keeps_at x y None is filled = (filled.seen, filled.leaves.stuck, filled.leaves.replaced, λ none. filled.leaves.own ∙ none)
-keeps_at x y (Some own) is filled = (ap (λ y. y.seen) filled.1, ap (λ y. y.stuck) filled.1, ap (λ y. y.replaced) filled.1, λ none. absurd (let e = sym is ∙ none in cc))
+keeps_at x y (Some own) is filled = (
+  ap (λ y. y.seen) filled.1,
+  ap (λ y. y.stuck) filled.1,
+  ap (λ y. y.replaced) filled.1,
+  λ none. absurd (let e = sym is ∙ none in cc),
+)
 
 -- what does not change
-pub fills_keeps : (x y : Folder) → Fills x y → (y.seen ≡ x.seen) × (y.stuck ≡ x.stuck) × (y.replaced ≡ x.replaced) × (x.own ≡ None → y.own ≡ None)
+pub fills_keeps : (x y : Folder) → Fills x y → (y.seen ≡ x.seen) × (y.stuck ≡ x.stuck) × (y.replaced ≡ x.replaced) ×
+    (x.own ≡ None → y.own ≡ None)
 fills_keeps x y filled = keeps_at x y x.own refl filled

@@ -32,11 +32,17 @@ module _ {X : Type 0} (bytes : X → List ℕ) where
   -- neighbours in a list that ascends by bytes
   adjacent : (xs : List X) → IsStrictlySortedBy bytes_cmp (map bytes xs) → IsSorted (λ (x y : X). bytes_cmp (bytes x) (bytes y)) xs
   adjacent xs strict = λ k d low high.
-      let less : bytes_cmp (get_or (map bytes xs) k (bytes d)) (get_or (map bytes xs) (k + 1) (bytes d)) ≡ Less = Less-from_sorted bytes_cmp (map bytes xs) k (k + 1) (bytes d) strict (omega arith) (omega (arith, high, length-map xs bytes)) in
-      let rises : bytes_cmp (bytes (get_or xs k d)) (bytes (get_or xs (k + 1) d)) ≡ Less = sym (ap (λ x. bytes_cmp x (get_or (map bytes xs) (k + 1) (bytes d))) (get_or-map bytes xs k d) ∙ ap (bytes_cmp (bytes (get_or xs k d))) (get_or-map bytes xs (k + 1) d)) ∙ less in
+      let less : bytes_cmp (get_or (map bytes xs) k (bytes d)) (get_or (map bytes xs) (k + 1) (bytes d)) ≡ Less =
+      Less-from_sorted bytes_cmp (map bytes xs) k (k + 1) (bytes d) strict (omega arith)
+      (omega (arith, high, length-map xs bytes)) in
+      let rises : bytes_cmp (bytes (get_or xs k d)) (bytes (get_or xs (k + 1) d)) ≡ Less =
+      sym (ap (λ x. bytes_cmp x (get_or (map bytes xs) (k + 1) (bytes d))) (get_or-map bytes xs k d)
+      ∙ ap (bytes_cmp (bytes (get_or xs k d))) (get_or-map bytes xs (k + 1) d)) ∙ less in
       ap is_lt (nat_list_cmp_total.antisymm (bytes (get_or xs (k + 1) d)) (bytes (get_or xs k d)) ∙ ap ordering_reverse rises)
 
-  pub listed : (xs : List X) (path : List ℕ) (r : Result ℕ ℕ) → are_ascending (map bytes xs) ≡ true → IsSearchInRange r (length xs) → IsBinarySearchResult (λ (x : X). slice_cmp nat_cmp (bytes x) path) xs r → is_ok r ≡ is_among (map bytes xs) path
+  pub listed : (xs : List X) (path : List ℕ) (r : Result ℕ ℕ) → are_ascending (map bytes xs) ≡ true →
+      IsSearchInRange r (length xs) → IsBinarySearchResult (λ (x : X). slice_cmp nat_cmp (bytes x) path) xs r → is_ok r
+      ≡ is_among (map bytes xs) path
   listed [] path (Ok i) up bound found = absurd (omega (arith, bound))
   listed (x ∷ xs) path (Ok i) up bound found =
       sym (list_any-map bytes (λ other. bytes_eq other path) (x ∷ xs)
@@ -80,7 +86,8 @@ below_parts path other h =
     (found.0, found.1 ∙ append_assoc other (slash ∷ []) found.0)
 
 below_from : (path other rest : List ℕ) → path ≡ other ++ slash ∷ rest → is_ancestor other path ≡ true
-below_from path other rest e = subst (λ p. begins (other ++ slash ∷ []) p ≡ true) (append_assoc other (slash ∷ []) rest ∙ sym e) (begins_at (other ++ slash ∷ []) rest)
+below_from path other rest e = subst (λ p. begins (other ++ slash ∷ []) p ≡ true) (append_assoc other (slash ∷ []) rest
+    ∙ sym e) (begins_at (other ++ slash ∷ []) rest)
 
 below_longer : (path other : List ℕ) → is_ancestor other path ≡ true → length other < length path
 below_longer path other h =
@@ -90,32 +97,51 @@ below_longer path other h =
 
 -- ---- a path that another one covers
 
-covers_apart_from : (path other : List ℕ) → (covers other path && not (bytes_eq other path)) ≡ (is_ancestor other path || (bytes_eq other (slash ∷ []) && (begins (slash ∷ []) path && not (bytes_eq path (slash ∷ [])))))
+covers_apart_from : (path other : List ℕ) → (covers other path && not (bytes_eq other path))
+    ≡ (is_ancestor other path || (bytes_eq other (slash ∷ [])
+    && (begins (slash ∷ []) path && not (bytes_eq path (slash ∷ [])))))
 covers_apart_from path other = same_tests _ _
-    (λ h. let parts = and_parts (covers other path) (not (bytes_eq other path)) h in says (not-true _ parts.1) (covers_says other path parts.0))
+    (λ h. let parts = and_parts (covers other path) (not (bytes_eq other path)) h in
+    says (not-true _ parts.1) (covers_says other path parts.0))
     (λ h. elim (or_cases (is_ancestor other path) _ h) [
-      | inl lower ↦ and_from (covers other path) _ (or_right (bytes_eq other path) _ (or_left (is_ancestor other path) _ lower)) (not_from_false _ (false_from_ne_true _ (λ is.
-          let long = below_longer path other lower in let e : length other ≡ length path = ap length ((bytes_decides other path).0 is) in absurd (omega arith))))
+      | inl lower ↦ and_from (covers other path) _
+          (or_right (bytes_eq other path) _ (or_left (is_ancestor other path) _ lower))
+          (not_from_false _ (false_from_ne_true _ (λ is.
+          let long = below_longer path other lower in let e : length other ≡ length path =
+          ap length ((bytes_decides other path).0 is) in absurd (omega arith))))
       | inr top ↦
           let parts = and_parts (bytes_eq other (slash ∷ [])) _ top in
           let rest = and_parts (begins (slash ∷ []) path) (not (bytes_eq path (slash ∷ []))) parts.1 in
-          and_from (covers other path) _ (or_right (bytes_eq other path) _ (or_right (is_ancestor other path) _ (and_from (bytes_eq other (slash ∷ [])) _ parts.0 rest.0))) (not_from_false _ (false_from_ne_true _ (λ is.
-          both_ways (bytes_eq path (slash ∷ [])) (not-true _ rest.1) ((bytes_decides path (slash ∷ [])).1 (sym ((bytes_decides other path).0 is) ∙ (bytes_decides other (slash ∷ [])).0 parts.0)))))
+          and_from (covers other path) _ (or_right (bytes_eq other path) _
+          (or_right (is_ancestor other path) _ (and_from (bytes_eq other (slash ∷ [])) _ parts.0 rest.0)))
+          (not_from_false _ (false_from_ne_true _ (λ is.
+          both_ways (bytes_eq path (slash ∷ [])) (not-true _ rest.1)
+          ((bytes_decides path (slash ∷ [])).1 (sym ((bytes_decides other path).0 is)
+          ∙ (bytes_decides other (slash ∷ [])).0 parts.0)))))
     ])
   where
-    says : bytes_eq other path ≡ false → Covers other path → (is_ancestor other path || (bytes_eq other (slash ∷ []) && (begins (slash ∷ []) path && not (bytes_eq path (slash ∷ []))))) ≡ true
+    says : bytes_eq other path ≡ false → Covers other path →
+        (is_ancestor other path || (bytes_eq other (slash ∷ [])
+        && (begins (slash ∷ []) path && not (bytes_eq path (slash ∷ []))))) ≡ true
     says apart (itself e) = absurd (both_ways (bytes_eq other path) apart ((bytes_decides other path).1 e))
     says apart (below rest e) = or_left (is_ancestor other path) _ (below_from path other rest e)
-    says apart (root rest e f) = or_right (is_ancestor other path) _ (and_from (bytes_eq other (slash ∷ [])) _ ((bytes_decides other (slash ∷ [])).1 e)
+    says apart (root rest e f) = or_right (is_ancestor other path) _
+        (and_from (bytes_eq other (slash ∷ [])) _ ((bytes_decides other (slash ∷ [])).1 e)
         (and_from (begins (slash ∷ []) path) _ (subst (λ t. begins (slash ∷ []) t ≡ true) (sym f) refl)
-        (not_from_false _ (false_from_ne_true _ (λ is. both_ways (bytes_eq other path) apart ((bytes_decides other path).1 (e ∙ sym ((bytes_decides path (slash ∷ [])).0 is))))))))
+        (not_from_false _ (false_from_ne_true _ (λ is. both_ways (bytes_eq other path) apart
+        ((bytes_decides other path).1 (e ∙ sym ((bytes_decides path (slash ∷ [])).0 is))))))))
 
 -- a path that covers another one is an ancestor, or the root
-pub alone_is : (path : List ℕ) (paths : List (List ℕ)) → is_alone paths path ≡ not (list_any (λ above. is_ancestor above path) paths || ((begins (slash ∷ []) path && not (bytes_eq path (slash ∷ []))) && is_among paths (slash ∷ [])))
+pub alone_is : (path : List ℕ) (paths : List (List ℕ)) → is_alone paths path
+    ≡ not (list_any (λ above. is_ancestor above path) paths
+    || ((begins (slash ∷ []) path && not (bytes_eq path (slash ∷ []))) && is_among paths (slash ∷ [])))
 alone_is path paths = ap not
     ((λ i. list_any (λ other. covers_apart_from path other i) paths)
-    ∙ list_any_or (λ above. is_ancestor above path) (λ other. bytes_eq other (slash ∷ []) && (begins (slash ∷ []) path && not (bytes_eq path (slash ∷ [])))) paths
-    ∙ ap (λ b. list_any (λ above. is_ancestor above path) paths || b) (list_any_and (λ other. bytes_eq other (slash ∷ [])) (begins (slash ∷ []) path && not (bytes_eq path (slash ∷ []))) paths))
+    ∙ list_any_or (λ above. is_ancestor above path)
+    (λ other. bytes_eq other (slash ∷ []) && (begins (slash ∷ []) path && not (bytes_eq path (slash ∷ [])))) paths
+    ∙ ap (λ b. list_any (λ above. is_ancestor above path) paths || b)
+    (list_any_and (λ other. bytes_eq other (slash ∷ [])) (begins (slash ∷ []) path && not (bytes_eq path (slash ∷ [])))
+    paths))
 
 -- ---- a name that one of the paths covers
 
@@ -132,12 +158,17 @@ regroup false false true false false false z = refl
 regroup false false false g x y z = refl
 
 -- a path that covers the name is the name, an ancestor, or the root
-ancestors_cover : (name : List ℕ) (ps : List (List ℕ)) → list_any (λ path. covers path name) ps ≡ (is_among ps name || (list_any (λ above. is_ancestor above name) ps || (begins (slash ∷ []) name && is_among ps (slash ∷ []))))
+ancestors_cover : (name : List ℕ) (ps : List (List ℕ)) → list_any (λ path. covers path name) ps
+    ≡ (is_among ps name || (list_any (λ above. is_ancestor above name) ps
+    || (begins (slash ∷ []) name && is_among ps (slash ∷ []))))
 ancestors_cover name [] = elim (begins (slash ∷ []) name) as (λ b. false ≡ (b && false)) [ true ↦ refl | false ↦ refl ]
 ancestors_cover name (path ∷ ps) =
     ap (λ b. covers path name || b) (ancestors_cover name ps)
-    ∙ regroup (bytes_eq path name) (is_ancestor path name) (bytes_eq path (slash ∷ [])) (begins (slash ∷ []) name) (is_among ps name) (list_any (λ above. is_ancestor above name) ps) (is_among ps (slash ∷ []))
+    ∙ regroup (bytes_eq path name) (is_ancestor path name) (bytes_eq path (slash ∷ [])) (begins (slash ∷ []) name)
+    (is_among ps name) (list_any (λ above. is_ancestor above name) ps) (is_among ps (slash ∷ []))
 
 -- a name is covered if it, an ancestor, or the root is in the list
-pub covered_is : (name : List ℕ) (ps : List (List ℕ)) → is_covered (set.from_list ps) name ≡ (is_among ps name || (list_any (λ above. is_ancestor above name) ps || (begins (slash ∷ []) name && is_among ps (slash ∷ []))))
+pub covered_is : (name : List ℕ) (ps : List (List ℕ)) → is_covered (set.from_list ps) name
+    ≡ (is_among ps name || (list_any (λ above. is_ancestor above name) ps
+    || (begins (slash ∷ []) name && is_among ps (slash ∷ []))))
 covered_is name ps = sym (any-from_list (λ path. covers path name) ps) ∙ ancestors_cover name ps

@@ -44,9 +44,13 @@ covers_says p n h =
 
 pub covers_from : (p n : List ℕ) → Covers p n → covers p n ≡ true
 covers_from p n (itself e) = or_left (bytes_eq p n) _ ((bytes_decides p n).1 e)
-covers_from p n (below r e) = or_right (bytes_eq p n) _ (or_left (begins (p ++ slash ∷ []) n) _ (subst (λ t. begins (p ++ slash ∷ []) t ≡ true) (regroup p r ∙ sym e) (begins_at (p ++ slash ∷ []) r)))
+covers_from p n (below r e) = or_right (bytes_eq p n) _
+    (or_left (begins (p ++ slash ∷ []) n) _ (subst (λ t. begins (p ++ slash ∷ []) t ≡ true) (regroup p r ∙ sym e)
+    (begins_at (p ++ slash ∷ []) r)))
 covers_from p n (root r e f) =
-    or_right (bytes_eq p n) _ (or_right (begins (p ++ slash ∷ []) n) _ (and_from (bytes_eq p (slash ∷ [])) _ ((bytes_decides p (slash ∷ [])).1 e) (subst (λ t. begins (slash ∷ []) t ≡ true) (sym f) refl)))
+    or_right (bytes_eq p n) _ (or_right (begins (p ++ slash ∷ []) n) _
+    (and_from (bytes_eq p (slash ∷ [])) _ ((bytes_decides p (slash ∷ [])).1 e)
+    (subst (λ t. begins (slash ∷ []) t ≡ true) (sym f) refl)))
 
 pub covers_refl : (p : List ℕ) → covers p p ≡ true
 covers_refl p = covers_from p p (itself refl)
@@ -72,7 +76,8 @@ longer : (p n : List ℕ) → Covers p n → (p ≡ n) ⊎ (length p < length n)
 longer p n (itself e) = inl e
 longer p n (below r e) = inr (let l : length n ≡ length (p ++ slash ∷ r) = ap length e in omega (arith, l, length-append p (slash ∷ r)))
 longer p n (root [] e f) = inl (e ∙ sym f)
-longer p n (root (b ∷ r) e f) = inr (let l : length n ≡ suc (suc (length r)) = ap length f in let m : length p ≡ 1 = ap length e in omega (arith, l, m))
+longer p n (root (b ∷ r) e f) = inr (let l : length n ≡ suc (suc (length r)) = ap length f in let m : length p ≡ 1 =
+    ap length e in omega (arith, l, m))
 
 pub covers_longer : (p n : List ℕ) → covers p n ≡ true → (p ≡ n) ⊎ (length p < length n)
 covers_longer p n h = longer p n (covers_says p n h)
@@ -89,7 +94,8 @@ covers_both p q g h =
 -- only the root covers a text that continues within an element
 pub covers_append : (p r : List ℕ) → covers p (p ++ r) ≡ (ends_element r || bytes_eq p (slash ∷ []))
 covers_append p [] = covers_from p (p ++ []) (itself (sym (append-nil p)))
-covers_append p (b ∷ r) = same_tests _ _ (λ h. says (covers_says p (p ++ b ∷ r) h)) (λ h. elim (or_cases (nat_eq b slash) _ h) [ inl here ↦ goes_below here | inr is_root ↦ root_covers is_root ])
+covers_append p (b ∷ r) = same_tests _ _ (λ h. says (covers_says p (p ++ b ∷ r) h))
+    (λ h. elim (or_cases (nat_eq b slash) _ h) [ inl here ↦ goes_below here | inr is_root ↦ root_covers is_root ])
   where
     says : Covers p (p ++ b ∷ r) → (nat_eq b slash || bytes_eq p (slash ∷ [])) ≡ true
     says (itself f) = let long : length p ≡ length (p ++ b ∷ r) = ap length f in absurd (omega (arith, long, length-append p (b ∷ r)))
@@ -100,7 +106,8 @@ covers_append p (b ∷ r) = same_tests _ _ (λ h. says (covers_says p (p ++ b �
     goes_below h = covers_from p (p ++ b ∷ r) (below r (ap (λ x. p ++ x ∷ r) (eqb-true b slash h)))
 
     root_covers : bytes_eq p (slash ∷ []) ≡ true → covers p (p ++ b ∷ r) ≡ true
-    root_covers h = let is : p ≡ slash ∷ [] = (bytes_decides p (slash ∷ [])).0 h in covers_from p (p ++ b ∷ r) (root (b ∷ r) is (ap (λ q. q ++ b ∷ r) is))
+    root_covers h = let is : p ≡ slash ∷ [] = (bytes_decides p (slash ∷ [])).0 h in
+        covers_from p (p ++ b ∷ r) (root (b ∷ r) is (ap (λ q. q ++ b ∷ r) is))
 
 -- a covered name begins with the path's text
 pub covers_apart : (p n : List ℕ) → ((rest : List ℕ) → n ≢ p ++ rest) → covers p n ≡ false
@@ -115,10 +122,16 @@ covers_apart p n apart = false_from_ne_true (covers p n) (λ h. says (covers_say
 abbrev PrefixCutSays : List ℕ → List ℕ → Option (Bor (List ℕ)) → Type 0
 PrefixCutSays p n cut = MatchOption cut (covers p n ≡ false) (λ rest. covers p n ≡ (ends_element rest.now || bytes_eq p (slash ∷ [])))
 
-cut_says : (p n : List ℕ) (cut : Option (Bor (List ℕ))) → MatchOption cut (pointwise eqb (take (length p) n) p ≡ false) (λ rest. (pointwise eqb (take (length p) n) p ≡ true) × (rest.now ≡ drop (length p) n) × (length rest.now + length p ≡ length n)) → PrefixCutSays p n cut
+cut_says : (p n : List ℕ) (cut : Option (Bor (List ℕ))) → MatchOption cut (pointwise eqb (take (length p) n) p ≡ false)
+    (λ rest. (pointwise eqb (take (length p) n) p ≡ true) × (rest.now ≡ drop (length p) n) ×
+    (length rest.now + length p ≡ length n)) → PrefixCutSays p n cut
 cut_says p n None h = covers_apart p n (strip_prefix_is Decides-eqb n p None h)
 cut_says p n (Some rest) h = ap (covers p) (strip_prefix_is Decides-eqb n p (Some rest) h) ∙ covers_append p rest.now
 
 -- the same for texts seen as bytes
-pub covers_cut : (p n : List ℕ) {q m : List ℕ} (cut : Option (Bor (List ℕ))) → q ≡ p → m ≡ n → MatchOption cut (pointwise eqb (take (length q) m) q ≡ false) (λ rest. (pointwise eqb (take (length q) m) q ≡ true) × (rest.now ≡ drop (length q) m) × (length rest.now + length q ≡ length m)) → PrefixCutSays p n cut
-covers_cut p n {q} {m} cut e f h = subst (λ path. PrefixCutSays path n cut) e (subst (λ name. PrefixCutSays q name cut) f (cut_says q m cut h))
+pub covers_cut : (p n : List ℕ) {q m : List ℕ} (cut : Option (Bor (List ℕ))) → q ≡ p → m ≡ n →
+    MatchOption cut (pointwise eqb (take (length q) m) q ≡ false)
+    (λ rest. (pointwise eqb (take (length q) m) q ≡ true) × (rest.now ≡ drop (length q) m) ×
+    (length rest.now + length q ≡ length m)) → PrefixCutSays p n cut
+covers_cut p n {q} {m} cut e f h = subst (λ path. PrefixCutSays path n cut) e
+    (subst (λ name. PrefixCutSays q name cut) f (cut_says q m cut h))

@@ -40,7 +40,8 @@ child_longer path name some =
           let e : path ≡ slash ∷ [] = same_means path (slash ∷ []) is_root in
           subst (λ p. length p < length (child p name)) (sym e) (at_root some)
       | inr apart ↦
-          let e : length (child path name) ≡ length (path ++ slash ∷ name) = ap (λ stem. length (stem ++ slash ∷ name)) (stem-other path apart) in
+          let e : length (child path name) ≡ length (path ++ slash ∷ name) = ap (λ stem. length (stem ++ slash ∷ name))
+          (stem-other path apart) in
           omega (arith, e, length-append path (slash ∷ name))
     ]
   where
@@ -56,7 +57,8 @@ child_below_root path name good =
 -- ---- the elements after a path
 
 under_after : (p q rest : List ℕ) → q ≡ stem_of p ++ slash ∷ rest → bytes_eq p q ≡ false → elements_under p q ≡ elements rest
-under_after p q rest e apart = ap (λ b. cond b [] (elements (drop (cond (bytes_eq p (slash ∷ [])) 1 (length p + 1)) q))) apart ∙ ap elements (after (bytes_eq p (slash ∷ [])) refl)
+under_after p q rest e apart = ap (λ b. cond b [] (elements (drop (cond (bytes_eq p (slash ∷ [])) 1 (length p + 1)) q)))
+    apart ∙ ap elements (after (bytes_eq p (slash ∷ [])) refl)
   where
     after : (b : Bool) → bytes_eq p (slash ∷ []) ≡ b → drop (cond b 1 (length p + 1)) q ≡ rest
     after true is = ap (drop 1) (e ∙ ap (λ t. cond t [] p ++ slash ∷ rest) is)
@@ -78,7 +80,12 @@ after_covers p q h apart = says (covers_says p q h)
     says (below rest e) = by_root (bytes_eq p (slash ∷ [])) refl
       where
         by_root : (b : Bool) → bytes_eq p (slash ∷ []) ≡ b → After p q
-        by_root true is = record { rest = slash ∷ rest; is = e ∙ ap (λ x. x ++ slash ∷ rest) (same_means p (slash ∷ []) is) ∙ ap (λ t. cond t [] p ++ slash ∷ slash ∷ rest) (sym is) }
+        by_root true is = record {
+          rest = slash ∷ rest;
+          is = e
+              ∙ ap (λ x. x ++ slash ∷ rest) (same_means p (slash ∷ []) is) ∙ ap (λ t. cond t [] p ++ slash ∷ slash ∷ rest)
+              (sym is);
+        }
         by_root false is = record { rest = rest; is = e ∙ ap (λ t. cond t [] p ++ slash ∷ rest) (sym is) }
     says (root rest f e) = record { rest = rest; is = e ∙ ap (λ t. cond t [] p ++ slash ∷ rest) (sym ((bytes_decides p (slash ∷ [])).1 f)) }
 
@@ -103,7 +110,8 @@ elements-before : (first more : List ℕ) → NoSlash first → elements (first 
 elements-before first more free = elements-append first more ∙ ap (λ es. es ++ elements more) (elements-one first free)
 
 -- the first step to a name below an entry is the entry's name
-pub under_child : (p m q : List ℕ) → is_element m ≡ true → covers (child p m) q ≡ true → elements_under p q ≡ m ∷ elements_under (child p m) q
+pub under_child : (p m q : List ℕ) → is_element m ≡ true → covers (child p m) q ≡ true → elements_under p q
+    ≡ m ∷ elements_under (child p m) q
 under_child p m q good h = says (covers_says (child p m) q h)
   where
     short : length p < length (child p m)
@@ -125,11 +133,14 @@ under_child p m q good h = says (covers_says (child p m) q h)
         let more : length q ≡ length (child p m ++ slash ∷ r) = ap length e in
         under_after p q (m ++ slash ∷ r) whole apart
         ∙ elements-before m r (name_parts m good)
-        ∙ ap (λ es. m ∷ es) (sym (under_after (child p m) q r (e ∙ ap (λ x. x ++ slash ∷ r) (sym (stem-other (child p m) (child_below_root p m good)))) (shorter_apart (child p m) q (omega (arith, more, length-append (child p m) (slash ∷ r))))))
+        ∙ ap (λ es. m ∷ es) (sym (under_after (child p m) q r
+        (e ∙ ap (λ x. x ++ slash ∷ r) (sym (stem-other (child p m) (child_below_root p m good))))
+        (shorter_apart (child p m) q (omega (arith, more, length-append (child p m) (slash ∷ r))))))
     says (root r f e) = absurd (true≢false (sym ((bytes_decides (child p m) (slash ∷ [])).1 f) ∙ child_below_root p m good))
 
 -- a name below a path is below the entry that its first element names
-covers_first : (p q first : List ℕ) (later : List (List ℕ)) → covers p q ≡ true → bytes_eq p q ≡ false → is_element first ≡ true → elements_under p q ≡ first ∷ later → covers (child p first) q ≡ true
+covers_first : (p q first : List ℕ) (later : List (List ℕ)) → covers p q ≡ true → bytes_eq p q ≡ false →
+    is_element first ≡ true → elements_under p q ≡ first ∷ later → covers (child p first) q ≡ true
 covers_first p q first later h apart good e =
     let after = after_covers p q h apart in
     by_first after.rest (first_element_of after.rest) after.is (sym (under_after p q after.rest after.is apart) ∙ e)
@@ -137,17 +148,20 @@ covers_first p q first later h apart good e =
     head : (x y : List ℕ) (xs ys : List (List ℕ)) → x ∷ xs ≡ y ∷ ys → x ≡ y
     head x y xs ys h = cc h
 
-    by_first : (rest : List ℕ) → FirstElement rest → q ≡ stem_of p ++ slash ∷ rest → elements rest ≡ first ∷ later → covers (child p first) q ≡ true
+    by_first : (rest : List ℕ) → FirstElement rest → q ≡ stem_of p ++ slash ∷ rest → elements rest ≡ first ∷ later →
+        covers (child p first) q ≡ true
     by_first rest (alone text free) is es =
         let named : text ≡ first = head text first [] later (sym (elements-one text free) ∙ es) in
         covers_from (child p first) q (itself (ap (child p) (sym named) ∙ sym is))
     by_first rest (before text more free) is es =
         let named : text ≡ first = head text first (elements more) later (sym (elements-before text more free) ∙ es) in
-        covers_from (child p first) q (below more (is ∙ ap (λ x. stem_of p ++ slash ∷ (x ++ slash ∷ more)) named ∙ sym (append_assoc (stem_of p) (slash ∷ first) (slash ∷ more))))
+        covers_from (child p first) q (below more (is ∙ ap (λ x. stem_of p ++ slash ∷ (x ++ slash ∷ more)) named
+        ∙ sym (append_assoc (stem_of p) (slash ∷ first) (slash ∷ more))))
 
 -- ---- one step down
 
-listed_good : (names : List (List ℕ)) (m : List ℕ) → list_all is_element names ≡ true → list_any (λ l. bytes_eq l m) names ≡ true → is_element m ≡ true
+listed_good : (names : List (List ℕ)) (m : List ℕ) → list_all is_element names ≡ true →
+    list_any (λ l. bytes_eq l m) names ≡ true → is_element m ≡ true
 listed_good [] m all h = absurd (true≢false (sym h))
 listed_good (x ∷ names) m all h =
     let parts = and_parts (is_element x) (list_all is_element names) all in
@@ -181,7 +195,8 @@ pub record Onward (tree : Snapshot) (p q : List ℕ) : Type 0 where
 pub descends_refl : (tree : Snapshot) (p : List ℕ) → descends_to tree p p ≡ true
 descends_refl tree p = and_from _ _ (covers_refl p) (ap (descends tree p) (under_refl p))
 
-pub descends_on_from : (tree : Snapshot) (p q : List ℕ) → IsTree tree → descends_to tree p q ≡ true → (bytes_eq p q ≡ true) ⊎ Onward tree p q
+pub descends_on_from : (tree : Snapshot) (p q : List ℕ) → IsTree tree → descends_to tree p q ≡ true →
+    (bytes_eq p q ≡ true) ⊎ Onward tree p q
 descends_on_from tree p q model h =
     elim (cases_Bool (bytes_eq p q)) [
       | inl tied ↦ inl tied
@@ -216,7 +231,8 @@ descends_on_from tree p q model h =
           descends_on = and_from _ _ over (sym (ap (λ es. descends tree (child p name) (drop 1 es)) on) ∙ last.1);
         }
 
-pub descends_on_to : (tree : Snapshot) (p m q : List ℕ) → IsTree tree → Step tree p m → descends_to tree (child p m) q ≡ true → descends_to tree p q ≡ true
+pub descends_on_to : (tree : Snapshot) (p m q : List ℕ) → IsTree tree → Step tree p m → descends_to tree (child p m) q
+    ≡ true → descends_to tree p q ≡ true
 descends_on_to tree p m q model step h =
     let parts = and_parts (covers (child p m) q) _ h in
     let good = listed_name tree p m model step.listed in
@@ -226,7 +242,8 @@ descends_on_to tree p m q model step h =
 
 -- ---- the names reachable from a path
 
-walked_member : (test : List ℕ → Bool) (p m : List ℕ) (names : List (List ℕ)) → list_any (λ l. bytes_eq l m) names ≡ true → is_walked m ≡ true → test (child p m) ≡ true → list_any test (children p names) ≡ true
+walked_member : (test : List ℕ → Bool) (p m : List ℕ) (names : List (List ℕ)) → list_any (λ l. bytes_eq l m) names
+    ≡ true → is_walked m ≡ true → test (child p m) ≡ true → list_any test (children p names) ≡ true
 walked_member test p m [] listed good h = absurd (true≢false (sym listed))
 walked_member test p m (x ∷ names) listed good h =
     elim (or_cases (bytes_eq x m) _ listed) [
@@ -237,7 +254,8 @@ walked_member test p m (x ∷ names) listed good h =
       | inr there ↦ later (is_walked x) (walked_member test p m names there good h)
     ]
   where
-    later : (b : Bool) → list_any test (children p names) ≡ true → list_any test (map (child p) (cond b (x ∷ filter is_walked names) (filter is_walked names))) ≡ true
+    later : (b : Bool) → list_any test (children p names) ≡ true →
+        list_any test (map (child p) (cond b (x ∷ filter is_walked names) (filter is_walked names))) ≡ true
     later true rest = or_right (test (child p x)) _ rest
     later false rest = rest
 
@@ -253,9 +271,17 @@ walked_some test p [] h = absurd (true≢false (sym h))
 walked_some test p (x ∷ names) h = by_walked (is_walked x) refl h (walked_some test p names)
   where
     there : WalkedTo test p names → WalkedTo test p (x ∷ names)
-    there found = record { name = found.name; listed = or_right (bytes_eq x found.name) _ found.listed; walked = found.walked; accepts = found.accepts }
+    there found = record {
+      name = found.name;
+      listed = or_right (bytes_eq x found.name) _ found.listed;
+      walked =
+          found.walked;
+      accepts = found.accepts;
+    }
 
-    by_walked : (b : Bool) → is_walked x ≡ b → list_any test (map (child p) (cond b (x ∷ filter is_walked names) (filter is_walked names))) ≡ true → (list_any test (children p names) ≡ true → WalkedTo test p names) → WalkedTo test p (x ∷ names)
+    by_walked : (b : Bool) → is_walked x ≡ b →
+        list_any test (map (child p) (cond b (x ∷ filter is_walked names) (filter is_walked names))) ≡ true →
+        (list_any test (children p names) ≡ true → WalkedTo test p names) → WalkedTo test p (x ∷ names)
     by_walked true good found rest = elim (or_cases (test (child p x)) _ found) [
       | inl here ↦ record { name = x; listed = or_left (bytes_eq x x) _ (same_refl x); walked = good; accepts = here }
       | inr later ↦ there (rest later)
@@ -273,7 +299,8 @@ name_walked m good kept = and_from _ _ (and_parts (not (bytes_eq m [])) _ good).
 abbrev pub descends_by : Snapshot → List (List ℕ) → List ℕ → Bool
 descends_by tree paths name = list_any (λ path. descends_to tree path name) paths
 
-pub descends_unfolds : (tree : Snapshot) (p q : List ℕ) → IsTree tree → descends_to tree p q ≡ (bytes_eq p q || descends_by tree (children p (onward tree p)) q)
+pub descends_unfolds : (tree : Snapshot) (p q : List ℕ) → IsTree tree → descends_to tree p q
+    ≡ (bytes_eq p q || descends_by tree (children p (onward tree p)) q)
 descends_unfolds tree p q model = same_tests _ _ down up
   where
     down : descends_to tree p q ≡ true → (bytes_eq p q || descends_by tree (children p (onward tree p)) q) ≡ true
@@ -283,10 +310,12 @@ descends_unfolds tree p q model = same_tests _ _ down up
           let good = listed_name tree p on.name model on.step.listed in
           or_right (bytes_eq p q) _
           (ap (λ b. descends_by tree (children p (cond b (names_listed (item_at tree p)) [])) q) on.step.short
-          ∙ walked_member (λ path. descends_to tree path q) p on.name (names_listed (item_at tree p)) on.step.listed (name_walked on.name good on.step.kept) on.descends_on)
+          ∙ walked_member (λ path. descends_to tree path q) p on.name (names_listed (item_at tree p)) on.step.listed
+          (name_walked on.name good on.step.kept) on.descends_on)
     ]
 
-    by_short : (b : Bool) → nat_le (length p) longest_path ≡ b → descends_by tree (children p (cond b (names_listed (item_at tree p)) [])) q ≡ true → descends_to tree p q ≡ true
+    by_short : (b : Bool) → nat_le (length p) longest_path ≡ b →
+        descends_by tree (children p (cond b (names_listed (item_at tree p)) [])) q ≡ true → descends_to tree p q ≡ true
     by_short true short h =
         let found = walked_some (λ path. descends_to tree path q) p (names_listed (item_at tree p)) h in
         let walked = and_parts (not (bytes_eq found.name [])) (not (is_excluded found.name)) found.walked in

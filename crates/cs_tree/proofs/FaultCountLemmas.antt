@@ -32,7 +32,8 @@ one_if b = cond b 1 0
 
 module _ {X : Type 0} (test : X → Bool) where
   count-cons : (x : X) (xs : List X) → length (filter test (x ∷ xs)) ≡ one_if (test x) + length (filter test xs)
-  count-cons x xs = elim (test x) as (λ b. length (cond b (x ∷ filter test xs) (filter test xs)) ≡ one_if b + length (filter test xs)) [ true ↦ omega arith | false ↦ omega arith ]
+  count-cons x xs = elim (test x) as (λ b. length (cond b (x ∷ filter test xs) (filter test xs))
+      ≡ one_if b + length (filter test xs)) [ true ↦ omega arith | false ↦ omega arith ]
 
   count-append : (xs ys : List X) → length (filter test (xs ++ ys)) ≡ length (filter test xs) + length (filter test ys)
   count-append xs ys = ap length (filter-append test xs ys) ∙ length-append (filter test xs) (filter test ys)
@@ -47,9 +48,16 @@ module _ (test : List ℕ → Bool) where
   none_satisfies : (xs : List (List ℕ)) → ((x : List ℕ) → is_among xs x ≡ true → test x ≡ false) → length (filter test xs) ≡ 0
   none_satisfies [] none = refl
   none_satisfies (x ∷ xs) none =
-      omega (arith, count-cons test x xs, ap one_if (none x (among_first x xs)), none_satisfies xs (λ y there. none y (or_right (bytes_eq x y) _ there)))
+      omega (
+        arith,
+        count-cons test x xs,
+        ap one_if (none x (among_first x xs)),
+        none_satisfies xs (λ y there. none y (or_right (bytes_eq x y) _ there)),
+      )
 
-  one_satisfies : (xs : List (List ℕ)) → are_distinct xs ≡ true → ((x y : List ℕ) → is_among xs x ≡ true → is_among xs y ≡ true → test x ≡ true → test y ≡ true → x ≡ y) → length (filter test xs) ≤ 1
+  one_satisfies : (xs : List (List ℕ)) → are_distinct xs ≡ true →
+      ((x y : List ℕ) → is_among xs x ≡ true → is_among xs y ≡ true → test x ≡ true → test y ≡ true → x ≡ y) →
+      length (filter test xs) ≤ 1
   one_satisfies [] apart same = omega arith
   one_satisfies (x ∷ xs) apart same =
       let parts = and_parts (not (is_among xs x)) (are_distinct xs) apart in
@@ -57,10 +65,12 @@ module _ (test : List ℕ → Bool) where
         | inl here ↦
             let none = none_satisfies xs (λ y there. false_from_ne_true (test y) (λ accepts.
             both_ways (is_among xs x) (not-true _ parts.0)
-            (subst (λ z. is_among xs z ≡ true) (sym (same x y (among_first x xs) (or_right (bytes_eq x y) _ there) here accepts)) there))) in
+            (subst (λ z. is_among xs z ≡ true) (sym (same x y (among_first x xs) (or_right (bytes_eq x y) _ there) here
+            accepts)) there))) in
             omega (arith, count-cons test x xs, ap one_if here, none)
         | inr not_here ↦
-            let rest = one_satisfies xs parts.1 (λ y z in_y in_z. same y z (or_right (bytes_eq x y) _ in_y) (or_right (bytes_eq x z) _ in_z)) in
+            let rest = one_satisfies xs parts.1 (λ y z in_y in_z. same y z (or_right (bytes_eq x y) _ in_y)
+            (or_right (bytes_eq x z) _ in_z)) in
             omega (arith, count-cons test x xs, ap one_if not_here, rest)
       ]
 
@@ -101,7 +111,8 @@ nested p o r s e = from (split p o r s e)
     split [] [] r s e = same refl
     split [] (c ∷ o) r s e = inner o (ap (λ b. b ∷ o) (sym (ap (λ xs. get_or xs 0 0) e)))
     split (b ∷ p) [] r s e = outer p (ap (λ b. b ∷ p) (ap (λ xs. get_or xs 0 0) e))
-    split (b ∷ p) (c ∷ o) r s e = subst (λ d. Nested (b ∷ p) (d ∷ o)) (ap (λ xs. get_or xs 0 0) e) (longer b p o (split p o r s (ap (drop 1) e)))
+    split (b ∷ p) (c ∷ o) r s e = subst (λ d. Nested (b ∷ p) (d ∷ o)) (ap (λ xs. get_or xs 0 0) e)
+        (longer b p o (split p o r s (ap (drop 1) e)))
 
     from : Nested p o → (covers p o ≡ true) ⊎ (covers o p ≡ true)
     from (same e) = inl (covers_from p o (itself e))
@@ -134,7 +145,8 @@ either_covers p o q (root r e f) (root s g h) = inl (covers_from p o (itself (e 
 alone_same : (paths : List (List ℕ)) (p o : List ℕ) → is_alone paths o ≡ true → is_among paths p ≡ true → covers p o ≡ true → p ≡ o
 alone_same paths p o alone member over =
     (bytes_decides p o).0 (true_from_ne_false (bytes_eq p o) (λ apart.
-    both_ways _ (not-true _ alone) (any_satisfies (λ other. covers other o && not (bytes_eq other o)) paths p member (and_from (covers p o) _ over (not_from_false _ apart)))))
+    both_ways _ (not-true _ alone) (any_satisfies (λ other. covers other o && not (bytes_eq other o)) paths p member
+    (and_from (covers p o) _ over (not_from_false _ apart)))))
 
 -- at most one of them covers a name
 pub alone_once : (paths : List (List ℕ)) (q : List ℕ) → are_alone paths ≡ true → times_covered paths q ≤ 1
@@ -152,27 +164,39 @@ ascending_alone paths up alone = and_from (list_all (is_alone paths) paths) _ al
 
 -- ---- the children of a folder
 
-children_fewer : (path q : List ℕ) (names : List (List ℕ)) → times_covered (children path names) q ≤ length (filter (λ name. covers (child path name) q) names)
+children_fewer : (path q : List ℕ) (names : List (List ℕ)) → times_covered (children path names) q
+    ≤ length (filter (λ name. covers (child path name) q) names)
 children_fewer path q [] = omega arith
 children_fewer path q (name ∷ names) =
-    elim (is_walked name) as (λ b. times_covered (map (child path) (cond b (name ∷ filter is_walked names) (filter is_walked names))) q ≤ length (filter (λ n. covers (child path n) q) (name ∷ names))) [
-      | true ↦ omega (arith, count-cons (λ p. covers p q) (child path name) (children path names), count-cons (λ n. covers (child path n) q) name names, children_fewer path q names)
+    elim (is_walked name) as (λ b. times_covered
+    (map (child path) (cond b (name ∷ filter is_walked names) (filter is_walked names))) q
+    ≤ length (filter (λ n. covers (child path n) q) (name ∷ names))) [
+      | true ↦ omega (
+        arith,
+        count-cons (λ p. covers p q) (child path name) (children path names),
+        count-cons (λ n. covers (child path n) q) name names,
+        children_fewer path q names,
+      )
       | false ↦ omega (arith, count-cons (λ n. covers (child path n) q) name names, children_fewer path q names)
     ]
 
 -- A path covers itself and what its children cover, each name once.
-children_once : (path q : List ℕ) (names : List (List ℕ)) → are_elements names ≡ true → one_if (bytes_eq path q) + times_covered (children path names) q ≤ one_if (covers path q)
+children_once : (path q : List ℕ) (names : List (List ℕ)) → are_elements names ≡ true → one_if (bytes_eq path q)
+    + times_covered (children path names) q ≤ one_if (covers path q)
 children_once path q names good =
     let parts = and_parts (list_all is_element names) (are_distinct names) good in
     elim (cases_Bool (bytes_eq path q)) [
       | inl here ↦
           let is : path ≡ q = (bytes_decides path q).0 here in
           let over : covers path q ≡ true = covers_from path q (itself is) in
-          let none = none_satisfies (λ name. covers (child path name) q) names (λ name member. beyond name is (all_satisfy is_element names name parts.0 member)) in
+          let none = none_satisfies (λ name. covers (child path name) q) names
+          (λ name member. beyond name is (all_satisfy is_element names name parts.0 member)) in
           omega (arith, ap one_if here, ap one_if over, none, children_fewer path q names)
       | inr apart ↦ elim (cases_Bool (covers path q)) [
         | inl over ↦
-            let one = one_satisfies (λ name. covers (child path name) q) names parts.1 (λ m n in_m in_n. same m n (all_satisfy is_element names m parts.0 in_m) (all_satisfy is_element names n parts.0 in_n)) in
+            let one = one_satisfies (λ name. covers (child path name) q) names parts.1
+            (λ m n in_m in_n. same m n (all_satisfy is_element names m parts.0 in_m)
+            (all_satisfy is_element names n parts.0 in_n)) in
             omega (arith, ap one_if apart, ap one_if over, one, children_fewer path q names)
         | inr beside ↦
             let none = none_satisfies (λ name. covers (child path name) q) names (λ name member. false_from_ne_true _ (λ over.
@@ -194,7 +218,8 @@ children_once path q names good =
           | inr less ↦ absurd (omega (arith, long, as_long, less))
         ])
 
-    same : (m n : List ℕ) → is_element m ≡ true → is_element n ≡ true → covers (child path m) q ≡ true → covers (child path n) q ≡ true → m ≡ n
+    same : (m n : List ℕ) → is_element m ≡ true → is_element n ≡ true → covers (child path m) q ≡ true →
+        covers (child path n) q ≡ true → m ≡ n
     same m n good_m good_n over_m over_n = heads m n _ _ (sym (under_child path m q good_m over_m) ∙ under_child path n q good_n over_n)
       where
         heads : (x y : List ℕ) (xs ys : List (List ℕ)) → x ∷ xs ≡ y ∷ ys → x ≡ y
@@ -206,13 +231,17 @@ children_once path q names good =
 -- and 0 if the start does not cover the path.
 abbrev pub AddsFewSoFar : List ℕ → List (List ℕ) → Walked → Walked → Type 0
 AddsFewSoFar start pending old new =
-    (path : List ℕ) → fault_count (faults_walked new) path + times_covered pending path ≤ fault_count (faults_walked old) path + times_covered (start ∷ []) path
+    (path : List ℕ) → fault_count (faults_walked new) path + times_covered pending path
+    ≤ fault_count (faults_walked old) path + times_covered (start ∷ []) path
 
 faults_few : (o : Option WalkFault) (path q : List ℕ) → fault_count (fault_if o path) q ≤ one_if (bytes_eq path q)
 faults_few None path q = omega arith
 faults_few (Some fault) path q = omega (arith, count-cons (λ (left : FaultEntry). bytes_eq left.0 q) (path, fault) [])
 
-pub adds_on : (start path : List ℕ) (seen : PathStatus) (rest pending : List (List ℕ)) (old mid new : Walked) → are_elements (names_seen seen) ≡ true → faults_walked new ≡ faults_walked mid ++ fault_if (fault_seen seen) path → pending ≡ rest ++ children path (names_seen seen) → AddsFewSoFar start (rest ++ path ∷ []) old mid → AddsFewSoFar start pending old new
+pub adds_on : (start path : List ℕ) (seen : PathStatus) (rest pending : List (List ℕ)) (old mid new : Walked) →
+    are_elements (names_seen seen) ≡ true → faults_walked new ≡ faults_walked mid ++ fault_if (fault_seen seen) path →
+    pending ≡ rest ++ children path (names_seen seen) → AddsFewSoFar start (rest ++ path ∷ []) old mid →
+    AddsFewSoFar start pending old new
 adds_on start path seen rest pending old mid new good faults waits so_far = λ q.
     omega (
       arith,
@@ -228,7 +257,8 @@ adds_on start path seen rest pending old mid new good faults waits so_far = λ q
     )
 
 -- one more path
-pub adds_more : (paths : List (List ℕ)) (path : List ℕ) (old mid new : Walked) → AddsFewFaults paths old mid → AddsFewFaults (path ∷ []) mid new → AddsFewFaults (paths ++ path ∷ []) old new
+pub adds_more : (paths : List (List ℕ)) (path : List ℕ) (old mid new : Walked) → AddsFewFaults paths old mid →
+    AddsFewFaults (path ∷ []) mid new → AddsFewFaults (paths ++ path ∷ []) old new
 adds_more paths path old mid new first second = λ q. omega (arith, first q, second q, count-append (λ p. covers p q) paths (path ∷ []))
 
 -- ---- sorted
@@ -238,25 +268,38 @@ after : ℕ → ℕ → ℕ
 after zero n = n
 after (suc k) n = after k (next_count n)
 
-failures_many : (faults : List FaultEntry) (n : ℕ) → failures_walked faults n ≡ after (length (filter (λ (left : FaultEntry). is_failed_call left.1) faults)) n
+failures_many : (faults : List FaultEntry) (n : ℕ) → failures_walked faults n
+    ≡ after (length (filter (λ (left : FaultEntry). is_failed_call left.1) faults)) n
 unfolding after
 failures_many [] n = refl
 failures_many (left ∷ faults) n =
-    elim (is_failed_call left.1) as (λ b. failures_walked faults (count_if b n) ≡ after (length (cond b (left ∷ filter (λ (l : FaultEntry). is_failed_call l.1) faults) (filter (λ (l : FaultEntry). is_failed_call l.1) faults))) n) [
+    elim (is_failed_call left.1) as (λ b. failures_walked faults (count_if b n)
+    ≡ after (length (cond b (left ∷ filter (λ (l : FaultEntry). is_failed_call l.1) faults)
+    (filter (λ (l : FaultEntry). is_failed_call l.1) faults))) n) [
       | true ↦ failures_many faults (next_count n)
       | false ↦ failures_many faults n
     ]
 
 pub failures_moved : (xs ys : List FaultEntry) (n : ℕ) → IsPermutation xs ys → failures_walked ys n ≡ failures_walked xs n
-failures_moved xs ys n moved = failures_many ys n ∙ ap (λ k. after k n) (count_moved (λ (left : FaultEntry). is_failed_call left.1) xs ys moved) ∙ sym (failures_many xs n)
+failures_moved xs ys n moved = failures_many ys n
+    ∙ ap (λ k. after k n) (count_moved (λ (left : FaultEntry). is_failed_call left.1) xs ys moved)
+    ∙ sym (failures_many xs n)
 
 module _ {X : Type 0} (key : X → List ℕ) where
-  apart_from : (k : X) (xs : List X) → ((q : List ℕ) → length (filter (λ x. bytes_eq (key x) q) (k ∷ xs)) ≤ 1) → dedup_from (same_key key) k xs ≡ k ∷ xs
+  apart_from : (k : X) (xs : List X) → ((q : List ℕ) → length (filter (λ x. bytes_eq (key x) q) (k ∷ xs)) ≤ 1) →
+      dedup_from (same_key key) k xs ≡ k ∷ xs
   apart_from k [] once = refl
   apart_from k (x ∷ xs) once =
       let alike = λ (y : X). bytes_eq (key y) (key k) in
       elim (cases_Bool (same_key key x k)) [
-        | inl tied ↦ absurd (omega (arith, once (key k), count-cons alike k (x ∷ xs), count-cons alike x xs, ap one_if tied, ap one_if ((bytes_decides (key k) (key k)).1 refl)))
+        | inl tied ↦ absurd (omega (
+          arith,
+          once (key k),
+          count-cons alike k (x ∷ xs),
+          count-cons alike x xs,
+          ap one_if tied,
+          ap one_if ((bytes_decides (key k) (key k)).1 refl),
+        ))
         | inr apart ↦
             ap (λ b. cond b (dedup_from (same_key key) k xs) (k ∷ dedup_from (same_key key) x xs)) apart
             ∙ ap (λ ys. k ∷ ys) (apart_from x xs (λ q. omega (arith, once q, count-cons (λ y. bytes_eq (key y) q) k (x ∷ xs))))
@@ -267,10 +310,17 @@ module _ {X : Type 0} (key : X → List ℕ) where
   apart_stays (x ∷ xs) once = apart_from x xs once
 
 -- sorted faults, one for each path: none is lost if no path has two
-pub whole_once : {X : Type 0} (view : X → FaultEntry) (xs sorted : List X) → IsPermutation xs sorted → AreFaultsDistinct (map view xs) → IsPermutation (map view xs) (map view (dedup (λ x y. bytes_eq (view x).0 (view y).0) sorted))
+pub whole_once : {X : Type 0} (view : X → FaultEntry) (xs sorted : List X) → IsPermutation xs sorted →
+    AreFaultsDistinct (map view xs) → IsPermutation (map view xs)
+    (map view (dedup (λ x y. bytes_eq (view x).0 (view y).0) sorted))
 whole_once view xs sorted moved once =
     let path = λ (left : FaultEntry). left.0 in
     let moved' = IsPermutation-map view xs sorted moved in
     subst (IsPermutation (map view xs))
-    (sym (once_seen view (same_key path) sorted ∙ apart_stays path (map view sorted) (λ q. omega (arith, once q, count_moved (λ (left : FaultEntry). bytes_eq left.0 q) (map view xs) (map view sorted) moved'))))
+    (sym (once_seen view (same_key path) sorted
+    ∙ apart_stays path (map view sorted) (λ q. omega (
+      arith,
+      once q,
+      count_moved (λ (left : FaultEntry). bytes_eq left.0 q) (map view xs) (map view sorted) moved',
+    ))))
     moved'

@@ -26,8 +26,10 @@ use Rattle.cs_tree.proofs.DescentLemmas.{child_longer}
 among-append : (xs ys : List (List ℕ)) (name : List ℕ) → is_among (xs ++ ys) name ≡ (is_among xs name || is_among ys name)
 among-append xs ys name = list_any-append (λ one. bytes_eq one name) xs ys
 
-gains_trans : (old mid new : List (List ℕ)) (a b keep : List ℕ → Bool) → Gains old mid (λ q. a q && keep q) → Gains mid new (λ q. b q && keep q) → Gains old new (λ q. (a q || b q) && keep q)
-gains_trans old mid new a b keep first second = λ q. second q ∙ ap (λ x. x || (b q && keep q)) (first q) ∙ both (is_among old q) (a q) (b q) (keep q)
+gains_trans : (old mid new : List (List ℕ)) (a b keep : List ℕ → Bool) → Gains old mid (λ q. a q && keep q) →
+    Gains mid new (λ q. b q && keep q) → Gains old new (λ q. (a q || b q) && keep q)
+gains_trans old mid new a b keep first second = λ q. second q ∙ ap (λ x. x || (b q && keep q)) (first q)
+    ∙ both (is_among old q) (a q) (b q) (keep q)
   where
     both : (x y z k : Bool) → ((x || (y && k)) || (z && k)) ≡ (x || ((y || z) && k))
     both true y z k = refl
@@ -44,11 +46,13 @@ gains_none names keep = λ q. right_false (is_among names q)
     right_false true = refl
     right_false false = refl
 
-gains_same : (old new : List (List ℕ)) (a b keep : List ℕ → Bool) → ((q : List ℕ) → a q ≡ b q) → Gains old new (λ q. a q && keep q) → Gains old new (λ q. b q && keep q)
+gains_same : (old new : List (List ℕ)) (a b keep : List ℕ → Bool) → ((q : List ℕ) → a q ≡ b q) →
+    Gains old new (λ q. a q && keep q) → Gains old new (λ q. b q && keep q)
 gains_same old new a b keep is h = λ q. h q ∙ ap (λ x. is_among old q || (x && keep q)) (is q)
 
 -- one more path, if the test keeps it
-gains_one : (old new : List (List ℕ)) (b : Bool) (path : List ℕ) (keep : List ℕ → Bool) → b ≡ keep path → new ≡ old ++ named_if b path → Gains old new (λ q. bytes_eq path q && keep q)
+gains_one : (old new : List (List ℕ)) (b : Bool) (path : List ℕ) (keep : List ℕ → Bool) → b ≡ keep path →
+    new ≡ old ++ named_if b path → Gains old new (λ q. bytes_eq path q && keep q)
 gains_one old new b path keep kept e = λ q.
     ap (λ xs. is_among xs q) e ∙ among-append old (named_if b path) q ∙ ap (λ x. is_among old q || x) (by_kept b kept q)
   where
@@ -67,14 +71,17 @@ gains_one old new b path keep kept e = λ q.
 
 -- ---- names and faults
 
-pub gathers_trans : (tree : Snapshot) {a b : List ℕ → Bool} {old mid new : Walked} → Gathers tree a old mid → Gathers tree b mid new → Gathers tree (λ q. a q || b q) old new
+pub gathers_trans : (tree : Snapshot) {a b : List ℕ → Bool} {old mid new : Walked} → Gathers tree a old mid →
+    Gathers tree b mid new → Gathers tree (λ q. a q || b q) old new
 gathers_trans tree {a} {b} {old} {mid} {new} first second = record {
   names = gains_trans (names_walked old) (names_walked mid) (names_walked new) a b (is_short_file tree) first.names second.names;
-  paths = gains_trans (fault_paths (faults_walked old)) (fault_paths (faults_walked mid)) (fault_paths (faults_walked new)) a b (has_fault tree) first.paths second.paths;
+  paths = gains_trans (fault_paths (faults_walked old)) (fault_paths (faults_walked mid))
+      (fault_paths (faults_walked new)) a b (has_fault tree) first.paths second.paths;
   right = λ h. second.right (first.right h);
 }
 
-pub gathers_same : (tree : Snapshot) {a b : List ℕ → Bool} {old new : Walked} → ((q : List ℕ) → a q ≡ b q) → Gathers tree a old new → Gathers tree b old new
+pub gathers_same : (tree : Snapshot) {a b : List ℕ → Bool} {old new : Walked} → ((q : List ℕ) → a q ≡ b q) →
+    Gathers tree a old new → Gathers tree b old new
 gathers_same tree {a} {b} {old} {new} is h = record {
   names = gains_same (names_walked old) (names_walked new) a b (is_short_file tree) is h.names;
   paths = gains_same (fault_paths (faults_walked old)) (fault_paths (faults_walked new)) a b (has_fault tree) is h.paths;
@@ -88,7 +95,8 @@ gathers_none tree walked = record {
   right = λ h. h;
 }
 
-paths_of_faults : (faults : List FaultEntry) (o : Option WalkFault) (path : List ℕ) → fault_paths (faults ++ fault_if o path) ≡ fault_paths faults ++ named_if (is_some o) path
+paths_of_faults : (faults : List FaultEntry) (o : Option WalkFault) (path : List ℕ) →
+    fault_paths (faults ++ fault_if o path) ≡ fault_paths faults ++ named_if (is_some o) path
 paths_of_faults faults None path = map-append (λ (left : FaultEntry). left.0) faults []
 paths_of_faults faults (Some fault) path = map-append (λ (left : FaultEntry). left.0) faults ((path, fault) ∷ [])
 
@@ -96,15 +104,22 @@ pub all-append : {X : Type 0} (P : X → Type 0) (xs ys : List X) → AllByRecur
 all-append P [] ys h k = k
 all-append P (x ∷ xs) ys h k = (h.0, all-append P xs ys h.1 k)
 
-right_left : (tree : Snapshot) (o : Option WalkFault) (path : List ℕ) → o ≡ path_fault path (item_at tree path) → AreFaultsIn tree (fault_if o path)
+right_left : (tree : Snapshot) (o : Option WalkFault) (path : List ℕ) → o ≡ path_fault path (item_at tree path) →
+    AreFaultsIn tree (fault_if o path)
 right_left tree None path e = tt
 right_left tree (Some fault) path e = (sym e, tt)
 
-pub gathers_one : (tree : Snapshot) (path : List ℕ) (seen : PathStatus) (old new : Walked) → IsStatusOf tree path seen → names_walked new ≡ names_walked old ++ named_if (is_file_seen seen) path → faults_walked new ≡ faults_walked old ++ fault_if (fault_seen seen) path → Gathers tree (λ q. bytes_eq path q) old new
+pub gathers_one : (tree : Snapshot) (path : List ℕ) (seen : PathStatus) (old new : Walked) → IsStatusOf tree path seen →
+    names_walked new ≡ names_walked old ++ named_if (is_file_seen seen) path → faults_walked new ≡ faults_walked old
+    ++ fault_if (fault_seen seen) path → Gathers tree (λ q. bytes_eq path q) old new
 gathers_one tree path seen old new shows names faults = record {
   names = gains_one (names_walked old) (names_walked new) (is_file_seen seen) path (is_short_file tree) shows.file names;
-  paths = gains_one (fault_paths (faults_walked old)) (fault_paths (faults_walked new)) (is_some (fault_seen seen)) path (has_fault tree) (ap is_some shows.fault) (ap fault_paths faults ∙ paths_of_faults (faults_walked old) (fault_seen seen) path);
-  right = λ h. subst (AreFaultsIn tree) (sym faults) (all-append _ (faults_walked old) (fault_if (fault_seen seen) path) h (right_left tree (fault_seen seen) path shows.fault));
+  paths = gains_one (fault_paths (faults_walked old)) (fault_paths (faults_walked new)) (is_some (fault_seen seen)) path
+      (has_fault tree) (ap is_some shows.fault)
+      (ap fault_paths faults ∙ paths_of_faults (faults_walked old) (fault_seen seen) path);
+  right = λ h. subst (AreFaultsIn tree) (sym faults)
+      (all-append _ (faults_walked old) (fault_if (fault_seen seen) path) h
+      (right_left tree (fault_seen seen) path shows.fault));
 }
 
 -- ---- a named path
@@ -131,14 +146,16 @@ none tree q = false
 abbrev pub only : List ℕ → ReachTest
 only path tree q = bytes_eq path q
 
-pub trans_in : (model later : Option Snapshot) (a b : ReachTest) (old mid new : Walked) → later ≡ model → GathersIn model a old mid → GathersIn later b mid new → GathersIn model (either a b) old new
+pub trans_in : (model later : Option Snapshot) (a b : ReachTest) (old mid new : Walked) → later ≡ model →
+    GathersIn model a old mid → GathersIn later b mid new → GathersIn model (either a b) old new
 trans_in model later a b old mid new e first second = by_model model first (subst (λ o. GathersIn o b mid new) e second)
   where
     by_model : (o : Option Snapshot) → GathersIn o a old mid → GathersIn o b mid new → GathersIn o (either a b) old new
     by_model None first second = tt
     by_model (Some tree) first second = λ good. gathers_trans tree (first good) (second good)
 
-pub same_in : (model : Option Snapshot) (a b : ReachTest) (old new : Walked) → ((tree : Snapshot) → (q : List ℕ) → a tree q ≡ b tree q) → GathersIn model a old new → GathersIn model b old new
+pub same_in : (model : Option Snapshot) (a b : ReachTest) (old new : Walked) →
+    ((tree : Snapshot) → (q : List ℕ) → a tree q ≡ b tree q) → GathersIn model a old new → GathersIn model b old new
 same_in None a b old new is h = tt
 same_in (Some tree) a b old new is h = λ good. gathers_same tree (is tree) (h good)
 
@@ -151,24 +168,32 @@ module _ (reach : Snapshot → List ℕ → List ℕ → Bool) where
   abbrev pub reach_by : List (List ℕ) → ReachTest
   reach_by paths tree name = list_any (λ path. reach tree path name) paths
 
-  reach_more : (paths : List (List ℕ)) (path : List ℕ) (tree : Snapshot) (q : List ℕ) → either (reach_by paths) (λ model. reach model path) tree q ≡ reach_by (paths ++ path ∷ []) tree q
-  reach_more paths path tree q = ap (λ b. reach_by paths tree q || b) (right_false (reach tree path q)) ∙ sym (list_any-append (λ p. reach tree p q) paths (path ∷ []))
+  reach_more : (paths : List (List ℕ)) (path : List ℕ) (tree : Snapshot) (q : List ℕ) →
+      either (reach_by paths) (λ model. reach model path) tree q ≡ reach_by (paths ++ path ∷ []) tree q
+  reach_more paths path tree q = ap (λ b. reach_by paths tree q || b) (right_false (reach tree path q))
+      ∙ sym (list_any-append (λ p. reach tree p q) paths (path ∷ []))
     where
       right_false : (b : Bool) → b ≡ (b || false)
       right_false true = refl
       right_false false = refl
 
-  pub more_in : (model later : Option Snapshot) (paths : List (List ℕ)) (path : List ℕ) (old mid new : Walked) → later ≡ model → GathersIn model (reach_by paths) old mid → GathersIn later (λ tree. reach tree path) mid new → GathersIn model (reach_by (paths ++ path ∷ [])) old new
+  pub more_in : (model later : Option Snapshot) (paths : List (List ℕ)) (path : List ℕ) (old mid new : Walked) → later
+      ≡ model → GathersIn model (reach_by paths) old mid → GathersIn later (λ tree. reach tree path) mid new →
+      GathersIn model (reach_by (paths ++ path ∷ [])) old new
   more_in model later paths path old mid new e first second =
       same_in model (either (reach_by paths) (λ tree. reach tree path)) (reach_by (paths ++ path ∷ [])) old new (reach_more paths path)
       (trans_in model later (reach_by paths) (λ tree. reach tree path) old mid new e first second)
 
 -- nothing is found from an excluded path
-pub skipped_in : (model : Option Snapshot) (path : List ℕ) (walked : Walked) → is_excluded (last_element path) ≡ true → GathersIn model (λ tree. reaches tree path) walked walked
-skipped_in model path walked skipped = same_in model none (λ tree. reaches tree path) walked walked (λ tree q. reaches_skipped tree path q skipped) (none_in model walked)
+pub skipped_in : (model : Option Snapshot) (path : List ℕ) (walked : Walked) → is_excluded (last_element path) ≡ true →
+    GathersIn model (λ tree. reaches tree path) walked walked
+skipped_in model path walked skipped = same_in model none (λ tree. reaches tree path) walked walked
+    (λ tree q. reaches_skipped tree path q skipped) (none_in model walked)
 
-pub kept_in : (model : Option Snapshot) (path : List ℕ) (old new : Walked) → is_excluded (last_element path) ≡ false → GathersIn model (λ tree. descends_to tree path) old new → GathersIn model (λ tree. reaches tree path) old new
-kept_in model path old new kept h = same_in model (λ tree. descends_to tree path) (λ tree. reaches tree path) old new (λ tree q. reaches_kept tree path q kept) h
+pub kept_in : (model : Option Snapshot) (path : List ℕ) (old new : Walked) → is_excluded (last_element path) ≡ false →
+    GathersIn model (λ tree. descends_to tree path) old new → GathersIn model (λ tree. reaches tree path) old new
+kept_in model path old new kept h = same_in model (λ tree. descends_to tree path) (λ tree. reaches tree path) old new
+    (λ tree q. reaches_kept tree path q kept) h
 
 -- ---- counts
 
@@ -176,14 +201,18 @@ failures-append : (xs ys : List FaultEntry) (n : ℕ) → failures_walked (xs ++
 failures-append [] ys n = refl
 failures-append (left ∷ xs) ys n = failures-append xs ys (count_if (is_failed_call left.1) n)
 
-counts_seen : (seen : PathStatus) (path : List ℕ) (count later : ℕ) → CountsStatus seen count later → later ≡ failures_walked (fault_if (fault_seen seen) path) count
+counts_seen : (seen : PathStatus) (path : List ℕ) (count later : ℕ) → CountsStatus seen count later → later
+    ≡ failures_walked (fault_if (fault_seen seen) path) count
 counts_seen status.File path count later h = h
 counts_seen (status.Folder listing) path count later h =
-    h ∙ elim listing.unnamed as (λ b. count ≡ failures_walked (fault_if (cond b (Some fault.Unnamed) None) path) count) [ true ↦ refl | false ↦ refl ]
+    h ∙ elim listing.unnamed as (λ b. count ≡ failures_walked (fault_if (cond b (Some fault.Unnamed) None) path) count)
+    [ true ↦ refl | false ↦ refl ]
 counts_seen status.Other path count later h = h
 counts_seen (status.Unreadable f) path count later h = h
 
-pub counts_one : (count later : ℕ) (path : List ℕ) (seen : PathStatus) (old new : Walked) → CountsStatus seen count later → faults_walked new ≡ faults_walked old ++ fault_if (fault_seen seen) path → KeepsCount count later old new
+pub counts_one : (count later : ℕ) (path : List ℕ) (seen : PathStatus) (old new : Walked) →
+    CountsStatus seen count later → faults_walked new ≡ faults_walked old ++ fault_if (fault_seen seen) path →
+    KeepsCount count later old new
 counts_one count later path seen old new h faults = λ start so_far.
     counts_seen seen path count later h
     ∙ ap (failures_walked (fault_if (fault_seen seen) path)) so_far
@@ -204,13 +233,17 @@ children_deeper path (name ∷ names) short = by_walked (is_walked name) refl (c
     some [] h = absurd (true≢false (sym h))
     some (b ∷ text) h = omega arith
 
-    by_walked : (b : Bool) → is_walked name ≡ b → AreDeeper path (children path names) → AreDeeper path (map (child path) (cond b (name ∷ filter is_walked names) (filter is_walked names)))
+    by_walked : (b : Bool) → is_walked name ≡ b → AreDeeper path (children path names) →
+        AreDeeper path (map (child path) (cond b (name ∷ filter is_walked names) (filter is_walked names)))
     by_walked true good rest = ((short, child_longer path name (some name good)), rest)
     by_walked false good rest = rest
 
 -- the path of a found file is within the limit
-pub path_limit_one : (path : List ℕ) (seen : PathStatus) (old new : Walked) → IsEntered path seen → names_walked new ≡ names_walked old ++ named_if (is_file_seen seen) path → AreWithinPathLimit (names_walked old) → AreWithinPathLimit (names_walked new)
-path_limit_one path seen old new entered names all = subst AreWithinPathLimit (sym names) (all-append _ (names_walked old) (named_if (is_file_seen seen) path) all (here seen entered))
+pub path_limit_one : (path : List ℕ) (seen : PathStatus) (old new : Walked) → IsEntered path seen → names_walked new
+    ≡ names_walked old ++ named_if (is_file_seen seen) path → AreWithinPathLimit (names_walked old) →
+    AreWithinPathLimit (names_walked new)
+path_limit_one path seen old new entered names all = subst AreWithinPathLimit (sym names)
+    (all-append _ (names_walked old) (named_if (is_file_seen seen) path) all (here seen entered))
   where
     here : (seen : PathStatus) → IsEntered path seen → AreWithinPathLimit (named_if (is_file_seen seen) path)
     here status.File entered = (entered, tt)

@@ -21,7 +21,8 @@ Grows-same None = tt
 Grows-same (Some a) = ap (λ bytes. Some (record a { bytes = bytes })) (sym (append-nil a.bytes))
 
 -- after a write of `&xs[i..]` that wrote n bytes
-pub Grows_on : (a b c : Option SinkModel) (i n : ℕ) (xs : List ℕ) → Grows a b (take i xs) → Grows b c (take n (take (length xs - i) (drop i xs))) → Grows a c (take (i + n) xs)
+pub Grows_on : (a b c : Option SinkModel) (i n : ℕ) (xs : List ℕ) → Grows a b (take i xs) →
+    Grows b c (take n (take (length xs - i) (drop i xs))) → Grows a c (take (i + n) xs)
 Grows_on a b c i n xs g h =
     subst (Grows a c) (sym (take_on i n xs))
     (Grows-chain a b c (take i xs) (take n (drop i xs)) g (subst (λ rest. Grows b c (take n rest)) (take_rest xs i) h))
@@ -34,4 +35,5 @@ leaves_flushed (Some a) b xs g = subst HasFlushed (sym g) refl
 
 pub GrowsFlushed-chain : (a b c : Option SinkModel) (xs ys : List ℕ) → Grows a b xs → GrowsFlushed b c ys → GrowsFlushed a c (xs ++ ys)
 GrowsFlushed-chain None b c xs ys g h = leaves_flushed b c ys h
-GrowsFlushed-chain (Some a) b c xs ys g h = subst (λ o. GrowsFlushed o c ys) g h ∙ ap (λ t. Some (after_flush t)) (with_bytes-with_bytes a xs ys)
+GrowsFlushed-chain (Some a) b c xs ys g h = subst (λ o. GrowsFlushed o c ys) g h
+    ∙ ap (λ t. Some (after_flush t)) (with_bytes-with_bytes a xs ys)

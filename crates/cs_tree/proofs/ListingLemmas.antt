@@ -14,10 +14,12 @@ use Rattle.cs_tree.proofs.NameOrderLemmas.{before_trans}
 
 apart : (a b : List ℕ) → is_lt (bytes_cmp a b) ≡ true → bytes_eq b a ≡ false
 apart a b h = false_from_ne_true _ (λ tied.
-    true≢false (sym (subst (λ x. is_lt (bytes_cmp a x) ≡ true) ((bytes_decides b a).0 tied) h) ∙ ap is_lt (tied_itself nat_list_cmp_total a)))
+    true≢false (sym (subst (λ x. is_lt (bytes_cmp a x) ≡ true) ((bytes_decides b a).0 tied) h)
+    ∙ ap is_lt (tied_itself nat_list_cmp_total a)))
 
 -- a name less than the first of some ascending names is none of them
-none_below : (a : List ℕ) (names : List (List ℕ)) (b : List ℕ) → is_lt (bytes_cmp a b) ≡ true → are_ascending (b ∷ names) ≡ true → is_among (b ∷ names) a ≡ false
+none_below : (a : List ℕ) (names : List (List ℕ)) (b : List ℕ) → is_lt (bytes_cmp a b) ≡ true →
+    are_ascending (b ∷ names) ≡ true → is_among (b ∷ names) a ≡ false
 none_below a [] b less up = ap (λ x. x || false) (apart a b less)
 none_below a (c ∷ names) b less up =
     let parts = and_parts (is_lt (bytes_cmp b c)) (are_ascending (c ∷ names)) up in
@@ -31,7 +33,8 @@ ascending_distinct (a ∷ b ∷ names) up =
     and_from (not (is_among (b ∷ names) a)) _ (ap not (none_below a names b parts.0 parts.1)) (ascending_distinct (b ∷ names) parts.1)
 
 -- a test that each name satisfies
-satisfies_one : (test : List ℕ → Bool) (names : List (List ℕ)) (name : List ℕ) → list_all test names ≡ true → is_among names name ≡ true → test name ≡ true
+satisfies_one : (test : List ℕ → Bool) (names : List (List ℕ)) (name : List ℕ) → list_all test names ≡ true →
+    is_among names name ≡ true → test name ≡ true
 satisfies_one test [] name all h = absurd (true≢false (sym h))
 satisfies_one test (x ∷ names) name all h =
     let parts = and_parts (test x) (list_all test names) all in
@@ -40,14 +43,16 @@ satisfies_one test (x ∷ names) name all h =
       | inr there ↦ satisfies_one test names name parts.1 there
     ]
 
-satisfies_all : (test : List ℕ → Bool) (names : List (List ℕ)) → ((name : List ℕ) → is_among names name ≡ true → test name ≡ true) → list_all test names ≡ true
+satisfies_all : (test : List ℕ → Bool) (names : List (List ℕ)) →
+    ((name : List ℕ) → is_among names name ≡ true → test name ≡ true) → list_all test names ≡ true
 satisfies_all test [] each = refl
 satisfies_all test (x ∷ names) each =
     and_from (test x) _ (each x (or_left (bytes_eq x x) _ ((bytes_decides x x).1 refl)))
     (satisfies_all test names (λ name there. each name (or_right (bytes_eq x name) _ there)))
 
 -- the same names, sorted
-pub names_in_order : (old new : List (List ℕ)) → list_all is_element old ≡ true → are_ascending new ≡ true → ((name : List ℕ) → is_among new name ≡ is_among old name) → are_elements new ≡ true
+pub names_in_order : (old new : List (List ℕ)) → list_all is_element old ≡ true → are_ascending new ≡ true →
+    ((name : List ℕ) → is_among new name ≡ is_among old name) → are_elements new ≡ true
 names_in_order old new good up alike =
     and_from (list_all is_element new) _
     (satisfies_all is_element new (λ name there. satisfies_one is_element old name good (sym (alike name) ∙ there)))

@@ -15,7 +15,8 @@ use Rattle.cs_tree.proofs.SplitLemmas.{NoSlash, stem-other}
 -- ---- lists
 
 -- the first items of a mapped list, with one more item
-pub mapped_more : {X : Type 0} (f : X → List ℕ) (xs : List X) (i : ℕ) (x : X) → i < length xs → x ≡ get_or xs i x → map f (take (i + 1) xs) ≡ map f (take i xs) ++ f x ∷ []
+pub mapped_more : {X : Type 0} (f : X → List ℕ) (xs : List X) (i : ℕ) (x : X) → i < length xs → x ≡ get_or xs i x →
+    map f (take (i + 1) xs) ≡ map f (take i xs) ++ f x ∷ []
 mapped_more f xs i x low is = ap (map f) (take_more xs i x low ∙ ap (λ y. take i xs ++ y ∷ []) (sym is)) ∙ map-append f (take i xs) (x ∷ [])
 
 module _ {X Y : Type 0} (view : X → Y) (test : Y → Bool) where
@@ -31,6 +32,7 @@ name_parts name h = not-true _ (and_parts (not (list_any (λ b. eqb b slash) nam
 pub folder_covers_child : (folder name : List ℕ) → covers folder (child folder name) ≡ true
 folder_covers_child folder name =
     elim (cases_Bool (bytes_eq folder (slash ∷ []))) [
-      | inl is_root ↦ let e = (bytes_decides folder (slash ∷ [])).0 is_root in covers_from folder (child folder name) (root name e (ap (λ x. child x name) e))
+      | inl is_root ↦ let e = (bytes_decides folder (slash ∷ [])).0 is_root in covers_from folder (child folder name)
+          (root name e (ap (λ x. child x name) e))
       | inr other ↦ covers_from folder (child folder name) (below name (ap (λ stem. stem ++ slash ∷ name) (stem-other folder other)))
     ]

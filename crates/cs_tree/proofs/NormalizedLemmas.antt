@@ -27,28 +27,40 @@ all_without : (above : List (List ℕ)) → AllByRecursion IsElement above → A
 all_without [] all = tt
 all_without (x ∷ above) all = all.1
 
-all_stepped : (above : List (List ℕ)) (name : List ℕ) → AllByRecursion IsElement above → NoSlash name → AllByRecursion IsElement (with_element above name)
+all_stepped : (above : List (List ℕ)) (name : List ℕ) → AllByRecursion IsElement above → NoSlash name →
+    AllByRecursion IsElement (with_element above name)
 all_stepped above name all apart =
-    cond_both (bytes_eq name [] || bytes_eq name (codes ".")) above (cond (bytes_eq name (codes "..")) (drop 1 above) (name ∷ above)) (AllByRecursion IsElement)
+    cond_both (bytes_eq name [] || bytes_eq name (codes ".")) above
+    (cond (bytes_eq name (codes "..")) (drop 1 above) (name ∷ above)) (AllByRecursion IsElement)
     (λ _. all)
     (λ plain. cond_both (bytes_eq name (codes "..")) (drop 1 above) (name ∷ above) (AllByRecursion IsElement)
     (λ _. all_without above all)
-    (λ down. (record { proper = and_from (not (bytes_eq name [] || bytes_eq name (codes "."))) _ (ap not plain) (ap not down); apart = apart }, all)))
+    (λ down. (
+      record {
+        proper = and_from (not (bytes_eq name [] || bytes_eq name (codes "."))) _ (ap not plain)
+            (ap not down);
+        apart = apart;
+      },
+      all,
+    )))
 
-all_steps : (above names : List (List ℕ)) → AllByRecursion IsElement above → AllByRecursion NoSlash names → AllByRecursion IsElement (fold with_element above names)
+all_steps : (above names : List (List ℕ)) → AllByRecursion IsElement above → AllByRecursion NoSlash names →
+    AllByRecursion IsElement (fold with_element above names)
 all_steps above [] all apart = all
 all_steps above (name ∷ names) all apart = all_steps (with_element above name) names (all_stepped above name all apart.0) apart.1
 
 elements_apart : (text : List ℕ) → AllByRecursion NoSlash (elements text)
 elements_apart [] = (refl, tt)
 elements_apart (b ∷ rest) =
-    cond_both (eqb b slash) ([] ∷ elements rest) (onto_first b (elements rest)) (AllByRecursion NoSlash) (λ _. (refl, elements_apart rest)) (λ apart. onto apart (elements rest) (elements_apart rest))
+    cond_both (eqb b slash) ([] ∷ elements rest) (onto_first b (elements rest)) (AllByRecursion NoSlash)
+    (λ _. (refl, elements_apart rest)) (λ apart. onto apart (elements rest) (elements_apart rest))
   where
     onto : eqb b slash ≡ false → (pieces : List (List ℕ)) → AllByRecursion NoSlash pieces → AllByRecursion NoSlash (onto_first b pieces)
     onto apart [] all = (ap (λ t. t || false) apart, tt)
     onto apart (piece ∷ pieces) all = (ap (λ t. t || list_any (λ x. eqb x slash) piece) apart ∙ all.0, all.1)
 
-clean_stem : (above : List (List ℕ)) (name : List ℕ) → AllByRecursion IsElement above → IsElement name → is_proper_path (with_slashes above ++ slash ∷ name) ≡ true
+clean_stem : (above : List (List ℕ)) (name : List ℕ) → AllByRecursion IsElement above → IsElement name →
+    is_proper_path (with_slashes above ++ slash ∷ name) ≡ true
 clean_stem [] name all good = proper_last name (elements-one name good.apart) ∙ good.proper
 clean_stem (top ∷ above) name all good = on (with_slashes (top ∷ above)) (clean_stem above top all.1 all.0)
   where
@@ -61,12 +73,14 @@ clean_stem (top ∷ above) name all good = on (with_slashes (top ∷ above)) (cl
         ∙ list_all-append is_proper (elements prefix) (elements name)
         ∙ and_from (list_all is_proper (elements prefix)) _ parts.1 (proper_last name (elements-one name good.apart) ∙ good.proper))
 
-clean_steps : (above : List (List ℕ)) → AllByRecursion IsElement above → (path_of above ≡ slash ∷ []) ⊎ (is_proper_path (path_of above) ≡ true)
+clean_steps : (above : List (List ℕ)) → AllByRecursion IsElement above →
+    (path_of above ≡ slash ∷ []) ⊎ (is_proper_path (path_of above) ≡ true)
 clean_steps [] all = inl refl
 clean_steps (name ∷ above) all = inr (clean_stem above name all.1 all.0)
 
 pub cleaned_clean : (folder text : List ℕ) → (clean_path folder text ≡ slash ∷ []) ⊎ (is_proper_path (clean_path folder text) ≡ true)
-cleaned_clean folder text = clean_steps (fold with_element [] (elements (absolute folder text))) (all_steps [] (elements (absolute folder text)) tt (elements_apart (absolute folder text)))
+cleaned_clean folder text = clean_steps (fold with_element [] (elements (absolute folder text)))
+    (all_steps [] (elements (absolute folder text)) tt (elements_apart (absolute folder text)))
 
 -- ---- clean paths are unchanged
 
@@ -80,7 +94,8 @@ unfolding after_slashes
 slashes-elements [] = refl
 slashes-elements (b ∷ rest) = step (eqb b slash) refl (slashes-elements rest) (elements-some rest)
   where
-    step : (t : Bool) → eqb b slash ≡ t → after_slashes (elements rest) ≡ slash ∷ rest → HasFirst (elements rest) → after_slashes (cond t ([] ∷ elements rest) (onto_first b (elements rest))) ≡ slash ∷ b ∷ rest
+    step : (t : Bool) → eqb b slash ≡ t → after_slashes (elements rest) ≡ slash ∷ rest → HasFirst (elements rest) →
+        after_slashes (cond t ([] ∷ elements rest) (onto_first b (elements rest))) ≡ slash ∷ b ∷ rest
     step true here whole some = ap (λ tail. slash ∷ tail) whole ∙ ap (λ c. slash ∷ c ∷ rest) (sym (eqb-true b slash here))
     step false apart whole some =
         ap (λ pieces. after_slashes (onto_first b pieces)) some.is
@@ -92,7 +107,8 @@ proper_step above name proper =
     ap (λ t. cond t above (cond (bytes_eq name (codes "..")) (drop 1 above) (name ∷ above))) (not-true _ parts.0)
     ∙ ap (λ t. cond t (drop 1 above) (name ∷ above)) (not-true _ parts.1)
 
-slashed-steps : (above names : List (List ℕ)) → list_all is_proper names ≡ true → with_slashes (fold with_element above names) ≡ with_slashes above ++ after_slashes names
+slashed-steps : (above names : List (List ℕ)) → list_all is_proper names ≡ true →
+    with_slashes (fold with_element above names) ≡ with_slashes above ++ after_slashes names
 unfolding after_slashes
 slashed-steps above [] proper = sym (append-nil (with_slashes above))
 slashed-steps above (name ∷ names) proper =
@@ -106,7 +122,8 @@ filled_path [] rest e = cc
 filled_path (name ∷ above) rest e = e
 
 normalized_rest : (folder rest : List ℕ) → list_all is_proper (elements rest) ≡ true → clean_path folder (slash ∷ rest) ≡ slash ∷ rest
-normalized_rest folder rest proper = filled_path (fold with_element [] (elements rest)) rest (slashed-steps [] (elements rest) proper ∙ slashes-elements rest)
+normalized_rest folder rest proper = filled_path (fold with_element [] (elements rest)) rest
+    (slashed-steps [] (elements rest) proper ∙ slashes-elements rest)
 
 pub normalized_clean : (folder path : List ℕ) → is_proper_path path ≡ true → clean_path folder path ≡ path
 normalized_clean folder [] h = absurd (true≢false (sym h))
@@ -114,11 +131,13 @@ normalized_clean folder (b ∷ rest) h =
     let parts = and_parts (eqb b slash) (list_all is_proper (elements rest)) h in
     subst (λ c. clean_path folder (c ∷ rest) ≡ c ∷ rest) (sym (eqb-true b slash parts.0)) (normalized_rest folder rest parts.1)
 
-pub normalized_either : (path : List ℕ) → (path ≡ slash ∷ []) ⊎ (is_proper_path path ≡ true) → (folder : List ℕ) → clean_path folder path ≡ path
+pub normalized_either : (path : List ℕ) → (path ≡ slash ∷ []) ⊎ (is_proper_path path ≡ true) → (folder : List ℕ) →
+    clean_path folder path ≡ path
 normalized_either path (inl is) folder = subst (λ p. clean_path folder p ≡ p) (sym is) refl
 normalized_either path (inr clean) folder = normalized_clean folder path clean
 
-pub either_normalized : (path : List ℕ) → ((folder : List ℕ) → clean_path folder path ≡ path) → (path ≡ slash ∷ []) ⊎ (is_proper_path path ≡ true)
+pub either_normalized : (path : List ℕ) → ((folder : List ℕ) → clean_path folder path ≡ path) →
+    (path ≡ slash ∷ []) ⊎ (is_proper_path path ≡ true)
 either_normalized path h = subst (λ p. (p ≡ slash ∷ []) ⊎ (is_proper_path p ≡ true)) (h []) (cleaned_clean [] path)
 
 -- cleaning is idempotent
@@ -129,7 +148,8 @@ cleaned_is_normalized folder text other = normalized_either (clean_path folder t
 
 starts_proper : (path : List ℕ) → is_proper_path path ≡ true → begins (slash ∷ []) path ≡ true
 starts_proper [] h = absurd (true≢false (sym h))
-starts_proper (b ∷ rest) h = subst (λ c. begins (slash ∷ []) (c ∷ rest) ≡ true) (sym (eqb-true b slash (and_parts (eqb b slash) (list_all is_proper (elements rest)) h).0)) refl
+starts_proper (b ∷ rest) h = subst (λ c. begins (slash ∷ []) (c ∷ rest) ≡ true)
+    (sym (eqb-true b slash (and_parts (eqb b slash) (list_all is_proper (elements rest)) h).0)) refl
 
 starts_either : (path : List ℕ) → (path ≡ slash ∷ []) ⊎ (is_proper_path path ≡ true) → begins (slash ∷ []) path ≡ true
 starts_either path (inl is) = subst (λ p. begins (slash ∷ []) p ≡ true) (sym is) refl
@@ -157,10 +177,13 @@ none_is (Some fault) h = absurd (true≢false (sym h))
 
 -- ---- the test
 
-either_test : (path : List ℕ) → (bytes_eq path (slash ∷ []) || is_proper_path path) ≡ true → (path ≡ slash ∷ []) ⊎ (is_proper_path path ≡ true)
-either_test path h = elim (or_cases (bytes_eq path (slash ∷ [])) (is_proper_path path) h) [ inl is ↦ inl ((bytes_decides path (slash ∷ [])).0 is) | inr proper ↦ inr proper ]
+either_test : (path : List ℕ) → (bytes_eq path (slash ∷ []) || is_proper_path path) ≡ true →
+    (path ≡ slash ∷ []) ⊎ (is_proper_path path ≡ true)
+either_test path h = elim (or_cases (bytes_eq path (slash ∷ [])) (is_proper_path path) h)
+    [ inl is ↦ inl ((bytes_decides path (slash ∷ [])).0 is) | inr proper ↦ inr proper ]
 
-test_either : (path : List ℕ) → (path ≡ slash ∷ []) ⊎ (is_proper_path path ≡ true) → (bytes_eq path (slash ∷ []) || is_proper_path path) ≡ true
+test_either : (path : List ℕ) → (path ≡ slash ∷ []) ⊎ (is_proper_path path ≡ true) →
+    (bytes_eq path (slash ∷ []) || is_proper_path path) ≡ true
 test_either path (inl is) = or_left (bytes_eq path (slash ∷ [])) _ ((bytes_decides path (slash ∷ [])).1 is)
 test_either path (inr proper) = or_right (bytes_eq path (slash ∷ [])) _ proper
 
@@ -188,10 +211,12 @@ clean_starts path h = starts_either path (either_normalized path (clean_stays pa
 
 -- ---- normalized paths
 
-pub normalized_from : (path : List ℕ) → ((folder : List ℕ) → clean_path folder path ≡ path) → has_nul path ≡ false → length path ≤ longest_path → is_normalized path ≡ true
+pub normalized_from : (path : List ℕ) → ((folder : List ℕ) → clean_path folder path ≡ path) → has_nul path ≡ false →
+    length path ≤ longest_path → is_normalized path ≡ true
 normalized_from path unchanged plain short =
     let starts = starts_either path (either_normalized path unchanged) in
-    let accepted = no_fault (bytes_eq path []) (has_nul (absolute (slash ∷ []) path)) (nat_lt longest_path (length (clean_path (slash ∷ []) path))) (filled_begins path starts)
+    let accepted = no_fault (bytes_eq path []) (has_nul (absolute (slash ∷ []) path))
+    (nat_lt longest_path (length (clean_path (slash ∷ []) path))) (filled_begins path starts)
     (ap has_nul (path_absolute (slash ∷ []) path starts) ∙ plain)
     (ap (λ p. nat_lt longest_path (length p)) (unchanged (slash ∷ [])) ∙ le-ltb longest_path (length path) short) in
     and_from (is_none (clean_fault (slash ∷ []) path)) (is_clean path) (ap is_none accepted) (stays_clean path (unchanged (slash ∷ [])))
@@ -222,8 +247,12 @@ normalized_accepted path h folder =
 normalized_whole : (path : List ℕ) → is_normalized path ≡ true → (has_nul path ≡ false) × (length path ≤ longest_path)
 normalized_whole path h =
     let starts = normalized_starts path h in
-    let parts = no_fault_parts (bytes_eq path []) (has_nul (absolute [] path)) (nat_lt longest_path (length (clean_path [] path))) (normalized_accepted path h []) in
-    (sym (ap has_nul (path_absolute [] path starts)) ∙ parts.0, ltb-false longest_path (length path) (sym (ap (λ p. nat_lt longest_path (length p)) (normalized_stays path h [])) ∙ parts.1))
+    let parts = no_fault_parts (bytes_eq path []) (has_nul (absolute [] path))
+    (nat_lt longest_path (length (clean_path [] path))) (normalized_accepted path h []) in (
+      sym (ap has_nul (path_absolute [] path starts)) ∙ parts.0,
+      ltb-false longest_path (length path)
+          (sym (ap (λ p. nat_lt longest_path (length p)) (normalized_stays path h [])) ∙ parts.1),
+    )
 
 pub normalized_no_nul : (path : List ℕ) → is_normalized path ≡ true → has_nul path ≡ false
 normalized_no_nul path h = (normalized_whole path h).0
@@ -231,15 +260,19 @@ normalized_no_nul path h = (normalized_whole path h).0
 pub normalized_short : (path : List ℕ) → is_normalized path ≡ true → length path ≤ longest_path
 normalized_short path h = (normalized_whole path h).1
 
-pub normalized_anywhere : (path : List ℕ) → ((folder : List ℕ) → (clean_fault folder path ≡ None) × (clean_path folder path ≡ path)) → is_normalized path ≡ true
-normalized_anywhere path h = and_from (is_none (clean_fault (slash ∷ []) path)) (is_clean path) (ap is_none (h (slash ∷ [])).0) (stays_clean path (h (slash ∷ [])).1)
+pub normalized_anywhere : (path : List ℕ) →
+    ((folder : List ℕ) → (clean_fault folder path ≡ None) × (clean_path folder path ≡ path)) → is_normalized path ≡ true
+normalized_anywhere path h = and_from (is_none (clean_fault (slash ∷ []) path)) (is_clean path)
+    (ap is_none (h (slash ∷ [])).0) (stays_clean path (h (slash ∷ [])).1)
 
 -- ---- texts without NUL
 
 pub no_nul_bytes : (text : List ℕ) → has_nul text ≡ false → AllByRecursion (λ b. 0 < b) text
 no_nul_bytes [] h = tt
-no_nul_bytes (b ∷ text) h = let parts = or_parts (eqb b 0) (has_nul text) h in ((let apart = eqb-false b 0 parts.0 in omega (arith, apart)), no_nul_bytes text parts.1)
+no_nul_bytes (b ∷ text) h = let parts = or_parts (eqb b 0) (has_nul text) h in
+    ((let apart = eqb-false b 0 parts.0 in omega (arith, apart)), no_nul_bytes text parts.1)
 
 pub bytes_no_nul : (text : List ℕ) → AllByRecursion (λ b. 0 < b) text → has_nul text ≡ false
 bytes_no_nul [] all = refl
-bytes_no_nul (b ∷ text) all = or_from (eqb b 0) (has_nul text) (ne_eqb b 0 (λ e. let some = all.0 in omega (arith, some, e))) (bytes_no_nul text all.1)
+bytes_no_nul (b ∷ text) all = or_from (eqb b 0) (has_nul text)
+    (ne_eqb b 0 (λ e. let some = all.0 in omega (arith, some, e))) (bytes_no_nul text all.1)

@@ -33,7 +33,8 @@ pub record Passes (paths : Paths) (test : List ℕ → Bool) : Type 0 where
 contains-items : (paths : Paths) (q : List ℕ) → set.contains paths q ≡ list_any (eq_by_cmp bytes_cmp q) (set.items paths)
 contains-items paths q = map'.contains_key-keys paths q
 
-pub some_item : (test : List ℕ → Bool) (ps : List (List ℕ)) → list_any test ps ≡ true → (p : List ℕ) × (list_any (eq_by_cmp bytes_cmp p) ps ≡ true) × (test p ≡ true)
+pub some_item : (test : List ℕ → Bool) (ps : List (List ℕ)) → list_any test ps ≡ true →
+    (p : List ℕ) × (list_any (eq_by_cmp bytes_cmp p) ps ≡ true) × (test p ≡ true)
 some_item test [] h = absurd (true≢false (sym h))
 some_item test (p ∷ ps) h =
     elim (or_cases (test p) (list_any test ps) h) [
@@ -41,7 +42,8 @@ some_item test (p ∷ ps) h =
       | inr there ↦ let found = some_item test ps there in (found.0, or_right (eq_by_cmp bytes_cmp found.0 p) _ found.1, found.2)
     ]
 
-pub item_satisfies : (test : List ℕ → Bool) (q : List ℕ) (ps : List (List ℕ)) → test q ≡ true → list_any (eq_by_cmp bytes_cmp q) ps ≡ true → list_any test ps ≡ true
+pub item_satisfies : (test : List ℕ → Bool) (q : List ℕ) (ps : List (List ℕ)) → test q ≡ true →
+    list_any (eq_by_cmp bytes_cmp q) ps ≡ true → list_any test ps ≡ true
 item_satisfies test q [] h member = absurd (true≢false (sym member))
 item_satisfies test q (p ∷ ps) h member =
     elim (or_cases (eq_by_cmp bytes_cmp q p) (list_any (eq_by_cmp bytes_cmp q) ps) member) [
@@ -54,11 +56,14 @@ some_member paths test h =
     let found = some_item test (set.items paths) h in
     record { path = found.0; member = contains-items paths found.0 ∙ found.1; accepts = found.2 }
 
-pub member_satisfies : (paths : Paths) (test : List ℕ → Bool) (q : List ℕ) → set.contains paths q ≡ true → test q ≡ true → list_any test (set.items paths) ≡ true
+pub member_satisfies : (paths : Paths) (test : List ℕ → Bool) (q : List ℕ) → set.contains paths q ≡ true → test q
+    ≡ true → list_any test (set.items paths) ≡ true
 member_satisfies paths test q member h = item_satisfies test q (set.items paths) h (sym (contains-items paths q) ∙ member)
 
-pub contains_retained : (paths : Paths) (test : List ℕ → Bool) (q : List ℕ) → set.contains (set.retain paths test) q ≡ (set.contains paths q && test q)
-contains_retained paths test q = ap is_some (map'.get-retain_keys paths test q (λ x e. ap test (sym (alike q x e)))) ∙ kept_some (test q) (map'.get paths q)
+pub contains_retained : (paths : Paths) (test : List ℕ → Bool) (q : List ℕ) → set.contains (set.retain paths test) q
+    ≡ (set.contains paths q && test q)
+contains_retained paths test q = ap is_some (map'.get-retain_keys paths test q (λ x e. ap test (sym (alike q x e))))
+    ∙ kept_some (test q) (map'.get paths q)
   where
     kept_some : (b : Bool) (o : Option (Unit {0})) → is_some (cond b o None) ≡ (is_some o && b)
     kept_some true None = refl
@@ -69,10 +74,13 @@ contains_retained paths test q = ap is_some (map'.get-retain_keys paths test q (
 pub contains-empty : (q : List ℕ) → set.contains map'.empty q ≡ false
 contains-empty q = ap is_some (map'.get-empty bytes_cmp q)
 
-pub find-append : {X : Type 0} (q : List ℕ) (es fs : List (List ℕ × X)) → find bytes_cmp q (es ++ fs) ≡ option_or (find bytes_cmp q es) (find bytes_cmp q fs)
+pub find-append : {X : Type 0} (q : List ℕ) (es fs : List (List ℕ × X)) → find bytes_cmp q (es ++ fs)
+    ≡ option_or (find bytes_cmp q es) (find bytes_cmp q fs)
 find-append q [] fs = refl
 find-append q (e ∷ es) fs =
-    elim (eq_by_cmp bytes_cmp q e.0) as (λ b. cond b (Some e.1) (find bytes_cmp q (es ++ fs)) ≡ option_or (cond b (Some e.1) (find bytes_cmp q es)) (find bytes_cmp q fs)) [ true ↦ refl | false ↦ find-append q es fs ]
+    elim (eq_by_cmp bytes_cmp q e.0) as (λ b. cond b (Some e.1) (find bytes_cmp q (es ++ fs))
+    ≡ option_or (cond b (Some e.1) (find bytes_cmp q es)) (find bytes_cmp q fs))
+    [ true ↦ refl | false ↦ find-append q es fs ]
 
 pub contains-union : (a b : Paths) (q : List ℕ) → set.contains (set.union a b) q ≡ (set.contains a q || set.contains b q)
 contains-union a b q =
@@ -86,7 +94,8 @@ contains-union a b q =
     either (Some u) y = refl
 
 pub contains_first : (p : List ℕ) (ps : List (List ℕ)) → set.contains (set.from_list (p ∷ ps)) p ≡ true
-contains_first p ps = ap is_some (map'.get-from_entries nat_list_cmp_total (set.unit_entries (p ∷ ps)) p) ∙ ap (λ b. is_some (cond b (Some tt) (find bytes_cmp p (set.unit_entries ps)))) (tied_same p)
+contains_first p ps = ap is_some (map'.get-from_entries nat_list_cmp_total (set.unit_entries (p ∷ ps)) p)
+    ∙ ap (λ b. is_some (cond b (Some tt) (find bytes_cmp p (set.unit_entries ps)))) (tied_same p)
 
 pub same_set : (a b : Paths) → ((q : List ℕ) → set.contains a q ≡ set.contains b q) → a ≡ b
 same_set a b h = map'.same_map nat_list_cmp_total alike a b (λ q. one_mark (map'.get a q) (map'.get b q) (h q))
@@ -98,9 +107,11 @@ same_set a b h = map'.same_map nat_list_cmp_total alike a b (λ q. one_mark (map
     one_mark (Some u) (Some v) e = refl
 
 -- ---- sorted lists
-pub entries_in_order : {X : Type 0} (es : List (List ℕ × X)) → T (map'.is_sorted bytes_cmp es) → map'.entries (map'.from_entries {R = bytes_cmp} es) ≡ es
+pub entries_in_order : {X : Type 0} (es : List (List ℕ × X)) → T (map'.is_sorted bytes_cmp es) →
+    map'.entries (map'.from_entries {R = bytes_cmp} es) ≡ es
 entries_in_order es up =
-    ap map'.entries (map'.same_map nat_list_cmp_total alike (map'.from_entries es) (map'.from_sorted es) (λ q. map'.get-from_entries nat_list_cmp_total es q ∙ sym (map'.get-from_sorted bytes_cmp es q up)))
+    ap map'.entries (map'.same_map nat_list_cmp_total alike (map'.from_entries es) (map'.from_sorted es)
+    (λ q. map'.get-from_entries nat_list_cmp_total es q ∙ sym (map'.get-from_sorted bytes_cmp es q up)))
     ∙ map'.entries-from_sorted bytes_cmp es up
 
 pub items_in_order : (ps : List (List ℕ)) → T (map'.is_sorted bytes_cmp (set.unit_entries ps)) → set.items (set.from_list ps) ≡ ps

@@ -49,7 +49,8 @@ pub ends_failed : {A E : Type 0} (a : Option SinkModel) (r : Result A E) (fault 
 ends_failed a r fault is = rw is (prefix_none [] a)
 
 -- these bytes, and then a call that writes nothing more
-pub ends_after : {A E : Type 0} (xs : List ℕ) (a b c : Option SinkModel) (r : Result A E) → Grows a b xs → EndsAfter [] b c r → EndsAfter xs a c r
+pub ends_after : {A E : Type 0} (xs : List ℕ) (a b c : Option SinkModel) (r : Result A E) → Grows a b xs →
+    EndsAfter [] b c r → EndsAfter xs a c r
 ends_after xs a b c (Ok x) grows ends = subst (GrowsFlushed a c) (append-nil xs) (GrowsFlushed-chain a b c xs [] grows ends)
 ends_after xs a b c (Err e) grows ends = prefix_after xs a b c grows ends
 

@@ -40,7 +40,8 @@ opened_within limit a c o p t is loses has =
     loses_within limit a c t p (subst (λ o. ConsumesAtMost limit o p) is loses)
     (has a.most (length t.bytes) (subst (λ o. HasRead a.most (length t.bytes) o (Some (after_open a))) (sym is) (omega arith, omega arith)))
 
-opens_as : (limit : ℕ) (a : ReadCounts) (c : Option ReadCounts) (o p : Option SourceModel) (opening : Result SourceModel TreeFault) → IsOkAnd opening (λ file. o ≡ Some file)
+opens_as : (limit : ℕ) (a : ReadCounts) (c : Option ReadCounts) (o p : Option SourceModel)
+    (opening : Result SourceModel TreeFault) → IsOkAnd opening (λ file. o ≡ Some file)
     → ConsumesAtMost limit o p → ((most count : ℕ) → HasRead most count o (Some (after_open a)) → HasRead most count p c)
     → ReadsWithin limit (Some a) c
 opens_as limit a c o p (Ok model) is loses has = opened_within limit a c o p model is loses has
@@ -48,7 +49,8 @@ opens_as limit a c o p (Err fault) is loses has = absurd is
 
 -- A file is opened, and reads of it consume at most `limit` bytes. The snapshot is `at` before, `at1` when the file
 -- is open, and `at2` after the reads.
-pub reads_open : (limit : ℕ) (at at1 at2 : Option Snapshot) (path : List ℕ) (u : Unit {0}) (a b c : Option ReadCounts) (o p : Option SourceModel)
+pub reads_open : (limit : ℕ) (at at1 at2 : Option Snapshot) (path : List ℕ) (u : Unit {0}) (a b c : Option ReadCounts)
+    (o p : Option SourceModel)
     → (IsSome b → IsSome at1) → OpensFile at path (Ok u) o → at1 ≡ at → b ≡ option_map after_open a
     → at2 ≡ at1 → ConsumesAtMost limit (open_model at1 o) (open_model at2 p)
     → ((most count : ℕ) → HasRead most count o b → HasRead most count p c) → ReadsWithin limit a c

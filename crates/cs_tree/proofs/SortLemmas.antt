@@ -28,10 +28,12 @@ module _ {X : Type 0} (key : X → List ℕ) where
 
   -- after sorting and deduplication the keys ascend
   pub sorted_once : (xs : List X) → IsSorted by_key xs → are_ascending (map key (dedup same_key xs)) ≡ true
-  sorted_once xs up = keys_ascend (dedup same_key xs) (IsStrictlySortedBy-dedup (on_total key nat_list_cmp_total) (λ x y. texts_ties (key x) (key y)) xs up)
+  sorted_once xs up = keys_ascend (dedup same_key xs)
+      (IsStrictlySortedBy-dedup (on_total key nat_list_cmp_total) (λ x y. texts_ties (key x) (key y)) xs up)
 
   -- some key satisfies a test after deduplication exactly if some key did before
-  once_from : (test : List ℕ → Bool) (k : X) (xs : List X) → list_any (λ x. test (key x)) (dedup_from same_key k xs) ≡ (test (key k) || list_any (λ x. test (key x)) xs)
+  once_from : (test : List ℕ → Bool) (k : X) (xs : List X) → list_any (λ x. test (key x)) (dedup_from same_key k xs)
+      ≡ (test (key k) || list_any (λ x. test (key x)) xs)
   once_from test k [] = refl
   once_from test k (x ∷ xs) =
       elim (cases_Bool (same_key x k)) [
@@ -56,10 +58,13 @@ module _ {X : Type 0} (key : X → List ℕ) where
 -- ---- each remaining item was there before
 
 module _ {X Y : Type 0} (view : X → Y) (tied : Y → Y → Bool) where
-  once_seen_from : (k : X) (xs : List X) → map view (dedup_from (λ x y. tied (view x) (view y)) k xs) ≡ dedup_from tied (view k) (map view xs)
+  once_seen_from : (k : X) (xs : List X) → map view (dedup_from (λ x y. tied (view x) (view y)) k xs)
+      ≡ dedup_from tied (view k) (map view xs)
   once_seen_from k [] = refl
   once_seen_from k (x ∷ xs) =
-      elim (tied (view x) (view k)) as (λ b. map view (cond b (dedup_from (λ x y. tied (view x) (view y)) k xs) (k ∷ dedup_from (λ x y. tied (view x) (view y)) x xs)) ≡ cond b (dedup_from tied (view k) (map view xs)) (view k ∷ dedup_from tied (view x) (map view xs))) [
+      elim (tied (view x) (view k)) as (λ b. map view
+      (cond b (dedup_from (λ x y. tied (view x) (view y)) k xs) (k ∷ dedup_from (λ x y. tied (view x) (view y)) x xs))
+      ≡ cond b (dedup_from tied (view k) (map view xs)) (view k ∷ dedup_from tied (view x) (map view xs))) [
         | true ↦ once_seen_from k xs
         | false ↦ ap (λ ys. view k ∷ ys) (once_seen_from x xs)
       ]
@@ -68,7 +73,8 @@ module _ {X Y : Type 0} (view : X → Y) (tied : Y → Y → Bool) where
   once_seen [] = refl
   once_seen (x ∷ xs) = once_seen_from x xs
 
-  pub kept_once : (xs sorted : List X) (y : Y) → IsPermutation xs sorted → Contains (map view (dedup (λ x y. tied (view x) (view y)) sorted)) y → Contains (map view xs) y
+  pub kept_once : (xs sorted : List X) (y : Y) → IsPermutation xs sorted →
+      Contains (map view (dedup (λ x y. tied (view x) (view y)) sorted)) y → Contains (map view xs) y
   kept_once xs sorted y moved h =
       Contains-permutation (map view sorted) (map view xs) y (IsPermutation-map view sorted xs (IsPermutation-sym xs sorted moved))
       (Contains-from_dedup tied (map view sorted) y (subst (λ ys. Contains ys y) (once_seen sorted) h))

@@ -48,7 +48,8 @@ a_path_without_an_entry_has_no_fault = refl
 a_name_is_among_names : is_among (codes "/a" ∷ codes "/b" ∷ []) (codes "/b") ≡ true
 a_name_is_among_names = refl
 
-failed_calls_are_failures_and_other_faults_are_none : failures_walked ((codes "/a", Tree Missing) ∷ (codes "/b", Unnamed) ∷ (codes "/c", Tree Denied) ∷ (codes "/d", TooLong) ∷ []) 3 ≡ 5
+failed_calls_are_failures_and_other_faults_are_none : failures_walked
+    ((codes "/a", Tree Missing) ∷ (codes "/b", Unnamed) ∷ (codes "/c", Tree Denied) ∷ (codes "/d", TooLong) ∷ []) 3 ≡ 5
 failed_calls_are_failures_and_other_faults_are_none = refl
 
 the_count_of_failures_stays_at_its_end : failures_walked ((codes "/a", Tree Missing) ∷ []) 18446744073709551615 ≡ 18446744073709551615

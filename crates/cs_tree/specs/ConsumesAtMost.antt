@@ -8,4 +8,5 @@ abbrev pub ConsumesAtMost : ℕ → Option SourceModel → Option SourceModel �
 ConsumesAtMost most None later = Unit {0}
 ConsumesAtMost most (Some model) None = ⊥
 ConsumesAtMost most (Some model) (Some rest) =
-    (rest.bytes ≡ drop (length model.bytes - length rest.bytes) model.bytes) × (length model.bytes ≤ most + length rest.bytes) × (model.ending ≡ rest.ending)
+    (rest.bytes ≡ drop (length model.bytes - length rest.bytes) model.bytes) ×
+    (length model.bytes ≤ most + length rest.bytes) × (model.ending ≡ rest.ending)

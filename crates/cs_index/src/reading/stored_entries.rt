@@ -127,11 +127,11 @@ pub(crate) fn entry_with(list_index: &[u8], trigram: u32) -> Option<Entry>
     if position >= count {
         return None;
     }
-    let entry = entry_in(list_index, ENTRY_LEN * position);
-    if entry.trigram != trigram {
+    let found = entry_in(list_index, ENTRY_LEN * position);
+    if found.trigram != trigram {
         return None;
     }
-    Some(entry)
+    Some(found)
 }
 
 /// Binary search: the index of the first entry whose trigram is not less than `trigram`.
@@ -143,15 +143,15 @@ fn first_from(list_index: &[u8], trigram: u32, count: usize) -> usize
     ensures above { (k : ℕ) → result ≤ k → k < count →
         trigram ≤ trigram_at list_index.now (ENTRY_LEN * k) }
 {
-    let mut low = 0;
-    let mut high = count;
-    'halves: while low < high {
-        let middle = low + (high - low) / 2;
+    let mut start = 0;
+    let mut end = count;
+    'halves: while start < end {
+        let middle = start + (end - start) / 2;
         if read_trigram(list_index, ENTRY_LEN * middle) < trigram {
-            low = middle + 1;
+            start = middle + 1;
         } else {
-            high = middle;
+            end = middle;
         }
     }
-    low
+    start
 }

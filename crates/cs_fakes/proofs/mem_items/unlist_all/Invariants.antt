@@ -7,5 +7,6 @@ use Rattle.cs_fakes.proofs.mem_items.unlist_all.Given as goal
 abbrev pub invariant-loop-i : goal.invariant-loop-i
 invariant-loop-i l = record {
   whole : length l.items.items ≡ length l.initial.items.items;
-  left : map pair_of l.items.items ≡ map (unlisted_pair l.path) (take l.i (map pair_of l.initial.items.items)) ++ drop l.i (map pair_of l.initial.items.items);
+  left : map pair_of l.items.items ≡ map (unlisted_pair l.path) (take l.i (map pair_of l.initial.items.items))
+      ++ drop l.i (map pair_of l.initial.items.items);
 }

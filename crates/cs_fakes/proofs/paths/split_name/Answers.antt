@@ -6,7 +6,8 @@ use Rattle.cs_tree.proofs.NormalizedLemmas.{clean_by_elements}
 use Rattle.cs_fakes.proofs.paths.split_name.Goals as goal
 
 pub returns-in_default : goal.returns-in_default
-returns-in_default c = sym (clean_by_elements c.args.path.now) ∙ rw c.in_default.is at (rsplit_says c.args.path.now c.rsplit_once.result c.rsplit_once.ensures.cases)
+returns-in_default c = sym (clean_by_elements c.args.path.now)
+    ∙ rw c.in_default.is at (rsplit_says c.args.path.now c.rsplit_once.result c.rsplit_once.ensures.cases)
 
 pub returns-then-is_empty : goal.returns-then-is_empty
 returns-then-is_empty c =
@@ -15,5 +16,7 @@ returns-then-is_empty c =
 
 pub returns : goal.returns
 returns c =
-    let split = (rw c.in-Some.is at (rsplit_says c.args.path.now c.rsplit_once.result c.rsplit_once.ensures.cases)) in
-    (parent_prefix _ _ _ split (λ e. true≢false (sym (eq-eqb _ 0 e) ∙ sym c.is_empty.ensures ∙ c.if-is_empty.false)), sym (last_element-last _ _ _ split))
+    let split = (rw c.in-Some.is at (rsplit_says c.args.path.now c.rsplit_once.result c.rsplit_once.ensures.cases)) in (
+      parent_prefix _ _ _ split (λ e. true≢false (sym (eq-eqb _ 0 e) ∙ sym c.is_empty.ensures ∙ c.if-is_empty.false)),
+      sym (last_element-last _ _ _ split),
+    )

@@ -11,10 +11,13 @@ pub returns-in_default-open-clause-searches : goal.returns-in_default-open-claus
 returns-in_default-open-clause-searches g c =
     let failed = g.T.Tree.failed c.args.tree.now in
     let outputs = search_outputs g.O.Sink.model g.E.Sink.model c.args.out.now c.args.err.now in
-    out_of_memory c.args.job.now (option_copied c.args.index) (g.T.Tree.snapshot c.args.tree.now) failed failed outputs outputs (Grows-same outputs.out, Grows-same outputs.err) refl
+    out_of_memory c.args.job.now (option_copied c.args.index) (g.T.Tree.snapshot c.args.tree.now) failed failed outputs
+    outputs (Grows-same outputs.out, Grows-same outputs.err) refl
 
 pub returns-in-Err-clause-searches : goal.returns-in-Err-clause-searches
 returns-in-Err-clause-searches g c =
     let unread = c.in-Err.ensures.unread in
-    out_of_memory c.args.job.now (option_copied c.args.index) (g.T.Tree.snapshot c.args.tree.now) (g.T.Tree.failed c.args.tree.now) (g.T.Tree.failed c.csearch_stored.new.tree)
-    (search_outputs g.O.Sink.model g.E.Sink.model c.args.out.now c.args.err.now) (search_outputs g.O.Sink.model g.E.Sink.model c.csearch_stored.new.out c.csearch_stored.new.err) unread.3 unread.1
+    out_of_memory c.args.job.now (option_copied c.args.index) (g.T.Tree.snapshot c.args.tree.now)
+    (g.T.Tree.failed c.args.tree.now) (g.T.Tree.failed c.csearch_stored.new.tree)
+    (search_outputs g.O.Sink.model g.E.Sink.model c.args.out.now c.args.err.now)
+    (search_outputs g.O.Sink.model g.E.Sink.model c.csearch_stored.new.out c.csearch_stored.new.err) unread.3 unread.1

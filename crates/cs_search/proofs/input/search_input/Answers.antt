@@ -31,7 +31,11 @@ pieces-init g c =
       bound = omega (arith, r.lines, ap (λ (l : List ℕ). length l) r.empty);
       part = subst HasNoNewline (sym r.empty) tt;
       read = HasReadInput-none c.args.printer.now.style (g.R.Source.model c.args.input.now) _ _ _ none r.empty r.lines;
-      tested = λ has_match decides. HasTested-none (g.R.Source.model c.args.input.now) (c.args.limit - c.args.limit) (λ lines. Tests c.args.printer.now.style c.args.printer.now.name.now has_match lines c.args.tally.now c.args.tally.now (g.O.Sink.model c.args.out.now) (g.O.Sink.model c.args.out.now)) none (Tests-none c.args.printer.now.style c.args.printer.now.name.now has_match c.args.tally.now (g.O.Sink.model c.args.out.now));
+      tested = λ has_match decides. HasTested-none (g.R.Source.model c.args.input.now) (c.args.limit - c.args.limit)
+          (λ lines. Tests c.args.printer.now.style c.args.printer.now.name.now has_match lines c.args.tally.now
+          c.args.tally.now (g.O.Sink.model c.args.out.now) (g.O.Sink.model c.args.out.now)) none
+          (Tests-none c.args.printer.now.style c.args.printer.now.name.now has_match c.args.tally.now
+          (g.O.Sink.model c.args.out.now));
       unlisted = λ listed. r.matches;
       same = refl;
       read_failed = refl;
@@ -51,18 +55,25 @@ returns-in-Ok-eq0-clause-tests g c = λ has_match decides.
     let i = c.pieces.invariant in
     let e = c.in-Ok-eq0.ensures in
     let none = GrowsBy-size _ _ _ e.gains ∙ c.in-Ok-eq0.field-0-test in
-    TestsInput-empty _ _ has_match _ _ _ _ _ End (g.R.Source.model c.args.input.now) (g.R.Source.model c.pieces.input) (g.R.Source.model c.fill.new.input) (c.args.limit - c.pieces.left) (pending_bytes c.pieces.buffer) _ c.pieces.tally.lines ends (inl refl) (omega arith) i.read e.model.0 (e.model.1 c.in-Ok-eq0.field-0-test) (nil_from_length _ none) (i.tested has_match decides)
+    TestsInput-empty _ _ has_match _ _ _ _ _ End (g.R.Source.model c.args.input.now) (g.R.Source.model c.pieces.input)
+    (g.R.Source.model c.fill.new.input) (c.args.limit - c.pieces.left) (pending_bytes c.pieces.buffer) _
+    c.pieces.tally.lines ends (inl refl) (omega arith) i.read e.model.0 (e.model.1 c.in-Ok-eq0.field-0-test)
+    (nil_from_length _ none) (i.tested has_match decides)
 
 pub returns-in-Err-Failed-clause-tests : goal.returns-in-Err-Failed-clause-tests
 returns-in-Err-Failed-clause-tests g c = λ has_match decides.
     let i = c.pieces.invariant in
     let e = c.in-Err-Failed.ensures in
-    TestsInput-empty _ _ has_match _ _ _ _ _ (Faulted Read) (g.R.Source.model c.args.input.now) (g.R.Source.model c.pieces.input) (g.R.Source.model c.fill.new.input) (c.args.limit - c.pieces.left) (pending_bytes c.pieces.buffer) [] c.pieces.tally.lines fails (inr refl) (omega arith) i.read e.model.0 (e.model.1 c.in-Err-Failed.field-0-is) refl (i.tested has_match decides)
+    TestsInput-empty _ _ has_match _ _ _ _ _ (Faulted Read) (g.R.Source.model c.args.input.now)
+    (g.R.Source.model c.pieces.input) (g.R.Source.model c.fill.new.input) (c.args.limit - c.pieces.left)
+    (pending_bytes c.pieces.buffer) [] c.pieces.tally.lines fails (inr refl) (omega arith) i.read e.model.0
+    (e.model.1 c.in-Err-Failed.field-0-is) refl (i.tested has_match decides)
 
 pub returns-in-Err-Memory-clause-prefix : goal.returns-in-Err-Memory-clause-prefix
 returns-in-Err-Memory-clause-prefix g c = λ has_match decides.
     let i = c.pieces.invariant in
-    TestsInputPrefix-tested _ _ has_match _ c.pieces.tally _ _ _ (g.R.Source.model c.args.input.now) (c.args.limit - c.pieces.left) (omega arith) i.unlisted (i.tested has_match decides)
+    TestsInputPrefix-tested _ _ has_match _ c.pieces.tally _ _ _ (g.R.Source.model c.args.input.now)
+    (c.args.limit - c.pieces.left) (omega arith) i.unlisted (i.tested has_match decides)
 
 pub returns-in_err-start-clause-prefix : goal.returns-in_err-start-clause-prefix
 returns-in_err-start-clause-prefix g c =
@@ -73,14 +84,20 @@ returns-in_err-start-clause-prefix g c =
     let piece = drop (length old) (pending_bytes c.fill.new.self) in
     let block : c.pending.result.now ≡ old ++ piece = c.pending.ensures ∙ GrowsBy-split _ _ _ e.gains in
     let size : length piece ≡ c.in-Ok.n = GrowsBy-size _ _ _ e.gains in
-    TestsInputPrefix-piece _ _ has_match _ c.pieces.tally _ (g.O.Sink.model c.pieces.out) _ (g.R.Source.model c.args.input.now) (g.R.Source.model c.pieces.input) (g.R.Source.model c.fill.new.input) (c.args.limit - c.pieces.left) old piece c.pieces.tally.lines _ (omega (arith, e.within, i.bound, size)) i.read e.model.0 i.unlisted (omega (arith, c.requires.lines)) (i.tested has_match decides)
-    (subst (λ b. TestsPrefix c.args.printer.now.style c.args.printer.now.name.now has_match (terminated_lines b) (c.pieces.tally.lines + 1) (g.O.Sink.model c.pieces.out) (g.O.Sink.model c.search_block.new.out)) block (c.in_err-start.ensures.prefix has_match (subst (Decides has_match) (sym i.same) decides))))
+    TestsInputPrefix-piece _ _ has_match _ c.pieces.tally _ (g.O.Sink.model c.pieces.out) _
+    (g.R.Source.model c.args.input.now) (g.R.Source.model c.pieces.input) (g.R.Source.model c.fill.new.input)
+    (c.args.limit - c.pieces.left) old piece c.pieces.tally.lines _ (omega (arith, e.within, i.bound, size)) i.read
+    e.model.0 i.unlisted (omega (arith, c.requires.lines)) (i.tested has_match decides)
+    (subst (λ b. TestsPrefix c.args.printer.now.style c.args.printer.now.name.now has_match (terminated_lines b)
+    (c.pieces.tally.lines + 1) (g.O.Sink.model c.pieces.out) (g.O.Sink.model c.search_block.new.out)) block
+    (c.in_err-start.ensures.prefix has_match (subst (Decides has_match) (sym i.same) decides))))
 
 pub returns-in_err-stop-clause-prefix : goal.returns-in_err-stop-clause-prefix
 returns-in_err-stop-clause-prefix g c =
     any_err c.from_residual-in_err-stop.result (λ has_match decides.
     let i = c.pieces.invariant in
-    TestsInputPrefix-tested _ _ has_match _ c.pieces.tally _ _ _ (g.R.Source.model c.args.input.now) (c.args.limit - c.pieces.left) (omega arith) i.unlisted (i.tested has_match decides))
+    TestsInputPrefix-tested _ _ has_match _ c.pieces.tally _ _ _ (g.R.Source.model c.args.input.now)
+    (c.args.limit - c.pieces.left) (omega arith) i.unlisted (i.tested has_match decides))
 
 pub returns-in_default-clause-tests : goal.returns-in_default-clause-tests
 returns-in_default-clause-tests g c = λ has_match decides.
@@ -92,8 +109,13 @@ returns-in_default-clause-tests g c = λ has_match decides.
     let block : c.pending.result.now ≡ old ++ piece = c.pending.ensures ∙ GrowsBy-split _ _ _ e.gains in
     let size : length piece ≡ c.in-Ok.n = GrowsBy-size _ _ _ e.gains in
     let is_listed = rw c.in_default.is at (s.tests has_match (subst (Decides has_match) (sym i.same) decides)) in
-    TestsInput-listed _ _ has_match _ _ _ _ _ (g.R.Source.model c.args.input.now) (g.R.Source.model c.pieces.input) (g.R.Source.model c.fill.new.input) (c.args.limit - c.pieces.left) old piece c.pieces.tally.lines c.pieces.tally (g.O.Sink.model c.pieces.out) (omega (arith, e.within, i.bound, size)) i.read e.model.0 (i.unlisted is_listed.listed) (i.tested has_match decides)
-    (subst (λ b. IsListed c.args.printer.now.style c.args.printer.now.name.now has_match (terminated_lines b) (c.pieces.tally.lines + 1) c.search_block.new.tally (g.O.Sink.model c.pieces.out) (g.O.Sink.model c.search_block.new.out)) block is_listed)
+    TestsInput-listed _ _ has_match _ _ _ _ _ (g.R.Source.model c.args.input.now) (g.R.Source.model c.pieces.input)
+    (g.R.Source.model c.fill.new.input) (c.args.limit - c.pieces.left) old piece c.pieces.tally.lines c.pieces.tally
+    (g.O.Sink.model c.pieces.out) (omega (arith, e.within, i.bound, size)) i.read e.model.0
+    (i.unlisted is_listed.listed) (i.tested has_match decides)
+    (subst (λ b. IsListed c.args.printer.now.style c.args.printer.now.name.now has_match (terminated_lines b)
+    (c.pieces.tally.lines + 1) c.search_block.new.tally (g.O.Sink.model c.pieces.out)
+    (g.O.Sink.model c.search_block.new.out)) block is_listed)
 
 pub pieces-preserved : goal.pieces-preserved
 pieces-preserved g c =
@@ -104,41 +126,80 @@ pieces-preserved g c =
     let piece = drop (length old) (pending_bytes c.fill.new.self) in
     let block : c.pending.result.now ≡ old ++ piece = c.pending.ensures ∙ GrowsBy-split _ _ _ e.gains in
     let size : length piece ≡ c.in-Ok.n = GrowsBy-size _ _ _ e.gains in
-    let rest : pending_bytes c.skip.new.self ≡ last_part c.pending.result.now = c.skip.ensures ∙ ap (λ b. drop c.in-Some.start b) (sym c.pending.ensures) ∙ s.rest.1 in
-    let n : c.args.limit - c.pieces.left + length piece ≡ c.args.limit - (c.pieces.left - c.in-Ok.n) = omega (arith, e.within, i.bound, size) in
+    let rest : pending_bytes c.skip.new.self ≡ last_part c.pending.result.now = c.skip.ensures
+    ∙ ap (λ b. drop c.in-Some.start b) (sym c.pending.ensures) ∙ s.rest.1 in
+    let n : c.args.limit - c.pieces.left + length piece ≡ c.args.limit - (c.pieces.left - c.in-Ok.n) =
+    omega (arith, e.within, i.bound, size) in
     let model = g.R.Source.model c.args.input.now in
     let later = g.R.Source.model c.fill.new.input in
     let left = g.R.Source.model c.pieces.input in
-    let counted = λ (shown : c.args.printer.now.style.number ≡ true). s.lines.exact shown ∙ ap (λ b. c.pieces.tally.lines + length (terminated_lines b)) block in
-    let Mid = λ (has_match : List ℕ → Bool) (lines : List (List ℕ)). Tests c.args.printer.now.style c.args.printer.now.name.now has_match lines c.args.tally.now c.pieces.tally (g.O.Sink.model c.args.out.now) (g.O.Sink.model c.pieces.out) in
-    let After = λ (has_match : List ℕ → Bool) (lines : List (List ℕ)). Tests c.args.printer.now.style c.args.printer.now.name.now has_match lines c.args.tally.now c.search_block.new.tally (g.O.Sink.model c.args.out.now) (g.O.Sink.model c.search_block.new.out) in
+    let counted = λ (shown : c.args.printer.now.style.number ≡ true). s.lines.exact shown
+    ∙ ap (λ b. c.pieces.tally.lines + length (terminated_lines b)) block in
+    let Mid = λ (has_match : List ℕ → Bool) (lines : List (List ℕ)). Tests c.args.printer.now.style
+    c.args.printer.now.name.now has_match lines c.args.tally.now c.pieces.tally (g.O.Sink.model c.args.out.now)
+    (g.O.Sink.model c.pieces.out) in
+    let After = λ (has_match : List ℕ → Bool) (lines : List (List ℕ)). Tests c.args.printer.now.style
+    c.args.printer.now.name.now has_match lines c.args.tally.now c.search_block.new.tally
+    (g.O.Sink.model c.args.out.now) (g.O.Sink.model c.search_block.new.out) in
     record {
-      bound = omega (arith, e.within, i.bound, s.lines.bound, ap (λ (l : List ℕ). length l) rest, ap (λ (l : List ℕ). length l) c.pending.ensures, e.gains.size, lines_within c.pending.result.now);
+      bound = omega (
+        arith,
+        e.within,
+        i.bound,
+        s.lines.bound,
+        ap (λ (l : List ℕ). length l) rest,
+        ap (λ (l : List ℕ). length l) c.pending.ensures,
+        e.gains.size,
+        lines_within c.pending.result.now,
+      );
       part = subst HasNoNewline (sym rest) (HasNoNewline-last_part c.pending.result.now);
-      read = subst (λ k. HasReadInput c.args.printer.now.style model later k (pending_bytes c.skip.new.self) c.search_block.new.tally.lines) n
-          (HasReadInput-more c.args.printer.now.style (c.args.limit - c.pieces.left) old piece c.pieces.tally.lines model left later _ _ i.read e.model.0 (rest ∙ ap last_part block) counted);
+      read = subst (λ k. HasReadInput c.args.printer.now.style model later k (pending_bytes c.skip.new.self)
+          c.search_block.new.tally.lines) n
+          (HasReadInput-more c.args.printer.now.style (c.args.limit - c.pieces.left) old piece c.pieces.tally.lines
+          model left later _ _ i.read e.model.0 (rest ∙ ap last_part block) counted);
       tested = λ has_match decides.
-          let found = subst (λ b. Tests c.args.printer.now.style c.args.printer.now.name.now has_match (terminated_lines b) c.pieces.tally c.search_block.new.tally (g.O.Sink.model c.pieces.out) (g.O.Sink.model c.search_block.new.out)) block (s.tests has_match (subst (Decides has_match) (sym i.same) decides)) in
+          let found = subst (λ b. Tests c.args.printer.now.style c.args.printer.now.name.now has_match
+          (terminated_lines b) c.pieces.tally c.search_block.new.tally (g.O.Sink.model c.pieces.out)
+          (g.O.Sink.model c.search_block.new.out)) block
+          (s.tests has_match (subst (Decides has_match) (sym i.same) decides)) in
           subst (λ k. HasTested model k (After has_match)) n
-          (HasTested-more c.args.printer.now.style (c.args.limit - c.pieces.left) old piece c.pieces.tally.lines model left later (Mid has_match) (After has_match) i.read e.model.0 (λ ls is tests. Tests-more _ _ has_match ls (terminated_lines (old ++ piece)) _ _ _ _ _ _ (λ shown. omega (arith, is shown, c.requires.lines)) tests found) (i.tested has_match decides));
+          (HasTested-more c.args.printer.now.style (c.args.limit - c.pieces.left) old piece c.pieces.tally.lines model
+          left later (Mid has_match) (After has_match) i.read e.model.0
+          (λ ls is tests. Tests-more _ _ has_match ls (terminated_lines (old ++ piece)) _ _ _ _ _ _
+          (λ shown. omega (arith, is shown, c.requires.lines)) tests found) (i.tested has_match decides));
       unlisted = s.unlisted;
       same = s.same ∙ i.same;
       read_failed = e.failed ∙ i.read_failed;
       write_failed = s.failed ∙ i.write_failed;
-      work = subst (λ k. HasSearched c.args.matcher.now.tree c.args.printer.now.name.now (pending_bytes c.skip.new.self) k model later (c.args.steps.now + state_work * c.args.matcher.now.states) (c.search_block.new.steps + state_work * c.search_block.new.matcher.states)) n
-          (searched_on c.args.matcher.now.tree c.args.printer.now.name.now (pending_bytes c.pieces.buffer) (c.args.limit - c.pieces.left) (g.R.Source.model c.args.input.now) (g.R.Source.model c.pieces.input) (c.args.steps.now + state_work * c.args.matcher.now.states) (c.pieces.steps + state_work * c.pieces.matcher.states) i.work later piece (c.search_block.new.steps + state_work * c.search_block.new.matcher.states) e.model.0 (pending_bytes c.skip.new.self) (rest ∙ ap last_part block) (omega (arith, size, c.in-Ok.n-test)) (block_bound c.args.matcher.now.tree c.pieces.matcher.tree c.args.printer.now.name.now c.pending.result.now old piece (length c.pending-scanned.result.now) (c.pieces.steps + state_work * c.pieces.matcher.states) (c.search_block.new.steps + state_work * c.search_block.new.matcher.states) i.same (c.pending.ensures ∙ GrowsBy-split _ _ _ e.gains) (ap (λ (b : List ℕ). length b) c.pending-scanned.ensures) (omega (arith, c.search_block.ensures.work, c.add.ensures))));
+      work = subst (λ k. HasSearched c.args.matcher.now.tree c.args.printer.now.name.now (pending_bytes c.skip.new.self)
+          k model later (c.args.steps.now + state_work * c.args.matcher.now.states)
+          (c.search_block.new.steps + state_work * c.search_block.new.matcher.states)) n
+          (searched_on c.args.matcher.now.tree c.args.printer.now.name.now (pending_bytes c.pieces.buffer)
+          (c.args.limit - c.pieces.left) (g.R.Source.model c.args.input.now) (g.R.Source.model c.pieces.input)
+          (c.args.steps.now + state_work * c.args.matcher.now.states)
+          (c.pieces.steps + state_work * c.pieces.matcher.states) i.work later piece
+          (c.search_block.new.steps + state_work * c.search_block.new.matcher.states) e.model.0
+          (pending_bytes c.skip.new.self) (rest ∙ ap last_part block) (omega (arith, size, c.in-Ok.n-test))
+          (block_bound c.args.matcher.now.tree c.pieces.matcher.tree c.args.printer.now.name.now c.pending.result.now
+          old piece (length c.pending-scanned.result.now) (c.pieces.steps + state_work * c.pieces.matcher.states)
+          (c.search_block.new.steps + state_work * c.search_block.new.matcher.states) i.same
+          (c.pending.ensures ∙ GrowsBy-split _ _ _ e.gains) (ap (λ (b : List ℕ). length b) c.pending-scanned.ensures)
+          (omega (arith, c.search_block.ensures.work, c.add.ensures))));
       keeps = g.met.R.Source.keeps_trans _ _ _ i.keeps e.keeps;
     }
 
 pub returns-clause-stops : goal.returns-clause-stops
 returns-clause-stops g c =
     let i = c.pieces.invariant in
-    Stops-past c.args.printer.now.style c.in_ok-stop.stop _ (g.R.Source.model c.pieces.input) (c.args.limit - c.pieces.left) _ _ _ (omega (arith, c.pieces-test.false)) i.read c.in_ok-stop.ensures.stop
+    Stops-past c.args.printer.now.style c.in_ok-stop.stop _ (g.R.Source.model c.pieces.input)
+    (c.args.limit - c.pieces.left) _ _ _ (omega (arith, c.pieces-test.false)) i.read c.in_ok-stop.ensures.stop
 
 pub returns-clause-tests : goal.returns-clause-tests
 returns-clause-tests g c = λ has_match decides.
     let i = c.pieces.invariant in
-    TestsInput-past _ _ has_match _ _ _ _ _ c.in_ok-stop.stop _ (g.R.Source.model c.pieces.input) (c.args.limit - c.pieces.left) _ _ (omega (arith, c.pieces-test.false)) i.read c.in_ok-stop.ensures.stop (i.tested has_match decides)
+    TestsInput-past _ _ has_match _ _ _ _ _ c.in_ok-stop.stop _ (g.R.Source.model c.pieces.input)
+    (c.args.limit - c.pieces.left) _ _ (omega (arith, c.pieces-test.false)) i.read c.in_ok-stop.ensures.stop
+    (i.tested has_match decides)
 
 pub returns-in-Err-Failed-clause-stops : goal.returns-in-Err-Failed-clause-stops
 returns-in-Err-Failed-clause-stops g c = grind (arith, common_steps)
@@ -156,7 +217,12 @@ returns-in-Ok-eq0-clause-work g c =
     let size : length piece ≡ 0 = GrowsBy-size _ _ _ e.gains ∙ c.in-Ok-eq0.field-0-test in
     let none : piece ≡ [] = nil_from_length piece size in
     let same : new ≡ old = GrowsBy-split _ _ _ e.gains ∙ ap (λ p. old ++ p) none ∙ append-nil old in
-    stops_at c.args.matcher.now.tree c.args.printer.now.name.now (pending_bytes c.pieces.buffer) (c.args.limit - c.pieces.left) (g.R.Source.model c.args.input.now) (g.R.Source.model c.pieces.input) (c.args.steps.now + state_work * c.args.matcher.now.states) (c.pieces.steps + state_work * c.pieces.matcher.states) i.work piece new same (Ok End) none (g.R.Source.model c.fill.new.input) (c.add.new.self + state_work * c.pieces.matcher.states) (c.args.limit + 1) e.model.0 (omega (arith, size)) (omega (arith, c.add.ensures))
+    stops_at c.args.matcher.now.tree c.args.printer.now.name.now (pending_bytes c.pieces.buffer)
+    (c.args.limit - c.pieces.left) (g.R.Source.model c.args.input.now) (g.R.Source.model c.pieces.input)
+    (c.args.steps.now + state_work * c.args.matcher.now.states) (c.pieces.steps + state_work * c.pieces.matcher.states)
+    i.work piece new same (Ok End) none (g.R.Source.model c.fill.new.input)
+    (c.add.new.self + state_work * c.pieces.matcher.states) (c.args.limit + 1) e.model.0 (omega (arith, size))
+    (omega (arith, c.add.ensures))
 
 pub returns-in_err-start-clause-work : goal.returns-in_err-start-clause-work
 returns-in_err-start-clause-work g c =
@@ -166,7 +232,17 @@ returns-in_err-start-clause-work g c =
     let piece = drop (length old) (pending_bytes c.fill.new.self) in
     let size : length piece ≡ c.in-Ok.n = GrowsBy-size _ _ _ e.gains in
     record {
-      steps = searched_last c.args.matcher.now.tree c.args.printer.now.name.now (pending_bytes c.pieces.buffer) (c.args.limit - c.pieces.left) (g.R.Source.model c.args.input.now) (g.R.Source.model c.pieces.input) (c.args.steps.now + state_work * c.args.matcher.now.states) (c.pieces.steps + state_work * c.pieces.matcher.states) i.work (g.R.Source.model c.fill.new.input) piece (c.search_block.new.steps + state_work * c.search_block.new.matcher.states) e.model.0 (c.args.limit + 1) (omega (arith, e.within, i.bound, size)) (omega (arith, size, c.in-Ok.n-test)) (block_bound c.args.matcher.now.tree c.pieces.matcher.tree c.args.printer.now.name.now c.pending.result.now old piece (length c.pending-scanned.result.now) (c.pieces.steps + state_work * c.pieces.matcher.states) (c.search_block.new.steps + state_work * c.search_block.new.matcher.states) i.same (c.pending.ensures ∙ GrowsBy-split _ _ _ e.gains) (ap (λ (b : List ℕ). length b) c.pending-scanned.ensures) (omega (arith, c.search_block.ensures.work, c.add.ensures)));
+      steps = searched_last c.args.matcher.now.tree c.args.printer.now.name.now (pending_bytes c.pieces.buffer)
+          (c.args.limit - c.pieces.left) (g.R.Source.model c.args.input.now) (g.R.Source.model c.pieces.input)
+          (c.args.steps.now + state_work * c.args.matcher.now.states)
+          (c.pieces.steps + state_work * c.pieces.matcher.states) i.work (g.R.Source.model c.fill.new.input) piece
+          (c.search_block.new.steps + state_work * c.search_block.new.matcher.states) e.model.0 (c.args.limit + 1)
+          (omega (arith, e.within, i.bound, size)) (omega (arith, size, c.in-Ok.n-test))
+          (block_bound c.args.matcher.now.tree c.pieces.matcher.tree c.args.printer.now.name.now c.pending.result.now
+          old piece (length c.pending-scanned.result.now) (c.pieces.steps + state_work * c.pieces.matcher.states)
+          (c.search_block.new.steps + state_work * c.search_block.new.matcher.states) i.same
+          (c.pending.ensures ∙ GrowsBy-split _ _ _ e.gains) (ap (λ (b : List ℕ). length b) c.pending-scanned.ensures)
+          (omega (arith, c.search_block.ensures.work, c.add.ensures)));
       rest = unless_err _ c.from_residual.result c.from_residual.ensures.0;
     }
 
@@ -178,7 +254,17 @@ returns-in_default-clause-work g c =
     let piece = drop (length old) (pending_bytes c.fill.new.self) in
     let size : length piece ≡ c.in-Ok.n = GrowsBy-size _ _ _ e.gains in
     record {
-      steps = searched_last c.args.matcher.now.tree c.args.printer.now.name.now (pending_bytes c.pieces.buffer) (c.args.limit - c.pieces.left) (g.R.Source.model c.args.input.now) (g.R.Source.model c.pieces.input) (c.args.steps.now + state_work * c.args.matcher.now.states) (c.pieces.steps + state_work * c.pieces.matcher.states) i.work (g.R.Source.model c.fill.new.input) piece (c.search_block.new.steps + state_work * c.search_block.new.matcher.states) e.model.0 (c.args.limit + 1) (omega (arith, e.within, i.bound, size)) (omega (arith, size, c.in-Ok.n-test)) (block_bound c.args.matcher.now.tree c.pieces.matcher.tree c.args.printer.now.name.now c.pending.result.now old piece (length c.pending-scanned.result.now) (c.pieces.steps + state_work * c.pieces.matcher.states) (c.search_block.new.steps + state_work * c.search_block.new.matcher.states) i.same (c.pending.ensures ∙ GrowsBy-split _ _ _ e.gains) (ap (λ (b : List ℕ). length b) c.pending-scanned.ensures) (omega (arith, c.search_block.ensures.work, c.add.ensures)));
+      steps = searched_last c.args.matcher.now.tree c.args.printer.now.name.now (pending_bytes c.pieces.buffer)
+          (c.args.limit - c.pieces.left) (g.R.Source.model c.args.input.now) (g.R.Source.model c.pieces.input)
+          (c.args.steps.now + state_work * c.args.matcher.now.states)
+          (c.pieces.steps + state_work * c.pieces.matcher.states) i.work (g.R.Source.model c.fill.new.input) piece
+          (c.search_block.new.steps + state_work * c.search_block.new.matcher.states) e.model.0 (c.args.limit + 1)
+          (omega (arith, e.within, i.bound, size)) (omega (arith, size, c.in-Ok.n-test))
+          (block_bound c.args.matcher.now.tree c.pieces.matcher.tree c.args.printer.now.name.now c.pending.result.now
+          old piece (length c.pending-scanned.result.now) (c.pieces.steps + state_work * c.pieces.matcher.states)
+          (c.search_block.new.steps + state_work * c.search_block.new.matcher.states) i.same
+          (c.pending.ensures ∙ GrowsBy-split _ _ _ e.gains) (ap (λ (b : List ℕ). length b) c.pending-scanned.ensures)
+          (omega (arith, c.search_block.ensures.work, c.add.ensures)));
       rest = tt;
     }
 
@@ -186,10 +272,21 @@ pub returns-in_err-stop-clause-work : goal.returns-in_err-stop-clause-work
 returns-in_err-stop-clause-work g c =
     let i = c.pieces.invariant in
     let p = c.probe_end.ensures.read in
-    stops_at c.args.matcher.now.tree c.args.printer.now.name.now (pending_bytes c.pieces.buffer) (c.args.limit - c.pieces.left) (g.R.Source.model c.args.input.now) (g.R.Source.model c.pieces.input) (c.args.steps.now + state_work * c.args.matcher.now.states) (c.pieces.steps + state_work * c.pieces.matcher.states) i.work p.0 (pending_bytes c.pieces.buffer) refl c.from_residual-in_err-stop.result (unless_err _ c.from_residual-in_err-stop.result c.from_residual-in_err-stop.ensures.0) (g.R.Source.model c.probe_end.new.input) (c.add-2.new.self + state_work * c.pieces.matcher.states) (c.args.limit + 1) p.1 (omega (arith, p.2)) (omega (arith, c.add-2.ensures))
+    stops_at c.args.matcher.now.tree c.args.printer.now.name.now (pending_bytes c.pieces.buffer)
+    (c.args.limit - c.pieces.left) (g.R.Source.model c.args.input.now) (g.R.Source.model c.pieces.input)
+    (c.args.steps.now + state_work * c.args.matcher.now.states) (c.pieces.steps + state_work * c.pieces.matcher.states)
+    i.work p.0 (pending_bytes c.pieces.buffer) refl c.from_residual-in_err-stop.result
+    (unless_err _ c.from_residual-in_err-stop.result c.from_residual-in_err-stop.ensures.0)
+    (g.R.Source.model c.probe_end.new.input) (c.add-2.new.self + state_work * c.pieces.matcher.states)
+    (c.args.limit + 1) p.1 (omega (arith, p.2)) (omega (arith, c.add-2.ensures))
 
 pub returns-clause-work : goal.returns-clause-work
 returns-clause-work g c =
     let i = c.pieces.invariant in
     let p = c.in_ok-stop.ensures.read in
-    stops_at c.args.matcher.now.tree c.args.printer.now.name.now (pending_bytes c.pieces.buffer) (c.args.limit - c.pieces.left) (g.R.Source.model c.args.input.now) (g.R.Source.model c.pieces.input) (c.args.steps.now + state_work * c.args.matcher.now.states) (c.pieces.steps + state_work * c.pieces.matcher.states) i.work p.0 (pending_bytes c.pieces.buffer) refl (Ok c.in_ok-stop.stop) p.3 (g.R.Source.model c.probe_end.new.input) (c.add-2.new.self + state_work * c.pieces.matcher.states) (c.args.limit + 1) p.1 (omega (arith, p.2)) (omega (arith, c.add-2.ensures))
+    stops_at c.args.matcher.now.tree c.args.printer.now.name.now (pending_bytes c.pieces.buffer)
+    (c.args.limit - c.pieces.left) (g.R.Source.model c.args.input.now) (g.R.Source.model c.pieces.input)
+    (c.args.steps.now + state_work * c.args.matcher.now.states) (c.pieces.steps + state_work * c.pieces.matcher.states)
+    i.work p.0 (pending_bytes c.pieces.buffer) refl (Ok c.in_ok-stop.stop) p.3 (g.R.Source.model c.probe_end.new.input)
+    (c.add-2.new.self + state_work * c.pieces.matcher.states) (c.args.limit + 1) p.1 (omega (arith, p.2))
+    (omega (arith, c.add-2.ensures))

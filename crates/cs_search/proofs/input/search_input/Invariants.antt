@@ -12,13 +12,19 @@ abbrev pub invariant-pieces : goal.invariant-pieces
 invariant-pieces g l = record {
   bound : l.tally.lines + length (pending_bytes l.buffer) + l.left ≤ l.limit;
   part : HasNoNewline (pending_bytes l.buffer);
-  read : HasReadInput l.printer.style (g.R.Source.model l.initial.input) (g.R.Source.model l.input) (l.limit - l.left) (pending_bytes l.buffer) l.tally.lines;
-  tested : (has_match : List ℕ → Bool) → Decides has_match l.initial.matcher.tree → HasTested (g.R.Source.model l.initial.input) (l.limit - l.left) (λ lines. Tests l.printer.style l.printer.name.now has_match lines l.initial.tally l.tally (g.O.Sink.model l.initial.out) (g.O.Sink.model l.out));
+  read : HasReadInput l.printer.style (g.R.Source.model l.initial.input) (g.R.Source.model l.input) (l.limit - l.left)
+      (pending_bytes l.buffer) l.tally.lines;
+  tested : (has_match : List ℕ → Bool) → Decides has_match l.initial.matcher.tree →
+      HasTested (g.R.Source.model l.initial.input) (l.limit - l.left)
+      (λ lines. Tests l.printer.style l.printer.name.now has_match lines l.initial.tally l.tally
+      (g.O.Sink.model l.initial.out) (g.O.Sink.model l.out));
   unlisted : l.printer.style.list ≡ true → l.tally.matches ≡ 0;
   same : l.matcher.tree ≡ l.initial.matcher.tree;
   read_failed : g.R.Source.failed l.input ≡ g.R.Source.failed l.initial.input;
   write_failed : g.O.Sink.failed l.out ≡ g.O.Sink.failed l.initial.out;
-  work : HasSearched l.initial.matcher.tree l.printer.name.now (pending_bytes l.buffer) (l.limit - l.left) (g.R.Source.model l.initial.input) (g.R.Source.model l.input) (l.initial.steps + state_work * l.initial.matcher.states) (l.steps + state_work * l.matcher.states);
+  work : HasSearched l.initial.matcher.tree l.printer.name.now (pending_bytes l.buffer) (l.limit - l.left)
+      (g.R.Source.model l.initial.input) (g.R.Source.model l.input)
+      (l.initial.steps + state_work * l.initial.matcher.states) (l.steps + state_work * l.matcher.states);
   keeps : g.R.Source.Keeps l.initial.input l.input;
 }
 

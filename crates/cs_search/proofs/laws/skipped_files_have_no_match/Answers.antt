@@ -4,4 +4,5 @@ use Rattle.cs_search.proofs.laws.skipped_files_have_no_match.Goals as goal
 
 pub returns : goal.returns
 unfolding names_matching
-returns c = λ style has_match keeps tree query pattern loses decides a b files all. search_alike style has_match keeps tree query pattern loses decides a b files all
+returns c = λ style has_match keeps tree query pattern loses decides a b files all. search_alike style has_match keeps
+    tree query pattern loses decides a b files all

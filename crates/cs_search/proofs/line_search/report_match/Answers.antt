@@ -9,4 +9,5 @@ returns-clause-tests g c = λ has_match matched. Tests-matching _ _ has_match _ 
 
 pub returns-in_err-print_match-clause-prefix : goal.returns-in_err-print_match-clause-prefix
 returns-in_err-print_match-clause-prefix g c =
-    any_err c.from_residual.result (λ has_match matched. TestsPrefix-matching _ _ has_match _ _ _ _ matched c.in_err-print_match.ensures.written)
+    any_err c.from_residual.result (λ has_match matched. TestsPrefix-matching _ _ has_match _ _ _ _ matched
+    c.in_err-print_match.ensures.written)

@@ -12,11 +12,14 @@ invariant-lines g l = record {
   within : l.offset ≤ length l.block;
   whole : AreWholeLines (take l.offset l.block);
   counted : CountsLines l.printer.style l.fn.tally.lines l.tally.lines (length (terminated_lines (take l.offset l.block)));
-  tests : (has_match : List ℕ → Bool) → Decides has_match l.fn.matcher.tree → Tests l.printer.style l.printer.name.now has_match (terminated_lines (take l.offset l.block)) l.fn.tally l.tally (g.O.Sink.model l.fn.out) (g.O.Sink.model l.out);
+  tests : (has_match : List ℕ → Bool) → Decides has_match l.fn.matcher.tree → Tests l.printer.style l.printer.name.now
+      has_match (terminated_lines (take l.offset l.block)) l.fn.tally l.tally (g.O.Sink.model l.fn.out)
+      (g.O.Sink.model l.out);
   unlisted : l.printer.style.list ≡ true → l.tally.matches ≡ 0;
   same : l.matcher.tree ≡ l.fn.matcher.tree;
   work : l.steps + state_work * l.matcher.states
-      ≤ l.fn.steps + state_work * l.fn.matcher.states + searched_work l.fn.matcher.tree l.printer.name.now l.offset (length (terminated_lines (take l.offset l.block)));
+      ≤ l.fn.steps + state_work * l.fn.matcher.states + searched_work l.fn.matcher.tree l.printer.name.now l.offset
+      (length (terminated_lines (take l.offset l.block)));
   failed : g.O.Sink.failed l.out ≡ g.O.Sink.failed l.fn.out;
 }
 

@@ -14,13 +14,18 @@ pub returns-in-Listed-clause-report : goal.returns-in-Listed-clause-report
 returns-in-Listed-clause-report g c = λ has_match decides.
     let s = rw c.in-Listed.is at c.in_ok-search_input.ensures in
     let printer = c.args.printer.now in
-    Reports-listed printer.style printer.name.now has_match c.new-tally.result c.search_input.new.tally c.new-tally.ensures.lines c.new-tally.ensures.matches (g.O.Sink.model c.args.out.now) (g.O.Sink.model c.search_input.new.out) c.args.limit (g.R.Source.model c.args.input.now) (s.tests has_match decides)
+    Reports-listed printer.style printer.name.now has_match c.new-tally.result c.search_input.new.tally
+    c.new-tally.ensures.lines c.new-tally.ensures.matches (g.O.Sink.model c.args.out.now)
+    (g.O.Sink.model c.search_input.new.out) c.args.limit (g.R.Source.model c.args.input.now) (s.tests has_match decides)
 
 pub returns-in-Faulted-clause-report : goal.returns-in-Faulted-clause-report
 returns-in-Faulted-clause-report g c = λ has_match decides.
     let s = rw c.in-Faulted.is at c.in_ok-search_input.ensures in
     let printer = c.args.printer.now in
-    Reports-left printer.style printer.name.now has_match c.new-tally.result c.search_input.new.tally c.new-tally.ensures.lines c.new-tally.ensures.matches (g.O.Sink.model c.args.out.now) (g.O.Sink.model c.search_input.new.out) c.args.limit (g.R.Source.model c.args.input.now) c.in-Faulted.fault _ _ s.stops s.unlisted (s.tests has_match decides)
+    Reports-left printer.style printer.name.now has_match c.new-tally.result c.search_input.new.tally
+    c.new-tally.ensures.lines c.new-tally.ensures.matches (g.O.Sink.model c.args.out.now)
+    (g.O.Sink.model c.search_input.new.out) c.args.limit (g.R.Source.model c.args.input.now) c.in-Faulted.fault _ _
+    s.stops s.unlisted (s.tests has_match decides)
 
 pub returns-in_ok-print_total-in-End-clause-report : goal.returns-in_ok-print_total-in-End-clause-report
 returns-in_ok-print_total-in-End-clause-report g c = λ has_match decides.
@@ -28,7 +33,10 @@ returns-in_ok-print_total-in-End-clause-report g c = λ has_match decides.
     let printer = c.args.printer.now in
     let model = g.R.Source.model c.args.input.now in
     let mid = c.search_input.new.tally in
-    Reports-end printer.style printer.name.now has_match c.new-tally.result c.search_rest.new.tally c.new-tally.ensures.lines c.new-tally.ensures.matches (g.O.Sink.model c.args.out.now) (g.O.Sink.model c.search_rest.new.out) c.args.limit model mid (g.O.Sink.model c.search_input.new.out) c.pending.result.now (g.O.Sink.model c.print_total.new.out)
+    Reports-end printer.style printer.name.now has_match c.new-tally.result c.search_rest.new.tally
+    c.new-tally.ensures.lines c.new-tally.ensures.matches (g.O.Sink.model c.args.out.now)
+    (g.O.Sink.model c.search_rest.new.out) c.args.limit model mid (g.O.Sink.model c.search_input.new.out)
+    c.pending.result.now (g.O.Sink.model c.print_total.new.out)
     (subst (λ r. Stops c.args.printer.now.style c.args.limit End model r mid.lines) (sym c.pending.ensures) s.stops)
     s.unlisted
     (s.tests has_match decides)
@@ -39,7 +47,9 @@ pub returns-in_err-search_input-clause-prefix : goal.returns-in_err-search_input
 returns-in_err-search_input-clause-prefix g c =
     any_err c.from_residual.result (λ has_match decides.
     let printer = c.args.printer.now in
-    ReportsPrefix-read printer.style printer.name.now has_match c.new-tally.result c.new-tally.ensures.lines c.new-tally.ensures.matches (g.O.Sink.model c.args.out.now) c.args.limit (g.R.Source.model c.args.input.now) (g.O.Sink.model c.search_input.new.out) (c.in_err-search_input.ensures.prefix has_match decides))
+    ReportsPrefix-read printer.style printer.name.now has_match c.new-tally.result c.new-tally.ensures.lines
+    c.new-tally.ensures.matches (g.O.Sink.model c.args.out.now) c.args.limit (g.R.Source.model c.args.input.now)
+    (g.O.Sink.model c.search_input.new.out) (c.in_err-search_input.ensures.prefix has_match decides))
 
 pub returns-in_err-search_rest-in-End-clause-prefix : goal.returns-in_err-search_rest-in-End-clause-prefix
 returns-in_err-search_rest-in-End-clause-prefix g c =
@@ -47,8 +57,11 @@ returns-in_err-search_rest-in-End-clause-prefix g c =
     let s = rw c.in-End.is at c.in_ok-search_input.ensures in
     let printer = c.args.printer.now in
     let mid = c.search_input.new.tally in
-    ReportsPrefix-rest printer.style printer.name.now has_match c.new-tally.result c.new-tally.ensures.lines c.new-tally.ensures.matches (g.O.Sink.model c.args.out.now) c.args.limit (g.R.Source.model c.args.input.now) mid (g.O.Sink.model c.search_input.new.out) c.pending.result.now (g.O.Sink.model c.search_rest.new.out)
-    (subst (λ r. Stops c.args.printer.now.style c.args.limit End (g.R.Source.model c.args.input.now) r mid.lines) (sym c.pending.ensures) s.stops)
+    ReportsPrefix-rest printer.style printer.name.now has_match c.new-tally.result c.new-tally.ensures.lines
+    c.new-tally.ensures.matches (g.O.Sink.model c.args.out.now) c.args.limit (g.R.Source.model c.args.input.now) mid
+    (g.O.Sink.model c.search_input.new.out) c.pending.result.now (g.O.Sink.model c.search_rest.new.out)
+    (subst (λ r. Stops c.args.printer.now.style c.args.limit End (g.R.Source.model c.args.input.now) r mid.lines)
+    (sym c.pending.ensures) s.stops)
     s.unlisted (s.tests has_match decides)
     (c.in_err-search_rest-in-End.ensures.prefix has_match (subst (Decides has_match) (sym s.same) decides)))
 
@@ -58,38 +71,69 @@ returns-in_err-print_total-in-End-clause-prefix g c =
     let s = rw c.in-End.is at c.in_ok-search_input.ensures in
     let printer = c.args.printer.now in
     let mid = c.search_input.new.tally in
-    ReportsPrefix-total printer.style printer.name.now has_match c.new-tally.result c.new-tally.ensures.lines c.new-tally.ensures.matches (g.O.Sink.model c.args.out.now) c.args.limit (g.R.Source.model c.args.input.now) mid c.search_rest.new.tally (g.O.Sink.model c.search_input.new.out) (g.O.Sink.model c.search_rest.new.out) c.pending.result.now (g.O.Sink.model c.print_total.new.out)
-    (subst (λ r. Stops c.args.printer.now.style c.args.limit End (g.R.Source.model c.args.input.now) r mid.lines) (sym c.pending.ensures) s.stops)
+    ReportsPrefix-total printer.style printer.name.now has_match c.new-tally.result c.new-tally.ensures.lines
+    c.new-tally.ensures.matches (g.O.Sink.model c.args.out.now) c.args.limit (g.R.Source.model c.args.input.now) mid
+    c.search_rest.new.tally (g.O.Sink.model c.search_input.new.out) (g.O.Sink.model c.search_rest.new.out)
+    c.pending.result.now (g.O.Sink.model c.print_total.new.out)
+    (subst (λ r. Stops c.args.printer.now.style c.args.limit End (g.R.Source.model c.args.input.now) r mid.lines)
+    (sym c.pending.ensures) s.stops)
     s.unlisted (s.tests has_match decides)
     (c.in_ok-search_rest-in-End.ensures.tests has_match (subst (Decides has_match) (sym s.same) decides))
     c.in_err-print_total-in-End.ensures.written)
 
 pub returns-in-Listed-clause-work : goal.returns-in-Listed-clause-work
 returns-in-Listed-clause-work g c =
-    ended_input c.args.matcher.now.tree c.args.printer.now.name.now (c.args.limit + 1) (g.R.Source.model c.args.input.now) (g.R.Source.model c.search_input.new.input) (c.args.steps.now + state_work * c.args.matcher.now.states) (c.search_input.new.steps + state_work * c.search_input.new.matcher.states) c.search_input.ensures.work.steps
+    ended_input c.args.matcher.now.tree c.args.printer.now.name.now (c.args.limit + 1)
+    (g.R.Source.model c.args.input.now) (g.R.Source.model c.search_input.new.input)
+    (c.args.steps.now + state_work * c.args.matcher.now.states)
+    (c.search_input.new.steps + state_work * c.search_input.new.matcher.states) c.search_input.ensures.work.steps
 
 pub returns-in-Faulted-clause-work : goal.returns-in-Faulted-clause-work
 returns-in-Faulted-clause-work g c =
-    ended_input c.args.matcher.now.tree c.args.printer.now.name.now (c.args.limit + 1) (g.R.Source.model c.args.input.now) (g.R.Source.model c.search_input.new.input) (c.args.steps.now + state_work * c.args.matcher.now.states) (c.search_input.new.steps + state_work * c.search_input.new.matcher.states) c.search_input.ensures.work.steps
+    ended_input c.args.matcher.now.tree c.args.printer.now.name.now (c.args.limit + 1)
+    (g.R.Source.model c.args.input.now) (g.R.Source.model c.search_input.new.input)
+    (c.args.steps.now + state_work * c.args.matcher.now.states)
+    (c.search_input.new.steps + state_work * c.search_input.new.matcher.states) c.search_input.ensures.work.steps
 
 pub returns-in_err-search_input-clause-work : goal.returns-in_err-search_input-clause-work
 returns-in_err-search_input-clause-work g c =
-    ended_input c.args.matcher.now.tree c.args.printer.now.name.now (c.args.limit + 1) (g.R.Source.model c.args.input.now) (g.R.Source.model c.search_input.new.input) (c.args.steps.now + state_work * c.args.matcher.now.states) (c.search_input.new.steps + state_work * c.search_input.new.matcher.states) c.search_input.ensures.work.steps
+    ended_input c.args.matcher.now.tree c.args.printer.now.name.now (c.args.limit + 1)
+    (g.R.Source.model c.args.input.now) (g.R.Source.model c.search_input.new.input)
+    (c.args.steps.now + state_work * c.args.matcher.now.states)
+    (c.search_input.new.steps + state_work * c.search_input.new.matcher.states) c.search_input.ensures.work.steps
 
 pub returns-in_ok-print_total-in-End-clause-work : goal.returns-in_ok-print_total-in-End-clause-work
 returns-in_ok-print_total-in-End-clause-work g c =
     let s = rw c.in-End.is at c.in_ok-search_input.ensures in
-    rest_input c.args.matcher.now.tree c.args.printer.now.name.now (c.args.limit + 1) (g.R.Source.model c.args.input.now) (g.R.Source.model c.search_input.new.input) (c.args.steps.now + state_work * c.args.matcher.now.states) (pending_bytes c.search_input.new.buffer) c.pending.result.now c.search_input.new.matcher.tree (c.search_input.new.steps + state_work * c.search_input.new.matcher.states) (c.print_total.new.steps + state_work * c.search_rest.new.matcher.states) s.work s.same c.pending.ensures (omega (arith, c.search_rest.ensures.work, c.print_total.ensures.work))
+    rest_input c.args.matcher.now.tree c.args.printer.now.name.now (c.args.limit + 1)
+    (g.R.Source.model c.args.input.now) (g.R.Source.model c.search_input.new.input)
+    (c.args.steps.now + state_work * c.args.matcher.now.states) (pending_bytes c.search_input.new.buffer)
+    c.pending.result.now c.search_input.new.matcher.tree
+    (c.search_input.new.steps + state_work * c.search_input.new.matcher.states)
+    (c.print_total.new.steps + state_work * c.search_rest.new.matcher.states) s.work s.same c.pending.ensures
+    (omega (arith, c.search_rest.ensures.work, c.print_total.ensures.work))
 
 pub returns-in_err-search_rest-in-End-clause-work : goal.returns-in_err-search_rest-in-End-clause-work
 returns-in_err-search_rest-in-End-clause-work g c =
     let s = rw c.in-End.is at c.in_ok-search_input.ensures in
-    rest_input c.args.matcher.now.tree c.args.printer.now.name.now (c.args.limit + 1) (g.R.Source.model c.args.input.now) (g.R.Source.model c.search_input.new.input) (c.args.steps.now + state_work * c.args.matcher.now.states) (pending_bytes c.search_input.new.buffer) c.pending.result.now c.search_input.new.matcher.tree (c.search_input.new.steps + state_work * c.search_input.new.matcher.states) (c.search_rest.new.steps + state_work * c.search_rest.new.matcher.states) s.work s.same c.pending.ensures (omega (arith, c.search_rest.ensures.work))
+    rest_input c.args.matcher.now.tree c.args.printer.now.name.now (c.args.limit + 1)
+    (g.R.Source.model c.args.input.now) (g.R.Source.model c.search_input.new.input)
+    (c.args.steps.now + state_work * c.args.matcher.now.states) (pending_bytes c.search_input.new.buffer)
+    c.pending.result.now c.search_input.new.matcher.tree
+    (c.search_input.new.steps + state_work * c.search_input.new.matcher.states)
+    (c.search_rest.new.steps + state_work * c.search_rest.new.matcher.states) s.work s.same c.pending.ensures
+    (omega (arith, c.search_rest.ensures.work))
 
 pub returns-in_err-print_total-in-End-clause-work : goal.returns-in_err-print_total-in-End-clause-work
 returns-in_err-print_total-in-End-clause-work g c =
     let s = rw c.in-End.is at c.in_ok-search_input.ensures in
-    rest_input c.args.matcher.now.tree c.args.printer.now.name.now (c.args.limit + 1) (g.R.Source.model c.args.input.now) (g.R.Source.model c.search_input.new.input) (c.args.steps.now + state_work * c.args.matcher.now.states) (pending_bytes c.search_input.new.buffer) c.pending.result.now c.search_input.new.matcher.tree (c.search_input.new.steps + state_work * c.search_input.new.matcher.states) (c.print_total.new.steps + state_work * c.search_rest.new.matcher.states) s.work s.same c.pending.ensures (omega (arith, c.search_rest.ensures.work, c.print_total.ensures.work))
+    rest_input c.args.matcher.now.tree c.args.printer.now.name.now (c.args.limit + 1)
+    (g.R.Source.model c.args.input.now) (g.R.Source.model c.search_input.new.input)
+    (c.args.steps.now + state_work * c.args.matcher.now.states) (pending_bytes c.search_input.new.buffer)
+    c.pending.result.now c.search_input.new.matcher.tree
+    (c.search_input.new.steps + state_work * c.search_input.new.matcher.states)
+    (c.print_total.new.steps + state_work * c.search_rest.new.matcher.states) s.work s.same c.pending.ensures
+    (omega (arith, c.search_rest.ensures.work, c.print_total.ensures.work))
 
 pub returns-in-Listed-clause-loses : goal.returns-in-Listed-clause-loses
 returns-in-Listed-clause-loses g c = steps_lose c.search_input.ensures.work.steps

@@ -32,7 +32,8 @@ returns-in_err-program-clause-silent g c = all_silent _ c.from_residual.result (
 pub returns-in_err-program-clause-faults : goal.returns-in_err-program-clause-faults
 returns-in_err-program-clause-faults g c =
     let p = err_from_is_err_and c.from_residual.result c.from_residual.ensures.1 in
-    PrintsFaultsOf-nothing c.from_residual.result p.0 c.args.job.now (g.T.Tree.failed c.args.tree.now) (g.R.Source.failed c.args.input.now) (g.E.Sink.model c.args.err.now) p.1
+    PrintsFaultsOf-nothing c.from_residual.result p.0 c.args.job.now (g.T.Tree.failed c.args.tree.now)
+    (g.R.Source.failed c.args.input.now) (g.E.Sink.model c.args.err.now) p.1
 
 pub returns-in_err-program-clause-prefix : goal.returns-in_err-program-clause-prefix
 returns-in_err-program-clause-prefix g c = any_err c.from_residual.result (inl (Grows-same _, Grows-same _))
@@ -40,7 +41,8 @@ returns-in_err-program-clause-prefix g c = any_err c.from_residual.result (inl (
 pub returns-in_err-searcher-clause-faults : goal.returns-in_err-searcher-clause-faults
 returns-in_err-searcher-clause-faults g c =
     let p = err_from_is_err_and c.from_residual-in_err-searcher.result c.from_residual-in_err-searcher.ensures.1 in
-    PrintsFaultsOf-nothing c.from_residual-in_err-searcher.result p.0 c.args.job.now (g.T.Tree.failed c.args.tree.now) (g.R.Source.failed c.args.input.now) (g.E.Sink.model c.args.err.now) p.1
+    PrintsFaultsOf-nothing c.from_residual-in_err-searcher.result p.0 c.args.job.now (g.T.Tree.failed c.args.tree.now)
+    (g.R.Source.failed c.args.input.now) (g.E.Sink.model c.args.err.now) p.1
 
 pub returns-in_err-searcher-clause-prefix : goal.returns-in_err-searcher-clause-prefix
 returns-in_err-searcher-clause-prefix g c = any_err c.from_residual-in_err-searcher.result (inl (Grows-same _, Grows-same _))
@@ -67,7 +69,8 @@ returns-in_err-matched-clause-prefix g c =
       (is.0, is.1, is.2),
       λ pattern has_match reads decides.
           let program = decides_program (string_bytes job.pattern) job.fold c.in_ok-program.program pattern has_match is reads decides in
-          PrintsSome-prefix _ _ _ _ _ (c.in_err-matched.ensures.prefix has_match (subst (Decides has_match) (sym c.in_ok-searcher.ensures.matcher) program)),
+          PrintsSome-prefix _ _ _ _ _ (c.in_err-matched.ensures.prefix has_match
+          (subst (Decides has_match) (sym c.in_ok-searcher.ensures.matcher) program)),
     ))
 
 pub returns-in_err-status-clause-faults : goal.returns-in_err-status-clause-faults
@@ -76,8 +79,10 @@ returns-in_err-status-clause-faults g c =
     let err = g.E.Sink.model c.args.err.now in
     let now = g.E.Sink.model c.search_job.new.err in
     let later = g.E.Sink.model c.finish.new.err in
-    rw p.1 (PrintsFaultsOf-as c.args.job.now _ _ _ _ (λ lines. WritesBytes lines err now done) (λ lines. EndsAfter {A = Unit {0}} lines err later (Err p.0))
-    (λ tool names failed failed' faults. PrintsFaults-flushed tool {A = Unit {0}} (Err p.0) names failed failed' err now later faults c.in_err-status.ensures.err)
+    rw p.1 (PrintsFaultsOf-as c.args.job.now _ _ _ _ (λ lines. WritesBytes lines err now done)
+    (λ lines. EndsAfter {A = Unit {0}} lines err later (Err p.0))
+    (λ tool names failed failed' faults. PrintsFaults-flushed tool {A = Unit {0}} (Err p.0) names failed failed' err now
+    later faults c.in_err-status.ensures.err)
     c.in_ok-matched.ensures.faults)
 
 pub returns-in_err-status-clause-pattern : goal.returns-in_err-status-clause-pattern
@@ -96,7 +101,9 @@ returns-in_err-status-clause-prefix g c =
       λ pattern has_match reads decides.
           let program = decides_program (string_bytes job.pattern) job.fold c.in_ok-program.program pattern has_match is reads decides in
           let matcher = subst (Decides has_match) (sym c.in_ok-searcher.ensures.matcher) program in
-          PrintsSome-all _ _ (g.O.Sink.model c.search_job.new.out) _ _ (g.E.Sink.model c.search_job.new.err) _ c.in_ok-matched.matched (c.in_ok-matched.ensures.prints has_match matcher) c.in_err-status.ensures.out c.in_err-status.ensures.err,
+          PrintsSome-all _ _ (g.O.Sink.model c.search_job.new.out) _ _ (g.E.Sink.model c.search_job.new.err) _
+          c.in_ok-matched.matched (c.in_ok-matched.ensures.prints has_match matcher) c.in_err-status.ensures.out
+          c.in_err-status.ensures.err,
     ))
 
 -- ---- success
@@ -104,9 +111,12 @@ returns-in_err-status-clause-prefix g c =
 pub returns-clause-prints : goal.returns-clause-prints
 returns-clause-prints g c = λ pattern has_match reads decides.
     let job = c.args.job.now in
-    let program = decides_program (string_bytes job.pattern) job.fold c.in_ok-program.program pattern has_match c.in_ok-program.ensures.compiled reads decides in
+    let program = decides_program (string_bytes job.pattern) job.fold c.in_ok-program.program pattern has_match
+    c.in_ok-program.ensures.compiled reads decides in
     let matcher = subst (Decides has_match) (sym c.in_ok-searcher.ensures.matcher) program in
-    PrintsStatus-flushed _ _ (g.O.Sink.model c.search_job.new.out) _ _ (g.E.Sink.model c.search_job.new.err) _ c.in_ok-matched.matched c.in_ok-status.status (c.in_ok-matched.ensures.prints has_match matcher) c.in_ok-status.ensures.out c.in_ok-status.ensures.err c.in_ok-status.ensures.status
+    PrintsStatus-flushed _ _ (g.O.Sink.model c.search_job.new.out) _ _ (g.E.Sink.model c.search_job.new.err) _
+    c.in_ok-matched.matched c.in_ok-status.status (c.in_ok-matched.ensures.prints has_match matcher)
+    c.in_ok-status.ensures.out c.in_ok-status.ensures.err c.in_ok-status.ensures.status
 
 pub returns-clause-faults : goal.returns-clause-faults
 returns-clause-faults g c =
@@ -114,7 +124,8 @@ returns-clause-faults g c =
     let now = g.E.Sink.model c.search_job.new.err in
     let later = g.E.Sink.model c.finish.new.err in
     PrintsFaultsOf-as c.args.job.now _ _ _ _ (λ lines. WritesBytes lines err now done) (λ lines. EndsAfter lines err later done)
-    (λ tool names failed failed' faults. PrintsFaults-flushed tool done names failed failed' err now later faults c.in_ok-status.ensures.err)
+    (λ tool names failed failed' faults. PrintsFaults-flushed tool done names failed failed' err now later faults
+    c.in_ok-status.ensures.err)
     c.in_ok-matched.ensures.faults
 
 pub returns-clause-flushed : goal.returns-clause-flushed

@@ -11,7 +11,8 @@ returns-in_err-pattern-clause-refused c =
     let p = err_from_is_err_and c.from_residual.result c.from_residual.ensures.1 in
     let job = c.args.job.now in
     let error = c.in_err-pattern.field-0.0 in
-    rw (p.1, p.2) (pattern_refused (string_bytes job.pattern) job.fold error (subst (λ text. IsParseError text job.fold error) c.as_str.ensures.value c.in_err-pattern.ensures.rejected))
+    rw (p.1, p.2) (pattern_refused (string_bytes job.pattern) job.fold error
+    (subst (λ text. IsParseError text job.fold error) c.as_str.ensures.value c.in_err-pattern.ensures.rejected))
 
 pub returns-clause-compiled : goal.returns-clause-compiled
 returns-clause-compiled c = (

@@ -12,7 +12,8 @@ pub ids-init : goal.ids-init
 ids-init g c = record {
   read = λ bytes parts modelled stands below. record {
     reads = c.name_reader.ensures bytes parts stands;
-    kept = subst (AreKept (matcher_tree c.in_ok-new.field-0.matcher) parts.names []) (sym c.new-2.ensures.items) (kept_none (matcher_tree c.in_ok-new.field-0.matcher) parts.names);
+    kept = subst (AreKept (matcher_tree c.in_ok-new.field-0.matcher) parts.names []) (sym c.new-2.ensures.items)
+        (kept_none (matcher_tree c.in_ok-new.field-0.matcher) parts.names);
   };
   same = c.in_ok-new.ensures;
   keeps = refl;
@@ -28,9 +29,11 @@ ids-preserved g c =
     let at = c.ids.id-index in
     record {
       read = λ bytes parts modelled stands below.
-          let read = e.read bytes parts (take at ids) (i.keeps ∙ modelled) (i.read bytes parts modelled stands below) (All-get_or (λ id. id < length parts.names) ids at 0 c.ids-test.true below) in
+          let read = e.read bytes parts (take at ids) (i.keeps ∙ modelled) (i.read bytes parts modelled stands below)
+          (All-get_or (λ id. id < length parts.names) ids at 0 c.ids-test.true below) in
           subst (λ (done : List ℕ). HasSelected bytes parts done c.read.new.self) (sym (take_more ids at 0 c.ids-test.true))
-          (subst (λ (answer : Result (Unit {0}) IndexFault). IsOkAnd answer (λ _. HasSelected bytes parts (take at ids ++ get_or ids at 0 ∷ []) c.read.new.self)) c.in_default.is read);
+          (subst (λ (answer : Result (Unit {0}) IndexFault). IsOkAnd answer
+          (λ _. HasSelected bytes parts (take at ids ++ get_or ids at 0 ∷ []) c.read.new.self)) c.in_default.is read);
       same = e.same ∙ i.same;
       keeps = e.keeps ∙ i.keeps;
       size = e.size ∙ i.size;
@@ -43,8 +46,11 @@ returns-in-Err-clause-kept g c = λ bytes parts modelled stands below.
     let i = c.ids.invariant in
     let ids = c.args.ids.now in
     let at = c.ids.id-index in
-    let read = c.in_ok-fault.ensures.read bytes parts (take at ids) (i.keeps ∙ modelled) (i.read bytes parts modelled stands below) (All-get_or (λ id. id < length parts.names) ids at 0 c.ids-test.true below) in
-    subst (λ (answer : Result (Unit {0}) IndexFault). IsOkAnd answer (λ _. HasSelected bytes parts (take at ids ++ get_or ids at 0 ∷ []) c.read.new.self)) c.in-Err.is read
+    let read = c.in_ok-fault.ensures.read bytes parts (take at ids) (i.keeps ∙ modelled)
+    (i.read bytes parts modelled stands below)
+    (All-get_or (λ id. id < length parts.names) ids at 0 c.ids-test.true below) in
+    subst (λ (answer : Result (Unit {0}) IndexFault). IsOkAnd answer
+    (λ _. HasSelected bytes parts (take at ids ++ get_or ids at 0 ∷ []) c.read.new.self)) c.in-Err.is read
 
 -- all ids were read
 pub returns-clause-kept : goal.returns-clause-kept
@@ -52,5 +58,6 @@ returns-clause-kept g c = λ bytes parts modelled stands below.
     let i = c.ids.invariant in
     let names = c.ids.selection.names.items in
     subst (λ file. AreKept file parts.names c.args.ids.now names) i.same
-    (subst (λ (ids : List ℕ). AreKept (matcher_tree c.ids.selection.filter.matcher) parts.names ids names) (take_all c.ids.id-index c.args.ids.now c.ids-test.false)
+    (subst (λ (ids : List ℕ). AreKept (matcher_tree c.ids.selection.filter.matcher) parts.names ids names)
+    (take_all c.ids.id-index c.args.ids.now c.ids-test.false)
     (i.read bytes parts modelled stands below).kept)

@@ -9,7 +9,8 @@ use Rattle.cs_search.proofs.selection.kept_names.Given as goal
 
 abbrev pub invariant-ids : goal.invariant-ids
 invariant-ids g l = record {
-  read : (bytes : List ℕ) (parts : Parts) → g.S.Store.model l.fn.store ≡ Some bytes → StandsIn bytes l.fn.index parts → All (λ id. id < length parts.names) l.fn.ids → HasSelected bytes parts (take l.id-index l.fn.ids) l.selection;
+  read : (bytes : List ℕ) (parts : Parts) → g.S.Store.model l.fn.store ≡ Some bytes → StandsIn bytes l.fn.index parts →
+      All (λ id. id < length parts.names) l.fn.ids → HasSelected bytes parts (take l.id-index l.fn.ids) l.selection;
   same : matcher_tree l.selection.filter.matcher ≡ option_copied l.fn.file;
   keeps : g.S.Store.model l.store ≡ g.S.Store.model l.fn.store;
   size : g.S.Store.size l.store ≡ g.S.Store.size l.fn.store;

@@ -12,7 +12,8 @@ returns-in-Ok-clause-searches g c =
     let model : Option (List ℕ) = g.S.Store.model c.args.store.now in
     if_modelled model _ (λ bytes is. c.search-answer.ensures.searches (Some bytes)
     (subst (AreSelected c.in-Ok.plan (Some bytes)) (sym c.deref.ensures.value)
-    (of_model model (λ bytes. AreSelected c.in-Ok.plan (Some bytes) c.in-Ok.names.items) bytes is (rw c.in-Ok.is at c.in_ok-ready.ensures.selected))))
+    (of_model model (λ bytes. AreSelected c.in-Ok.plan (Some bytes) c.in-Ok.names.items) bytes is
+    (rw c.in-Ok.is at c.in_ok-ready.ensures.selected))))
 
 -- a job with an error
 pub returns-in-Err-clause-searches : goal.returns-in-Err-clause-searches
@@ -20,13 +21,17 @@ returns-in-Err-clause-searches g c =
     let model : Option (List ℕ) = g.S.Store.model c.args.store.now in
     let failed = g.T.Tree.failed c.args.tree.now in
     let outputs : SearchOutputs = record { out = g.O.Sink.model c.args.out.now; err = g.E.Sink.model c.args.err.now } in
-    if_modelled model _ (λ bytes is. refused_first c.args.job.now (Some bytes) (g.T.Tree.snapshot c.args.tree.now) failed failed outputs outputs c.in-Err.fault (Grows-same outputs.out, Grows-same outputs.err) refl
-    (of_model model (λ bytes. RefusesPlan c.args.job.now (Some bytes) c.in-Err.fault) bytes is (rw c.in-Err.is at c.in_ok-ready.ensures.refused)))
+    if_modelled model _ (λ bytes is. refused_first c.args.job.now (Some bytes) (g.T.Tree.snapshot c.args.tree.now)
+    failed failed outputs outputs c.in-Err.fault (Grows-same outputs.out, Grows-same outputs.err) refl
+    (of_model model (λ bytes. RefusesPlan c.args.job.now (Some bytes) c.in-Err.fault) bytes is
+    (rw c.in-Err.is at c.in_ok-ready.ensures.refused)))
 
 -- ---- an index that does not open
 
 pub returns-in-Ok-clause-unopened : goal.returns-in-Ok-clause-unopened
-returns-in-Ok-clause-unopened g c = unopened_unready _ Status c.args.job.now c.args.opened _ c.search-answer.result (rw c.in-Ok.is at c.in_ok-ready.ensures.unopened)
+returns-in-Ok-clause-unopened g c = unopened_unready _ Status c.args.job.now c.args.opened _ c.search-answer.result
+    (rw c.in-Ok.is at c.in_ok-ready.ensures.unopened)
 
 pub returns-in-Err-clause-unopened : goal.returns-in-Err-clause-unopened
-returns-in-Err-clause-unopened g c = unopened_as _ Status c.args.job.now c.args.opened c.in-Err.fault (rw c.in-Err.is at c.in_ok-ready.ensures.unopened)
+returns-in-Err-clause-unopened g c = unopened_as _ Status c.args.job.now c.args.opened c.in-Err.fault
+    (rw c.in-Err.is at c.in_ok-ready.ensures.unopened)

@@ -21,13 +21,16 @@ pub returns-in-Err-clause-unwritten : goal.returns-in-Err-clause-unwritten
 returns-in-Err-clause-unwritten g c = (c.in-Err.ensures.refused None).2
 
 pub returns-in-Err-clause-unopened : goal.returns-in-Err-clause-unopened
-returns-in-Err-clause-unopened g c = unopened_first Status _ c.args.job.now c.args.opened c.in-Err.fault (λ index. let r = c.in-Err.ensures.refused index in (r.0, r.1))
+returns-in-Err-clause-unopened g c = unopened_first Status _ c.args.job.now c.args.opened c.in-Err.fault
+    (λ index. let r = c.in-Err.ensures.refused index in (r.0, r.1))
 
 -- ---- a bad index
 
 pub returns-in-Err-opened-clause-unopened : goal.returns-in-Err-opened-clause-unopened
 returns-in-Err-opened-clause-unopened g c =
-    rw c.in-Err-opened.is (rw c.from.ensures (unopened_late _ c.args.job.now c.in-Err-opened.fault (accepted_plan c.args.job.now c.in-Ok.plan c.in-Ok.ensures.plan)))
+    rw c.in-Err-opened.is (rw c.from.ensures
+    (unopened_late _ c.args.job.now c.in-Err-opened.fault
+    (accepted_plan c.args.job.now c.in-Ok.plan c.in-Ok.ensures.plan)))
 
 pub returns-in-Err-opened-clause-selected : goal.returns-in-Err-opened-clause-selected
 returns-in-Err-opened-clause-selected g c = if_modelled (g.S.Store.model c.args.store.now) _ (λ bytes is. tt)
@@ -37,7 +40,8 @@ returns-in-Err-opened-clause-refused g c =
     let model : Option (List ℕ) = g.S.Store.model c.args.store.now in
     let accepted = accepted_plan c.args.job.now c.in-Ok.plan c.in-Ok.ensures.plan in
     if_modelled model _ (λ bytes is. rw c.from.ensures (bad_index c.args.job.now (Some bytes) bytes c.in-Err-opened.fault accepted
-    (of_model model (λ bytes. DecodesOrFails bytes (Err c.in-Err-opened.fault)) bytes is (subst (IsOpened model) c.in-Err-opened.is c.requires))))
+    (of_model model (λ bytes. DecodesOrFails bytes (Err c.in-Err-opened.fault)) bytes is
+    (subst (IsOpened model) c.in-Err-opened.is c.requires))))
 
 pub returns-in-Err-opened-clause-unwritten : goal.returns-in-Err-opened-clause-unwritten
 returns-in-Err-opened-clause-unwritten g c = rw c.from.ensures (list_unwritten c.in-Err-opened.fault)
@@ -55,7 +59,8 @@ returns-in-Err-2-clause-refused g c =
     if_modelled model _ (λ bytes is.
     let opened = of_model model (λ bytes. DecodesOrFails bytes (Ok index)) bytes is (subst (IsOpened model) c.in-Ok-opened.is c.requires) in
     let damaged = subst (Selects plan opened.0) c.in-Err-2.is (c.in_ok-names.ensures.answers bytes opened.0 is opened.2) in
-    rw c.from-in-Err-2.ensures (lists_refused c.args.job.now (Some bytes) plan c.in-Ok.ensures.plan opened.0 opened.1 c.in-Err-2.fault (inl damaged)))
+    rw c.from-in-Err-2.ensures (lists_refused c.args.job.now (Some bytes) plan c.in-Ok.ensures.plan opened.0 opened.1
+    c.in-Err-2.fault (inl damaged)))
 
 pub returns-in-Err-2-clause-unwritten : goal.returns-in-Err-2-clause-unwritten
 returns-in-Err-2-clause-unwritten g c = rw c.from-in-Err-2.ensures (list_unwritten c.in-Err-2.fault)

@@ -22,14 +22,20 @@ pub returns-in-None-clause-report : goal.returns-in-None-clause-report
 returns-in-None-clause-report g c = λ has_match decides.
     let s = rw c.in-None.is at c.in_ok-search_block.ensures in
     let printer = c.args.printer.now in
-    reported_listed printer.style printer.name.now has_match c.args.text.now c.new-tally.result c.search_block.new.tally c.new-tally.ensures.lines c.new-tally.ensures.matches (g.O.Sink.model c.args.out.now) (g.O.Sink.model c.search_block.new.out) (s.tests has_match decides) None
+    reported_listed printer.style printer.name.now has_match c.args.text.now c.new-tally.result c.search_block.new.tally
+    c.new-tally.ensures.lines c.new-tally.ensures.matches (g.O.Sink.model c.args.out.now)
+    (g.O.Sink.model c.search_block.new.out) (s.tests has_match decides) None
 
 pub returns-in_ok-print_total-in-Some-clause-report : goal.returns-in_ok-print_total-in-Some-clause-report
 returns-in_ok-print_total-in-Some-clause-report g c = λ has_match decides.
     let s = rw c.in-Some.is at c.in_ok-search_block.ensures in
     let printer = c.args.printer.now in
-    reported_end printer.style printer.name.now has_match c.args.text.now c.new-tally.result c.search_rest.new.tally c.new-tally.ensures.lines c.new-tally.ensures.matches (g.O.Sink.model c.args.out.now) (g.O.Sink.model c.search_rest.new.out) c.search_block.new.tally (g.O.Sink.model c.search_block.new.out) (rest_of c.args.text.now c.in-Some.start) (g.O.Sink.model c.print_total.new.out)
-    (take_rest c.args.text.now c.in-Some.start ∙ s.rest.1) (λ shown. omega (arith, s.lines.exact shown, c.new-tally.ensures.lines)) s.unlisted (s.tests has_match decides)
+    reported_end printer.style printer.name.now has_match c.args.text.now c.new-tally.result c.search_rest.new.tally
+    c.new-tally.ensures.lines c.new-tally.ensures.matches (g.O.Sink.model c.args.out.now)
+    (g.O.Sink.model c.search_rest.new.out) c.search_block.new.tally (g.O.Sink.model c.search_block.new.out)
+    (rest_of c.args.text.now c.in-Some.start) (g.O.Sink.model c.print_total.new.out)
+    (take_rest c.args.text.now c.in-Some.start ∙ s.rest.1)
+    (λ shown. omega (arith, s.lines.exact shown, c.new-tally.ensures.lines)) s.unlisted (s.tests has_match decides)
     (c.in_ok-search_rest-in-Some.ensures.tests has_match (subst (Decides has_match) (sym s.same) decides))
     c.in_ok-print_total-in-Some.ensures.written
 
@@ -37,7 +43,8 @@ pub returns-in_err-search_block-clause-prefix : goal.returns-in_err-search_block
 returns-in_err-search_block-clause-prefix g c =
     any_err c.from_residual.result (λ has_match decides.
     let printer = c.args.printer.now in
-    report_prefix printer.style printer.name.now has_match c.args.text.now (g.O.Sink.model c.args.out.now) (g.O.Sink.model c.search_block.new.out) None
+    report_prefix printer.style printer.name.now has_match c.args.text.now (g.O.Sink.model c.args.out.now)
+    (g.O.Sink.model c.search_block.new.out) None
     (rw c.new-tally.ensures.lines at c.in_err-search_block.ensures.prefix has_match decides))
 
 pub returns-in_err-search_rest-in-Some-clause-prefix : goal.returns-in_err-search_rest-in-Some-clause-prefix
@@ -45,8 +52,12 @@ returns-in_err-search_rest-in-Some-clause-prefix g c =
     any_err c.from_residual-in_err-search_rest-in-Some.result (λ has_match decides.
     let s = rw c.in-Some.is at c.in_ok-search_block.ensures in
     let printer = c.args.printer.now in
-    report_prefix-rest printer.style printer.name.now has_match c.new-tally.result c.new-tally.ensures.lines c.new-tally.ensures.matches (g.O.Sink.model c.args.out.now) c.args.text.now c.search_block.new.tally (g.O.Sink.model c.search_block.new.out) (rest_of c.args.text.now c.in-Some.start) (g.O.Sink.model c.search_rest.new.out)
-    (take_rest c.args.text.now c.in-Some.start ∙ s.rest.1) (λ shown. omega (arith, s.lines.exact shown, c.new-tally.ensures.lines)) s.unlisted (s.tests has_match decides)
+    report_prefix-rest printer.style printer.name.now has_match c.new-tally.result c.new-tally.ensures.lines
+    c.new-tally.ensures.matches (g.O.Sink.model c.args.out.now) c.args.text.now c.search_block.new.tally
+    (g.O.Sink.model c.search_block.new.out) (rest_of c.args.text.now c.in-Some.start)
+    (g.O.Sink.model c.search_rest.new.out)
+    (take_rest c.args.text.now c.in-Some.start ∙ s.rest.1)
+    (λ shown. omega (arith, s.lines.exact shown, c.new-tally.ensures.lines)) s.unlisted (s.tests has_match decides)
     (c.in_err-search_rest-in-Some.ensures.prefix has_match (subst (Decides has_match) (sym s.same) decides)))
 
 pub returns-in_err-print_total-in-Some-clause-prefix : goal.returns-in_err-print_total-in-Some-clause-prefix
@@ -54,34 +65,75 @@ returns-in_err-print_total-in-Some-clause-prefix g c =
     any_err c.from_residual-in_err-print_total-in-Some.result (λ has_match decides.
     let s = rw c.in-Some.is at c.in_ok-search_block.ensures in
     let printer = c.args.printer.now in
-    report_prefix-total printer.style printer.name.now has_match c.new-tally.result c.new-tally.ensures.lines c.new-tally.ensures.matches (g.O.Sink.model c.args.out.now) c.args.text.now c.search_block.new.tally c.search_rest.new.tally (g.O.Sink.model c.search_block.new.out) (g.O.Sink.model c.search_rest.new.out) (rest_of c.args.text.now c.in-Some.start) (g.O.Sink.model c.print_total.new.out)
-    (take_rest c.args.text.now c.in-Some.start ∙ s.rest.1) (λ shown. omega (arith, s.lines.exact shown, c.new-tally.ensures.lines)) s.unlisted (s.tests has_match decides)
+    report_prefix-total printer.style printer.name.now has_match c.new-tally.result c.new-tally.ensures.lines
+    c.new-tally.ensures.matches (g.O.Sink.model c.args.out.now) c.args.text.now c.search_block.new.tally
+    c.search_rest.new.tally (g.O.Sink.model c.search_block.new.out) (g.O.Sink.model c.search_rest.new.out)
+    (rest_of c.args.text.now c.in-Some.start) (g.O.Sink.model c.print_total.new.out)
+    (take_rest c.args.text.now c.in-Some.start ∙ s.rest.1)
+    (λ shown. omega (arith, s.lines.exact shown, c.new-tally.ensures.lines)) s.unlisted (s.tests has_match decides)
     (c.in_ok-search_rest-in-Some.ensures.tests has_match (subst (Decides has_match) (sym s.same) decides))
     c.in_err-print_total-in-Some.ensures.written)
 
 pub returns-in-None-clause-work : goal.returns-in-None-clause-work
-returns-in-None-clause-work g c = omega (arith, c.search_block.ensures.work, ended_within c.args.matcher.now.tree c.args.printer.now.name.now c.args.text.now)
+returns-in-None-clause-work g c = omega (
+  arith,
+  c.search_block.ensures.work,
+  ended_within c.args.matcher.now.tree
+      c.args.printer.now.name.now c.args.text.now,
+)
 
 pub returns-in_err-search_block-clause-work : goal.returns-in_err-search_block-clause-work
-returns-in_err-search_block-clause-work g c = omega (arith, c.search_block.ensures.work, ended_within c.args.matcher.now.tree c.args.printer.now.name.now c.args.text.now)
+returns-in_err-search_block-clause-work g c =
+    omega (
+      arith,
+      c.search_block.ensures.work,
+      ended_within c.args.matcher.now.tree c.args.printer.now.name.now
+          c.args.text.now,
+    )
 
 pub returns-in_ok-print_total-in-Some-clause-work : goal.returns-in_ok-print_total-in-Some-clause-work
 returns-in_ok-print_total-in-Some-clause-work g c =
     let s = rw c.in-Some.is at c.in_ok-search_block.ensures in
     let rest = rest_of c.args.text.now c.in-Some.start in
     let last = take_rest c.args.text.now c.in-Some.start ∙ s.rest.1 in
-    omega (arith, c.search_block.ensures.work, c.search_rest.ensures.work, c.print_total.ensures.work, ap (λ t. rest_work t c.args.printer.now.name.now rest) s.same, rest_within c.args.matcher.now.tree c.args.printer.now.name.now rest c.args.text.now last, ap (λ l. line_work c.args.matcher.now.tree (length l)) last)
+    omega (
+      arith,
+      c.search_block.ensures.work,
+      c.search_rest.ensures.work,
+      c.print_total.ensures.work,
+      ap (λ t. rest_work t c.args.printer.now.name.now rest) s.same,
+      rest_within c.args.matcher.now.tree
+          c.args.printer.now.name.now rest c.args.text.now last,
+      ap (λ l. line_work c.args.matcher.now.tree (length l)) last,
+    )
 
 pub returns-in_err-search_rest-in-Some-clause-work : goal.returns-in_err-search_rest-in-Some-clause-work
 returns-in_err-search_rest-in-Some-clause-work g c =
     let s = rw c.in-Some.is at c.in_ok-search_block.ensures in
     let rest = rest_of c.args.text.now c.in-Some.start in
     let last = take_rest c.args.text.now c.in-Some.start ∙ s.rest.1 in
-    omega (arith, c.search_block.ensures.work, c.search_rest.ensures.work, ap (λ t. rest_work t c.args.printer.now.name.now rest) s.same, rest_within c.args.matcher.now.tree c.args.printer.now.name.now rest c.args.text.now last, ap (λ l. line_work c.args.matcher.now.tree (length l)) last)
+    omega (
+      arith,
+      c.search_block.ensures.work,
+      c.search_rest.ensures.work,
+      ap (λ t. rest_work t c.args.printer.now.name.now rest) s.same,
+      rest_within c.args.matcher.now.tree
+          c.args.printer.now.name.now rest c.args.text.now last,
+      ap (λ l. line_work c.args.matcher.now.tree (length l)) last,
+    )
 
 pub returns-in_err-print_total-in-Some-clause-work : goal.returns-in_err-print_total-in-Some-clause-work
 returns-in_err-print_total-in-Some-clause-work g c =
     let s = rw c.in-Some.is at c.in_ok-search_block.ensures in
     let rest = rest_of c.args.text.now c.in-Some.start in
     let last = take_rest c.args.text.now c.in-Some.start ∙ s.rest.1 in
-    omega (arith, c.search_block.ensures.work, c.search_rest.ensures.work, c.print_total.ensures.work, ap (λ t. rest_work t c.args.printer.now.name.now rest) s.same, rest_within c.args.matcher.now.tree c.args.printer.now.name.now rest c.args.text.now last, ap (λ l. line_work c.args.matcher.now.tree (length l)) last)
+    omega (
+      arith,
+      c.search_block.ensures.work,
+      c.search_rest.ensures.work,
+      c.print_total.ensures.work,
+      ap (λ t. rest_work t c.args.printer.now.name.now rest) s.same,
+      rest_within c.args.matcher.now.tree
+          c.args.printer.now.name.now rest c.args.text.now last,
+      ap (λ l. line_work c.args.matcher.now.tree (length l)) last,
+    )

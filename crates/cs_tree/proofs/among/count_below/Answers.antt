@@ -16,7 +16,8 @@ returns-then-not-is_below-clause-point g c =
     let text = g.P.AsStr.text in
     none_before (λ path. drop c.args.at (text path)) c.args.bound c.args.paths.now c.requires (λ d.
     subst (λ path. begins_below c.args.bound (drop c.args.at (text path)) ≡ false) (c.in-Some-first.ensures.item.3.1 d)
-    (ap (λ t. begins_below c.args.bound (drop c.args.at t)) (sym c.as_str-in-Some-first.ensures) ∙ sym c.is_below-in-Some-first.ensures ∙ c.if-not-is_below.true))
+    (ap (λ t. begins_below c.args.bound (drop c.args.at t)) (sym c.as_str-in-Some-first.ensures)
+    ∙ sym c.is_below-in-Some-first.ensures ∙ c.if-not-is_below.true))
 
 pub returns-clause-point : goal.returns-clause-point
 returns-clause-point g c =

@@ -10,7 +10,8 @@ returns-then-is_below_one g c =
     let paths = map g.P.AsStr.text c.args.paths.now in
     let path = c.args.path.now in
     let below = sym c.is_below_one.ensures ∙ c.if-is_below_one.true in
-    sym (alone_is path paths ∙ (λ i. not (below i || ((begins (slash ∷ []) path && not (bytes_eq path (slash ∷ []))) && is_among paths (slash ∷ [])))))
+    sym (alone_is path paths ∙ (λ i. not (below i
+    || ((begins (slash ∷ []) path && not (bytes_eq path (slash ∷ []))) && is_among paths (slash ∷ [])))))
 
 pub returns-then-is_below_root : goal.returns-then-is_below_root
 returns-then-is_below_root g c =

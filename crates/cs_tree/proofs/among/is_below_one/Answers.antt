@@ -19,15 +19,18 @@ pub returns-then-first_ends_at : goal.returns-then-first_ends_at
 returns-then-first_ends_at g c =
     let bytes = c.as_bytes-byte-items.result.now in
     let listed = sym c.first_ends_at.ensures ∙ c.if-first_ends_at.true in
-    let rest = list_any (λ above. is_ancestor above (drop (c.bytes.at + 1) c.args.path.now)) (after_byte (get_or bytes c.bytes.at 0) (tails g.P.AsStr.text c.bytes.at c.bytes.rest.now)) in
+    let rest = list_any (λ above. is_ancestor above (drop (c.bytes.at + 1) c.args.path.now))
+    (after_byte (get_or bytes c.bytes.at 0) (tails g.P.AsStr.text c.bytes.at c.bytes.rest.now)) in
     sym (c.bytes.invariant.left
-    ∙ ancestor_step c.bytes.at c.args.path.now bytes (tails g.P.AsStr.text c.bytes.at c.bytes.rest.now) c.as_bytes-byte-items.ensures.value c.bytes-test.true
+    ∙ ancestor_step c.bytes.at c.args.path.now bytes (tails g.P.AsStr.text c.bytes.at c.bytes.rest.now)
+    c.as_bytes-byte-items.ensures.value c.bytes-test.true
     ∙ (λ i. (eq-eqb (get_or bytes c.bytes.at 0) slash c.if-byte-eq47.true i && listed i) || rest))
 
 pub returns-then-is_empty : goal.returns-then-is_empty
 returns-then-is_empty g c =
     sym (c.bytes.invariant.left
-    ∙ none_listed g.P.AsStr.text c.bytes.at (drop c.bytes.at c.args.path.now) c.bytes.rest.now (sym c.is_empty.ensures ∙ c.if-is_empty.true))
+    ∙ none_listed g.P.AsStr.text c.bytes.at (drop c.bytes.at c.args.path.now) c.bytes.rest.now
+    (sym c.is_empty.ensures ∙ c.if-is_empty.true))
 
 pub bytes-preserved : goal.bytes-preserved
 bytes-preserved g c =
@@ -41,7 +44,8 @@ bytes-preserved g c =
           ∙ ancestor_step at c.args.path.now c.as_bytes-byte-items.result.now before c.as_bytes-byte-items.ensures.value c.bytes-test.true
           ∙ ap (λ ends. ends || list_any (λ above. is_ancestor above (drop (at + 1) c.args.path.now)) (after_byte byte before))
           (elim c.else-byte-eq47.branch [
-            | else-byte-eq47-via-then-byte-eq47+else-first_ends_at w ↦ and_right (eqb byte slash) (is_among before []) (sym w.first_ends_at.ensures ∙ w.if-first_ends_at.false)
+            | else-byte-eq47-via-then-byte-eq47+else-first_ends_at w ↦ and_right (eqb byte slash) (is_among before [])
+                (sym w.first_ends_at.ensures ∙ w.if-first_ends_at.false)
             | else-byte-eq47-via-else-byte-eq47 w ↦ and_left (eqb byte slash) (is_among before []) (ne_eqb byte slash w.if-byte-eq47.false)
           ])
           ∙ ap (list_any (λ above. is_ancestor above (drop (at + 1) c.args.path.now))) (sym c.with_byte-rest.ensures);
@@ -49,6 +53,7 @@ bytes-preserved g c =
 
 pub returns : goal.returns
 returns g c =
-    let all = ap (drop c.bytes.at) (sym c.as_bytes-byte-items.ensures.value) ∙ drop_all c.bytes.at c.as_bytes-byte-items.result.now c.bytes-test.false in
+    let all = ap (drop c.bytes.at) (sym c.as_bytes-byte-items.ensures.value)
+    ∙ drop_all c.bytes.at c.as_bytes-byte-items.result.now c.bytes-test.false in
     let rest = tails g.P.AsStr.text c.bytes.at c.bytes.rest.now in
     sym (c.bytes.invariant.left ∙ ap (λ path. list_any (λ above. is_ancestor above path) rest) all ∙ no_ancestor rest)

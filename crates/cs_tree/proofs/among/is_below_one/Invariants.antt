@@ -10,5 +10,6 @@ use Rattle.cs_tree.proofs.among.is_below_one.Given as goal
 abbrev pub invariant-bytes : goal.invariant-bytes
 invariant-bytes g l = record {
   sorted : IsStrictlySortedBy bytes_cmp (tails g.P.AsStr.text l.at l.rest);
-  left : list_any (λ above. is_ancestor above l.path) (map g.P.AsStr.text l.paths) ≡ list_any (λ above. is_ancestor above (drop l.at l.path)) (tails g.P.AsStr.text l.at l.rest);
+  left : list_any (λ above. is_ancestor above l.path) (map g.P.AsStr.text l.paths)
+      ≡ list_any (λ above. is_ancestor above (drop l.at l.path)) (tails g.P.AsStr.text l.at l.rest);
 }

@@ -17,4 +17,6 @@ returns-then-is_within_limits c =
 pub returns-else-is_within_limits : goal.returns-else-is_within_limits
 returns-else-is_within_limits c =
     let path = c.args.path.now in
-    c.if-is_within_limits.false ∙ sym (false_from_ne_true (is_normalized path) (λ h. true≢false (sym (c.is_within_limits.ensures.1 (normalized_no_nul path h, normalized_short path h)) ∙ c.if-is_within_limits.false)))
+    c.if-is_within_limits.false ∙ sym (false_from_ne_true (is_normalized path)
+    (λ h. true≢false (sym (c.is_within_limits.ensures.1 (normalized_no_nul path h, normalized_short path h))
+    ∙ c.if-is_within_limits.false)))

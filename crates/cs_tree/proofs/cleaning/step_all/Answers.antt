@@ -12,11 +12,13 @@ elements-preserved c =
     let split = (rw c.in-Some.is at (split_says c.elements.rest.now c.split_once.result c.split_once.ensures.cases)) in
     record {
       text = search rules;
-      left = steps-one (reverse (texts c.elements.above.items)) (reverse (texts c.step.new.above.items)) c.in-Some.element.now (elements c.elements.rest.now) (elements c.in-Some.later.now) split c.in_ok-step.ensures
+      left = steps-one (reverse (texts c.elements.above.items)) (reverse (texts c.step.new.above.items))
+          c.in-Some.element.now (elements c.elements.rest.now) (elements c.in-Some.later.now) split c.in_ok-step.ensures
           ∙ c.elements.invariant.left;
     }
 
 pub returns : goal.returns
 returns c =
     let split = (rw c.in_default.is at (split_says c.elements.rest.now c.split_once.result c.split_once.ensures.cases)) in
-    on_ok c.step-2.result (λ is. is ∙ sym (ap (fold with_element (reverse (texts c.elements.above.items))) split) ∙ c.elements.invariant.left) c.step-2.ensures
+    on_ok c.step-2.result (λ is. is ∙ sym (ap (fold with_element (reverse (texts c.elements.above.items))) split)
+    ∙ c.elements.invariant.left) c.step-2.ensures

@@ -11,7 +11,8 @@ use Rattle.cs_tree.proofs.cleaning.step_all.Given as goal
 abbrev pub invariant-elements : goal.invariant-elements
 invariant-elements l = record {
   text : shadow (Utf8 l.rest);
-  left : fold with_element (reverse (texts l.above.items)) (elements l.rest) ≡ fold with_element (reverse (texts l.initial.above.items)) (elements l.text);
+  left : fold with_element (reverse (texts l.above.items)) (elements l.rest)
+      ≡ fold with_element (reverse (texts l.initial.above.items)) (elements l.text);
 }
 
 abbrev pub decreases-elements : goal.decreases-elements

@@ -10,13 +10,16 @@ use Rattle.cs_tree.proofs.ordering.order_names.Goals as goal
 
 pub returns-clause-ascend : goal.returns-clause-ascend
 returns-clause-ascend c =
-    ap (λ names. are_ascending (map string_bytes names)) (dedup_is (same_key string_bytes) c.sort_unstable.new.self.items c.dedup.new.self.items c.dedup.ensures.filtered)
+    ap (λ names. are_ascending (map string_bytes names))
+    (dedup_is (same_key string_bytes) c.sort_unstable.new.self.items c.dedup.new.self.items c.dedup.ensures.filtered)
     ∙ sorted_once string_bytes c.sort_unstable.new.self.items c.sort_unstable.ensures.sorted
 
 pub returns-clause-same : goal.returns-clause-same
 returns-clause-same c = λ name.
     list_any-map string_bytes (λ other. bytes_eq other name) c.dedup.new.self.items
-    ∙ ap (list_any (λ x. bytes_eq (string_bytes x) name)) (dedup_is (same_key string_bytes) c.sort_unstable.new.self.items c.dedup.new.self.items c.dedup.ensures.filtered)
+    ∙ ap (list_any (λ x. bytes_eq (string_bytes x) name))
+    (dedup_is (same_key string_bytes) c.sort_unstable.new.self.items c.dedup.new.self.items c.dedup.ensures.filtered)
     ∙ once_same string_bytes (λ q. bytes_eq q name) c.sort_unstable.new.self.items
-    ∙ sym (list_any-IsPermutation (λ x. bytes_eq (string_bytes x) name) c.args.names.now.items c.sort_unstable.new.self.items c.sort_unstable.ensures.permutation)
+    ∙ sym (list_any-IsPermutation (λ x. bytes_eq (string_bytes x) name) c.args.names.now.items
+    c.sort_unstable.new.self.items c.sort_unstable.ensures.permutation)
     ∙ sym (list_any-map string_bytes (λ other. bytes_eq other name) c.args.names.now.items)

@@ -5,14 +5,17 @@ use Rattle.cs_tree.proofs.SplitLemmas.{split_says, unclean, proper_more, proper_
 use Rattle.cs_tree.proofs.paths.is_proper_path.Goals as goal
 
 pub returns-in_default : goal.returns-in_default
-returns-in_default c = sym (unclean c.args.path.now (rw c.in_default.is at (strip_prefix_char slash c.args.path.now c.strip_prefix.result c.strip_prefix.ensures.cases (omega arith))))
+returns-in_default c = sym (unclean c.args.path.now
+    (rw c.in_default.is at (strip_prefix_char slash c.args.path.now c.strip_prefix.result c.strip_prefix.ensures.cases
+    (omega arith))))
 
 pub elements-preserved : goal.elements-preserved
 elements-preserved c =
     let split = (rw c.in-Some-split_once.is at (split_says c.elements.rest.now c.split_once.result c.split_once.ensures.cases)) in
     record {
       text = search rules;
-      left = c.elements.invariant.left ∙ proper_more c.elements.rest.now c.in-Some-split_once.element.now c.in-Some-split_once.later.now split (sym c.is_proper.ensures ∙ c.if-not-is_proper.false);
+      left = c.elements.invariant.left ∙ proper_more c.elements.rest.now c.in-Some-split_once.element.now
+          c.in-Some-split_once.later.now split (sym c.is_proper.ensures ∙ c.if-not-is_proper.false);
     }
 
 pub returns : goal.returns

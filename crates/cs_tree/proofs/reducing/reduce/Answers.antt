@@ -8,10 +8,12 @@ use Rattle.cs_tree.proofs.reducing.reduce.Goals as goal
 
 pub paths_alone-requires : goal.paths_alone-requires
 paths_alone-requires c =
-    ap are_ascending (ap texts c.deref.ensures.value ∙ c.in_ok-ordered.ensures) ∙ items_ascend (set.from_list (map string_bytes c.args.paths.now))
+    ap are_ascending (ap texts c.deref.ensures.value ∙ c.in_ok-ordered.ensures)
+    ∙ items_ascend (set.from_list (map string_bytes c.args.paths.now))
 
 pub returns : goal.returns
 returns c =
     subst (λ (least : List (List ℕ)). IfOk c.paths_alone.result (λ kept. map string_bytes kept.items ≡ least))
-    (filter-least (set.from_list (map string_bytes c.args.paths.now)) (texts c.deref.result.now) (ap texts c.deref.ensures.value ∙ c.in_ok-ordered.ensures))
+    (filter-least (set.from_list (map string_bytes c.args.paths.now)) (texts c.deref.result.now)
+    (ap texts c.deref.ensures.value ∙ c.in_ok-ordered.ensures))
     c.paths_alone.ensures

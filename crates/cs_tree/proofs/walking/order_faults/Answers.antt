@@ -28,14 +28,18 @@ paths_seen (entry ∷ entries) = ap (λ paths. path_of entry ∷ paths) (paths_s
 pub returns-clause-ascend : goal.returns-clause-ascend
 returns-clause-ascend c =
     let sorted = c.sort_unstable_by.new.self.items in
-    let once : c.dedup_by.new.self.items ≡ dedup (same_key path_of) sorted = dedup_same _ (same_key path_of) _ (λ x y b f' x' y' h. search rules) sorted _ c.dedup_by.ensures.filtered in
-    let up = c.sort_unstable_by.ensures.sorted (λ x y. is_lt (by_key path_of x y)) (ranks_by nat_list_cmp_total path_of) (answers_always _ _ _ (λ f a r g h. search rules)) in
-    ap are_ascending (paths_seen c.dedup_by.new.self.items) ∙ ap (λ entries. are_ascending (map path_of entries)) once ∙ sorted_once path_of sorted up
+    let once : c.dedup_by.new.self.items ≡ dedup (same_key path_of) sorted =
+    dedup_same _ (same_key path_of) _ (λ x y b f' x' y' h. search rules) sorted _ c.dedup_by.ensures.filtered in
+    let up = c.sort_unstable_by.ensures.sorted (λ x y. is_lt (by_key path_of x y)) (ranks_by nat_list_cmp_total path_of)
+    (answers_always _ _ _ (λ f a r g h. search rules)) in
+    ap are_ascending (paths_seen c.dedup_by.new.self.items) ∙ ap (λ entries. are_ascending (map path_of entries)) once
+    ∙ sorted_once path_of sorted up
 
 pub returns-clause-same : goal.returns-clause-same
 returns-clause-same c =
     let sorted = c.sort_unstable_by.new.self.items in
-    let once : c.dedup_by.new.self.items ≡ dedup (same_key path_of) sorted = dedup_same _ (same_key path_of) _ (λ x y b f' x' y' h. search rules) sorted _ c.dedup_by.ensures.filtered in
+    let once : c.dedup_by.new.self.items ≡ dedup (same_key path_of) sorted =
+    dedup_same _ (same_key path_of) _ (λ x y b f' x' y' h. search rules) sorted _ c.dedup_by.ensures.filtered in
     λ path.
     ap (λ paths. is_among paths path) (paths_seen c.dedup_by.new.self.items)
     ∙ list_any-map path_of (λ other. bytes_eq other path) c.dedup_by.new.self.items
@@ -48,15 +52,18 @@ returns-clause-same c =
 pub returns-clause-kept : goal.returns-clause-kept
 returns-clause-kept c =
     let sorted = c.sort_unstable_by.new.self.items in
-    let once : c.dedup_by.new.self.items ≡ dedup (same_key path_of) sorted = dedup_same _ (same_key path_of) _ (λ x y b f' x' y' h. search rules) sorted _ c.dedup_by.ensures.filtered in
+    let once : c.dedup_by.new.self.items ≡ dedup (same_key path_of) sorted =
+    dedup_same _ (same_key path_of) _ (λ x y b f' x' y' h. search rules) sorted _ c.dedup_by.ensures.filtered in
     λ left h.
-    kept_once fault_entry (λ (x y : FaultEntry). bytes_eq x.0 y.0) c.args.faults.now.items sorted left c.sort_unstable_by.ensures.permutation
+    kept_once fault_entry (λ (x y : FaultEntry). bytes_eq x.0 y.0) c.args.faults.now.items sorted left
+    c.sort_unstable_by.ensures.permutation
     (subst (λ entries. Contains (map fault_entry entries) left) once h)
 
 pub returns-clause-whole : goal.returns-clause-whole
 returns-clause-whole c =
     let sorted = c.sort_unstable_by.new.self.items in
-    let once : c.dedup_by.new.self.items ≡ dedup (same_key path_of) sorted = dedup_same _ (same_key path_of) _ (λ x y b f' x' y' h. search rules) sorted _ c.dedup_by.ensures.filtered in
+    let once : c.dedup_by.new.self.items ≡ dedup (same_key path_of) sorted =
+    dedup_same _ (same_key path_of) _ (λ x y b f' x' y' h. search rules) sorted _ c.dedup_by.ensures.filtered in
     λ fault_once.
     subst (λ entries. IsPermutation (map fault_entry c.args.faults.now.items) (map fault_entry entries)) (sym once)
     (whole_once fault_entry c.args.faults.now.items sorted c.sort_unstable_by.ensures.permutation fault_once)

@@ -5,4 +5,5 @@ use Rattle.cs_tree.proofs.walking.push_children.Given as goal
 
 -- the paths of the names so far are pending
 abbrev pub invariant-names : goal.invariant-names
-invariant-names l = map string_bytes l.pending.items ≡ map string_bytes l.initial.pending.items ++ children l.folder (map string_bytes (take l.name-index l.names))
+invariant-names l = map string_bytes l.pending.items ≡ map string_bytes l.initial.pending.items ++ children l.folder
+    (map string_bytes (take l.name-index l.names))

@@ -12,7 +12,8 @@ use Rattle.cs_tree.proofs.walking.visit.Given as goal
 -- everything reachable is found, or is reachable from a pending path
 abbrev pub invariant-pending : goal.invariant-pending
 invariant-pending g l = record {
-  gathers : UnderwayIn (g.T.Tree.snapshot l.initial.tree) (string_bytes l.fn.start) (map string_bytes l.pending.items) l.initial.walked l.walked;
+  gathers : UnderwayIn (g.T.Tree.snapshot l.initial.tree) (string_bytes l.fn.start) (map string_bytes l.pending.items)
+      l.initial.walked l.walked;
   under : KeepsTo (covers (string_bytes l.fn.start)) l.initial.walked l.walked;
   below : AreBelow (string_bytes l.fn.start) (map string_bytes l.pending.items);
   path_limit : KeepsPathLimit l.initial.walked l.walked;

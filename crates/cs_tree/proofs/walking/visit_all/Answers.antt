@@ -32,22 +32,31 @@ paths-preserved g c = record {
   gathers =
       subst (λ paths. GathersIn (g.T.Tree.snapshot c.args.tree.now) (reach_by reaches paths) c.args.walked.now c.visit_named.new.walked)
       (sym (mapped_more string_bytes c.args.paths.now c.paths.path-index c.path-item.result c.paths-test.true c.path-item.is))
-      (more_in reaches (g.T.Tree.snapshot c.args.tree.now) (g.T.Tree.snapshot c.paths.tree) (map string_bytes (take c.paths.path-index c.args.paths.now)) (string_bytes c.path-item.result) c.args.walked.now c.paths.walked c.visit_named.new.walked c.paths.invariant.keeps c.paths.invariant.gathers
-      (subst (λ path. GathersIn (g.T.Tree.snapshot c.paths.tree) (λ model. reaches model path) c.paths.walked c.visit_named.new.walked) c.as_str.ensures.value c.in_ok-visit_named.ensures.gathers));
+      (more_in reaches (g.T.Tree.snapshot c.args.tree.now) (g.T.Tree.snapshot c.paths.tree)
+      (map string_bytes (take c.paths.path-index c.args.paths.now)) (string_bytes c.path-item.result) c.args.walked.now
+      c.paths.walked c.visit_named.new.walked c.paths.invariant.keeps c.paths.invariant.gathers
+      (subst (λ path. GathersIn (g.T.Tree.snapshot c.paths.tree) (λ model. reaches model path) c.paths.walked
+      c.visit_named.new.walked) c.as_str.ensures.value c.in_ok-visit_named.ensures.gathers));
   under =
       subst (λ paths. KeepsTo (is_covered (set.from_list paths)) c.args.walked.now c.visit_named.new.walked)
       (sym (mapped_more string_bytes c.args.paths.now c.paths.path-index c.path-item.result c.paths-test.true c.path-item.is))
-      (keeps_more (map string_bytes (take c.paths.path-index c.args.paths.now)) (string_bytes c.path-item.result) c.args.walked.now c.paths.walked c.visit_named.new.walked c.paths.invariant.under
-      (subst (λ path. KeepsTo (covers path) c.paths.walked c.visit_named.new.walked) c.as_str.ensures.value c.in_ok-visit_named.ensures.under));
+      (keeps_more (map string_bytes (take c.paths.path-index c.args.paths.now)) (string_bytes c.path-item.result)
+      c.args.walked.now c.paths.walked c.visit_named.new.walked c.paths.invariant.under
+      (subst (λ path. KeepsTo (covers path) c.paths.walked c.visit_named.new.walked) c.as_str.ensures.value
+      c.in_ok-visit_named.ensures.under));
   path_limit = λ all. c.in_ok-visit_named.ensures.path_limit (c.paths.invariant.path_limit all);
   counted = λ start so_far. c.in_ok-visit_named.ensures.counted start (c.paths.invariant.counted start so_far);
   once =
       subst (λ paths. AddsFewFaults paths c.args.walked.now c.visit_named.new.walked)
       (sym (mapped_more string_bytes c.args.paths.now c.paths.path-index c.path-item.result c.paths-test.true c.path-item.is))
-      (adds_more (map string_bytes (take c.paths.path-index c.args.paths.now)) (string_bytes c.path-item.result) c.args.walked.now c.paths.walked c.visit_named.new.walked c.paths.invariant.once
-      (subst (λ path. AddsFewFaults (path ∷ []) c.paths.walked c.visit_named.new.walked) c.as_str.ensures.value c.in_ok-visit_named.ensures.once));
+      (adds_more (map string_bytes (take c.paths.path-index c.args.paths.now)) (string_bytes c.path-item.result)
+      c.args.walked.now c.paths.walked c.visit_named.new.walked c.paths.invariant.once
+      (subst (λ path. AddsFewFaults (path ∷ []) c.paths.walked c.visit_named.new.walked) c.as_str.ensures.value
+      c.in_ok-visit_named.ensures.once));
   rises = omega (arith, c.paths.invariant.rises, c.visit_named.ensures.rises);
-  requested = requests_on longest_path (g.T.Tree.longest_requested c.args.tree.now) (g.T.Tree.longest_requested c.paths.tree) (g.T.Tree.longest_requested c.visit_named.new.tree) c.paths.invariant.requested c.visit_named.ensures.requested;
+  requested = requests_on longest_path (g.T.Tree.longest_requested c.args.tree.now)
+      (g.T.Tree.longest_requested c.paths.tree) (g.T.Tree.longest_requested c.visit_named.new.tree)
+      c.paths.invariant.requested c.visit_named.ensures.requested;
   counts = c.visit_named.ensures.counts ∙ c.paths.invariant.counts;
   keeps = c.visit_named.ensures.keeps ∙ c.paths.invariant.keeps;
 }
@@ -58,12 +67,15 @@ returns-clause-gathers g c =
     let paths = map string_bytes c.args.paths.now in
     same_in tree (reach_by reaches paths) (λ model. is_reachable model (set.from_list paths)) c.args.walked.now c.paths.walked
     (λ model name. any-from_list (λ path. reaches model path name) paths)
-    (subst (λ ps. GathersIn tree (reach_by reaches (map string_bytes ps)) c.args.walked.now c.paths.walked) (take_all c.paths.path-index c.args.paths.now c.paths-test.false) c.paths.invariant.gathers)
+    (subst (λ ps. GathersIn tree (reach_by reaches (map string_bytes ps)) c.args.walked.now c.paths.walked)
+    (take_all c.paths.path-index c.args.paths.now c.paths-test.false) c.paths.invariant.gathers)
 
 pub returns-clause-under : goal.returns-clause-under
 returns-clause-under g c =
-    subst (λ paths. KeepsTo (is_covered (set.from_list (map string_bytes paths))) c.args.walked.now c.paths.walked) (take_all c.paths.path-index c.args.paths.now c.paths-test.false) c.paths.invariant.under
+    subst (λ paths. KeepsTo (is_covered (set.from_list (map string_bytes paths))) c.args.walked.now c.paths.walked)
+    (take_all c.paths.path-index c.args.paths.now c.paths-test.false) c.paths.invariant.under
 
 pub returns-clause-once : goal.returns-clause-once
 returns-clause-once g c =
-    subst (λ paths. AddsFewFaults (map string_bytes paths) c.args.walked.now c.paths.walked) (take_all c.paths.path-index c.args.paths.now c.paths-test.false) c.paths.invariant.once
+    subst (λ paths. AddsFewFaults (map string_bytes paths) c.args.walked.now c.paths.walked)
+    (take_all c.paths.path-index c.args.paths.now c.paths-test.false) c.paths.invariant.once

@@ -12,7 +12,8 @@ use Rattle.cs_tree.proofs.walking.visit_all.Given as goal
 -- everything reachable from the paths so far is found
 abbrev pub invariant-paths : goal.invariant-paths
 invariant-paths g l = record {
-  gathers : GathersIn (g.T.Tree.snapshot l.initial.tree) (reach_by reaches (map string_bytes (take l.path-index l.paths))) l.initial.walked l.walked;
+  gathers : GathersIn (g.T.Tree.snapshot l.initial.tree)
+      (reach_by reaches (map string_bytes (take l.path-index l.paths))) l.initial.walked l.walked;
   under : KeepsTo (is_covered (set.from_list (map string_bytes (take l.path-index l.paths)))) l.initial.walked l.walked;
   path_limit : KeepsPathLimit l.initial.walked l.walked;
   counted : KeepsCount (g.T.Tree.failed l.initial.tree) (g.T.Tree.failed l.tree) l.initial.walked l.walked;

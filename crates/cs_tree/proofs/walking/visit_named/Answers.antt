@@ -16,7 +16,8 @@ returns-clause-gathers g c =
     on_ok c.visit.result
     (λ h. kept_in (g.T.Tree.snapshot c.args.tree.now) c.args.path.now c.args.walked.now c.visit.new.walked
     (sym (c.is_excluded.ensures ∙ ap is_excluded c.last_element.ensures) ∙ c.if-is_excluded.false)
-    (subst (λ path. GathersIn (g.T.Tree.snapshot c.args.tree.now) (λ model. descends_to model path) c.args.walked.now c.visit.new.walked) c.in_ok-from_str.ensures.ok h))
+    (subst (λ path. GathersIn (g.T.Tree.snapshot c.args.tree.now) (λ model. descends_to model path) c.args.walked.now
+    c.visit.new.walked) c.in_ok-from_str.ensures.ok h))
     c.visit.ensures.gathers
 
 pub returns-then-is_excluded-clause-under : goal.returns-then-is_excluded-clause-under

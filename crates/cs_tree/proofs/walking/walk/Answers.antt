@@ -9,7 +9,8 @@ pub returns-clause-finds : goal.returns-clause-finds
 returns-clause-finds g c =
     let nothing : Walked = record { names = c.new.result; faults = c.new-2.result } in
     let found : Walked = record { names = c.order_names.new.names; faults = c.order_faults.new.faults } in
-    finds_in (g.T.Tree.snapshot c.args.tree.now) (map string_bytes c.args.paths.now) nothing c.visit_all.new.walked (names_walked found) (faults_walked found)
+    finds_in (g.T.Tree.snapshot c.args.tree.now) (map string_bytes c.args.paths.now) nothing c.visit_all.new.walked
+    (names_walked found) (faults_walked found)
     (ap (map string_bytes) c.new.ensures.items) (ap (map fault_entry) c.new-2.ensures.items) c.in_ok-visit_all.ensures.gathers
     (record {
       names_ascend = c.order_names.ensures.ascend;
@@ -23,7 +24,8 @@ pub returns-clause-counted : goal.returns-clause-counted
 returns-clause-counted g c =
     let nothing : Walked = record { names = c.new.result; faults = c.new-2.result } in
     let found : Walked = record { names = c.order_names.new.names; faults = c.order_faults.new.faults } in
-    counts_in_order (g.T.Tree.failed c.args.tree.now) (g.T.Tree.failed c.visit_all.new.tree) nothing c.visit_all.new.walked (names_walked found) (faults_walked found)
+    counts_in_order (g.T.Tree.failed c.args.tree.now) (g.T.Tree.failed c.visit_all.new.tree) nothing
+    c.visit_all.new.walked (names_walked found) (faults_walked found)
     (ap (map fault_entry) c.new-2.ensures.items) c.in_ok-visit_all.ensures.counted
     (record {
       names_ascend = c.order_names.ensures.ascend;
@@ -44,13 +46,15 @@ pub returns-clause-path_limit : goal.returns-clause-path_limit
 returns-clause-path_limit g c =
     let nothing : Walked = record { names = c.new.result; faults = c.new-2.result } in
     let found : Walked = record { names = c.order_names.new.names; faults = c.order_faults.new.faults } in
-    names_within_path_limit nothing c.visit_all.new.walked (names_walked found) (ap (map string_bytes) c.new.ensures.items) c.in_ok-visit_all.ensures.path_limit c.order_names.ensures.same
+    names_within_path_limit nothing c.visit_all.new.walked (names_walked found)
+    (ap (map string_bytes) c.new.ensures.items) c.in_ok-visit_all.ensures.path_limit c.order_names.ensures.same
 
 pub returns-clause-no_failure : goal.returns-clause-no_failure
 returns-clause-no_failure g c =
     let nothing : Walked = record { names = c.new.result; faults = c.new-2.result } in
     let found : Walked = record { names = c.order_names.new.names; faults = c.order_faults.new.faults } in
-    no_failure_in_order (g.T.Tree.failed c.args.tree.now) (g.T.Tree.failed c.visit_all.new.tree) nothing c.visit_all.new.walked (names_walked found) (faults_walked found)
+    no_failure_in_order (g.T.Tree.failed c.args.tree.now) (g.T.Tree.failed c.visit_all.new.tree) nothing
+    c.visit_all.new.walked (names_walked found) (faults_walked found)
     (ap (map fault_entry) c.new-2.ensures.items) c.in_ok-visit_all.ensures.counted
     (record {
       names_ascend = c.order_names.ensures.ascend;
@@ -64,5 +68,7 @@ pub returns-clause-complete : goal.returns-clause-complete
 returns-clause-complete g c =
     let nothing : Walked = record { names = c.new.result; faults = c.new-2.result } in
     let found : Walked = record { names = c.order_names.new.names; faults = c.order_faults.new.faults } in
-    counted_in_order (map string_bytes c.args.paths.now) (g.T.Tree.failed c.args.tree.now) (g.T.Tree.failed c.visit_all.new.tree) nothing c.visit_all.new.walked (faults_walked found)
-    (ap (map fault_entry) c.new-2.ensures.items) c.in_ok-visit_all.ensures.counted c.in_ok-visit_all.ensures.once c.order_faults.ensures.whole
+    counted_in_order (map string_bytes c.args.paths.now) (g.T.Tree.failed c.args.tree.now)
+    (g.T.Tree.failed c.visit_all.new.tree) nothing c.visit_all.new.walked (faults_walked found)
+    (ap (map fault_entry) c.new-2.ensures.items) c.in_ok-visit_all.ensures.counted c.in_ok-visit_all.ensures.once
+    c.order_faults.ensures.whole

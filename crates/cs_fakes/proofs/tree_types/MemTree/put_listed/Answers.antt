@@ -5,7 +5,9 @@ use Rattle.cs_tree.proofs.NormalizedLemmas.{clean_below}
 use Rattle.cs_fakes.proofs.tree_types.MemTree.put_listed.Goals as goal
 
 pub list_in-requires-clause-name : goal.list_in-requires-clause-name
-list_in-requires-clause-name c = ap is_element c.requires.name ∙ clean_name c.args.path.now (clean_below c.args.path.now c.requires.below_root ∙ c.requires.clean) c.requires.no_nul
+list_in-requires-clause-name c = ap is_element c.requires.name
+    ∙ clean_name c.args.path.now (clean_below c.args.path.now c.requires.below_root ∙ c.requires.clean)
+    c.requires.no_nul
 
 pub returns-then-is_folder-clause-answer : goal.returns-then-is_folder-clause-answer
 returns-then-is_folder-clause-answer c = search rules

@@ -5,8 +5,8 @@ use Rattle.cs_index.proofs.reading.stored_entries.first_from.Goals as goal
 
 pub halves-preserved-then-read_trigram-trigram : goal.halves-preserved-then-read_trigram-trigram
 halves-preserved-then-read_trigram-trigram c =
-    let middle : ℕ = c.halves.low + (c.halves.high - c.halves.low) / 2 in
-    let within : middle < c.halves.high = omega arith in
+    let middle : ℕ = c.halves.start + (c.halves.end - c.halves.start) / 2 in
+    let within : middle < c.halves.end = omega arith in
     let less : trigram_at c.args.list_index.now (11 * middle) < c.args.trigram = subst (λ n. n < c.args.trigram) c.read_trigram.ensures c.if-read_trigram-trigram.true in
     record {
       order = omega arith;
@@ -17,8 +17,8 @@ halves-preserved-then-read_trigram-trigram c =
 
 pub halves-preserved : goal.halves-preserved
 halves-preserved c =
-    let middle : ℕ = c.halves.low + (c.halves.high - c.halves.low) / 2 in
-    let within : middle < c.halves.high = omega arith in
+    let middle : ℕ = c.halves.start + (c.halves.end - c.halves.start) / 2 in
+    let within : middle < c.halves.end = omega arith in
     let more : c.args.trigram ≤ trigram_at c.args.list_index.now (11 * middle) = subst (λ n. c.args.trigram ≤ n) c.read_trigram.ensures c.if-read_trigram-trigram.false in
     record {
       order = omega arith;

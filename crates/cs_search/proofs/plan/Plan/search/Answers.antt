@@ -25,7 +25,8 @@ returns-in_err-searcher-clause-searches g c = λ bytes selected.
     let p = err_from_is_err_and c.from_residual.result c.from_residual.ensures.1 in
     let failed = g.T.Tree.failed c.args.tree.now in
     let outputs : SearchOutputs = record { out = g.O.Sink.model c.args.out.now; err = g.E.Sink.model c.args.err.now } in
-    rw (p.1, p.2) (out_of_memory c.args.job.now bytes (g.T.Tree.snapshot c.args.tree.now) failed failed outputs outputs (Grows-same outputs.out, Grows-same outputs.err) refl)
+    rw (p.1, p.2) (out_of_memory c.args.job.now bytes (g.T.Tree.snapshot c.args.tree.now) failed failed outputs outputs
+    (Grows-same outputs.out, Grows-same outputs.err) refl)
 
 -- ---- the search fails
 
@@ -44,13 +45,20 @@ returns-in_err-matched-clause-searches g c = λ bytes selected.
     let out-now = g.O.Sink.model c.search_files.new.out in
     let err = g.E.Sink.model c.args.err.now in
     let err-now = g.E.Sink.model c.search_files.new.err in
-    let prints = by_csearch (λ (printed : Option Printed). PrintsPrefix printed out out-now err err-now) tree (map string_bytes texts) searcher.tool searcher.style job.style searcher.matcher.tree plan.program is.tool is.style is.matcher c.in_err-matched.ensures.prefix in
-    let faults = subst (λ (t : Tool). PrintsAllFaults t (map string_bytes texts) before after err err-now undone) is.tool c.in_err-matched.ensures.faults in
+    let prints = by_csearch (λ (printed : Option Printed). PrintsPrefix printed out out-now err err-now) tree
+    (map string_bytes texts) searcher.tool searcher.style job.style searcher.matcher.tree plan.program is.tool is.style
+    is.matcher c.in_err-matched.ensures.prefix in
+    let faults = subst (λ (t : Tool). PrintsAllFaults t (map string_bytes texts) before after err err-now undone)
+    is.tool c.in_err-matched.ensures.faults in
     rw (p.1, p.2)
-    (refused_late job bytes tree before after (record { out = out; err = err }) (record { out = out-now; err = err-now }) plan.query (ready job bytes plan c.requires texts selected) c.in_err-matched.field-0.0 c.in_err-matched.ensures.only
+    (refused_late job bytes tree before after (record { out = out; err = err })
+    (record { out = out-now; err = err-now }) plan.query (ready job bytes plan c.requires texts selected)
+    c.in_err-matched.field-0.0 c.in_err-matched.ensures.only
     (searched job bytes plan c.requires texts selected tree (λ (printed : Option Printed). PrintsSome printed out out-now err err-now)
     (λ has_match decides. PrintsSome-prefix _ out out-now err err-now (prints has_match decides)))
-    (λ opened opens. PrintsFaults-cut Csearch {A = Status} (Err c.in_err-matched.field-0.0) _ opened.names before after err err-now refl (faults_chosen job bytes plan c.requires texts selected c.matching_is_decidable.ensures undone opened before after err err-now opens faults)))
+    (λ opened opens. PrintsFaults-cut Csearch {A = Status} (Err c.in_err-matched.field-0.0) _ opened.names before after
+    err err-now refl (faults_chosen job bytes plan c.requires texts selected c.matching_is_decidable.ensures undone
+    opened before after err err-now opens faults)))
 
 pub returns-in_err-matched-clause-writes : goal.returns-in_err-matched-clause-writes
 returns-in_err-matched-clause-writes g c =
@@ -81,14 +89,22 @@ returns-in_err-status-clause-searches g c = λ bytes selected.
     let err = g.E.Sink.model c.args.err.now in
     let err-now = g.E.Sink.model c.search_files.new.err in
     let err-later = g.E.Sink.model c.finish.new.err in
-    let prints = by_csearch (λ (printed : Option Printed). Prints printed out out-now err err-now c.in_ok-matched.matched) tree (map string_bytes texts) searcher.tool searcher.style job.style searcher.matcher.tree plan.program is.tool is.style is.matcher c.in_ok-matched.ensures.prints in
-    let faults = subst (λ (t : Tool). PrintsAllFaults t (map string_bytes texts) before after err err-now done) is.tool c.in_ok-matched.ensures.faults in
+    let prints = by_csearch (λ (printed : Option Printed). Prints printed out out-now err err-now
+    c.in_ok-matched.matched) tree (map string_bytes texts) searcher.tool searcher.style job.style searcher.matcher.tree
+    plan.program is.tool is.style is.matcher c.in_ok-matched.ensures.prints in
+    let faults = subst (λ (t : Tool). PrintsAllFaults t (map string_bytes texts) before after err err-now done) is.tool
+    c.in_ok-matched.ensures.faults in
     rw (p.1, p.2)
-    (refused_late job bytes tree before after (record { out = out; err = err }) (record { out = out-later; err = err-later }) plan.query (ready job bytes plan c.requires texts selected) c.in_err-status.field-0.0 c.in_err-status.ensures.only
+    (refused_late job bytes tree before after (record { out = out; err = err })
+    (record { out = out-later; err = err-later }) plan.query (ready job bytes plan c.requires texts selected)
+    c.in_err-status.field-0.0 c.in_err-status.ensures.only
     (searched job bytes plan c.requires texts selected tree (λ (printed : Option Printed). PrintsSome printed out out-later err err-later)
-    (λ has_match decides. PrintsSome-all _ _ out-now _ _ err-now _ c.in_ok-matched.matched (prints has_match decides) c.in_err-status.ensures.out c.in_err-status.ensures.err))
-    (λ opened opens. PrintsFaults-flushed Csearch {A = Status} (Err c.in_err-status.field-0.0) opened.names before after err err-now err-later
-    (faults_chosen job bytes plan c.requires texts selected c.matching_is_decidable.ensures done opened before after err err-now opens faults) c.in_err-status.ensures.err))
+    (λ has_match decides. PrintsSome-all _ _ out-now _ _ err-now _ c.in_ok-matched.matched (prints has_match decides)
+    c.in_err-status.ensures.out c.in_err-status.ensures.err))
+    (λ opened opens. PrintsFaults-flushed Csearch {A = Status} (Err c.in_err-status.field-0.0) opened.names before after
+    err err-now err-later
+    (faults_chosen job bytes plan c.requires texts selected c.matching_is_decidable.ensures done opened before after err
+    err-now opens faults) c.in_err-status.ensures.err))
 
 pub returns-in_err-status-clause-writes : goal.returns-in_err-status-clause-writes
 returns-in_err-status-clause-writes g c =
@@ -126,13 +142,20 @@ returns-clause-searches g c = λ bytes selected.
     let err-now = g.E.Sink.model c.search_files.new.err in
     let err-later = g.E.Sink.model c.finish.new.err in
     let status = c.in_ok-status.status in
-    let prints = by_csearch (λ (printed : Option Printed). Prints printed out out-now err err-now c.in_ok-matched.matched) tree (map string_bytes texts) searcher.tool searcher.style job.style searcher.matcher.tree plan.program is.tool is.style is.matcher c.in_ok-matched.ensures.prints in
-    let faults = subst (λ (t : Tool). PrintsAllFaults t (map string_bytes texts) before after err err-now done) is.tool c.in_ok-matched.ensures.faults in
-    searched_to_the_end job bytes tree before after (record { out = out; err = err }) (record { out = out-later; err = err-later }) plan.query (ready job bytes plan c.requires texts selected) status
-    (searched job bytes plan c.requires texts selected tree (λ (printed : Option Printed). PrintsStatus printed out out-later err err-later status)
-    (λ has_match decides. PrintsStatus-flushed _ _ out-now _ _ err-now _ c.in_ok-matched.matched status (prints has_match decides) c.in_ok-status.ensures.out c.in_ok-status.ensures.err c.in_ok-status.ensures.status))
+    let prints = by_csearch (λ (printed : Option Printed). Prints printed out out-now err err-now
+    c.in_ok-matched.matched) tree (map string_bytes texts) searcher.tool searcher.style job.style searcher.matcher.tree
+    plan.program is.tool is.style is.matcher c.in_ok-matched.ensures.prints in
+    let faults = subst (λ (t : Tool). PrintsAllFaults t (map string_bytes texts) before after err err-now done) is.tool
+    c.in_ok-matched.ensures.faults in
+    searched_to_the_end job bytes tree before after (record { out = out; err = err })
+    (record { out = out-later; err = err-later }) plan.query (ready job bytes plan c.requires texts selected) status
+    (searched job bytes plan c.requires texts selected tree
+    (λ (printed : Option Printed). PrintsStatus printed out out-later err err-later status)
+    (λ has_match decides. PrintsStatus-flushed _ _ out-now _ _ err-now _ c.in_ok-matched.matched status
+    (prints has_match decides) c.in_ok-status.ensures.out c.in_ok-status.ensures.err c.in_ok-status.ensures.status))
     (λ opened opens. PrintsFaults-flushed Csearch {E = ToolFault} (Ok status) opened.names before after err err-now err-later
-    (faults_chosen job bytes plan c.requires texts selected c.matching_is_decidable.ensures done opened before after err err-now opens faults) c.in_ok-status.ensures.err)
+    (faults_chosen job bytes plan c.requires texts selected c.matching_is_decidable.ensures done opened before after err
+    err-now opens faults) c.in_ok-status.ensures.err)
 
 pub returns-clause-flushed : goal.returns-clause-flushed
 returns-clause-flushed g c = (leaves_flushed _ _ _ c.in_ok-status.ensures.out, leaves_flushed _ _ _ c.in_ok-status.ensures.err)

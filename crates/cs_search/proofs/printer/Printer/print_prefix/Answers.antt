@@ -14,7 +14,9 @@ returns-in_err-write_bytes-clause-written g c =
     let later = g.O.Sink.model c.write_bytes.new.out in
     refused _ before later c.from_residual.result p.0 p.1
     (subst (λ (bare : Bool). TakesPrefix (if bare then [] else name ++ 58 ∷ []) before later) (sym c.if-self.false)
-    (prefix_left name (58 ∷ []) before later (subst (λ (name : List ℕ). TakesPrefix name before later) c.as_bytes.ensures.value c.in_err-write_bytes.ensures.model)))
+    (prefix_left name (58 ∷ []) before later
+    (subst (λ (name : List ℕ). TakesPrefix name before later) c.as_bytes.ensures.value
+    c.in_err-write_bytes.ensures.model)))
 
 pub returns-in_err-write_bytes-2-clause-written : goal.returns-in_err-write_bytes-2-clause-written
 returns-in_err-write_bytes-2-clause-written g c =

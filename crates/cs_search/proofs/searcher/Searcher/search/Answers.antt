@@ -14,30 +14,41 @@ pub returns-in_ok-print_fault-clause-prints : goal.returns-in_ok-print_fault-cla
 returns-in_ok-print_fault-clause-prints g c = λ has_match decides.
     let tool = c.args.self.now.tool in
     let name = c.args.name.now in
-    let written = subst (λ fault. Grows (g.E.Sink.model c.args.err.now) (g.E.Sink.model c.print_fault.new.err) (fault_line_of tool name fault)) c.of_input.ensures c.in_ok-print_fault.ensures.written in
-    Prints-input _ tool c.args.self.now.style has_match name (g.R.Source.model c.args.input.now) c.in_ok-answer.answer _ _ (g.E.Sink.model c.args.err.now) (g.E.Sink.model c.print_fault.new.err) (c.in_ok-answer.ensures.report has_match decides)
-    (subst (λ fault. Grows (g.E.Sink.model c.args.err.now) (g.E.Sink.model c.print_fault.new.err) (fault_text tool name fault)) (sym c.in-Some.is) written)
+    let written = subst (λ fault. Grows (g.E.Sink.model c.args.err.now) (g.E.Sink.model c.print_fault.new.err)
+    (fault_line_of tool name fault)) c.of_input.ensures c.in_ok-print_fault.ensures.written in
+    Prints-input _ tool c.args.self.now.style has_match name (g.R.Source.model c.args.input.now) c.in_ok-answer.answer _
+    _ (g.E.Sink.model c.args.err.now) (g.E.Sink.model c.print_fault.new.err)
+    (c.in_ok-answer.ensures.report has_match decides)
+    (subst (λ fault. Grows (g.E.Sink.model c.args.err.now) (g.E.Sink.model c.print_fault.new.err)
+    (fault_text tool name fault)) (sym c.in-Some.is) written)
 
 pub returns-in_default-clause-prints : goal.returns-in_default-clause-prints
 returns-in_default-clause-prints g c = λ has_match decides.
     let tool = c.args.self.now.tool in
     let name = c.args.name.now in
-    Prints-input _ tool c.args.self.now.style has_match name (g.R.Source.model c.args.input.now) c.in_ok-answer.answer _ _ (g.E.Sink.model c.args.err.now) (g.E.Sink.model c.args.err.now) (c.in_ok-answer.ensures.report has_match decides)
-    (subst (λ fault. Grows (g.E.Sink.model c.args.err.now) (g.E.Sink.model c.args.err.now) (fault_text tool name fault)) (sym c.in_default.is) (Grows-same (g.E.Sink.model c.args.err.now)))
+    Prints-input _ tool c.args.self.now.style has_match name (g.R.Source.model c.args.input.now) c.in_ok-answer.answer _
+    _ (g.E.Sink.model c.args.err.now) (g.E.Sink.model c.args.err.now) (c.in_ok-answer.ensures.report has_match decides)
+    (subst (λ fault. Grows (g.E.Sink.model c.args.err.now) (g.E.Sink.model c.args.err.now) (fault_text tool name fault))
+    (sym c.in_default.is) (Grows-same (g.E.Sink.model c.args.err.now)))
 
 pub returns-in_ok-print_fault-clause-faults : goal.returns-in_ok-print_fault-clause-faults
 returns-in_ok-print_fault-clause-faults g c =
     let tool = c.args.self.now.tool in
     let name = c.args.name.now in
     let failed = c.in_ok-answer.ensures.read_failed in
-    let written = subst (λ fault. Grows (g.E.Sink.model c.args.err.now) (g.E.Sink.model c.print_fault.new.err) (fault_line_of tool name fault)) c.of_input.ensures c.in_ok-print_fault.ensures.written in
-    PrintsAllFaults-left tool done c.in-Some.fault name (g.R.Source.failed c.args.input.now) (g.R.Source.failed c.grep_within.new.input) (g.E.Sink.model c.args.err.now) (g.E.Sink.model c.print_fault.new.err)
-    (subst (λ fault. g.R.Source.failed c.grep_within.new.input ≡ count_if (is_failed_read fault) (g.R.Source.failed c.args.input.now)) c.in-Some.is failed) written
+    let written = subst (λ fault. Grows (g.E.Sink.model c.args.err.now) (g.E.Sink.model c.print_fault.new.err)
+    (fault_line_of tool name fault)) c.of_input.ensures c.in_ok-print_fault.ensures.written in
+    PrintsAllFaults-left tool done c.in-Some.fault name (g.R.Source.failed c.args.input.now)
+    (g.R.Source.failed c.grep_within.new.input) (g.E.Sink.model c.args.err.now) (g.E.Sink.model c.print_fault.new.err)
+    (subst (λ fault. g.R.Source.failed c.grep_within.new.input ≡ count_if (is_failed_read fault)
+    (g.R.Source.failed c.args.input.now)) c.in-Some.is failed) written
 
 pub returns-in_err-answer-clause-prefix : goal.returns-in_err-answer-clause-prefix
 returns-in_err-answer-clause-prefix g c =
     any_err c.from_residual.result (λ has_match decides.
-    PrintsPrefix-input _ c.args.self.now.tool c.args.self.now.style has_match c.args.name.now (g.R.Source.model c.args.input.now) (g.O.Sink.model c.args.out.now) (g.O.Sink.model c.grep_within.new.out) (g.E.Sink.model c.args.err.now) (c.in_err-answer.ensures.prefix has_match decides))
+    PrintsPrefix-input _ c.args.self.now.tool c.args.self.now.style has_match c.args.name.now
+    (g.R.Source.model c.args.input.now) (g.O.Sink.model c.args.out.now) (g.O.Sink.model c.grep_within.new.out)
+    (g.E.Sink.model c.args.err.now) (c.in_err-answer.ensures.prefix has_match decides))
 
 pub returns-in_err-print_fault-clause-prefix : goal.returns-in_err-print_fault-clause-prefix
 returns-in_err-print_fault-clause-prefix g c =
@@ -46,20 +57,24 @@ returns-in_err-print_fault-clause-prefix g c =
     let name = c.args.name.now in
     let err = g.E.Sink.model c.args.err.now in
     let later = g.E.Sink.model c.print_fault.new.err in
-    PrintsPrefix-fault _ tool c.args.self.now.style has_match name (g.R.Source.model c.args.input.now) c.in_ok-answer.answer c.in-Some.fault _ _ err later c.in-Some.is (c.in_ok-answer.ensures.report has_match decides)
+    PrintsPrefix-fault _ tool c.args.self.now.style has_match name (g.R.Source.model c.args.input.now)
+    c.in_ok-answer.answer c.in-Some.fault _ _ err later c.in-Some.is (c.in_ok-answer.ensures.report has_match decides)
     (subst (λ fault. TakesPrefix (fault_line_of tool name fault) err later) c.of_input.ensures c.in_err-print_fault.ensures.written))
 
 pub returns-in_default-clause-faults : goal.returns-in_default-clause-faults
 returns-in_default-clause-faults g c =
-    PrintsAllFaults-none c.args.self.now.tool done (c.args.name.now ∷ []) (g.R.Source.failed c.args.input.now) (g.R.Source.failed c.grep_within.new.input) (g.E.Sink.model c.args.err.now) (g.E.Sink.model c.args.err.now)
-    (subst (λ fault. g.R.Source.failed c.grep_within.new.input ≡ count_if (is_failed_read fault) (g.R.Source.failed c.args.input.now)) c.in_default.is c.in_ok-answer.ensures.read_failed) refl
+    PrintsAllFaults-none c.args.self.now.tool done (c.args.name.now ∷ []) (g.R.Source.failed c.args.input.now)
+    (g.R.Source.failed c.grep_within.new.input) (g.E.Sink.model c.args.err.now) (g.E.Sink.model c.args.err.now)
+    (subst (λ fault. g.R.Source.failed c.grep_within.new.input ≡ count_if (is_failed_read fault)
+    (g.R.Source.failed c.args.input.now)) c.in_default.is c.in_ok-answer.ensures.read_failed) refl
 
 pub returns-in_err-answer-clause-faults : goal.returns-in_err-answer-clause-faults
 returns-in_err-answer-clause-faults g c =
     let p = err_from_is_err_and c.from_residual.result c.from_residual.ensures.1 in
     let err = g.E.Sink.model c.args.err.now in
     PrintsAllFaults-refused c.args.self.now.tool c.from_residual.result p.0 (c.args.name.now ∷ []) _ _ err err p.1
-    (PrintsAllFaults-none c.args.self.now.tool undone (c.args.name.now ∷ []) (g.R.Source.failed c.args.input.now) (g.R.Source.failed c.grep_within.new.input) err err c.in_err-answer.ensures.read_failed refl)
+    (PrintsAllFaults-none c.args.self.now.tool undone (c.args.name.now ∷ []) (g.R.Source.failed c.args.input.now)
+    (g.R.Source.failed c.grep_within.new.input) err err c.in_err-answer.ensures.read_failed refl)
 
 pub returns-in_err-print_fault-clause-faults : goal.returns-in_err-print_fault-clause-faults
 returns-in_err-print_fault-clause-faults g c =
@@ -68,7 +83,9 @@ returns-in_err-print_fault-clause-faults g c =
     let name = c.args.name.now in
     let err = g.E.Sink.model c.args.err.now in
     let later = g.E.Sink.model c.print_fault.new.err in
-    let failed = subst (λ fault. g.R.Source.failed c.grep_within.new.input ≡ count_if (is_failed_read fault) (g.R.Source.failed c.args.input.now)) c.in-Some.is c.in_ok-answer.ensures.read_failed in
+    let failed = subst (λ fault. g.R.Source.failed c.grep_within.new.input ≡ count_if (is_failed_read fault)
+    (g.R.Source.failed c.args.input.now)) c.in-Some.is c.in_ok-answer.ensures.read_failed in
     PrintsAllFaults-refused tool c.from_residual-in_err-print_fault.result p.0 (name ∷ []) _ _ err later p.1
-    (PrintsAllFaults-left tool undone c.in-Some.fault name (g.R.Source.failed c.args.input.now) (g.R.Source.failed c.grep_within.new.input) err later failed
+    (PrintsAllFaults-left tool undone c.in-Some.fault name (g.R.Source.failed c.args.input.now)
+    (g.R.Source.failed c.grep_within.new.input) err later failed
     (subst (λ fault. TakesPrefix (fault_line_of tool name fault) err later) c.of_input.ensures c.in_err-print_fault.ensures.written))

@@ -12,5 +12,7 @@ pieces-preserved g c =
       within = c.pieces.invariant.within;
       failed = search rules;
       taken = Grows-chain _ _ _ [] [] c.pieces.invariant.taken
-          (moves_held (g.O.Sink.model sink.inner) (g.O.Sink.model c.write.new.self) _ _ _ (held_parts sink.start sink.end c.in_ok-self.field-0 sink.bytes.items c.deref.result.now c.deref.ensures.value sink.ordered) c.in_ok-self.ensures.bytes);
+          (moves_held (g.O.Sink.model sink.inner) (g.O.Sink.model c.write.new.self) _ _ _
+          (held_parts sink.start sink.end c.in_ok-self.field-0 sink.bytes.items c.deref.result.now c.deref.ensures.value
+          sink.ordered) c.in_ok-self.ensures.bytes);
     }

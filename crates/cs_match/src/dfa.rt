@@ -263,12 +263,15 @@ impl<'a> LazyDfa<'a> {
             if known.to == text.len() {
                 return None;
             }
-            if known.number == self.states.dead {
+            let byte = text[known.to];
+            if known.number == self.states.dead && byte != b'\n' {
+                // The interleaved scan goes on in a dead state, so the transition is computed.
+                self.next(known.number, byte, steps);
                 to = line_end(text, known.to, steps) + 1;
                 number = 0;
                 continue 'scan;
             }
-            number = self.next(known.number, text[known.to], steps);
+            number = self.next(known.number, byte, steps);
             if number == MATCH {
                 return Some(known.to);
             }

@@ -239,8 +239,8 @@ impl<'a> Matcher<'a> {
         matching_lines
     }
 
-    /// Searches some lines, at least one, by the method that suits the text: the lines up to a candidate, some chunks or the
-    /// whole rest of the block.
+    /// Searches some lines, at least one, by the method that suits the text: the lines up to a candidate, some chunks, one
+    /// line or the whole rest of the block.
     fn search_part<L: Ledger>(
         &mut self,
         block: &[u8],
@@ -261,6 +261,7 @@ impl<'a> Matcher<'a> {
         match self.method() {
             Method::Prefilter => self.search_candidate(block, from, steps),
             Method::Interleaved => self.search_chunks(block, from, steps),
+            Method::Line => self.search_line(block, from, steps),
             Method::Single => {
                 let to = block.len();
                 let line = self.first_match(block, from, to, steps);
@@ -270,6 +271,33 @@ impl<'a> Matcher<'a> {
                     wasted: 0,
                 }
             }
+        }
+    }
+
+    /// Searches the next line.
+    fn search_line<L: Ledger>(
+        &mut self,
+        block: &[u8],
+        from: usize,
+        steps: &mut Steps<L>,
+    ) -> Searched
+        requires within { from < length block.now }
+        requires whole { AreWholeLines (drop from block.now) }
+        ensures moves { from < result.to }
+        ensures found { IsSearched self.old.tree block.now from result.to result.line }
+        ensures high { result.to ≤ length block.now }
+        ensures same { self.new.tree ≡ self.old.tree }
+        ensures states { GrowsOver (result.to - from) self.old.states self.new.states }
+        ensures work { steps.new + state_work * self.new.states
+            ≤ steps.old + state_work * self.old.states
+            + part_work self.old.tree from result.to result.line }
+    {
+        let end = line_end(block, from, steps);
+        let line = self.first_match(block, from, end + 1, steps);
+        Searched {
+            to: end + 1,
+            line,
+            wasted: 0,
         }
     }
 

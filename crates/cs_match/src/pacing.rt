@@ -18,6 +18,8 @@ pub(crate) enum Method {
     Prefilter,
     /// Skip chunks by the interleaved scan.
     Interleaved,
+    /// Skip nothing, and search the next line.
+    Line,
     /// Skip nothing, and scan to the next match.
     Single,
 }
@@ -90,6 +92,7 @@ impl Pacing {
                     self.interleaved.begin();
                 }
             }
+            Method::Line => {}
             Method::Single => {
                 if without_match >= BATCH {
                     self.interleaved = Backoff::NONE;
@@ -100,6 +103,8 @@ impl Pacing {
             Method::Prefilter
         } else if !self.interleaved.use_one() {
             Method::Interleaved
+        } else if self.has_prefilter {
+            Method::Line
         } else {
             Method::Single
         };

@@ -1,5 +1,6 @@
-use Rattle.std.proofs.Common.{◌≡◌, ◌<◌, ◌≤◌, ◌+◌, ◌*◌, ℕ, false, length, get_or, take, refl, ap, subst, sym, ◌∙◌, arith, inl, inr}
+use Rattle.std.proofs.Common.{◌≡◌, ◌≢◌, ◌<◌, ◌≤◌, ◌+◌, ◌-◌, ◌*◌, ℕ, false, List, ◌∷◌, length, get_or, take, drop, refl, ap, subst, sym, ◌∙◌, arith, inl, inr}
 use Rattle.std.proofs.lemmas.Bool.{cases_lt}
+use Rattle.std.proofs.lemmas.List.{get_or-drop}
 use Rattle.cs_syntax.specs.Matching.{Tree}
 use Rattle.cs_match.specs.declared.state.State.{State}
 use Rattle.cs_match.specs.ConsistentDfa.{tree_in, state_in}
@@ -7,12 +8,12 @@ use Rattle.cs_match.specs.FirstMatch.{AreScanned}
 use Rattle.cs_match.specs.LastPart.{last_part}
 use Rattle.cs_match.specs.LazyDfa.{IsStateNumber, IsDeadNumber}
 use Rattle.cs_match.specs.Work.{byte_work}
-use Rattle.cs_match.specs.States.{state, successor, accepts_before}
+use Rattle.cs_match.specs.States.{start, state, successor, accepts_before}
 use Rattle.cs_match.proofs.DeadLemmas.{dead_state, dead_line}
 use Rattle.cs_match.proofs.WholeLineLemmas.{whole_drop}
 use Rattle.cs_match.proofs.FirstMatchLemmas.{scanned_none, scanned_on, state_on}
-use Rattle.cs_match.proofs.PositionCountLemmas.{scaled}
-use Rattle.cs_match.proofs.SearchWorkLemmas.{walked}
+use Rattle.cs_match.proofs.PositionCountLemmas.{mul_both, scaled}
+use Rattle.cs_match.proofs.SearchWorkLemmas.{joined, walked}
 use Rattle.cs_match.proofs.StateCountLemmas.{grows_none, grows_on}
 use Rattle.cs_match.proofs.TransitionLemmas.{leads_on}
 use Rattle.cs_match.proofs.dfa.LazyDfa.first_accepted.Goals as goal
@@ -84,8 +85,26 @@ line_end-to-requires-clause-within g c =
 pub line_end-to-requires-clause-whole : goal.line_end-to-requires-clause-whole
 line_end-to-requires-clause-whole g c = whole_drop c.scan_known-known.result.to c.args.text.now c.requires.whole
 
-pub scan-preserved-then-known-self : goal.scan-preserved-then-known-self
-scan-preserved-then-known-self g c =
+-- the newline at the end of a line is not its first byte, if that is another
+later_end : (text : List ℕ) (i end : ℕ) → i ≤ end → drop end text ≡ 10 ∷ drop (end + 1) text → get_or text i 0 ≢ 10 → i < end
+later_end text i end low here other =
+    elim (cases_lt i end) [
+      | inl less ↦ less
+      | inr high ↦
+          let same : i ≡ end + 0 = omega (arith, low, high) in
+          absurd (other (ap (λ k. get_or text k 0) same ∙ sym (get_or-drop end text 0 0) ∙ ap (λ bytes. get_or bytes 0 0) here))
+    ]
+
+-- a byte that is stepped over and a line of at least two bytes from there on that is skipped
+skipped : (i end w : ℕ) → i < end → 2 ≤ w → i * w + w + (end + 1 - i) ≤ (end + 1) * w
+skipped i end w less some =
+    let rest : (end - i) * 2 ≤ (end - i) * w = mul_both (end - i) 2 (end - i) w (omega arith) some in
+    let whole : (i + 1) * w + (end + 1 - (i + 1)) * w ≡ (end + 1) * w = joined (i + 1) (end + 1) w (omega (arith, less)) in
+    let count : end + 1 - (i + 1) ≡ end - i = omega arith in
+    omega (arith, rest, whole, ap (λ n. n * w) count, less)
+
+pub scan-preserved-then-byte-ne10 : goal.scan-preserved-then-byte-ne10
+scan-preserved-then-byte-ne10 g c =
     let s = c.scan.self in
     let t = tree_in s in
     let text = c.args.text.now in
@@ -94,18 +113,29 @@ scan-preserved-then-known-self g c =
     let given = c.scan.invariant in
     let known = c.scan_known-known.ensures in
     let line = c.line_end-to.ensures in
+    let step = c.next.ensures in
+    let new = c.next.new.self in
+    let w = byte_work (tree_in c.args.self.now) in
     let number = subst (IsDeadNumber t s.states.cached.items s.states.used) (sym c.if-known-self.true) given.right.dead in
-    let dead = dead_state t s.states.cached.items s.states.used c.scan_known-known.result.number (state t (last_part (take i text))) given.right.cached.bound number known.scanned.at in
+    let dead = dead_state t s.states.cached.items s.states.used c.scan_known-known.result.number
+    (state t (last_part (take i text))) given.right.cached.bound number known.scanned.at in
     let next = dead_line t given.right.expanded text i end line.low line.high line.part line.newline known.scanned.scanned dead in
+    let less = later_end text i end line.low line.newline c.if-byte-ne10.true in
+    let before : c.scan.to * w + (i - c.scan.to) ≤ i * w = walked c.scan.to i w known.low (omega arith) in
     record {
-      work = omega (arith, given.work, c.add.ensures, line.work, walked c.scan.to (end + 1) (byte_work (tree_in c.args.self.now)) (omega (arith, known.low, line.low)) (omega arith));
-      right = given.right;
-      same = given.same;
-      states = grows_on c.scan.to 0 (end + 1) _ _ _ given.states (grows_none 0 _ _ refl) (omega (arith, known.low, line.low));
+      work = omega (arith, given.work, c.add.ensures, step.work, line.work, before, skipped i end w less (omega arith), ap byte_work given.same);
+      right = step.right;
+      same = step.same ∙ given.same;
+      states = grows_on c.scan.to 1 (end + 1) _ _ _ given.states step.states (omega (arith, known.low, less));
       scanned = record {
         within = omega (arith, line.high);
-        scanned = next.0;
-        at = record { whole = refl; in_use = omega (arith, given.right.cached.some); same = given.right.cached.first ∙ next.1 };
+        scanned = subst (λ (u : Tree). AreScanned u text (end + 1)) (sym step.same) next.0;
+        at = record {
+          whole = refl;
+          in_use = omega (arith, step.right.cached.some);
+          same = step.right.cached.first
+              ∙ subst (λ (u : Tree). start u ≡ state u (last_part (take (end + 1) text))) (sym step.same) next.1;
+        };
       };
     }
 

@@ -7,10 +7,10 @@ use Rattle.std.proofs.lemmas.Bool.{true≢false, and_parts, ltb-true, eqb-true}
 use Rattle.std.proofs.lemmas.List.Sums.{prefix_len-le-length}
 use Rattle.cs_syntax.specs.Matching.{Tree, Trees, one_of, more, is_word}
 use Rattle.cs_syntax.specs.NumberList.{has}
-use Rattle.cs_syntax.specs.Tokens.{Token, PatternItem, atom, repeat, group_start, flags_from_here, item, fault, sequence, starts_with_byte, is_continuation, bytes_tree, char_tree}
+use Rattle.cs_syntax.specs.Tokens.{Token, PatternItem, atom, repeat, group_start, flags_from_here, item, fault, and_then, sequence, starts_with_byte, is_continuation, bytes_tree, char_tree}
 use Rattle.cs_syntax.specs.ByteSet.{char_set}
 use Rattle.cs_syntax.specs.Numbers.{digit_value, is_digit, count_digits, number_of_digits}
-use Rattle.cs_syntax.specs.Classes.{class_escape, class_char, range_to, range_from, span, name_length, posix_class, after_colon, after_backslash, class_token, with_class_item, items_from, class_of, class}
+use Rattle.cs_syntax.specs.Classes.{class_escape, class_char, range_to, range_from, span, name_length, posix_class, after_colon, after_backslash, class_token, items_from, class_of, class}
 use Rattle.cs_syntax.specs.declared.item.ClassItem.{ClassItem}
 use Rattle.cs_syntax.specs.declared.item.ClassItem.TheVariants.{Range}
 use Rattle.cs_syntax.specs.Repeats.{lazy, number, counts_to, counts_from, counts, is_bad, brace}
@@ -25,6 +25,7 @@ use Rattle.cs_syntax.specs.TreeList.{append}
 use Rattle.cs_syntax.specs.Parsing.{Level, SuffixParse, tree, levels, syntax_error, inside, with_bar, whole_group, parse_suffix, answer, flags_at_start, ParsesAs}
 use Rattle.cs_syntax.specs.BarredPatterns.{final_flags, class_names_end, IsSelfContained, MatchesEither}
 use Rattle.cs_syntax.specs.Groups.{name, with_set, with_cleared, after_flags, cleared_flags, set_flags, head, group}
+use Rattle.cs_syntax.proofs.ClassLemmas.{with_class_item}
 use Rattle.cs_syntax.proofs.TokenLemmas.{either, FitsIn, starts_within, NumberWithin, digits_within, CountsWithin, counts_within, class_escape_fits, class_char_fits}
 use Rattle.cs_syntax.proofs.ParseLemmas.{IsItem, Follows, Goes, goes, alone, anywhere}
 use Rattle.cs_syntax.specs.declared.item.Flags.{Flags}
@@ -45,9 +46,10 @@ choice : {A : Type 0} (b c : Bool) (x y u v : A) → c ≡ b → (b ≡ true →
     (if c then u else v) ≡ (if b then x else y)
 choice b c x y u v e p q = choice_by (λ z. Unit {0}) b c x y u v e (λ a h. p a) (λ a h. q a) tt
 
-item_there : (i : ClassItem) (r : Token (List ClassItem)) → IsItem (with_class_item i r) → IsItem r
-item_there i (item items len) h = tt
-item_there i (fault k distance) h = h
+-- a token made of another one is an item only if that is one
+made_of : {A B : Type 0} (by : ℕ) (next : A → ℕ → Token B) (t : Token A) → IsItem (and_then by next t) → IsItem t
+made_of by next (item x len) h = tt
+made_of by next (fault k distance) h = h
 
 -- after an item of a closed class, the rest of the class is closed
 closed_after : (len distance : ℕ) (text : List ℕ) → IsItem (items_from len distance false text) →
@@ -347,11 +349,7 @@ module _ (t : List ℕ) where
       (class_char_after b text) h) h) h
 
   abbrev items_by : ℕ → List ℕ → Token ClassItem → Token (List ClassItem)
-  items_by distance text f = elim f [
-    | fault k by ↦ fault k (distance + by)
-    | item i len ↦ with_class_item i
-        (items_from len (distance + 1) false text)
-  ]
+  items_by distance text = and_then distance (λ i len. with_class_item i (items_from len (distance + 1) false text))
 
   item_after : (distance : ℕ) (text : List ℕ) →
       ((len : ℕ) → IsItem (items_from len (distance + 1) false text) → items_from len (distance + 1) false (after text)
@@ -360,7 +358,7 @@ module _ (t : List ℕ) where
       items_by distance (after text) g ≡ items_by distance text f
   item_after distance text later (fault k offset) g same h = absurd h
   item_after distance text later (item i len) g same h =
-      let goes = item_there i (items_from len (distance + 1) false text) h in
+      let goes = made_of 0 _ (items_from len (distance + 1) false text) h in
       ap (items_by distance (after text)) (same goes) ∙ ap (with_class_item i) (later len goes)
 
   items_after : (skip distance : ℕ) (start : Bool) (text : List ℕ) → class_names_end text ≡ true →
@@ -377,10 +375,6 @@ module _ (t : List ℕ) where
       (λ e h. item_after distance text (λ len closed. items_after len (distance + 1) false text parts.1 closed)
       (class_token b text) (class_token b (after text)) (class_token_after b (distance + 1) text parts.0) h) h
 
-  of_closed : (fold negated : Bool) (r : Token (List ClassItem)) → IsItem (class_of fold negated r) → IsItem r
-  of_closed fold negated (item items len) h = tt
-  of_closed fold negated (fault k distance) h = h
-
   class_after : (fold : Bool) (text : List ℕ) → class_names_end text ≡ true → IsItem (class fold text) →
       class fold (after text) ≡ class fold text
   class_after fold [] apart is = absurd is
@@ -389,9 +383,9 @@ module _ (t : List ℕ) where
       (class_of fold false (items_from 0 1 true (d ∷ text))) (class_of fold true (items_from 0 2 true (after text)))
       (class_of fold false (items_from 0 1 true (d ∷ after text))) refl
       (λ e is. ap (class_of fold true) (items_after 0 2 true text (names_on d text apart)
-      (of_closed fold true (items_from 0 2 true text) is)))
+      (made_of 0 _ (items_from 0 2 true text) is)))
       (λ e is. ap (class_of fold false) (items_after 0 1 true (d ∷ text) apart
-      (of_closed fold false (items_from 0 1 true (d ∷ text)) is))) is
+      (made_of 0 _ (items_from 0 1 true (d ∷ text)) is))) is
 
   -- ---- group names and flags
 

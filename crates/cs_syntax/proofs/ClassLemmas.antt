@@ -9,9 +9,9 @@ use Rattle.std.specs.List.{starts_with}
 use Rattle.std.specs.Bool.{xor}
 use Rattle.cs_syntax.specs.Characters.{is_scalar, has_char, canonical_ranges}
 use Rattle.cs_syntax.specs.CharTrees.{ranges_tree, chars_tree}
-use Rattle.cs_syntax.specs.Tokens.{Token, item, fault, atom, starts_with_byte}
+use Rattle.cs_syntax.specs.Tokens.{Token, item, fault, and_then, atom, starts_with_byte}
 use Rattle.cs_syntax.specs.ClassSets.{is_in_item, class_tree}
-use Rattle.cs_syntax.specs.Classes.{name_length, with_class_item, items_from, class_token, class, class_of}
+use Rattle.cs_syntax.specs.Classes.{name_length, items_from, class_token, class, class_of}
 use Rattle.cs_syntax.specs.ClassState.{is_in_items, HaveItems}
 use Rattle.cs_syntax.specs.declared.item.ClassItem.{ClassItem}
 use Rattle.cs_syntax.specs.declared.fault.PatternFault.{PatternFault}
@@ -23,6 +23,10 @@ name_length-next text rest b s other = let e : starts_with nat_eq (b ∷ rest) (
 pub further : (offset : ℕ) (o : Option ℕ) → option_map (λ n. offset + n) (option_map suc o) ≡ option_map (λ n. (offset + 1) + n) o
 further offset None = refl
 further offset (Some n) = let e : offset + suc n ≡ (offset + 1) + n = omega arith in ap Some e
+
+-- one item before the rest of the class
+abbrev pub with_class_item : ClassItem → Token (List ClassItem) → Token (List ClassItem)
+with_class_item i = and_then 0 (λ items len. item (i ∷ items) len)
 
 -- the items so far, before the rest of the class
 abbrev pub with_items : List ClassItem → Token (List ClassItem) → Token (List ClassItem)
@@ -40,7 +44,8 @@ with_items-closed (i ∷ is) len = ap (with_class_item i) (with_items-closed is 
 
 pub with_items-failed : (is : List ClassItem) (k : PatternFault) (distance : ℕ) → with_items is (fault k distance) ≡ fault k distance
 with_items-failed [] k distance = refl
-with_items-failed (i ∷ is) k distance = ap (with_class_item i) (with_items-failed is k distance)
+with_items-failed (i ∷ is) k distance =
+    let e : 0 + distance ≡ distance = omega arith in ap (with_class_item i) (with_items-failed is k distance) ∙ ap (fault k) e
 
 -- the bytes of an item are skipped
 pub items_from-skip : (skip distance : ℕ) (start : Bool) (text : List ℕ) → items_from skip distance start text

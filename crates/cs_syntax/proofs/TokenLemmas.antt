@@ -7,10 +7,10 @@ use Rattle.std.proofs.lemmas.Bool.{true≢false, and_parts, ltb-true}
 use Rattle.std.proofs.lemmas.List.Sums.{prefix_len-le-length}
 use Rattle.cs_syntax.specs.Matching.{Tree, one_of, is_word}
 use Rattle.cs_syntax.specs.NumberList.{has}
-use Rattle.cs_syntax.specs.Tokens.{Token, atom, item, fault, starts_with_byte, is_continuation, char_tree}
+use Rattle.cs_syntax.specs.Tokens.{Token, atom, item, fault, and_then, starts_with_byte, is_continuation, char_tree}
 use Rattle.cs_syntax.specs.ByteSet.{char_set}
 use Rattle.cs_syntax.specs.Numbers.{is_digit, count_digits, number_of_digits}
-use Rattle.cs_syntax.specs.Classes.{class_escape, class_char, range_to, range_from, span, name_length, posix_class, after_backslash, class_token, with_class_item, items_from, class_of, class}
+use Rattle.cs_syntax.specs.Classes.{class_escape, class_char, range_to, range_from, span, name_length, posix_class, after_backslash, class_token, items_from, class_of, class}
 use Rattle.cs_syntax.specs.declared.item.ClassItem.{ClassItem}
 use Rattle.cs_syntax.specs.declared.item.ClassItem.TheVariants.{Range, Named}
 use Rattle.cs_syntax.specs.declared.item.NamedClass.{NamedClass}
@@ -46,6 +46,12 @@ OfText (fault k distance) = IsTextFault k
 abbrev pub FitsIn : {A : Type 0} → ℕ → Token A → Type 0
 FitsIn n (item x len) = len ≤ n
 FitsIn n (fault k distance) = IsTextFault k
+
+-- a token made of one that fits
+and_then_fits : {A B : Type 0} (n by : ℕ) (next : A → ℕ → Token B) (t : Token A) → FitsIn n t →
+    ((x : A) (len : ℕ) → len ≤ n → FitsIn n (next x len)) → FitsIn n (and_then by next t)
+and_then_fits n by next (item x len) h made = made x len h
+and_then_fits n by next (fault k distance) h made = h
 
 pub starts_within : (c n : ℕ) (text : List ℕ) → starts_with_byte c (drop n text) ≡ true → n < length text
 starts_within c zero [] h = absurd (true≢false (sym h))
@@ -293,18 +299,11 @@ items_fit zero distance n start (b ∷ text) le =
     either (FitsIn n) (nat_eq b 93 && not start) (item [] distance) _ (omega (arith, le))
     (by_token (class_token b text) (class_token-of b text) (λ len. items_fit len (distance + 1) n false text (omega (arith, le))))
   where
-    by_item : (i : ClassItem) (r : Token (List ClassItem)) → FitsIn n r → FitsIn n (with_class_item i r)
-    by_item i (item items len) h = h
-    by_item i (fault k distance) h = h
-
     by_token : (f : Token ClassItem) → OfText f → ((len : ℕ) → FitsIn n (items_from len (distance + 1) false text)) →
-        FitsIn n (elim f [
-          | fault k by ↦ fault k (distance + by)
-          | item i len ↦ with_class_item i
-              (items_from len (distance + 1) false text)
-        ])
+        FitsIn n (and_then distance (λ i len. and_then 0 (λ items end. item (i ∷ items) end)
+        (items_from len (distance + 1) false text)) f)
     by_token (fault k by) h later = h
-    by_token (item i len) h later = by_item i (items_from len (distance + 1) false text) (later len)
+    by_token (item i len) h later = and_then_fits n 0 _ (items_from len (distance + 1) false text) (later len) (λ _ _ le. le)
 
 class_fits : (fold : Bool) (text : List ℕ) → FitsIn (length text) (class fold text)
 class_fits fold text =
@@ -315,8 +314,7 @@ class_fits fold text =
     (λ e. of false (items_from 0 1 true text) (items_fit 0 1 (length text) true text (omega arith)))
   where
     of : (negated : Bool) (r : Token (List ClassItem)) → FitsIn (length text) r → FitsIn (length text) (class_of fold negated r)
-    of negated (item items len) h = h
-    of negated (fault k distance) h = h
+    of negated r h = and_then_fits (length text) 0 _ r h (λ _ _ le. le)
 
 -- ---- tokens
 

@@ -7,7 +7,7 @@ use Rattle.std.specs.List.{prefix_len, starts_with}
 use Rattle.std.specs.Cmp.Lexicographic.{pointwise}
 use Rattle.cs_syntax.specs.ClassSets.{class_tree}
 use Rattle.cs_syntax.specs.Escapes.{escaped_char, escaped_class, is_unsupported_escape}
-use Rattle.cs_syntax.specs.Tokens.{PatternItem, Token, item, fault, atom, starts_with_byte, is_continuation}
+use Rattle.cs_syntax.specs.Tokens.{PatternItem, Token, item, fault, and_then, atom, starts_with_byte, is_continuation}
 use Rattle.cs_syntax.specs.declared.item.NamedClass.{NamedClass}
 use Rattle.cs_syntax.specs.declared.item.NamedClass.TheVariants.{Alnum, Alpha, Ascii, Blank, Cntrl, Digit, Graph, Lower, Print, Punct, Space, Upper, Word, Xdigit}
 use Rattle.cs_syntax.specs.declared.item.ClassItem.{ClassItem}
@@ -31,9 +31,8 @@ class_char b rest =
 
 -- the range that begins with `low` and has `len` bytes between its first one and the character after the `-`
 abbrev pub range_to : ℕ → ℕ → Token ℕ → Token ClassItem
-range_to low len (fault k by) = fault k (len + by)
-range_to low len (item high more) =
-    if nat_lt high low then fault BadRange 0 else item (Range low high) (len + more)
+range_to low len = and_then len (λ high more.
+    if nat_lt high low then fault BadRange 0 else item (Range low high) (len + more))
 
 -- after a character: a `-` that is not followed by `]` makes it the start of a range
 abbrev pub range_from : ℕ → ℕ → List ℕ → Token ClassItem
@@ -44,8 +43,7 @@ range_from low len _ = item (Range low low) len
 
 -- a character, or the range that begins with it
 abbrev pub span : Token ℕ → List ℕ → Token ClassItem
-span (fault k by) rest = fault k by
-span (item low len) rest = range_from low len (drop len rest)
+span first rest = and_then 0 (λ low len. range_from low len (drop len rest)) first
 
 -- the number of bytes before the first `:]`, if there is one
 abbrev pub name_length : List ℕ → Option ℕ
@@ -86,11 +84,6 @@ class_token b rest =
     else if nat_eq b 92 then after_backslash rest
     else span (class_char b rest) rest
 
--- one item before the rest of the class
-abbrev pub with_class_item : ClassItem → Token (List ClassItem) → Token (List ClassItem)
-with_class_item i (item items len) = item (i ∷ items) len
-with_class_item i (fault k distance) = fault k distance
-
 -- `items_from skip distance start text`: the items up to the `]` and the distance of the `]` from the `[`; or the first
 -- error and its distance from the `[`. The text begins `distance` bytes after the `[`, and its first `skip` bytes
 -- belong to the previous item. At the start a `]` is a literal.
@@ -99,14 +92,11 @@ items_from skip distance start [] = fault OpenClass 0
 items_from (suc skip) distance start (b ∷ text) = items_from skip (distance + 1) start text
 items_from zero distance start (b ∷ text) =
     if nat_eq b 93 && not start then item [] distance
-    else elim (class_token b text) [
-      | fault k by ↦ fault k (distance + by)
-      | item i len ↦ with_class_item i (items_from len (distance + 1) false text)
-    ]
+    else and_then distance (λ i len. and_then 0 (λ items end. item (i ∷ items) end)
+    (items_from len (distance + 1) false text)) (class_token b text)
 
 abbrev pub class_of : Bool → Bool → Token (List ClassItem) → Token PatternItem
-class_of fold negated (item items len) = item (atom (class_tree fold negated items)) len
-class_of fold negated (fault k distance) = fault k distance
+class_of fold negated = and_then 0 (λ items len. item (atom (class_tree fold negated items)) len)
 
 -- after `[`: a `^` negates the class
 abbrev pub class : Bool → List ℕ → Token PatternItem

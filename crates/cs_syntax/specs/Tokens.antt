@@ -1,6 +1,6 @@
 -- The tokens of a pattern.
 -- docs/PATTERNS.md, "Items".
-use Rattle.std.specs.Prelude.{ℕ, Bool, false, ◌&&◌, List, [], ◌∷◌, Option, nat_eq, nat_le, nat_lt, if◌then◌else◌, encode_utf8}
+use Rattle.std.specs.Prelude.{ℕ, ◌+◌, Bool, false, ◌&&◌, List, [], ◌∷◌, Option, nat_eq, nat_le, nat_lt, if◌then◌else◌, encode_utf8}
 use Rattle.cs_syntax.specs.Matching.{Tree, Trees, empty, one_of, cat, none, more}
 use Rattle.cs_syntax.specs.ByteSet.{char_set}
 use Rattle.cs_syntax.specs.declared.item.Flags.{Flags}
@@ -23,6 +23,11 @@ pub data PatternItem : Type 0 where
 pub data Token (A : Type 0) : Type 0 where
   item : A → ℕ → Token A
   fault : PatternFault → ℕ → Token A
+
+-- a token made of another one; an error stays, `by` bytes further from the start
+abbrev pub and_then : {A B : Type 0} → ℕ → (A → ℕ → Token B) → Token A → Token B
+and_then by next (item x len) = next x len
+and_then by next (fault k distance) = fault k (by + distance)
 
 -- the text starts with the byte b
 abbrev pub starts_with_byte : ℕ → List ℕ → Bool

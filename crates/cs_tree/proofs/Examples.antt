@@ -4,7 +4,7 @@ use Rattle.std.specs.Prelude.{codes}
 use Rattle.cs_tree.specs.Sinks.{SinkModel, with_bytes, after_flush}
 use Rattle.cs_tree.specs.TakesPrefix.{TakesPrefix}
 use Rattle.cs_tree.specs.MemStreams.{empty_sink}
-use Rattle.cs_tree.specs.ReadCounts.{ReadCounts, after_open, after_read}
+use Rattle.cs_tree.specs.ReadCounts.{ReadCounts, after_lookup, after_open, after_read}
 use Rattle.cs_tree.specs.declared.fault.TreeFault.TheVariants.{Failed}
 use Rattle.cs_tree.specs.Clean.{clean_path, is_clean}
 use Rattle.cs_tree.specs.Cleaning.{is_normalized}
@@ -77,16 +77,19 @@ a_second_flush_is_counted = refl
 -- ---- reads
 
 abbrev no_reads : ReadCounts
-no_reads = record { of_open = 0; most = 0 }
+no_reads = record { of_open = 0; most = 0; lookups = 0 }
 
-two_reads_of_a_file_count_together : after_read (Ok 2) (after_read (Ok 3) no_reads) ≡ record { of_open = 5; most = 5 }
+two_reads_of_a_file_count_together : after_read (Ok 2) (after_read (Ok 3) no_reads) ≡ record { of_open = 5; most = 5; lookups = 0 }
 two_reads_of_a_file_count_together = refl
 
-the_next_file_counts_from_none : after_read (Ok 1) (after_open (after_read (Ok 3) no_reads)) ≡ record { of_open = 1; most = 3 }
+the_next_file_counts_from_none : after_read (Ok 1) (after_open (after_read (Ok 3) no_reads)) ≡ record { of_open = 1; most = 3; lookups = 0 }
 the_next_file_counts_from_none = refl
 
-a_failed_read_counts_nothing : after_read (Err Failed) (after_read (Ok 3) no_reads) ≡ record { of_open = 3; most = 3 }
+a_failed_read_counts_nothing : after_read (Err Failed) (after_read (Ok 3) no_reads) ≡ record { of_open = 3; most = 3; lookups = 0 }
 a_failed_read_counts_nothing = refl
+
+a_lookup_reads_nothing : after_lookup (after_read (Ok 3) no_reads) ≡ record { of_open = 3; most = 3; lookups = 1 }
+a_lookup_reads_nothing = refl
 
 -- ---- a descent in sorted paths
 

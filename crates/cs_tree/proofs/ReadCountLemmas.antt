@@ -14,35 +14,33 @@ use Rattle.cs_tree.specs.declared.fault.TreeFault.{TreeFault}
 
 pub reads_nothing : (limit : ℕ) (a : Option ReadCounts) → ReadsWithin limit a a
 reads_nothing limit None = tt
-reads_nothing limit (Some a) = omega arith
+reads_nothing limit (Some a) = (omega arith, refl)
 
 pub reads_on : (limit : ℕ) (a b c : Option ReadCounts) → ReadsWithin limit a b → ReadsWithin limit b c → ReadsWithin limit a c
 reads_on limit None b c first next = tt
 reads_on limit (Some a) None c first next = absurd first
 reads_on limit (Some a) (Some b) None first next = absurd next
-reads_on limit (Some a) (Some b) (Some c) first next = omega (arith, first, next)
-
--- ---- a call of `open`, which may return an error
+reads_on limit (Some a) (Some b) (Some c) first next = (omega (arith, first.0, next.0), next.1 ∙ first.1)
 
 -- ---- and then reads, with an upper bound
 
 loses_within : (limit : ℕ) (a : ReadCounts) (c : Option ReadCounts) (t : SourceModel) (p : Option SourceModel)
-    → ConsumesAtMost limit (Some t) p → HasRead a.most (length t.bytes) p c → ReadsWithin limit (Some a) c
+    → ConsumesAtMost limit (Some t) p → HasRead a (length t.bytes) p c → ReadsWithin limit (Some a) c
 loses_within limit a None t p loses has = absurd has
 loses_within limit a (Some c) t None loses has = absurd loses
-loses_within limit a (Some c) t (Some u) loses has = omega (arith, loses.1, has.0, has.1)
+loses_within limit a (Some c) t (Some u) loses has = (omega (arith, loses.1, has.0, has.1), has.2)
 
 -- for a modelled tree
 opened_within : (limit : ℕ) (a : ReadCounts) (c : Option ReadCounts) (o p : Option SourceModel) (t : SourceModel) → o ≡ Some t
-    → ConsumesAtMost limit o p → ((most count : ℕ) → HasRead most count o (Some (after_open a)) → HasRead most count p c)
+    → ConsumesAtMost limit o p → ((before : ReadCounts) → (count : ℕ) → HasRead before count o (Some (after_open a)) → HasRead before count p c)
     → ReadsWithin limit (Some a) c
 opened_within limit a c o p t is loses has =
     loses_within limit a c t p (subst (λ o. ConsumesAtMost limit o p) is loses)
-    (has a.most (length t.bytes) (subst (λ o. HasRead a.most (length t.bytes) o (Some (after_open a))) (sym is) (omega arith, omega arith)))
+    (has a (length t.bytes) (subst (λ o. HasRead a (length t.bytes) o (Some (after_open a))) (sym is) (omega arith, omega arith, refl)))
 
 opens_as : (limit : ℕ) (a : ReadCounts) (c : Option ReadCounts) (o p : Option SourceModel)
     (opening : Result SourceModel TreeFault) → IsOkAnd opening (λ file. o ≡ Some file)
-    → ConsumesAtMost limit o p → ((most count : ℕ) → HasRead most count o (Some (after_open a)) → HasRead most count p c)
+    → ConsumesAtMost limit o p → ((before : ReadCounts) → (count : ℕ) → HasRead before count o (Some (after_open a)) → HasRead before count p c)
     → ReadsWithin limit (Some a) c
 opens_as limit a c o p (Ok model) is loses has = opened_within limit a c o p model is loses has
 opens_as limit a c o p (Err fault) is loses has = absurd is
@@ -53,7 +51,7 @@ pub reads_open : (limit : ℕ) (at at1 at2 : Option Snapshot) (path : List ℕ) 
     (o p : Option SourceModel)
     → (IsSome b → IsSome at1) → OpensFile at path (Ok u) o → at1 ≡ at → b ≡ option_map after_open a
     → at2 ≡ at1 → ConsumesAtMost limit (open_model at1 o) (open_model at2 p)
-    → ((most count : ℕ) → HasRead most count o b → HasRead most count p c) → ReadsWithin limit a c
+    → ((before : ReadCounts) → (count : ℕ) → HasRead before count o b → HasRead before count p c) → ReadsWithin limit a c
 reads_open limit at at1 at2 path u None b c o p modelled opens same counts kept loses has = tt
 reads_open limit None at1 at2 path u (Some a) b c o p modelled opens same counts kept loses has =
     absurd (true≢false (sym (subst IsSome same (modelled (subst IsSome (sym counts) refl)))))
@@ -62,4 +60,4 @@ reads_open limit (Some tree) at1 at2 path u (Some a) b c o p modelled opens same
     subst (λ at. ConsumesAtMost limit (open_model at o) (open_model (Some tree) p)) same
     (subst (λ at. ConsumesAtMost limit (open_model at1 o) (open_model at p)) (kept ∙ same) loses) in
     opens_as limit a c o p (opening_of (item_at tree path)) opens loses1
-    (subst (λ b. (most count : ℕ) → HasRead most count o b → HasRead most count p c) counts has)
+    (subst (λ b. (before : ReadCounts) → (count : ℕ) → HasRead before count o b → HasRead before count p c) counts has)

@@ -23,8 +23,8 @@ abbrev pub count_left : Option SourceModel → ℕ
 count_left None = 0
 count_left (Some model) = length model.bytes
 
--- The file had `count` bytes in all: those that were read and those that remain. At most `most` bytes were read from
--- any other file.
-abbrev pub HasRead : ℕ → ℕ → Option SourceModel → Option ReadCounts → Type 0
-HasRead most count opened counts = IsSomeAnd counts (λ (now : ReadCounts).
-    (now.of_open + count_left opened ≡ count) × (now.most ≤ max most now.of_open))
+-- The file had `count` bytes in all: those that were read and those that remain. Since the counts `before`, at most
+-- `before.most` bytes were read from any other file, and no path was looked up.
+abbrev pub HasRead : ReadCounts → ℕ → Option SourceModel → Option ReadCounts → Type 0
+HasRead before count opened counts = IsSomeAnd counts (λ (now : ReadCounts).
+    (now.of_open + count_left opened ≡ count) × (now.most ≤ max before.most now.of_open) × (now.lookups ≡ before.lookups))

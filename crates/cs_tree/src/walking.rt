@@ -2,6 +2,7 @@
 ghost use Rattle.std.specs.Prelude.{◌≡◌, ◌≢◌, ◌≤◌, ◌++◌, ℕ, List, [], ◌∷◌, true, map, string_bytes, OnOk, IfOk, MatchResult, Contains, IsPermutation, ◌<◌, ◌^◌, length, nat_eq, codes};
 ghost use Rattle.cs_tree.specs.Folders.{child, are_elements, last_element as last_element'};
 ghost use Rattle.cs_tree.specs.Clean.{longest_path};
+ghost use Rattle.cs_tree.specs.ReadCounts.{ReadsNothing};
 ghost use Rattle.cs_tree.specs.NamesAscending.{are_ascending};
 ghost use Rattle.cs_tree.specs.Walks.{RequestsWithin, FindsIn, FaultEntry, CountsFaults, are_alone, failures_walked, is_among, fault_entry, fault_paths, names_walked, faults_walked, AreWithinPathLimit};
 ghost use Rattle.cs_tree.specs.PathSet as set;
@@ -72,7 +73,7 @@ pub fn walk<T: Tree>(alloc: Global, tree: &mut T, paths: &[String]) -> Result<Wa
     ensures rises { T.failed tree.old ≤ T.failed tree.new }
     ensures requested { RequestsWithin longest_path
         (T.longest_requested tree.old) (T.longest_requested tree.new) }
-    ensures counts { T.read_counts tree.new ≡ T.read_counts tree.old }
+    ensures counts { ReadsNothing (T.read_counts tree.old) (T.read_counts tree.new) }
     ensures keeps { T.snapshot tree.new ≡ T.snapshot tree.old }
 {
     let mut walked = Walked {
@@ -104,7 +105,7 @@ fn visit_all<T: Tree>(
     ensures rises { T.failed tree.old ≤ T.failed tree.new }
     ensures requested { RequestsWithin longest_path
         (T.longest_requested tree.old) (T.longest_requested tree.new) }
-    ensures counts { T.read_counts tree.new ≡ T.read_counts tree.old }
+    ensures counts { ReadsNothing (T.read_counts tree.old) (T.read_counts tree.new) }
     ensures keeps { T.snapshot tree.new ≡ T.snapshot tree.old }
 {
     'paths: for path in paths {
@@ -130,7 +131,7 @@ fn visit_named<T: Tree>(
     ensures rises { T.failed tree.old ≤ T.failed tree.new }
     ensures requested { RequestsWithin longest_path
         (T.longest_requested tree.old) (T.longest_requested tree.new) }
-    ensures counts { T.read_counts tree.new ≡ T.read_counts tree.old }
+    ensures counts { ReadsNothing (T.read_counts tree.old) (T.read_counts tree.new) }
     ensures keeps { T.snapshot tree.new ≡ T.snapshot tree.old }
 {
     if is_excluded(last_element(path)) {
@@ -157,7 +158,7 @@ fn visit<T: Tree>(
     ensures rises { T.failed tree.old ≤ T.failed tree.new }
     ensures requested { RequestsWithin longest_path
         (T.longest_requested tree.old) (T.longest_requested tree.new) }
-    ensures counts { T.read_counts tree.new ≡ T.read_counts tree.old }
+    ensures counts { ReadsNothing (T.read_counts tree.old) (T.read_counts tree.new) }
     ensures keeps { T.snapshot tree.new ≡ T.snapshot tree.old }
 {
     let mut pending = Vec::new(alloc);
@@ -179,7 +180,7 @@ fn stat_path<T: Tree>(alloc: Global, tree: &mut T, path: &str) -> Result<PathSta
     ensures rises { T.failed tree.old ≤ T.failed tree.new }
     ensures requested { RequestsWithin longest_path
         (T.longest_requested tree.old) (T.longest_requested tree.new) }
-    ensures counts { T.read_counts tree.new ≡ T.read_counts tree.old }
+    ensures counts { ReadsNothing (T.read_counts tree.old) (T.read_counts tree.new) }
     ensures keeps { T.snapshot tree.new ≡ T.snapshot tree.old }
 {
     if path.len() > LONGEST_PATH {

@@ -1,6 +1,7 @@
 use Rattle.std.proofs.Common.{◌≡◌, ◌≤◌, map}
 use Rattle.std.specs.Prelude.{string_bytes}
 use Rattle.cs_tree.specs.Clean.{longest_path}
+use Rattle.cs_tree.specs.ReadCounts.{ReadsNothing}
 use Rattle.cs_tree.specs.Walks.{RequestsWithin}
 use Rattle.cs_tree.specs.Cover.{covers}
 use Rattle.cs_tree.specs.WalkSteps.{KeepsCount, KeepsTo, KeepsPathLimit}
@@ -21,7 +22,7 @@ invariant-pending g l = record {
   once : AddsFewSoFar (string_bytes l.fn.start) (map string_bytes l.pending.items) l.initial.walked l.walked;
   rises : g.T.Tree.failed l.initial.tree ≤ g.T.Tree.failed l.tree;
   requested : RequestsWithin longest_path (g.T.Tree.longest_requested l.initial.tree) (g.T.Tree.longest_requested l.tree);
-  counts : g.T.Tree.read_counts l.tree ≡ g.T.Tree.read_counts l.initial.tree;
+  counts : ReadsNothing (g.T.Tree.read_counts l.initial.tree) (g.T.Tree.read_counts l.tree);
   keeps : g.T.Tree.snapshot l.tree ≡ g.T.Tree.snapshot l.initial.tree;
 }
 

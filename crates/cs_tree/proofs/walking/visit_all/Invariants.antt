@@ -1,6 +1,7 @@
 use Rattle.std.proofs.Common.{◌≡◌, ◌≤◌, map, take}
 use Rattle.std.specs.Prelude.{string_bytes}
 use Rattle.cs_tree.specs.Clean.{longest_path}
+use Rattle.cs_tree.specs.ReadCounts.{ReadsNothing}
 use Rattle.cs_tree.specs.Walks.{RequestsWithin}
 use Rattle.cs_tree.specs.WalkSteps.{GathersIn, KeepsCount, KeepsTo, AddsFewFaults, KeepsPathLimit}
 use Rattle.cs_tree.specs.Cover.{is_covered}
@@ -20,6 +21,6 @@ invariant-paths g l = record {
   once : AddsFewFaults (map string_bytes (take l.path-index l.paths)) l.initial.walked l.walked;
   rises : g.T.Tree.failed l.initial.tree ≤ g.T.Tree.failed l.tree;
   requested : RequestsWithin longest_path (g.T.Tree.longest_requested l.initial.tree) (g.T.Tree.longest_requested l.tree);
-  counts : g.T.Tree.read_counts l.tree ≡ g.T.Tree.read_counts l.initial.tree;
+  counts : ReadsNothing (g.T.Tree.read_counts l.initial.tree) (g.T.Tree.read_counts l.tree);
   keeps : g.T.Tree.snapshot l.tree ≡ g.T.Tree.snapshot l.initial.tree;
 }

@@ -7,7 +7,7 @@ ghost use Rattle.cs_tree.specs.FailureCount.{count_after};
 use crate::disk_tree::fault_of;
 use crate::fault::{IoFault, TreeFault};
 use crate::retry::retry_read_at;
-use crate::std_io::counted_read;
+use crate::std_io::counted_call;
 use crate::store::Store;
 use std::fs::{Metadata, OpenFile};
 use std::os::unix::fs::FileExt;
@@ -68,7 +68,7 @@ impl<F: OpenFile + FileExt + Drop> Store for DiskStore<F> {
         ensures no_memory { result ≢ Err IoFault.Memory }
     {
         let answer = retry_read_at(&self.file, buf, at as u64);
-        counted_read(&mut self.failed, answer)
+        counted_call(&mut self.failed, answer)
     }
 
     fn failures(&self) -> u64 {

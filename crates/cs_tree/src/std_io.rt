@@ -13,13 +13,14 @@ use crate::sink::Sink;
 use crate::source::Source;
 use std::io::{self, Read, Write};
 
-/// The system's answer to a read. An error is `Failed`, and is counted.
-pub(crate) fn counted_read(failed: &mut u64, answer: io::Result<usize>) -> Result<usize, IoFault>
-    ensures answer { MatchResult answer (λ n. result ≡ Ok n) (λ _. result ≡ Err IoFault.Failed) }
+/// The system's answer to a call. An error is `Failed`, and is counted.
+pub(crate) fn counted_call<A: Drop>(failed: &mut u64, answer: io::Result<A>) -> Result<A, IoFault>
+    ensures answer { MatchResult answer
+        (λ value. result ≡ Ok value) (λ _. result ≡ Err IoFault.Failed) }
     ensures failed { failed.new ≡ count_after is_io_failure result failed.old }
 {
     match answer {
-        Ok(n) => Ok(n),
+        Ok(value) => Ok(value),
         Err(_) => Err(io_failure(failed)),
     }
 }
@@ -60,7 +61,7 @@ impl<R: Read + Drop> Source for StdSource<R> {
         ensures no_memory { result ≢ Err IoFault.Memory }
     {
         let answer = retry_read(&mut self.inner, buf);
-        counted_read(&mut self.read_failures, answer)
+        counted_call(&mut self.read_failures, answer)
     }
 
     fn failures(&self) -> u64 {
@@ -109,10 +110,8 @@ impl<W: Write + Drop> Sink for StdSink<W> {
             ≡ count_after is_io_failure result (⟦<StdSink<W> as Sink>⟧.failed self.old) }
         ensures no_memory { result ≢ Err IoFault.Memory }
     {
-        match retry_flush(&mut self.inner) {
-            Ok(()) => Ok(()),
-            Err(_) => Err(io_failure(&mut self.failed)),
-        }
+        let answer = retry_flush(&mut self.inner);
+        counted_call(&mut self.failed, answer)
     }
 
     fn failures(&self) -> u64 {

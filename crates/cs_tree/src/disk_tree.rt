@@ -1,10 +1,12 @@
 // The real disk as a tree.
-ghost use Rattle.std.specs.Prelude.{◌≡◌, ◌≤◌, ◌≢◌, ℕ, [], IfOk, IfErr, OnOk, Err, MatchOption, IsSomeAnd, length, map, string_bytes, true, None};
-ghost use Rattle.std.specs.IoError.{error_kind};
+ghost use Rattle.std.specs.Prelude.{◌≡◌, ◌≤◌, ◌≢◌, ◌⊎◌, ◌↔◌, ◌++◌, ◌∷◌, ◌||◌, not, if◌then◌else◌, pos, ℕ, [], IfOk, IfErr, OnOk, Err, Some, MatchResult, length, map, string_bytes, true, None};
+ghost use Rattle.std.specs.IoError.{error_kind, raw_os_error};
+ghost use Rattle.std.specs.Fs.{file_type, IsDir, IsFile, dir_entry_name};
 ghost use Rattle.std.specs.List.{list_all};
 ghost use Rattle.std.specs.Io.KnownBytes.{ReadConsumes};
 ghost use Rattle.cs_tree.specs.Folders.{is_element as is_element', are_elements};
 ghost use Rattle.cs_tree.specs.Trees.{listing_names, IsReadFault, is_tree_failure};
+ghost use Rattle.cs_tree.specs.DiskFiles.{DiskFileGives};
 ghost use Rattle.cs_tree.specs.FailureCount.{count_after};
 
 use crate::fault::{TreeFault, counted_answer};
@@ -28,8 +30,18 @@ pub struct DiskTree<R: Files + Drop> {
     /// to open or read a pipe or a terminal may block.
     only_files: bool,
     output: Option<FileId>,
-    opened: Option<R::File>,
+    opened: DiskFile<R::File>,
     failed: u64,
+}
+
+/// What a read of the disk reads.
+#[derive(Drop)]
+enum DiskFile<F: Drop> {
+    /// No file is open.
+    Closed,
+    /// The open file has no bytes. The system is not asked for any.
+    Empty,
+    Open(F),
 }
 
 /// The identity of a file, its device and inode: names with the same identity are links to one
@@ -42,9 +54,6 @@ struct FileId {
 
 /// The path of standard output (Linux).
 const OUTPUT: &str = "/proc/self/fd/1";
-
-/// A file that is always empty.
-const EMPTY: &str = "/dev/null";
 
 /// The error of the system if the process can open no more files (EMFILE).
 const PROCESS_DESCRIPTORS: i32 = 24;
@@ -76,7 +85,7 @@ impl<R: Files + AllocGlobal + Clone + Drop> DiskTree<R> {
             rt,
             only_files,
             output: None,
-            opened: None,
+            opened: DiskFile::Closed,
             failed: 0,
         }
     }
@@ -120,10 +129,10 @@ impl<R: Files + AllocGlobal + Clone + Drop> Tree for DiskTree<R> {
 
     /// Follows symbolic links.
     fn open(&mut self, path: &str) -> Result<(), TreeFault> {
-        self.opened = None;
+        self.opened = DiskFile::Closed;
         match open_file(&self.rt, self.only_files, self.output, path) {
             Ok(file) => {
-                self.opened = Some(file);
+                self.opened = file;
                 Ok(())
             }
             Err(fault) => counted_answer(&mut self.failed, Err(fault)),
@@ -133,15 +142,15 @@ impl<R: Files + AllocGlobal + Clone + Drop> Tree for DiskTree<R> {
     fn read(&mut self, buf: &mut [u8]) -> Result<usize, TreeFault>
         ensures within { IfOk result (λ n. n ≤ length buf.new) }
         ensures fault { IfErr result IsReadFault }
-        ensures bytes { MatchOption self.old.opened (result ≡ Err TreeFault.Failed)
-            (λ file. IsSomeAnd self.new.opened (λ later.
-            ReadConsumes (R.File.remaining file) (R.File.remaining later) result buf.new)) }
+        ensures bytes { DiskFileGives R.File.remaining self.old.opened self.new.opened
+            result buf.new }
         ensures failed { ⟦<DiskTree<R> as Tree>⟧.failed self.new
             ≡ count_after is_tree_failure result (⟦<DiskTree<R> as Tree>⟧.failed self.old) }
     {
         let answer = match &mut self.opened {
-            Some(file) => read_some(file, buf),
-            None => Err(TreeFault::Failed),
+            DiskFile::Open(file) => read_some(file, buf),
+            DiskFile::Empty => Ok(0),
+            DiskFile::Closed => Err(TreeFault::Failed),
         };
         counted_answer(&mut self.failed, answer)
     }
@@ -151,7 +160,10 @@ impl<R: Files + AllocGlobal + Clone + Drop> Tree for DiskTree<R> {
     }
 }
 
-fn kind_of(metadata: &Metadata) -> Kind {
+fn kind_of(metadata: &Metadata) -> Kind
+    ensures folder { result ≡ Kind.Folder ↔ IsDir (file_type metadata.now) }
+    ensures file { result ≡ Kind.File ↔ IsFile (file_type metadata.now) }
+{
     if metadata.is_dir() {
         Kind::Folder
     } else if metadata.is_file() {
@@ -170,7 +182,16 @@ fn id_of(metadata: &Metadata) -> FileId {
 
 /// Maps errors of the system to errors of a tree. A missing descriptor is no fault of the tree: like memory, the process or
 /// the system lacks it.
-pub(crate) fn fault_of(error: &io::Error) -> TreeFault {
+pub(crate) fn fault_of(error: &io::Error) -> TreeFault
+    ensures missing { result ≡ TreeFault.Missing →
+        (error_kind error.now ≡ ErrorKind.NotFound) ⊎ (error_kind error.now ≡ ErrorKind.NotADirectory) }
+    ensures denied { result ≡ TreeFault.Denied → error_kind error.now ≡ ErrorKind.PermissionDenied }
+    ensures failed { result ≡ TreeFault.Failed → (error_kind error.now ≢ ErrorKind.NotFound)
+        × (error_kind error.now ≢ ErrorKind.PermissionDenied) × (error_kind error.now ≢ ErrorKind.OutOfMemory) }
+    ensures memory { result ≡ TreeFault.Memory → (error_kind error.now ≡ ErrorKind.OutOfMemory)
+        ⊎ ((raw_os_error error.now ≡ Some (pos 23)) ⊎ (raw_os_error error.now ≡ Some (pos 24))) }
+    ensures output { result ≢ TreeFault.Output }
+{
     if let Some(PROCESS_DESCRIPTORS | SYSTEM_DESCRIPTORS) = error.raw_os_error() {
         return TreeFault::Memory;
     }
@@ -226,7 +247,15 @@ fn list_entry<R: Files + AllocGlobal + Clone + Drop>(
     entry: io::Result<DirEntry<R, Global>>,
 ) -> io::Result<()>
     requires { list_all is_element' (listing_names listing.old) ≡ true }
-    ensures { OnOk result (list_all is_element' (listing_names listing.new) ≡ true) }
+    ensures elements { OnOk result (list_all is_element' (listing_names listing.new) ≡ true) }
+    ensures added { OnOk result (MatchResult entry
+        (λ entry. listing_names listing.new ≡ (if is_element' (dir_entry_name entry)
+        then listing_names listing.old ++ dir_entry_name entry ∷ [] else listing_names listing.old))
+        (λ error. (error_kind error ≡ ErrorKind.InvalidFilename)
+        × (listing_names listing.new ≡ listing_names listing.old))) }
+    ensures unnamed { OnOk result (MatchResult entry
+        (λ entry. listing.new.unnamed ≡ (listing.old.unnamed || not (is_element' (dir_entry_name entry))))
+        (λ _. listing.new.unnamed ≡ true)) }
 {
     match entry {
         Ok(entry) if is_element(entry.file_name()) => {
@@ -244,14 +273,14 @@ fn list_entry<R: Files + AllocGlobal + Clone + Drop>(
 
 /// Opens a path, unless it is the output or a folder. With `only_files` it opens only regular
 /// files, and looks the path up before it opens it, so that a pipe does not block. If the file
-/// becomes a folder in between, the open succeeds and the reads fail. A file of length 0 reads as
-/// empty: in /proc such a file may have content, and its read may wait for ever.
+/// becomes a folder in between, the open succeeds and the reads fail. A regular file of length 0 is
+/// opened and closed again: in /proc such a file may have content, and its read may wait for ever.
 fn open_file<R: Files + Drop>(
     rt: &R,
     only_files: bool,
     output: Option<FileId>,
     path: &str,
-) -> Result<R::File, TreeFault> {
+) -> Result<DiskFile<R::File>, TreeFault> {
     let mut is_empty = false;
     if only_files {
         is_empty = opened_len(fs::metadata(rt, path), true, output)? == 0;
@@ -263,10 +292,10 @@ fn open_file<R: Files + Drop>(
     if !only_files {
         opened_len(file.metadata(), false, output)?;
     }
-    if is_empty && let Ok(empty) = fs::open(rt, EMPTY) {
-        return Ok(empty);
+    if is_empty {
+        return Ok(DiskFile::Empty);
     }
-    Ok(file)
+    Ok(DiskFile::Open(file))
 }
 
 /// The length of a file that may be opened, and an error for any other.

@@ -59,6 +59,7 @@ run-tests:
 	tests/runs/allocations.py $(program)
 	tests/runs/damage.py $(program)
 	tests/runs/failing.py $(program)
+	tests/runs/streams.py $(program)
 
 wrong mutants:
 	scripts/mutants.py $(CRATES)

@@ -1,6 +1,6 @@
 #!/usr/bin/env -S python3 -B
 """Runs the program with its system calls failing in turn, by strace, and compares each run with the one in which none fails. Also
-runs it over pipes, and over the deepest folders that paths allow.
+runs it over pipes, with a small stack, and over the deepest folders that paths allow.
 usage: tests/runs/failing.py PROGRAM
 
 For each job and each kind of call the Nth such call fails, N = 1, 2, .., until none is left. A run gives the usual answer; or it
@@ -23,6 +23,8 @@ CALLS = ["read", "pread64", "write", "openat", "getdents64", "statx", "fsync", "
 AGAIN = ["read", "pread64", "write", "openat", "getdents64", "fsync", "flock"]
 # The timeout of a run that could block, in seconds.
 PATIENCE = 20
+# The stack that is enough for the tools, in bytes: cindex(1), "CAVEATS".
+SMALL_STACK = 128 * 1024
 # The longest path.
 LONGEST_PATH = 4095
 failures = 0
@@ -213,7 +215,7 @@ def late_temporary():
     index = read("index")
     for when in range(1, 20):
         leave(index)
-        write("index~", b"left")
+        write("index~", b"csearch in")
         delay = [strace, "-qq", "-o", "log", "-e", "trace=openat", "-e", f"inject=openat:delay_enter=400000:when={when}"]
         swap = threading.Timer(0.2, put_pipe_beside)
         swap.start()
@@ -225,6 +227,28 @@ def late_temporary():
             os.remove("index~")
         if b"(DELAYED)" not in read("log"):
             break
+
+
+def emptied_temporary():
+    """A program that knows nothing of locks empties the temporary file while cindex syncs it, and may write to it: the index stays."""
+    run(["cindex", "-reset", "t"])
+    index = read("index")
+    for text in (b"", b"csearch index 1\n"):
+        leave(index)
+        delay = [strace, "-qq", "-o", "log", "-e", "trace=fsync", "-e", "inject=fsync:delay_enter=400000:when=1"]
+        swap = threading.Timer(0.2, write, ["index~", text])
+        swap.start()
+        came = bounded(["cindex", "t"], delay)
+        swap.join()
+        if came != (2, b"", b"codesearch: cannot write %s/index\n" % home.encode()) or read("index") != index:
+            complain(f"the temporary file gets {text} during the sync", came)
+
+
+def small_stack():
+    """Each tool and each kind of job with a small stack."""
+    for args in ("cindex -reset t", "cindex t/d", "cindex", "cindex -list", "csearch one", "cgrep one t/p", "cindex -reset"):
+        ample = bounded(args.split())
+        expect(f"{args} with a small stack", bounded(args.split(), stack=SMALL_STACK), ample)
 
 
 def deepest():
@@ -245,7 +269,7 @@ def deepest():
     os.chdir(home)
     leave(None)
     line = b"cindex: " + os.fsencode(top) + b": cannot be read\n"
-    expect("the deepest folder", bounded(["cindex", "-reset", "deep"], stack=256 * 1024), (0, b"", line))
+    expect("the deepest folder", bounded(["cindex", "-reset", "deep"], stack=SMALL_STACK), (0, b"", line))
     status, out, err = bounded(["csearch", "-c", "one"]) or (None, b"", b"")
     if (status, err) != (0, b"") or len(out.splitlines()) != levels:
         complain("the files on the way down", (status, len(out.splitlines()), err))
@@ -262,9 +286,11 @@ def main():
         calls()
         late_pipes()
         late_temporary()
+        emptied_temporary()
     else:
         print("skipped: failing system calls and late pipes: there is no working strace")
     pipes()
+    small_stack()
     deepest()
     print(f"pipes and deep folders: {running.wrong} wrong in all")
     return running.wrong != 0

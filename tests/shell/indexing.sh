@@ -212,7 +212,7 @@ fi
 for mode in 600 644 444; do
     cp results/old index
     chmod $mode index
-    printf 'left\n' > index~
+    printf 'csearch in' > index~
     chmod 4755 index~
     try 0 '' '' "cindex trees/b"
     holds "[ \$(stat -c %a index) = $mode ] && rm -f index"

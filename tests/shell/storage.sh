@@ -53,7 +53,7 @@ if [ "$(id -u)" -eq 0 ] && as_user true 2> /dev/null; then
     # Root gives the index to its owner; so FILE~ of a killed run may belong to that owner.
     again
     chown 1000:2000 "$index"
-    printf 'left\n' > "$index~"
+    printf 'csearch in' > "$index~"
     chown 1000:2000 "$index~"
     try 0 '' '' "cindex storage/tree # after a killed run of root"
     holds "[ \$(stat -c %u:%g \$index) = 1000:2000 ] && [ ! -e \$index~ ]"
@@ -78,6 +78,24 @@ if [ "$(id -u)" -eq 0 ] && as_user true 2> /dev/null; then
 else
     skipped 'an index of another group: this user is not root, or there is no setpriv'
 fi
+
+# ---- files at FILE~ -----------------------------------------------------------------------------------------------------
+# What a killed run may have left is taken away: the first bytes of an index, nothing, or zeros.
+for left in '' 'csearch in' 'csearch index 1\n/a/file\0' '\0\0\0\0' '\0\0\0\0\0\0\0\0\0\0\0\0\0\0\0\0\0\0\0\0'; do
+    again
+    printf "$left" > "$index~"
+    try 0 '' '' "cindex storage/tree # over $left"
+    holds "[ ! -e \$index~ ] && ! cmp -s \$index \$first"
+done
+# Anything else is somebody's file, such as the copy that an editor keeps.
+for left in 'notes of today\n' 'c search' 'csearch index 2\n' '\0\0\0\0n'; do
+    again
+    printf "$left" > "$index~"
+    for command in 'cindex storage/tree storage/none' 'cindex -reset'; do
+        try 2 '' "codesearch: cannot write $index: remove $index~\n" "$command # over $left"
+        holds "cmp -s \$index \$first && printf '$left' | cmp -s - \$index~"
+    done
+done
 
 # ---- what is reported before the walk -----------------------------------------------------------------------------------
 # The walk would print a line for the missing path.
@@ -186,16 +204,16 @@ if command -v bindfs > /dev/null && bindfs --chmod-deny storage/under storage/ot
     twice 'a file system that refuses chmod'
     umount storage/other
     bindfs --force-user=12345 storage/under storage/other
-    printf 'left\n' > storage/other/index~
+    printf 'csearch in' > storage/other/index~
     twice 'a file system that maps owners'
     # There a first job that was killed leaves a FILE~ that nothing shows to be ours: the line says to remove it.
     rm storage/other/index
-    printf 'left\n' > storage/other/index~
+    printf 'csearch in' > storage/other/index~
     other=$home/storage/other/index
     for command in 'cindex storage/tree' 'cindex -reset'; do
         try 2 '' "codesearch: cannot write $other: remove $other~\n" "CSEARCHINDEX=\$other $command # after a first job that was killed"
     done
-    holds "[ \"\$(cat \$other~)\" = left ] && [ ! -e \$other ] && rm \$other~"
+    holds "[ \"\$(cat \$other~)\" = 'csearch in' ] && [ ! -e \$other ] && rm \$other~"
     twice 'a file system that maps owners, without the file'
     umount storage/other
 else

@@ -151,7 +151,7 @@ for shard in one two; do
 done
 echo 'only here' > two/rare
 CSEARCHINDEX=.indexes/two.index cindex
-printf 'left behind' > '.indexes/two.index~'
+printf 'csearch index 1' > '.indexes/two.index~'
 CSEARCHINDEX=$fresh/joined cindex one two
 CSEARCHINDEX=$fresh/joined csearch -n 'list_[a-z]+' > "$fresh/wanted"
 holds "[ \$(wc -l < '$fresh/wanted') = 18000 ]"

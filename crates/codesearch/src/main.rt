@@ -13,6 +13,7 @@ mod laws;
 mod outcome;
 mod running;
 mod storage;
+mod streams;
 
 use args::read_args;
 use call::Call;
@@ -27,12 +28,18 @@ use std::env;
 use std::io::ErrorKind;
 use std::process::ExitCode;
 use storage::{DiskFolder, IndexPaths};
+use streams::hold_streams;
 
 /// The size of the buffer of standard output, in bytes.
 const OUTPUT_BYTES: usize = 65536;
 
 fn main(rt: HostRuntime) -> ExitCode {
-    let status = match start(&rt) {
+    let status = match hold_streams(&rt) {
+        // What is held is closed after the run.
+        Ok(_held) => start(&rt),
+        Err(fault) => Ok(report(&rt, &Outcome::Refused(ProgramFault::of_reading("/", fault)))),
+    };
+    let status = match status {
         Ok(status) => status,
         Err(AllocError) => report(&rt, &Outcome::Refused(ProgramFault::Memory)),
     };
@@ -55,6 +62,7 @@ fn start(rt: &HostRuntime) -> Result<u8, AllocError> {
 }
 
 /// The current folder, if it is UTF-8.
+#[inline(never)]
 fn current_folder(rt: &HostRuntime) -> Result<Option<String>, AllocError> {
     match env::current_dir(rt) {
         Ok(folder) => Ok(Some(String::from_str(rt.alloc(), folder.as_str())?)),
@@ -64,6 +72,7 @@ fn current_folder(rt: &HostRuntime) -> Result<Option<String>, AllocError> {
 }
 
 /// Does what the arguments mean over the disk and the standard streams, and returns the exit status.
+#[inline(never)]
 fn execute_on_disk(rt: &HostRuntime, call: &Call<'_>) -> Result<u8, AllocError>
     requires { IsCall call.now }
 {

@@ -7,7 +7,7 @@ use cs_tree::{DiskStore, IoFault, Store, covers, is_absolute};
 use std::alloc::AllocError;
 use std::env::{self, VarError};
 use std::fs::{self, File, Metadata, Permissions, TryLockError};
-use std::io::{self, ErrorKind, Write};
+use std::io::{self, ErrorKind, Read, Write};
 use std::os::unix::fs::{MetadataExt, OpenOptionsExt, PermissionsExt, fchown};
 use std::path::Path;
 
@@ -25,6 +25,9 @@ const OWNER_WRITES: u32 = 0o600;
 
 /// The bits of a mode that say who may read, write and execute.
 const MODE_BITS: u32 = 0o777;
+
+/// The first bytes of an index.
+const MAGIC: &[u8] = b"csearch index 1\n";
 
 /// The super-user, who may change the owner of a file.
 const ROOT: u32 = 0;
@@ -47,6 +50,7 @@ impl IndexPaths {
     }
 
     /// The index file that the environment names, or if that is a link, the file that it leads to.
+    #[inline(never)]
     pub(crate) fn of_environment(rt: &HostRuntime) -> Result<IndexPaths, AllocError> {
         let name = match index_file_name(rt) {
             Ok(name) => name,
@@ -115,6 +119,8 @@ pub(crate) struct DiskFolder {
     temp: Option<File>,
     /// The bytes that FILE~ was given.
     given: Sent,
+    /// Their number.
+    written: u64,
     /// Why the first append that failed did so. After it nothing more is written.
     failure: Option<StorageFault>,
 }
@@ -127,6 +133,7 @@ impl DiskFolder {
             seen: None,
             temp: None,
             given: Sent::new(),
+            written: 0,
             failure: None,
         }
     }
@@ -185,7 +192,7 @@ impl IndexFolder for DiskFolder {
             .as_ref()
             .map_or(NEW_MODE, |seen| kept_mode(seen.mode()) | OWNER_WRITES);
         let temp = File::options()
-            .write(true)
+            .append(true)
             .create_new(true)
             .mode(mode)
             .open(&self.rt, path)?;
@@ -195,6 +202,7 @@ impl IndexFolder for DiskFolder {
         check_same_file(&self.rt, path, &temp)?;
         self.temp = Some(temp);
         self.given = Sent::new();
+        self.written = 0;
         self.failure = None;
         Ok(())
     }
@@ -220,8 +228,11 @@ impl IndexFolder for DiskFolder {
             self.failure = self.write(bytes).err();
         }
         self.given.push(bytes);
+        self.written = self.written.saturating_add(bytes.len() as u64);
     }
 
+    /// FILE~ is opened for appending, so each byte that is given stays after those before it, and a program that knows
+    /// nothing of locks and empties the file, such as Google's cindex, makes it shorter.
     fn sync(&mut self) -> Result<(), StorageFault> {
         if let Some(fault) = self.failure {
             return Err(fault);
@@ -229,7 +240,11 @@ impl IndexFolder for DiskFolder {
         let temp = self.temp()?;
         copy_rights(temp, self.seen.as_ref())?;
         temp.sync_all()?;
-        Ok(())
+        if temp.metadata()?.len() == self.written {
+            Ok(())
+        } else {
+            Err(StorageFault::Failed)
+        }
     }
 
     fn rename(&mut self) -> Result<(), StorageFault> {
@@ -315,12 +330,12 @@ fn is_readable(there: &Metadata) -> bool {
 }
 
 /// Removes a FILE~ that a killed process left, if it is not locked. Nothing else is removed: a regular file that is not
-/// ours is `Leftover`, whose line asks for its removal.
+/// ours, or does not begin as an index, is `Leftover`, whose line asks for its removal.
 fn remove_stale(rt: &HostRuntime, path: &str, seen: Option<&Metadata>) -> Result<(), StorageFault> {
     match fs::symlink_metadata(rt, path) {
         Ok(there) if there.is_file() => {
             let stale = open_unlocked(rt, path, &there)?;
-            if !is_stale(rt, &there, seen) {
+            if !is_stale(rt, &there, seen) || !begins_as_index(&stale)? {
                 return Err(StorageFault::Leftover);
             }
             check_same_file(rt, path, &stale)?;
@@ -361,6 +376,15 @@ fn is_stale(rt: &HostRuntime, there: &Metadata, seen: Option<&Metadata>) -> bool
         Err(_) => false,
     };
     is_left && (is_ours || seen.is_some_and(|seen| there.uid() == seen.uid()))
+}
+
+/// Whether a killed run may have left these bytes: none, the first bytes of an index, or zeros, where the system kept the
+/// length of a file and lost its bytes.
+fn begins_as_index(mut stale: &File) -> io::Result<bool> {
+    let mut first = [0u8; MAGIC.len()];
+    let len = stale.read(&mut first)?;
+    let first = &first[..len];
+    Ok(MAGIC.starts_with(first) || first.iter().all(|byte| *byte == 0))
 }
 
 /// Fails unless the open file still has this name: another process may have removed it before the lock was taken, and

@@ -221,6 +221,8 @@ fn list_folder<R: Files + AllocGlobal + Clone + Drop>(
     Err(gave_up())
 }
 
+/// Reads a folder once. Not inlined, since the buffers of std's iterator take 45 KB of the stack.
+#[inline(never)]
 fn list_once<R: Files + AllocGlobal + Clone + Drop>(
     alloc: Global,
     rt: &R,

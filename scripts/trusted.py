@@ -43,7 +43,7 @@ def clauses(source, name, wanted):
     """The text of the clauses of a function, and the trait of each of its type parameters."""
     contract = re.search(r"pub(?:\(crate\))? fn " + name + r"\b.*?\n\{\n", source, re.S).group(0)
     parts = re.findall(r"\n\s+(ensures|requires) (\w*) ?\{(.*?)(?=\n\s+ensures|\n\s+requires|\n\{)", contract, re.S)
-    bounds = dict(re.findall(r"(\w+): (\w+)", contract[: contract.index("(")]))
+    bounds = dict(re.findall(r"(\w+): (\w+)", contract[: contract.index("(", contract.index(" fn "))]))
     return " ".join(text for kind, clause, text in parts if kind == "requires" or not wanted or clause in wanted), bounds
 
 
@@ -103,7 +103,7 @@ def main():
             text = file.read_text()
             counts.append((definitions(text), len(text.splitlines()), str(file.relative_to(crates))))
         total = sum(count for count, _, _ in counts)
-        limit = f" (limit {most})" if most else ""
+        limit = f" ({'ABOVE its limit' if total > most else 'limit'} {most})" if most else ""
         print(f"{name}: {len(counts)} files, {sum(lines for _, lines, _ in counts)} lines, {total} of definitions{limit}")
         above += bool(most and total > most)
         if "-q" not in sys.argv:
@@ -112,4 +112,5 @@ def main():
     return "--check" in sys.argv and above != 0
 
 
-sys.exit(main())
+if __name__ == "__main__":
+    sys.exit(main())

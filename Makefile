@@ -16,7 +16,7 @@ help:
 	@echo 'make install    installs the tools, cs, the library, manual, completions and editor files under PREFIX (now $(PREFIX))'
 	@echo 'make uninstall  removes them'
 	@echo 'make dist deb   makes an archive for each Linux on x86-64, and a Debian package, in the folder dist'
-	@echo 'make quick      names and types of all crates, and the end-to-end tests on the built program: minutes'
+	@echo 'make quick      the pages, names and types of all crates, and the end-to-end tests on the built program: minutes'
 	@echo 'make test       all tests, those of the libraries and those of the built program: a quarter of an hour'
 	@echo 'make check      the gate: every proof from nothing, the mutants of must-fail/, and all tests: an hour or two'
 	@echo "make mutants    judges each mutant by itself (also make wrong): hours; CRATES='cs_tree cs_index/NAME' gives some"
@@ -28,24 +28,34 @@ check:
 	@$(MAKE) --silent --no-print-directory program lib
 	@$(MAKE) --silent --no-print-directory run-tests
 
-quick: $(program)
+# The cheap ones first.
+quick: pages names $(program)
+	tests/shell/end_to_end.sh $(program)
+	tests/shell/manual.sh $(program)
+
+# What is said about the code: seconds, without the program.
+.PHONY: pages
+pages:
+	tests/shell/words.sh
+	tests/shell/docs.py
+	scripts/trusted.py -q --check
+
+# Names and types of all crates.
+.PHONY: names
+names:
 	@for crate in $$(sed -n 's/[ :].*//p' crates.txt); do \
 	    (cd crates/$$crate && rt check --only= > /tmp/quick.$$$$ 2>&1) || { cat /tmp/quick.$$$$; rm -f /tmp/quick.$$$$; exit 1; }; \
 	    rm -f /tmp/quick.$$$$; \
 	done
-	tests/shell/words.sh
-	tests/shell/end_to_end.sh $(program)
-	tests/shell/manual.sh $(program)
 
 test: $(program) $(library)
 	cd crates/cs_tests && rt test
 	cd crates/cs_tool_tests && rt test
 	@$(MAKE) --silent --no-print-directory run-tests
 
-# The tests of the built program.
+# The tests of the pages and of the built program.
 .PHONY: run-tests
-run-tests:
-	tests/shell/words.sh
+run-tests: pages
 	tests/shell/end_to_end.sh $(program)
 	tests/shell/manual.sh $(program)
 	tests/shell/use.sh $(program)
@@ -65,7 +75,7 @@ wrong mutants:
 	scripts/mutants.py $(CRATES)
 
 trusted:
-	@python3 scripts/trusted.py
+	@scripts/trusted.py
 
 program: $(program)
 

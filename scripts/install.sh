@@ -4,6 +4,7 @@
 # DESTDIR, if set, is prepended to each path. PROGRAM and LIBRARY name a program and a folder of libraries other than those
 # beside this script. LIBDIR is the folder of libraries under PREFIX, if it is not lib.
 
+unset CDPATH
 remove=''
 [ "$1" != -u ] || { remove=1 && shift; }
 prefix=${1%/}
@@ -34,6 +35,13 @@ if [ -n "$remove" ]; then
     exit
 fi
 
+# put MODE FILE PATH: a copy of a file in place of what the path has, also if that is a link, or the file itself
+put() {
+    install -m "$1" "$2" "$3.new"
+    rm -f "$3"
+    mv "$3.new" "$3"
+}
+
 # The program for newer processors (x86-64-v3) says by its status whether this is one.
 program=${PROGRAM:-$here/bin/codesearch}
 if [ -z "$PROGRAM" ] && [ -x "$here/bin/codesearch-v3" ]; then
@@ -42,22 +50,23 @@ if [ -z "$PROGRAM" ] && [ -x "$here/bin/codesearch-v3" ]; then
     [ $status != 1 ] || program=$here/bin/codesearch-v3
 fi
 install -d "$to/bin" "$bash" "$zsh" "$fish" "$vim" "$emacs"
-install -m 755 "$program" "$to/bin/codesearch"
-install -m 755 "$here/bin/cs" "$to/bin/cs"
+put 755 "$program" "$to/bin/codesearch"
+put 755 "$here/bin/cs" "$to/bin/cs"
 for tool in $tools; do
+    rm -f "$to/bin/$tool"
     printf '#!/bin/sh\nexec "%s/bin/codesearch" %s "$@"\n' "$prefix" "$tool" > "$to/bin/$tool"
     chmod 755 "$to/bin/$tool"
 done
 for name in codesearch cs $tools; do
-    install -m 644 "$here/completion/codesearch.bash" "$bash/$name"
-    install -m 644 "$here/completion/codesearch.fish" "$fish/$name.fish"
+    put 644 "$here/completion/codesearch.bash" "$bash/$name"
+    put 644 "$here/completion/codesearch.fish" "$fish/$name.fish"
 done
-install -m 644 "$here/completion/_codesearch" "$zsh/_codesearch"
-install -m 644 "$here/editors/codesearch.vim" "$vim/codesearch.vim"
-install -m 644 "$here/editors/codesearch.el" "$emacs/codesearch.el"
+put 644 "$here/completion/_codesearch" "$zsh/_codesearch"
+put 644 "$here/editors/codesearch.vim" "$vim/codesearch.vim"
+put 644 "$here/editors/codesearch.el" "$emacs/codesearch.el"
 for page in "$here"/man/*.[157]; do
     install -d "$to/share/man/man${page##*.}"
-    install -m 644 "$page" "$to/share/man/man${page##*.}/${page##*/}"
+    put 644 "$page" "$to/share/man/man${page##*.}/${page##*/}"
 done
 
 # The library for C and Rust.
@@ -65,11 +74,12 @@ library=${LIBRARY:-$here/lib}
 [ -f "$library/libcodesearch.a" ] || exit 0
 version=$(cat "$here/VERSION")
 install -d "$libs/pkgconfig" "$to/include"
-install -m 644 "$here/include/codesearch.h" "$to/include/codesearch.h"
-install -m 644 "$library/libcodesearch.a" "$libs/libcodesearch.a"
-install -m 644 "$library/libcodesearch.so.$version" "$libs/libcodesearch.so.$version"
-ln -sf "libcodesearch.so.$version" "$libs/libcodesearch.so.${version%%.*}"
-ln -sf "libcodesearch.so.${version%%.*}" "$libs/libcodesearch.so"
+put 644 "$here/include/codesearch.h" "$to/include/codesearch.h"
+put 644 "$library/libcodesearch.a" "$libs/libcodesearch.a"
+put 644 "$library/libcodesearch.so.$version" "$libs/libcodesearch.so.$version"
+rm -f "$libs/libcodesearch.so.${version%%.*}" "$libs/libcodesearch.so" "$libs/pkgconfig/codesearch.pc"
+ln -s "libcodesearch.so.$version" "$libs/libcodesearch.so.${version%%.*}"
+ln -s "libcodesearch.so.${version%%.*}" "$libs/libcodesearch.so"
 cat > "$libs/pkgconfig/codesearch.pc" <<END
 prefix=$prefix
 includedir=\${prefix}/include

@@ -30,6 +30,24 @@ fi
 gives 2 "'$root/scripts/install.sh' usr"
 gives 2 "'$root/scripts/install.sh' '/usr local'"
 
+# ---- an installation over links, and over itself --------------------------------------------------------------------------------
+# What links lead to, also to a folder, stays; a name of a folder that CDPATH has as well is that of the current one.
+mkdir -p "$fresh/go/folder" "$fresh/library" "$fresh/linked/bin" "$fresh/linked/lib/pkgconfig"
+echo another > "$fresh/go/file"
+for name in "libcodesearch.a" "libcodesearch.so.$version"; do echo library > "$fresh/library/$name"; done
+for name in bin/codesearch bin/cs bin/cindex bin/csearch lib/libcodesearch.a lib/pkgconfig/codesearch.pc; do
+    ln -s "$fresh/go/file" "$fresh/linked/$name"
+done
+ln -s "$fresh/go/folder" "$fresh/linked/bin/cgrep"
+ln -s "$fresh/go/folder" "$fresh/linked/lib/libcodesearch.so"
+holds "cd '$root' && CDPATH=.:/ PROGRAM='$program' LIBRARY='$fresh/library' scripts/install.sh '$fresh/linked'"
+holds "[ \"\$(cat '$fresh/go/file')\" = another ] && [ -z \"\$(ls -A '$fresh/go/folder')\" ]"
+holds "[ -z \"\$(find '$fresh/linked' -type l ! -name 'libcodesearch.so*')\" ]"
+holds "printf 'a\nmarker\n' | '$fresh/linked/bin/cgrep' -n marker | grep -q ':2:marker'"
+holds "[ \"\$(cat '$fresh/linked/lib/libcodesearch.so')\" = library ] && [ -s '$fresh/linked/lib/pkgconfig/codesearch.pc' ]"
+holds "PROGRAM='$fresh/linked/bin/codesearch' '$root/scripts/install.sh' '$fresh/linked' && cmp '$program' '$fresh/linked/bin/codesearch'"
+holds "'$root/scripts/install.sh' -u '$fresh/linked' && [ -z \"\$(find '$fresh/linked' ! -type d)\" ]"
+
 # uses COMMAND: indexes, searches, and reads the index again, by the commands that COMMAND runs
 uses() {
     $1 'mkdir -p /t/src && cd /t/src && printf "one\na marker\n" > a.c && export HOME=/t && cindex /t/src && csearch -n marker' > "$fresh/came" 2>&1

@@ -7,27 +7,41 @@ A check reports for each function whether it is proved, and proves it from the c
 whatever their bodies are. So one check judges many mutants, each by a function that it changes. Functions of a cycle are
 proved together, so their mutants get separate checks. A mutant that changes something else, as a definition, gets a check
 of its own, and so does one whose functions are proved there. The script works on a copy of the crates, with what `rt check`
-has kept. It judges all mutants of a crate, or the named ones; without arguments those of all crates."""
+has kept. It judges all mutants of a crate, or the named ones; without arguments those of all crates.
+
+A mutant is refused by a goal that stays open. A written answer that no longer fits, since the mutant gives its goal another name
+or another type, refuses nothing: the check is made again without that answer. The open goals of each refused mutant are printed. A
+goal is false if the check has found values at which it is, or if a person has read it and the mutant has a line `false: GOAL`; a
+mutant without a false goal has to be read. So has one of a definition, which some proof refuses."""
 import re
 import shutil
 import subprocess
 import sys
 import tempfile
+from collections import Counter
 from pathlib import Path
 
 top = Path(__file__).resolve().parent.parent
 NAME = re.compile(r"^# (\w+)\n", re.M)
 FUNCTION = re.compile(r'^ *(?:#\[cycle\((\w+)\)\]\n *)?(?:pub(?:\(\w+\))? )?(?:const )?(?:extern "C" )?fn (\w+)', re.M)
 TYPE = re.compile(r"^impl(?:<[^>]*>)? (?:.* for )?(\w+).*\{$", re.M)
-# The line of a function whose own proof fails, not only that of a callee.
-REFUSED = re.compile(r"^fn (\S+): (?:not proved|no proof: expected answers)", re.M)
+# The line of a function, which follows the notes on it.
+LINE = re.compile(r"^fn (\S+): (.*)\n", re.M)
+# The goals of a function that stay open, and what each says.
+OPEN = re.compile(r"no proof: expected answers in \./(\S+); `search` did not prove (`\S+`(?:, `\S+`)*)")
+GOAL = re.compile(r"^note: `(\S+)` of (\S+) must prove: (.*?)\n(?=\S|  names you can use)", re.M | re.S)
+FALSE = "; the facts known there allow values at which this goal is false"
+# A proof that the check refuses.
+WRONG = re.compile(r"^\./((?:proofs|specs)/\S+?):(\d+):\d+: error: (.*)", re.M)
+# The path before the name of a definition.
+MODULE = re.compile(r"\b(?:Rattle|mathlib|lib|Prim|denote|borrow)\.(?:\w+\.)*")
 
 
 class Mutant:
     """A mutant: texts that occur once in files of a crate, and what replaces them."""
 
     def __init__(self, crate, name, text):
-        self.name, self.changes, path, old = name, [], "", ""
+        self.name, self.changes, self.false, path, old = name, [], set(), "", ""
         for line in text.splitlines():
             if line.startswith("file: "):
                 path = line[6:]
@@ -35,6 +49,8 @@ class Mutant:
                 old = line[5:]
             elif line.startswith("new:"):
                 self.changes.append((path, old, line[4:].removeprefix(" ")))
+            elif line.startswith("false: "):
+                self.false.add(line[7:])
         found = [function(crate, path, old) for path, old, _new in self.changes]
         self.functions = {} if None in found else dict(found)
 
@@ -99,41 +115,83 @@ def rounds(crate, wanted):
     return found
 
 
+def fitting(crate, said):
+    """The texts of the files of answers in which a check refuses some, without these; None if a file has no other answer."""
+    wrong, texts = {}, {}
+    for path, line, _error in WRONG.findall(said):
+        if path.endswith("/Answers.antt"):
+            wrong.setdefault(path, set()).add(int(line))
+    for path, lines in wrong.items():
+        # (a blank line separates answers)
+        kept, start = [], 1
+        for part in (crate / path).read_text().rstrip("\n").split("\n\n"):
+            end = start + part.count("\n") + 2
+            if not lines & {*range(start, end)}:
+                kept.append(part)
+            start = end
+        texts[path] = "\n\n".join(kept) + "\n" if any(": goal." in it for it in kept) else None
+    return texts
+
+
 def check(crate, chosen):
-    """The output of a check of the crate with these mutants applied."""
+    """The output of a check of the crate with these mutants, without the answers that then no longer fit, and the files of these."""
     texts = changed(crate, chosen)
     if texts is None:
         sys.exit(f"{crate.name}: {chosen[0].name}: a text does not occur exactly once in its file")
-    kept = {path: (crate / path).read_text() for path in texts}
-    for path, text in texts.items():
-        (crate / path).write_text(text)
-    how = {"stdout": subprocess.PIPE, "stderr": subprocess.STDOUT, "text": True, "errors": "replace"}
-    said = subprocess.run(["rt", "check"], cwd=crate, **how).stdout
+    kept = {}
+    while True:
+        kept = {path: (crate / path).read_text() for path in texts} | kept
+        for path, text in texts.items():
+            (crate / path).unlink() if text is None else (crate / path).write_text(text)
+        how = {"stdout": subprocess.PIPE, "stderr": subprocess.STDOUT, "text": True, "errors": "replace"}
+        said = subprocess.run(["rt", "check"], cwd=crate, **how).stdout
+        texts = {} if any(path.startswith("specs/") for path in kept) else fitting(crate, said)
+        if not texts:
+            break
     for path, text in kept.items():
         (crate / path).write_text(text)
-    return said
+    return said, {path for path in kept if path.startswith("proofs/")}
 
 
-def refused(crate, chosen):
-    """The mutants that a check of all these refuses."""
-    said = check(crate, chosen)
-    names = REFUSED.findall(said)
-    is_refused = lambda mutant: any(re.fullmatch(it, name) for it in mutant.functions for name in names)
-    alone = len(chosen) == 1 and "\nlogic=not-proved" in said
-    return chosen if alone else [it for it in chosen if is_refused(it)]
+def short(text):
+    """A goal or an error in a line."""
+    text = MODULE.sub("", " ".join(text.partition(" … (cut short")[0].split()))
+    return text if len(text) <= 200 else f"{text[:120]} … {text[-77:]}"
+
+
+def reasons(mutant, said, unfit, alone):
+    """Why a check refuses a mutant: a line for each open goal, and whether it is false. If the check is of several mutants, these are
+    the goals of the functions that this one changes."""
+    parts, found = LINE.split(said), {}
+    texts = {(path, goal): text for goal, path, text in GOAL.findall(said)}
+    for notes, name, verdict in zip(parts[::3], parts[1::3], parts[2::3]):
+        goals = OPEN.match(verdict)
+        if goals and (alone or any(re.fullmatch(it, name) for it in mutant.functions)):
+            how = " (without the answers that no longer fit)" if goals[1] in unfit else ""
+            for goal in re.findall(r"`(\S+?)`", goals[2]):
+                is_false = goal in mutant.false or f"(`{goal}`){FALSE}" in notes
+                line = f"{name}{how}: {goal}{' is false' if is_false else ''}: {short(texts.get((goals[1], goal), ''))}"
+                found[line] = is_false
+    if alone and not found and "\nlogic=not-proved" in said:
+        found = {f"{path}:{line}: {short(error)}": False for path, line, error in WRONG.findall(said)[:3]}
+        found = found or {"logic=not-proved": False}
+    return found
 
 
 def judge(crate, wanted):
-    """Prints for mutants of a crate whether each is refused, and returns how many are and how many are not."""
-    if "\nlogic=proved" not in check(crate, []):
+    """Prints for mutants of a crate whether each is refused, and why, and returns how many have which verdict."""
+    if "\nlogic=proved" not in check(crate, [])[0]:
         sys.exit(f"{crate.name} is not proved")
-    counts = [0, 0]
+    counts = Counter()
     for chosen in rounds(crate, wanted):
-        found = refused(crate, chosen)
+        said, unfit = check(crate, chosen)
         for mutant in chosen:
-            is_refused = mutant in found or len(chosen) > 1 and refused(crate, [mutant])
-            counts[not is_refused] += 1
-            print(f"{crate.name}: {mutant.name}: {'refused' if is_refused else 'NOT REFUSED'}", flush=True)
+            found = reasons(mutant, said, unfit, len(chosen) == 1)
+            if not found and len(chosen) > 1:
+                found = reasons(mutant, *check(crate, [mutant]), True)
+            verdict = "refused" if any(found.values()) else "refused, to be read" if found else "NOT REFUSED"
+            counts[verdict] += 1
+            print(f"{crate.name}: {mutant.name}: {verdict}", *found, sep="\n    ", flush=True)
     return counts
 
 
@@ -148,10 +206,10 @@ def main():
         for name in ("crates.txt", "HANDLES"):
             shutil.copy(top / name, copy)
         (copy / ".git").mkdir()
-        counts = [judge(copy / "crates" / name, wanted(name)) for name in names]
-    well, badly = (sum(it) for it in zip(*counts))
-    print(f"{well} refused, {badly} not")
-    return badly > 0
+        counts = sum((judge(copy / "crates" / name, wanted(name)) for name in names), Counter())
+    print(f"{sum(counts.values())} judged:", ", ".join(f"{count} {verdict}" for verdict, count in sorted(counts.items())))
+    return "NOT REFUSED" in counts
 
 
-sys.exit(main())
+if __name__ == "__main__":
+    sys.exit(main())

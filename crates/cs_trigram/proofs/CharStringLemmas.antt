@@ -1,23 +1,23 @@
 -- The exact strings of byte sets and of character sets.
-use Rattle.std.proofs.Common.{◌≡◌, ℕ, zero, suc, ◌+◌, ◌<◌, ◌≤◌, ◌⊎◌, ◌&&◌, inl, inr, Bool, false, List, [], ◌∷◌, ◌++◌, length, refl, sym, ◌∙◌, arith}
+use Rattle.std.proofs.Common.{true, ◌≡◌, ℕ, zero, suc, ◌+◌, ◌<◌, ◌≤◌, ◌⊎◌, ◌&&◌, inl, inr, Bool, false, List, [], ◌∷◌, ◌++◌, length, refl, sym, ◌∙◌, arith}
 use Rattle.std.specs.Prelude.{nat_le, encode_utf8}
 use Rattle.std.proofs.lemmas.Bool.{cases_lt, and_parts, and_from, or_cases, or_left, or_right, both_ways, leb-true, le-leb}
 use Rattle.cs_syntax.specs.Ranges.{is_in_ranges}
 use Rattle.cs_syntax.specs.Characters.{is_scalar}
 use Rattle.cs_syntax.specs.Matching.{one_of, one_char, member}
 use Rattle.cs_syntax.proofs.CharRangeLemmas.{ranges_push}
-use Rattle.cs_trigram.specs.ExactStrings.{HasExactString}
+use Rattle.cs_trigram.specs.MayMatch.{MayMatch}
 use Rattle.cs_trigram.proofs.EnumerationLemmas.{IsOfNumber}
 
 -- the strings of the members of a byte set below n
 abbrev pub IsByteBelow : List Bool → ℕ → List ℕ → Type 0
 IsByteBelow set n = IsOfNumber (member set) (λ b. b ∷ []) 0 (λ w. ⊥) n
 
-pub byte_string : (set : List Bool) (n : ℕ) (w : List ℕ) → IsByteBelow set n w → HasExactString (one_of set) w
+pub byte_string : (set : List Bool) (n : ℕ) (w : List ℕ) → IsByteBelow set n w → MayMatch true (one_of set) w
 byte_string set n w (inl never) = absurd never
 byte_string set n w (inr b) = (b.0, b.3, b.4)
 
-pub byte_below : (set : List Bool) (n : ℕ) (w : List ℕ) → length set ≤ n → HasExactString (one_of set) w → IsByteBelow set n w
+pub byte_below : (set : List Bool) (n : ℕ) (w : List ℕ) → length set ≤ n → MayMatch true (one_of set) w → IsByteBelow set n w
 byte_below set n w le h = inr (h.0, omega arith, inside (cases_lt h.0 n), h.1, h.2)
   where
     beyond : (set : List Bool) (b : ℕ) → length set ≤ b → member set b ≡ false
@@ -31,11 +31,11 @@ byte_below set n w le h = inr (h.0, omega arith, inside (cases_lt h.0 n), h.1, h
 
 -- the strings of some ranges, and of the characters of another one below n
 abbrev pub IsCharBelow : List (ℕ × ℕ) → ℕ × ℕ → ℕ → List ℕ → Type 0
-IsCharBelow ranges range n = IsOfNumber is_scalar encode_utf8 range.0 (HasExactString (one_char ranges)) n
+IsCharBelow ranges range n = IsOfNumber is_scalar encode_utf8 range.0 (MayMatch true (one_char ranges)) n
 
 module _ (ranges : List (ℕ × ℕ)) (range : ℕ × ℕ) where
   pub char_string : (n : ℕ) (w : List ℕ) → n ≤ range.1 + 1 → IsCharBelow ranges range n w →
-      HasExactString (one_char (ranges ++ range ∷ [])) w
+      MayMatch true (one_char (ranges ++ range ∷ [])) w
   char_string n w le (inl h) =
       let both = and_parts (is_scalar h.0) (is_in_ranges ranges h.0) h.1 in (
         h.0,
@@ -51,7 +51,7 @@ module _ (ranges : List (ℕ × ℕ)) (range : ℕ × ℕ) where
         c.4,
       )
 
-  pub char_below : (w : List ℕ) → HasExactString (one_char (ranges ++ range ∷ [])) w → IsCharBelow ranges range (range.1 + 1) w
+  pub char_below : (w : List ℕ) → MayMatch true (one_char (ranges ++ range ∷ [])) w → IsCharBelow ranges range (range.1 + 1) w
   char_below w h =
       let both = and_parts (is_scalar h.0) (is_in_ranges (ranges ++ range ∷ []) h.0) h.1 in
       elim (or_cases (is_in_ranges ranges h.0) (nat_le range.0 h.0 && nat_le h.0 range.1) (sym (ranges_push ranges range h.0) ∙ both.1)) [

@@ -1,5 +1,5 @@
 -- Correct queries of trees.
-use Rattle.std.proofs.Common.{◌≡◌, ℕ, zero, suc, ◌-◌, ◌<◌, ◌≤◌, inl, inr, Bool, true, List, [], ◌∷◌, ◌++◌, Vec, Global, sym, ◌∙◌, subst, arith, refl}
+use Rattle.std.proofs.Common.{false, ◌≡◌, ℕ, zero, suc, ◌-◌, ◌<◌, ◌≤◌, inl, inr, Bool, true, List, [], ◌∷◌, ◌++◌, Vec, Global, sym, ◌∙◌, subst, arith, refl}
 use Rattle.cs_tree.specs.Cover.{is_among}
 use Rattle.std.specs.Prelude.{Option, Some, None, slice_range}
 use Rattle.std.proofs.lemmas.Bool.{false≢true, or_cases, or_left, or_right}
@@ -24,7 +24,7 @@ pub correct_all : (t : Tree) → ((set : ℕ → Bool) → HasExactRuns set t) �
 correct_all t has_runs = record {
   matching = λ s set i j h has. matches_set-All set;
   selective = λ set h. has_runs set;
-  mentioned = all_mentions_none (HasMembers t) (MayMatch t);
+  mentioned = all_mentions_none (HasMembers t) (MayMatch false t);
 }
 
 -- `All` is a match query of a tree without runs within it, such as a leaf
@@ -46,7 +46,7 @@ correct_repeated q x (suc n) m some r many = record {
   matching = λ s set i j h has. first s set h.0 i j h.1 h.3 has;
   selective = λ set h. (λ few. absurd (many few), r.selective set h);
   mentioned =
-      trigrams_within (mentions q) (HasMembers x) (HasMembers x) (MayMatch x) (MayMatch (rep x (suc n) m)) r.mentioned
+      trigrams_within (mentions q) (HasMembers x) (HasMembers x) (MayMatch false x) (MayMatch false (rep x (suc n) m)) r.mentioned
       (λ h. h) (λ h w is. iteration_within x (suc n) m w is);
 }
   where
@@ -67,7 +67,7 @@ correct_strings q ws t strings required only = record {
       let w = any_run_found set ws (sym (required set) ∙ h) in
       exact_match_has_runs set t w.0 (strings.are.1.right w.0 w.1) w.2;
   mentioned =
-      trigrams_within (mentions q) (Unit {0}) (HasMembers t) (λ w. is_among ws w ≡ true) (MayMatch t) only (λ h. tt)
+      trigrams_within (mentions q) (Unit {0}) (HasMembers t) (λ w. is_among ws w ≡ true) (MayMatch false t) only (λ h. tt)
       (λ h w m. (w, exact_may_match t w (strings.are.1.right w m), occurs_itself w w refl));
 }
 
@@ -95,11 +95,11 @@ right_more queries q t ts match_query others = record {
       ];
   mentioned =
       let A = HaveMembers (more t ts) in
-      let P = MayMatchBranch (more t ts) in
+      let P = MayMatchBranch false (more t ts) in
       trigrams_of_both (some_mentions queries) (mentions q) (some_mentions (queries ++ q ∷ [])) A P (λ g. mentions_push g queries q)
-      (trigrams_within (some_mentions queries) (HaveMembers ts) A (MayMatchBranch ts) P others.mentioned (λ h. h.1)
+      (trigrams_within (some_mentions queries) (HaveMembers ts) A (MayMatchBranch false ts) P others.mentioned (λ h. h.1)
       (λ h w m. (w, inr m, occurs_itself w w refl)))
-      (trigrams_within (mentions q) (HasMembers t) A (MayMatch t) P match_query.mentioned (λ h. h.0)
+      (trigrams_within (mentions q) (HasMembers t) A (MayMatch false t) P match_query.mentioned (λ h. h.0)
       (λ h w m. (w, inl m, occurs_itself w w refl)));
 }
 

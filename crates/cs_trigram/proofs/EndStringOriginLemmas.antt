@@ -1,5 +1,5 @@
 -- Each end string of a tree is one of a text that the tree may match.
-use Rattle.std.proofs.Common.{◌≡◌, ℕ, ◌+◌, ◌≤◌, ◌⊎◌, true, List, [], ◌∷◌, ◌++◌, length, map, reverse, refl, sym, ◌∙◌, ap, subst, inl, inr, arith, append_assoc, length-append}
+use Rattle.std.proofs.Common.{false, ◌≡◌, ℕ, ◌+◌, ◌≤◌, ◌⊎◌, true, List, [], ◌∷◌, ◌++◌, length, map, reverse, refl, sym, ◌∙◌, ap, subst, inl, inr, arith, append_assoc, length-append}
 use Rattle.std.specs.Prelude.{Contains, Option, None, slice_range, bytes_eq}
 use Rattle.std.proofs.lemmas.Bool.{cases_lt}
 use Rattle.std.proofs.lemmas.List.{append-nil, reverse-append, reverse-reverse, length-reverse}
@@ -8,8 +8,7 @@ use Rattle.std.proofs.lemmas.Map.Views.{Contains-from_any}
 use Rattle.std.proofs.lemmas.Slice.Eq.{bytes_eq-Decides}
 use Rattle.cs_tree.specs.Cover.{is_among}
 use Rattle.cs_syntax.specs.Matching.{Tree, Trees, cat, alt, rep, none, more}
-use Rattle.cs_trigram.specs.ExactStrings.{IsRepeated}
-use Rattle.cs_trigram.specs.MayMatch.{MayMatch, MayMatchSequence, MayMatchBranch}
+use Rattle.cs_trigram.specs.MayMatch.{IsRepeated, MayMatch, MayMatchSequence, MayMatchBranch}
 use Rattle.cs_trigram.specs.Analysis.{AreExactStrings}
 use Rattle.cs_trigram.specs.EndStrings.{Direction, forward, backward, read, IsTruncation, whole_text, HasEndString, HasSomeEndString, AreCoarser, IsConcatenation, AreConcatenations, IsEndStringOf, AreEndStrings, AreEndStringsOfSome}
 use Rattle.cs_trigram.specs.declared.end_strings.EndString.{EndString}
@@ -96,8 +95,8 @@ pub any_end_strings : (direction : Direction) (end_strings : List EndString) (t 
 any_end_strings direction end_strings t is = subst (λ (es : List EndString). AreEndStrings direction es t) (sym is) (record {
   matching = λ s i j h. (any_end, first_contained any_end [], any_has (read direction (slice_range s i j)));
   each = λ h x m.
-      let some = some_read direction (MayMatch t) (text_of t h) in
-      origin_whole (λ w. MayMatch t (read direction w)) x some.0 some.1
+      let some = some_read direction (MayMatch false t) (text_of t h) in
+      origin_whole (λ w. MayMatch false t (read direction w)) x some.0 some.1
       (subst (λ (y : EndString). HasEndString y some.0) (only_contained any_end x m) (any_has some.0));
 })
 
@@ -118,7 +117,7 @@ pub empty_end_strings : (direction : Direction) (end_strings : List EndString) �
     AreEndStrings direction end_strings (cat none)
 empty_end_strings direction end_strings is = record {
   matching = λ s i j h. end_strings_none direction end_strings (empty_has end_strings is) s i j h;
-  each = λ h x m. empty_origin direction (MayMatchSequence none) x refl (only_empty end_strings x is m);
+  each = λ h x m. empty_origin direction (MayMatchSequence false none) x refl (only_empty end_strings x is m);
 }
 
 member_contained : (texts : List (List ℕ)) (text : List ℕ) → Contains texts text → is_among texts text ≡ true
@@ -144,8 +143,8 @@ end_strings_of_exact direction texts end_strings t exact coarser =
       each = λ h x m.
           let y = coarser.each x m in
           let w = contained_in_map whole_read texts y.0 y.1 in
-          origin_whole (λ v. MayMatch t (read direction v)) x (read direction w.0)
-          (subst (MayMatch t) (sym (read_twice direction w.0))
+          origin_whole (λ v. MayMatch false t (read direction v)) x (read direction w.0)
+          (subst (MayMatch false t) (sym (read_twice direction w.0))
           (exact_may_match t w.0 (exact.are.1.right w.0 (member_contained texts w.0 w.1))))
           (subst (IsTruncation x) (sym w.2) y.2);
     }
@@ -161,7 +160,7 @@ module _ (nears fars end_strings : List EndString) (t : Tree) (ts : Trees) (c : 
         (a.matching s i h.0 h.1) (b.matching s h.0 j h.2);
     each = λ h x m.
         let near = c.each x m in
-        origin_concatenation (MayMatch t) (MayMatchSequence ts) (MayMatchSequence (more t ts))
+        origin_concatenation (MayMatch false t) (MayMatchSequence false ts) (MayMatchSequence false (more t ts))
         (λ u v p q. (u, v, p, q, refl)) near.0 fars x near.2 (a.each h.0 near.0 near.1) (b.each h.1)
         (text_of_all ts h.1);
   }
@@ -174,10 +173,10 @@ module _ (nears fars end_strings : List EndString) (t : Tree) (ts : Trees) (c : 
         (b.matching s h.0 j h.2) (a.matching s i h.0 h.1);
     each = λ h x m.
         let near = c.each x m in
-        origin_concatenation (λ w. MayMatchSequence ts (reverse w)) (λ w. MayMatch t (reverse w))
-        (λ w. MayMatchSequence (more t ts) (reverse w))
+        origin_concatenation (λ w. MayMatchSequence false ts (reverse w)) (λ w. MayMatch false t (reverse w))
+        (λ w. MayMatchSequence false (more t ts) (reverse w))
         (λ u v p q. (reverse v, reverse u, q, p, reverse-append u v)) near.0 fars x near.2 (b.each h.1 near.0 near.1)
-        (a.each h.0) (some_read backward (MayMatch t) (text_of t h.0));
+        (a.each h.0) (some_read backward (MayMatch false t) (text_of t h.0));
   }
 
 -- a text has one of the end strings of two lists
@@ -197,11 +196,11 @@ end_strings_of_branches direction others these both t ts union a b = record {
       (elim h [ inl x ↦ inr (a.matching s i j x) | inr y ↦ inl (b.matching s i j y) ]);
   each = λ h x m.
       let y = union.each x m in
-      let R : List ℕ → Type 0 = λ w. MayMatchBranch (more t ts) (read direction w) in
+      let R : List ℕ → Type 0 = λ w. MayMatchBranch false (more t ts) (read direction w) in
       origin_truncated R x y.0 y.2
       (elim (Contains-append_cases others these y.0 y.1) [
-        | inl o ↦ origin_as (λ w. MayMatchBranch ts (read direction w)) R y.0 (λ w p. inr p) (b.each h.1 y.0 o)
-        | inr s ↦ origin_as (λ w. MayMatch t (read direction w)) R y.0 (λ w p. inl p) (a.each h.0 y.0 s)
+        | inl o ↦ origin_as (λ w. MayMatchBranch false ts (read direction w)) R y.0 (λ w p. inr p) (b.each h.1 y.0 o)
+        | inr s ↦ origin_as (λ w. MayMatch false t (read direction w)) R y.0 (λ w p. inl p) (a.each h.0 y.0 s)
       ]);
 }
 
@@ -213,16 +212,17 @@ end_strings_of_alternation direction end_strings ts a = record { matching = a.ma
 
 -- at least n iterations, as they are read
 abbrev Repeats : Direction → (List ℕ → Type 0) → ℕ → List ℕ → Type 0
-Repeats direction P n w = (k : ℕ) × (n ≤ k) × IsRepeated P k (read direction w)
+Repeats direction P n w = (k : ℕ) × (n ≤ k) × Unit {0} × IsRepeated P k (read direction w)
 
 repeats_both : (direction : Direction) (P : List ℕ → Type 0) (m n k : ℕ) (u v : List ℕ) → k ≤ m + n →
     Repeats direction P m u → Repeats direction P n v → Repeats direction P k (u ++ v)
-repeats_both forward P m n k u v le a b = (a.0 + b.0, omega (arith, a.1, b.1), repeated_both P a.0 b.0 u v a.2 b.2)
+repeats_both forward P m n k u v le a b = (a.0 + b.0, omega (arith, a.1, b.1), tt, repeated_both P a.0 b.0 u v a.3 b.3)
 repeats_both backward P m n k u v le a b = (
   b.0 + a.0,
   omega (arith, a.1, b.1),
+  tt,
   subst (IsRepeated P (b.0 + a.0)) (sym (reverse-append u v))
-      (repeated_both P b.0 a.0 (reverse v) (reverse u) b.2 a.2),
+      (repeated_both P b.0 a.0 (reverse v) (reverse u) b.3 a.3),
 )
 
 pub end_strings_of_iteration : (direction : Direction) (once fars end_strings : List EndString) (t : Tree) (n : ℕ) →
@@ -233,10 +233,10 @@ end_strings_of_iteration direction once fars end_strings t n c a b = record {
   matching = iteration_more direction once fars end_strings t n c.all a.matching b.matching;
   each = λ h x m.
       let near = c.each x m in
-      origin_concatenation (λ w. MayMatch t (read direction w)) (Repeats direction (MayMatch t) n) (Repeats direction (MayMatch t) (n + 1))
-      (λ u v p q. repeats_both direction (MayMatch t) 1 n (n + 1) u v (omega arith)
-      (1, omega arith, (read direction u, [], p, refl, sym (append-nil (read direction u)))) q)
-      near.0 fars x near.2 (a.each h near.0 near.1) (b.each h) (some_read direction (MayMatch (rep t n None)) (text_of (rep t n None) h));
+      origin_concatenation (λ w. MayMatch false t (read direction w)) (Repeats direction (MayMatch false t) n) (Repeats direction (MayMatch false t) (n + 1))
+      (λ u v p q. repeats_both direction (MayMatch false t) 1 n (n + 1) u v (omega arith)
+      (1, omega arith, tt, (read direction u, [], p, refl, sym (append-nil (read direction u)))) q)
+      near.0 fars x near.2 (a.each h near.0 near.1) (b.each h) (some_read direction (MayMatch false (rep t n None)) (text_of (rep t n None) h));
 }
 
 -- any number of iterations: none, or at least one
@@ -248,11 +248,11 @@ end_strings_of_any_iterations direction some empty both t is union a = record {
       (λ text h. union_has some empty both union text (inl h)) a.matching;
   each = λ h x m.
       let y = union.each x m in
-      origin_truncated (Repeats direction (MayMatch t) 0) x y.0 y.2
+      origin_truncated (Repeats direction (MayMatch false t) 0) x y.0 y.2
       (elim (Contains-append_cases some empty y.0 y.1) [
-        | inl o ↦ origin_as (Repeats direction (MayMatch t) 1) (Repeats direction (MayMatch t) 0) y.0
-            (λ w p. (p.0, omega arith, p.2)) (a.each h y.0 o)
-        | inr e ↦ empty_origin direction (MayMatch (rep t 0 None)) y.0 (0, omega arith, refl) (only_empty empty y.0 is e)
+        | inl o ↦ origin_as (Repeats direction (MayMatch false t) 1) (Repeats direction (MayMatch false t) 0) y.0
+            (λ w p. (p.0, omega arith, tt, p.3)) (a.each h y.0 o)
+        | inr e ↦ empty_origin direction (MayMatch false (rep t 0 None)) y.0 (0, omega arith, tt, refl) (only_empty empty y.0 is e)
       ]);
 }
 
@@ -265,15 +265,15 @@ origin_padded direction P n least x text p three o =
     elim (cases_lt (length u) 3) [
       | inl short ↦
           let same : u ++ o.1.0 ≡ u = ap (λ (w : List ℕ). u ++ w) (o.1.2 short) ∙ append-nil u in
-          let is : IsRepeated P r.0 (read direction u) = subst (λ (w : List ℕ). IsRepeated P r.0 (read direction w)) same r.2 in
+          let is : IsRepeated P r.0 (read direction u) = subst (λ (w : List ℕ). IsRepeated P r.0 (read direction w)) same r.3 in
           let empty = some_empty P r.0 (read direction u) (omega (arith, short, three, r.1, length_read direction u)) is in
           origin_whole (Repeats direction P least) x u
-          (least + r.0, omega arith, repeated_both P least r.0 [] (read direction u) (repeated_empty P empty least) is)
+          (least + r.0, omega arith, tt, repeated_both P least r.0 [] (read direction u) (repeated_empty P empty least) is)
           o.2
       | inr long ↦
           let pad = some_read direction (IsRepeated P least) (repeated_text P text p least) in
-          let all = repeats_both direction P 0 least least (u ++ o.1.0) pad.0 (omega arith) (r.0, omega arith, r.2)
-          (least, omega arith, pad.1) in
+          let all = repeats_both direction P 0 least least (u ++ o.1.0) pad.0 (omega arith) (r.0, omega arith, tt, r.3)
+          (least, omega arith, tt, pad.1) in
           (u, (o.1.0 ++ pad.0, subst (Repeats direction P least) (append_assoc u o.1.0 pad.0) all, λ lt. absurd (omega arith)), o.2)
     ]
   where
@@ -290,7 +290,7 @@ end_strings_repeated direction end_strings t n least m le enough a = record {
   each = λ h x is.
       let o = a.each h x is in
       elim enough [
-        | inl same ↦ subst (λ k. IsEndStringOf (Repeats direction (MayMatch t) k) x) same o
-        | inr three ↦ let some = text_of t h in origin_padded direction (MayMatch t) n least x some.0 some.1 three o
+        | inl same ↦ subst (λ k. IsEndStringOf (Repeats direction (MayMatch false t) k) x) same o
+        | inr three ↦ let some = text_of t h in origin_padded direction (MayMatch false t) n least x some.0 some.1 three o
       ];
 }

@@ -8,7 +8,8 @@ use Rattle.cs_tree.specs.Cover.{is_among}
 use Rattle.std.proofs.lemmas.Bool.{and_from, le-leb, both_ways}
 use Rattle.std.specs.Prelude.{Some, nat_le, nat_eq}
 use Rattle.cs_syntax.specs.Matching.{Tree, Trees, cat, alt, rep, empty, none, more}
-use Rattle.cs_trigram.specs.ExactStrings.{HaveFewExactStrings, IsRepeated, is_finite, are_finite, HasExactString, SomeHasExactString}
+use Rattle.cs_trigram.specs.MayMatch.{IsRepeated, MayMatch, MayMatchBranch}
+use Rattle.cs_trigram.specs.ExactStrings.{HaveFewExactStrings, is_finite, are_finite}
 use Rattle.cs_trigram.specs.Analysis.{IsEnumeration, EnumeratesTree}
 use Rattle.cs_trigram.specs.ExactSet.{HasMany, HasNoString, HasAString, TellsEmpty, IsExactSetOf, AreExactSetsOf, AreExactSetsReversed}
 use Rattle.cs_trigram.specs.declared.exact_set.ExactSet.{ExactSet}
@@ -27,18 +28,18 @@ pair_finite t u f g = and_from (is_finite t) (is_finite u && true) f (and_from (
 
 -- the same strings, for another tree
 pub enumerates_as : (ws : List (List ℕ)) (t u : Tree) → EnumeratesTree ws t → is_finite u ≡ true →
-    ((w : List ℕ) → HasExactString t w → HasExactString u w) → ((w : List ℕ) → HasExactString u w → HasExactString t w)
+    ((w : List ℕ) → MayMatch true t w → MayMatch true u w) → ((w : List ℕ) → MayMatch true u w → MayMatch true t w)
     → EnumeratesTree ws u
-enumerates_as ws t u s f to from = (f, enumeration_same ws (HasExactString t) (HasExactString u) s.1 to from)
+enumerates_as ws t u s f to from = (f, enumeration_same ws (MayMatch true t) (MayMatch true u) s.1 to from)
 
 pub many_as : (P R : List ℕ → Type 0) → HasMany P → ((w : List ℕ) → P w → R w) → HasMany R
 many_as P R many to = (many.0, many.1, many.2, λ w m. to w (many.3 w m))
 
 pub exact_set_as : (c : ExactSet) (t u : Tree) → IsExactSetOf c t → is_finite t ≡ is_finite u →
-    ((w : List ℕ) → HasExactString t w → HasExactString u w) → ((w : List ℕ) → HasExactString u w → HasExactString t w)
+    ((w : List ℕ) → MayMatch true t w → MayMatch true u w) → ((w : List ℕ) → MayMatch true u w → MayMatch true t w)
     → IsExactSetOf c u
 exact_set_as (Strings strings) t u h e to from = (h.0, enumerates_as strings.items t u h.1 (sym e ∙ h.1.0) to from)
-exact_set_as Many t u h e to from = (sym e ∙ h.0, many_as (HasExactString t) (HasExactString u) h.1 to)
+exact_set_as Many t u h e to from = (sym e ∙ h.0, many_as (MayMatch true t) (MayMatch true u) h.1 to)
 exact_set_as Infinite t u h e to from = sym e ∙ h
 
 pub exact_set_one : (c : ExactSet) (t : Tree) → IsExactSetOf c t → IsExactSetOf c (cat (more t none))
@@ -61,14 +62,14 @@ many_by P R f many once to = (
 )
 
 -- a tree that has more than twenty strings does not have few
-many_not_few : (t : Tree) → HasMany (HasExactString t) → HaveFewExactStrings (more t none) → ⊥
+many_not_few : (t : Tree) → HasMany (MayMatch true t) → HaveFewExactStrings (more t none) → ⊥
 many_not_few t many few =
     let fits = different_within many.0 few.1.1.0 many.2 (λ w m. few.1.1.2 w (concatenates_one t w (many.3 w m))) in
     absurd (omega (arith, fits, many.1, few.1.1.1))
 
 -- the strings of the set, where it has them
 pub exact_set_has : (c : ExactSet) (t : Tree) → IsExactSetOf c t → is_finite t ≡ true →
-    ((strings : Vec ExactString Global) → c ≡ Strings strings → ⊥) → HasMany (HasExactString t)
+    ((strings : Vec ExactString Global) → c ≡ Strings strings → ⊥) → HasMany (MayMatch true t)
 exact_set_has (Strings strings) t h f other = absurd (other strings refl)
 exact_set_has Many t h f other = h.1
 exact_set_has Infinite t h f other = absurd (both_ways (is_finite t) h f)
@@ -85,30 +86,30 @@ pub tells_empty : (ws : List (List ℕ)) (t : Tree) (n : ℕ) → EnumeratesTree
 tells_empty ws t zero s e = no_string_of ws t s (sym e)
 tells_empty ws t (suc n) s e = subst (λ b. TellsEmpty b t) (sym (eqb-suc-zero n)) (a_string_of ws t s (omega (arith, e)))
 
-pub a_string_of_many : (t : Tree) → HasMany (HasExactString t) → HasAString t
-a_string_of_many t many = one_of_many (HasExactString t) many
+pub a_string_of_many : (t : Tree) → HasMany (MayMatch true t) → HasAString t
+a_string_of_many t many = one_of_many (MayMatch true t) many
 
 -- the concatenations of no string, and of more than twenty
 pub no_concatenation : (ws : List (List ℕ)) (t : Tree) (ts : Trees) → ws ≡ [] → is_finite t ≡ true → are_finite ts
     ≡ true → HasNoString t ⊎ HasNoString (cat ts) → EnumeratesTree ws (cat (more t ts))
 no_concatenation ws t ts e f g bare =
-    let enumeration : IsEnumeration [] (HasExactString (cat (more t ts))) = record {
+    let enumeration : IsEnumeration [] (MayMatch true (cat (more t ts))) = record {
       right = λ w m. absurd (no_member w m);
       different = refl;
       whole = λ le w j. absurd (elim bare [ inl a ↦ a j.0 j.2 | inr b ↦ b j.1 j.3 ]);
     } in (
       and_from (is_finite t) (are_finite ts) f g,
-      subst (λ (xs : List (List ℕ)). IsEnumeration xs (HasExactString (cat (more t ts)))) (sym e) enumeration,
+      subst (λ (xs : List (List ℕ)). IsEnumeration xs (MayMatch true (cat (more t ts)))) (sym e) enumeration,
     )
 
-pub many_prefixes : (t : Tree) (ts : Trees) → HasMany (HasExactString t) → HasAString (cat ts) → HasMany (HasExactString (cat (more t ts)))
+pub many_prefixes : (t : Tree) (ts : Trees) → HasMany (MayMatch true t) → HasAString (cat ts) → HasMany (MayMatch true (cat (more t ts)))
 many_prefixes t ts many one =
-    many_by (HasExactString t) (HasExactString (cat (more t ts))) (λ w. w ++ one.0) many
+    many_by (MayMatch true t) (MayMatch true (cat (more t ts))) (λ w. w ++ one.0) many
     (λ a b e. append_cancel_right a b one.0 e) (λ w h. (w, one.0, h, one.1, refl))
 
-pub many_suffixes : (t : Tree) (ts : Trees) → HasAString t → HasMany (HasExactString (cat ts)) → HasMany (HasExactString (cat (more t ts)))
+pub many_suffixes : (t : Tree) (ts : Trees) → HasAString t → HasMany (MayMatch true (cat ts)) → HasMany (MayMatch true (cat (more t ts)))
 many_suffixes t ts one many =
-    many_by (HasExactString (cat ts)) (HasExactString (cat (more t ts))) (λ w. one.0 ++ w) many
+    many_by (MayMatch true (cat ts)) (MayMatch true (cat (more t ts))) (λ w. one.0 ++ w) many
     (λ a b e. append_cancel_left one.0 a b e) (λ w h. (one.0, w, one.1, h, refl))
 
 -- one more iteration
@@ -120,8 +121,8 @@ pub exact_set_iteration : (c : ExactSet) (t : Tree) (n m : ℕ) → is_finite t 
 exact_set_iteration c t n m f le h =
     exact_set_as c (cat (pair t (rep t n (Some m)))) (rep t (n + 1) (Some (m + 1))) h
     (pair_finite t (rep t n (Some m)) f (rep_finite t n m f le) ∙ sym (rep_finite t (n + 1) (m + 1) f (omega arith)))
-    (λ w j. longer_iterations (HasExactString t) n m w (j.0, j.1, j.2, exact_of_one (rep t n (Some m)) j.1 j.3, j.4))
-    (λ w r. let l = iterations_longer (HasExactString t) n m w r.0 r.1 r.2 r.3 in
+    (λ w j. longer_iterations (MayMatch true t) n m w (j.0, j.1, j.2, exact_of_one (rep t n (Some m)) j.1 j.3, j.4))
+    (λ w r. let l = iterations_longer (MayMatch true t) n m w r.0 r.1 r.2 r.3 in
     (l.0, l.1, l.2, concatenates_one (rep t n (Some m)) l.1 l.3, l.4))
 
 pub exact_set_iterations : (c : ExactSet) (t : Tree) (k : ℕ) → is_finite t ≡ true →
@@ -133,17 +134,17 @@ exact_set_iterations c t k f h =
     ∙ sym (rep_finite t 0 (k + 1) f (omega arith)))
     (λ w j. elim j [
       | inl a ↦
-          let l = longer_iterations (HasExactString t) 0 k w (a.0, a.1, a.2, exact_of_one r a.1 a.3, a.4) in
+          let l = longer_iterations (MayMatch true t) 0 k w (a.0, a.1, a.2, exact_of_one r a.1 a.3, a.4) in
           (l.0, omega arith, l.2, l.3)
       | inr b ↦ elim b [ inl e ↦ (0, omega arith, omega arith, e) | inr n ↦ absurd n ]
     ])
     (λ w q. by w q.0 q.2 q.3)
   where
-    by : (w : List ℕ) (n : ℕ) → n ≤ k + 1 → IsRepeated (HasExactString t) n w →
-        SomeHasExactString (pair (cat (pair t (rep t 0 (Some k)))) empty) w
+    by : (w : List ℕ) (n : ℕ) → n ≤ k + 1 → IsRepeated (MayMatch true t) n w →
+        MayMatchBranch true (pair (cat (pair t (rep t 0 (Some k)))) empty) w
     by w zero le q = inr (inl q)
     by w (suc n) le q =
-        let l = iterations_longer (HasExactString t) 0 k w (suc n) (omega arith) le q in
+        let l = iterations_longer (MayMatch true t) 0 k w (suc n) (omega arith) le q in
         inl (l.0, l.1, l.2, concatenates_one (rep t 0 (Some k)) l.1 l.3, l.4)
 
 -- one more of i iterations, at most o of them optional

@@ -8,7 +8,8 @@ use Rattle.std.proofs.lemmas.List.{drop-drop}
 use Rattle.cs_syntax.specs.Matching.{Tree, Trees, empty, one_of, one_char, cat, alt, rep, line_start, line_end, word_edge, not_word_edge, none, more, Chain, MatchesSpan, MatchesSequence, MatchesBranch}
 use Rattle.cs_trigram.specs.Query.{HasTrigrams}
 use Rattle.cs_trigram.specs.ExactRuns.{HasEachRun, HasWhole, HasRunsWithin, AllHaveRunsWithin, HasExactRuns, SomeHasExactRuns}
-use Rattle.cs_trigram.specs.ExactStrings.{IsRepeated, is_finite, are_finite, HasExactString, ConcatenatesExactStrings, SomeHasExactString}
+use Rattle.cs_trigram.specs.MayMatch.{IsRepeated, MayMatch, MayMatchSequence, MayMatchBranch}
+use Rattle.cs_trigram.specs.ExactStrings.{is_finite, are_finite}
 use Rattle.cs_trigram.proofs.LeadingRunLemmas.{concatenates_one, concatenates_split}
 use Rattle.cs_trigram.proofs.SubstringTrigramLemmas.{has_prefix, has_suffix}
 
@@ -46,7 +47,7 @@ module _ (s : List ℕ) where
       (long, (slice_range s i c.0, slice_range s c.0 j, a.1, b.1, part_split s i c.0 j a.0 b.0))
 
   mutual
-    pub match_is_exact : (t : Tree) (i j : ℕ) → is_finite t ≡ true → MatchesSpan s t i j → (i ≤ j) × HasExactString t (slice_range s i j)
+    pub match_is_exact : (t : Tree) (i j : ℕ) → is_finite t ≡ true → MatchesSpan s t i j → (i ≤ j) × MayMatch true t (slice_range s i j)
     match_is_exact empty i j p h =
         let same : i ≤ j = omega (arith, h) in (same, ap (slice_range s i) (sym h) ∙ part_empty s i)
     match_is_exact (one_of set) i j p h =
@@ -58,7 +59,7 @@ module _ (s : List ℕ) where
     match_is_exact (rep x n None) i j p h = (cc)
     match_is_exact (rep x n (Some m)) i j p h =
         let q = and_parts (nat_le n m) (is_finite x) p in
-        let r = iterations (HasExactString x) (MatchesSpan s x) (λ a b k. match_is_exact x a b q.1 k) h.0 i j h.3 in
+        let r = iterations (MayMatch true x) (MatchesSpan s x) (λ a b k. match_is_exact x a b q.1 k) h.0 i j h.3 in
         (r.0, (h.0, h.1, h.2, r.1))
     match_is_exact line_start i j p h = at_assertion i j (h.0 ∙ sym h.1)
     match_is_exact line_end i j p h = at_assertion i j (h.0 ∙ sym h.1)
@@ -66,7 +67,7 @@ module _ (s : List ℕ) where
     match_is_exact not_word_edge i j p h = at_assertion i j h.0
 
     pub match_of_all_is_exact : (ts : Trees) (i j : ℕ) → are_finite ts ≡ true → MatchesSequence s ts i j →
-        (i ≤ j) × ConcatenatesExactStrings ts (slice_range s i j)
+        (i ≤ j) × MayMatchSequence true ts (slice_range s i j)
     match_of_all_is_exact none i j p h =
         let same : i ≤ j = omega (arith, h) in (same, ap (slice_range s i) (sym h) ∙ part_empty s i)
     match_of_all_is_exact (more t ts) i j p h =
@@ -77,7 +78,7 @@ module _ (s : List ℕ) where
         (long, (slice_range s i h.0, slice_range s h.0 j, a.1, b.1, part_split s i h.0 j a.0 b.0))
 
     pub match_of_some_is_exact : (ts : Trees) (i j : ℕ) → are_finite ts ≡ true → MatchesBranch s ts i j →
-        (i ≤ j) × SomeHasExactString ts (slice_range s i j)
+        (i ≤ j) × MayMatchBranch true ts (slice_range s i j)
     match_of_some_is_exact none i j p h = absurd h
     match_of_some_is_exact (more t ts) i j p h =
         let q = and_parts (is_finite t) (are_finite ts) p in
@@ -92,29 +93,28 @@ matches_prefix s none b i j h = (i, refl)
 matches_prefix s (more t a) b i j h = let r = matches_prefix s a b h.0 j h.2 in (r.0, (h.0, h.1, r.1))
 
 module _ (set : ℕ → Bool) where
-  runs_found : (ts : Trees) (w : List ℕ) → ConcatenatesExactStrings ts w → HasTrigrams set w → HasEachRun set ts
+  runs_found : (ts : Trees) (w : List ℕ) → MayMatchSequence true ts w → HasTrigrams set w → HasEachRun set ts
   runs_found ts w j h before run after e few =
-      let first = concatenates_split before (append run after) w (subst (λ (x : Trees). ConcatenatesExactStrings x w) e j) in
+      let first = concatenates_split before (append run after) w (subst (λ (x : Trees). MayMatchSequence true x w) e j) in
       let second = concatenates_split run after first.1 first.3 in
       let rest = has_suffix set first.0 first.1 (subst (HasTrigrams set) first.4 h) in
       (second.0, second.2, has_prefix set second.0 second.1 (subst (HasTrigrams set) second.4 rest))
 
-  exact_has_whole : (t : Tree) (w : List ℕ) → HasExactString t w → HasTrigrams set w → HasWhole set t
+  exact_has_whole : (t : Tree) (w : List ℕ) → MayMatch true t w → HasTrigrams set w → HasWhole set t
   exact_has_whole t w s h few = (w, concatenates_one t w s, h)
 
   mutual
-    pub exact_match_has_runs_within : (t : Tree) (w : List ℕ) → HasExactString t w → HasTrigrams set w → HasRunsWithin set t
+    pub exact_match_has_runs_within : (t : Tree) (w : List ℕ) → MayMatch true t w → HasTrigrams set w → HasRunsWithin set t
     exact_match_has_runs_within (cat ts) w s h = (runs_found ts w s h, concatenated_within ts w s h)
     exact_match_has_runs_within (alt ts) w s h = some_exact_runs ts w s h
-    exact_match_has_runs_within (rep x n None) w s h = absurd s
-    exact_match_has_runs_within (rep x zero (Some m)) w s h = tt
-    exact_match_has_runs_within (rep x (suc n) (Some m)) w s h =
-        let r = first_iteration (HasExactString x) n s.0 w s.1 s.3 in
+    exact_match_has_runs_within (rep x zero m) w s h = tt
+    exact_match_has_runs_within (rep x (suc n) m) w s h =
+        let r = first_iteration (MayMatch true x) n s.0 w s.1 s.3 in
         let has = has_prefix set r.0 r.1 (subst (HasTrigrams set) r.3 h) in
         (exact_has_whole x r.0 r.2 has, exact_match_has_runs_within x r.0 r.2 has)
     exact_match_has_runs_within leaf w s h = tt
 
-    concatenated_within : (ts : Trees) (w : List ℕ) → ConcatenatesExactStrings ts w → HasTrigrams set w → AllHaveRunsWithin set ts
+    concatenated_within : (ts : Trees) (w : List ℕ) → MayMatchSequence true ts w → HasTrigrams set w → AllHaveRunsWithin set ts
     concatenated_within none w s h = tt
     concatenated_within (more t ts) w s h =
         let parts = subst (HasTrigrams set) s.4 h in (
@@ -123,10 +123,10 @@ module _ (set : ℕ → Bool) where
               (has_suffix set s.0 s.1 parts),
         )
 
-    some_exact_runs : (ts : Trees) (w : List ℕ) → SomeHasExactString ts w → HasTrigrams set w → SomeHasExactRuns set ts
+    some_exact_runs : (ts : Trees) (w : List ℕ) → MayMatchBranch true ts w → HasTrigrams set w → SomeHasExactRuns set ts
     some_exact_runs none w s h = absurd s
     some_exact_runs (more t ts) w s h =
         elim s [ inl a ↦ inl (exact_has_whole t w a h, exact_match_has_runs_within t w a h) | inr b ↦ inr (some_exact_runs ts w b h) ]
 
-  pub exact_match_has_runs : (t : Tree) (w : List ℕ) → HasExactString t w → HasTrigrams set w → HasExactRuns set t
+  pub exact_match_has_runs : (t : Tree) (w : List ℕ) → MayMatch true t w → HasTrigrams set w → HasExactRuns set t
   exact_match_has_runs t w s h = (exact_has_whole t w s h, exact_match_has_runs_within t w s h)

@@ -1,11 +1,10 @@
 -- The texts that trees may match.
 use Rattle.std.proofs.Common.{◌≡◌, ℕ, zero, suc, ◌+◌, ◌<◌, List, [], ◌∷◌, ◌++◌, length, refl, sym, ◌∙◌, ap, subst, inl, inr, arith, append_assoc, length-append}
-use Rattle.std.specs.Prelude.{Option, Some, None, encode_utf8}
+use Rattle.std.specs.Prelude.{Bool, true, false, Option, encode_utf8}
 use Rattle.std.proofs.lemmas.List.{append-nil}
 use Rattle.cs_syntax.specs.TreeList.{append}
 use Rattle.cs_syntax.specs.Matching.{Tree, Trees, one_of, one_char, cat, alt, rep, none, more}
-use Rattle.cs_trigram.specs.ExactStrings.{IsRepeated, HasExactString, ConcatenatesExactStrings, SomeHasExactString}
-use Rattle.cs_trigram.specs.MayMatch.{MayMatch, MayMatchSequence, MayMatchBranch, HasMembers, HaveMembers}
+use Rattle.cs_trigram.specs.MayMatch.{IsRepeated, MayMatch, MayMatchSequence, MayMatchBranch, HasMembers, HaveMembers}
 
 -- the string occurs in the text
 abbrev pub OccursIn : List ℕ → List ℕ → Type 0
@@ -48,7 +47,7 @@ repeated_as P Q to (suc k) text r = (r.0, r.1, to r.0 r.2, repeated_as P Q to k 
 -- ---- some text, if each set has a member
 
 mutual
-  pub text_of : (t : Tree) → HasMembers t → (text : List ℕ) × MayMatch t text
+  pub text_of : (t : Tree) → HasMembers t → (text : List ℕ) × MayMatch false t text
   text_of (one_of set) h = (h.0 ∷ [], (h.0, h.1, refl))
   text_of (one_char ranges) h = (encode_utf8 h.0, (h.0, h.1, refl))
   text_of (cat ts) h = text_of_all ts h
@@ -56,11 +55,11 @@ mutual
   text_of (alt (more t ts)) h = let r = text_of t h.0 in (r.0, inl r.1)
   text_of (rep x n m) h =
       let r = text_of x h in
-      let w = repeated_text (MayMatch x) r.0 r.1 n in
-      (w.0, (n, omega arith, w.1))
+      let w = repeated_text (MayMatch false x) r.0 r.1 n in
+      (w.0, (n, omega arith, tt, w.1))
   text_of leaf h = ([], refl)
 
-  pub text_of_all : (ts : Trees) → HaveMembers ts → (text : List ℕ) × MayMatchSequence ts text
+  pub text_of_all : (ts : Trees) → HaveMembers ts → (text : List ℕ) × MayMatchSequence false ts text
   text_of_all none h = ([], refl)
   text_of_all (more t ts) h =
       let r = text_of t h.0 in
@@ -74,18 +73,18 @@ branches_have_members (more t ts) h = h
 -- ---- exact strings
 
 mutual
-  pub exact_may_match : (t : Tree) (w : List ℕ) → HasExactString t w → MayMatch t w
+  pub exact_may_match : (t : Tree) (w : List ℕ) → MayMatch true t w → MayMatch false t w
   exact_may_match (cat ts) w h = exact_may_match_all ts w h
   exact_may_match (alt ts) w h = exact_may_match_some ts w h
-  exact_may_match (rep x n None) w h = absurd h
-  exact_may_match (rep x n (Some m)) w h = (h.0, h.1, repeated_as (HasExactString x) (MayMatch x) (λ v e. exact_may_match x v e) h.0 w h.3)
+  exact_may_match (rep x n m) w h =
+      (h.0, h.1, tt, repeated_as (MayMatch true x) (MayMatch false x) (λ v e. exact_may_match x v e) h.0 w h.3)
   exact_may_match leaf w h = h
 
-  pub exact_may_match_all : (ts : Trees) (w : List ℕ) → ConcatenatesExactStrings ts w → MayMatchSequence ts w
+  pub exact_may_match_all : (ts : Trees) (w : List ℕ) → MayMatchSequence true ts w → MayMatchSequence false ts w
   exact_may_match_all none w h = h
   exact_may_match_all (more t ts) w h = (h.0, h.1, exact_may_match t h.0 h.2, exact_may_match_all ts h.1 h.3, h.4)
 
-  pub exact_may_match_some : (ts : Trees) (w : List ℕ) → SomeHasExactString ts w → MayMatchBranch ts w
+  pub exact_may_match_some : (ts : Trees) (w : List ℕ) → MayMatchBranch true ts w → MayMatchBranch false ts w
   exact_may_match_some none w h = absurd h
   exact_may_match_some (more t ts) w h = elim h [ inl a ↦ inl (exact_may_match t w a) | inr b ↦ inr (exact_may_match_some ts w b) ]
 
@@ -95,38 +94,39 @@ pub members_of_rest : (a b : Trees) → HaveMembers (append a b) → HaveMembers
 members_of_rest none b h = h
 members_of_rest (more t a) b h = members_of_rest a b h.1
 
-pub sequence_of_both : (a b : Trees) (u v : List ℕ) → MayMatchSequence a u → MayMatchSequence b v → MayMatchSequence (append a b) (u ++ v)
-sequence_of_both none b u v x y = subst (λ (w : List ℕ). MayMatchSequence b (w ++ v)) (sym x) y
-sequence_of_both (more t a) b u v x y =
-    (x.0, x.1 ++ v, x.2, sequence_of_both a b x.1 v x.3 y, ap (λ (w : List ℕ). w ++ v) x.4 ∙ append_assoc x.0 x.1 v)
+pub sequence_of_both : (bounded : Bool) (a b : Trees) (u v : List ℕ) → MayMatchSequence bounded a u → MayMatchSequence bounded b v →
+    MayMatchSequence bounded (append a b) (u ++ v)
+sequence_of_both bounded none b u v x y = subst (λ (w : List ℕ). MayMatchSequence bounded b (w ++ v)) (sym x) y
+sequence_of_both bounded (more t a) b u v x y =
+    (x.0, x.1 ++ v, x.2, sequence_of_both bounded a b x.1 v x.3 y, ap (λ (w : List ℕ). w ++ v) x.4 ∙ append_assoc x.0 x.1 v)
 
 -- an exact string of a leading run occurs in some text of the sequence
-pub run_within : (ts run after : Trees) (w : List ℕ) → ts ≡ append run after → HaveMembers ts → ConcatenatesExactStrings run w →
-    (whole : List ℕ) × MayMatchSequence ts whole × OccursIn w whole
+pub run_within : (ts run after : Trees) (w : List ℕ) → ts ≡ append run after → HaveMembers ts → MayMatchSequence true run w →
+    (whole : List ℕ) × MayMatchSequence false ts whole × OccursIn w whole
 run_within ts run after w is h exact =
     let rest = text_of_all after (members_of_rest run after (subst HaveMembers is h)) in (
       w ++ rest.0,
-      subst (λ (x : Trees). MayMatchSequence x (w ++ rest.0)) (sym is)
-          (sequence_of_both run after w rest.0 (exact_may_match_all run w exact) rest.1),
+      subst (λ (x : Trees). MayMatchSequence false x (w ++ rest.0)) (sym is)
+          (sequence_of_both false run after w rest.0 (exact_may_match_all run w exact) rest.1),
       ([], rest.0, refl),
     )
 
 -- a text of the last parts occurs in some text of the sequence, and so does one of the first part
-pub rest_within : (t : Tree) (ts : Trees) (w : List ℕ) → HasMembers t → MayMatchSequence ts w →
-    (whole : List ℕ) × MayMatchSequence (more t ts) whole × OccursIn w whole
+pub rest_within : (t : Tree) (ts : Trees) (w : List ℕ) → HasMembers t → MayMatchSequence false ts w →
+    (whole : List ℕ) × MayMatchSequence false (more t ts) whole × OccursIn w whole
 rest_within t ts w h m =
     let first = text_of t h in
     (first.0 ++ w, (first.0, w, first.1, m, refl), (first.0, [], ap (λ (x : List ℕ). first.0 ++ x) (sym (append-nil w))))
 
-pub first_within : (t : Tree) (ts : Trees) (w : List ℕ) → HaveMembers ts → MayMatch t w →
-    (whole : List ℕ) × MayMatchSequence (more t ts) whole × OccursIn w whole
+pub first_within : (t : Tree) (ts : Trees) (w : List ℕ) → HaveMembers ts → MayMatch false t w →
+    (whole : List ℕ) × MayMatchSequence false (more t ts) whole × OccursIn w whole
 first_within t ts w h m =
     let rest = text_of_all ts h in
     (w ++ rest.0, (w, rest.0, m, rest.1, refl), ([], rest.0, refl))
 
 -- a text of an iteration occurs in some text of the repeat
-pub iteration_within : (x : Tree) (n : ℕ) (m : Option ℕ) (w : List ℕ) → MayMatch x w →
-    (whole : List ℕ) × MayMatch (rep x n m) whole × OccursIn w whole
+pub iteration_within : (x : Tree) (n : ℕ) (m : Option ℕ) (w : List ℕ) → MayMatch false x w →
+    (whole : List ℕ) × MayMatch false (rep x n m) whole × OccursIn w whole
 iteration_within x n m w is =
-    let rest = repeated_text (MayMatch x) w is n in
-    (w ++ rest.0, (suc n, omega arith, (w, rest.0, is, rest.1, refl)), ([], rest.0, refl))
+    let rest = repeated_text (MayMatch false x) w is n in
+    (w ++ rest.0, (suc n, omega arith, tt, (w, rest.0, is, rest.1, refl)), ([], rest.0, refl))

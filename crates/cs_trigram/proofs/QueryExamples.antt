@@ -10,7 +10,7 @@ use Rattle.cs_trigram.proofs.MemberLemmas.{first_member, later_member, member_ca
 use Rattle.cs_trigram.specs.Trigram.{has, tri}
 use Rattle.cs_trigram.specs.MayMatch.{MayMatch, MayMatchSequence, HasMembers, MentionsTrigramsOf}
 use Rattle.cs_trigram.specs.Query.{HasTrigrams, LosesNoLine}
-use Rattle.cs_trigram.specs.ExactStrings.{is_finite, HasExactString, ConcatenatesExactStrings, HaveFewExactStrings}
+use Rattle.cs_trigram.specs.ExactStrings.{is_finite, HaveFewExactStrings}
 use Rattle.cs_trigram.specs.ExactQuery.{HasFewExactStrings, RequiresExactString}
 use Rattle.cs_trigram.specs.ExactRuns.{HasExactRuns, IsSelective}
 use Rattle.cs_trigram.specs.declared.queries.Query.TheVariants.{All, Tri}
@@ -37,16 +37,16 @@ abbrev letters : List ℕ → Trees
 letters [] = none
 letters (b ∷ text) = more (one_of (only b)) (letters text)
 
-concatenates : (text : List ℕ) → ConcatenatesExactStrings (letters text) text
-concatenates [] = refl
-concatenates (b ∷ text) = (b ∷ [], text, (b, has_it b, refl), concatenates text, refl)
+concatenates : (bounded : Bool) (text : List ℕ) → MayMatchSequence bounded (letters text) text
+concatenates bounded [] = refl
+concatenates bounded (b ∷ text) = (b ∷ [], text, (b, has_it b, refl), concatenates bounded text, refl)
 
-concatenates_no_other : (text string : List ℕ) → ConcatenatesExactStrings (letters text) string → string ≡ text
-concatenates_no_other [] string j = j
-concatenates_no_other (b ∷ text) string j =
+concatenates_no_other : (bounded : Bool) (text string : List ℕ) → MayMatchSequence bounded (letters text) string → string ≡ text
+concatenates_no_other bounded [] string j = j
+concatenates_no_other bounded (b ∷ text) string j =
     let letter = j.2 in
     let first : j.0 ≡ b ∷ [] = letter.2 ∙ ap (λ n. n ∷ []) (has_no_other b letter.0 letter.1) in
-    let rest = concatenates_no_other text j.1 j.3 in
+    let rest = concatenates_no_other bounded text j.1 j.3 in
     j.4 ∙ (λ i. first i ++ rest i)
 
 -- ---- a literal string has the exact run of its trigrams
@@ -58,8 +58,8 @@ hello_is_a_run : HaveFewExactStrings (letters hello)
 hello_is_a_run = (
   refl,
   (
-    (hello, concatenates hello),
-    (hello ∷ [], omega arith, λ string j. first_member string hello [] (concatenates_no_other hello string j)),
+    (hello, concatenates true hello),
+    (hello ∷ [], omega arith, λ string j. first_member string hello [] (concatenates_no_other true hello string j)),
   ),
 )
 
@@ -69,8 +69,8 @@ trigrams_of_hello = refl
 exact_runs_of_hello : (set : ℕ → Bool) → HasExactRuns set (cat (letters hello)) ↔ (list_all set (6646892 ∷ 6841708 ∷ 7105647 ∷ []) ≡ true)
 exact_runs_of_hello set = (
   λ has_run. let has_runs = has_run.1.0 none (letters hello) none refl hello_is_a_run in
-      subst (HasTrigrams set) (concatenates_no_other hello has_runs.0 has_runs.1) has_runs.2,
-  λ known. exact_match_has_runs set (cat (letters hello)) hello (concatenates hello) known,
+      subst (HasTrigrams set) (concatenates_no_other true hello has_runs.0 has_runs.1) has_runs.2,
+  λ known. exact_match_has_runs set (cat (letters hello)) hello (concatenates true hello) known,
 )
 
 -- ---- `(ab|cd)ef`: a query that requires nothing is not selective
@@ -78,15 +78,15 @@ exact_runs_of_hello set = (
 abbrev ab_or_cd_then_ef : Trees
 ab_or_cd_then_ef = more (alt (more (cat (letters (codes "ab"))) (more (cat (letters (codes "cd"))) none))) (letters (codes "ef"))
 
-alternation_concatenates : (string : List ℕ) → ConcatenatesExactStrings ab_or_cd_then_ef string →
+alternation_concatenates : (string : List ℕ) → MayMatchSequence true ab_or_cd_then_ef string →
     is_among (codes "abef" ∷ codes "cdef" ∷ []) string ≡ true
 alternation_concatenates string j =
-    let suffix = concatenates_no_other (codes "ef") j.1 j.3 in
+    let suffix = concatenates_no_other true (codes "ef") j.1 j.3 in
     elim j.2 [
-      | inl first ↦ let prefix = concatenates_no_other (codes "ab") j.0 first in first_member string (codes "abef")
+      | inl first ↦ let prefix = concatenates_no_other true (codes "ab") j.0 first in first_member string (codes "abef")
           (codes "cdef" ∷ []) (j.4 ∙ (λ i. prefix i ++ suffix i))
       | inr rest ↦ elim rest [
-        | inl second ↦ let prefix = concatenates_no_other (codes "cd") j.0 second in later_member string (codes "abef")
+        | inl second ↦ let prefix = concatenates_no_other true (codes "cd") j.0 second in later_member string (codes "abef")
             (codes "cdef" ∷ []) (first_member string (codes "cdef") [] (j.4 ∙ (λ i. prefix i ++ suffix i)))
         | inr neither ↦ absurd neither
       ]
@@ -96,7 +96,7 @@ alternation_is_a_run : HaveFewExactStrings ab_or_cd_then_ef
 alternation_is_a_run = (
   refl,
   (
-    (codes "abef", (codes "ab", codes "ef", inl (concatenates (codes "ab")), concatenates (codes "ef"), refl)),
+    (codes "abef", (codes "ab", codes "ef", inl (concatenates true (codes "ab")), concatenates true (codes "ef"), refl)),
     (codes "abef" ∷ codes "cdef" ∷ [], omega arith, alternation_concatenates),
   ),
 )
@@ -138,29 +138,21 @@ no_line_goes_on line i j m = omega (arith, m.1.1, m.2.1.0)
 no_line_matches : (line : List ℕ) → HasMatch past_a_line line → ⊥
 no_line_matches line m = no_line_goes_on line m.4.0 m.1 m.4.2
 
-letters_may_match : (text : List ℕ) → MayMatchSequence (letters text) text
-letters_may_match [] = refl
-letters_may_match (b ∷ text) = (b ∷ [], text, (b, has_it b, refl), letters_may_match text, refl)
-
-abcd_may_match : MayMatch past_a_line (codes "abcd")
+abcd_may_match : MayMatch false past_a_line (codes "abcd")
 abcd_may_match =
-    let d_may_match = letters_may_match (codes "d") in
-    (codes "abc", codes "d", letters_may_match (codes "abc"), ([], codes "d", refl, d_may_match, refl), refl)
+    let d_may_match = concatenates false (codes "d") in
+    (codes "abc", codes "d", concatenates false (codes "abc"), ([], codes "d", refl, d_may_match, refl), refl)
 
--- two iterations of `a?` may match
-aa_may_match : MayMatch (rep (one_of (only 97)) 0 (Some 1)) (codes "aa")
-aa_may_match = (2, omega arith, (codes "a", codes "a", (97, refl, refl), (codes "a", [], (97, refl, refl), refl, refl), refl))
+-- two iterations of `a?` may match, unless repeats are bounded
+aa_may_match : MayMatch false (rep (one_of (only 97)) 0 (Some 1)) (codes "aa")
+aa_may_match = (2, omega arith, tt, (codes "a", codes "a", (97, refl, refl), (codes "a", [], (97, refl, refl), refl, refl), refl))
 
 -- ---- `abc`: its query may not mention `zzz`
-
-letters_are_exact : (text string : List ℕ) → MayMatchSequence (letters text) string → ConcatenatesExactStrings (letters text) string
-letters_are_exact [] string j = j
-letters_are_exact (b ∷ text) string j = (j.0, j.1, j.2, letters_are_exact text j.1 j.3, j.4)
 
 abc_has_no_other_trigram : MentionsTrigramsOf (Tri 8026746) (cat (letters (codes "abc"))) → ⊥
 abc_has_no_other_trigram only =
     let zzz = only ((97, refl), ((98, refl), ((99, refl), tt))) 8026746 (mentions-Tri 8026746 8026746) in
-    let is = concatenates_no_other (codes "abc") zzz.0 (letters_are_exact (codes "abc") zzz.0 zzz.1) in
+    let is = concatenates_no_other false (codes "abc") zzz.0 zzz.1 in
     true≢false (sym (subst (λ (text : List ℕ). has (tri text) 8026746 ≡ true) is zzz.2))
 
 -- a set without a member, and an alternation without a branch
@@ -198,10 +190,10 @@ euro_in_utf8 : encode_utf8 8364 ≡ euro_bytes
 unfolding lib.Utf8.encode
 euro_in_utf8 = refl
 
-euro_is_an_exact_string : HasExactString euro euro_bytes
+euro_is_an_exact_string : MayMatch true euro euro_bytes
 euro_is_an_exact_string = (8364, refl, sym euro_in_utf8)
 
-euro_is_the_only_exact_string : (string : List ℕ) → HasExactString euro string → string ≡ euro_bytes
+euro_is_the_only_exact_string : (string : List ℕ) → MayMatch true euro string → string ≡ euro_bytes
 euro_is_the_only_exact_string string w = w.2 ∙ ap encode_utf8 (same w.0 w.1) ∙ euro_in_utf8
   where
     same : (c : ℕ) → has_char ((8364, 8364) ∷ []) c ≡ true → c ≡ 8364

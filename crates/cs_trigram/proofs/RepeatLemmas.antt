@@ -1,6 +1,6 @@
 -- The exact strings of repeats.
 use Rattle.std.proofs.Common.{◌≡◌, ℕ, zero, suc, ◌+◌, ◌≤◌, List, [], ◌++◌, arith}
-use Rattle.cs_trigram.specs.ExactStrings.{IsRepeated}
+use Rattle.cs_trigram.specs.MayMatch.{IsRepeated}
 
 -- at least `least` iterations and at most `most`
 abbrev pub SomeIterations : (List ℕ → Type 0) → ℕ → ℕ → List ℕ → Type 0

@@ -1,5 +1,5 @@
 -- The query analysis: enumerations of exact strings up to twenty-one, and correct queries.
-use Rattle.std.specs.Prelude.{ℕ, ◌≡◌, ◌≤◌, ◌<◌, ◌&&◌, ◌++◌, ◌∷◌, [], Bool, true, not, List, length, map, nat_le, if◌then◌else◌, IsTrue}
+use Rattle.std.specs.Prelude.{false, ℕ, ◌≡◌, ◌≤◌, ◌<◌, ◌&&◌, ◌++◌, ◌∷◌, [], Bool, true, not, List, length, map, nat_le, if◌then◌else◌, IsTrue}
 use Rattle.cs_trigram.specs.TrigramSets.{trigram_count}
 use Rattle.cs_trigram.specs.MayMatch.{MayMatch, MayMatchBranch, HasMembers, HaveMembers, IsTrigramOf}
 use Rattle.cs_syntax.specs.TreeList.{append}
@@ -10,7 +10,7 @@ use Rattle.cs_syntax.specs.Matching.{Tree, Trees, none, more, cat, MatchesSpan, 
 use Rattle.cs_trigram.specs.Trigram.{tri}
 use Rattle.cs_trigram.specs.Query.{matches_set, mentions, HasTrigrams}
 use Rattle.cs_trigram.specs.ExactRuns.{HasRunsWithin, SomeHasExactRuns, IsSelective}
-use Rattle.cs_trigram.specs.ExactStrings.{HasExactString, HaveFewExactStrings, is_finite}
+use Rattle.cs_trigram.specs.ExactStrings.{HaveFewExactStrings, is_finite}
 use Rattle.cs_trigram.specs.ExactQuery.{HasFewExactStrings}
 use Rattle.cs_trigram.specs.declared.queries.Query.{Query}
 
@@ -59,14 +59,14 @@ pub record IsCorrect (query : Query) (t : Tree) : Type 0 where
   pub matching : (s : List ℕ) (set : ℕ → Bool) (i j : ℕ) → MatchesSpan s t i j → HasTrigrams set s →
       matches_set query set ≡ true
   pub selective : IsSelective query t
-  pub mentioned : AreTrigramsOf (mentions query) (HasMembers t) (MayMatch t)
+  pub mentioned : AreTrigramsOf (mentions query) (HasMembers t) (MayMatch false t)
 
 -- the same for the disjunction of the queries and the alternation of the trees
 pub record AreCorrect (queries : List Query) (ts : Trees) : Type 0 where
   pub matching : (s : List ℕ) (set : ℕ → Bool) (i j : ℕ) → MatchesBranch s ts i j → HasTrigrams set s →
       some_matches queries set ≡ true
   pub selective : (set : ℕ → Bool) → some_matches queries set ≡ true → SomeHasExactRuns set ts
-  pub mentioned : AreTrigramsOf (some_mentions queries) (HaveMembers ts) (MayMatchBranch ts)
+  pub mentioned : AreTrigramsOf (some_mentions queries) (HaveMembers ts) (MayMatchBranch false ts)
 
 -- the query is correct for the tree, unless the exact strings of the tree are few
 abbrev pub IsMatchQuery : Query → Tree → Type 0
@@ -74,7 +74,7 @@ IsMatchQuery query t = (HasFewExactStrings t → ⊥) → IsCorrect query t
 
 -- the strings enumerate the exact strings of a finite tree
 abbrev pub EnumeratesTree : List (List ℕ) → Tree → Type 0
-EnumeratesTree strings t = (is_finite t ≡ true) × IsEnumeration strings (HasExactString t)
+EnumeratesTree strings t = (is_finite t ≡ true) × IsEnumeration strings (MayMatch true t)
 
 -- the strings are the exact strings of a finite tree, which are few
 pub record AreExactStrings (strings : List (List ℕ)) (t : Tree) : Type 0 where

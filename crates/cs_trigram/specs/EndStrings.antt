@@ -1,7 +1,7 @@
 -- Prefixes and suffixes of matches, as end strings. A suffix is stored reversed: both are the first bytes of a
 -- match, read forward or backward.
 -- Cox, "Regular Expression Matching with a Trigram Index".
-use Rattle.std.specs.Prelude.{ℕ, ◌≡◌, ◌<◌, ◌≤◌, ◌⊎◌, ◌++◌, ◌∷◌, [], Bool, true, List, Contains, length, take, reverse, map, not, ◌&&◌, ◌||◌, if◌then◌else◌, nat_eq, nat_le, bytes_eq, slice_range}
+use Rattle.std.specs.Prelude.{false, ℕ, ◌≡◌, ◌<◌, ◌≤◌, ◌⊎◌, ◌++◌, ◌∷◌, [], Bool, true, List, Contains, length, take, reverse, map, not, ◌&&◌, ◌||◌, if◌then◌else◌, nat_eq, nat_le, bytes_eq, slice_range}
 use Rattle.std.specs.List.{list_all, list_any}
 use Rattle.cs_syntax.specs.Matching.{Tree, Trees, MatchesSpan, MatchesBranch}
 use Rattle.cs_trigram.specs.MayMatch.{MayMatch, MayMatchBranch, HasMembers, HaveMembers}
@@ -111,8 +111,8 @@ pub record AreEndStringsOf (direction : Direction) (end_strings : List EndString
 -- the end strings are those of the tree, and of the alternation
 abbrev pub AreEndStrings : Direction → List EndString → Tree → Type 0
 AreEndStrings direction end_strings t =
-    AreEndStringsOf direction end_strings (λ s. MatchesSpan s t) (HasMembers t) (MayMatch t)
+    AreEndStringsOf direction end_strings (λ s. MatchesSpan s t) (HasMembers t) (MayMatch false t)
 
 abbrev pub AreEndStringsOfSome : Direction → List EndString → Trees → Type 0
 AreEndStringsOfSome direction end_strings ts =
-    AreEndStringsOf direction end_strings (λ s. MatchesBranch s ts) (HaveMembers ts) (MayMatchBranch ts)
+    AreEndStringsOf direction end_strings (λ s. MatchesBranch s ts) (HaveMembers ts) (MayMatchBranch false ts)

@@ -1,16 +1,17 @@
 -- The exact runs of a tree: runs of neighbouring parts with few exact strings. A query has to be at least as
 -- selective as they are.
 -- docs/PATTERNS.md, "Queries".
-use Rattle.std.specs.Prelude.{ℕ, zero, suc, ◌≡◌, ◌⊎◌, Bool, List, IsTrue}
+use Rattle.std.specs.Prelude.{true, ℕ, zero, suc, ◌≡◌, ◌⊎◌, Bool, List, IsTrue}
 use Rattle.cs_syntax.specs.TreeList.{append}
 use Rattle.cs_syntax.specs.Matching.{Tree, Trees, cat, alt, rep, none, more}
 use Rattle.cs_trigram.specs.Query.{matches_set, HasTrigrams}
-use Rattle.cs_trigram.specs.ExactStrings.{ConcatenatesExactStrings, HaveFewExactStrings}
+use Rattle.cs_trigram.specs.MayMatch.{MayMatchSequence}
+use Rattle.cs_trigram.specs.ExactStrings.{HaveFewExactStrings}
 use Rattle.cs_trigram.specs.declared.queries.Query.{Query}
 
 -- the set has the trigrams of an exact string of the run
 abbrev pub HasRun : (ℕ → Bool) → Trees → Type 0
-HasRun set ts = (string : List ℕ) × ConcatenatesExactStrings ts string × HasTrigrams set string
+HasRun set ts = (string : List ℕ) × MayMatchSequence true ts string × HasTrigrams set string
 
 -- the set has each run of neighbouring parts that has few exact strings
 abbrev pub HasEachRun : (ℕ → Bool) → Trees → Type 0

@@ -4,7 +4,8 @@ use Rattle.std.specs.Prelude.{ℕ, ◌≡◌, ◌<◌, ◌≤◌, true, false, I
 use Rattle.cs_tree.specs.Cover.{is_among}
 use Rattle.cs_tree.specs.Folders.{are_distinct}
 use Rattle.cs_syntax.specs.Matching.{Tree, Trees, none, more}
-use Rattle.cs_trigram.specs.ExactStrings.{is_finite, HasExactString}
+use Rattle.cs_trigram.specs.MayMatch.{MayMatch}
+use Rattle.cs_trigram.specs.ExactStrings.{is_finite}
 use Rattle.cs_trigram.specs.Analysis.{EnumeratesTree}
 use Rattle.cs_trigram.specs.declared.exact_set.ExactSet.{ExactSet}
 use Rattle.cs_trigram.specs.declared.exact_set.ExactSet.TheVariants.{Strings, Many, Infinite}
@@ -18,15 +19,15 @@ HasMany P =
 -- the exact set is that of the tree
 abbrev pub IsExactSetOf : ExactSet → Tree → Type 0
 IsExactSetOf (Strings strings) t = (length strings.items ≤ 20) × EnumeratesTree strings.items t
-IsExactSetOf Many t = (is_finite t ≡ true) × HasMany (HasExactString t)
+IsExactSetOf Many t = (is_finite t ≡ true) × HasMany (MayMatch true t)
 IsExactSetOf Infinite t = is_finite t ≡ false
 
 -- the tree has no exact string, and it has one
 abbrev pub HasNoString : Tree → Type 0
-HasNoString t = (string : List ℕ) → HasExactString t string → ⊥
+HasNoString t = (string : List ℕ) → MayMatch true t string → ⊥
 
 abbrev pub HasAString : Tree → Type 0
-HasAString t = (string : List ℕ) × HasExactString t string
+HasAString t = (string : List ℕ) × MayMatch true t string
 
 -- the answer tells whether the tree has no exact string
 abbrev pub TellsEmpty : Bool → Tree → Type 0

@@ -1,36 +1,40 @@
--- The texts that a tree may match: its matches if each assertion matched everywhere and no repeat had an upper
--- bound. A query mentions only their trigrams.
+-- The texts that a tree may match: its matches if each assertion matched everywhere. Without `bounded` no repeat has
+-- an upper bound either: a query mentions only trigrams of these texts.
 -- docs/PATTERNS.md, "Queries".
-use Rattle.std.specs.Prelude.{ℕ, ◌≡◌, ◌≤◌, ◌⊎◌, ◌++◌, ◌∷◌, [], true, List, encode_utf8}
+use Rattle.std.specs.Prelude.{false, ℕ, zero, suc, ◌≡◌, ◌≤◌, ◌⊎◌, ◌++◌, ◌∷◌, [], Bool, true, if◌then◌else◌, List, None, IfSome, encode_utf8}
 use Rattle.cs_syntax.specs.Characters.{has_char}
-use Rattle.cs_syntax.specs.Matching.{Tree, Trees, empty, one_of, one_char, cat, alt, rep, line_start, line_end, word_edge, not_word_edge, none, more, member}
+use Rattle.cs_syntax.specs.Matching.{Tree, Trees, one_of, one_char, cat, alt, rep, none, more, member}
 use Rattle.cs_trigram.specs.Trigram.{has, tri}
 use Rattle.cs_trigram.specs.Query.{mentions}
-use Rattle.cs_trigram.specs.ExactStrings.{IsRepeated}
 use Rattle.cs_trigram.specs.declared.queries.Query.{Query}
 
+-- the text is a concatenation of k texts with the property
+abbrev pub IsRepeated : (List ℕ → Type 0) → ℕ → List ℕ → Type 0
+IsRepeated P zero text = text ≡ []
+IsRepeated P (suc k) text =
+    (prefix suffix : List ℕ) × P prefix × IsRepeated P k suffix × (text ≡ prefix ++ suffix)
+
 abbrev mutual
-  pub MayMatch : Tree → List ℕ → Type 0
-  MayMatch (one_of set) text = (b : ℕ) × (member set b ≡ true) × (text ≡ b ∷ [])
-  MayMatch (one_char ranges) text = (c : ℕ) × (has_char ranges c ≡ true) × (text ≡ encode_utf8 c)
-  MayMatch (cat ts) text = MayMatchSequence ts text
-  MayMatch (alt ts) text = MayMatchBranch ts text
-  MayMatch (rep x n m) text = (k : ℕ) × (n ≤ k) × IsRepeated (MayMatch x) k text
-  MayMatch empty text = text ≡ []
-  MayMatch line_start text = text ≡ []
-  MayMatch line_end text = text ≡ []
-  MayMatch word_edge text = text ≡ []
-  MayMatch not_word_edge text = text ≡ []
+  pub MayMatch : Bool → Tree → List ℕ → Type 0
+  MayMatch bounded (one_of set) text = (b : ℕ) × (member set b ≡ true) × (text ≡ b ∷ [])
+  MayMatch bounded (one_char ranges) text = (c : ℕ) × (has_char ranges c ≡ true) × (text ≡ encode_utf8 c)
+  MayMatch bounded (cat ts) text = MayMatchSequence bounded ts text
+  MayMatch bounded (alt ts) text = MayMatchBranch bounded ts text
+  MayMatch bounded (rep x n m) text =
+      (k : ℕ) × (n ≤ k) × IfSome (if bounded then m else None) (λ most. k ≤ most)
+      × IsRepeated (MayMatch bounded x) k text
+  MayMatch bounded part text = text ≡ []
 
   -- the text is a concatenation of texts that the trees may match, in order
-  pub MayMatchSequence : Trees → List ℕ → Type 0
-  MayMatchSequence none text = text ≡ []
-  MayMatchSequence (more t ts) text =
-      (prefix suffix : List ℕ) × MayMatch t prefix × MayMatchSequence ts suffix × (text ≡ prefix ++ suffix)
+  pub MayMatchSequence : Bool → Trees → List ℕ → Type 0
+  MayMatchSequence bounded none text = text ≡ []
+  MayMatchSequence bounded (more t ts) text =
+      (prefix suffix : List ℕ) × MayMatch bounded t prefix × MayMatchSequence bounded ts suffix
+      × (text ≡ prefix ++ suffix)
 
-  pub MayMatchBranch : Trees → List ℕ → Type 0
-  MayMatchBranch none text = ⊥
-  MayMatchBranch (more t ts) text = MayMatch t text ⊎ MayMatchBranch ts text
+  pub MayMatchBranch : Bool → Trees → List ℕ → Type 0
+  MayMatchBranch bounded none text = ⊥
+  MayMatchBranch bounded (more t ts) text = MayMatch bounded t text ⊎ MayMatchBranch bounded ts text
 
 -- each set in the tree has a member, and each alternation a branch
 abbrev mutual
@@ -41,11 +45,7 @@ abbrev mutual
   HasMembers (alt none) = ⊥
   HasMembers (alt (more t ts)) = HasMembers t × HaveMembers ts
   HasMembers (rep x n m) = HasMembers x
-  HasMembers empty = Unit {0}
-  HasMembers line_start = Unit {0}
-  HasMembers line_end = Unit {0}
-  HasMembers word_edge = Unit {0}
-  HasMembers not_word_edge = Unit {0}
+  HasMembers part = Unit {0}
 
   pub HaveMembers : Trees → Type 0
   HaveMembers none = Unit {0}
@@ -58,4 +58,4 @@ IsTrigramOf P g = (text : List ℕ) × P text × (has (tri text) g ≡ true)
 -- each trigram that the query mentions is one of a text that the tree may match
 abbrev pub MentionsTrigramsOf : Query → Tree → Type 0
 MentionsTrigramsOf query tree =
-    HasMembers tree → (g : ℕ) → mentions query g ≡ true → IsTrigramOf (MayMatch tree) g
+    HasMembers tree → (g : ℕ) → mentions query g ≡ true → IsTrigramOf (MayMatch false tree) g

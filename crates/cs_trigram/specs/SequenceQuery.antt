@@ -1,5 +1,5 @@
 -- The query of a sequence.
-use Rattle.std.specs.Prelude.{Contains, ℕ, ◌≡◌, ◌+◌, ◌&&◌, ◌++◌, Bool, true, List, [], ◌∷◌, length, map, nat_lt, reverse}
+use Rattle.std.specs.Prelude.{false, Contains, ℕ, ◌≡◌, ◌+◌, ◌&&◌, ◌++◌, Bool, true, List, [], ◌∷◌, length, map, nat_lt, reverse}
 use Rattle.std.specs.List.{list_all}
 use Rattle.cs_syntax.specs.Matching.{Tree, Trees, more}
 use Rattle.cs_trigram.specs.Query.{matches_set, HasTrigrams}
@@ -13,7 +13,7 @@ use Rattle.cs_trigram.specs.declared.sequence_query.SequenceQuery.{SequenceQuery
 abbrev pub IsSequenceQueryOf : SequenceQuery → Trees → Type 0
 IsSequenceQueryOf sequence_query ts =
     IsQueryBeyondRun sequence_query.leading.items (λ set. all_match sequence_query.conjuncts.items set) ts
-    × AreTrigramsOf (some_mentions sequence_query.conjuncts.items) (HaveMembers ts) (MayMatchSequence ts)
+    × AreTrigramsOf (some_mentions sequence_query.conjuncts.items) (HaveMembers ts) (MayMatchSequence false ts)
 
 -- the strings of the run have at least two bytes after the first part, which has this suffix
 abbrev pub goes_two_past : List (List ℕ) → EndString → Bool

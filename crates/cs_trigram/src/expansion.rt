@@ -1,7 +1,7 @@
 // The exact sets of character classes and repeats, by expansion.
-ghost use Rattle.std.specs.Prelude.{◌≡◌, ◌+◌, ◌++◌, ℕ, List, [], ◌∷◌, if◌then◌else◌, encode_utf8, IfOk, OnOk, Some};
+ghost use Rattle.std.specs.Prelude.{true, ◌≡◌, ◌+◌, ◌++◌, ℕ, List, [], ◌∷◌, if◌then◌else◌, encode_utf8, IfOk, OnOk, Some};
 ghost use Rattle.cs_syntax.specs.Matching.{Tree, member, one_of, one_char, rep};
-ghost use Rattle.cs_trigram.specs.ExactStrings.{HasExactString};
+ghost use Rattle.cs_trigram.specs.MayMatch.{MayMatch};
 ghost use Rattle.cs_trigram.specs.Analysis.{with_string, IsEnumeration};
 ghost use Rattle.cs_syntax.specs.CharRanges.{IsCharRange};
 ghost use Rattle.cs_syntax.specs.Characters.{is_scalar};
@@ -39,7 +39,7 @@ fn add_byte(
 
 /// The strings of the members of a byte set, up to 21.
 pub(crate) fn strings_of_set(alloc: Global, set: &ByteSet) -> Result<Vec<ExactString>, AllocError>
-    ensures { IfOk result (λ strings. IsEnumeration strings.items (HasExactString (one_of set.now))) }
+    ensures { IfOk result (λ strings. IsEnumeration strings.items (MayMatch true (one_of set.now))) }
 {
     let count = set.len() as usize;
     let mut strings = Vec::with_capacity(alloc, count.min(MAX_EXACT + 1))?;
@@ -75,8 +75,8 @@ fn add_range(
 ) -> Result<(), AllocError>
     requires { IsCharRange range }
     ensures { OnOk result ((ranges : List (ℕ × ℕ)) →
-        IsEnumeration strings.old.items (HasExactString (one_char ranges)) →
-        IsEnumeration strings.new.items (HasExactString (one_char (ranges ++ range ∷ [])))) }
+        IsEnumeration strings.old.items (MayMatch true (one_char ranges)) →
+        IsEnumeration strings.new.items (MayMatch true (one_char (ranges ++ range ∷ [])))) }
 {
     for n in range.0..range.1 + 1 {
         if strings.len() > MAX_EXACT {
@@ -89,7 +89,7 @@ fn add_range(
 
 /// The encodings of the members of a character set, up to 21.
 pub(crate) fn strings_of_chars(alloc: Global, set: &CharSet) -> Result<Vec<ExactString>, AllocError>
-    ensures { IfOk result (λ strings. IsEnumeration strings.items (HasExactString (one_char set.now))) }
+    ensures { IfOk result (λ strings. IsEnumeration strings.items (MayMatch true (one_char set.now))) }
 {
     let mut strings = Vec::new(alloc);
     for range in set.runs() {

@@ -1,9 +1,9 @@
-use Rattle.std.proofs.Common.{◌≡◌, ◌+◌, ℕ, List, subst, sym, arith}
+use Rattle.std.proofs.Common.{true, ◌≡◌, ◌+◌, ℕ, List, subst, sym, arith}
 use Rattle.std.specs.Prelude.{encode_utf8}
 use Rattle.cs_syntax.specs.Characters.{is_scalar}
 use Rattle.cs_syntax.specs.Matching.{one_char}
 use Rattle.cs_trigram.specs.Analysis.{IsEnumeration}
-use Rattle.cs_trigram.specs.ExactStrings.{HasExactString}
+use Rattle.cs_trigram.specs.MayMatch.{MayMatch}
 use Rattle.cs_trigram.proofs.EnumerationLemmas.{enumeration_same, enumeration_full, numbers_none, numbers_next}
 use Rattle.cs_trigram.proofs.CharStringLemmas.{IsCharBelow, char_string, char_below}
 use Rattle.cs_trigram.proofs.expansion.add_range.Goals as goal
@@ -12,7 +12,7 @@ pub loop-n-init : goal.loop-n-init
 loop-n-init c = record {
   from = omega arith;
   to = omega (arith, c.requires.0);
-  strings = λ ranges s. numbers_none is_scalar encode_utf8 c.args.range.0 (HasExactString (one_char ranges)) _ s;
+  strings = λ ranges s. numbers_none is_scalar encode_utf8 c.args.range.0 (MayMatch true (one_char ranges)) _ s;
 }
 
 pub loop-n-preserved : goal.loop-n-preserved
@@ -21,7 +21,7 @@ loop-n-preserved c = record {
   to = omega (arith, c.loop-n-test.true);
   strings = λ ranges s.
       subst (λ (ws : List (List ℕ)). IsEnumeration ws (IsCharBelow ranges c.args.range (c.loop-n.n + 1))) (sym c.in_ok-add_char.ensures)
-      (numbers_next is_scalar encode_utf8 c.args.range.0 (HasExactString (one_char ranges)) _ c.loop-n.n
+      (numbers_next is_scalar encode_utf8 c.args.range.0 (MayMatch true (one_char ranges)) _ c.loop-n.n
       c.loop-n.invariant.from (c.loop-n.invariant.strings ranges s));
 }
 

@@ -1,7 +1,7 @@
-use Rattle.std.proofs.Common.{◌+◌, ◌≤◌, ℕ, List}
+use Rattle.std.proofs.Common.{true, ◌+◌, ◌≤◌, ℕ, List}
 use Rattle.cs_syntax.specs.Matching.{one_char}
 use Rattle.cs_trigram.specs.Analysis.{IsEnumeration}
-use Rattle.cs_trigram.specs.ExactStrings.{HasExactString}
+use Rattle.cs_trigram.specs.MayMatch.{MayMatch}
 use Rattle.cs_trigram.proofs.CharStringLemmas.{IsCharBelow}
 use Rattle.cs_trigram.proofs.expansion.add_range.Given as goal
 
@@ -9,6 +9,6 @@ abbrev pub invariant-loop-n : goal.invariant-loop-n
 invariant-loop-n l = record {
   from : l.fn.range.0 ≤ l.n;
   to : l.n ≤ l.fn.range.1 + 1;
-  strings : (ranges : List (ℕ × ℕ)) → IsEnumeration l.fn.strings.items (HasExactString (one_char ranges)) →
+  strings : (ranges : List (ℕ × ℕ)) → IsEnumeration l.fn.strings.items (MayMatch true (one_char ranges)) →
       IsEnumeration l.strings.items (IsCharBelow ranges l.fn.range l.n);
 }

@@ -1,7 +1,7 @@
-use Rattle.std.proofs.Common.{◌+◌, ◌-◌, List, [], ◌∷◌, ℕ, inl, inr, refl, sym, subst, arith}
+use Rattle.std.proofs.Common.{true, ◌+◌, ◌-◌, List, [], ◌∷◌, ℕ, inl, inr, refl, sym, subst, arith}
 use Rattle.std.specs.Prelude.{Some}
 use Rattle.cs_syntax.specs.Matching.{rep, cat, alt, empty, more, none}
-use Rattle.cs_trigram.specs.ExactStrings.{HasExactString}
+use Rattle.cs_trigram.specs.MayMatch.{MayMatch}
 use Rattle.cs_trigram.specs.ExactSet.{IsExactSetOf}
 use Rattle.cs_trigram.specs.Analysis.{EnumeratesTree}
 use Rattle.cs_trigram.specs.declared.exact_set.ExactSet.{ExactSet}
@@ -20,7 +20,7 @@ loop-iteration-init c = λ t once finite.
     let r = rep t (0 - optional) (Some 0) in
     c.of-strings.ensures r (subst (λ ws. EnumeratesTree ws r) (sym c.in_ok-empty_string.ensures)
     (only_empty_string r (rep_finite t (0 - optional) 0 finite (omega arith))
-    (λ w h. no_iteration (HasExactString t) w (h.0, omega arith, h.2, h.3)) (0, omega arith, omega arith, refl)))
+    (λ w h. no_iteration (MayMatch true t) w (h.0, omega arith, h.2, h.3)) (0, omega arith, omega arith, refl)))
 
 pub loop-iteration-preserved : goal.loop-iteration-preserved
 loop-iteration-preserved c = λ t once finite.

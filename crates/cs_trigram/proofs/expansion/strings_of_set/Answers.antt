@@ -1,7 +1,7 @@
-use Rattle.std.proofs.Common.{ℕ, List, ◌+◌, [], ◌∷◌, subst, sym, arith}
+use Rattle.std.proofs.Common.{true, ℕ, List, ◌+◌, [], ◌∷◌, subst, sym, arith}
 use Rattle.cs_syntax.specs.Matching.{one_of, member}
 use Rattle.cs_trigram.specs.Analysis.{IsEnumeration}
-use Rattle.cs_trigram.specs.ExactStrings.{HasExactString}
+use Rattle.cs_trigram.specs.MayMatch.{MayMatch}
 use Rattle.cs_trigram.proofs.EnumerationLemmas.{no_enumeration, enumeration_same, enumeration_full, numbers_none, numbers_next}
 use Rattle.cs_trigram.proofs.CharStringLemmas.{IsByteBelow, byte_string, byte_below}
 use Rattle.cs_trigram.proofs.expansion.strings_of_set.Goals as goal
@@ -18,10 +18,10 @@ loop-byte-preserved c =
     (omega arith) c.loop-byte.invariant)
 
 pub returns-then-len-gt-MAX_EXACT : goal.returns-then-len-gt-MAX_EXACT
-returns-then-len-gt-MAX_EXACT c = enumeration_full _ _ (HasExactString (one_of c.args.set.now)) (omega arith)
+returns-then-len-gt-MAX_EXACT c = enumeration_full _ _ (MayMatch true (one_of c.args.set.now)) (omega arith)
     c.loop-byte.invariant (byte_string c.args.set.now c.loop-byte.byte)
 
 pub returns : goal.returns
 returns c =
-    enumeration_same _ _ (HasExactString (one_of c.args.set.now)) c.loop-byte.invariant (byte_string c.args.set.now c.loop-byte.byte)
+    enumeration_same _ _ (MayMatch true (one_of c.args.set.now)) c.loop-byte.invariant (byte_string c.args.set.now c.loop-byte.byte)
     (λ w h. byte_below c.args.set.now c.loop-byte.byte w (omega arith) h)

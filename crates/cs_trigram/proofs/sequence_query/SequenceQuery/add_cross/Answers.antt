@@ -1,4 +1,4 @@
-use Rattle.std.proofs.Common.{ℕ, Bool}
+use Rattle.std.proofs.Common.{false, ℕ, Bool}
 use Rattle.cs_syntax.specs.Matching.{more}
 use Rattle.cs_trigram.specs.Query.{matches_set, mentions}
 use Rattle.cs_trigram.specs.MayMatch.{MayMatchSequence, HaveMembers}
@@ -19,7 +19,7 @@ returns-clause-required c = λ t ts suffixes prefixes sequence_query.
           (λ s set i j h has. cross_query_matches set q c.args.suffixes.now c.args.prefixes.now t ts across suffixes
           prefixes s i j h has) (λ set. c.in_ok-add_conjunct.ensures.required set),
       trigrams_of_both (some_mentions c.args.self.now.conjuncts.items) (mentions q)
-          (some_mentions c.add_conjunct.new.conjuncts.items) (HaveMembers (more t ts)) (MayMatchSequence (more t ts))
+          (some_mentions c.add_conjunct.new.conjuncts.items) (HaveMembers (more t ts)) (MayMatchSequence false (more t ts))
           c.in_ok-add_conjunct.ensures.mentioned sequence_query.1
           (trigrams_across q c.args.suffixes.now c.args.prefixes.now t ts suffixes prefixes across.mentioned),
     )

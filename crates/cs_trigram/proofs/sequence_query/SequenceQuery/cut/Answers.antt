@@ -1,4 +1,4 @@
-use Rattle.std.proofs.Common.{◌≡◌, ◌&&◌, ℕ, Bool, true, List, sym, ap, ◌∙◌, subst}
+use Rattle.std.proofs.Common.{false, ◌≡◌, ◌&&◌, ℕ, Bool, true, List, sym, ap, ◌∙◌, subst}
 use Rattle.cs_tree.specs.Cover.{is_among}
 use Rattle.cs_syntax.specs.Matching.{more}
 use Rattle.cs_trigram.specs.Query.{matches_set, mentions}
@@ -24,10 +24,10 @@ returns-clause-required c = λ t ts no_few match_query sequence_query.
           (query_past_cut leading conjuncts later t ts sequence_query.0 (λ set. matches_set c.args.match_query set)
           no_few match_query.matching match_query.selective is),
       trigrams_of_both (some_mentions c.add_conjunct.new.conjuncts.items) (mentions c.args.match_query)
-          (some_mentions c.add_conjunct-2.new.conjuncts.items) (HaveMembers (more t ts)) (MayMatchSequence (more t ts))
+          (some_mentions c.add_conjunct-2.new.conjuncts.items) (HaveMembers (more t ts)) (MayMatchSequence false (more t ts))
           c.in_ok-add_conjunct-2.ensures.mentioned
           (trigrams_of_both (some_mentions c.args.self.now.conjuncts.items) (mentions query)
-          (some_mentions c.add_conjunct.new.conjuncts.items) (HaveMembers (more t ts)) (MayMatchSequence (more t ts))
+          (some_mentions c.add_conjunct.new.conjuncts.items) (HaveMembers (more t ts)) (MayMatchSequence false (more t ts))
           c.in_ok-add_conjunct.ensures.mentioned (trigrams_of_rest (some_mentions c.args.self.now.conjuncts.items) t ts sequence_query.1)
           (trigrams_of_rest (mentions query) t ts (trigrams_of_run query ts leading sequence_query.0.run
           (subst (λ (ws : List (List ℕ)). MentionsOnly query (λ w. is_among ws w ≡ true)) finished_run

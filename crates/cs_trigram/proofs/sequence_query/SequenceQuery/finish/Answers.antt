@@ -1,4 +1,4 @@
-use Rattle.std.proofs.Common.{◌≡◌, ◌&&◌, ℕ, Bool, true, List, sym, ap, ◌∙◌, subst}
+use Rattle.std.proofs.Common.{false, ◌≡◌, ◌&&◌, ℕ, Bool, true, List, sym, ap, ◌∙◌, subst}
 use Rattle.cs_tree.specs.Cover.{is_among}
 use Rattle.cs_trigram.specs.Query.{matches_set, mentions}
 use Rattle.cs_trigram.specs.MayMatch.{MayMatchSequence, HaveMembers}
@@ -24,7 +24,7 @@ returns c = λ ts sequence_query many.
       selective = λ set h. (λ few. absurd (many few), right.1 set h);
       mentioned = λ g h.
           trigrams_of_both (some_mentions c.args.self.conjuncts.items) (mentions c.in_ok-last.last)
-          (some_mentions c.add_conjunct.new.conjuncts.items) (HaveMembers ts) (MayMatchSequence ts)
+          (some_mentions c.add_conjunct.new.conjuncts.items) (HaveMembers ts) (MayMatchSequence false ts)
           c.in_ok-add_conjunct.ensures.mentioned sequence_query.1
           (trigrams_of_run c.in_ok-last.last ts leading sequence_query.0.run
           (subst (λ (ws : List (List ℕ)). MentionsOnly c.in_ok-last.last (λ w. is_among ws w ≡ true))

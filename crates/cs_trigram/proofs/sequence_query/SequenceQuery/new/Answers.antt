@@ -1,4 +1,4 @@
-use Rattle.std.proofs.Common.{ℕ, List, sym, ap, subst}
+use Rattle.std.proofs.Common.{false, ℕ, List, sym, ap, subst}
 use Rattle.cs_syntax.specs.Matching.{none}
 use Rattle.cs_trigram.specs.Analysis.{IsQueryBeyondRun, all_match, some_mentions}
 use Rattle.cs_trigram.specs.MayMatch.{MayMatchSequence, HaveMembers}
@@ -11,6 +11,6 @@ pub returns-clause-required : goal.returns-clause-required
 returns-clause-required c = (
   subst (λ (ws : List (List ℕ)). IsQueryBeyondRun ws (λ set. all_match c.new.result.items set) none) (sym c.in_ok-leading.ensures)
       (query_of_none (λ set. all_match c.new.result.items set) (λ set. ap (λ (qs : List Query). all_match qs set) c.new.ensures.items)),
-  no_trigrams (some_mentions c.new.result.items) (HaveMembers none) (MayMatchSequence none)
+  no_trigrams (some_mentions c.new.result.items) (HaveMembers none) (MayMatchSequence false none)
       (λ g. ap (λ (qs : List Query). some_mentions qs g) c.new.ensures.items),
 )

@@ -1,4 +1,4 @@
-use Rattle.std.proofs.Common.{◌≡◌, ◌&&◌, ◌≤◌, ℕ, Bool, List, [], length, sym, ap, ◌∙◌, subst, arith, true}
+use Rattle.std.proofs.Common.{false, ◌≡◌, ◌&&◌, ◌≤◌, ℕ, Bool, List, [], length, sym, ap, ◌∙◌, subst, arith, true}
 use Rattle.cs_tree.specs.Cover.{is_among}
 use Rattle.cs_tree.specs.Folders.{are_distinct}
 use Rattle.cs_syntax.specs.Matching.{more}
@@ -45,7 +45,7 @@ returns-clause-required c = λ t ts strings parts sequence_query.
       query_past_run leading conjuncts later t ts sequence_query.0 c.in_ok-self.field-0.items longest
           (few_tree c.args.strings.now t strings) added,
       trigrams_of_both (some_mentions c.args.self.now.conjuncts.items) (mentions query)
-          (some_mentions c.add_conjunct.new.conjuncts.items) (HaveMembers (more t ts)) (MayMatchSequence (more t ts))
+          (some_mentions c.add_conjunct.new.conjuncts.items) (HaveMembers (more t ts)) (MayMatchSequence false (more t ts))
           c.in_ok-add_conjunct.ensures.mentioned (trigrams_of_rest (some_mentions c.args.self.now.conjuncts.items) t ts sequence_query.1)
           (trigrams_of_rest (mentions query) t ts (trigrams_of_run query ts leading sequence_query.0.run
           (subst (λ (ws : List (List ℕ)). MentionsOnly query (λ w. is_among ws w ≡ true)) finished_run

@@ -1,10 +1,14 @@
 -- Correct queries of trees.
-use Rattle.std.proofs.Common.{false, ◌≡◌, ℕ, zero, suc, ◌-◌, ◌<◌, ◌≤◌, inl, inr, Bool, true, List, [], ◌∷◌, ◌++◌, Vec, Global, sym, ◌∙◌, subst, arith, refl}
+use Rattle.std.proofs.Common.{false, ◌≡◌, ℕ, zero, suc, ◌+◌, ◌*◌, ◌-◌, ◌<◌, ◌≤◌, length, inl, inr, Bool, true, List, [], ◌∷◌, ◌++◌, Vec, Global, sym, ◌∙◌, subst, arith, refl}
 use Rattle.cs_tree.specs.Cover.{is_among}
 use Rattle.std.specs.Prelude.{Option, Some, None, slice_range}
+use Rattle.std.specs.List.{sum_by}
+use Rattle.std.proofs.lemmas.Nat.{mul-le}
+use Rattle.std.proofs.lemmas.List.Sums.{sum_by_push}
 use Rattle.std.proofs.lemmas.Bool.{false≢true, or_cases, or_left, or_right}
 use Rattle.cs_syntax.specs.Matching.{Tree, Trees, alt, rep, more, Chain, MatchesSpan}
-use Rattle.cs_trigram.specs.Query.{matches_set, mentions, HasTrigrams}
+use Rattle.cs_syntax.specs.Weight.{weight, weights, times}
+use Rattle.cs_trigram.specs.Query.{matches_set, mentions, query_size, HasTrigrams}
 use Rattle.cs_trigram.specs.MayMatch.{MayMatch, MayMatchBranch, HasMembers, HaveMembers}
 use Rattle.cs_trigram.specs.ExactRuns.{HasWhole, HasRunsWithin, HasExactRuns}
 use Rattle.cs_trigram.specs.ExactQuery.{RequiresExactString}
@@ -14,6 +18,7 @@ use Rattle.cs_trigram.specs.declared.queries.Query.TheVariants.{All, Or}
 use Rattle.cs_trigram.proofs.LeadingRunLemmas.{concatenates_one, exact_of_one}
 use Rattle.cs_trigram.proofs.SequenceQueryLemmas.{any_run_found, found_any_run}
 use Rattle.cs_trigram.proofs.ExactStringLemmas.{match_is_exact, exact_match_has_runs}
+use Rattle.cs_trigram.proofs.SizeLemmas.{size-All, size-Or, weight_pos, string_short, few_short}
 use Rattle.cs_trigram.proofs.SubstringTrigramLemmas.{has_part}
 use Rattle.cs_trigram.proofs.QueryLemmas.{matches_set-All, matches_set-Or, some_matches_push, mentions-Or, mentions_push}
 use Rattle.cs_trigram.proofs.MentionLemmas.{all_mentions_none, occurs_itself, trigrams_of_both, trigrams_within}
@@ -25,6 +30,7 @@ correct_all t has_runs = record {
   matching = λ s set i j h has. matches_set-All set;
   selective = λ set h. has_runs set;
   mentioned = all_mentions_none (HasMembers t) (MayMatch false t);
+  small = omega (arith, size-All, weight_pos t);
 }
 
 -- `All` is a match query of a tree without runs within it, such as a leaf
@@ -48,6 +54,7 @@ correct_repeated q x (suc n) m some r many = record {
   mentioned =
       trigrams_within (mentions q) (HasMembers x) (HasMembers x) (MayMatch false x) (MayMatch false (rep x (suc n) m)) r.mentioned
       (λ h. h) (λ h w is. iteration_within x (suc n) m w is);
+  small = omega (arith, r.small, mul-le 1 (weight x) (times (suc n) m) (weight x) (omega arith) (omega arith));
 }
   where
     first : (s : List ℕ) (set : ℕ → Bool) (k i j : ℕ) → suc n ≤ k → Chain (MatchesSpan s x) k i j → HasTrigrams set s →
@@ -57,8 +64,9 @@ correct_repeated q x (suc n) m some r many = record {
 
 -- a tree with few exact strings
 pub correct_strings : (q : Query) (ws : List (List ℕ)) (t : Tree) → AreExactStrings ws t →
-    ((set : ℕ → Bool) → matches_set q set ≡ has_any set ws) → MentionsOnly q (λ w. is_among ws w ≡ true) → IsCorrect q t
-correct_strings q ws t strings required only = record {
+    ((set : ℕ → Bool) → matches_set q set ≡ has_any set ws) → MentionsOnly q (λ w. is_among ws w ≡ true) →
+    query_size q ≤ 1 + sum_by (λ string. length string - 1) ws → IsCorrect q t
+correct_strings q ws t strings required only size = record {
   matching = λ s set i j h has.
       let r = match_is_exact s t i j strings.are.0 h in
       required set ∙ found_any_run set ws (slice_range s i j) (strings.are.1.whole strings.few (slice_range s i j) r.1)
@@ -69,6 +77,9 @@ correct_strings q ws t strings required only = record {
   mentioned =
       trigrams_within (mentions q) (Unit {0}) (HasMembers t) (λ w. is_among ws w ≡ true) (MayMatch false t) only (λ h. tt)
       (λ h w m. (w, exact_may_match t w (strings.are.1.right w m), occurs_itself w w refl));
+  small =
+      let short = few_short ws (4 * weight t) strings.few (λ w m. string_short t w strings.are.0 (strings.are.1.right w m)) in
+      omega (arith, size, short, weight_pos t);
 }
 
 -- the query of a tree with few exact strings requires one of them
@@ -101,6 +112,7 @@ right_more queries q t ts match_query others = record {
       (λ h w m. (w, inr m, occurs_itself w w refl)))
       (trigrams_within (mentions q) (HasMembers t) A (MayMatch false t) P match_query.mentioned (λ h. h.0)
       (λ h w m. (w, inl m, occurs_itself w w refl)));
+  small = omega (arith, sum_by_push query_size queries q, match_query.small, others.small);
 }
 
 pub correct_alternation : (members : Vec Query Global) (ts : Trees) → AreCorrect members.items ts → IsMatchQuery (Or members) (alt ts)
@@ -108,4 +120,5 @@ correct_alternation members ts r many = record {
   matching = λ s set i j h has. matches_set-Or set members ∙ r.matching s set i j h has;
   selective = λ set h. (λ few. absurd (many few), r.selective set (sym (matches_set-Or set members) ∙ h));
   mentioned = λ g h. let only = r.mentioned g (sym (mentions-Or g members) ∙ h) in (only.0, λ m. only.1 (branches_have_members ts m));
+  small = omega (arith, size-Or members, r.small);
 }

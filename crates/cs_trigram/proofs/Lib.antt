@@ -13,6 +13,8 @@ mod SixgramCacheLemmas
 mod SeenTrigramLemmas
 mod MemberLemmas
 mod MentionLemmas
+mod SizeLemmas
+mod SmallQueryLemmas
 mod MayMatchLemmas
 mod SequenceMentionLemmas
 mod EndStringOriginLemmas

@@ -1,14 +1,15 @@
 -- The query analysis: enumerations of exact strings up to twenty-one, and correct queries.
-use Rattle.std.specs.Prelude.{false, ℕ, ◌≡◌, ◌≤◌, ◌<◌, ◌&&◌, ◌++◌, ◌∷◌, [], Bool, true, not, List, length, map, nat_le, if◌then◌else◌, IsTrue}
+use Rattle.std.specs.Prelude.{false, ℕ, ◌≡◌, ◌≤◌, ◌<◌, ◌+◌, ◌*◌, ◌&&◌, ◌++◌, ◌∷◌, [], Bool, true, not, List, length, map, nat_le, if◌then◌else◌, IsTrue}
 use Rattle.cs_trigram.specs.TrigramSets.{trigram_count}
 use Rattle.cs_trigram.specs.MayMatch.{MayMatch, MayMatchBranch, HasMembers, HaveMembers, IsTrigramOf}
 use Rattle.cs_syntax.specs.TreeList.{append}
-use Rattle.std.specs.List.{list_any, list_all}
+use Rattle.std.specs.List.{list_any, list_all, sum_by}
 use Rattle.cs_tree.specs.Cover.{is_among}
 use Rattle.cs_tree.specs.Folders.{are_distinct}
 use Rattle.cs_syntax.specs.Matching.{Tree, Trees, none, more, cat, MatchesSpan, MatchesSequence, MatchesBranch}
 use Rattle.cs_trigram.specs.Trigram.{tri}
-use Rattle.cs_trigram.specs.Query.{matches_set, mentions, HasTrigrams}
+use Rattle.cs_syntax.specs.Weight.{weight, weights}
+use Rattle.cs_trigram.specs.Query.{matches_set, mentions, query_size, HasTrigrams}
 use Rattle.cs_trigram.specs.ExactRuns.{HasRunsWithin, SomeHasExactRuns, IsSelective}
 use Rattle.cs_trigram.specs.ExactStrings.{HaveFewExactStrings, is_finite}
 use Rattle.cs_trigram.specs.ExactQuery.{HasFewExactStrings}
@@ -53,13 +54,18 @@ AreTrigramsOf test A P = (g : ℕ) → test g ≡ true → (g < trigram_count) �
 abbrev pub MentionsOnly : Query → (List ℕ → Type 0) → Type 0
 MentionsOnly query P = AreTrigramsOf (mentions query) (Unit {0}) P
 
--- the query loses no line, is at least as selective as the exact runs of the tree, and mentions only trigrams of
--- texts that the tree may match
+-- the most nodes of a query for the trigrams across two parts
+abbrev pub cross_size : ℕ
+cross_size = 1027
+
+-- The query loses no line, is at least as selective as the exact runs of the tree, and mentions only trigrams of
+-- texts that the tree may match. It is small, and leaves room for one more node and a query across two parts.
 pub record IsCorrect (query : Query) (t : Tree) : Type 0 where
   pub matching : (s : List ℕ) (set : ℕ → Bool) (i j : ℕ) → MatchesSpan s t i j → HasTrigrams set s →
       matches_set query set ≡ true
   pub selective : IsSelective query t
   pub mentioned : AreTrigramsOf (mentions query) (HasMembers t) (MayMatch false t)
+  pub small : query_size query + cross_size + 1 ≤ 3000 * weight t
 
 -- the same for the disjunction of the queries and the alternation of the trees
 pub record AreCorrect (queries : List Query) (ts : Trees) : Type 0 where
@@ -67,6 +73,7 @@ pub record AreCorrect (queries : List Query) (ts : Trees) : Type 0 where
       some_matches queries set ≡ true
   pub selective : (set : ℕ → Bool) → some_matches queries set ≡ true → SomeHasExactRuns set ts
   pub mentioned : AreTrigramsOf (some_mentions queries) (HaveMembers ts) (MayMatchBranch false ts)
+  pub small : sum_by query_size queries ≤ 3000 * weights ts
 
 -- the query is correct for the tree, unless the exact strings of the tree are few
 abbrev pub IsMatchQuery : Query → Tree → Type 0

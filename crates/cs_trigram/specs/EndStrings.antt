@@ -2,7 +2,7 @@
 -- match, read forward or backward.
 -- Cox, "Regular Expression Matching with a Trigram Index".
 use Rattle.std.specs.Prelude.{false, ℕ, ◌≡◌, ◌<◌, ◌≤◌, ◌⊎◌, ◌++◌, ◌∷◌, [], Bool, true, List, Contains, length, take, reverse, map, not, ◌&&◌, ◌||◌, if◌then◌else◌, nat_eq, nat_le, bytes_eq, slice_range}
-use Rattle.std.specs.List.{list_all, list_any}
+use Rattle.std.specs.List.{All, list_all, list_any}
 use Rattle.cs_syntax.specs.Matching.{Tree, Trees, MatchesSpan, MatchesBranch}
 use Rattle.cs_trigram.specs.MayMatch.{MayMatch, MayMatchBranch, HasMembers, HaveMembers}
 use Rattle.cs_trigram.specs.declared.end_strings.EndString.{EndString}
@@ -86,6 +86,10 @@ IsConcatenation near fars x =
     ((u v : List ℕ) → HasEndString near u → HasEndString x (u ++ v))
     ⊎ ((far : EndString) × Contains fars far × ((u v : List ℕ) → HasEndString near u → HasEndString far v →
     HasEndString x (u ++ v)) × (length x.string ≤ 3))
+
+-- each end string has at most n bytes
+abbrev pub AreShort : ℕ → List EndString → Type 0
+AreShort n end_strings = All (λ end_string. length end_string.string ≤ n) end_strings
 
 -- the end strings are those of a near text with one of the first and a far text with one of the others
 pub record AreConcatenations (nears fars end_strings : List EndString) : Type 0 where

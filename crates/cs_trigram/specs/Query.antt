@@ -1,9 +1,10 @@
--- When a query matches a set of trigrams, which trigrams it mentions, and when it loses no line.
+-- When a query matches a set of trigrams, which trigrams it mentions, how large it is, and when it loses no line.
 -- docs/PATTERNS.md, "Queries"; Cox, "Regular Expression Matching with a Trigram Index".
-use Rattle.std.specs.Prelude.{ℕ, Bool, true, false, List, IsTrue, nat_eq}
+use Rattle.std.specs.Prelude.{ℕ, ◌+◌, ◌*◌, ◌≤◌, Bool, true, false, List, IsTrue, nat_eq}
 use Rattle.cs_syntax.specs.Matching.{Tree, HasMatch}
+use Rattle.cs_syntax.specs.Weight.{weight}
 use Rattle.cs_trigram.specs.Trigram.{tri}
-use Rattle.std.specs.List.{list_all, list_any}
+use Rattle.std.specs.List.{list_all, list_any, sum}
 use Rattle.cs_trigram.specs.declared.queries.Query.{Query}
 use Rattle.cs_trigram.specs.declared.queries.Query.TheOpen.{Query-F}
 use Rattle.cs_trigram.specs.declared.queries.Query.TheFolds.{fold-Query}
@@ -31,6 +32,20 @@ mentions_step g (Query-F.Or members) = list_any (λ is_mentioned. is_mentioned) 
 -- whether the trigram occurs in the query
 abbrev pub mentions : Query → ℕ → Bool
 mentions query g = fold-Query Bool (mentions_step g) query
+
+-- one level of a query, its members already counted
+abbrev pub query_size_step : Query-F ℕ → ℕ
+query_size_step (Query-F.And members) = 1 + sum members.items
+query_size_step (Query-F.Or members) = 1 + sum members.items
+query_size_step leaf = 1
+
+-- the number of nodes of a query
+abbrev pub query_size : Query → ℕ
+query_size query = fold-Query ℕ query_size_step query
+
+-- the query has at most 3000 nodes for each unit of the weight of the tree
+abbrev pub IsSmall : Query → Tree → Type 0
+IsSmall query tree = query_size query ≤ 3000 * weight tree
 
 -- the set has all trigrams of the text
 abbrev pub HasTrigrams : (ℕ → Bool) → List ℕ → Type 0

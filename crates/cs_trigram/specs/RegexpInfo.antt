@@ -1,6 +1,6 @@
 -- The result of the analysis of a tree, of the parts of a sequence and of the branches of an alternation.
 use Rattle.cs_syntax.specs.Matching.{Tree, Trees, cat, alt}
-use Rattle.cs_trigram.specs.SequenceQuery.{IsSequenceQueryOf}
+use Rattle.cs_trigram.specs.SequenceQuery.{IsSequenceQueryOf, AreSmall}
 use Rattle.cs_trigram.specs.ExactSet.{IsExactSetOf, AreExactSetsReversed}
 use Rattle.cs_trigram.specs.EndStrings.{forward, backward, AreEndStrings, AreEndStringsOfSome}
 use Rattle.cs_trigram.specs.ExactQuery.{HasFewExactStrings, RequiresExactString}
@@ -22,6 +22,7 @@ pub record IsSequence (info : SequenceInfo) (ts : Trees) : Type 0 where
   pub suffix : AreEndStrings backward info.suffix.items (cat ts)
   pub parts : AreExactSetsReversed info.sequence_query.parts.items ts
   pub required : IsSequenceQueryOf info.sequence_query ts
+  pub small : AreSmall 0 info.sequence_query.conjuncts.items ts
 
 pub record IsAlternation (info : AlternationInfo) (ts : Trees) : Type 0 where
   pub exact : IsExactSetOf info.exact (alt ts)

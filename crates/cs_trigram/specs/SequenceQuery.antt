@@ -1,8 +1,13 @@
 -- The query of a sequence.
-use Rattle.std.specs.Prelude.{false, Contains, ℕ, ◌≡◌, ◌+◌, ◌&&◌, ◌++◌, Bool, true, List, [], ◌∷◌, length, map, nat_lt, reverse}
-use Rattle.std.specs.List.{list_all}
+use Rattle.std.specs.Prelude.{false, Contains, ℕ, zero, suc, ◌≡◌, ◌+◌, ◌*◌, ◌≤◌, ◌&&◌, ◌++◌, Bool, true, List, [], ◌∷◌, length, map, nat_lt, reverse, IsTrue}
+use Rattle.std.specs.List.{list_all, sum_by}
+use Rattle.cs_tree.specs.Cover.{is_among}
+use Rattle.cs_tree.specs.Folders.{are_distinct}
 use Rattle.cs_syntax.specs.Matching.{Tree, Trees, more}
-use Rattle.cs_trigram.specs.Query.{matches_set, HasTrigrams}
+use Rattle.cs_syntax.specs.TreeList.{append}
+use Rattle.cs_syntax.specs.Weight.{weights}
+use Rattle.cs_trigram.specs.Query.{matches_set, query_size, HasTrigrams}
+use Rattle.cs_trigram.specs.ExactStrings.{HaveFewExactStrings}
 use Rattle.cs_trigram.specs.MayMatch.{MayMatchSequence, HaveMembers}
 use Rattle.cs_trigram.specs.EndStrings.{HasSomeEndString}
 use Rattle.cs_trigram.specs.Analysis.{IsQueryBeyondRun, AreTrigramsOf, MentionsOnly, all_match, some_mentions}
@@ -14,6 +19,27 @@ abbrev pub IsSequenceQueryOf : SequenceQuery → Trees → Type 0
 IsSequenceQueryOf sequence_query ts =
     IsQueryBeyondRun sequence_query.leading.items (λ set. all_match sequence_query.conjuncts.items set) ts
     × AreTrigramsOf (some_mentions sequence_query.conjuncts.items) (HaveMembers ts) (MayMatchSequence false ts)
+
+-- f 0 + .. + f k
+abbrev pub sum_to : (ℕ → ℕ) → ℕ → ℕ
+sum_to f zero = f 0
+sum_to f (suc k) = sum_to f k + f (suc k)
+
+-- the trees have at most n exact strings together
+abbrev pub HaveAtMost : ℕ → Trees → Type 0
+HaveAtMost n ts =
+    (strings : List (List ℕ)) → IsTrue (are_distinct strings) →
+    ((string : List ℕ) → IsTrue (is_among strings string) → MayMatchSequence true ts string) → length strings ≤ n
+
+-- The queries are small for these trees, with room for `room` more nodes, and for a string of each leading run that
+-- the queries may still require. `heaviest n` bounds the weight of a leading run with at most n + 1 exact strings: each
+-- part with more than one string makes the strings of a run more, so it pays for at most twenty runs with at most
+-- twenty strings each, of at most four bytes for each unit of its weight.
+pub record AreSmall (room : ℕ) (queries : List Query) (ts : Trees) : Type 0 where
+  pub heaviest : ℕ → ℕ
+  pub runs : (n : ℕ) (run after : Trees) → ts ≡ append run after → HaveFewExactStrings run → HaveAtMost (suc n) run →
+      weights run ≤ heaviest n
+  pub within : sum_by query_size queries + 80 * sum_to heaviest 19 + room ≤ 3000 * weights ts
 
 -- the strings of the run have at least two bytes after the first part, which has this suffix
 abbrev pub goes_two_past : List (List ℕ) → EndString → Bool
@@ -38,6 +64,11 @@ pub record IsCrossQuery (query : Query) (suffixes prefixes : List EndString) : T
   pub required : (set : ℕ → Bool) (u v : List ℕ) → HasSomeEndString suffixes (reverse u) →
       HasSomeEndString prefixes v → HasTrigrams set (u ++ v) → matches_set query set ≡ true
   pub mentioned : MentionsOnly query (IsAcross suffixes prefixes)
+
+-- the requirements stay small with one more part at the start
+abbrev pub StaysSmall : ℕ → SequenceQuery → SequenceQuery → Tree → Trees → Type 0
+StaysSmall room old sequence_query t ts =
+    IsSequenceQueryOf old ts → AreSmall 0 old.conjuncts.items ts → AreSmall room sequence_query.conjuncts.items (more t ts)
 
 -- the new query is that of the sequence with one more part at the start
 abbrev pub ExtendsSequenceQuery : SequenceQuery → SequenceQuery → Tree → Trees → Type 0

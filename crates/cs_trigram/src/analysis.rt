@@ -5,7 +5,7 @@ ghost use Rattle.cs_trigram.specs.TrigramSets.{trigram_count};
 ghost use Rattle.cs_syntax.specs.Matching.{cat, alt};
 ghost use Rattle.cs_syntax.specs.Node.{tree_of};
 ghost use Rattle.cs_syntax.specs.NodeList.{trees_of};
-ghost use Rattle.cs_trigram.specs.Query.{LosesNoLine, mentions};
+ghost use Rattle.cs_trigram.specs.Query.{LosesNoLine, IsSmall, mentions};
 ghost use Rattle.cs_trigram.specs.ExactQuery.{HasFewExactStrings, RequiresExactString};
 ghost use Rattle.cs_trigram.specs.ExactRuns.{IsSelective};
 ghost use Rattle.cs_trigram.specs.MayMatch.{MentionsTrigramsOf};
@@ -27,7 +27,8 @@ use std::alloc::{AllocError, Global};
 /// one of them, and nothing else.
 ///
 /// The query mentions only trigrams of texts that the pattern may match, if each set in it has a
-/// member and each alternation a branch.
+/// member and each alternation a branch. It has at most 3000 nodes for each unit of the weight of
+/// the pattern.
 ///
 /// # Errors
 ///
@@ -38,6 +39,7 @@ pub fn query(alloc: Global, pattern: &Pattern) -> Result<Query, AllocError>
     ensures exact { IfOk result (λ query.
         HasFewExactStrings pattern.now → RequiresExactString query pattern.now) }
     ensures mentioned { IfOk result (λ query. MentionsTrigramsOf query pattern.now) }
+    ensures small { IfOk result (λ query. IsSmall query pattern.now) }
     ensures numbers { IfOk result (λ query. (g : ℕ) → mentions query g ≡ true → g < trigram_count) }
 {
     Ok(analyze(alloc, pattern.tree())?.query)

@@ -1,9 +1,10 @@
 // Conjunctions of queries, and queries for strings (`and` and `andTrigrams` in Go's codesearch).
-ghost use Rattle.std.specs.Prelude.{◌≡◌, ◌<◌, ◌&&◌, ◌||◌, ℕ, Bool, IsTrue, IfOk, OnOk};
+ghost use Rattle.std.specs.Prelude.{◌≡◌, ◌+◌, ◌-◌, ◌<◌, ◌≤◌, ◌&&◌, ◌||◌, ℕ, Bool, IsTrue, IfOk, OnOk, length};
+ghost use Rattle.std.specs.List.{sum_by};
 ghost use Rattle.cs_trigram.specs.Trigram.{trigram};
 ghost use Rattle.cs_trigram.specs.TrigramSets.{trigram_count};
 ghost use Rattle.cs_tree.specs.Cover.{is_among};
-ghost use Rattle.cs_trigram.specs.Query.{matches_set, mentions};
+ghost use Rattle.cs_trigram.specs.Query.{matches_set, mentions, query_size};
 ghost use Rattle.cs_trigram.specs.Analysis.{all_match, some_matches, some_mentions, has_any, MentionsOnly, RequiresText};
 
 use crate::exact_string::ExactString;
@@ -24,6 +25,8 @@ pub(crate) fn add_conjunct(conjuncts: &mut Vec<Query>, query: Query) -> Result<(
         (all_match conjuncts.old.items set && matches_set query set)) }
     ensures mentioned { OnOk result ((g : ℕ) → some_mentions conjuncts.new.items g ≡
         (some_mentions conjuncts.old.items g || mentions query g)) }
+    ensures small { OnOk result (sum_by query_size conjuncts.new.items ≤
+        sum_by query_size conjuncts.old.items + query_size query) }
 {
     match query {
         Query::All => Ok(()),
@@ -38,6 +41,7 @@ pub(crate) fn add_conjunct(conjuncts: &mut Vec<Query>, query: Query) -> Result<(
 fn all_trigrams(alloc: Global, text: &[u8]) -> Result<Query, AllocError>
     ensures required { IfOk result (λ query. RequiresText query text.now) }
     ensures mentioned { IfOk result (λ query. MentionsOnly query (λ part. part ≡ text.now)) }
+    ensures small { IfOk result (λ query. query_size query ≤ 1 + (length text.now - 2)) }
 {
     if text.len() == 3 {
         return Ok(Query::Tri(trigram(text[0], text[1], text[2])));
@@ -59,6 +63,8 @@ pub(crate) fn any_string(alloc: Global, strings: &[ExactString]) -> Result<Query
         matches_set query set ≡ has_any set strings.now) }
     ensures mentioned { IfOk result (λ query.
         MentionsOnly query (λ string. IsTrue (is_among strings.now string))) }
+    ensures small { IfOk result (λ query.
+        query_size query ≤ 1 + sum_by (λ string. length string - 1) strings.now) }
 {
     let mut members = Vec::with_capacity(alloc, strings.len())?;
     for string in strings {
@@ -74,6 +80,7 @@ pub(crate) fn any_string(alloc: Global, strings: &[ExactString]) -> Result<Query
 fn any_of(mut members: Vec<Query>) -> Query
     ensures required { (set : ℕ → Bool) → matches_set result set ≡ some_matches members.items set }
     ensures mentioned { (g : ℕ) → mentions result g ≡ some_mentions members.items g }
+    ensures small { query_size result ≤ 1 + sum_by query_size members.items }
 {
     if members.len() == 1
         && let Some(only) = members.pop()

@@ -1,6 +1,9 @@
 // Trigrams across two neighbouring parts, from the cross product of the suffixes of the first and
 // the prefixes of the second (`concat` in Go's codesearch).
-ghost use Rattle.std.specs.Prelude.{◌≡◌, ◌++◌, IfOk, OnOk, map, reverse};
+ghost use Rattle.std.specs.Prelude.{◌≡◌, ◌+◌, ◌-◌, ◌*◌, ◌^◌, ◌≤◌, ◌++◌, ℕ, IfOk, OnOk, length, map, min, reverse};
+ghost use Rattle.cs_trigram.specs.Query.{query_size};
+ghost use Rattle.cs_trigram.specs.EndStrings.{AreShort};
+ghost use Rattle.cs_trigram.specs.Analysis.{cross_size};
 ghost use Rattle.cs_trigram.specs.SequenceQuery.{IsCrossQuery, pairs};
 
 use crate::connectives::{add_conjunct, any_string};
@@ -49,7 +52,9 @@ fn all_pairs(
 }
 
 /// The number of pairs.
-fn count_concatenations(suffixes: &[EndString], prefixes: &[EndString]) -> usize {
+fn count_concatenations(suffixes: &[EndString], prefixes: &[EndString]) -> usize
+    ensures { result ≡ min (length suffixes.now * length prefixes.now) (2 ^ 64 - 1) }
+{
     suffixes.len().saturating_mul(prefixes.len())
 }
 
@@ -59,7 +64,9 @@ fn product_query(
     suffixes: &[EndString],
     prefixes: &[EndString],
 ) -> Result<Query, AllocError>
-    ensures { IfOk result (λ query. IsCrossQuery query suffixes.now prefixes.now) }
+    ensures across { IfOk result (λ query. IsCrossQuery query suffixes.now prefixes.now) }
+    ensures small { IfOk result (λ query. (a b : ℕ) → AreShort a suffixes.now → AreShort b prefixes.now →
+        query_size query ≤ 1 + 256 * (a + b - 1)) }
 {
     if count_concatenations(suffixes, prefixes) > MAX_CONCATENATIONS {
         return Ok(Query::All);
@@ -74,7 +81,9 @@ fn split_product_query(
     suffixes: &[EndString],
     prefixes: &[EndString],
 ) -> Result<Query, AllocError>
-    ensures { IfOk result (λ query. IsCrossQuery query suffixes.now prefixes.now) }
+    ensures across { IfOk result (λ query. IsCrossQuery query suffixes.now prefixes.now) }
+    ensures small { IfOk result (λ query. AreShort 2 suffixes.now → AreShort 2 prefixes.now →
+        query_size query ≤ cross_size) }
 {
     let last = truncated_end_strings(alloc, suffixes, 1)?;
     let first = truncated_end_strings(alloc, prefixes, 1)?;
@@ -90,7 +99,8 @@ pub(crate) fn cross_product_query(
     suffixes: &[EndString],
     prefixes: &[EndString],
 ) -> Result<Query, AllocError>
-    ensures { IfOk result (λ query. IsCrossQuery query suffixes.now prefixes.now) }
+    ensures across { IfOk result (λ query. IsCrossQuery query suffixes.now prefixes.now) }
+    ensures small { IfOk result (λ query. query_size query ≤ cross_size) }
 {
     let suffixes = truncated_end_strings(alloc, suffixes, 2)?;
     let prefixes = truncated_end_strings(alloc, prefixes, 2)?;

@@ -5,7 +5,7 @@
 ghost use Rattle.std.specs.Prelude.{◌≡◌, ◌≤◌, ◌++◌, [], ◌∷◌, Contains, length, map, IfOk, MatchOption, OnOk, Option, ℕ};
 ghost use Rattle.std.specs.List.{list_any};
 ghost use Rattle.cs_syntax.specs.Matching.{Tree, rep};
-ghost use Rattle.cs_trigram.specs.EndStrings.{Direction, whole_text, are_all_empty, subsumes, AreCoarser, AreConcatenations, AreEndStrings, truncated, with_end_string, with_end_strings, concatenated};
+ghost use Rattle.cs_trigram.specs.EndStrings.{Direction, whole_text, are_all_empty, subsumes, AreShort, AreCoarser, AreConcatenations, AreEndStrings, truncated, with_end_string, with_end_strings, concatenated};
 
 use crate::exact_string::ExactString;
 use std::alloc::{AllocError, Global};
@@ -76,7 +76,8 @@ pub(crate) fn truncated_end_strings(
     end_strings: &[EndString],
     longest: usize,
 ) -> Result<Vec<EndString>, AllocError>
-    ensures { IfOk result (λ short. AreCoarser short.items end_strings.now) }
+    ensures coarser { IfOk result (λ short. AreCoarser short.items end_strings.now) }
+    ensures short { IfOk result (λ short. AreShort longest short.items) }
 {
     let mut short = Vec::with_capacity(alloc, end_strings.len())?;
     for end_string in end_strings {

@@ -6,7 +6,7 @@ ghost use Rattle.cs_syntax.specs.Matching.{Tree, Trees, none, more, cat};
 ghost use Rattle.cs_trigram.specs.ExactQuery.{HasFewExactStrings};
 ghost use Rattle.cs_trigram.specs.EndStrings.{forward, backward, are_all_empty, AreEndStrings};
 ghost use Rattle.cs_trigram.specs.ExactSet.{IsExactSetOf, AreExactSetsReversed};
-ghost use Rattle.cs_trigram.specs.Analysis.{IsCorrect, IsMatchQuery, AreExactStrings, IsLongestLeadingRun};
+ghost use Rattle.cs_trigram.specs.Analysis.{cross_size, IsCorrect, IsMatchQuery, AreExactStrings, IsLongestLeadingRun};
 ghost use Rattle.cs_syntax.specs.TreeList.{append};
 ghost use Rattle.cs_trigram.specs.ExactStrings.{HaveFewExactStrings};
 
@@ -32,12 +32,13 @@ pub(crate) struct SequenceQuery {
 }
 
 impl SequenceQuery {
-    ghost use Rattle.cs_trigram.specs.SequenceQuery.{IsSequenceQueryOf, ExtendsSequenceQuery, goes_two_past};
+    ghost use Rattle.cs_trigram.specs.SequenceQuery.{IsSequenceQueryOf, ExtendsSequenceQuery, AreSmall, StaysSmall, goes_two_past};
 
     /// The query of no parts.
     pub(crate) fn new(alloc: Global) -> Result<SequenceQuery, AllocError>
         ensures required { IfOk result (λ sequence_query. IsSequenceQueryOf sequence_query none) }
         ensures parts { IfOk result (λ sequence_query. AreExactSetsReversed sequence_query.parts.items none) }
+        ensures small { IfOk result (λ sequence_query. AreSmall 0 sequence_query.conjuncts.items none) }
     {
         let leading = empty_string(alloc)?;
         Ok(SequenceQuery {
@@ -52,6 +53,8 @@ impl SequenceQuery {
         ensures parts { OnOk result (self.new.parts ≡ self.old.parts) }
         ensures required { OnOk result ((t : Tree) (ts : Trees) → ¬ HasFewExactStrings t →
             IsCorrect match_query t → ExtendsSequenceQuery self.old self.new t ts) }
+        ensures small { OnOk result ((t : Tree) (ts : Trees) → ¬ HasFewExactStrings t →
+            IsCorrect match_query t → StaysSmall cross_size self.old self.new t ts) }
     {
         add_conjunct(&mut self.conjuncts, any_string(alloc, &self.leading)?)?;
         add_conjunct(&mut self.conjuncts, match_query)?;
@@ -64,6 +67,8 @@ impl SequenceQuery {
         ensures parts { OnOk result (self.new.parts ≡ self.old.parts) }
         ensures required { OnOk result ((t : Tree) (ts : Trees) → AreExactStrings strings.now t →
             AreExactSetsReversed self.old.parts.items ts → ExtendsSequenceQuery self.old self.new t ts) }
+        ensures small { OnOk result ((t : Tree) (ts : Trees) → AreExactStrings strings.now t →
+            StaysSmall cross_size self.old self.new t ts) }
     {
         let longer = cross_product(alloc, strings, &self.leading)?;
         if longer.len() <= MAX_EXACT {
@@ -110,6 +115,8 @@ impl SequenceQuery {
         ensures required { OnOk result ((t : Tree) (ts : Trees) → AreEndStrings backward suffixes.now t →
             AreEndStrings forward prefixes.now (cat ts) →
             IsSequenceQueryOf self.old (more t ts) → IsSequenceQueryOf self.new (more t ts)) }
+        ensures small { OnOk result ((ts : Trees) → AreSmall cross_size self.old.conjuncts.items ts →
+            AreSmall 0 self.new.conjuncts.items ts) }
     {
         if self.covers_cross(suffixes, prefixes) {
             return Ok(());
@@ -136,6 +143,8 @@ impl SequenceQuery {
             IsCorrect match_query t → AreEndStrings backward suffixes.now t →
             AreEndStrings forward prefixes.now (cat ts) →
             AreExactSetsReversed self.old.parts.items ts → ExtendsSequenceQuery self.old self.new t ts) }
+        ensures small { OnOk result ((t : Tree) (ts : Trees) → IsExactSetOf exact t →
+            IsCorrect match_query t → StaysSmall 0 self.old self.new t ts) }
     {
         match exact.few_strings() {
             Some(few) => self.prepend_few(alloc, few)?,
@@ -149,7 +158,8 @@ impl SequenceQuery {
     /// The query of the whole sequence.
     pub(crate) fn finish(self, alloc: Global) -> Result<Query, AllocError>
         ensures { IfOk result (λ query.
-            (ts : Trees) → IsSequenceQueryOf self ts → IsMatchQuery query (cat ts)) }
+            (ts : Trees) → IsSequenceQueryOf self ts → AreSmall 0 self.conjuncts.items ts →
+            IsMatchQuery query (cat ts)) }
     {
         let mut conjuncts = self.conjuncts;
         let last = any_string(alloc, &self.leading)?;

@@ -127,6 +127,10 @@ const QUERIES_OF_CLASSES: &[Row<'static>] = &[
     ("0x[0-9a-f]+", "", false),
     ("[0-9]{3}-[0-9]{4}", "012 12- 2-3 -34 345 456", true),
     ("[0-9]{3}-[0-9]{4}", "", false),
+    // Across two parts, ten suffixes of one byte each are followed by the literal.
+    ("[0-9]{3}xy", "9xy", true),
+    ("[0-9]{3}xy", "axy", false),
+    ("[0-9]{3}x", "", true),
     ("[a-h]bc", "hbc", true),
     ("[a-h]bc", "ibc", false),
     ("[a-h]bc", "", false),
@@ -177,4 +181,21 @@ fn requires_a_long_string(alloc: Global) -> Result<bool, AllocError> {
 #[test]
 fn query_of_a_long_string(rt: HostRuntime) {
     assert_eq!(rt; requires_a_long_string(rt.alloc()), Ok(true));
+}
+
+/// Whether the query of a string in loops nested to the parser's depth requires the string. If the
+/// body of each loop were analysed twice, this would not end.
+fn requires_a_nested_string(alloc: Global) -> Result<bool, AllocError> {
+    let before = "(".repeat(alloc, 200)?;
+    let after = ")+".repeat(alloc, 200)?;
+    let text = format!(in alloc; "{before}abc{after}")?;
+    Ok(
+        query_matches(alloc, text.as_str(), false, "abc") == Some(true)
+            && query_matches(alloc, text.as_str(), false, "") == Some(false),
+    )
+}
+
+#[test]
+fn query_of_nested_loops(rt: HostRuntime) {
+    assert_eq!(rt; requires_a_nested_string(rt.alloc()), Ok(true));
 }

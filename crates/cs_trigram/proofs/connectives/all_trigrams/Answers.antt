@@ -1,14 +1,16 @@
 use Rattle.std.proofs.Common.{◌≡◌, ℕ, ◌+◌, ◌&&◌, List, [], ◌∷◌, ◌++◌, take, ap, sym, ◌∙◌, arith, take_all, length-take}
-use Rattle.std.specs.List.{list_all}
+use Rattle.std.specs.List.{list_all, sum_by}
+use Rattle.std.proofs.lemmas.List.Sums.{sum_by_push}
 use Rattle.std.proofs.Math.Bool.{and-true}
 use Rattle.std.proofs.lemmas.List.Folds.{list_all-append}
 use Rattle.cs_trigram.specs.Trigram.{trigram_sequence}
-use Rattle.cs_trigram.specs.Query.{mentions}
+use Rattle.cs_trigram.specs.Query.{mentions, query_size}
 use Rattle.cs_trigram.specs.Analysis.{all_match, some_mentions}
 use Rattle.cs_trigram.specs.declared.queries.Query.{Query}
 use Rattle.cs_trigram.specs.declared.queries.Query.TheVariants.{Tri}
 use Rattle.cs_trigram.proofs.QueryLemmas.{matches_set-And, matches_set-Tri, mentions-And, all_match_push, mentions_push}
 use Rattle.cs_trigram.proofs.MentionLemmas.{no_trigrams, trigrams_of_both, mentions_one, trigram_at}
+use Rattle.cs_trigram.proofs.SizeLemmas.{size-Tri, size-And}
 use Rattle.cs_trigram.proofs.SplitTrigramLemmas.{sequence-short, sequence-more}
 use Rattle.cs_trigram.proofs.SubstringTrigramLemmas.{all_trigrams_tri}
 use Rattle.cs_trigram.proofs.connectives.all_trigrams.Goals as goal
@@ -20,6 +22,8 @@ loop-offset-init c = (
       ∙ ap (list_all set) (sym (sequence-short (take (0 + 2) c.args.text.now) (omega (arith, length-take (0 + 2) c.args.text.now)))),
   no_trigrams _ (Unit {0}) (λ part. part ≡ c.args.text.now)
       (λ g. ap (λ (qs : List Query). some_mentions qs g) c.in_ok-members.ensures.items),
+  ap (sum_by query_size) c.in_ok-members.ensures.items,
+  omega arith,
 )
 
 pub returns-clause-required : goal.returns-clause-required
@@ -30,6 +34,9 @@ returns-clause-required c = λ set.
 
 pub returns-clause-mentioned : goal.returns-clause-mentioned
 returns-clause-mentioned c = λ g h. c.loop-offset.invariant.2 g (sym (mentions-And g c.loop-offset.members) ∙ h)
+
+pub returns-clause-small : goal.returns-clause-small
+returns-clause-small c = omega (arith, size-And c.loop-offset.members, c.loop-offset.invariant.3, c.loop-offset.invariant.4)
 
 pub loop-offset-preserved : goal.loop-offset-preserved
 loop-offset-preserved c =
@@ -51,4 +58,6 @@ loop-offset-preserved c =
           (λ g. ap (λ (qs : List Query). some_mentions qs g) c.in_ok-push.ensures.items
           ∙ mentions_push g members (Tri number)) c.loop-offset.invariant.2
           (mentions_one number text c.trigram-number.ensures.below (trigram_at text (offset + 1 + 2) number before next)),
+      omega (arith, ap (sum_by query_size) c.in_ok-push.ensures.items, sum_by_push query_size members (Tri number), size-Tri number, c.loop-offset.invariant.3),
+      omega arith,
     )

@@ -1,10 +1,13 @@
-use Rattle.std.proofs.Common.{◌≡◌, true, ◌+◌, ◌||◌, ℕ, List, ◌≤◌, drop, length, sym, ◌∙◌, ap, arith}
+use Rattle.std.proofs.Common.{◌≡◌, true, ◌+◌, ◌-◌, ◌||◌, ℕ, List, ◌≤◌, drop, length, sym, ◌∙◌, ap, arith}
 use Rattle.cs_tree.specs.Cover.{is_among}
 use Rattle.cs_trigram.specs.Analysis.{has_trigrams, some_matches, some_mentions, has_any}
-use Rattle.cs_trigram.specs.Query.{mentions}
+use Rattle.std.specs.List.{sum_by}
+use Rattle.std.proofs.lemmas.List.Sums.{sum_by-cons, sum_by_push}
+use Rattle.cs_trigram.specs.Query.{mentions, query_size}
 use Rattle.cs_trigram.specs.declared.queries.Query.{Query}
 use Rattle.cs_trigram.proofs.MentionLemmas.{trigrams_of_both, trigrams_within, occurs_itself}
 use Rattle.cs_trigram.proofs.QueryLemmas.{matches_set-All, mentions_push, short_there, text_step}
+use Rattle.cs_trigram.proofs.SizeLemmas.{size-All}
 use Rattle.cs_trigram.proofs.EnumerationLemmas.{string_at}
 use Rattle.cs_trigram.proofs.NodeListLemmas.{item_from}
 use Rattle.cs_trigram.proofs.connectives.any_string.Goals as goal
@@ -19,6 +22,16 @@ returns-then-bytes-lt3-clause-required c = λ set.
     matches_set-All set ∙ sym (short_there set (drop (i + 1) strings) w some short)
     ∙ ap (λ (ws : List (List ℕ)). some || has_any set ws) (sym (item_from strings i w c.loop-string-test.true c.string-item.is))
     ∙ c.loop-string.invariant.0 set
+
+-- the nodes for a string
+abbrev nodes : List ℕ → ℕ
+nodes string = length string - 1
+
+pub returns-clause-small : goal.returns-clause-small
+returns-clause-small c = omega (arith, c.any_of.ensures.small, c.loop-string.invariant.2)
+
+pub returns-then-bytes-lt3-clause-small : goal.returns-then-bytes-lt3-clause-small
+returns-then-bytes-lt3-clause-small c = omega (arith, size-All)
 
 pub returns-clause-mentioned : goal.returns-clause-mentioned
 returns-clause-mentioned c = λ g h. c.loop-string.invariant.1 g (sym (c.any_of.ensures.mentioned g) ∙ h)
@@ -45,4 +58,14 @@ loop-string-preserved c =
           (trigrams_within (mentions query) (Unit {0}) (Unit {0}) (λ part. part ≡ c.bytes-in-loop-string.result.now)
           (λ string. is_among strings string ≡ true) c.in_ok-all_trigrams.ensures.mentioned (λ b. b)
           (λ b part e. (w, among, occurs_itself part w (e ∙ c.bytes-in-loop-string.ensures)))),
+      omega (
+        arith,
+        ap (sum_by query_size) c.in_ok-push.ensures.items,
+        sum_by_push query_size members query,
+        c.in_ok-all_trigrams.ensures.small,
+        ap length c.bytes-in-loop-string.ensures,
+        ap (sum_by nodes) (item_from strings c.loop-string.string-index w c.loop-string-test.true c.string-item.is),
+        sum_by-cons nodes w rest,
+        c.loop-string.invariant.2,
+      ),
     )

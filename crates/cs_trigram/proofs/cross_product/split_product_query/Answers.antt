@@ -1,29 +1,31 @@
-use Rattle.std.proofs.Common.{◌≡◌, ◌∙◌, List, true, sym, ap, subst}
+use Rattle.std.proofs.Common.{◌≡◌, ◌∙◌, List, true, sym, ap, subst, arith}
 use Rattle.std.proofs.lemmas.Bool.{and_from}
-use Rattle.cs_trigram.specs.Query.{matches_set, mentions}
+use Rattle.std.specs.List.{sum_by}
+use Rattle.cs_trigram.specs.Query.{matches_set, mentions, query_size}
 use Rattle.cs_trigram.specs.Analysis.{all_match, some_mentions}
-use Rattle.cs_trigram.specs.EndStrings.{AreCoarser}
+use Rattle.cs_trigram.specs.EndStrings.{AreCoarser, AreShort}
 use Rattle.cs_trigram.specs.SequenceQuery.{IsAcross}
 use Rattle.cs_trigram.specs.declared.end_strings.EndString.{EndString}
 use Rattle.cs_trigram.specs.declared.queries.Query.{Query}
 use Rattle.cs_trigram.proofs.QueryLemmas.{matches_set-And, mentions-And}
+use Rattle.cs_trigram.proofs.SizeLemmas.{size-And}
 use Rattle.cs_trigram.proofs.MentionLemmas.{no_trigrams, trigrams_of_both}
 use Rattle.cs_trigram.proofs.TruncationLemmas.{coarser_same}
 use Rattle.cs_trigram.proofs.CrossProductLemmas.{coarser_query}
 use Rattle.cs_trigram.proofs.cross_product.split_product_query.Goals as goal
 
-pub returns : goal.returns
-returns c =
+pub returns-clause-across : goal.returns-clause-across
+returns-clause-across c =
     let suffixes = c.args.suffixes.now in
     let prefixes = c.args.prefixes.now in
     let conjuncts = c.new-conjuncts.result.items in
     let next = c.add_conjunct.new.conjuncts.items in
-    let first = subst (λ (xs : List EndString). AreCoarser xs prefixes) (sym c.deref.ensures.value) c.in_ok-first.ensures in
-    let last = subst (λ (xs : List EndString). AreCoarser xs suffixes) (sym c.deref-2.ensures.value) c.in_ok-last.ensures in
+    let first = subst (λ (xs : List EndString). AreCoarser xs prefixes) (sym c.deref.ensures.value) c.in_ok-first.ensures.coarser in
+    let last = subst (λ (xs : List EndString). AreCoarser xs suffixes) (sym c.deref-2.ensures.value) c.in_ok-last.ensures.coarser in
     let one = coarser_query c.in_ok-product_query.field-0 suffixes c.deref.result.now suffixes prefixes
-    (coarser_same suffixes) first c.in_ok-product_query.ensures in
+    (coarser_same suffixes) first c.in_ok-product_query.ensures.across in
     let other = coarser_query c.in_ok-product_query-2.field-0 c.deref-2.result.now prefixes suffixes prefixes last
-    (coarser_same prefixes) c.in_ok-product_query-2.ensures in
+    (coarser_same prefixes) c.in_ok-product_query-2.ensures.across in
     record {
       required = λ set u v a b has.
           let none : all_match conjuncts set ≡ true = ap (λ (qs : List Query). all_match qs set) c.new-conjuncts.ensures.items in
@@ -43,3 +45,17 @@ returns c =
           c.in_ok-add_conjunct.ensures.mentioned none one.mentioned) other.mentioned
           g (sym (mentions-And g c.add_conjunct-2.new.conjuncts) ∙ h);
     }
+
+pub returns-clause-small : goal.returns-clause-small
+returns-clause-small c = λ suffixes prefixes.
+    let one = c.in_ok-product_query.ensures.small 2 1 suffixes (subst (AreShort 1) (sym c.deref.ensures.value) c.in_ok-first.ensures.short) in
+    let other = c.in_ok-product_query-2.ensures.small 1 2 (subst (AreShort 1) (sym c.deref-2.ensures.value) c.in_ok-last.ensures.short) prefixes in
+    omega (
+      arith,
+      one,
+      other,
+      size-And c.add_conjunct-2.new.conjuncts,
+      c.in_ok-add_conjunct.ensures.small,
+      c.in_ok-add_conjunct-2.ensures.small,
+      ap (sum_by query_size) c.new-conjuncts.ensures.items,
+    )

@@ -6,4 +6,4 @@ use Rattle.cs_trigram.proofs.end_strings.simplify_set.Goals as goal
 pub cut-preserved : goal.cut-preserved
 cut-preserved c =
     coarser_both c.in_ok-short.short.items c.cut.short.items c.args.end_strings.items
-    (subst (AreCoarser c.in_ok-short.short.items) c.deref.ensures.value c.in_ok-short.ensures) c.cut.invariant
+    (subst (AreCoarser c.in_ok-short.short.items) c.deref.ensures.value c.in_ok-short.ensures.coarser) c.cut.invariant

@@ -21,6 +21,6 @@ returns c = λ t exact prefix suffix query.
           (subst (AreCoarser c.in_ok-suffix.suffix.items)
           (ap (map whole_text) (c.deref.ensures.value ∙ c.in_ok-reversed.ensures)
           ∙ map-map whole_text reverse c.in-Some.few.now) c.in_ok-suffix.ensures);
-      query = correct_strings _ _ t few c.in_ok-query.ensures.required c.in_ok-query.ensures.mentioned;
+      query = correct_strings _ _ t few c.in_ok-query.ensures.required c.in_ok-query.ensures.mentioned c.in_ok-query.ensures.small;
       required = λ _. string_required _ _ t few c.in_ok-query.ensures.required;
     }

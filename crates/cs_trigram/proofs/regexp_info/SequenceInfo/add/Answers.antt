@@ -20,4 +20,5 @@ returns c = λ t ts part info.
           (concatenations_via _ _ _ _ _ c.deref-5.ensures.value c.deref-6.ensures.value c.in_ok-self-3.ensures) part.suffix info.suffix;
       parts = c.in_ok-add.ensures.parts t ts part.exact info.parts;
       required = c.in_ok-add.ensures.required t ts part.exact part.query suffixes prefixes info.parts info.required;
+      small = c.in_ok-add.ensures.small t ts part.exact part.query info.required info.small;
     }

@@ -14,4 +14,5 @@ returns c = record {
   suffix = empty_end_strings backward _ c.in_ok-suffix.ensures;
   parts = c.in_ok-sequence_query.ensures.parts;
   required = c.in_ok-sequence_query.ensures.required;
+  small = c.in_ok-sequence_query.ensures.small;
 }

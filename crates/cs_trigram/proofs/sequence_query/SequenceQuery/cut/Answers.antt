@@ -1,11 +1,13 @@
-use Rattle.std.proofs.Common.{false, ◌≡◌, ◌&&◌, ℕ, Bool, true, List, sym, ap, ◌∙◌, subst}
+use Rattle.std.proofs.Common.{false, ◌≡◌, ◌&&◌, ◌-◌, ℕ, Bool, true, List, length, sym, ap, ◌∙◌, subst, arith}
 use Rattle.cs_tree.specs.Cover.{is_among}
 use Rattle.cs_syntax.specs.Matching.{more}
-use Rattle.cs_trigram.specs.Query.{matches_set, mentions}
+use Rattle.std.specs.List.{sum_by}
+use Rattle.cs_trigram.specs.Query.{matches_set, mentions, query_size}
 use Rattle.cs_trigram.specs.MayMatch.{MayMatchSequence, HaveMembers}
 use Rattle.cs_trigram.specs.Analysis.{IsQueryBeyondRun, MentionsOnly, all_match, some_mentions, has_any}
 use Rattle.cs_trigram.proofs.MentionLemmas.{trigrams_of_both}
 use Rattle.cs_trigram.proofs.SequenceMentionLemmas.{trigrams_of_run, trigrams_of_rest, trigrams_of_first}
+use Rattle.cs_trigram.proofs.SmallQueryLemmas.{leading_small, small_past_cut}
 use Rattle.cs_trigram.proofs.SequenceQueryLemmas.{query_past_cut}
 use Rattle.cs_trigram.proofs.sequence_query.SequenceQuery.cut.Goals as goal
 
@@ -34,3 +36,17 @@ returns-clause-required c = λ t ts no_few match_query sequence_query.
           c.in_ok-any_string.ensures.mentioned))))
           (trigrams_of_first (mentions c.args.match_query) t ts match_query.mentioned),
     )
+
+pub returns-clause-small : goal.returns-clause-small
+returns-clause-small c = λ t ts no_few match_query sequence_query small.
+    let queries = c.args.self.now.conjuncts.items in
+    let strings = leading_small 0 queries ts small c.args.self.now.leading.items sequence_query.0.run in
+    small_past_cut queries t ts small c.add_conjunct-2.new.conjuncts.items (query_size c.args.match_query) no_few match_query.small
+    (omega (
+      arith,
+      c.in_ok-add_conjunct-2.ensures.small,
+      c.in_ok-add_conjunct.ensures.small,
+      c.in_ok-any_string.ensures.small,
+      ap (sum_by (λ string. length string - 1)) c.deref.ensures.value,
+      strings,
+    ))

@@ -1,4 +1,5 @@
-use Rattle.std.proofs.Common.{false, ◌≡◌, ◌&&◌, ℕ, Bool, true, List, sym, ap, ◌∙◌, subst}
+use Rattle.std.proofs.Common.{false, ◌≡◌, ◌&&◌, ◌-◌, ℕ, Bool, true, List, length, sym, ap, ◌∙◌, subst, arith}
+use Rattle.std.specs.List.{sum_by}
 use Rattle.cs_tree.specs.Cover.{is_among}
 use Rattle.cs_trigram.specs.Query.{matches_set, mentions}
 use Rattle.cs_trigram.specs.MayMatch.{MayMatchSequence, HaveMembers}
@@ -7,11 +8,13 @@ use Rattle.cs_trigram.specs.declared.queries.Query.TheVariants.{And}
 use Rattle.cs_trigram.proofs.QueryLemmas.{matches_set-And, mentions-And}
 use Rattle.cs_trigram.proofs.MentionLemmas.{trigrams_of_both}
 use Rattle.cs_trigram.proofs.SequenceMentionLemmas.{trigrams_of_run}
+use Rattle.cs_trigram.proofs.SizeLemmas.{size-And}
+use Rattle.cs_trigram.proofs.SmallQueryLemmas.{leading_small, last_in_sum}
 use Rattle.cs_trigram.proofs.SequenceQueryLemmas.{query_of_whole}
 use Rattle.cs_trigram.proofs.sequence_query.SequenceQuery.finish.Goals as goal
 
 pub returns : goal.returns
-returns c = λ ts sequence_query many.
+returns c = λ ts sequence_query small many.
     let leading = c.args.self.leading.items in
     let conjuncts : (ℕ → Bool) → Bool = λ set. all_match c.args.self.conjuncts.items set in
     let whole : (ℕ → Bool) → Bool = λ set. matches_set (And c.add_conjunct.new.conjuncts) set in
@@ -30,4 +33,16 @@ returns c = λ ts sequence_query many.
           (subst (λ (ws : List (List ℕ)). MentionsOnly c.in_ok-last.last (λ w. is_among ws w ≡ true))
           c.deref.ensures.value c.in_ok-last.ensures.mentioned))
           g (sym (mentions-And g c.add_conjunct.new.conjuncts) ∙ h);
+      small =
+          let strings = leading_small 0 c.args.self.conjuncts.items ts small leading sequence_query.0.run in
+          omega (
+            arith,
+            small.within,
+            size-And c.add_conjunct.new.conjuncts,
+            c.in_ok-add_conjunct.ensures.small,
+            c.in_ok-last.ensures.small,
+            ap (sum_by (λ string. length string - 1)) c.deref.ensures.value,
+            strings,
+            last_in_sum small.heaviest 19,
+          );
     }

@@ -4,6 +4,7 @@ use Rattle.cs_trigram.specs.Analysis.{IsQueryBeyondRun, all_match, some_mentions
 use Rattle.cs_trigram.specs.MayMatch.{MayMatchSequence, HaveMembers}
 use Rattle.cs_trigram.specs.declared.queries.Query.{Query}
 use Rattle.cs_trigram.proofs.MentionLemmas.{no_trigrams}
+use Rattle.cs_trigram.proofs.SmallQueryLemmas.{small_none}
 use Rattle.cs_trigram.proofs.SequenceQueryLemmas.{query_of_none}
 use Rattle.cs_trigram.proofs.sequence_query.SequenceQuery.new.Goals as goal
 
@@ -14,3 +15,6 @@ returns-clause-required c = (
   no_trigrams (some_mentions c.new.result.items) (HaveMembers none) (MayMatchSequence false none)
       (λ g. ap (λ (qs : List Query). some_mentions qs g) c.new.ensures.items),
 )
+
+pub returns-clause-small : goal.returns-clause-small
+returns-clause-small c = small_none c.new.result.items c.new.ensures.items

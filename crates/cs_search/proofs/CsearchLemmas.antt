@@ -38,7 +38,8 @@ use Rattle.cs_search.specs.Refusals.{IsAccepted, SilentOnError, has_write_failed
 use Rattle.cs_search.specs.GrepFaults.{IsSearchFault}
 use Rattle.cs_search.specs.Searcher.{PrintsAllFaults}
 use Rattle.cs_history.specs.MatchingFiles.{names_matching}
-use Rattle.cs_search.specs.Csearch.{IsQueryOf, IndexQuery, file_text, Keeps, csearch_printed, AreAccepted, OpensWhole, RefusedInOrder}
+use Rattle.cs_trigram.specs.QueryOf.{IsQueryOf}
+use Rattle.cs_search.specs.Csearch.{IndexQuery, file_text, Keeps, csearch_printed, AreAccepted, OpensWhole, RefusedInOrder}
 use Rattle.cs_search.specs.Plans.{IsPlan, RefusesPlan}
 use Rattle.cs_search.specs.declared.plan.Plan.{Plan}
 use Rattle.cs_search.specs.declared.status.Status.{Status}

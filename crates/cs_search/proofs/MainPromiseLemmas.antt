@@ -13,6 +13,7 @@ use Rattle.cs_tree.specs.Snapshot.{Snapshot}
 use Rattle.cs_trigram.specs.declared.queries.Query.{Query, Query-F, fold-roll-Query}
 use Rattle.cs_trigram.specs.declared.queries.Query.TheVariants.{rolls-All}
 use Rattle.cs_trigram.specs.Query.{matches_set, matches_set_step, LosesNoLine}
+use Rattle.cs_trigram.specs.QueryOf.{IsQueryOf}
 use Rattle.cs_index.specs.Encoding.{encoding, encoding_of}
 use Rattle.cs_index.specs.Decoding.{DecodesAs}
 use Rattle.cs_index.specs.OpenedParts.{Parts, files_read, lists_in}
@@ -40,7 +41,7 @@ use Rattle.cs_index.specs.declared.fault.IndexFault.{IndexFault}
 use Rattle.cs_args.specs.Faults.{index_fault}
 use Rattle.cs_search.specs.Plans.{IsPlan, AreSelected, RefusesPlan}
 use Rattle.cs_search.specs.declared.plan.Plan.{Plan}
-use Rattle.cs_search.specs.Csearch.{file_text, OpensWith, IsQueryOf, IndexQuery, DecidesSearch, csearch_printed, AreAccepted, OpensWhole, PrintsCandidates}
+use Rattle.cs_search.specs.Csearch.{file_text, OpensWith, IndexQuery, DecidesSearch, csearch_printed, AreAccepted, OpensWhole, PrintsCandidates}
 use Rattle.cs_search.proofs.SkippedFileLemmas.{search_alike}
 use Rattle.cs_search.proofs.CgrepLemmas.{decides_program}
 use Rattle.cs_search.proofs.SelectionLemmas.{decided}

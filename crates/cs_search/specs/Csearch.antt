@@ -4,11 +4,8 @@ use Rattle.cs_syntax.specs.Matching.{Tree}
 use Rattle.cs_syntax.specs.Parsing.{ParsesAs}
 use Rattle.cs_match.specs.Deciding.{Decides}
 use Rattle.cs_tree.specs.Snapshot.{Snapshot}
-use Rattle.cs_trigram.specs.Query.{LosesNoLine}
 use Rattle.cs_trigram.specs.declared.queries.Query.{Query}
-use Rattle.cs_trigram.specs.declared.queries.Query.TheVariants.{All}
-use Rattle.cs_trigram.specs.ExactRuns.{IsSelective}
-use Rattle.cs_trigram.specs.MayMatch.{MentionsTrigramsOf}
+use Rattle.cs_trigram.specs.QueryOf.{IsQueryOf}
 use Rattle.cs_index.specs.Decoding.{DecodesAs}
 use Rattle.cs_index.specs.Failing.{Fails}
 use Rattle.cs_index.specs.OpenedParts.{Parts, files_read}
@@ -30,12 +27,6 @@ use Rattle.cs_search.specs.Printed.{Printed, file_printed, all_printed}
 -- the bytes of the index exist, and decode as these parts
 abbrev pub OpensWith : Option (List ℕ) → Parts → Type 0
 OpensWith index parts = IsSomeAnd index (λ bytes. DecodesAs bytes parts)
-
--- With `-brute` every file matches the query. Otherwise the query loses no line that the pattern matches, is selective,
--- and mentions only trigrams of texts that the pattern may match.
-abbrev pub IsQueryOf : Bool → Tree → Query → Type 0
-IsQueryOf true pattern query = query ≡ All
-IsQueryOf false pattern query = LosesNoLine query pattern × IsSelective query pattern × MentionsTrigramsOf query pattern
 
 -- The input of a search by this query: what the bytes of the index decode as. The query is right for the job's pattern.
 pub record IndexQuery (job : SearchJob) (index : Option (List ℕ)) (query : Query) : Type 0 where

@@ -15,6 +15,7 @@ pub use Rattle.cs_trigram.specs.Trigram
 pub use Rattle.cs_trigram.specs.Text
 pub use Rattle.cs_trigram.specs.Query
 pub use Rattle.cs_trigram.specs.ExactRuns
+pub use Rattle.cs_trigram.specs.QueryOf
 pub use Rattle.cs_tree.specs.Transfers
 pub use Rattle.cs_tree.specs.ConsumesAtMost
 pub use Rattle.cs_tree.specs.StreamModels

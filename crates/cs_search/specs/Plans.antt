@@ -4,6 +4,7 @@ use Rattle.std.specs.declared.alloc.Global.{Global}
 use Rattle.cs_syntax.specs.Matching.{Tree}
 use Rattle.cs_syntax.specs.Parsing.{ParsesAs}
 use Rattle.cs_trigram.specs.declared.queries.Query.{Query}
+use Rattle.cs_trigram.specs.QueryOf.{IsQueryOf}
 use Rattle.cs_index.specs.OpenedParts.{Parts}
 use Rattle.cs_index.specs.Candidates.{candidates_of}
 use Rattle.cs_index.specs.Answerable.{is_answerable}
@@ -12,7 +13,7 @@ use Rattle.cs_args.specs.declared.fault.ToolFault.{ToolFault}
 use Rattle.cs_search.specs.declared.plan.Plan.{Plan}
 use Rattle.cs_search.specs.declared.status.Status.{Status}
 use Rattle.cs_search.specs.Refusals.{has_write_failed}
-use Rattle.cs_search.specs.Csearch.{file_text, IsQueryOf, OpensWith, RefusedInOrder}
+use Rattle.cs_search.specs.Csearch.{file_text, OpensWith, RefusedInOrder}
 use Rattle.cs_search.specs.IndexSearch.{IsFileProgram, AreKept}
 use Rattle.cs_search.specs.Programs.{IsProgramOf}
 

@@ -3,7 +3,7 @@ ghost use Rattle.std.specs.Prelude.{◌≡◌, ◌+◌, ℕ, List, Option, IfOk,
 ghost use Rattle.cs_tree.specs.Sinks.{CountsOne, HasFlushed};
 ghost use Rattle.cs_tree.specs.ReadCounts.{ReadsWithin};
 ghost use Rattle.cs_search.specs.InputReport.{max_searched};
-ghost use Rattle.cs_search.specs.Csearch.{IsQueryOf};
+ghost use Rattle.cs_trigram.specs.QueryOf.{IsQueryOf};
 ghost use Rattle.cs_search.specs.Plans.{IsPlan, AreSelected, RefusesPlan};
 ghost use Rattle.cs_search.specs.Printed.{PrintsNothing};
 ghost use Rattle.cs_search.specs.Refusals.{has_write_failed, SilentOnError};

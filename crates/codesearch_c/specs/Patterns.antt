@@ -8,7 +8,7 @@ use Rattle.cs_syntax.specs.declared.fault.PatternError.{PatternError}
 use Rattle.codesearch_c.specs.declared.held.Held.{Held}
 use Rattle.codesearch_c.specs.Compiled.{Compiled}
 use Rattle.cs_match.specs.Lines.{lines}
-use Rattle.cs_trigram.specs.Query.{LosesNoLine}
+use Rattle.cs_trigram.specs.QueryOf.{IsQueryOf}
 use Rattle.cs_trigram.specs.declared.queries.Query.{Query}
 use Rattle.cs_index.specs.OpenedParts.{Parts}
 use Rattle.cs_index.specs.Candidates.{candidates_of}
@@ -27,11 +27,11 @@ pub data IsRefusal (text : List ℕ) (fold : Bool) (code : ℤ) (at : ℕ) : Typ
   rejected : (e : PatternError) → IsParseError text fold e → code ≡ pattern_code e.fault → at ≡ e.at → IsRefusal text fold code at
   refused : code ≡ memory → at ≡ 0 → IsRefusal text fold code at
 
--- after a compilation into an empty slot it holds the pattern of the text, or nothing
+-- after a compilation into an empty slot it holds the pattern of the text and its query, or nothing
 abbrev pub IsCompiled : List ℕ → Bool → ℕ → Option Held → ℤ → ℕ → Type 0
 IsCompiled text fold old_at slot code at =
     OnPattern slot (IsRefusal text fold code at)
-    (λ held. ParsesAs text fold held.pattern × LosesNoLine held.query held.pattern × (code ≡ done) × (at ≡ old_at))
+    (λ held. ParsesAs text fold held.pattern × IsQueryOf false held.pattern held.query × (code ≡ done) × (at ≡ old_at))
 
 -- the call is answered so, and the slot keeps what it holds
 abbrev pub IsMisuse : Option Held → Option Held → ℤ → Type 0

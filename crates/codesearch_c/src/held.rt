@@ -22,15 +22,15 @@ impl Model for HeldPattern {
 
     ghost coded = { compiled_code };
 
-    ghost use Rattle.std.specs.Prelude.{IfSome};
+    ghost use Rattle.std.specs.Prelude.{IfSome, false};
     ghost use Rattle.cs_match.specs.Cached.{IsCacheOf};
     ghost use Rattle.cs_match.specs.SameLines.{MatchSameLines};
-    ghost use Rattle.cs_trigram.specs.Query.{LosesNoLine};
+    ghost use Rattle.cs_trigram.specs.QueryOf.{IsQueryOf};
 
     ghost view = { λ held. record { pattern = held.pattern; query = held.query } };
 
     ghost invariant = { λ held. MatchSameLines held.program held.pattern
-        × LosesNoLine held.query held.pattern × IfSome held.cache (IsCacheOf held.program) };
+        × IsQueryOf false held.pattern held.query × IfSome held.cache (IsCacheOf held.program) };
 }
 
 /// An index under construction, and the scanner of its texts.

@@ -1,7 +1,7 @@
 // Exports over a pattern.
 ghost use Rattle.std.specs.Prelude.{◌≡◌, ◌≢◌, true, false, Some, None, IsOk, IfOk, IfErr};
 ghost use Rattle.cs_syntax.specs.Parsing.{ParsesAs};
-ghost use Rattle.cs_trigram.specs.Query.{LosesNoLine};
+ghost use Rattle.cs_trigram.specs.QueryOf.{IsQueryOf};
 ghost use Rattle.cs_index.specs.Opening.{opening};
 ghost use Rattle.codesearch_c.specs.Codes.{done};
 ghost use Rattle.codesearch_c.specs.Slots.{is_filled, OnPattern};
@@ -54,7 +54,7 @@ pub extern "C" fn cs_pattern_compile(
 fn compile(alloc: Global, text: &[u8], fold: bool) -> Result<Box<Held>, (i32, usize)>
     ensures compiled { IfOk result (λ held.
         OnPattern (Some held.value) (false ≡ true) (λ p.
-        ParsesAs text.now fold p.pattern × LosesNoLine p.query p.pattern)) }
+        ParsesAs text.now fold p.pattern × IsQueryOf false p.pattern p.query)) }
     ensures refused { IfErr result (λ (code, at). IsRefusal text.now fold code at) }
 {
     let pattern = parsed(alloc, text, fold)?;
@@ -82,7 +82,7 @@ fn parsed(alloc: Global, text: &[u8], fold: bool) -> Result<Pattern, (i32, usize
 fn prepared(alloc: Global, pattern: Pattern) -> Result<Box<Held>, AllocError>
     ensures { IfOk result (λ held.
         OnPattern (Some held.value) (false ≡ true) (λ p.
-        (p.pattern ≡ pattern) × LosesNoLine p.query p.pattern)) }
+        (p.pattern ≡ pattern) × IsQueryOf false p.pattern p.query)) }
 {
     let program = Program::compile(alloc, &pattern)?;
     let query = query(alloc, &pattern)?;

@@ -2,14 +2,13 @@
 use Rattle.std.proofs.Common.{◌≡◌, ℕ, true, false, cond, not, List, refl, sym, ap, subst, ◌∙◌, inl, Option, Some, None, Ok, IsSomeAnd}
 use Rattle.cs_cindex.proofs.Common.{list_all, is_normalized, are_distinct, Parts, StandsIn, StoredParts, OpensAsTables, TableParts, CindexFault, BadIndex, Unsorted, IsFit, IsFitFor, opening_fault, unfit_parts_fault, EarlyOr}
 use Rattle.cs_index.specs.Opening.{opening}
-use Rattle.cs_index.specs.ValidSections.{read_split}
 use Rattle.cs_index.specs.declared.fault.IndexFault.TheVariants.{BadPaths}
+use Rattle.cs_index.proofs.decoding.DecodableBytesOpen.{opens_as_decoded}
 
 -- ---- what stands in the bytes is what they open as
 
 pub stands_open : (bytes : List ℕ) (stored : StoredParts) (parts : Parts) → StandsIn bytes stored parts → opening bytes ≡ Ok parts
-unfolding opening
-stands_open bytes stored parts stands = ap read_split stands.split ∙ stands.read
+stands_open bytes stored parts stands = opens_as_decoded bytes parts stands.decodes
 
 -- ---- the tests of tables are those of the index
 

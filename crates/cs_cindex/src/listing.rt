@@ -2,7 +2,7 @@
 ghost use Rattle.std.specs.Prelude.{◌≡◌, ◌++◌, ℕ, List, Option, Some, codes, IfErr, IfOk, option_map};
 ghost use Rattle.cs_tree.specs.FailureCount.{count_after};
 ghost use Rattle.cs_tree.specs.WritesBytes.{WritesBytes};
-ghost use Rattle.cs_index.specs.Stored.{OpensAs};
+ghost use Rattle.cs_index.specs.StoredTables.{OpensAs};
 ghost use Rattle.cs_cindex.specs.OldIndex.{IsIndex, IsUnreadable, has_failed};
 ghost use Rattle.cs_cindex.specs.Outcomes.{AnswersFor};
 ghost use Rattle.cs_cindex.specs.Output.{index_lines, output, path_lines, is_failed_write};

@@ -10,7 +10,6 @@ use Rattle.cs_index.specs.declared.fault.IndexFault.TheVariants.{BadMagic, BadTr
 use Rattle.cs_index.specs.Encoding.{with_nul, starts_from, SectionBytes, magic, trailer_magic, ListEntry}
 use Rattle.cs_index.specs.Strings.{texts_in}
 use Rattle.cs_index.specs.OpenedParts.{Parts}
-use Rattle.cs_index.specs.declared.reading.section_offsets.SectionOffsets.{SectionOffsets}
 
 -- ---- numbers
 
@@ -86,16 +85,6 @@ split_at_offsets bytes a b c d e trailer =
       name_index = slice_range bytes d e;
       list_index = slice_range bytes e trailer;
     }) else Err BadOffsets
-
--- the sections at these offsets
-abbrev pub sections_at : List ℕ → SectionOffsets → SectionBytes
-sections_at bytes s = record {
-  paths = slice_range bytes s.paths s.names;
-  names = slice_range bytes s.names s.postings;
-  postings = slice_range bytes s.postings s.name_index;
-  name_index = slice_range bytes s.name_index s.list_index;
-  list_index = slice_range bytes s.list_index s.trailer;
-}
 
 -- the sections at the offsets in the trailer
 abbrev pub split_before : List ℕ → ℕ → Result SectionBytes IndexFault

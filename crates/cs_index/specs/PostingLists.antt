@@ -1,6 +1,6 @@
 -- Decoding of posting lists: the ids up to the first damage, and the trigrams of each name.
 -- docs/FORMAT.md, "The index as it is read".
-use Rattle.std.specs.Prelude.{ℕ, zero, suc, ◌+◌, ◌-◌, ◌*◌, ◌^◌, Bool, false, nat_eq, nat_lt, ◌&&◌, if◌then◌else◌, List, [], ◌∷◌, ◌++◌, map, take, drop, Option, Some, None, option_map, filter, bytes_eq}
+use Rattle.std.specs.Prelude.{ℕ, zero, suc, ◌+◌, ◌-◌, ◌*◌, ◌^◌, Bool, false, nat_eq, nat_lt, ◌&&◌, if◌then◌else◌, List, [], ◌∷◌, map, take, drop, Option, Some, None, option_map, filter, bytes_eq}
 use Rattle.cs_trigram.specs.Trigram.{has}
 use Rattle.cs_index.specs.Encoding.{three_bytes, ListEntry, Entry, PostingList}
 
@@ -27,10 +27,6 @@ damage = record { ids = []; whole = false }
 
 abbrev pub onto : ℕ → Ids → Ids
 onto id rest = record { ids = id ∷ rest.ids; whole = rest.whole }
-
--- ids prepended to a list
-abbrev pub before : List ℕ → Ids → Ids
-before ids read = record { ids = ids ++ read.ids; whole = read.whole }
 
 -- `count` ids and a closing zero. A missing varint, a delta of zero, or an id that no name has is damage.
 -- `next` is one more than the id before.

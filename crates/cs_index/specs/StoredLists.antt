@@ -5,7 +5,7 @@ use Rattle.std.specs.declared.alloc.Global.{Global}
 use Rattle.std.specs.List.{AllByRecursion}
 use Rattle.cs_tree.specs.Store.{part_of}
 use Rattle.cs_index.specs.AscendingIds.{BeginsFrom, max_ids}
-use Rattle.cs_index.specs.PostingLists.{Ids, before, onto, read_ids}
+use Rattle.cs_index.specs.PostingLists.{Ids, onto, read_ids}
 use Rattle.cs_index.specs.OpenedParts.{Parts}
 use Rattle.cs_index.specs.declared.reading.stored_list.ListSection.{ListSection}
 
@@ -48,6 +48,10 @@ abbrev pub GivesBelow : List ℕ → ℕ → ListState → ListState → Option 
 GivesBelow bytes end list rest (Some id) = Holds bytes rest × (ids_left bytes list ≡ onto id (ids_left bytes rest)) × (id < end)
 GivesBelow bytes end list rest None =
     Holds bytes rest × (ids_left bytes rest ≡ ids_left bytes list) × BeginsFrom end (ids_left bytes list).ids
+
+-- ids prepended to a list
+abbrev pub before : List ℕ → Ids → Ids
+before ids read = record { ids = ids ++ read.ids; whole = read.whole }
 
 -- ids less than `end` are taken from the list
 abbrev pub SkipsBelow : List ℕ → ℕ → ListState → ListState → Type 0

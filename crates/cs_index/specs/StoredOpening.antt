@@ -5,7 +5,8 @@ use Rattle.cs_index.specs.declared.fault.IndexFault.TheVariants.{BadOffsets}
 use Rattle.cs_index.specs.declared.reading.section_offsets.SectionOffsets.{SectionOffsets}
 use Rattle.std.specs.List.{ends_with}
 use Rattle.cs_index.specs.Encoding.{SectionBytes, trailer_magic}
-use Rattle.cs_index.specs.Opening.{are_section_offsets, split_of, number_at, sections_at}
+use Rattle.cs_index.specs.Opening.{are_section_offsets, split_of, number_at}
+use Rattle.cs_index.specs.Stored.{sections_at}
 
 -- the last bytes of `len` bytes are a trailer
 abbrev pub is_tail : List ℕ → ℕ → Bool

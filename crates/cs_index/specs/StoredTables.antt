@@ -8,7 +8,7 @@ use Rattle.cs_index.specs.Built.{max_names}
 use Rattle.cs_index.specs.Encoding.{IsString, ListEntry}
 use Rattle.cs_index.specs.OpenedParts.{Parts}
 use Rattle.cs_index.specs.Opening.{is_entry, opening, rises}
-use Rattle.cs_index.specs.Stored.{StandsIn}
+use Rattle.cs_index.specs.Stored.{StandsIn, StoredParts}
 
 -- The paths, the names, the entries of the list index, and the offset of each section.
 pub record TableParts : Type 0 where
@@ -16,6 +16,11 @@ pub record TableParts : Type 0 where
   pub names : List (List ℕ)
   pub entries : List ListEntry
   pub starts : SectionOffsets
+
+-- the bytes open as this index, or with this error
+abbrev pub OpensAs : List ℕ → Result StoredParts IndexFault → Type 0
+OpensAs bytes (Ok stored) = (parts : Parts) × StandsIn bytes stored parts
+OpensAs bytes (Err fault) = opening bytes ≡ Err fault
 
 -- The bytes are the index of these parts, and the tables are its tables.
 pub record TablesIn (bytes : List ℕ) (tables : TableParts) (parts : Parts) : Type 0 where

@@ -12,12 +12,12 @@ use Rattle.std.specs.Prelude.{filter, IfSome}
 use Rattle.std.specs.List.{AllByRecursion, AllZip, list_any, range_with_len}
 use Rattle.cs_trigram.specs.Trigram.{has}
 use Rattle.cs_index.specs.AscendingIds.{AscendWithin, BeginsFrom, ids_onward, max_ids}
-use Rattle.cs_index.specs.PostingLists.{Ids, before}
+use Rattle.cs_index.specs.PostingLists.{Ids}
 use Rattle.cs_index.specs.IdStream.{IsMarked}
 use Rattle.cs_index.specs.Form.{IsRequired, number_matches}
 use Rattle.cs_index.specs.declared.reading.form.Node.{Node}
 use Rattle.cs_index.specs.Rows.{are_whole, column, have_id, HaveWidth, IsLeft, IsReadOn, IsReadTo, LacksId, RowSoFar}
-use Rattle.cs_index.specs.StoredLists.{ListState, Holds, ids_left}
+use Rattle.cs_index.specs.StoredLists.{ListState, Holds, before, ids_left}
 use Rattle.cs_index.proofs.postings.IteratorSteps.{mark_step}
 
 -- ---- ids that ascend

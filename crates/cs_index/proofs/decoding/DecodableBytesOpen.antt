@@ -247,16 +247,22 @@ opens_sections s parts postings paths names offsets lists short =
     (list_index_decoded s.postings s.list_index parts.entries lists)
     (λ i. record { paths = path_texts i; names = texts i; entries = entries i; postings = postings i })
 
-pub opens_as_decoded : (bytes : List ℕ) (parts : Parts) → DecodesAs bytes parts → opening bytes ≡ Ok parts
-unfolding opening
-opens_as_decoded bytes parts decodes =
+-- bytes that decode split into the sections of the decoding, and these open as its parts
+pub split_as_decoded : (bytes : List ℕ) (parts : Parts) (decodes : DecodesAs bytes parts) →
+    (split_of bytes ≡ Ok decodes.sections) × (read_sections decodes.sections ≡ Ok parts)
+split_as_decoded bytes parts decodes =
     let s : SectionBytes = decodes.sections in
     let are = decodes.is_layout in
     let short : length (layout s) < 2 ^ 32 = subst (λ (bs : List ℕ). length bs < 2 ^ 32) are.bytes_are are.short in
-    let slices : split_of bytes ≡ Ok s = ap split_of are.bytes_are ∙ split_decoded s short in
-    let l = lengths s in
-    ap read_split slices ∙ opens_sections s parts decodes.postings_are decodes.paths_are decodes.names_are
-    decodes.name_index_is decodes.list_index_is (omega (arith, l.whole, l.bytes_are, short))
+    let l = lengths s in (
+      ap split_of are.bytes_are ∙ split_decoded s short,
+      opens_sections s parts decodes.postings_are decodes.paths_are decodes.names_are
+          decodes.name_index_is decodes.list_index_is (omega (arith, l.whole, l.bytes_are, short)),
+    )
+
+pub opens_as_decoded : (bytes : List ℕ) (parts : Parts) → DecodesAs bytes parts → opening bytes ≡ Ok parts
+unfolding opening
+opens_as_decoded bytes parts decodes = let both = split_as_decoded bytes parts decodes in ap read_split both.0 ∙ both.1
 
 -- ---- what opens is a layout
 
@@ -476,9 +482,13 @@ names_read section h = elim (or_cases (is_section (0 ∷ []) section) (is_sectio
   | inr bare ↦ inr (section_read [] section bare)
 ]
 
-decodes_parts : (bytes : List ℕ) (s : SectionBytes) (parts : Parts) → SplitFrom bytes s → Pass s parts → DecodesAs bytes parts
+-- The bytes decode as the parts, in these sections.
+abbrev pub DecodesIn : List ℕ → SectionBytes → Parts → Type 0
+DecodesIn bytes s parts = (decodes : DecodesAs bytes parts) × (decodes.sections ≡ s)
+
+decodes_parts : (bytes : List ℕ) (s : SectionBytes) (parts : Parts) → SplitFrom bytes s → Pass s parts → DecodesIn bytes s parts
 decodes_parts bytes s parts slices passed =
-    subst (DecodesAs bytes) passed.are (record {
+    let decodes : DecodesAs bytes (parts_of s) = record {
       sections = s;
       is_layout = record { bytes_are = slices.bytes_are; short = slices.short };
       paths_are = section_read (0 ∷ []) s.paths passed.paths;
@@ -486,12 +496,18 @@ decodes_parts bytes s parts slices passed =
       postings_are = refl;
       name_index_is = offsets_read s.name_index (texts_of s.names) slices.name_index passed.name_index;
       list_index_is = list_index_read s.postings s.list_index slices.list_index passed.list_index;
-    })
+    } in
+    subst (DecodesIn bytes s) passed.are (decodes, refl)
+
+pub split_decodes : (bytes : List ℕ) (s : SectionBytes) (parts : Parts) → AreBytes bytes → split_of bytes ≡ Ok s →
+    read_sections s ≡ Ok parts → DecodesIn bytes s parts
+split_decodes bytes s parts are split read =
+    decodes_parts bytes s parts (split_from bytes s (small_bytes bytes are) split) (pass_from s parts read)
 
 pub opened_decodes : (bytes : List ℕ) (parts : Parts) → AreBytes bytes → opening bytes ≡ Ok parts → DecodesAs bytes parts
 unfolding opening
 opened_decodes bytes parts are h = from_cut (split_of bytes) refl h
   where
     from_cut : (r : Result SectionBytes IndexFault) → split_of bytes ≡ r → read_split r ≡ Ok parts → DecodesAs bytes parts
-    from_cut (Ok s) is read = decodes_parts bytes s parts (split_from bytes s (small_bytes bytes are) is) (pass_from s parts read)
+    from_cut (Ok s) is read = (split_decodes bytes s parts are is read).0
     from_cut (Err fault) is read = cc

@@ -2,7 +2,8 @@
 use Rattle.std.proofs.Common.{◌≡◌, Bool, eqb, ℕ, zero, suc, ◌+◌, ◌-◌, ◌*◌, ◌/◌, ◌%◌, ◌^◌, ◌<◌, true, false, cond, ltb, ◌&&◌, List, [], ◌∷◌, ◌++◌, length, ap, subst, ◌∙◌, inl, inr, Some, None, arith, append_assoc}
 use Rattle.std.proofs.lemmas.List.{append-nil}
 use Rattle.cs_index.specs.AscendingIds.{AscendWithin, next_after}
-use Rattle.cs_index.specs.PostingLists.{varint_at, read_varint, Ids, damage, onto, read_ids, before}
+use Rattle.cs_index.specs.PostingLists.{varint_at, read_varint, Ids, damage, onto, read_ids}
+use Rattle.cs_index.specs.StoredLists.{before}
 use Rattle.std.proofs.lemmas.Bool.{lt-ltb, le-ltb, cases_lt, and_from}
 use Rattle.std.proofs.Math.Nat.{pow-succ'}
 use Rattle.std.specs.Prelude.{Option, option_map, option_and_then, flat_map}

@@ -10,7 +10,8 @@ use Rattle.cs_index.specs.Encoding.{varint, varint_within, deltas_from, stream_o
 use Rattle.cs_trigram.specs.Trigram.{has}
 use Rattle.cs_index.specs.IdStream.{ids_from, ids_in, IsMarked, IsStream}
 use Rattle.cs_index.specs.AscendingIds.{ids_onward, max_ids, next_after, AscendWithin}
-use Rattle.cs_index.specs.PostingLists.{Ids, before, read_ids}
+use Rattle.cs_index.specs.PostingLists.{Ids, read_ids}
+use Rattle.cs_index.specs.StoredLists.{before}
 use Rattle.cs_index.specs.PostingsInvariant.{remaining_ids}
 use Rattle.cs_index.proofs.postings.StreamPush.{decoded-stream_of, rise_length, short_varint, stream_from, stream_more}
 use Rattle.cs_index.proofs.encoding.VarintRoundtrip.{read_prefix}

@@ -9,8 +9,8 @@ use Rattle.cs_tree.specs.Store.{part_of}
 use Rattle.std.specs.List.{AllByRecursion}
 use Rattle.cs_index.specs.AscendingIds.{AscendWithin, BeginsFrom, ids_onward, max_ids, next_after}
 use Rattle.cs_index.specs.Encoding.{ListEntry, stream_of, three_bytes}
-use Rattle.cs_index.specs.PostingLists.{Ids, before, damage, onto, read_ids, read_list, read_varint, varint_at}
-use Rattle.cs_index.specs.StoredLists.{ListState, bytes_left, ids_left, with_piece, GivesBelow, Holds, IsReady, SkipsBelow}
+use Rattle.cs_index.specs.PostingLists.{Ids, damage, onto, read_ids, read_list, read_varint, varint_at}
+use Rattle.cs_index.specs.StoredLists.{ListState, before, bytes_left, ids_left, with_piece, GivesBelow, Holds, IsReady, SkipsBelow}
 use Rattle.cs_index.proofs.postings.ListAtEntry.{list_short}
 use Rattle.cs_index.proofs.postings.EncodedRuns.{all_below, left_prefix, onward_below}
 use Rattle.cs_index.proofs.encoding.VarintRoundtrip.{after_delta, below_limit}

@@ -4,7 +4,7 @@ use Rattle.std.proofs.lemmas.List.{take_all}
 use Rattle.std.specs.Prelude.{option_map, unwrap_or, IfErr, IfOk}
 use Rattle.std.specs.List.{AllByRecursion}
 use Rattle.cs_tree.specs.Store.{part_of}
-use Rattle.cs_index.specs.Opening.{entries_in, parts_of, rises, sections_at}
+use Rattle.cs_index.specs.Opening.{entries_in, parts_of, rises}
 use Rattle.cs_index.specs.SectionSlices.{borrowed_sections}
 use Rattle.cs_index.specs.declared.reading.section_slices.SectionSlices.{SectionSlices}
 use Rattle.cs_index.specs.declared.reading.section_offsets.SectionOffsets.{SectionOffsets}
@@ -15,7 +15,7 @@ use Rattle.cs_index.specs.Candidates.{candidates_of}
 use Rattle.cs_index.specs.declared.fault.IndexFault.{IndexFault}
 use Rattle.cs_trigram.specs.declared.queries.Query.{Query}
 use Rattle.cs_index.specs.PostingLists.{Ids, read_list}
-use Rattle.cs_index.specs.Stored.{StandsIn, StoredParts}
+use Rattle.cs_index.specs.Stored.{StandsIn, StoredParts, sections_at}
 use Rattle.cs_index.specs.StoredEntries.{entry_read, trigrams_listed, HasEntries}
 use Rattle.cs_index.specs.StoredLists.{HasLists}
 use Rattle.cs_index.specs.StoredOpening.{AreAscendingOffsets}
@@ -23,6 +23,7 @@ use Rattle.cs_index.specs.declared.reading.stored_entries.Entry.{Entry}
 use Rattle.cs_index.specs.declared.reading.stored_list.ListSection.{ListSection}
 use Rattle.cs_index.proofs.decoding.DecodableBytesOpen.{pass_from, rise_from, Pass}
 use Rattle.cs_index.proofs.decoding.IndexFields.{entries_rise}
+use Rattle.cs_index.proofs.stored.SectionReads.{stands_read}
 use Rattle.cs_index.proofs.stored.StoredEntries.{IsFound}
 
 module _ (bytes : List ℕ) (s : ListSection) (parts : Parts) (has : HasLists bytes s parts) where
@@ -77,7 +78,7 @@ module _ (bytes : List ℕ) (stored : StoredParts) (parts : Parts) (stands : Sta
   s = stored.starts
 
   pub passed : Pass (sections_at bytes s) parts
-  passed = pass_from (sections_at bytes s) parts stands.read
+  passed = pass_from (sections_at bytes s) parts (stands_read bytes stored parts stands)
 
   abbrev pub list_index : List ℕ
   list_index = part_of bytes s.list_index (s.trailer - s.list_index)

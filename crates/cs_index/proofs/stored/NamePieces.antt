@@ -7,9 +7,9 @@ use Rattle.cs_tree.specs.Store.{part_of}
 use Rattle.cs_index.specs.Encoding.{with_nul}
 use Rattle.cs_index.specs.NameReading.{name_section, HasName, IsName, ReadsNames}
 use Rattle.cs_index.specs.OpenedParts.{Parts}
-use Rattle.cs_index.specs.Opening.{is_name_index, number_at, sections_at, texts_of}
+use Rattle.cs_index.specs.Opening.{is_name_index, number_at, texts_of}
 use Rattle.cs_index.specs.Pieces.{IsPiece, StandsAt}
-use Rattle.cs_index.specs.Stored.{StandsIn, StoredParts}
+use Rattle.cs_index.specs.Stored.{StandsIn, StoredParts, sections_at}
 use Rattle.cs_index.specs.StoredOpening.{AreAscendingOffsets}
 use Rattle.cs_index.specs.declared.fault.IndexFault.{IndexFault}
 use Rattle.cs_index.specs.declared.reading.name_reader.NameReader.{NameReader}
@@ -19,6 +19,7 @@ use Rattle.cs_index.proofs.decoding.DecodableBytesOpen.{pass_from, rise_from}
 use Rattle.cs_index.proofs.decoding.IndexFields.{offsets_long}
 use Rattle.cs_index.proofs.decoding.NameOffsets.{name_stands, NameStands}
 use Rattle.cs_index.proofs.stored.ListPieces.{left_after}
+use Rattle.cs_index.proofs.stored.SectionReads.{stands_read}
 use Rattle.cs_index.proofs.stored.StoredEntries.{number_part}
 
 -- the bytes of the piece from an offset on
@@ -116,7 +117,7 @@ pub reads_names : (bytes : List ℕ) (parts : Parts) (stored : StoredParts) (off
     })
 reads_names bytes parts stored offsets names at len order stands one two =
     let s : SectionOffsets = stored.starts in
-    let passed = pass_from (sections_at bytes s) parts stands.read in
+    let passed = pass_from (sections_at bytes s) parts (stands_read bytes stored parts stands) in
     let rise = rise_from s.paths s.names s.postings s.name_index s.list_index s.trailer order.order in
     let section : List ℕ = part_of bytes s.names (s.postings - s.names) in
     let table : List ℕ = part_of bytes s.name_index (s.list_index - s.name_index) in

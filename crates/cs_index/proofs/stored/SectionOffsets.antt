@@ -11,7 +11,8 @@ use Rattle.cs_index.specs.declared.fault.IndexFault.{IndexFault}
 use Rattle.cs_index.specs.declared.fault.IndexFault.TheVariants.{BadMagic, BadTrailer, BadOffsets}
 use Rattle.cs_index.specs.declared.reading.section_offsets.SectionOffsets.{SectionOffsets}
 use Rattle.cs_index.specs.Encoding.{magic, trailer_magic}
-use Rattle.cs_index.specs.Opening.{are_section_offsets, sections_at, split_at_offsets, split_before, split_of, has_trailer, number_at}
+use Rattle.cs_index.specs.Opening.{are_section_offsets, split_at_offsets, split_before, split_of, has_trailer, number_at}
+use Rattle.cs_index.specs.Stored.{sections_at}
 use Rattle.cs_index.specs.StoredOpening.{AreDisorderedOffsets, AreTrailerOffsets, IsSplitAt, is_tail}
 use Rattle.cs_index.proofs.decoding.IndexFields.{split_there, no_magic, no_trailer}
 

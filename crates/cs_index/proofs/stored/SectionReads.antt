@@ -9,12 +9,13 @@ use Rattle.cs_index.specs.declared.fault.IndexFault.TheVariants.{BadPaths, BadNa
 use Rattle.cs_index.specs.declared.reading.section_offsets.SectionOffsets.{SectionOffsets}
 use Rattle.cs_index.specs.Encoding.{SectionBytes}
 use Rattle.cs_index.specs.OpenedParts.{Parts}
-use Rattle.cs_index.specs.Opening.{is_list_index, is_name_index, is_names_section, is_section, opening, parts_of, read_sections, sections_at, split_of, texts_of}
+use Rattle.cs_index.specs.Opening.{is_list_index, is_name_index, is_names_section, is_section, opening, parts_of, read_sections, split_of, texts_of}
 use Rattle.cs_index.specs.ValidSections.{AreValidSections, read_split}
 use Rattle.cs_index.specs.StoredOpening.{AreAscendingOffsets, with_lists}
-use Rattle.cs_index.specs.Stored.{StoredParts, DecodesOrFails, OpensAs}
+use Rattle.cs_index.specs.Stored.{StandsIn, StoredParts, DecodesOrFails, sections_at}
+use Rattle.cs_index.specs.StoredTables.{OpensAs}
 use Rattle.cs_index.specs.SectionPieces.{ArePathsRead}
-use Rattle.cs_index.proofs.decoding.DecodableBytesOpen.{rise_from, opened_decodes}
+use Rattle.cs_index.proofs.decoding.DecodableBytesOpen.{rise_from, split_as_decoded}
 use Rattle.cs_index.proofs.decoding.FirstFailure.{fails_so}
 
 -- what holds of the bytes of a modelled store
@@ -110,16 +111,20 @@ pub not_opened : (bytes : List ℕ) (fault : IndexFault) → split_of bytes ≡ 
 unfolding opening
 not_opened bytes fault slices = ap read_split slices
 
+-- ---- an index that stands in the bytes
+
+module _ (bytes : List ℕ) (stored : StoredParts) (parts : Parts) (stands : StandsIn bytes stored parts) where
+  pub stands_split : split_of bytes ≡ Ok (sections_at bytes stored.starts)
+  stands_split = (split_as_decoded bytes parts stands.decodes).0 ∙ ap (λ (s : SectionBytes). Ok s) stands.sections
+
+  pub stands_read : read_sections (sections_at bytes stored.starts) ≡ Ok parts
+  stands_read = ap read_sections (sym stands.sections) ∙ (split_as_decoded bytes parts stands.decodes).1
+
 -- ---- what opens decodes
 
 decodes_or_fails : (bytes : List ℕ) (answer : Result StoredParts IndexFault) → AreBytes bytes → OpensAs bytes answer →
     DecodesOrFails bytes answer
-decodes_or_fails bytes (Ok stored) are (parts, stands) = (
-  parts,
-  opened_decodes bytes parts are (opened bytes (sections_at bytes stored.starts) (Ok parts) stands.split
-      stands.read),
-  stands,
-)
+decodes_or_fails bytes (Ok stored) are opens = opens
 decodes_or_fails bytes (Err fault) are closed = fails_so bytes fault are closed
 
 pub model_decodes : (model : Option (List ℕ)) (result : Result (Result StoredParts IndexFault) IoFault) → IfSome model AreBytes

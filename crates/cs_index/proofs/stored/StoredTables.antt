@@ -9,17 +9,18 @@ use Rattle.cs_index.specs.declared.fault.IndexFault.{IndexFault}
 use Rattle.cs_index.specs.declared.reading.section_offsets.SectionOffsets.{SectionOffsets}
 use Rattle.cs_index.specs.Encoding.{IsString, ListEntry}
 use Rattle.cs_index.specs.OpenedParts.{Parts}
-use Rattle.cs_index.specs.Opening.{entries_in, is_entry, is_section, opening, parts_of, read_sections, rises, sections_at, split_of, texts_of}
-use Rattle.cs_index.specs.Stored.{OpensAs, StoredParts}
+use Rattle.cs_index.specs.Opening.{entries_in, is_entry, is_section, opening, parts_of, read_sections, rises, texts_of}
+use Rattle.cs_index.specs.Stored.{StandsIn, StoredParts, sections_at}
 use Rattle.cs_index.specs.StoredOpening.{AreAscendingOffsets, with_lists}
-use Rattle.cs_index.specs.StoredTables.{AreValidTables, TableParts, TablesIn, lists_room}
+use Rattle.cs_index.specs.StoredTables.{AreValidTables, OpensAs, TableParts, TablesIn, lists_room}
 use Rattle.cs_index.specs.ValidParts.{AreValidParts}
 use Rattle.cs_index.specs.ValidSections.{AreBoundedSections, AreValidSections}
+use Rattle.cs_index.proofs.decoding.DecodableBytesOpen.{pass_from}
 use Rattle.cs_index.proofs.decoding.IndexFields.{entries_rise, offsets_long}
 use Rattle.cs_index.proofs.decoding.PartsAreValid.{entries_fit}
 use Rattle.cs_index.proofs.decoding.StringSections.{section_read}
 use Rattle.cs_index.proofs.stored.ListSections.{stored_lists}
-use Rattle.cs_index.proofs.stored.SectionReads.{lists_long, opened, tested}
+use Rattle.cs_index.proofs.stored.SectionReads.{lists_long, opened, stands_read, stands_split}
 
 abbrev pub tables_of : List ℕ → List ℕ → List ℕ → SectionOffsets → TableParts
 tables_of paths names list_index starts =
@@ -68,7 +69,8 @@ parts_valid bytes tables parts are order is = record {
 -- ---- sections that were read
 
 module _ (bytes p n i l : List ℕ) (s : SectionOffsets) (order : AreAscendingOffsets s)
-    (within : s.trailer ≤ length bytes) (split : split_of bytes ≡ Ok (sections_at bytes s))
+    (opened_paths : List (List ℕ)) (count : ℕ) (parts : Parts)
+    (stands : StandsIn bytes (record { paths = opened_paths; name_count = count; starts = s }) parts)
     (paths : p ≡ part_of bytes s.paths (s.names - s.paths)) (names : n ≡ part_of bytes s.names (s.postings - s.names))
     (numbers : i ≡ part_of bytes s.name_index (s.list_index - s.name_index))
     (entries : l ≡ part_of bytes s.list_index (s.trailer - s.list_index)) where
@@ -79,40 +81,33 @@ module _ (bytes p n i l : List ℕ) (s : SectionOffsets) (order : AreAscendingOf
   same = λ t. with_lists (sym paths t) (sym names t) (sym numbers t) (sym entries t) postings
 
   long : length postings ≡ s.name_index - s.postings
-  long = lists_long bytes s order within
+  long = lists_long bytes s order stands.within
 
-  pub tables_stand : AreValidSections p n i l (s.name_index - s.postings) → TablesIn bytes (tables_of p n l s)
-      (parts_of (with_lists p n i l postings))
-  tables_stand valid = record {
+  are : parts_of (with_lists p n i l postings) ≡ parts
+  are = ap parts_of (sym same) ∙ (pass_from (sections_at bytes s) parts (stands_read bytes _ parts stands)).are
+
+  pub tables_stand : TablesIn bytes (tables_of p n l s) parts
+  tables_stand = record {
     stands = record {
-      split = split;
-      within = within;
-      read = ap read_sections same ∙ tested p n i l postings (s.name_index - s.postings) long valid;
-      paths = refl;
-      names = refl;
+      decodes = stands.decodes;
+      sections = stands.sections;
+      within = stands.within;
+      paths = ap (λ (all : Parts). all.paths) are;
+      names = ap (λ (all : Parts). length all.names) are;
     };
-    names = refl;
-    entries = refl;
+    names = ap (λ (all : Parts). all.names) are;
+    entries = ap (λ (all : Parts). all.entries) are;
   }
 
   pub tables_fail : (fault : IndexFault) →
       ((lists : List ℕ) → length lists ≡ s.name_index - s.postings → read_sections (with_lists p n i l lists)
       ≡ Err fault) → opening bytes ≡ Err fault
-  tables_fail fault fails = opened bytes (sections_at bytes s) (Err fault) split (ap read_sections same ∙ fails postings long)
+  tables_fail fault fails = opened bytes (sections_at bytes s) (Err fault) (stands_split bytes _ parts stands)
+      (ap read_sections same ∙ fails postings long)
 
--- the offsets of an index that was opened
-pub starts_of : (bytes : List ℕ) (answer : Result StoredParts IndexFault)
-    (s : SectionOffsets) {stored : StoredParts} {paths : List (List ℕ)} {count : ℕ} → answer ≡ Ok stored →
-    record { paths = paths; name_count = count; starts = s } ≡ stored → OpensAs bytes answer
-    → (split_of bytes ≡ Ok (sections_at bytes s)) × (s.trailer ≤ length bytes)
-starts_of bytes answer s {stored} is view opens =
-    let stands = (subst (OpensAs bytes) is opens).1 in
-    let same : stored.starts ≡ s = ap (λ (p : StoredParts). p.starts) (sym view) in
-    subst (λ o. (split_of bytes ≡ Ok (sections_at bytes o)) × (o.trailer ≤ length bytes)) same (stands.split, stands.within)
-
-pub valid_same : {p n i l paths names numbers entries : List ℕ} {room : ℕ} → p ≡ paths → n ≡ names → i ≡ numbers →
-    l ≡ entries → AreValidSections p n i l room → AreValidSections paths names numbers entries room
-valid_same {p} {n} {i} {l} {paths} {names} {numbers} {entries} {room} a b d e valid =
-    subst (λ x. AreValidSections paths names numbers x room) e
-    (subst (λ x. AreValidSections paths names x l room) d
-    (subst (λ x. AreValidSections paths x i l room) b (subst (λ x. AreValidSections x n i l room) a valid)))
+-- the parts of an index that was opened; `own` is its value
+pub opened_parts : (bytes : List ℕ) (answer : Result StoredParts IndexFault) {stored own : StoredParts} → answer ≡ Ok stored →
+    own ≡ stored → OpensAs bytes answer → (parts : Parts) × StandsIn bytes own parts
+opened_parts bytes answer is view opens =
+    let found = subst (OpensAs bytes) is opens in
+    (found.0, subst (λ (p : StoredParts). StandsIn bytes p found.0) (sym view) found.1)

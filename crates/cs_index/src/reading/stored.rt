@@ -1,11 +1,13 @@
 // An index in a store. It is tested in pieces when it is opened, and read by position.
 ghost use Rattle.std.specs.Prelude.{◌≡◌, ◌≤◌, ◌<◌, ◌^◌, length, Ok, IfOk, IfSome, List, ℕ};
+ghost use Rattle.cs_tree.specs.ByteList.{AreBytes};
 ghost use Rattle.cs_tree.specs.FailureCount.{count_after};
 ghost use Rattle.cs_tree.specs.Transfers.{is_io_failure};
 ghost use Rattle.cs_index.specs.OpenedParts.{Parts};
-ghost use Rattle.cs_index.specs.Opening.{sections_at, split_of};
+ghost use Rattle.cs_index.specs.Opening.{split_of};
 ghost use Rattle.cs_index.specs.StoredOpening.{AreAscendingOffsets};
-ghost use Rattle.cs_index.specs.Stored.{OpensAs, DecodesOrFails, StandsIn};
+ghost use Rattle.cs_index.specs.Stored.{DecodesOrFails, StandsIn, sections_at};
+ghost use Rattle.cs_index.specs.StoredTables.{OpensAs};
 ghost use Rattle.cs_index.specs.NameReading.{ReadsNames};
 
 use crate::fault::IndexFault;
@@ -89,8 +91,8 @@ fn read_stored<S: Store>(
     starts: SectionOffsets,
 ) -> Result<Result<StoredIndex, IndexFault>, IoFault>
     requires { AreAscendingOffsets starts }
-    ensures opens { IfSome (S.model store.old) (λ bytes. starts.trailer ≤ length bytes →
-        split_of bytes ≡ Ok (sections_at bytes starts) → IfOk result (OpensAs bytes)) }
+    ensures opens { IfSome (S.model store.old) (λ bytes. AreBytes bytes →
+        starts.trailer ≤ length bytes → split_of bytes ≡ Ok (sections_at bytes starts) → IfOk result (OpensAs bytes)) }
     ensures keeps { S.model store.new ≡ S.model store.old }
     ensures size { S.size store.new ≡ S.size store.old }
     ensures failed { S.failed store.new ≡ count_after is_io_failure result (S.failed store.old) }

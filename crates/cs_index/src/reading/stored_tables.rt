@@ -5,7 +5,7 @@ ghost use Rattle.cs_tree.specs.Transfers.{is_io_failure};
 ghost use Rattle.cs_index.specs.AscendingIds.{max_ids};
 ghost use Rattle.cs_index.specs.Encoding.{ListEntry};
 ghost use Rattle.cs_index.specs.OpenedParts.{Parts};
-ghost use Rattle.cs_index.specs.Opening.{sections_at, split_of};
+ghost use Rattle.cs_index.specs.Stored.{StandsIn};
 ghost use Rattle.cs_index.specs.StoredEntries.{entry_read};
 ghost use Rattle.cs_index.specs.StoredOpening.{AreAscendingOffsets};
 ghost use Rattle.cs_index.specs.StoredTables.{AreValidTables, OpensAsTables, TablesIn, lists_room};
@@ -153,8 +153,10 @@ fn read_tables<S: Store>(
     starts: SectionOffsets,
 ) -> Result<Result<StoredTables, IndexFault>, IoFault>
     requires { AreAscendingOffsets starts }
-    ensures opens { IfSome (S.model store.old) (λ bytes. starts.trailer ≤ length bytes →
-        split_of bytes ≡ Ok (sections_at bytes starts) → IfOk result (OpensAsTables bytes)) }
+    ensures opens { IfSome (S.model store.old) (λ bytes.
+        (paths : List (List ℕ)) (count : ℕ) (parts : Parts) →
+        StandsIn bytes (record { paths = paths; name_count = count; starts = starts }) parts →
+        IfOk result (OpensAsTables bytes)) }
     ensures keeps { S.model store.new ≡ S.model store.old }
     ensures size { S.size store.new ≡ S.size store.old }
     ensures failed { S.failed store.new ≡ count_after is_io_failure result (S.failed store.old) }

@@ -58,8 +58,8 @@ returns-in-Err-2-clause-refused g c =
     let index : StoredParts = c.in-Ok-opened.index in
     if_modelled model _ (λ bytes is.
     let opened = of_model model (λ bytes. DecodesOrFails bytes (Ok index)) bytes is (subst (IsOpened model) c.in-Ok-opened.is c.requires) in
-    let damaged = subst (Selects plan opened.0) c.in-Err-2.is (c.in_ok-names.ensures.answers bytes opened.0 is opened.2) in
-    rw c.from-in-Err-2.ensures (lists_refused c.args.job.now (Some bytes) plan c.in-Ok.ensures.plan opened.0 opened.1
+    let damaged = subst (Selects plan opened.0) c.in-Err-2.is (c.in_ok-names.ensures.answers bytes opened.0 is opened.1) in
+    rw c.from-in-Err-2.ensures (lists_refused c.args.job.now (Some bytes) plan c.in-Ok.ensures.plan opened.0 opened.1.decodes
     c.in-Err-2.fault (inl damaged)))
 
 pub returns-in-Err-2-clause-unwritten : goal.returns-in-Err-2-clause-unwritten
@@ -79,5 +79,5 @@ returns-in-Ok-2-clause-selected g c =
     let index : StoredParts = c.in-Ok-opened.index in
     if_modelled model _ (λ bytes is.
     let opened = of_model model (λ bytes. DecodesOrFails bytes (Ok index)) bytes is (subst (IsOpened model) c.in-Ok-opened.is c.requires) in
-    let selected = subst (Selects c.in-Ok.plan opened.0) c.in-Ok-2.is (c.in_ok-names.ensures.answers bytes opened.0 is opened.2) in
-    record { parts = opened.0; opens = opened.1; whole = selected.1; kept = selected.0 })
+    let selected = subst (Selects c.in-Ok.plan opened.0) c.in-Ok-2.is (c.in_ok-names.ensures.answers bytes opened.0 is opened.1) in
+    record { parts = opened.0; opens = opened.1.decodes; whole = selected.1; kept = selected.0 })

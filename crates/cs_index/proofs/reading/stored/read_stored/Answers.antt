@@ -1,21 +1,23 @@
 use Rattle.std.proofs.Common.{◌≡◌, ◌-◌, ◌∙◌, ap, sym, subst, true, ℕ}
 use Rattle.cs_index.specs.Encoding.{SectionBytes}
-use Rattle.cs_index.specs.Opening.{is_list_index, parts_of, sections_at, texts_of}
+use Rattle.cs_index.specs.Opening.{is_list_index, parts_of, texts_of}
 use Rattle.cs_index.specs.SectionPieces.{AreNamesTested, ArePathsRead}
+use Rattle.cs_index.specs.Stored.{sections_at}
+use Rattle.cs_index.proofs.decoding.DecodableBytesOpen.{split_decodes}
 use Rattle.cs_index.proofs.stored.SectionReads.{bad_list_index, bad_name_index, bad_names, bad_paths, closed_paths, if_modelled, lists_long, opened, tested}
 use Rattle.cs_index.proofs.reading.stored.read_stored.Goals as goal
 
 pub returns-in_default-clause-opens : goal.returns-in_default-clause-opens
 returns-in_default-clause-opens g c =
     if_modelled (g.S.Store.model c.args.store.now) _
-    (λ bytes m within split.
+    (λ bytes m are within split.
     let s : SectionBytes = sections_at bytes c.args.starts in
     opened bytes s _ split (bad_paths s (subst (ArePathsRead s.paths) c.in_default.is (c.in_ok-paths.ensures.paths bytes m within))))
 
 pub returns-in_default-2-clause-opens : goal.returns-in_default-2-clause-opens
 returns-in_default-2-clause-opens g c =
     if_modelled (g.S.Store.model c.args.store.now) _
-    (λ bytes m within split.
+    (λ bytes m are within split.
     let s : SectionBytes = sections_at bytes c.args.starts in
     let paths = closed_paths s.paths c.in_ok-paths.field-0 c.in-Some.paths c.in-Some.is
     (c.in_ok-paths.ensures.paths bytes m within) c.in_ok-paths.ensures.closed in
@@ -26,7 +28,7 @@ returns-in_default-2-clause-opens g c =
 pub returns-then-not-names-clause-opens : goal.returns-then-not-names-clause-opens
 returns-then-not-names-clause-opens g c =
     if_modelled (g.S.Store.model c.args.store.now) _
-    (λ bytes m within split.
+    (λ bytes m are within split.
     let s : SectionBytes = sections_at bytes c.args.starts in
     let paths = closed_paths s.paths c.in_ok-paths.field-0 c.in-Some.paths c.in-Some.is
     (c.in_ok-paths.ensures.paths bytes m within) c.in_ok-paths.ensures.closed in
@@ -37,7 +39,7 @@ returns-then-not-names-clause-opens g c =
 pub returns-then-not-branch-clause-opens : goal.returns-then-not-branch-clause-opens
 returns-then-not-branch-clause-opens g c =
     if_modelled (g.S.Store.model c.args.store.now) _
-    (λ bytes m within split.
+    (λ bytes m are within split.
     let s : SectionBytes = sections_at bytes c.args.starts in
     let paths = closed_paths s.paths c.in_ok-paths.field-0 c.in-Some.paths c.in-Some.is
     (c.in_ok-paths.ensures.paths bytes m within) c.in_ok-paths.ensures.closed in
@@ -52,7 +54,7 @@ returns-then-not-branch-clause-opens g c =
 pub returns-clause-opens : goal.returns-clause-opens
 returns-clause-opens g c =
     if_modelled (g.S.Store.model c.args.store.now) _
-    (λ bytes m within split.
+    (λ bytes m are within split.
     let s : SectionBytes = sections_at bytes c.args.starts in
     let paths = closed_paths s.paths c.in_ok-paths.field-0 c.in-Some.paths c.in-Some.is
     (c.in_ok-paths.ensures.paths bytes m within) c.in_ok-paths.ensures.closed in
@@ -62,18 +64,19 @@ returns-clause-opens g c =
     let room : ℕ = c.args.starts.name_index - c.args.starts.postings in
     let entries : is_list_index room s.list_index ≡ true =
     sym (c.in_ok-has_stored_entries.ensures.entries bytes (c.test_names.ensures.keeps ∙ c.read_paths.ensures.keeps ∙ m)
-    within) ∙ c.if-not-branch.false in (
+    within) ∙ c.if-not-branch.false in
+    let decodes = split_decodes bytes s (parts_of s) are split
+    (tested s.paths s.names s.name_index s.list_index s.postings room long (record {
+      each_path = paths.1;
+      each_name = names.valid;
+      offsets = sym names.offsets ∙ c.if-not-names.false;
+      entries = entries;
+    })) in (
       parts_of s,
       record {
-        split = split;
+        decodes = decodes.0;
+        sections = decodes.1;
         within = within;
-        read = tested s.paths s.names s.name_index s.list_index s.postings room long
-            (record {
-              each_path = paths.1;
-              each_name = names.valid;
-              offsets = sym names.offsets ∙ c.if-not-names.false;
-              entries = entries;
-            });
         paths = ap texts_of paths.0;
         names = names.count;
       },

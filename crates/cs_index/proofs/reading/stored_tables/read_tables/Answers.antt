@@ -1,19 +1,16 @@
 use Rattle.std.proofs.Common.{◌≡◌, ◌-◌, ◌∙◌, sym, subst, List, ℕ}
-use Rattle.std.specs.Prelude.{slice_range}
 use Rattle.cs_tree.specs.Store.{part_of}
-use Rattle.cs_index.specs.Opening.{parts_of}
-use Rattle.cs_index.specs.StoredOpening.{with_lists}
 use Rattle.cs_index.specs.StoredTables.{OpensAsTables}
 use Rattle.cs_index.proofs.stored.ListPieces.{shown}
 use Rattle.cs_index.proofs.stored.SectionReads.{if_modelled}
-use Rattle.cs_index.proofs.stored.StoredTables.{tables_fail, tables_stand, valid_same}
+use Rattle.cs_index.proofs.stored.StoredTables.{tables_fail, tables_stand}
 use Rattle.cs_index.proofs.reading.stored_tables.read_tables.Goals as goal
 use Rattle.cs_index.proofs.reading.stored_tables.read_tables.Goals.{in-Ok, in-Err}
 
 pub returns-clause-opens : goal.returns-clause-opens
 returns-clause-opens g c =
     if_modelled (g.S.Store.model c.args.store.now) _
-    (λ bytes m within split.
+    (λ bytes m opened_paths count parts stands.
     let s = c.args.starts in
     let m2 = c.read_part.ensures.keeps ∙ m in
     let m3 = c.read_part-2.ensures.keeps ∙ m2 in
@@ -32,15 +29,11 @@ returns-clause-opens g c =
     (g.S.Store.model c.read_part-3.new.store) bytes m4 c.in_ok-list_index.ensures.bytes in
     elim c.match-test_sections.branch [
       | in-Ok w ↦
-          let valid = valid_same c.deref.ensures.value c.deref-2.ensures.value c.deref-3.ensures.value
-          c.deref-4.ensures.value w.in-Ok.ensures.read in
-          subst (OpensAsTables bytes) (sym w.answer-is) (
-            parts_of (with_lists p n i l (slice_range bytes s.postings s.name_index)),
-            tables_stand bytes p n i l s c.requires within split paths names numbers entries valid,
-          )
+          subst (OpensAsTables bytes) (sym w.answer-is)
+          (parts, tables_stand bytes p n i l s c.requires opened_paths count parts stands paths names numbers entries)
       | in-Err w ↦
           subst (OpensAsTables bytes) (sym w.answer-is)
-          (tables_fail bytes c.deref.result.now c.deref-2.result.now c.deref-3.result.now c.deref-4.result.now s c.requires within split
-          (c.deref.ensures.value ∙ paths) (c.deref-2.ensures.value ∙ names) (c.deref-3.ensures.value ∙ numbers)
+          (tables_fail bytes c.deref.result.now c.deref-2.result.now c.deref-3.result.now c.deref-4.result.now s c.requires
+          opened_paths count parts stands (c.deref.ensures.value ∙ paths) (c.deref-2.ensures.value ∙ names) (c.deref-3.ensures.value ∙ numbers)
           (c.deref-4.ensures.value ∙ entries) w.in-Err.fault w.in-Err.ensures.fault)
     ])

@@ -1,5 +1,6 @@
 use Rattle.std.proofs.Common.{◌≡◌, ◌+◌, ◌-◌, ap, sym, arith}
-use Rattle.cs_index.specs.PostingLists.{Ids, before}
+use Rattle.cs_index.specs.PostingLists.{Ids}
+use Rattle.cs_index.specs.StoredLists.{before}
 use Rattle.cs_index.specs.PostingsInvariant.{remaining_ids}
 use Rattle.cs_index.specs.AscendingIds.{ids_onward, max_ids}
 use Rattle.cs_index.proofs.postings.EncodedRuns.{all_below, run_skipped}

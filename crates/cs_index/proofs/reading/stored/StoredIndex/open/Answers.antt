@@ -1,4 +1,4 @@
-use Rattle.std.proofs.Common.{Ok, Err, subst}
+use Rattle.std.proofs.Common.{Ok, Err, refl, subst}
 use Rattle.cs_index.specs.StoredOpening.{IsSplitAt}
 use Rattle.cs_index.proofs.stored.SectionReads.{not_opened, if_some_map, model_decodes, if_some_both}
 use Rattle.cs_index.proofs.reading.stored.StoredIndex.open.Goals as goal
@@ -6,8 +6,9 @@ use Rattle.cs_index.proofs.reading.stored.StoredIndex.open.Goals as goal
 pub returns-in-Ok-clause-opens : goal.returns-in-Ok-clause-opens
 returns-in-Ok-clause-opens g c =
     if_some_map _ _ (g.S.Store.model c.args.store.now)
-    (λ bytes both. let slices = subst (IsSplitAt bytes) c.in-Ok.is both.0 in both.1 slices.1 slices.0)
-    (if_some_both _ _ (g.S.Store.model c.args.store.now) _ c.in_ok-starts.ensures.keeps c.in_ok-starts.ensures.slices
+    (λ bytes both. let slices = subst (IsSplitAt bytes) c.in-Ok.is both.0.0 in both.1 both.0.1 slices.1 slices.0)
+    (if_some_both _ _ (g.S.Store.model c.args.store.now) _ c.in_ok-starts.ensures.keeps
+    (if_some_both _ _ (g.S.Store.model c.args.store.now) _ refl c.in_ok-starts.ensures.slices c.in_ok-starts.ensures.bytes)
     c.read_stored.ensures.opens)
 
 pub returns-in-Err-clause-opens : goal.returns-in-Err-clause-opens

@@ -3,17 +3,13 @@ use Rattle.std.specs.Prelude.{◌≡◌, ◌≢◌, ℕ, ◌+◌, ◌-◌, nat_e
 use Rattle.std.specs.List.{concat}
 use Rattle.std.specs.Option.{option_map_or}
 use Rattle.cs_index.specs.declared.writing.sections.Sections.TheInside.{Inside}
-use Rattle.cs_index.specs.Encoding.{PostingList, ListEntry, list_entries, magic, posting_list_bytes, strings_section, three_bytes, stream_of}
+use Rattle.cs_index.specs.Encoding.{PostingList, ListEntry, list_entries, posting_list_bytes, three_bytes, stream_of}
 use Rattle.cs_index.specs.AscendingIds.{max_ids, next_after}
 use Rattle.cs_index.specs.PostingLists.{read_list}
 use Rattle.cs_index.specs.OpenedParts.{whole_ids}
 use Rattle.cs_index.specs.Sending.{bytes_in}
-use Rattle.cs_index.specs.Written.{Written, AllBelow}
+use Rattle.cs_index.specs.Written.{Written, prefix_of, AllBelow}
 use Rattle.cs_index.specs.WrittenLists.{IsWritten}
-
--- the output before the posting lists: the magic, the paths and the names
-abbrev pub prefix_of : List (List ℕ) → List (List ℕ) → List ℕ
-prefix_of paths names = (magic ++ strings_section paths) ++ strings_section names
 
 -- the ids of the list at an entry
 unfoldable pub ids_at : List ℕ → ListEntry → List ℕ

@@ -1,9 +1,9 @@
 -- The model of `Sections`: the paths, names and posting lists that are written so far.
 -- docs/FORMAT.md, "The index as it is written".
-use Rattle.std.specs.Prelude.{ℕ, ◌<◌, nat_eq, if◌then◌else◌, List, [], ◌∷◌, ◌++◌, Option, Some}
-use Rattle.std.specs.List.{AllByRecursion}
+use Rattle.std.specs.Prelude.{◌≢◌, ℕ, ◌+◌, ◌<◌, ◌≤◌, ◌^◌, nat_eq, if◌then◌else◌, List, [], ◌∷◌, ◌++◌, length, map, Option, Some}
+use Rattle.std.specs.List.{AllByRecursion, concat}
 use Rattle.std.specs.Option.{option_map_or}
-use Rattle.cs_index.specs.Encoding.{Entry, PostingList}
+use Rattle.cs_index.specs.Encoding.{Entry, PostingList, magic, posting_list_bytes, strings_section}
 use Rattle.cs_index.specs.PostingLists.{entries_of}
 
 -- The paths, the names, the posting lists with at least one id, the trigram of the list that was begun last, and the
@@ -86,3 +86,16 @@ with_sent output sent = record {
 -- the trigrams of all lists are less than this one
 abbrev pub AllBelow : List PostingList → ℕ → Type 0
 AllBelow lists bound = AllByRecursion (λ ((trigram, ids) : PostingList). trigram < bound) lists
+
+-- the index before the posting lists: the magic, the paths and the names
+abbrev pub prefix_of : List (List ℕ) → List (List ℕ) → List ℕ
+prefix_of paths names = (magic ++ strings_section paths) ++ strings_section names
+
+-- the index up to the end of the last list
+abbrev pub bytes_written : Written → List ℕ
+bytes_written output = prefix_of output.paths output.names ++ concat (map posting_list_bytes output.lists)
+
+-- Less than 2^16 bytes are in memory: those that are not sent, except the zero that closes the last list. Before the
+-- first list there are none.
+abbrev pub IsSentEarly : Written → Type 0
+IsSentEarly output = output.lists ≢ [] → length (bytes_written output) ≤ length output.sent + 2 ^ 16

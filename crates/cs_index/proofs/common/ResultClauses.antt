@@ -18,3 +18,7 @@ of_err (Err e) p is = p
 pub of_ok : {T E P : Type 0} (r : Result T E) → OnOk r P → is_err r ≡ false → P
 of_ok (Ok x) p is = p
 of_ok (Err e) p is = absurd (true≢false is)
+
+pub on_ok : {T E P Q : Type 0} (r : Result T E) → (P → Q) → OnOk r P → OnOk r Q
+on_ok (Ok x) f p = f p
+on_ok (Err e) f p = tt

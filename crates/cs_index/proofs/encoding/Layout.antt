@@ -5,7 +5,8 @@ use Rattle.std.specs.Prelude.{flat_map}
 use Rattle.std.specs.List.{AllByRecursion, concat}
 use Rattle.cs_trigram.specs.Trigram.{closing_trigram}
 use Rattle.cs_index.specs.Encoding.{four_bytes, entry_bytes, starts_from, SectionBytes, section_list, magic, sections_of, strings_section, trailer, trailer_magic, layout, list_entries, posting_list_bytes, with_nul, ListEntry, PostingList}
-use Rattle.cs_index.specs.SectionsInvariant.{entry_from, prefix_of}
+use Rattle.cs_index.specs.SectionsInvariant.{entry_from}
+use Rattle.cs_index.specs.Written.{prefix_of}
 
 pub starts_below : (limit at : ℕ) (pieces : List (List ℕ)) → at + length (concat pieces) < limit →
     AllByRecursion (λ n. n < limit) (starts_from at pieces)

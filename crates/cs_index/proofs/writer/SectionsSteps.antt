@@ -13,10 +13,10 @@ use Rattle.cs_index.specs.Encoding.{PostingList, ListEntry, four_bytes, encoding
 use Rattle.cs_index.specs.IdStream.{ids_in, IsStream}
 use Rattle.cs_index.specs.AscendingIds.{ids_onward, max_ids, next_after, IsPostingList, AscendWithin}
 use Rattle.cs_index.specs.Gathering.{trigrams_in}
-use Rattle.cs_index.specs.Written.{ids_of, with_id, Written, entries_written, last_ids, with_written_id, with_last_id, with_last_ids, AllBelow}
-use Rattle.cs_index.specs.Sending.{Outgoing, bytes_in, with_bytes}
+use Rattle.cs_index.specs.Written.{ids_of, with_id, Written, bytes_written, entries_written, last_ids, prefix_of, with_written_id, with_last_id, with_last_ids, AllBelow, IsSentEarly}
+use Rattle.cs_index.specs.Sending.{Outgoing, all_sent, bytes_in, with_bytes}
 use Rattle.cs_index.specs.WrittenLists.{IsWritten, with_posting}
-use Rattle.cs_index.specs.SectionsInvariant.{prefix_of, ids_at, first_of, lists_at, IsFresh, IsOpen, IsSections, current_list, bytes_at_close, lists_of_fields, last_trigram_of, written_of}
+use Rattle.cs_index.specs.SectionsInvariant.{ids_at, first_of, lists_at, IsFresh, IsOpen, IsSections, current_list, bytes_at_close, lists_of_fields, last_trigram_of, written_of}
 use Rattle.cs_index.proofs.postings.StreamPush.{decoded-stream_of, stream_from, next_append, rise_length, rise_append}
 use Rattle.cs_index.proofs.postings.EncodedRuns.{onward_from, onward_last, onward_stream}
 use Rattle.cs_index.proofs.encoding.ListsReadBack.{lists_are}
@@ -701,21 +701,64 @@ first_at : (at last : ℕ) (ps : List PostingList) → last ≡ at + length (con
 first_at at last [] e = omega (arith, e)
 first_at at last (p ∷ ps) e = refl
 
+-- the bytes of the output, and the zero that closes the current list
+written_long : (s : Inside) → IsSections s → s.count ≢ 0 → length (bytes_in s.out) + 1 ≡ length (bytes_written (written_of s))
+written_long s is some =
+    let open_list : IsOpenAs s (closed_of s) (current_ids s) = is.opened some in
+    let prefix : List ℕ = prefix_of s.paths s.names in
+    let pushed = length_push (bytes_in s.out) 0 in
+    let written : bytes_in s.out ++ 0 ∷ [] ≡ bytes_written (written_of s) =
+    closed_at prefix (bytes_in s.out) (closed_of s) s.trigram (current_ids s) open_list.written
+    ∙ ap (λ bs. prefix ++ bs) (sym (concat_push (closed_of s) (s.trigram, current_ids s)))
+    ∙ ap (λ ps. prefix ++ concat (map posting_list_bytes ps)) (sym (some_lists s some)) in
+    let long = ap length written in
+    omega (arith, pushed, long)
+
 pub lists_long : (s : Inside) (first : ℕ) → IsSections s → s.count ≢ 0 → first ≡ first_of s.entries.items s.start →
     length (bytes_in s.out) + 1 ≡ first + length (concat (map posting_list_bytes (lists_of_fields s)))
 lists_long s first is some e =
     let open_list : IsOpenAs s (closed_of s) (current_ids s) = is.opened some in
     let prefix : List ℕ = prefix_of s.paths s.names in
-    let written : bytes_in s.out ++ 0 ∷ [] ≡ prefix ++ concat (map posting_list_bytes (lists_of_fields s)) =
-    closed_at prefix (bytes_in s.out) (closed_of s) s.trigram (current_ids s) open_list.written
-    ∙ ap (λ bs. prefix ++ bs) (sym (concat_push (closed_of s) (s.trigram, current_ids s)))
-    ∙ ap (λ ps. prefix ++ concat (map posting_list_bytes ps)) (sym (some_lists s some)) in
     let starts : first ≡ length prefix = e ∙ ap (λ es. first_of es s.start) open_list.entries_are
     ∙ first_at (length prefix) s.start (closed_of s) open_list.starts in
-    let long = ap length written in
-    let pushed = length_push (bytes_in s.out) 0 in
+    let long = written_long s is some in
     let both = length-append prefix (concat (map posting_list_bytes (lists_of_fields s))) in
-    omega (arith, starts, long, pushed, both)
+    omega (arith, starts, long, both)
+
+-- ---- the bytes in memory
+
+-- what was sent of the same bytes in two outputs
+sent_early : (now : Written) (out : Outgoing) → (now.lists ≢ [] → length (bytes_in out) + 1 ≡ length (bytes_written now)) →
+    length out.unsent < 65536 → now.sent ≡ out.sent → IsSentEarly now
+sent_early now out long few same some =
+    let all = long some in
+    let both = length-append out.sent out.unsent in
+    let sent = ap length same in
+    omega (arith, all, both, sent, few)
+
+written_as_long : (s : Inside) → IsSections s → lists_of_fields s ≢ [] → length (bytes_in s.out) + 1
+    ≡ length (bytes_written (written_of s))
+written_as_long s is some = written_long s is (λ zero. some (none_lists s zero))
+
+-- few bytes are in memory
+pub few_unsent : (s : Inside) (now : Written) → IsSections s → written_of s ≡ now → length s.out.unsent < 65536 → IsSentEarly now
+few_unsent s now is view few =
+    subst IsSentEarly view (sent_early (written_of s) s.out (written_as_long s is) few refl)
+
+-- all bytes were sent
+pub none_unsent : (s : Inside) (out : Outgoing) → IsSections s → out ≡ all_sent s.out → IsSentEarly (written_of (record s { out = out }))
+none_unsent s out is all =
+    subst (λ (o : Outgoing). IsSentEarly (written_of (record s { out = o }))) (sym all)
+    (sent_early (written_of (record s { out = all_sent s.out })) (all_sent s.out)
+    (subst IsLong (sym (append-nil (bytes_in s.out))) (written_as_long s is)) (omega arith) refl)
+  where
+    lists : List ℕ → List PostingList
+    lists bytes = cond (eqb s.count 0) []
+        (lists_at (bytes ++ 0 ∷ []) s.entries.items ++ (s.trigram, ids_at (bytes ++ 0 ∷ []) (current_list s)) ∷ [])
+
+    IsLong : List ℕ → Type 0
+    IsLong bytes = lists bytes ≢ [] → length bytes + 1
+        ≡ length (prefix_of s.paths s.names ++ concat (map posting_list_bytes (lists bytes)))
 
 -- the encoding of what is written is an index
 pub short : (s : Inside) (now : Written) (bytes : List ℕ) (limit : ℕ) → written_of s ≡ now → IsSections s →

@@ -2,8 +2,9 @@
 ghost use Rattle.std.specs.Prelude.{◌≡◌, ◌<◌, ◌≤◌, ◌⊎◌, ◌^◌, ◌++◌, ◌∷◌, [], List, ℕ, length, map, flat_map, Err, IfOk, IfErr, OnOk, OnErr};
 ghost use Rattle.std.specs.List.{AllByRecursion, concat};
 ghost use Rattle.cs_index.specs.Encoding.{entry_bytes, four_bytes, layout, list_entries, posting_list_bytes, sections_of, trailer_magic, ListEntry};
-ghost use Rattle.cs_index.specs.SectionsInvariant.{entry_from, prefix_of, lists_at};
+ghost use Rattle.cs_index.specs.SectionsInvariant.{entry_from, lists_at};
 ghost use Rattle.cs_index.specs.Sending.{bytes_in};
+ghost use Rattle.cs_index.specs.Written.{prefix_of};
 
 use crate::fault::BuildFault;
 use crate::format::{MAGIC, TRAILER_LEN, TRAILER_MAGIC};

@@ -7,7 +7,7 @@ ghost use Rattle.std.specs.List.{AllByRecursion, concat};
 ghost use Rattle.cs_index.specs.Encoding.{encoding_of, posting_list_bytes, IsString};
 ghost use Rattle.cs_index.specs.Indexable.{IsIndexable};
 ghost use Rattle.cs_index.specs.Built.{are_paths, is_above, is_storable};
-ghost use Rattle.cs_index.specs.Written.{entries_written, last_ids, with_written_name, with_last_id, with_last_ids, with_list, with_sent, AllBelow};
+ghost use Rattle.cs_index.specs.Written.{entries_written, last_ids, with_written_name, with_last_id, with_last_ids, with_list, with_sent, AllBelow, IsSentEarly};
 ghost use Rattle.cs_index.specs.Sending.{IsSentOn};
 ghost use Rattle.cs_index.specs.SectionsInvariant.{first_of};
 ghost use Rattle.cs_index.specs.WrittenLists.{with_posting, IsWritten};
@@ -267,6 +267,7 @@ impl Sections {
         ensures ok { OnOk result (self.new ≡ with_sent self.old self.new.sent) }
         ensures given { OnOk result
             (IsSentOn self.old.sent self.new.sent (O.given out.old) (O.given out.new)) }
+        ensures early { OnOk result (IsSentEarly self.new) }
         ensures err { OnErr result (self.new ≡ self.old) }
         ensures keeps { O.Keeps out.old out.new }
     {

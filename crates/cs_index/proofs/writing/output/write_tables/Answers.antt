@@ -1,7 +1,8 @@
 use Rattle.std.proofs.Common.{◌≡◌, ◌≤◌, ◌<◌, ◌+◌, ◌^◌, ◌∙◌, ◌++◌, ◌∷◌, [], ℕ, ap, sym, subst, length, map, List, arith, append_assoc, length-append}
 use Rattle.std.specs.List.{AllByRecursion, concat}
 use Rattle.cs_index.specs.Encoding.{ListEntry, PostingList, posting_list_bytes, sections_of, SectionBytes}
-use Rattle.cs_index.specs.SectionsInvariant.{prefix_of, lists_at}
+use Rattle.cs_index.specs.SectionsInvariant.{lists_at}
+use Rattle.cs_index.specs.Written.{prefix_of}
 use Rattle.cs_index.specs.Sending.{bytes_in}
 use Rattle.cs_index.proofs.encoding.Layout.{back_is, entries_near, prefix_1_long, prefix_2_long, layout_long, list_index_is, third_is}
 use Rattle.cs_index.proofs.writing.output.write_tables.Goals as goal

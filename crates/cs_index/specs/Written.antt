@@ -95,7 +95,7 @@ prefix_of paths names = (magic ++ strings_section paths) ++ strings_section name
 abbrev pub bytes_written : Written → List ℕ
 bytes_written output = prefix_of output.paths output.names ++ concat (map posting_list_bytes output.lists)
 
--- Less than 2^16 bytes are in memory: those that are not sent, except the zero that closes the last list. Before the
--- first list there are none.
+-- Fewer than 2^16 bytes wait to be sent. The zero that closes the last list is not made yet, and no byte is before the
+-- first list.
 abbrev pub IsSentEarly : Written → Type 0
 IsSentEarly output = output.lists ≢ [] → length (bytes_written output) ≤ length output.sent + 2 ^ 16

@@ -92,7 +92,8 @@ fn read_stored<S: Store>(
 ) -> Result<Result<StoredIndex, IndexFault>, IoFault>
     requires { AreAscendingOffsets starts }
     ensures opens { IfSome (S.model store.old) (λ bytes. AreBytes bytes →
-        starts.trailer ≤ length bytes → split_of bytes ≡ Ok (sections_at bytes starts) → IfOk result (OpensAs bytes)) }
+        starts.trailer ≤ length bytes → split_of bytes ≡ Ok (sections_at bytes starts) →
+        IfOk result (OpensAs bytes)) }
     ensures keeps { S.model store.new ≡ S.model store.old }
     ensures size { S.size store.new ≡ S.size store.old }
     ensures failed { S.failed store.new ≡ count_after is_io_failure result (S.failed store.old) }

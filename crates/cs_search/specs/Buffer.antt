@@ -1,5 +1,5 @@
 -- The bytes of a line buffer that were read and are not yet searched.
-use Rattle.std.specs.Prelude.{ℕ, ◌≡◌, ◌+◌, List, [], length, take, slice_range, vec_len, Option, Result, MatchResult}
+use Rattle.std.specs.Prelude.{ℕ, ◌≡◌, ◌+◌, ◌*◌, ◌⊎◌, List, [], length, take, slice_range, vec_len, Option, Result, MatchResult}
 use Rattle.cs_tree.specs.Transfers.{Consumes, IsAt}
 use Rattle.cs_tree.specs.declared.fault.IoFault.{IoFault}
 use Rattle.cs_tree.specs.declared.fault.IoFault.TheVariants.{Failed}
@@ -12,6 +12,11 @@ pending_bytes buffer = slice_range buffer.bytes.items buffer.start buffer.end
 -- the capacity
 abbrev pub size_of : LineBuffer → ℕ
 size_of buffer = vec_len buffer.bytes
+
+-- The size stays, or the pending bytes fill the buffer and it doubles.
+abbrev pub GrowsIfFull : LineBuffer → LineBuffer → Type 0
+GrowsIfFull old new =
+    (size_of new ≡ size_of old) ⊎ ((length (pending_bytes old) ≡ size_of old) × (size_of new ≡ 2 * size_of old))
 
 -- `new` is `old` followed by `n` bytes.
 pub record GrowsBy (old new : List ℕ) (n : ℕ) : Type 0 where

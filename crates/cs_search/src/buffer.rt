@@ -22,7 +22,7 @@ pub struct LineBuffer {
 
 impl LineBuffer {
     ghost use Rattle.std.specs.Prelude.{◌^◌, [], OnOk, OnErr};
-    ghost use Rattle.cs_search.specs.Buffer.{pending_bytes, size_of, GrowsBy, AppendsRead};
+    ghost use Rattle.cs_search.specs.Buffer.{pending_bytes, size_of, GrowsBy, GrowsIfFull, AppendsRead};
 
     /// An empty buffer.
     #[tactic(auto, unfolding(crate::specs::Buffer::pending_bytes))]
@@ -93,6 +93,7 @@ impl LineBuffer {
         requires { length (pending_bytes self.old) < 2 ^ 32 }
         ensures room { OnOk result (self.new.end < vec_len self.new.bytes) }
         ensures same { pending_bytes self.new ≡ pending_bytes self.old }
+        ensures size { GrowsIfFull self.old self.new }
     {
         if self.end < self.bytes.len() {
             return Ok(());
@@ -117,6 +118,7 @@ impl LineBuffer {
         ensures model { AppendsRead (R.model input.old) (R.model input.new) result
             (drop (length (pending_bytes self.old)) (pending_bytes self.new)) }
         ensures same { OnErr result (pending_bytes self.new ≡ pending_bytes self.old) }
+        ensures size { GrowsIfFull self.old self.new }
         ensures failed { R.failed input.new ≡
             count_after is_io_failure result (R.failed input.old) }
         ensures keeps { R.Keeps input.old input.new }

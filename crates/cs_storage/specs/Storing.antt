@@ -4,11 +4,12 @@
 -- changes FILE only while it holds FILE~; so while a run holds FILE~, FILE changes by its own calls alone, and while
 -- it does not, FILE may be anything after each call.
 -- docs/PROMISES.md, "Storing"; docs/DECISIONS.md, "The index file".
-use Rattle.std.specs.Prelude.{◌≡◌, ◌⊎◌, ℕ, Bool, true, false, List, [], ◌∷◌, ◌++◌, Option, Some, None, IsSome, IsSomeAnd, IfSome, MatchOption, IfOk, IfErr, IsTrue, Result, Ok, Err, if◌then◌else◌}
+use Rattle.std.specs.Prelude.{◌≡◌, ◌⊎◌, ℕ, Bool, true, false, List, [], ◌∷◌, ◌++◌, Option, Some, None, IsSome, IsSomeAnd, IfSome, MatchOption, IfOk, IfErr, Result, Ok, Err, if◌then◌else◌}
 use Rattle.cs_tree.specs.Failures.{next_count}
 use Rattle.cs_storage.specs.declared.fault.StorageFault.{StorageFault}
+use Rattle.cs_storage.specs.declared.fault.StorageFault.TheVariants.{Failed}
 use Rattle.cs_storage.specs.declared.update.IndexUpdate.{IndexUpdate}
-use Rattle.cs_storage.specs.declared.update.IndexUpdate.TheVariants.{Keep}
+use Rattle.cs_storage.specs.declared.update.IndexUpdate.TheVariants.{Keep, Write, Remove}
 use Rattle.cs_storage.specs.FileAfter.{file_after, IsChange}
 
 -- what a crash may leave at FILE: no file, a file with exactly these bytes, or a file with any bytes
@@ -38,6 +39,10 @@ pub record Folder : Type 0 where
   pub stuck : ℕ
   -- what this run replaced at FILE when it last changed FILE, if it did
   pub replaced : Option (Option (List ℕ))
+  -- what the changes of FILE by this run have added to what a crash may leave there
+  pub added : List Left
+  -- why the last call failed that was to make, sync, rename or remove a file, or to find FILE unchanged; none if it succeeded
+  pub refused : Option StorageFault
 
 -- ---- the calls of a folder
 
@@ -51,6 +56,8 @@ pub record LeavesFiles (old new : Folder) : Type 0 where
   pub own : new.own ≡ old.own
   pub stuck : new.stuck ≡ old.stuck
   pub replaced : new.replaced ≡ old.replaced
+  pub added : new.added ≡ old.added
+  pub refused : new.refused ≡ old.refused
 
 -- The call changes nothing. Other runs may change FILE, unless this run holds FILE~.
 pub record ChangesNothing (old new : Folder) : Type 0 where
@@ -76,12 +83,15 @@ IsFree old new = (new.own ≡ None) ⊎ (new.stuck ≡ next_count old.stuck)
 abbrev pub Claims : Result (Unit {0}) StorageFault → Folder → Folder → Type 0
 Claims (Ok _) old new =
     (new.seen ≡ old.seen) × (new.own ≡ Some (record { bytes = []; synced = false })) × (new.since ≡ new.now)
-    × (new.stuck ≡ old.stuck) × (new.replaced ≡ old.replaced)
-Claims (Err fault) old new = (new.seen ≡ old.seen) × (new.replaced ≡ old.replaced) × IsFree old new
+    × (new.stuck ≡ old.stuck) × (new.replaced ≡ old.replaced) × (new.added ≡ old.added) × (new.refused ≡ None)
+Claims (Err fault) old new =
+    (new.seen ≡ old.seen) × (new.replaced ≡ old.replaced) × IsFree old new × (new.added ≡ old.added)
+    × (new.refused ≡ Some fault)
 
--- whether FILE is still what was seen
+-- whether FILE is still what was seen; if it is not, or cannot be compared, the update is refused
 abbrev pub Compares : Bool → Folder → Folder → Type 0
-Compares unchanged old new = ChangesNothing old new × (IsTrue unchanged → new.seen ≡ Some (Ok new.file))
+Compares true old new = ChangesNothing old new × (new.seen ≡ Some (Ok new.file))
+Compares false old new = ChangesNothing (record old { refused = Some Failed }) new
 
 -- FILE~ is held and has any bytes; nothing else changes
 abbrev pub FillsOwn : Folder → Folder → Type 0
@@ -93,8 +103,8 @@ Fills old new = MatchOption old.own (ChangesNothing old new) (λ _. FillsOwn old
 
 -- FILE~ has exactly these bytes, synced; after an error it has any bytes
 abbrev pub Syncs : List ℕ → Result (Unit {0}) StorageFault → Folder → Folder → Type 0
-Syncs bytes (Ok _) old new = new ≡ record old { own = Some (record { bytes = bytes; synced = true }) }
-Syncs bytes (Err fault) old new = FillsOwn old new
+Syncs bytes (Ok _) old new = new ≡ record old { own = Some (record { bytes = bytes; synced = true }); refused = None }
+Syncs bytes (Err fault) old new = FillsOwn (record old { refused = Some fault }) new
 
 -- what a crash may leave of a file that is renamed to FILE: all its bytes if they are synced
 abbrev pub left_renamed : OwnFile → Left
@@ -108,8 +118,10 @@ Renames (Ok _) old new = IfSome old.own (λ own. new ≡ record old {
   now = old.now ++ left_renamed own ∷ [];
   since = old.since ++ left_renamed own ∷ [];
   replaced = Some old.file;
+  added = old.added ++ left_renamed own ∷ [];
+  refused = None;
 })
-Renames (Err fault) old new = new ≡ old
+Renames (Err fault) old new = new ≡ record old { refused = Some fault }
 
 -- FILE is removed, if it is there. A crash may still undo this.
 abbrev pub Removes : Result (Unit {0}) StorageFault → Folder → Folder → Type 0
@@ -118,8 +130,10 @@ Removes (Ok _) old new = new ≡ record old {
   now = old.now ++ absent ∷ [];
   since = old.since ++ absent ∷ [];
   replaced = Some old.file;
+  added = old.added ++ absent ∷ [];
+  refused = None;
 }
-Removes (Err fault) old new = new ≡ old
+Removes (Err fault) old new = new ≡ record old { refused = Some fault }
 
 -- FILE~ is taken away, unless the system refuses
 abbrev pub Releases : Folder → Folder → Type 0
@@ -132,21 +146,40 @@ Releases old new = MatchOption old.own (ChangesNothing old new)
 abbrev pub IsHeld : Option Folder → Type 0
 IsHeld folder = IfSome folder (λ folder. IsSome folder.own)
 
--- At the begin FILE~ is made, and FILE is what was seen. On error FILE~ is free.
+-- this is why the last call of a modelled folder failed
+abbrev pub IsRefusedBy : StorageFault → Option Folder → Type 0
+IsRefusedBy fault folder = IfSome folder (λ folder. folder.refused ≡ Some fault)
+
+-- At the begin FILE~ is made, and FILE is what was seen. The error is that of the call that failed, and FILE~ is free.
 abbrev pub Begins : Result (Unit {0}) StorageFault → Folder → Folder → Type 0
 Begins (Ok _) old new =
     IsSome new.own × (new.seen ≡ old.seen) × (new.seen ≡ Some (Ok new.file)) × (new.since ≡ new.now)
-    × (new.stuck ≡ old.stuck) × (new.replaced ≡ old.replaced)
-Begins (Err fault) old new = (new.seen ≡ old.seen) × (new.replaced ≡ old.replaced) × IsFree old new
+    × (new.stuck ≡ old.stuck) × (new.replaced ≡ old.replaced) × (new.added ≡ old.added)
+Begins (Err fault) old new =
+    (new.seen ≡ old.seen) × (new.replaced ≡ old.replaced) × IsFree old new × (new.added ≡ old.added)
+    × (new.refused ≡ Some fault)
 
 -- a file or none, whole
 abbrev pub left_whole : Option (List ℕ) → Left
 left_whole None = absent
 left_whole (Some bytes) = whole bytes
 
--- What a crash may leave has at most one outcome more: what is asked, whole.
-abbrev pub LeavesAsked : Option (List ℕ) → List Left → List Left → Type 0
-LeavesAsked file before after = (after ≡ before) ⊎ (after ≡ before ++ left_whole file ∷ [])
+-- what a crash may leave after an update: what it might have left before, or what is asked, whole
+abbrev pub left_after : IndexUpdate → List Left → List Left
+left_after Keep before = before
+left_after (Write sent) before = before ++ whole sent.bytes ∷ []
+left_after Remove before = before ++ absent ∷ []
+
+-- A crash leaves what one before might have left, or what is asked, whole.
+abbrev pub LeavesAsked : IndexUpdate → Folder → Folder → Type 0
+LeavesAsked update old new =
+    (new.since ≡ left_after update old.since) × (new.now ≡ left_after update old.now)
+    × (new.added ≡ left_after update old.added)
+
+-- Nothing has changed at FILE, also after a crash, and the error is that of the call that failed.
+abbrev pub Fails : StorageFault → Folder → Folder → Type 0
+Fails fault old new =
+    (new.file ≡ old.file) × (new.replaced ≡ old.replaced) × LeavesAsked Keep old new × (new.refused ≡ Some fault)
 
 -- what this run has replaced after an update
 abbrev pub replaced_after : IndexUpdate → Folder → Option (Option (List ℕ))
@@ -159,8 +192,7 @@ pub record Updates (update : IndexUpdate) (result : Result (Unit {0}) StorageFau
   pub file : IfOk result (λ _. new.file ≡ file_after update old.file)
   pub was_seen : IfOk result (λ _. IsChange update → old.seen ≡ Some (Ok old.file))
   pub replaced : IfOk result (λ _. new.replaced ≡ replaced_after update old)
-  pub error : IfErr result (λ _. (new.file ≡ old.file) × (new.replaced ≡ old.replaced))
+  pub crash : IfOk result (λ _. LeavesAsked update old new)
+  pub error : IfErr result (λ fault. Fails fault old new)
   pub seen : new.seen ≡ old.seen
-  pub crash : LeavesAsked (file_after update old.file) old.since new.since
-  pub later_crash : LeavesAsked (file_after update old.file) old.now new.now
   pub free : IsFree old new

@@ -1,5 +1,5 @@
 // The index file and its surroundings.
-ghost use Rattle.std.specs.Prelude.{◌≡◌, ◌++◌, ℕ, List, [], Option, None, OnOk};
+ghost use Rattle.std.specs.Prelude.{◌≡◌, ◌++◌, ℕ, List, [], Option, None, IfOk, IfSome, OnOk};
 ghost use Rattle.cs_storage.specs.Storing.{Folder, Moves, Looks, Claims, Compares, Fills, Syncs, Renames, Removes, Releases, IsHeld};
 
 use crate::fault::StorageFault;
@@ -16,9 +16,10 @@ pub trait IndexFolder {
     /// The bytes that FILE~ was given since it was made.
     ghost given: { Self → List ℕ };
 
-    /// Opens FILE; None if there is no file.
+    /// Opens FILE; None if there is no file. No read of it has failed.
     fn look(&mut self) -> Result<Option<Self::Index>, StorageFault>
-        ensures { Moves (Looks Self.Index.model result) (model self.old) (model self.new) };
+        ensures looks { Moves (Looks Self.Index.model result) (model self.old) (model self.new) }
+        ensures fresh { IfOk result (λ opened. IfSome opened (λ index. Self.Index.failed index ≡ 0)) };
 
     /// Makes FILE~ and locks it. Returns an error if another run holds it, or if it cannot be made.
     fn claim(&mut self) -> Result<(), StorageFault>

@@ -1,5 +1,5 @@
 -- The model of a folder in memory.
-use Rattle.std.specs.Prelude.{ℕ, List, map, drop, Option, Some, option_map, Vec, Result, Ok, Err}
+use Rattle.std.specs.Prelude.{ℕ, List, map, drop, Option, Some, None, option_map, Vec, Result, Ok, Err}
 use Rattle.std.specs.declared.alloc.Global.{Global}
 use Rattle.cs_storage.specs.Storing.{Folder, OwnFile, Left, absent, whole, torn}
 use Rattle.cs_storage.specs.declared.fault.StorageFault.{StorageFault}
@@ -41,4 +41,11 @@ folder_view m = record {
   since = lefts_from m.since_at m.lefts.items;
   stuck = m.stuck;
   replaced = option_map bytes_view m.replaced;
+  added = map left_view m.added.items;
+  refused = m.refused;
 }
+
+-- the folder after a call with this answer
+abbrev pub answered : Result (Unit {0}) StorageFault → Folder → Folder
+answered (Ok _) folder = record folder { refused = None }
+answered (Err fault) folder = record folder { refused = Some fault }

@@ -28,6 +28,10 @@ pub struct MemFolder {
     pub(crate) stuck: u64,
     /// What this run replaced at FILE when it last changed FILE, if it did.
     pub(crate) replaced: Option<Option<Vec<u8>>>,
+    /// What the changes of FILE by this run have added to what a crash may leave there.
+    pub(crate) added: Vec<MemLeft>,
+    /// Why the last call failed that was to change FILE or FILE~, or to find FILE unchanged.
+    pub(crate) refused: Option<StorageFault>,
     /// Whether another run holds FILE~.
     pub(crate) taken: bool,
     /// What another run does next.

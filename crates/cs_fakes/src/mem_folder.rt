@@ -1,7 +1,7 @@
 // A folder in memory.
 ghost use Rattle.std.specs.Prelude.{◌≡◌, ◌++◌, ◌∷◌, [], ◌↔◌, Some, None, Ok, IfOk, IsSome, IsTrue, map, option_map};
-ghost use Rattle.cs_storage.specs.Storing.{ChangesNothing, HasBytesOf, left_whole};
-ghost use Rattle.cs_fakes.specs.MemFolders.{folder_view, bytes_view, left_view, mem_bytes};
+ghost use Rattle.cs_storage.specs.Storing.{ChangesNothing, HasBytesOf, Renames, Removes, left_renamed, left_whole};
+ghost use Rattle.cs_fakes.specs.MemFolders.{folder_view, bytes_view, left_view, own_view, mem_bytes, answered};
 
 use crate::folder_types::{MemFile, MemFolder, MemIndex, MemLeft, MemOpened, MemVisit};
 use cs_output::Sent;
@@ -31,6 +31,8 @@ impl MemFolder {
             since_at: 0,
             stuck: 0,
             replaced: None,
+            added: Vec::new(alloc),
+            refused: None,
             taken: false,
             next: None,
             calls: usize::MAX,
@@ -143,6 +145,38 @@ impl MemFolder {
         }
         Ok(())
     }
+
+    /// Renames FILE~ to FILE.
+    fn replace(&mut self) -> Result<(), StorageFault>
+        requires { IsSome (folder_view self.old).own }
+        ensures { Renames result (folder_view self.old) (answered result (folder_view self.new)) }
+    {
+        self.step()?;
+        let Some(own) = &self.own else {
+            return Err(StorageFault::Failed);
+        };
+        let left = left_of_temp(self.alloc, own)?;
+        let added = left_of_temp(self.alloc, own)?;
+        self.added.reserve(1)?;
+        self.lefts.push(left)?;
+        self.added.push(added)?;
+        self.replaced = Some(self.file.take());
+        self.file = self.own.take().map(|own| own.bytes);
+        Ok(())
+    }
+
+    /// Removes FILE.
+    fn clear(&mut self) -> Result<(), StorageFault>
+        requires { IsSome (folder_view self.old).own }
+        ensures { Removes result (folder_view self.old) (answered result (folder_view self.new)) }
+    {
+        self.step()?;
+        self.added.reserve(1)?;
+        self.lefts.push(MemLeft::Absent)?;
+        self.added.push(MemLeft::Absent)?;
+        self.replaced = Some(self.file.take());
+        Ok(())
+    }
 }
 
 impl IndexFolder for MemFolder {
@@ -169,8 +203,10 @@ impl IndexFolder for MemFolder {
         let claimed = self.step();
         if claimed.is_err() || self.taken {
             self.own = None;
+            self.refused = Some(StorageFault::Failed);
             return Err(StorageFault::Failed);
         }
+        self.refused = None;
         self.own = Some(MemFile {
             bytes: Vec::new(self.alloc),
             synced: false,
@@ -182,7 +218,11 @@ impl IndexFolder for MemFolder {
     }
 
     fn is_unchanged(&mut self) -> bool {
-        self.step().is_ok() && self.is_seen()
+        let unchanged = self.step().is_ok() && self.is_seen();
+        if !unchanged {
+            self.refused = Some(StorageFault::Failed);
+        }
+        unchanged
     }
 
     fn append(&mut self, bytes: &[u8]) {
@@ -201,8 +241,8 @@ impl IndexFolder for MemFolder {
     }
 
     fn sync(&mut self) -> Result<(), StorageFault> {
-        self.step()?;
-        if let Some(fault) = self.failure {
+        self.refused = self.step().err().or(self.failure);
+        if let Some(fault) = self.refused {
             return Err(fault);
         }
         if let Some(own) = &mut self.own {
@@ -212,26 +252,15 @@ impl IndexFolder for MemFolder {
     }
 
     fn rename(&mut self) -> Result<(), StorageFault> {
-        self.step()?;
-        let Some(own) = &self.own else {
-            return Err(StorageFault::Failed);
-        };
-        let left = if own.synced {
-            MemLeft::Whole(own.bytes.to_vec(self.alloc)?)
-        } else {
-            MemLeft::Torn
-        };
-        self.lefts.push(left)?;
-        self.replaced = Some(self.file.take());
-        self.file = self.own.take().map(|own| own.bytes);
-        Ok(())
+        let renamed = self.replace();
+        self.refused = renamed.err();
+        renamed
     }
 
     fn remove(&mut self) -> Result<(), StorageFault> {
-        self.step()?;
-        self.lefts.push(MemLeft::Absent)?;
-        self.replaced = Some(self.file.take());
-        Ok(())
+        let removed = self.clear();
+        self.refused = removed.err();
+        removed
     }
 
     fn release(&mut self) {
@@ -250,6 +279,17 @@ fn left_of_file(alloc: Global, file: &Option<Vec<u8>>) -> Result<MemLeft, AllocE
     match file {
         Some(bytes) => Ok(MemLeft::Whole(bytes.to_vec(alloc)?)),
         None => Ok(MemLeft::Absent),
+    }
+}
+
+/// What a crash leaves of FILE~ once it is renamed.
+fn left_of_temp(alloc: Global, own: &MemFile) -> Result<MemLeft, AllocError>
+    ensures { IfOk result (λ left. left_view left ≡ left_renamed (own_view own.now)) }
+{
+    if own.synced {
+        Ok(MemLeft::Whole(own.bytes.to_vec(alloc)?))
+    } else {
+        Ok(MemLeft::Torn)
     }
 }
 

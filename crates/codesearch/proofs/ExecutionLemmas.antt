@@ -1,19 +1,19 @@
 -- The index file before, while and after the job is done.
 use Rattle.std.proofs.Common.{◌≡◌, ◌≢◌, ℕ, List, Option, Some, None, Result, Ok, Err, refl, sym, ap, subst, ◌∙◌, ◌⊎◌, inl, inr}
-use Rattle.std.specs.Prelude.{Bool, true, false, IsSomeAnd, IfSome}
-use Rattle.cs_tree.specs.Failures.{next_count}
+use Rattle.std.specs.Prelude.{Bool, true, false, nat_lt, IsSomeAnd, IfSome, if◌then◌else◌}
+use Rattle.cs_tree.specs.Failures.{next_count, count_if}
 use Rattle.cs_tree.proofs.GrowsLemmas.{Grows-same}
 use Rattle.cs_args.specs.declared.jobs.Tool.{Tool}
 use Rattle.cs_args.specs.declared.jobs.Tool.TheVariants.{Cindex, Csearch, Cgrep}
 use Rattle.cs_storage.specs.FileAfter.{file_after, IsChange}
-use Rattle.cs_storage.specs.Storing.{Folder, Moves, LeavesFiles, HasBytesOf, Looks, IsFree, Fills, Begins, Updates, replaced_after}
+use Rattle.cs_storage.specs.Storing.{Folder, Left, Moves, LeavesFiles, HasBytesOf, Looks, IsFree, Fills, IsRefusedBy, Begins, Updates, left_after, replaced_after}
 use Rattle.cs_storage.proofs.FillLemmas.{fills_keeps}
 use Rattle.cs_storage.specs.declared.fault.StorageFault.{StorageFault}
 use Rattle.cs_storage.specs.declared.update.IndexUpdate.{IndexUpdate}
 use Rattle.cs_storage.specs.declared.update.IndexUpdate.TheVariants.{Keep, Write, Remove}
-use Rattle.cs_cindex.specs.OldIndex.{IsIndex}
+use Rattle.cs_cindex.specs.OldIndex.{IsIndex, IsUnreadable}
 use Rattle.codesearch.specs.Program.{IndexFile, Surroundings, IsUntouched, Refuses, Runs, IsCall, opened_file, may_update, exit_status, update_of, reading_line, writing_line}
-use Rattle.codesearch.specs.Execution.{IsReadIndex, LeavesFile, ReplacesFile, Stores, EndsWith, WasOpened, Executes}
+use Rattle.codesearch.specs.Execution.{IsReadIndex, LeavesFile, ReplacesFile, Stores, EndsWith, WasOpened, IsOpening, failed_reads, Executes}
 use Rattle.codesearch.specs.Opened.{StoresOpened, Finishes, ExecutesOpened}
 use Rattle.cs_args.specs.declared.fault.WordFault.{WordFault}
 use Rattle.cs_args.specs.declared.jobs.Job.{Job}
@@ -42,14 +42,15 @@ moves_twice P Q R (Some f) (Some g) (Some h) on first second = on f g h first se
 -- ---- what becomes of FILE
 
 stores_nothing : (old new : Folder) → LeavesFiles old new → Stores Keep old new
-stores_nothing old new leaves = record { file = leaves.replaced; free = λ none. inl (leaves.own ∙ none) }
+stores_nothing old new leaves = record { file = leaves.replaced; crash = leaves.added; free = λ none. inl (leaves.own ∙ none) }
 
 pub unread_stores : {I : Type 0} (model : I → Option (List ℕ)) (fault : StorageFault) (old new : Option Folder) →
     Moves (Looks model (Err fault)) old new → Moves (Stores Keep) old new
 unread_stores model fault old new looks = moves_on (Looks model (Err fault)) (Stores Keep) old new (λ f g l. stores_nothing f g l.0) looks
 
 unclaimed_at : (fault : StorageFault) (old new : Folder) → Begins (Err fault) old new → StoresOpened Keep old new
-unclaimed_at fault old new begins = record { seen = begins.0; stores = record { file = begins.1; free = λ none. begins.2 } }
+unclaimed_at fault old new begins =
+    record { seen = begins.0; stores = record { file = begins.1; crash = begins.3; free = λ none. begins.2 } }
 
 pub unclaimed_stores : (fault : StorageFault) (old new : Option Folder) → Moves (Begins (Err fault)) old new →
     Moves (StoresOpened Keep) old new
@@ -59,7 +60,7 @@ unclaimed_stores fault old new begins = moves_on (Begins (Err fault)) (StoresOpe
 
 filled_at : (old new : Folder) → Fills old new → StoresOpened Keep old new
 filled_at old new filled = let keeps = fills_keeps old new filled in
-    record { seen = keeps.0; stores = record { file = keeps.2; free = λ none. inl (keeps.3 none) } }
+    record { seen = keeps.0; stores = record { file = keeps.2; crash = keeps.3; free = λ none. inl (keeps.4 none) } }
 
 pub filled_opened : (old new : Option Folder) {update : IndexUpdate} → update ≡ Keep → Moves Fills old new →
     Moves (StoresOpened update) old new
@@ -83,33 +84,46 @@ free_from : (first old new : Folder) → old.stuck ≡ first.stuck → IsFree ol
 free_from first old new same (inl none) = inl none
 free_from first old new same (inr stuck) = inr (stuck ∙ ap next_count same)
 
-finishes_at : (update : IndexUpdate) (old mid new : Folder) → Fills old mid → Finishes update mid new → Finishes update old new
-finishes_at update old mid new filled ends = let keeps = fills_keeps old mid filled in
+-- how a claimed FILE is updated, from any earlier moment at which it was claimed
+record Ends (update : IndexUpdate) (old new : Folder) : Type 0 where
+  seen : new.seen ≡ old.seen
+  file : ReplacesFile update old new
+  crash : new.added ≡ left_after update old.added
+  free : IsFree old new
+
+crash_from : (update : IndexUpdate) {first old new : List Left} → old ≡ first → new ≡ left_after update old → new ≡ left_after update first
+crash_from update same crash = crash ∙ ap (left_after update) same
+
+ends_at : (update : IndexUpdate) (old mid new : Folder) → Fills old mid → Finishes update mid new → Ends update old new
+ends_at update old mid new filled ends = let keeps = fills_keeps old mid filled in
     record {
       seen = ends.seen ∙ keeps.0;
       file = replaces_from update old mid new keeps.2 ends.file;
-      free =
-          free_from old mid new keeps.1 ends.free;
+      crash = crash_from update keeps.3 ends.crash.2;
+      free = free_from old mid new keeps.1 ends.free;
     }
 
-pub filled_finishes : (update : IndexUpdate) (old mid new : Option Folder) → Moves Fills old mid →
-    Moves (Finishes update) mid new → Moves (Finishes update) old new
-filled_finishes update old mid new filled ends = moves_twice Fills (Finishes update) (Finishes update) old mid new
-    (finishes_at update) filled ends
-
-claimed_at : (update : IndexUpdate) (old mid new : Folder) → Begins (Ok tt) old mid → Finishes update mid new → StoresOpened update old new
+claimed_at : (update : IndexUpdate) (old mid new : Folder) → Begins (Ok tt) old mid → Ends update mid new → StoresOpened update old new
 claimed_at update old mid new begins ends = record {
   seen = ends.seen ∙ begins.1;
   stores = record {
     file = replaces_from update old mid new begins.5 ends.file;
+    crash = crash_from update begins.6 ends.crash;
     free = λ none. free_from old mid new begins.4 ends.free;
   };
 }
 
-pub claimed_stores : (update : IndexUpdate) (old mid new : Option Folder) → Moves (Begins (Ok tt)) old mid →
-    Moves (Finishes update) mid new → Moves (StoresOpened update) old new
-claimed_stores update old mid new begins ends = moves_twice (Begins (Ok tt)) (Finishes update) (StoresOpened update) old
-    mid new (claimed_at update) begins ends
+-- FILE~ is made, an output over it is filled, and FILE is updated
+pub claimed_stores : (update : IndexUpdate) (old mid filled new : Option Folder) → Moves (Begins (Ok tt)) old mid →
+    Moves Fills mid filled → Moves (Finishes update) filled new → Moves (StoresOpened update) old new
+claimed_stores update old mid filled new begins fills ends = moves_twice (Begins (Ok tt)) (Ends update) (StoresOpened update) old
+    mid new (claimed_at update) begins (moves_twice Fills (Finishes update) (Ends update) mid filled new (ends_at update) fills ends)
+
+-- why FILE~ could not be made
+refused_claim : (fault : StorageFault) (old new : Option Folder) → Moves (Begins (Err fault)) old new → IsRefusedBy fault new
+refused_claim fault old None begins = tt
+refused_claim fault None (Some g) begins = absurd (let e : Some g ≡ None = begins in cc)
+refused_claim fault (Some f) (Some g) begins = begins.4
 
 -- ---- the end of an update
 
@@ -125,6 +139,7 @@ finished_at update old new is = record {
   seen = is.seen;
   file = finished_file update old new is.file is.was_seen
       is.replaced is.seen;
+  crash = is.crash;
   free = is.free;
 }
 
@@ -134,11 +149,19 @@ finish_done update old new is = moves_on (Updates update (Ok tt)) (Finishes upda
 
 unfinished_at : (update : IndexUpdate) (fault : StorageFault) (old new : Folder) → Updates update (Err fault) old new →
     Finishes Keep old new
-unfinished_at update fault old new is = record { seen = is.seen; file = is.error.1; free = is.free }
+unfinished_at update fault old new is =
+    record { seen = is.seen; file = is.error.1; crash = is.error.2; free = is.free }
 
 pub finish_failed : (update : IndexUpdate) (fault : StorageFault) (old new : Option Folder) →
     Moves (Updates update (Err fault)) old new → Moves (Finishes Keep) old new
 finish_failed update fault old new is = moves_on (Updates update (Err fault)) (Finishes Keep) old new (unfinished_at update fault) is
+
+-- why FILE could not be updated
+pub finish_refused : (update : IndexUpdate) (fault : StorageFault) (old new : Option Folder) →
+    Moves (Updates update (Err fault)) old new → IsRefusedBy fault new
+finish_refused update fault old None is = tt
+finish_refused update fault None (Some g) is = absurd (let e : Some g ≡ None = is in cc)
+finish_refused update fault (Some f) (Some g) is = is.error.3
 
 -- ---- the whole
 
@@ -147,6 +170,20 @@ was_read : (tool : Tool) (folder : Option Folder) (index : Option (List ℕ)) �
 was_read Cindex folder index other is = is
 was_read Csearch folder index other is = is
 was_read Cgrep folder index other is = absurd (other refl)
+
+is_opening : (tool : Tool) (folder : Option Folder) (failed : ℕ) (unreadable : Option StorageFault) → tool ≢ Cgrep →
+    IfSome folder (λ folder. WasOpened folder.seen failed unreadable) → IsOpening tool folder failed unreadable
+is_opening Cindex folder failed unreadable other is = is
+is_opening Csearch folder failed unreadable other is = is
+is_opening Cgrep folder failed unreadable other is = absurd (other refl)
+
+abbrev why_unread : Bool → Option StorageFault
+why_unread failed = if failed then Some Failed else None
+
+-- a file of which no read had failed is unreadable if one failed
+counted : (failed : Bool) (n : ℕ) → n ≡ count_if failed 0 → why_unread failed ≡ (if nat_lt 0 n then Some Failed else None)
+counted true n is = rw (is) refl
+counted false n is = rw (is) refl
 
 same_seen : {one other : Option (List ℕ)} → ◌≡◌ {A = Option (Result (Option (List ℕ)) StorageFault)} (Some (Ok one))
     (Some (Ok other)) → one ≡ other
@@ -168,16 +205,28 @@ module _ {I : Type 0} (model : I → Option (List ℕ)) where
   index_read opened (Some b) (Some m) (Some a) update index looks stores is = is_index opened m.file index looks.2
       (same_seen (sym is ∙ stores.seen ∙ looks.1))
 
-  was_opened : (opened : Option I) (before mid after : Option Folder) (update : IndexUpdate)
-      (unreadable : Option StorageFault) → Moves (Looks model (Ok opened)) before mid →
-      Moves (StoresOpened update) mid after → (unreadable ≡ None) ⊎ (unreadable ≡ Some Failed) →
-      IfSome after (λ folder. WasOpened folder.seen unreadable)
-  was_opened opened before mid None update unreadable looks stores read = tt
-  was_opened opened None mid (Some a) update unreadable looks stores read =
+  was_read_at : (failed : I → ℕ) (opened read : Option I) (file : Option (List ℕ)) (fails : Bool) →
+      HasBytesOf model opened file → IfSome opened (λ index. failed index ≡ 0) → IsUnreadable failed opened read fails →
+      WasOpened (Some (Ok file)) (failed_reads failed read) (if fails then Some Failed else None)
+  was_read_at failed None read file fails has fresh unread =
+      subst (λ file. WasOpened (Some (Ok file)) (failed_reads failed read) (if fails then Some Failed else None)) (sym has)
+      (ap why_unread unread)
+  was_read_at failed (Some store) None file fails has fresh unread = absurd unread
+  was_read_at failed (Some store) (Some read) None fails has fresh unread = absurd (let e = has.0 in cc)
+  was_read_at failed (Some store) (Some read) (Some bytes) fails has fresh unread =
+      counted fails (failed read) (unread ∙ ap (count_if fails) fresh)
+
+  was_opened : (failed : I → ℕ) (opened read : Option I) (before mid after : Option Folder) (update : IndexUpdate)
+      (fails : Bool) → Moves (Looks model (Ok opened)) before mid → Moves (StoresOpened update) mid after →
+      IfSome opened (λ index. failed index ≡ 0) → IsUnreadable failed opened read fails →
+      IfSome after (λ folder. WasOpened folder.seen (failed_reads failed read) (if fails then Some Failed else None))
+  was_opened failed opened read before mid None update fails looks stores fresh unread = tt
+  was_opened failed opened read None mid (Some a) update fails looks stores fresh unread =
       absurd (let e : Some a ≡ None = subst (λ mid. Moves (StoresOpened update) mid (Some a)) looks stores in cc)
-  was_opened opened (Some b) None (Some a) update unreadable looks stores read = absurd looks
-  was_opened opened (Some b) (Some m) (Some a) update unreadable looks stores read =
-      subst (λ seen. WasOpened seen unreadable) (sym (stores.seen ∙ looks.1)) read
+  was_opened failed opened read (Some b) None (Some a) update fails looks stores fresh unread = absurd looks
+  was_opened failed opened read (Some b) (Some m) (Some a) update fails looks stores fresh unread =
+      subst (λ seen. WasOpened seen (failed_reads failed read) (if fails then Some Failed else None)) (sym (stores.seen ∙ looks.1))
+      (was_read_at failed opened read m.file fails looks.2 fresh unread)
 
   opened_at : (opened : Option I) (update : IndexUpdate) (before mid after : Folder) →
       Looks model (Ok opened) before mid → StoresOpened update mid after → Stores update before after
@@ -185,17 +234,21 @@ module _ {I : Type 0} (model : I → Option (List ℕ)) where
       let leaves : LeavesFiles before mid = looks.0 in
       record {
         file = replaces_from update before mid after leaves.replaced stores.stores.file;
+        crash = crash_from update leaves.added stores.stores.crash;
         free = λ none. free_from before mid after leaves.stuck (stores.stores.free (leaves.own ∙ none));
       }
 
-  pub executes : (opened : Option I) (call : Call) (name temp : List ℕ) (before mid after : Option Folder)
-      (old new : Surroundings) (outcome : Outcome) → call.tool ≢ Cgrep → Moves (Looks model (Ok opened)) before mid →
-      ExecutesOpened call name temp (IsIndex model opened) mid after old new outcome →
-      Executes call name temp before after old new outcome
-  executes opened call name temp before mid after old new outcome other looks is = record {
+  pub executes : (failed : I → ℕ) (opened read : Option I) (call : Call) (name temp : List ℕ)
+      (before mid after : Option Folder) (old new : Surroundings) (outcome : Outcome) → call.tool ≢ Cgrep →
+      Moves (Looks model (Ok opened)) before mid → IfSome opened (λ index. failed index ≡ 0) →
+      ExecutesOpened call name temp (IsIndex model opened) (IsUnreadable failed opened read) mid after old new outcome →
+      Executes call name temp before after (failed_reads failed read) old new outcome
+  executes failed opened read call name temp before mid after old new outcome other looks fresh is = record {
     file = is.file;
     names = is.names;
-    opened = λ tool. was_opened opened before mid after (update_of outcome) is.file.unreadable looks is.stores is.read;
+    opened = is_opening call.tool after (failed_reads failed read) is.file.unreadable other
+        (subst (λ unreadable. IfSome after (λ folder. WasOpened folder.seen (failed_reads failed read) unreadable))
+        (sym is.read.2) (was_opened failed opened read before mid after (update_of outcome) is.read.0 looks is.stores fresh is.read.1));
     claimed = is.claimed;
     job = is.job;
     runs = runs_over call.given.now is.file (IsIndex model opened) (IsReadIndex call.tool after) old new is.job
@@ -207,21 +260,21 @@ module _ {I : Type 0} (model : I → Option (List ℕ)) where
   }
 
   -- the index file could not be opened
-  unopened : (fault : StorageFault) (before after : Option Folder) → Moves (Looks model (Err fault)) before after →
-      IfSome after (λ folder. WasOpened folder.seen (Some fault))
-  unopened fault before None looks = tt
-  unopened fault None (Some a) looks = absurd (let e : Some a ≡ None = looks in cc)
-  unopened fault (Some b) (Some a) looks = subst (λ seen. WasOpened seen (Some fault)) (sym looks.1) refl
+  unopened : (fault : StorageFault) (failed : ℕ) (before after : Option Folder) →
+      Moves (Looks model (Err fault)) before after → IfSome after (λ folder. WasOpened folder.seen failed (Some fault))
+  unopened fault failed before None looks = tt
+  unopened fault failed None (Some a) looks = absurd (let e : Some a ≡ None = looks in cc)
+  unopened fault failed (Some b) (Some a) looks = subst (λ seen. WasOpened seen failed (Some fault)) (sym looks.1) refl
 
   pub executes_unread : (fault : StorageFault) (call : Call) (name temp : List ℕ) (before after : Option Folder)
-      (old new : Surroundings) (outcome : Outcome) → IsCall call → Moves (Looks model (Err fault)) before after →
+      (failed : ℕ) (old new : Surroundings) (outcome : Outcome) → call.tool ≢ Cgrep → IsCall call → Moves (Looks model (Err fault)) before after →
       Refuses outcome (reading_line name fault) → update_of outcome ≡ Keep → IsUntouched old new →
-      Executes call name temp before after old new outcome
-  executes_unread fault call name temp before after old new outcome is looks refuses keeps untouched = record {
+      Executes call name temp before after failed old new outcome
+  executes_unread fault call name temp before after failed old new outcome other is looks refuses keeps untouched = record {
     file = record { name = name; temp = temp; unreadable = Some fault; unclaimed = None };
     names = (refl, refl);
-    opened = λ tool. unopened fault before after looks;
-    claimed = λ some. absurd (let e = some in cc);
+    opened = is_opening call.tool after failed (Some fault) other (unopened fault failed before after looks);
+    claimed = tt;
     job = outcome;
     runs = refuses_reading call (record { name = name; temp = temp; unreadable = Some fault; unclaimed = None }) fault
         (IsReadIndex call.tool after) old new outcome is refl refuses untouched;
@@ -231,15 +284,15 @@ module _ {I : Type 0} (model : I → Option (List ℕ)) where
 
 -- `cgrep` opens no index file
 pub executes_grep : {S : Type 0} (model : S → Option (List ℕ)) (call : Call) (file : FoundFile S) (unreadable : Bool)
-    (before after : Option Folder) (old new : Surroundings) (outcome : Outcome) → IsCall call → call.tool ≡ Cgrep →
-    file.index ≡ None → update_of outcome ≡ Keep → Moves Fills before after →
+    (before after : Option Folder) (failed : ℕ) (old new : Surroundings) (outcome : Outcome) → call.tool ≡ Cgrep →
+    file.index ≡ None → unreadable ≡ false → update_of outcome ≡ Keep → Moves Fills before after →
     Runs call.given.now (opened_file file unreadable) (IsIndex model file.index) old new outcome →
-    Executes call file.name.now file.temp.now before after old new outcome
-executes_grep model call file unreadable before after old new outcome is grep none keeps filled runs = record {
+    Executes call file.name.now file.temp.now before after failed old new outcome
+executes_grep model call file unreadable before after failed old new outcome grep none readable keeps filled runs = record {
   file = opened_file file unreadable;
   names = (refl, refl);
-  opened = λ other. absurd (other grep);
-  claimed = λ some. absurd (let e = some in cc);
+  opened = subst (λ tool. IsOpening tool after failed (why_unread unreadable)) (sym grep) (ap why_unread readable);
+  claimed = tt;
   job = outcome;
   runs = runs_over call.given.now (opened_file file unreadable) (IsIndex model file.index) (IsReadIndex call.tool after) old new outcome
       (λ index read. subst (λ found. IsIndex model found index) (sym none) (subst (λ tool. IsReadIndex tool after index) grep read)) runs;
@@ -257,22 +310,22 @@ untouched around = record {
   counted = (refl, refl);
 }
 
-read_or_not : {S : Type 0} (file : FoundFile S) (unreadable : Bool) → ((opened_file file unreadable).unreadable ≡ None)
-    ⊎ ((opened_file file unreadable).unreadable ≡ Some Failed)
-read_or_not file true = inr refl
-read_or_not file false = inl refl
+-- no read fails where nothing is read
+pub no_read_fails : {S : Type 0} (failed : S → ℕ) (index : Option S) → IsUnreadable failed index index false
+no_read_fails failed None = refl
+no_read_fails failed (Some store) = refl
 
 -- the job runs, and then the file is updated
-pub executes_opened : {S : Type 0} (IsOne : Option (List ℕ) → Type 0) (call : Call) (file : FoundFile S)
-    (unreadable : Bool) (before after : Option Folder) (old new : Surroundings) (job outcome : Outcome) →
-    Runs call.given.now (opened_file file unreadable) IsOne old new job → EndsWith file.name.now file.temp.now job
-    outcome → Moves (StoresOpened (update_of outcome)) before after → ExecutesOpened call file.name.now file.temp.now
-    IsOne before after old new outcome
-executes_opened IsOne call file unreadable before after old new job outcome runs ends stores = record {
+pub executes_opened : {S : Type 0} (IsOne : Option (List ℕ) → Type 0) (HasFailed : Bool → Type 0) (call : Call)
+    (file : FoundFile S) (unreadable : Bool) (before after : Option Folder) (old new : Surroundings)
+    (job outcome : Outcome) → HasFailed unreadable → Runs call.given.now (opened_file file unreadable) IsOne old new job →
+    EndsWith file.name.now file.temp.now after job outcome → Moves (StoresOpened (update_of outcome)) before after →
+    ExecutesOpened call file.name.now file.temp.now IsOne HasFailed before after old new outcome
+executes_opened IsOne HasFailed call file unreadable before after old new job outcome failed runs ends stores = record {
   file = opened_file file unreadable;
   names = (refl, refl);
-  read = read_or_not file unreadable;
-  claimed = λ some. absurd (let e = some in cc);
+  read = (unreadable, failed, refl);
+  claimed = tt;
   job = job;
   runs = runs;
   ends = ends;
@@ -280,18 +333,20 @@ executes_opened IsOne call file unreadable before after old new job outcome runs
 }
 
 -- the file cannot be claimed
-pub executes_unclaimed : {S : Type 0} (IsOne : Option (List ℕ) → Type 0) (call : Call) (job : Job) (file : FoundFile S)
-    (fault : StorageFault) (before after : Option Folder) (old new : Surroundings) (outcome : Outcome) → IsCall call →
-    call.job ≡ Ok job → may_update call.job ≡ true → Moves (Begins (Err fault)) before after →
-    Refuses outcome (writing_line file.name.now file.temp.now fault) → update_of outcome ≡ Keep → IsUntouched old new →
-    ExecutesOpened call file.name.now file.temp.now IsOne before after old new outcome
-executes_unclaimed IsOne call job file fault before after old new outcome is job-is may begins refuses keeps untouched =
+pub executes_unclaimed : {S : Type 0} (IsOne : Option (List ℕ) → Type 0) (HasFailed : Bool → Type 0) (call : Call) (job : Job)
+    (file : FoundFile S) (fault : StorageFault) (before after : Option Folder) (old new : Surroundings)
+    (outcome : Outcome) → HasFailed false → IsCall call → call.job ≡ Ok job → may_update call.job ≡ true →
+    Moves (Begins (Err fault)) before after → Refuses outcome (writing_line file.name.now file.temp.now fault) →
+    update_of outcome ≡ Keep → IsUntouched old new →
+    ExecutesOpened call file.name.now file.temp.now IsOne HasFailed before after old new outcome
+executes_unclaimed IsOne HasFailed call job file fault before after old new outcome unfailed is job-is may begins refuses keeps
+    untouched =
     let unclaimed : IndexFile = record { name = file.name.now; temp = file.temp.now; unreadable = None; unclaimed = Some fault } in
     record {
       file = unclaimed;
       names = (refl, refl);
-      read = inl refl;
-      claimed = λ some. may;
+      read = (false, unfailed, refl);
+      claimed = (may, refused_claim fault before after begins);
       job = outcome;
       runs = refuses_claim call job unclaimed fault IsOne old new outcome is job-is refl refl refuses untouched;
       ends = inl refl;

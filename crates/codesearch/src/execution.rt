@@ -2,9 +2,9 @@
 ghost use Rattle.std.specs.Prelude.{◌≡◌, ◌≢◌, [], Bool, false, IfErr};
 ghost use Rattle.cs_storage.specs.FileAfter.{IsGiven, IsChange};
 ghost use Rattle.cs_storage.specs.Storing.{Moves, IsHeld, Fills, Updates};
-ghost use Rattle.cs_cindex.specs.OldIndex.{IsIndex};
+ghost use Rattle.cs_cindex.specs.OldIndex.{IsIndex, IsUnreadable};
 ghost use Rattle.codesearch.specs.Program.{Between, IsCall, Runs, opened_file, may_update, exit_status, update_of};
-ghost use Rattle.codesearch.specs.Execution.{Executes, EndsWith, LeavesFile};
+ghost use Rattle.codesearch.specs.Execution.{Executes, EndsWith, LeavesFile, failed_reads};
 ghost use Rattle.codesearch.specs.Opened.{ExecutesOpened, Finishes};
 
 use crate::call::Call;
@@ -25,7 +25,8 @@ pub(crate) fn execute<'a, F: IndexFolder, T: Tree, R: Source, O: Sink, E: Sink>(
     ensures executes { Between T.snapshot T.failed R.model R.failed O.model O.failed E.model E.failed
         world.old world.new (λ old new.
         Executes call.now world.old.file.name.now world.old.file.temp.now
-        (F.model folder.old) (F.model folder.new) old new result) }
+        (F.model folder.old) (F.model folder.new)
+        (failed_reads F.Index.failed world.new.file.index) old new result) }
     ensures kept { exit_status result ≢ 0 →
         Moves LeavesFile (F.model folder.old) (F.model folder.new) }
 {
@@ -53,6 +54,7 @@ fn execute_opened<'a, F: IndexFolder, T: Tree, R: Source, O: Sink, E: Sink>(
         world.old world.new (λ old new.
         ExecutesOpened call.now world.old.file.name.now world.old.file.temp.now
         (IsIndex F.Index.model world.old.file.index)
+        (IsUnreadable F.Index.failed world.old.file.index world.new.file.index)
         (F.model folder.old) (F.model folder.new) old new result) }
     ensures kept { exit_status result ≢ 0 →
         Moves LeavesFile (F.model folder.old) (F.model folder.new) }
@@ -76,6 +78,7 @@ fn run_over<'a, F: IndexFolder, T: Tree, R: Source, O: Sink, E: Sink>(
 ) -> Outcome<'a>
     requires call { IsCall call.now }
     ensures runs { (unreadable : Bool)
+        × IsUnreadable F.Index.failed world.old.file.index world.new.file.index unreadable
         × Between T.snapshot T.failed R.model R.failed O.model O.failed E.model E.failed
         world.old world.new (λ old new.
         Runs call.now.given.now (opened_file world.old.file unreadable)
@@ -89,7 +92,7 @@ fn run_over<'a, F: IndexFolder, T: Tree, R: Source, O: Sink, E: Sink>(
 }
 
 /// Updates the claimed index file as the outcome says, and returns how the run ends.
-#[tactic(auto, using(crate::proofs::ExecutionLemmas::finish_done, crate::proofs::ExecutionLemmas::finish_failed))]
+#[tactic(auto, using(crate::proofs::ExecutionLemmas::finish_done, crate::proofs::ExecutionLemmas::finish_failed, crate::proofs::ExecutionLemmas::finish_refused))]
 fn updated<'a, F: IndexFolder>(
     outcome: Outcome<'a>,
     file: &'a str,
@@ -98,7 +101,7 @@ fn updated<'a, F: IndexFolder>(
 ) -> Outcome<'a>
     requires held { IsHeld (F.model folder.old) }
     requires given { IsGiven (update_of outcome) [] (F.given folder.old) }
-    ensures ends { EndsWith file.now temp.now outcome.entry result }
+    ensures ends { EndsWith file.now temp.now (F.model folder.new) outcome.entry result }
     ensures stores { Moves (Finishes (update_of result)) (F.model folder.old) (F.model folder.new) }
 {
     match finish(&outcome, folder) {

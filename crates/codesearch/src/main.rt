@@ -3,7 +3,8 @@
 //! first.
 #![tactic(auto)]
 
-ghost use Rattle.codesearch.specs.Program.{IsCall};
+ghost use Rattle.std.specs.Prelude.{◌≡◌};
+ghost use Rattle.codesearch.specs.Program.{IsCall, exit_status};
 
 mod args;
 mod call;
@@ -117,7 +118,9 @@ fn tree_for(rt: &HostRuntime, call: &Call<'_>) -> Result<DiskTree<HostRuntime>, 
 
 /// Prints the line of an error, and returns the exit status. If the line cannot be printed, there is nothing left to
 /// report that on.
-fn report(rt: &HostRuntime, outcome: &Outcome<'_>) -> u8 {
+fn report(rt: &HostRuntime, outcome: &Outcome<'_>) -> u8
+    ensures { result ≡ exit_status outcome.now }
+{
     let _ = outcome.report(rt.alloc(), &mut StdSink::new(rt.stderr()));
     outcome.status()
 }

@@ -2,6 +2,8 @@
 use Rattle.std.specs.Prelude.{◌≡◌, ℕ, ◌-◌, ◌<◌, ◌≤◌, ◌^◌, true, false, List, length}
 use Rattle.cs_index.specs.OpenedParts.{Parts, are_covered}
 use Rattle.cs_index.specs.declared.fault.IndexFault.TheVariants.{BadList}
+use Rattle.cs_index.specs.declared.fault.BuildFault.{BuildFault}
+use Rattle.cs_index.specs.declared.fault.BuildFault.TheVariants as build
 use Rattle.cs_merge.specs.declared.fault.MergeFault.{MergeFault}
 use Rattle.cs_merge.specs.declared.fault.MergeFault.TheVariants.{Unsorted, Uncovered, Index, TooLarge, Memory}
 use Rattle.cs_merge.specs.Mergeable.{both_ascend, both_distinct, both_whole, merge_index, AreMergeable, AreTested}
@@ -14,6 +16,11 @@ most_bytes = 2 ^ 32 - 1
 pub record IsIndexWithin (most : ℕ) (index bytes : List ℕ) : Type 0 where
   pub are : bytes ≡ index
   pub short : length bytes ≤ most
+
+-- an error of building the merged index as one of the merge; its paths and names are valid
+abbrev pub build_refusal : BuildFault → MergeFault
+build_refusal build.TooLarge = TooLarge
+build_refusal fault = Memory
 
 -- Why an index is not built.
 pub data IsBuildFault (most : ℕ) (index : List ℕ) (fault : MergeFault) : Type 0 where

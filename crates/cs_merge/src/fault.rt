@@ -2,7 +2,7 @@
 ghost use Rattle.std.specs.Prelude.{◌≡◌};
 ghost use Rattle.cs_merge.specs.declared.fault.MergeFault.TheVariants.{Memory};
 
-use cs_index::IndexFault;
+use cs_index::{BuildFault, IndexFault};
 use std::alloc::{AllocError, AllocFailed};
 use thiserror::Error;
 
@@ -40,6 +40,20 @@ impl<T: Drop> From<AllocFailed<T>> for MergeFault {
 
     fn from(_refused: AllocFailed<T>) -> MergeFault {
         MergeFault::Memory
+    }
+}
+
+/// An error of building the merged index, whose paths and names are valid.
+impl From<BuildFault> for MergeFault {
+    ghost use Rattle.cs_merge.specs.MergeResult.{build_refusal};
+
+    ghost from_gives = { λ build fault. fault ≡ build_refusal build };
+
+    fn from(build: BuildFault) -> MergeFault {
+        match build {
+            BuildFault::TooLarge => MergeFault::TooLarge,
+            _ => MergeFault::Memory,
+        }
     }
 }
 

@@ -261,9 +261,6 @@ fn finish<O: Output>(sections: Sections, most: u32, out: &mut O) -> Result<Sent,
         (λ index. IsSentOn sections.sent index.bytes (O.given out.old) (O.given out.new)) }
     ensures keeps { O.Keeps out.old out.new }
 {
-    match sections.finish_into(out, most) {
-        Ok(index) => Ok(index),
-        Err(BuildFault::TooLarge) => Err(MergeFault::TooLarge),
-        Err(_) => Err(MergeFault::Memory),
-    }
+    let index = sections.finish_into(out, most)?;
+    Ok(index)
 }

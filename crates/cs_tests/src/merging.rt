@@ -83,7 +83,7 @@ fn files_become_folders_and_files_again(rt: HostRuntime) -> Result<(), Fail> {
 }
 
 #[test]
-fn names_stand_in_any_order(rt: HostRuntime) {
+fn names_stand_in_any_order(rt: HostRuntime) -> Result<(), Fail> {
     let want =
         b"csearch index 1\n/a\0\0/a/b-x\0/a/b/z\0\0abc\x02\0ix\n\x01\0six\x01\0\xff\xff\xff\0\0\0\0\0\0\0\0\x07\0\0\0\x0eabc\0\0\0\x01\0\0\0\0ix\n\0\0\0\x01\0\0\0\x05six\0\0\0\x01\0\0\0\x0a\0\0\0\x10\0\0\0\x14\0\0\0\x23\0\0\0\x36\0\0\0\x42\ncsearch trailr\n";
     assert!(rt;
@@ -98,6 +98,10 @@ fn names_stand_in_any_order(rt: HostRuntime) {
     let want =
         b"csearch index 1\n/a\0/c\0\0/a/b-x\0/a/b/z\0\0abc\x01\x01\0\xff\xff\xff\0\0\0\0\0\0\0\0\x07\0\0\0\x0eabc\0\0\0\x02\0\0\0\0\0\0\0\x10\0\0\0\x17\0\0\0\x26\0\0\0\x30\0\0\0\x3c\ncsearch trailr\n";
     assert!(rt; is_merged(rt.alloc(), UNSORTED, "/c", &[], want));
+    // also in the newer index
+    let old = index_of(rt.alloc(), &["/c"], &[]).ok_or("index")?;
+    assert!(rt; keeps_limits(rt.alloc(), &old, UNSORTED, want) == Ok(true));
+    Ok(())
 }
 
 /// The merge of two indexes within a limit of bytes.
@@ -112,12 +116,12 @@ fn merge_limited(
 
 /// Whether two indexes merge to these bytes if the limit is their length, and fail if it is less.
 fn keeps_limits(alloc: Global, old: &[u8], newer: &[u8], want: &[u8]) -> Result<bool, MergeFault> {
-    for most in 0..149 {
+    for most in 0..want.len() as u32 {
         if merge_limited(alloc, most, old, newer).err() != Some(MergeFault::TooLarge) {
             return Ok(false);
         }
     }
-    Ok(merge_limited(alloc, 149, old, newer)?.as_slice() == want)
+    Ok(merge_limited(alloc, want.len() as u32, old, newer)?.as_slice() == want)
 }
 
 #[test]
@@ -147,11 +151,14 @@ fn errors_are_reported(rt: HostRuntime) -> Result<(), Fail> {
     // a name that occurs twice, also if no path covers it
     let twice = changed(UNSORTED, &[(24, b'-'), (25, b'x')]);
     let twice_outside = changed(&twice, &[(17, b'c')]);
+    // names in any order, under no path
+    let unsorted_outside = changed(UNSORTED, &[(17, b'c')]);
     // a damaged list whose ids are all dropped
     let damaged = changed(ROW, &[(59, 2)]);
     let bad = MergeFault::Index(IndexFault::BadList);
     for (old, newer, fault) in [
         (empty.as_slice(), outside.as_slice(), MergeFault::Uncovered),
+        (&empty, &unsorted_outside, MergeFault::Uncovered),
         (&twice, &empty, MergeFault::Unsorted),
         (&empty, &twice_outside, MergeFault::Unsorted),
         (&damaged, &empty, bad),

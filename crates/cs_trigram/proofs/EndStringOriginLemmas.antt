@@ -233,10 +233,11 @@ end_strings_of_iteration direction once fars end_strings t n c a b = record {
   matching = iteration_more direction once fars end_strings t n c.all a.matching b.matching;
   each = λ h x m.
       let near = c.each x m in
-      origin_concatenation (λ w. MayMatch false t (read direction w)) (Repeats direction (MayMatch false t) n) (Repeats direction (MayMatch false t) (n + 1))
-      (λ u v p q. repeats_both direction (MayMatch false t) 1 n (n + 1) u v (omega arith)
+      origin_concatenation (λ w. MayMatch false t (read direction w)) (Repeats direction (MayMatch false t) n)
+      (Repeats direction (MayMatch false t) (n + 1)) (λ u v p q. repeats_both direction (MayMatch false t) 1 n (n + 1) u v (omega arith)
       (1, omega arith, tt, (read direction u, [], p, refl, sym (append-nil (read direction u)))) q)
-      near.0 fars x near.2 (a.each h near.0 near.1) (b.each h) (some_read direction (MayMatch false (rep t n None)) (text_of (rep t n None) h));
+      near.0 fars x near.2 (a.each h near.0 near.1) (b.each h)
+      (some_read direction (MayMatch false (rep t n None)) (text_of (rep t n None) h));
 }
 
 -- any number of iterations: none, or at least one

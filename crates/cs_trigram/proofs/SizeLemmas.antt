@@ -104,7 +104,8 @@ mutual
       ]
 
 -- a property of each string of a list
-each_among : (P : List ℕ → Type 0) (strings : List (List ℕ)) → ((string : List ℕ) → is_among strings string ≡ true → P string) → All P strings
+each_among : (P : List ℕ → Type 0) (strings : List (List ℕ)) →
+    ((string : List ℕ) → is_among strings string ≡ true → P string) → All P strings
 each_among P [] each = All-nil P
 each_among P (w ∷ strings) each =
     All-cons P w strings (each w (first_member w w strings refl)) (each_among P strings (λ v m. each v (later_member v w strings m)))
@@ -128,7 +129,8 @@ pub truncated_short : (n : ℕ) (end_strings others : List EndString) → AreSho
     AreShort n (with_end_strings end_strings (map (truncated n) others))
 truncated_short n end_strings [] short = short
 truncated_short n end_strings (x ∷ others) short =
-    truncated_short n (with_end_string end_strings (truncated n x)) others (by (list_any (λ other. subsumes other (truncated n x)) end_strings))
+    truncated_short n (with_end_string end_strings (truncated n x)) others
+    (by (list_any (λ other. subsumes other (truncated n x)) end_strings))
   where
     by : (b : Bool) → AreShort n (if b then end_strings else end_strings ++ truncated n x ∷ [])
     by true = short

@@ -65,8 +65,8 @@ fn product_query(
     prefixes: &[EndString],
 ) -> Result<Query, AllocError>
     ensures across { IfOk result (λ query. IsCrossQuery query suffixes.now prefixes.now) }
-    ensures small { IfOk result (λ query. (a b : ℕ) → AreShort a suffixes.now → AreShort b prefixes.now →
-        query_size query ≤ 1 + 256 * (a + b - 1)) }
+    ensures small { IfOk result (λ query. (a b : ℕ) → AreShort a suffixes.now →
+        AreShort b prefixes.now → query_size query ≤ 1 + 256 * (a + b - 1)) }
 {
     if count_concatenations(suffixes, prefixes) > MAX_CONCATENATIONS {
         return Ok(Query::All);

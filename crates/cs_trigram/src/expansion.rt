@@ -39,7 +39,8 @@ fn add_byte(
 
 /// The strings of the members of a byte set, up to 21.
 pub(crate) fn strings_of_set(alloc: Global, set: &ByteSet) -> Result<Vec<ExactString>, AllocError>
-    ensures { IfOk result (λ strings. IsEnumeration strings.items (MayMatch true (one_of set.now))) }
+    ensures { IfOk result (λ strings.
+        IsEnumeration strings.items (MayMatch true (one_of set.now))) }
 {
     let count = set.len() as usize;
     let mut strings = Vec::with_capacity(alloc, count.min(MAX_EXACT + 1))?;
@@ -89,7 +90,8 @@ fn add_range(
 
 /// The encodings of the members of a character set, up to 21.
 pub(crate) fn strings_of_chars(alloc: Global, set: &CharSet) -> Result<Vec<ExactString>, AllocError>
-    ensures { IfOk result (λ strings. IsEnumeration strings.items (MayMatch true (one_char set.now))) }
+    ensures { IfOk result (λ strings.
+        IsEnumeration strings.items (MayMatch true (one_char set.now))) }
 {
     let mut strings = Vec::new(alloc);
     for range in set.runs() {

@@ -1,13 +1,13 @@
 // The result of the analysis of a tree (`regexpInfo` in Go's codesearch), and those of the last
 // parts of a sequence and of the last branches of an alternation, which grow part by part from the
 // last to the first (`concat` and `alternate`).
-ghost use Rattle.std.specs.Prelude.{IfOk, OnOk};
+ghost use Rattle.std.specs.Prelude.{ℕ, Bool, IfOk, OnOk};
 ghost use Rattle.cs_syntax.specs.Matching.{Tree, rep, Trees, none, more, cat, alt};
+ghost use Rattle.cs_trigram.specs.ExactRuns.{HasRunsWithin};
 ghost use Rattle.cs_trigram.specs.ExactSet.{IsExactSetOf};
 ghost use Rattle.cs_trigram.specs.EndStrings.{forward, backward, AreEndStrings};
 ghost use Rattle.cs_trigram.specs.RegexpInfo.{IsInfoOf, IsSequence, IsAlternation};
 ghost use Rattle.cs_trigram.specs.Analysis.{IsMatchQuery};
-ghost use Rattle.cs_trigram.specs.declared.queries.Query.TheVariants.{All};
 
 use crate::connectives::any_string;
 use crate::end_strings::{
@@ -67,10 +67,10 @@ impl RegexpInfo {
         })
     }
 
-    /// The analysis of a leaf with this exact set.
+    /// The analysis of a leaf with this exact set, which has no runs within it.
     pub(crate) fn of_leaf(alloc: Global, exact: ExactSet) -> Result<RegexpInfo, AllocError>
-        ensures { IfOk result (λ info. (t : Tree) → IsExactSetOf exact t → IsMatchQuery All t →
-            IsInfoOf info t) }
+        ensures { IfOk result (λ info. (t : Tree) → IsExactSetOf exact t →
+            ((set : ℕ → Bool) → HasRunsWithin set t) → IsInfoOf info t) }
     {
         let prefix = bare_end_string(alloc, false)?;
         let suffix = bare_end_string(alloc, false)?;

@@ -38,7 +38,8 @@ impl SequenceQuery {
     pub(crate) fn new(alloc: Global) -> Result<SequenceQuery, AllocError>
         ensures required { IfOk result (λ sequence_query. IsSequenceQueryOf sequence_query none) }
         ensures parts { IfOk result (λ sequence_query. AreExactSetsReversed sequence_query.parts.items none) }
-        ensures small { IfOk result (λ sequence_query. AreSmall 0 sequence_query.conjuncts.items none) }
+        ensures small { IfOk result (λ sequence_query.
+            AreSmall 0 sequence_query.conjuncts.items none) }
     {
         let leading = empty_string(alloc)?;
         Ok(SequenceQuery {
@@ -115,8 +116,8 @@ impl SequenceQuery {
         ensures required { OnOk result ((t : Tree) (ts : Trees) → AreEndStrings backward suffixes.now t →
             AreEndStrings forward prefixes.now (cat ts) →
             IsSequenceQueryOf self.old (more t ts) → IsSequenceQueryOf self.new (more t ts)) }
-        ensures small { OnOk result ((ts : Trees) → AreSmall cross_size self.old.conjuncts.items ts →
-            AreSmall 0 self.new.conjuncts.items ts) }
+        ensures small { OnOk result ((ts : Trees) →
+            AreSmall cross_size self.old.conjuncts.items ts → AreSmall 0 self.new.conjuncts.items ts) }
     {
         if self.covers_cross(suffixes, prefixes) {
             return Ok(());

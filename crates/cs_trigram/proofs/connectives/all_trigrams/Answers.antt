@@ -58,6 +58,12 @@ loop-offset-preserved c =
           (λ g. ap (λ (qs : List Query). some_mentions qs g) c.in_ok-push.ensures.items
           ∙ mentions_push g members (Tri number)) c.loop-offset.invariant.2
           (mentions_one number text c.trigram-number.ensures.below (trigram_at text (offset + 1 + 2) number before next)),
-      omega (arith, ap (sum_by query_size) c.in_ok-push.ensures.items, sum_by_push query_size members (Tri number), size-Tri number, c.loop-offset.invariant.3),
+      omega (
+        arith,
+        ap (sum_by query_size) c.in_ok-push.ensures.items,
+        sum_by_push query_size members (Tri number),
+        size-Tri number,
+        c.loop-offset.invariant.3,
+      ),
       omega arith,
     )

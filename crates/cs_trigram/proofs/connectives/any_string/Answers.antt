@@ -63,6 +63,7 @@ loop-string-preserved c =
         ap (sum_by query_size) c.in_ok-push.ensures.items,
         sum_by_push query_size members query,
         c.in_ok-all_trigrams.ensures.small,
+        ap length c.bytes.ensures,
         ap length c.bytes-in-loop-string.ensures,
         ap (sum_by nodes) (item_from strings c.loop-string.string-index w c.loop-string-test.true c.string-item.is),
         sum_by-cons nodes w rest,

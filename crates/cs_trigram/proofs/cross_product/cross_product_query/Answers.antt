@@ -5,7 +5,8 @@ use Rattle.cs_trigram.proofs.NodeListLemmas.{if_ok}
 use Rattle.cs_trigram.proofs.CrossProductLemmas.{coarser_query}
 use Rattle.cs_trigram.proofs.cross_product.cross_product_query.Goals as goal
 
-pub returns-then-count_concatenations-gt-MAX_WHOLE_CONCATENATIONS-clause-across : goal.returns-then-count_concatenations-gt-MAX_WHOLE_CONCATENATIONS-clause-across
+pub returns-then-count_concatenations-gt-MAX_WHOLE_CONCATENATIONS-clause-across :
+    goal.returns-then-count_concatenations-gt-MAX_WHOLE_CONCATENATIONS-clause-across
 returns-then-count_concatenations-gt-MAX_WHOLE_CONCATENATIONS-clause-across c =
     let suffixes = c.args.suffixes.now in
     let prefixes = c.args.prefixes.now in
@@ -25,7 +26,8 @@ returns-clause-across c =
     (subst (λ (xs : List EndString). AreCoarser xs suffixes) (sym c.deref-3.ensures.value) c.in_ok-suffixes.ensures.coarser)
     (subst (λ (xs : List EndString). AreCoarser xs prefixes) (sym c.deref-4.ensures.value) c.in_ok-prefixes.ensures.coarser))
 
-pub returns-then-count_concatenations-gt-MAX_WHOLE_CONCATENATIONS-clause-small : goal.returns-then-count_concatenations-gt-MAX_WHOLE_CONCATENATIONS-clause-small
+pub returns-then-count_concatenations-gt-MAX_WHOLE_CONCATENATIONS-clause-small :
+    goal.returns-then-count_concatenations-gt-MAX_WHOLE_CONCATENATIONS-clause-small
 returns-then-count_concatenations-gt-MAX_WHOLE_CONCATENATIONS-clause-small c =
     let last = c.deref-then-count_concatenations-gt-MAX_WHOLE_CONCATENATIONS in
     let first = c.deref-then-count_concatenations-gt-MAX_WHOLE_CONCATENATIONS-2 in

@@ -48,8 +48,10 @@ returns-clause-across c =
 
 pub returns-clause-small : goal.returns-clause-small
 returns-clause-small c = λ suffixes prefixes.
-    let one = c.in_ok-product_query.ensures.small 2 1 suffixes (subst (AreShort 1) (sym c.deref.ensures.value) c.in_ok-first.ensures.short) in
-    let other = c.in_ok-product_query-2.ensures.small 1 2 (subst (AreShort 1) (sym c.deref-2.ensures.value) c.in_ok-last.ensures.short) prefixes in
+    let one = c.in_ok-product_query.ensures.small 2 1 suffixes
+    (subst (AreShort 1) (sym c.deref.ensures.value) c.in_ok-first.ensures.short) in
+    let other = c.in_ok-product_query-2.ensures.small 1 2
+    (subst (AreShort 1) (sym c.deref-2.ensures.value) c.in_ok-last.ensures.short) prefixes in
     omega (
       arith,
       one,

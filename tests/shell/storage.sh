@@ -148,6 +148,10 @@ done
 # A file of length 0 reads as empty. The kernel's messages are such a file, and wait for the next message.
 if head -c 0 /proc/kmsg 2> /dev/null; then
     try 0 '' '' "CSEARCHINDEX=\$home/storage/proc timeout 20 \"\$program\" cindex -reset /proc/kmsg"
+    rm storage/proc
+    # One descriptor more than the new index needs: no second file is opened in place of it.
+    try 0 '' '' "(ulimit -n 5; CSEARCHINDEX=\$home/storage/proc timeout 20 \"\$program\" cindex /proc/kmsg)"
+    try 0 '/proc/kmsg\n' '' "CSEARCHINDEX=\$home/storage/proc cindex -list"
 else
     skipped 'the messages of the kernel: this user may not read them'
 fi

@@ -1,11 +1,12 @@
 -- The model of a folder in memory.
-use Rattle.std.specs.Prelude.{ℕ, List, map, drop, Option, Some, None, option_map, Vec, Result, Ok, Err}
+use Rattle.std.specs.Prelude.{ℕ, ◌-◌, ◌^◌, Bool, false, List, map, drop, Option, Some, None, option_map, is_some, unwrap_or, if◌then◌else◌, Vec, Result, Ok, Err}
 use Rattle.std.specs.declared.alloc.Global.{Global}
 use Rattle.cs_storage.specs.Storing.{Folder, OwnFile, Left, absent, whole, torn}
 use Rattle.cs_storage.specs.declared.fault.StorageFault.{StorageFault}
 use Rattle.cs_fakes.specs.declared.folder_types.MemFolder.{MemFolder}
 use Rattle.cs_fakes.specs.declared.folder_types.MemFile.{MemFile}
 use Rattle.cs_fakes.specs.declared.folder_types.MemIndex.{MemIndex}
+use Rattle.cs_fakes.specs.declared.folder_types.MemVisit.{MemVisit}
 use Rattle.cs_fakes.specs.declared.folder_types.MemLeft.{MemLeft}
 use Rattle.cs_fakes.specs.declared.folder_types.MemLeft.TheVariants.{Absent, Whole, Torn}
 
@@ -49,3 +50,30 @@ folder_view m = record {
 abbrev pub answered : Result (Unit {0}) StorageFault → Folder → Folder
 answered (Ok _) folder = record folder { refused = None }
 answered (Err fault) folder = record folder { refused = Some fault }
+
+-- ---- what a test plans
+
+-- After how many calls the run crashes; whether another run holds FILE~; and what another run makes of FILE before the
+-- next call for which this run does not hold FILE~, if it acts.
+pub record Plan : Type 0 where
+  pub calls : ℕ
+  pub taken : Bool
+  pub visit : Option (Option (List ℕ))
+
+abbrev pub visit_view : MemVisit → Option (List ℕ)
+visit_view visit = bytes_view visit.file
+
+abbrev pub plan_of : MemFolder → Plan
+plan_of m = record { calls = m.calls; taken = m.taken; visit = option_map visit_view m.next }
+
+-- the plan of a new folder: no crash, and no other run
+abbrev pub no_plan : Plan
+no_plan = record { calls = 2 ^ 64 - 1; taken = false; visit = None }
+
+-- the plan after one more call
+abbrev pub plan_after : MemFolder → Plan
+plan_after m = record { calls = m.calls - 1; taken = m.taken; visit = if is_some m.own then (plan_of m).visit else None }
+
+-- FILE when the next call acts
+abbrev pub file_met : MemFolder → Option (List ℕ)
+file_met m = if is_some m.own then bytes_view m.file else unwrap_or (plan_of m).visit (bytes_view m.file)

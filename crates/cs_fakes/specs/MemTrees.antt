@@ -58,11 +58,11 @@ left_open tree = left_at tree.items.items tree.consumed tree.opened
 
 -- the read counts of a new tree
 abbrev pub no_reads : ReadCounts
-no_reads = record { of_open = 0; most = 0 }
+no_reads = record { of_open = 0; most = 0; lookups = 0 }
 
 -- the read counts
 abbrev pub mem_read_counts : MemTree → ReadCounts
-mem_read_counts tree = record { of_open = tree.consumed; most = tree.most_read }
+mem_read_counts tree = record { of_open = tree.consumed; most = tree.most_read; lookups = tree.lookups }
 
 -- the most bytes of one read
 abbrev pub mem_tree_step : MemTree → ℕ

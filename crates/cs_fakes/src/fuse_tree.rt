@@ -3,7 +3,7 @@ ghost use Rattle.std.specs.Prelude.{◌≡◌, ◌≢◌, ◌≤◌, ◌-◌, �
 ghost use Rattle.cs_tree.specs.FailureCount.{count_after};
 ghost use Rattle.cs_tree.specs.Folders.{are_elements};
 ghost use Rattle.cs_fakes.specs.Fuses.{Blows, KeepsInner, KeepsInnerOpen, calls_left, inner_tree};
-ghost use Rattle.cs_tree.specs.ReadCounts.{after_open, after_read};
+ghost use Rattle.cs_tree.specs.ReadCounts.{after_lookup, after_open, after_read};
 ghost use Rattle.cs_tree.specs.Trees.{Answers, RequestsPath, OpensFile, TreeReadGives, IsReadFault, is_tree_failure, kind_of, listing_of, listing_value, listing_names};
 
 use cs_tree::{Kind, Listing, Tree, TreeFault, counted_answer};
@@ -59,7 +59,8 @@ impl<T: Tree + Drop> Tree for FuseTree<T> {
         ensures requested { calls_left self.old ≢ 1 → RequestsPath
             (T.longest_requested (inner_tree self.old))
             (T.longest_requested (inner_tree self.new)) path.now }
-        ensures counts { KeepsInner T.read_counts self.old self.new }
+        ensures counts { calls_left self.old ≢ 1 → T.read_counts (inner_tree self.new)
+            ≡ option_map after_lookup (T.read_counts (inner_tree self.old)) }
         ensures counted { calls_left self.old ≢ 1 → T.failed (inner_tree self.new)
             ≡ count_after is_tree_failure result (T.failed (inner_tree self.old)) }
         ensures left { calls_left self.new ≡ calls_left self.old - 1 }
@@ -83,7 +84,8 @@ impl<T: Tree + Drop> Tree for FuseTree<T> {
         ensures requested { calls_left self.old ≢ 1 → RequestsPath
             (T.longest_requested (inner_tree self.old))
             (T.longest_requested (inner_tree self.new)) path.now }
-        ensures counts { KeepsInner T.read_counts self.old self.new }
+        ensures counts { calls_left self.old ≢ 1 → T.read_counts (inner_tree self.new)
+            ≡ option_map after_lookup (T.read_counts (inner_tree self.old)) }
         ensures counted { calls_left self.old ≢ 1 → T.failed (inner_tree self.new)
             ≡ count_after is_tree_failure result (T.failed (inner_tree self.old)) }
         ensures left { calls_left self.new ≡ calls_left self.old - 1 }

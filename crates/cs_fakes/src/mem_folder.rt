@@ -1,7 +1,7 @@
 // A folder in memory.
-ghost use Rattle.std.specs.Prelude.{◌≡◌, ◌++◌, ◌∷◌, [], ◌↔◌, Some, None, Ok, IfOk, IsSome, IsTrue, map, option_map};
-ghost use Rattle.cs_storage.specs.Storing.{ChangesNothing, HasBytesOf, Renames, Removes, left_renamed, left_whole};
-ghost use Rattle.cs_fakes.specs.MemFolders.{folder_view, bytes_view, left_view, own_view, mem_bytes, answered};
+ghost use Rattle.std.specs.Prelude.{◌≡◌, ◌<◌, ◌++◌, ◌∷◌, [], ◌↔◌, Some, None, Ok, IfOk, OnOk, OnErr, IsOk, IsErr, IsSome, IsTrue, map, option_map, unwrap_or};
+ghost use Rattle.cs_storage.specs.Storing.{Moves, Compares, ChangesNothing, HasBytesOf, Renames, Removes, left_renamed, left_whole};
+ghost use Rattle.cs_fakes.specs.MemFolders.{folder_view, bytes_view, left_view, own_view, mem_bytes, answered, no_plan, plan_of, plan_after, file_met};
 
 use crate::folder_types::{MemFile, MemFolder, MemIndex, MemLeft, MemOpened, MemVisit};
 use cs_output::Sent;
@@ -16,6 +16,7 @@ impl MemFolder {
             ≡ left_whole (bytes_view file) ∷ []) }
         ensures free { IfOk result (λ folder. (folder_view folder).own ≡ None) }
         ensures fresh { IfOk result (λ folder. (folder_view folder).replaced ≡ None) }
+        ensures plan { IfOk result (λ folder. plan_of folder ≡ no_plan) }
     {
         let mut lefts = Vec::new(alloc);
         lefts.push(left_of_file(alloc, &file)?)?;
@@ -62,21 +63,26 @@ impl MemFolder {
 
     /// After this number of calls the run crashes: every later call fails, and changes nothing.
     pub fn crash_after(&mut self, calls: usize)
-        ensures { folder_view self.new ≡ folder_view self.old }
+        ensures keeps { folder_view self.new ≡ folder_view self.old }
+        ensures plan { plan_of self.new ≡ record (plan_of self.old) { calls = calls } }
     {
         self.calls = calls;
     }
 
     /// Another run holds FILE~, or no other run does.
     pub fn set_taken(&mut self, taken: bool)
-        ensures { folder_view self.new ≡ folder_view self.old }
+        ensures keeps { folder_view self.new ≡ folder_view self.old }
+        ensures plan { plan_of self.new ≡ record (plan_of self.old) { taken = taken } }
     {
         self.taken = taken;
     }
 
     /// Before the next call for which FILE~ is not held, another run changes FILE to this.
     pub fn let_other_run(&mut self, file: Option<Vec<u8>>) -> Result<(), AllocError>
-        ensures { folder_view self.new ≡ folder_view self.old }
+        ensures keeps { folder_view self.new ≡ folder_view self.old }
+        ensures plan { OnOk result
+            (plan_of self.new ≡ record (plan_of self.old) { visit = Some (bytes_view file) }) }
+        ensures refused { OnErr result (plan_of self.new ≡ plan_of self.old) }
     {
         let left = left_of_file(self.alloc, &file)?;
         self.next = Some(MemVisit { file, left });
@@ -87,14 +93,19 @@ impl MemFolder {
     fn step(&mut self) -> Result<(), StorageFault>
         ensures changes { ChangesNothing (folder_view self.old) (folder_view self.new) }
         ensures given { self.new.given ≡ self.old.given }
+        ensures plan { plan_of self.new ≡ plan_after self.old }
+        ensures met { OnOk result (bytes_view self.new.file ≡ file_met self.old) }
+        ensures crash { self.old.calls ≡ 0 → IsErr result }
+        ensures acts { IsSome self.old.own → 0 < self.old.calls → IsOk result }
     {
+        let crashed = self.calls == 0;
+        self.calls = self.calls.saturating_sub(1);
         if self.own.is_none() {
             self.be_visited()?;
         }
-        if self.calls == 0 {
+        if crashed {
             return Err(StorageFault::Failed);
         }
-        self.calls -= 1;
         Ok(())
     }
 
@@ -123,8 +134,8 @@ impl MemFolder {
 
     /// Whether FILE is what was opened.
     fn is_seen(&self) -> bool
-        ensures { IsTrue result →
-            (folder_view self.now).seen ≡ Some (Ok (folder_view self.now).file) }
+        ensures { IsTrue result
+            ↔ ((folder_view self.now).seen ≡ Some (Ok (folder_view self.now).file)) }
     {
         match &self.seen {
             Some(Ok(seen)) => is_same(&self.file, seen),
@@ -137,6 +148,9 @@ impl MemFolder {
         requires { (folder_view self.old).own ≡ None }
         ensures changes { ChangesNothing (folder_view self.old) (folder_view self.new) }
         ensures given { self.new.given ≡ self.old.given }
+        ensures plan { plan_of self.new ≡ record (plan_of self.old) { visit = None } }
+        ensures met { OnOk result (bytes_view self.new.file
+            ≡ unwrap_or (plan_of self.old).visit (bytes_view self.old.file)) }
     {
         if let Some(MemVisit { file, left }) = self.next.take() {
             self.now_at = self.lefts.len();
@@ -217,7 +231,17 @@ impl IndexFolder for MemFolder {
         Ok(())
     }
 
-    fn is_unchanged(&mut self) -> bool {
+    fn is_unchanged(&mut self) -> bool
+        ensures compares { Moves (Compares result)
+            (⟦<MemFolder as IndexFolder>⟧.model self.old)
+            (⟦<MemFolder as IndexFolder>⟧.model self.new) }
+        ensures given { ⟦<MemFolder as IndexFolder>⟧.given self.new
+            ≡ ⟦<MemFolder as IndexFolder>⟧.given self.old }
+        ensures plan { plan_of self.new ≡ plan_after self.old }
+        ensures answer { IsSome (folder_view self.old).own → (IsTrue result
+            ↔ ((0 < (plan_of self.old).calls)
+            × ((folder_view self.old).seen ≡ Some (Ok (folder_view self.old).file)))) }
+    {
         let unchanged = self.step().is_ok() && self.is_seen();
         if !unchanged {
             self.refused = Some(StorageFault::Failed);
@@ -295,7 +319,7 @@ fn left_of_temp(alloc: Global, own: &MemFile) -> Result<MemLeft, AllocError>
 
 /// Whether both are missing, or have the same bytes.
 fn is_same(one: &Option<Vec<u8>>, other: &Option<Vec<u8>>) -> bool
-    ensures { IsTrue result → bytes_view one.now ≡ bytes_view other.now }
+    ensures { IsTrue result ↔ (bytes_view one.now ≡ bytes_view other.now) }
 {
     one == other
 }

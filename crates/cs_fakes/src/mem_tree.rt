@@ -2,6 +2,7 @@
 ghost use Rattle.std.specs.Prelude.{◌≡◌, ◌≢◌, ◌≤◌, ◌<◌, ◌↔◌, ℕ, List, [], ◌∷◌, Option, Some, None, true, false, ◌&&◌, not, length, max, drop, Ok, Err, IfSome, IfOk, IfErr, OnOk, OnErr, IsSome, IsTrue, MatchOption, bytes_eq};
 ghost use Rattle.std.specs.Path.{slash};
 ghost use Rattle.cs_tree.specs.Folders.{IsModelled, last_element, are_elements};
+ghost use Rattle.cs_tree.specs.Failures.{next_count};
 ghost use Rattle.cs_tree.specs.FailureCount.{count_after};
 ghost use Rattle.std.specs.FinMap as map';
 ghost use Rattle.cs_tree.specs.Snapshot.{item_at};
@@ -10,7 +11,7 @@ ghost use Rattle.cs_tree.specs.Clean.{is_clean as is_clean', has_nul as has_nul'
 ghost use Rattle.cs_fakes.specs.Puts.{put_fault, PutAnswers};
 ghost use Rattle.cs_fakes.specs.MemTrees.{mem_snapshot, left_open, mem_tree_step, mem_read_counts, left_at, item_put, no_reads};
 ghost use Rattle.cs_tree.specs.MemStreams.{source_step};
-ghost use Rattle.cs_tree.specs.ReadCounts.{after_open, after_read};
+ghost use Rattle.cs_tree.specs.ReadCounts.{after_lookup, after_open, after_read};
 ghost use Rattle.cs_tree.specs.Trees.{Answers, RequestsPath, OpensFile, TreeReadGives, IsReadFault, is_tree_failure, kind_of, listing_of, listing_value, listing_names};
 ghost use Rattle.cs_fakes.specs.declared.mem_tree.PutFault.TheVariants as put;
 
@@ -89,6 +90,7 @@ impl MemTree {
             consumed: 0,
             longest_requested: 0,
             most_read: 0,
+            lookups: 0,
             step,
             failed: 0,
             alloc,
@@ -232,11 +234,13 @@ impl Tree for MemTree {
         ensures step { mem_tree_step self.new ≡ mem_tree_step self.old }
         ensures requested { RequestsPath (⟦<MemTree as Tree>⟧.longest_requested self.old)
             (⟦<MemTree as Tree>⟧.longest_requested self.new) path.now }
-        ensures counts { Some (mem_read_counts self.new) ≡ Some (mem_read_counts self.old) }
+        ensures counts { Some (mem_read_counts self.new)
+            ≡ Some (after_lookup (mem_read_counts self.old)) }
         ensures failed { ⟦<MemTree as Tree>⟧.failed self.new
             ≡ count_after is_tree_failure result (⟦<MemTree as Tree>⟧.failed self.old) }
     {
         note(&mut self.longest_requested, path);
+        count_lookup(&mut self.lookups);
         let answer = kind_at(&self.items, path);
         counted_answer(&mut self.failed, answer)
     }
@@ -250,11 +254,13 @@ impl Tree for MemTree {
         ensures step { mem_tree_step self.new ≡ mem_tree_step self.old }
         ensures requested { RequestsPath (⟦<MemTree as Tree>⟧.longest_requested self.old)
             (⟦<MemTree as Tree>⟧.longest_requested self.new) path.now }
-        ensures counts { Some (mem_read_counts self.new) ≡ Some (mem_read_counts self.old) }
+        ensures counts { Some (mem_read_counts self.new)
+            ≡ Some (after_lookup (mem_read_counts self.old)) }
         ensures failed { ⟦<MemTree as Tree>⟧.failed self.new
             ≡ count_after is_tree_failure result (⟦<MemTree as Tree>⟧.failed self.old) }
     {
         note(&mut self.longest_requested, path);
+        count_lookup(&mut self.lookups);
         let answer = listing_at(alloc, &self.items, path);
         counted_answer(&mut self.failed, answer)
     }
@@ -326,6 +332,13 @@ fn note(longest: &mut usize, path: &str)
     ensures { longest.new ≡ max longest.old (length path.now) }
 {
     *longest = (*longest).max(path.len());
+}
+
+/// Counts a call that looks a path up.
+fn count_lookup(lookups: &mut u64)
+    ensures { lookups.new ≡ next_count lookups.old }
+{
+    *lookups = lookups.saturating_add(1);
 }
 
 /// The remaining bytes of the open file, as a source.

@@ -14,6 +14,7 @@ pub struct MemTree {
     pub(crate) consumed: usize,
     pub(crate) longest_requested: usize,
     pub(crate) most_read: usize,
+    pub(crate) lookups: u64,
     pub(crate) step: usize,
     pub(crate) failed: u64,
     pub(crate) alloc: Global,

@@ -3,6 +3,7 @@ use Rattle.std.proofs.lemmas.Result.{err_from_is_err_and}
 use Rattle.cs_tree.specs.FailureCount.{count_after}
 use Rattle.cs_tree.specs.Trees.{is_tree_failure}
 use Rattle.cs_tree.specs.TreeReaders.{open_model, tree_read, HasRead}
+use Rattle.cs_tree.specs.ReadCounts.{ReadCounts}
 use Rattle.cs_tree.specs.ConsumesAtMost.{ConsumesAtMost}
 use Rattle.cs_tree.proofs.ReadCountLemmas.{reads_open}
 use Rattle.cs_args.specs.FileFaults.{fault_line_of}
@@ -121,8 +122,8 @@ returns-clause-reads g c =
     (c.search.ensures.keeps.1 ∙ ap (λ t. g.T.Tree.snapshot t) same)
     (subst (λ t. ConsumesAtMost (max_searched + 1) (open_model (g.T.Tree.snapshot t) (g.T.Tree.opened t))
     (open_model (g.T.Tree.snapshot after) (g.T.Tree.opened after))) same c.search.ensures.loses)
-    (subst (λ t. (limit count : ℕ) → HasRead limit count (g.T.Tree.opened t) (g.T.Tree.read_counts t) →
-    HasRead limit count (g.T.Tree.opened after) (g.T.Tree.read_counts after)) same c.search.ensures.keeps.2) in
+    (subst (λ t. (before : ReadCounts) → (count : ℕ) → HasRead before count (g.T.Tree.opened t) (g.T.Tree.read_counts t) →
+    HasRead before count (g.T.Tree.opened after) (g.T.Tree.read_counts after)) same c.search.ensures.keeps.2) in
     search rules
 
 pub returns-in_err-matched-clause-reads : goal.returns-in_err-matched-clause-reads
@@ -138,6 +139,6 @@ returns-in_err-matched-clause-reads g c =
     (c.search.ensures.keeps.1 ∙ ap (λ t. g.T.Tree.snapshot t) same)
     (subst (λ t. ConsumesAtMost (max_searched + 1) (open_model (g.T.Tree.snapshot t) (g.T.Tree.opened t))
     (open_model (g.T.Tree.snapshot after) (g.T.Tree.opened after))) same c.search.ensures.loses)
-    (subst (λ t. (limit count : ℕ) → HasRead limit count (g.T.Tree.opened t) (g.T.Tree.read_counts t) →
-    HasRead limit count (g.T.Tree.opened after) (g.T.Tree.read_counts after)) same c.search.ensures.keeps.2) in
+    (subst (λ t. (before : ReadCounts) → (count : ℕ) → HasRead before count (g.T.Tree.opened t) (g.T.Tree.read_counts t) →
+    HasRead before count (g.T.Tree.opened after) (g.T.Tree.read_counts after)) same c.search.ensures.keeps.2) in
     search rules

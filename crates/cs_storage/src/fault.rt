@@ -1,5 +1,6 @@
 // Why the index file cannot be read or written.
-ghost use Rattle.std.specs.Prelude.{◌≡◌, ◌≢◌};
+ghost use Rattle.std.specs.Prelude.{◌≡◌, ◌≢◌, ◌⊎◌, ◌↔◌, Some, pos};
+ghost use Rattle.std.specs.IoError.{error_kind, raw_os_error};
 ghost use Rattle.cs_storage.specs.declared.fault.StorageFault.TheVariants.{Memory};
 
 use cs_tree::TreeFault;
@@ -26,7 +27,13 @@ const PROCESS_DESCRIPTORS: i32 = 24;
 const SYSTEM_DESCRIPTORS: i32 = 23;
 
 impl From<io::Error> for StorageFault {
-    fn from(error: io::Error) -> StorageFault {
+    fn from(error: io::Error) -> StorageFault
+        ensures descriptors { result ≡ StorageFault.Descriptors ↔
+            ((raw_os_error error ≡ Some (pos 24)) ⊎ (raw_os_error error ≡ Some (pos 23))) }
+        ensures memory { result ≡ StorageFault.Memory → error_kind error ≡ ErrorKind.OutOfMemory }
+        ensures failed { result ≡ StorageFault.Failed → error_kind error ≢ ErrorKind.OutOfMemory }
+        ensures leftover { result ≢ StorageFault.Leftover }
+    {
         if let Some(PROCESS_DESCRIPTORS | SYSTEM_DESCRIPTORS) = error.raw_os_error() {
             return StorageFault::Descriptors;
         }

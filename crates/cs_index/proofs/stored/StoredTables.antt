@@ -1,5 +1,5 @@
 -- The tables of an index in a store.
-use Rattle.std.proofs.Common.{◌≡◌, ◌+◌, ◌-◌, ◌≤◌, ℕ, zero, suc, true, List, [], ◌∷◌, length, Some, Result, Ok, Err, refl, sym, ap, subst, ◌∙◌, inl, inr, leb, arith, slice_get}
+use Rattle.std.proofs.Common.{◌≡◌, ◌+◌, ◌-◌, ◌≤◌, ℕ, zero, suc, true, List, [], ◌∷◌, length, Some, Result, Ok, Err, sym, ap, subst, ◌∙◌, inl, inr, leb, arith, slice_get}
 use Rattle.std.proofs.lemmas.Bool.{and_parts, leb-true, or_cases}
 use Rattle.std.specs.List.{AllByRecursion, list_all}
 use Rattle.std.specs.Prelude.{slice_range, ◌||◌, nat_lt, nat_eq}
@@ -14,7 +14,7 @@ use Rattle.cs_index.specs.Stored.{StandsIn, StoredParts, sections_at}
 use Rattle.cs_index.specs.StoredOpening.{AreAscendingOffsets, with_lists}
 use Rattle.cs_index.specs.StoredTables.{AreValidTables, OpensAs, TableParts, TablesIn, lists_room}
 use Rattle.cs_index.specs.ValidParts.{AreValidParts}
-use Rattle.cs_index.specs.ValidSections.{AreBoundedSections, AreValidSections}
+use Rattle.cs_index.specs.ValidSections.{AreBoundedSections}
 use Rattle.cs_index.proofs.decoding.DecodableBytesOpen.{pass_from}
 use Rattle.cs_index.proofs.decoding.IndexFields.{entries_rise, offsets_long}
 use Rattle.cs_index.proofs.decoding.PartsAreValid.{entries_fit}

@@ -123,7 +123,7 @@ content_base earlier (Ok parts) clean h = record {
   files_are = h.files_are;
   normalized = all_satisfy is_normalized parts.paths
       (each_listed (λ p. is_normalized p ≡ true) parts.paths
-      (λ p member. (clean p (subst (λ s. set.contains s p ≡ true) h.paths_are member)).normalized));
+      (λ p member. (clean p (subst (λ s. set.contains s p ≡ true) h.paths_are member)).1));
   sound = h.sound;
 }
 

@@ -26,7 +26,7 @@ given_storable : (job : IndexJob) (ts : List (List ℕ)) → AreCleaned job ts �
 given_storable job ts clean path member =
     let is = given_clean job (all_accepted (string_bytes job.cwd) (given_texts job) clean.none_bad) path
     (subst (λ ps. set.contains (set.from_list ps) path ≡ true) clean.are member) in
-    normalized_storable path is.normalized
+    normalized_storable path is.1
 
 pub own_paths : (job : IndexJob) (ts paths : List (List ℕ)) → AreCleaned job ts → paths
     ≡ set.items (least (set.from_list ts)) → are_paths paths ≡ true

@@ -5,7 +5,6 @@ pub use Rattle.cs_history.specs.Headline
 pub use Rattle.cs_history.specs.Jobs
 pub use Rattle.cs_history.specs.JobKinds
 pub use Rattle.cs_history.specs.Replies
-pub mod Bytes
 pub mod Diagnostics
 pub mod Next
 pub mod Refusals

@@ -1,11 +1,10 @@
 // Lists of jobs.
-ghost use Rattle.std.specs.Prelude.{◌≡◌, map, length, All, zip};
+ghost use Rattle.std.specs.Prelude.{◌≡◌, map, length, option_map, vec_items, All, zip};
 ghost use Rattle.std.specs.List.{AllZip};
 ghost use Rattle.cs_tree.specs.Clean.{longest_path};
 ghost use Rattle.cs_tree.specs.Walks.{RequestsWithin};
 ghost use Rattle.cs_history.specs.Headline.{Indexes};
 ghost use Rattle.cs_history.specs.Jobs.{HasAbsoluteFolder};
-ghost use Rattle.cs_cindex.specs.Bytes.{index_bytes};
 ghost use Rattle.cs_cindex.specs.Steps.{RightAll, Steps, job_trees, state};
 
 use crate::job::do_job;
@@ -30,11 +29,12 @@ pub fn cindex<T: Tree, O: Sink, E: Sink>(
     requires replies { length replies.old ≡ length jobs.now }
     requires folders { All HasAbsoluteFolder jobs.now }
     ensures indexes { Indexes jobs.now (map T.snapshot trees.old) replies.new
-        (index_bytes old) (index_bytes result) }
-    ensures replies { RightAll (map T.snapshot trees.old) (index_bytes old) jobs.now replies.new }
+        (option_map vec_items old) (option_map vec_items result) }
+    ensures replies { RightAll (map T.snapshot trees.old) (option_map vec_items old)
+        jobs.now replies.new }
     ensures steps { Steps (zip jobs.now (zip (job_trees T.snapshot T.failed trees.old trees.new) replies.new))
-        (state O.model O.failed E.model E.failed (index_bytes old) out.old err.old)
-        (state O.model O.failed E.model E.failed (index_bytes result) out.new err.new) }
+        (state O.model O.failed E.model E.failed (option_map vec_items old) out.old err.old)
+        (state O.model O.failed E.model E.failed (option_map vec_items result) out.new err.new) }
     ensures requested { AllZip (RequestsWithin longest_path)
         (map T.longest_requested trees.old) (map T.longest_requested trees.new) }
     ensures keeps { map T.snapshot trees.new ≡ map T.snapshot trees.old }

@@ -1,9 +1,8 @@
 // One job.
-ghost use Rattle.std.specs.Prelude.{◌≡◌, ℕ, List, Option, true, option_map, IfOk, IfErr, option_copied};
+ghost use Rattle.std.specs.Prelude.{◌≡◌, ℕ, List, Option, true, option_map, vec_items, IfOk, IfErr, option_copied};
 ghost use Rattle.cs_tree.specs.Clean.{longest_path};
 ghost use Rattle.cs_tree.specs.Walks.{RequestsWithin};
 ghost use Rattle.cs_storage.specs.FileAfter.{IsGiven};
-ghost use Rattle.cs_cindex.specs.Bytes.{index_bytes};
 ghost use Rattle.cs_cindex.specs.OldIndex.{IsIndex, IsUnreadable, has_failed};
 ghost use Rattle.cs_cindex.specs.Outcomes.{IsStepTo, IsWholeStepTo, RightAfter, reply_of};
 ghost use Rattle.cs_cindex.specs.Output.{job_tree};
@@ -28,10 +27,10 @@ pub(crate) fn do_job<T: Tree, O: Sink, E: Sink>(
     err: &mut E,
 ) -> (Option<Vec<u8>>, Reply)
     requires { HasAbsoluteFolder job.now }
-    ensures replies { RightAfter (T.snapshot tree.old) (index_bytes old) job.now result.1 }
+    ensures replies { RightAfter (T.snapshot tree.old) (option_map vec_items old) job.now result.1 }
     ensures step { IsWholeStep job.now (job_tree T.snapshot T.failed tree.old tree.new) result.1
-        (state O.model O.failed E.model E.failed (index_bytes old) out.old err.old)
-        (state O.model O.failed E.model E.failed (index_bytes result.0) out.new err.new) }
+        (state O.model O.failed E.model E.failed (option_map vec_items old) out.old err.old)
+        (state O.model O.failed E.model E.failed (option_map vec_items result.0) out.new err.new) }
     ensures requested { RequestsWithin longest_path (T.longest_requested tree.old)
         (T.longest_requested tree.new) }
     ensures tree_keeps { T.snapshot tree.new ≡ T.snapshot tree.old }

@@ -5,7 +5,7 @@ pub use Rattle.cs_history.specs.History.{History, Update, all_given_paths, exist
 pub use Rattle.cs_history.specs.HistoryIndex.{IsBuiltByJobs, indexed_names}
 pub use Rattle.cs_history.specs.Jobs.{AreCleanable, IsFitting, after, after_done, given_paths, given_texts, has_no_path, history_after, reset_history, update_of}
 pub use Rattle.cs_history.specs.Shards.{AreShards, files_of_both, searched_names, sorted_by_name}
-pub use Rattle.cs_history.specs.WellFormed.{AreClean, IsClean, IsHistory, IsStartIndex, IsUpdate}
+pub use Rattle.cs_history.specs.WellFormed.{AreClean, IsHistory, IsStartIndex, IsUpdate}
 pub use Rattle.cs_index.proofs.decoding.StringSections.{NoNul, section_read}
 pub use Rattle.cs_index.specs.Encoding.{Entry, Files, IsString, ListEntry, PostingList, SectionBytes, encoding_of, four_bytes, three_bytes}
 pub use Rattle.cs_index.specs.OpenedParts.{Parts, are_whole, files_in, files_read, ids_read, lists_in, paths_in, whole_ids}

@@ -1,13 +1,13 @@
 -- How one job extends a history.
 use Rattle.std.proofs.Common.{◌≡◌, true, false, cond, List, [], ◌∷◌, ◌++◌, map, sym, ap, subst, ◌∙◌, inl, inr, Option, Some, None, string_bytes, String, nat_lt, length, bytes_eq}
-use Rattle.cs_history.proofs.Common.{IsTree, IsModelled, cases_Bool, cond_both, ltb-false, slash, AllByRecursion, AllZip, begins, Snapshot, clean_fault, absolute, clean_path, has_nul, longest_path, from_list_all, History, nothing, ◌⊳◌, IsBuiltByJobs, IsClean, AreClean, IsUpdate, IsHistory, given_texts, given_paths, has_no_path, AreCleanable, IsFitting, update_of, reset_history, after_done, after, history_after, IndexJob, Reply, NoNul}
+use Rattle.cs_history.proofs.Common.{IsTree, IsModelled, cases_Bool, cond_both, ltb-false, slash, AllByRecursion, AllZip, begins, Snapshot, clean_fault, absolute, clean_path, has_nul, longest_path, from_list_all, History, nothing, ◌⊳◌, IsBuiltByJobs, AreClean, IsUpdate, IsHistory, given_texts, given_paths, has_no_path, AreCleanable, IsFitting, update_of, reset_history, after_done, after, history_after, IndexJob, Reply, NoNul}
 use Rattle.std.proofs.lemmas.Str.{IsUtf8-append, IsUtf8-string_bytes}
 use Rattle.std.specs.declared.alloc.Global.{Global}
 use Rattle.std.specs.FinMap as map'
 use Rattle.cs_tree.proofs.NormalizedLemmas.{cleaned_is_normalized, normalized_from, bytes_no_nul, no_nul_bytes, no_fault_parts}
 use Rattle.cs_history.specs.Premises.{modelled_snapshot}
 use Rattle.cs_args.specs.declared.jobs.Reply.TheVariants.{Done, Refused}
-use Rattle.cs_history.proofs.PathElementLemmas.{IsPart, slash_utf8}
+use Rattle.cs_history.proofs.PathElementLemmas.{IsClean, IsPart, slash_utf8}
 use Rattle.cs_history.proofs.CleanedPathLemmas.{cleaned_part}
 
 -- ---- the paths of a job
@@ -31,13 +31,12 @@ cleanable_clean cwd path h =
     let text = string_bytes path in
     let passed = no_fault_parts (bytes_eq text []) (has_nul (absolute folder text))
     (nat_lt longest_path (length (clean_path folder text))) h in
-    let part = cleaned_part folder text (absolute_part cwd path (no_nul_bytes (absolute folder text) passed.0)) in
-    record {
-      utf8 = part.utf8;
-      normalized = normalized_from (clean_path folder text) (cleaned_is_normalized folder text)
+    let part = cleaned_part folder text (absolute_part cwd path (no_nul_bytes (absolute folder text) passed.0)) in (
+      part.utf8,
+      normalized_from (clean_path folder text) (cleaned_is_normalized folder text)
           (bytes_no_nul (clean_path folder text) part.no_nul)
-          (ltb-false longest_path (length (clean_path folder text)) passed.1);
-    }
+          (ltb-false longest_path (length (clean_path folder text)) passed.1),
+    )
 
 all_cleaned : (cwd : String Global) (paths : List (String Global)) →
     AllByRecursion (λ text. clean_fault (string_bytes cwd) text ≡ None) (map string_bytes paths) →

@@ -1,7 +1,11 @@
 -- Paths as their elements, joined by slashes.
-use Rattle.std.proofs.Common.{◌≡◌, ℕ, suc, ◌+◌, ◌<◌, cond, eqb, List, [], ◌∷◌, ◌++◌, length, drop, get_or, refl, sym, ap, subst, ◌∙◌, inl, inr, arith, append_assoc, length-append, IsUtf8}
-use Rattle.cs_history.proofs.Common.{cases_Bool, cond_both, eqb-true, take_at, drop_at, slash, AllByRecursion, onto_first, NoNul, elements}
+use Rattle.std.proofs.Common.{◌≡◌, ℕ, suc, ◌+◌, ◌<◌, cond, eqb, true, List, [], ◌∷◌, ◌++◌, length, drop, get_or, refl, sym, ap, subst, ◌∙◌, inl, inr, arith, append_assoc, length-append, IsUtf8}
+use Rattle.cs_history.proofs.Common.{cases_Bool, cond_both, eqb-true, take_at, drop_at, is_normalized, slash, AllByRecursion, onto_first, NoNul, elements}
 use Rattle.std.proofs.lemmas.Str.{IsUtf8-append, IsUtf8-nil, IsUtf8-take, IsUtf8-drop, encode_ascii, IsCharBoundary-before_ascii, IsCharBoundary-after_ascii}
+
+-- a clean path: UTF-8, and normalized
+abbrev pub IsClean : List ℕ → Type 0
+IsClean path = IsUtf8 path × (is_normalized path ≡ true)
 
 -- the elements joined by slashes
 abbrev pub text_of : List (List ℕ) → List ℕ

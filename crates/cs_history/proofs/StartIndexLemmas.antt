@@ -145,10 +145,10 @@ pub start_opens : (bytes : List ℕ) (parts : Parts) → IsStartIndex bytes part
 start_opens bytes parts is = opens_as_decoded bytes parts is.decoded
 
 pub start_clean : (bytes : List ℕ) (parts : Parts) → IsStartIndex bytes parts → AreClean (set.from_list parts.paths)
-start_clean bytes parts is path member = record {
-  utf8 = ((decoded_content bytes parts (start_opens bytes parts is)).paths_are path member).2;
-  normalized = from_list_all (λ p. is_normalized p ≡ true) parts.paths (all_true is_normalized parts.paths is.normalized) path member;
-}
+start_clean bytes parts is path member = (
+  ((decoded_content bytes parts (start_opens bytes parts is)).paths_are path member).2,
+  from_list_all (λ p. is_normalized p ≡ true) parts.paths (all_true is_normalized parts.paths is.normalized) path member,
+)
 
 pub start_lies : (bytes : List ℕ) (parts : Parts) → IsStartIndex bytes parts → LieUnder (set.from_list parts.paths) (files_in parts)
 unfolding are_covered

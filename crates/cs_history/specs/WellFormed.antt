@@ -12,14 +12,10 @@ use Rattle.cs_history.specs.History.{Update, History, nothing, existing, ◌⊳�
 
 -- ---- paths
 
--- a clean path: UTF-8, and normalized
-pub record IsClean (path : List ℕ) : Type 0 where
-  pub utf8 : IsUtf8 path
-  pub normalized : is_normalized path ≡ true
-
--- each path of a set is clean
+-- each path of a set is clean: UTF-8, and normalized
 abbrev pub AreClean : Paths → Type 0
-AreClean paths = (path : List ℕ) → set.contains paths path ≡ true → IsClean path
+AreClean paths =
+    (path : List ℕ) → set.contains paths path ≡ true → IsUtf8 path × (is_normalized path ≡ true)
 
 -- ---- histories
 

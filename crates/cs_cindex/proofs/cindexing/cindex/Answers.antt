@@ -2,14 +2,14 @@ use Rattle.std.proofs.Common.{◌≡◌, ◌≢◌, ◌<◌, length, get_or, ref
 use Rattle.std.proofs.Math.Seq.{map-set_same}
 use Rattle.cs_cindex.proofs.Common.{get_or_default}
 use Rattle.cs_cindex.proofs.JobSequenceLemmas.{indexes_none, indexes_more, right_all_more, steps_more, requested_none, requested_more}
-use Rattle.cs_cindex.specs.Bytes.{index_bytes}
+use Rattle.std.specs.Prelude.{option_map, vec_items}
 use Rattle.cs_cindex.proofs.cindexing.cindex.Goals as goal
 
 pub jobs-init : goal.jobs-init
 jobs-init g c = record {
   keeps = refl;
   rest = λ k d h. refl;
-  index = indexes_none (index_bytes c.args.old);
+  index = indexes_none (option_map vec_items c.args.old);
   steps = refl;
   requested = requested_none g.T.Tree.longest_requested c.args.trees.now;
   right = λ earlier p. tt;

@@ -1,6 +1,6 @@
 use Rattle.std.proofs.Common.{◌≡◌, ℕ, ◌≤◌, take, map, get_or}
 use Rattle.cs_cindex.proofs.Common.{Indexes, AllZip, zip, longest_path, RequestsWithin, RightAll, Steps, job_trees, state}
-use Rattle.cs_cindex.specs.Bytes.{index_bytes}
+use Rattle.std.specs.Prelude.{option_map, vec_items}
 use Rattle.cs_cindex.proofs.cindexing.cindex.Given as goal
 
 -- the trees of the remaining jobs are unchanged, and the index and the replies are those of the jobs so far
@@ -10,12 +10,12 @@ invariant-jobs g l =
     record {
       keeps : map g.T.Tree.snapshot l.trees ≡ snapshots;
       rest : (k : ℕ) (d : _) → l.i ≤ k → get_or l.trees k d ≡ get_or l.initial.trees k d;
-      index : Indexes (take l.i l.jobs) (take l.i snapshots) (take l.i l.replies) (index_bytes l.fn.old) (index_bytes l.index);
+      index : Indexes (take l.i l.jobs) (take l.i snapshots) (take l.i l.replies) (option_map vec_items l.fn.old) (option_map vec_items l.index);
       steps : Steps (zip (take l.i l.jobs) (zip (job_trees g.T.Tree.snapshot g.T.Tree.failed (take l.i l.initial.trees)
           (take l.i l.trees)) (take l.i l.replies)))
-          (state g.O.Sink.model g.O.Sink.failed g.E.Sink.model g.E.Sink.failed (index_bytes l.fn.old) l.initial.out l.initial.err)
-          (state g.O.Sink.model g.O.Sink.failed g.E.Sink.model g.E.Sink.failed (index_bytes l.index) l.out l.err);
+          (state g.O.Sink.model g.O.Sink.failed g.E.Sink.model g.E.Sink.failed (option_map vec_items l.fn.old) l.initial.out l.initial.err)
+          (state g.O.Sink.model g.O.Sink.failed g.E.Sink.model g.E.Sink.failed (option_map vec_items l.index) l.out l.err);
       requested : AllZip (RequestsWithin longest_path) (map g.T.Tree.longest_requested l.initial.trees)
           (map g.T.Tree.longest_requested l.trees);
-      right : RightAll (take l.i snapshots) (index_bytes l.fn.old) (take l.i l.jobs) (take l.i l.replies);
+      right : RightAll (take l.i snapshots) (option_map vec_items l.fn.old) (take l.i l.jobs) (take l.i l.replies);
     }

@@ -36,6 +36,7 @@ pub use Rattle.cs_output.specs.declared.sent.Sent.{Sent}
 pub use Rattle.cs_tree.proofs.GrowsLemmas.{Grows-chain, Grows-same, leaves_flushed}
 pub use Rattle.cs_tree.proofs.PathSetLemmas.{alike, entries_in_order, same_set, tied_is, tied_same}
 pub use Rattle.cs_tree.proofs.PrefixLemmas.{prefix_all, prefix_left, prefix_none, prefix_right}
+pub use Rattle.cs_tree.proofs.ReadCountLemmas.{reads_nothing, reads_on}
 pub use Rattle.cs_tree.proofs.RequestLemmas.{requests_none, requests_on, requests_one}
 pub use Rattle.cs_tree.specs.Clean.{clean_path, longest_path}
 pub use Rattle.cs_tree.specs.Cleaning.{clean_fault, is_normalized}
@@ -46,6 +47,7 @@ pub use Rattle.cs_tree.specs.NameOrder.{bytes_cmp}
 pub use Rattle.cs_tree.specs.NamesAscending.{are_ascending}
 pub use Rattle.cs_tree.specs.PathSet.{Paths}
 pub use Rattle.cs_tree.specs.Reachability.{is_reachable, reachable_files, read_item}
+pub use Rattle.cs_tree.specs.ReadCounts.{ReadsWithin}
 pub use Rattle.cs_tree.specs.Sinks.{CountsOne, Grows, GrowsFlushed, SinkModel}
 pub use Rattle.cs_tree.specs.Snapshot.{Item, Snapshot, cut, file, folder, item_at}
 pub use Rattle.cs_tree.specs.TakesPrefix.{MayEnd, TakesPrefix}

@@ -1,6 +1,6 @@
 -- Jobs, one after another.
 use Rattle.std.proofs.Common.{◌≡◌, ℕ, zero, suc, ◌+◌, ◌<◌, List, [], ◌∷◌, ◌++◌, length, map, take, set, get_or, refl, sym, ap, subst, ◌∙◌, arith, Option}
-use Rattle.cs_cindex.proofs.Common.{IsModelled, take_more, take_more_set, length-take-le, get_or-map, length-map, map-append, AllByRecursion, AllZip, zip, longest_path, RequestsWithin, requests_none, requests_on, Snapshot, IndexJob, Reply, History, index_of, history_after, IsFitting, modelled_snapshot, Premises, Indexes, RightAfter, JobTree, job_tree, RightAll, State, job_trees, IsWholeStep, Steps}
+use Rattle.cs_cindex.proofs.Common.{IsModelled, take_more, take_more_set, length-take-le, get_or-map, length-map, map-append, AllByRecursion, AllZip, zip, Snapshot, IndexJob, Reply, History, index_of, history_after, IsFitting, modelled_snapshot, Premises, Indexes, RightAfter, JobTree, job_tree, RightAll, State, job_trees, IsWholeStep, Steps}
 use Rattle.cs_history.proofs.JobListLemmas.{followed-push, later_premises, zip_push as fitting_push}
 use Rattle.cs_history.proofs.ReplyLemmas.{right_more}
 use Rattle.std.proofs.lemmas.Slice.Zip.{length-zip}
@@ -183,22 +183,20 @@ module _ {T : Type 0} (snapshot : T → Option Snapshot) (failed : T → ℕ) wh
       zip_long : {A B : Type 0} (xs : List A) (ys : List B) → length ys ≡ length xs → length (zip xs ys) ≡ length xs
       zip_long xs ys e = omega (arith, length-zip xs ys, e)
 
--- ---- the paths that trees are asked for
+-- ---- bounds on what is asked of each tree
 
--- without a call
-pub requested_none : {T : Type 0} (longest : T → Option ℕ) (trees : List T) → AllZip (RequestsWithin longest_path)
-    (map longest trees) (map longest trees)
-requested_none longest [] = tt
-requested_none longest (tree ∷ trees) = (requests_none longest_path (longest tree), requested_none longest trees)
+module _ {T A : Type 0} (view : T → A) (Within : A → A → Type 0) where
+  -- without a call
+  pub all_none : ((a : A) → Within a a) → (trees : List T) → AllZip Within (map view trees) (map view trees)
+  all_none none [] = tt
+  all_none none (tree ∷ trees) = (none (view tree), all_none none trees)
 
--- after one more call, of the tree at `i`
-pub requested_more : {T : Type 0} (longest : T → Option ℕ) (before trees : List T) (i : ℕ) (tree then : T) →
-    i < length trees → AllZip (RequestsWithin longest_path) (map longest before) (map longest trees) →
-    RequestsWithin longest_path (longest (get_or trees i tree)) (longest then) → AllZip (RequestsWithin longest_path)
-    (map longest before) (map longest (set trees i then))
-requested_more longest before [] i tree then low all step = absurd (omega (arith, low))
-requested_more longest [] (t ∷ trees) i tree then low all step = absurd all
-requested_more longest (b ∷ before) (t ∷ trees) zero tree then low all step =
-    (requests_on longest_path (longest b) (longest t) (longest then) all.0 step, all.1)
-requested_more longest (b ∷ before) (t ∷ trees) (suc i) tree then low all step =
-    (all.0, requested_more longest before trees i tree then (omega (arith, low)) all.1 step)
+  -- after one more call, of the tree at `i`
+  pub all_more : ((a b c : A) → Within a b → Within b c → Within a c) → (before trees : List T) (i : ℕ) (tree then : T) →
+      i < length trees → AllZip Within (map view before) (map view trees) →
+      Within (view (get_or trees i tree)) (view then) → AllZip Within (map view before) (map view (set trees i then))
+  all_more on before [] i tree then low all step = absurd (omega (arith, low))
+  all_more on [] (t ∷ trees) i tree then low all step = absurd all
+  all_more on (b ∷ before) (t ∷ trees) zero tree then low all step = (on (view b) (view t) (view then) all.0 step, all.1)
+  all_more on (b ∷ before) (t ∷ trees) (suc i) tree then low all step =
+      (all.0, all_more on before trees i tree then (omega (arith, low)) all.1 step)

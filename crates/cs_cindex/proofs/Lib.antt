@@ -14,6 +14,7 @@ mod NextIndexLemmas
 mod OldIndexLemmas
 mod ReplacedIndexLemmas
 mod OutcomeLemmas
+mod ReadLemmas
 mod RefusedJobLemmas
 mod StepLemmas
 mod VerdictLemmas

@@ -11,6 +11,7 @@ pub mod Refusals
 pub mod Output
 pub mod Steps
 pub mod OldIndex
+pub mod Reads
 -- Definitions that private contracts cite.
 pub mod Verdicts
 pub mod Files

@@ -1,11 +1,13 @@
 // Lists of jobs.
-ghost use Rattle.std.specs.Prelude.{◌≡◌, map, length, option_map, vec_items, All, zip};
+ghost use Rattle.std.specs.Prelude.{◌+◌, ◌≡◌, map, length, option_map, vec_items, All, zip};
 ghost use Rattle.std.specs.List.{AllZip};
 ghost use Rattle.cs_tree.specs.Clean.{longest_path};
 ghost use Rattle.cs_tree.specs.Walks.{RequestsWithin};
+ghost use Rattle.cs_trigram.specs.Text.{limits};
 ghost use Rattle.cs_history.specs.Headline.{Indexes};
 ghost use Rattle.cs_history.specs.Jobs.{HasAbsoluteFolder};
 ghost use Rattle.cs_cindex.specs.Steps.{RightAll, Steps, job_trees, state};
+ghost use Rattle.cs_cindex.specs.Reads.{BytesWithin};
 
 use crate::job::do_job;
 use cs_args::{IndexJob, Reply};
@@ -37,6 +39,8 @@ pub fn cindex<T: Tree, O: Sink, E: Sink>(
         (state O.model O.failed E.model E.failed (option_map vec_items result) out.new err.new) }
     ensures requested { AllZip (RequestsWithin longest_path)
         (map T.longest_requested trees.old) (map T.longest_requested trees.new) }
+    ensures reads { AllZip (BytesWithin (limits.bytes + 1))
+        (map T.read_counts trees.old) (map T.read_counts trees.new) }
     ensures keeps { map T.snapshot trees.new ≡ map T.snapshot trees.old }
 {
     let mut index = old;

@@ -1,9 +1,11 @@
 // Adds the files of a tree to an index, one after the other.
-ghost use Rattle.std.specs.Prelude.{◌≡◌, ◌≤◌, ◌⊎◌, ◌++◌, true, [], map, string_bytes, length, Some, IfOk, IfErr, OnOk, OnErr, option_to_list};
+ghost use Rattle.std.specs.Prelude.{◌+◌, ◌≡◌, ◌≤◌, ◌⊎◌, ◌++◌, true, [], map, string_bytes, length, Some, IfOk, IfErr, OnOk, OnErr, option_to_list};
+ghost use Rattle.cs_tree.specs.ReadCounts.{ReadsWithin};
 ghost use Rattle.cs_tree.specs.Clean.{longest_path};
 ghost use Rattle.cs_tree.specs.NamesAscending.{are_ascending};
 ghost use Rattle.cs_tree.specs.Walks.{RequestsWithin, AreWithinPathLimit};
 ghost use Rattle.cs_tree.specs.FailureCount.{count_after};
+ghost use Rattle.cs_trigram.specs.Text.{limits};
 ghost use Rattle.cs_trigram.specs.Trigram.{set_of_numbers};
 ghost use Rattle.cs_trigram.specs.Scans.{AreDistinctTrigrams};
 ghost use Rattle.cs_index.specs.Built.{are_paths, is_above, IsBuilt, max_names};
@@ -81,6 +83,8 @@ impl Indexer {
         ensures only { IfErr result IsIndexingFault }
         ensures requested { RequestsWithin longest_path (T.longest_requested tree.old)
             (T.longest_requested tree.new) }
+        ensures reads { ReadsWithin (limits.bytes + 1)
+            (T.read_counts tree.old) (T.read_counts tree.new) }
         ensures keeps { T.snapshot tree.new ≡ T.snapshot tree.old }
     {
         for name in names {

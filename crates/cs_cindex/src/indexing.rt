@@ -1,15 +1,17 @@
 // The index of the files below some paths.
-ghost use Rattle.std.specs.Prelude.{◌≡◌, ◌⊎◌, ◌++◌, true, map, string_bytes, IfOk, IfErr, Some};
+ghost use Rattle.std.specs.Prelude.{◌+◌, ◌≡◌, ◌⊎◌, ◌++◌, true, map, string_bytes, IfOk, IfErr, Some};
 ghost use Rattle.cs_tree.specs.Clean.{longest_path};
 ghost use Rattle.cs_tree.specs.FailureCount.{count_after};
 ghost use Rattle.cs_tree.specs.Walks.{RequestsWithin};
 ghost use Rattle.cs_tree.specs.PathSet as set;
 ghost use Rattle.cs_index.specs.Built.{are_paths};
 ghost use Rattle.cs_cindex.specs.Output.{AreTooMany, is_failed_write};
+ghost use Rattle.cs_trigram.specs.Text.{limits};
 ghost use Rattle.cs_history.specs.Premises.{IsShort};
 ghost use Rattle.cs_cindex.specs.Files.{IsIndexingFault};
 ghost use Rattle.cs_cindex.specs.Next.{IsIndex, IsIndexOf, IsTreeTooLarge};
 ghost use Rattle.cs_cindex.specs.Diagnostics.{PrintsLines, PrintsLinesPrefix};
+ghost use Rattle.cs_cindex.specs.Reads.{BytesWithin};
 
 use crate::indexer::Indexer;
 use crate::printing::print_walk_faults;
@@ -61,6 +63,8 @@ pub(crate) fn index_paths<T: Tree, W: Output, E: Sink>(
     ensures writes { E.failed err.new ≡ count_after is_failed_write result (E.failed err.old) }
     ensures requested { RequestsWithin longest_path (T.longest_requested tree.old)
         (T.longest_requested tree.new) }
+    ensures reads { BytesWithin (limits.bytes + 1)
+        (T.read_counts tree.old) (T.read_counts tree.new) }
     ensures keeps { T.snapshot tree.new ≡ T.snapshot tree.old }
 {
     let mut indexer = Indexer::new(alloc, paths, log_skip)?;

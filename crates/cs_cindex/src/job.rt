@@ -1,5 +1,5 @@
 // One job.
-ghost use Rattle.std.specs.Prelude.{◌≡◌, ℕ, List, Option, true, option_map, vec_items, IfOk, IfErr, option_copied};
+ghost use Rattle.std.specs.Prelude.{◌+◌, ◌≡◌, ℕ, List, Option, true, option_map, vec_items, IfOk, IfErr, option_copied};
 ghost use Rattle.cs_tree.specs.Clean.{longest_path};
 ghost use Rattle.cs_tree.specs.Walks.{RequestsWithin};
 ghost use Rattle.cs_storage.specs.FileAfter.{IsGiven};
@@ -7,7 +7,9 @@ ghost use Rattle.cs_cindex.specs.OldIndex.{IsIndex, IsUnreadable, has_failed};
 ghost use Rattle.cs_cindex.specs.Outcomes.{IsStepTo, IsWholeStepTo, RightAfter, reply_of};
 ghost use Rattle.cs_cindex.specs.Output.{job_tree};
 ghost use Rattle.cs_cindex.specs.Steps.{IsUnread, IsWholeStep, LeavesFlushed, outputs, state};
+ghost use Rattle.cs_trigram.specs.Text.{limits};
 ghost use Rattle.cs_history.specs.Jobs.{HasAbsoluteFolder};
+ghost use Rattle.cs_cindex.specs.Reads.{BytesWithin};
 
 use crate::listing::list_old;
 use crate::walked::walked_index;
@@ -33,6 +35,8 @@ pub(crate) fn do_job<T: Tree, O: Sink, E: Sink>(
         (state O.model O.failed E.model E.failed (option_map vec_items result.0) out.new err.new) }
     ensures requested { RequestsWithin longest_path (T.longest_requested tree.old)
         (T.longest_requested tree.new) }
+    ensures reads { BytesWithin (limits.bytes + 1)
+        (T.read_counts tree.old) (T.read_counts tree.new) }
     ensures tree_keeps { T.snapshot tree.new ≡ T.snapshot tree.old }
 {
     let mut store = stored(old.as_deref());
@@ -98,6 +102,8 @@ pub fn cindex_stored<S: Store, T: Tree, W: Output, O: Sink, E: Sink>(
     ensures size { option_map S.size old.new ≡ option_map S.size old.old }
     ensures requested { RequestsWithin longest_path (T.longest_requested tree.old)
         (T.longest_requested tree.new) }
+    ensures reads { BytesWithin (limits.bytes + 1)
+        (T.read_counts tree.old) (T.read_counts tree.new) }
     ensures tree_keeps { T.snapshot tree.new ≡ T.snapshot tree.old }
 {
     let update = match update_of(alloc, old, job, tree, new, out, err) {
@@ -144,6 +150,8 @@ fn update_of<S: Store, T: Tree, W: Output, O: Sink, E: Sink>(
     ensures size { option_map S.size old.new ≡ option_map S.size old.old }
     ensures requested { RequestsWithin longest_path (T.longest_requested tree.old)
         (T.longest_requested tree.new) }
+    ensures reads { BytesWithin (limits.bytes + 1)
+        (T.read_counts tree.old) (T.read_counts tree.new) }
     ensures tree_keeps { T.snapshot tree.new ≡ T.snapshot tree.old }
 {
     if job.list {

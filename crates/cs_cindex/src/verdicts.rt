@@ -1,6 +1,8 @@
 // Reads a file that a walk finds.
-ghost use Rattle.std.specs.Prelude.{◌≡◌, IfOk};
+ghost use Rattle.std.specs.Prelude.{◌+◌, ◌≡◌, IfOk};
+ghost use Rattle.cs_tree.specs.ReadCounts.{ReadsWithin};
 ghost use Rattle.cs_tree.specs.Trees.{RequestsPath};
+ghost use Rattle.cs_trigram.specs.Text.{limits};
 ghost use Rattle.cs_cindex.specs.Verdicts.{IsVerdictIn, HasTrigramsOnce, count_read};
 
 use cs_args::FileFault;
@@ -21,6 +23,8 @@ pub(crate) fn read_file<'a, T: Tree>(
     ensures once { IfOk result HasTrigramsOnce }
     ensures counted { T.failed tree.new ≡ count_read result (T.failed tree.old) }
     ensures requested { RequestsPath (T.longest_requested tree.old) (T.longest_requested tree.new) name.now }
+    ensures reads { ReadsWithin (limits.bytes + 1)
+        (T.read_counts tree.old) (T.read_counts tree.new) }
     ensures keeps { T.snapshot tree.new ≡ T.snapshot tree.old }
 {
     if let Err(fault) = tree.open(name) {

@@ -1,5 +1,5 @@
 // Jobs that walk.
-ghost use Rattle.std.specs.Prelude.{◌≡◌, ◌++◌, ℕ, List, Option, false, true, Some, None, Ok, map, option_map, string_bytes, IfOk, IfErr, MatchResult};
+ghost use Rattle.std.specs.Prelude.{◌+◌, ◌≡◌, ◌++◌, ℕ, List, Option, false, true, Some, None, Ok, map, option_map, string_bytes, IfOk, IfErr, MatchResult};
 ghost use Rattle.cs_tree.specs.Clean.{longest_path};
 ghost use Rattle.cs_tree.specs.Walks.{RequestsWithin};
 ghost use Rattle.cs_tree.specs.FailureCount.{count_after};
@@ -12,11 +12,13 @@ ghost use Rattle.cs_index.specs.StoredTables.{TablesIn};
 ghost use Rattle.cs_cindex.specs.Merges.{IsMergeRefusal, MergesShort, refusal_of};
 ghost use Rattle.cs_cindex.specs.Next.{IsNext, IsReducedIndex};
 ghost use Rattle.cs_cindex.specs.Refusals.{IsWalkFault, base, base_fault, early_walk_fault};
+ghost use Rattle.cs_trigram.specs.Text.{limits};
 ghost use Rattle.cs_history.specs.Jobs.{HasAbsoluteFolder};
 ghost use Rattle.cs_cindex.specs.OldIndex.{IsFit, IsIndex, IsUnreadable, has_failed};
 ghost use Rattle.cs_cindex.specs.Output.{UnreadPrints, is_failed_write, job_tree, output};
 ghost use Rattle.cs_cindex.specs.Outcomes.{AnswersFor, WalkPrintsFor};
 ghost use Rattle.cs_cindex.specs.JobPaths.{AreCleaned, starts};
+ghost use Rattle.cs_cindex.specs.Reads.{BytesWithin};
 
 use crate::cleaning::clean_all;
 use crate::indexing::index_paths;
@@ -62,6 +64,8 @@ pub(crate) fn walked_index<S: Store, T: Tree, W: Output, E: Sink>(
     ensures size { option_map S.size old.new ≡ option_map S.size old.old }
     ensures requested { RequestsWithin longest_path (T.longest_requested tree.old)
         (T.longest_requested tree.new) }
+    ensures reads { BytesWithin (limits.bytes + 1)
+        (T.read_counts tree.old) (T.read_counts tree.new) }
     ensures tree_keeps { T.snapshot tree.new ≡ T.snapshot tree.old }
 {
     let given = match clean_all(alloc, &job.cwd, &job.paths) {
@@ -96,6 +100,8 @@ fn new_index<T: Tree, W: Output, E: Sink>(
     ensures writes { E.failed err.new ≡ count_after is_failed_write result (E.failed err.old) }
     ensures requested { RequestsWithin longest_path (T.longest_requested tree.old)
         (T.longest_requested tree.new) }
+    ensures reads { BytesWithin (limits.bytes + 1)
+        (T.read_counts tree.old) (T.read_counts tree.new) }
     ensures tree_keeps { T.snapshot tree.new ≡ T.snapshot tree.old }
 {
     if given.is_empty() {
@@ -141,6 +147,8 @@ fn extended_index<S: Store, T: Tree, W: Output, E: Sink>(
     ensures failed { S.failed store.new ≡ count_after is_io_failure result (S.failed store.old) }
     ensures requested { RequestsWithin longest_path (T.longest_requested tree.old)
         (T.longest_requested tree.new) }
+    ensures reads { BytesWithin (limits.bytes + 1)
+        (T.read_counts tree.old) (T.read_counts tree.new) }
     ensures tree_keeps { T.snapshot tree.new ≡ T.snapshot tree.old }
 {
     let tables = match open_old(alloc, store) {

@@ -1,7 +1,10 @@
-use Rattle.std.proofs.Common.{◌≡◌, ◌≢◌, ◌<◌, length, get_or, refl, arith, ◌∙◌, get_or-set_other}
+use Rattle.std.proofs.Common.{◌≡◌, ◌≢◌, ◌<◌, ◌+◌, length, get_or, refl, arith, ◌∙◌, get_or-set_other}
 use Rattle.std.proofs.Math.Seq.{map-set_same}
-use Rattle.cs_cindex.proofs.Common.{get_or_default}
-use Rattle.cs_cindex.proofs.JobSequenceLemmas.{indexes_none, indexes_more, right_all_more, steps_more, requested_none, requested_more}
+use Rattle.cs_cindex.proofs.Common.{get_or_default, longest_path, RequestsWithin, requests_none, requests_on}
+use Rattle.cs_cindex.specs.Reads.{BytesWithin}
+use Rattle.cs_cindex.proofs.ReadLemmas.{bytes_none, bytes_on}
+use Rattle.cs_trigram.specs.Text.{limits}
+use Rattle.cs_cindex.proofs.JobSequenceLemmas.{indexes_none, indexes_more, right_all_more, steps_more, all_none, all_more}
 use Rattle.std.specs.Prelude.{option_map, vec_items}
 use Rattle.cs_cindex.proofs.cindexing.cindex.Goals as goal
 
@@ -11,7 +14,8 @@ jobs-init g c = record {
   rest = λ k d h. refl;
   index = indexes_none (option_map vec_items c.args.old);
   steps = refl;
-  requested = requested_none g.T.Tree.longest_requested c.args.trees.now;
+  requested = all_none g.T.Tree.longest_requested (RequestsWithin longest_path) (requests_none longest_path) c.args.trees.now;
+  reads = all_none g.T.Tree.read_counts (BytesWithin (limits.bytes + 1)) (bytes_none (limits.bytes + 1)) c.args.trees.now;
   right = λ earlier p. tt;
 }
 
@@ -37,9 +41,12 @@ jobs-preserved g c =
           c.index-jobs-i.result tree c.do_job-next.new.tree c.do_job-next.result.1 _ _ _
           c.requires.trees (c.jobs.auto.trees ∙ c.requires.trees) (c.jobs.auto.replies ∙ c.requires.replies) within
           c.index-jobs-i.is again inv.steps c.do_job-next.ensures.step;
-      requested = requested_more g.T.Tree.longest_requested c.args.trees.now c.jobs.trees c.jobs.i
-          c.index-trees-i.result c.do_job-next.new.tree (omega (arith, in_trees, c.jobs.auto.trees)) inv.requested
-          c.do_job-next.ensures.requested;
+      requested = all_more g.T.Tree.longest_requested (RequestsWithin longest_path) (requests_on longest_path)
+          c.args.trees.now c.jobs.trees c.jobs.i c.index-trees-i.result c.do_job-next.new.tree
+          (omega (arith, in_trees, c.jobs.auto.trees)) inv.requested c.do_job-next.ensures.requested;
+      reads = all_more g.T.Tree.read_counts (BytesWithin (limits.bytes + 1)) (bytes_on (limits.bytes + 1))
+          c.args.trees.now c.jobs.trees c.jobs.i c.index-trees-i.result c.do_job-next.new.tree
+          (omega (arith, in_trees, c.jobs.auto.trees)) inv.reads c.do_job-next.ensures.reads;
       right = right_all_more snapshot c.args.jobs.now c.args.trees.now c.jobs.replies c.jobs.i c.index-jobs-i.result
           tree c.do_job-next.result.1 _ _
           c.requires.trees (c.jobs.auto.replies ∙ c.requires.replies) within c.index-jobs-i.is again inv.index inv.right

@@ -1,5 +1,7 @@
-use Rattle.std.proofs.Common.{◌≡◌, ℕ, ◌≤◌, take, map, get_or}
+use Rattle.std.proofs.Common.{◌≡◌, ℕ, ◌≤◌, ◌+◌, take, map, get_or}
 use Rattle.cs_cindex.proofs.Common.{Indexes, AllZip, zip, longest_path, RequestsWithin, RightAll, Steps, job_trees, state}
+use Rattle.cs_trigram.specs.Text.{limits}
+use Rattle.cs_cindex.specs.Reads.{BytesWithin}
 use Rattle.std.specs.Prelude.{option_map, vec_items}
 use Rattle.cs_cindex.proofs.cindexing.cindex.Given as goal
 
@@ -17,5 +19,7 @@ invariant-jobs g l =
           (state g.O.Sink.model g.O.Sink.failed g.E.Sink.model g.E.Sink.failed (option_map vec_items l.index) l.out l.err);
       requested : AllZip (RequestsWithin longest_path) (map g.T.Tree.longest_requested l.initial.trees)
           (map g.T.Tree.longest_requested l.trees);
+      reads : AllZip (BytesWithin (limits.bytes + 1)) (map g.T.Tree.read_counts l.initial.trees)
+          (map g.T.Tree.read_counts l.trees);
       right : RightAll (take l.i snapshots) (option_map vec_items l.fn.old) (take l.i l.jobs) (take l.i l.replies);
     }

@@ -1,5 +1,6 @@
 use Rattle.std.proofs.Common.{◌≡◌, ◌∙◌, ◌+◌, ◌++◌, refl, sym, ap, subst, map, string_bytes, take, drop, true, List}
-use Rattle.cs_cindex.proofs.Common.{take_all, err_from_is_err_and, Grows, longest_path, AreWithinPathLimit, requests_none, requests_one, requests_on, names_of, is_above, TakesPrefix, Diagnostic, text_of, noted_entries, AreTextsIn, AreAbove, HaveNamesOf, PrintsFiles}
+use Rattle.cs_cindex.proofs.Common.{take_all, err_from_is_err_and, Grows, longest_path, AreWithinPathLimit, requests_none, requests_one, requests_on, reads_nothing, reads_on, names_of, is_above, TakesPrefix, Diagnostic, text_of, noted_entries, AreTextsIn, AreAbove, HaveNamesOf, PrintsFiles}
+use Rattle.cs_trigram.specs.Text.{limits}
 use Rattle.cs_tree.specs.Trees.{RequestsPath}
 use Rattle.cs_tree.proofs.NameLemmas.{mapped_more}
 use Rattle.cs_index.proofs.common.ResultClauses.{any_err}
@@ -20,6 +21,7 @@ loop-name-init g c = record {
   writes = refl;
   path_limit = c.requires.path_limit;
   requested = requests_none longest_path (g.T.Tree.longest_requested c.args.tree.now);
+  reads = reads_nothing (limits.bytes + 1) (g.T.Tree.read_counts c.args.tree.now);
   keeps = refl;
 }
 
@@ -122,6 +124,9 @@ loop-name-preserved g c =
           (g.T.Tree.longest_requested c.read_file.new.tree) name (subst AreWithinPathLimit rest i.path_limit).0
           (subst (RequestsPath (g.T.Tree.longest_requested c.loop-name.tree)
           (g.T.Tree.longest_requested c.read_file.new.tree)) c.as_str.ensures.value c.read_file.ensures.requested));
+      reads = reads_on (limits.bytes + 1) (g.T.Tree.read_counts c.args.tree.now)
+          (g.T.Tree.read_counts c.loop-name.tree) (g.T.Tree.read_counts c.read_file.new.tree) i.reads
+          c.read_file.ensures.reads;
       keeps = c.read_file.ensures.keeps ∙ i.keeps;
     }
 

@@ -47,7 +47,7 @@ pub use Rattle.cs_tree.specs.NameOrder.{bytes_cmp}
 pub use Rattle.cs_tree.specs.NamesAscending.{are_ascending}
 pub use Rattle.cs_tree.specs.PathSet.{Paths}
 pub use Rattle.cs_tree.specs.Reachability.{is_reachable, reachable_files, read_item}
-pub use Rattle.cs_tree.specs.ReadCounts.{ReadsWithin}
+pub use Rattle.cs_tree.specs.Reads.{ReadsWithin}
 pub use Rattle.cs_tree.specs.Sinks.{CountsOne, Grows, GrowsFlushed, SinkModel}
 pub use Rattle.cs_tree.specs.Snapshot.{Item, Snapshot, cut, file, folder, item_at}
 pub use Rattle.cs_tree.specs.TakesPrefix.{MayEnd, TakesPrefix}

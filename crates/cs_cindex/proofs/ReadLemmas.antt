@@ -2,13 +2,14 @@
 use Rattle.std.proofs.Common.{◌≡◌, ◌∙◌, ℕ, List, ap, subst, sym, Option, Some, None, Ok, arith}
 use Rattle.std.specs.Prelude.{IsSome, option_map}
 use Rattle.cs_tree.specs.ConsumesAtMost.{ConsumesAtMost}
-use Rattle.cs_tree.specs.ReadCounts.{ReadCounts, ReadsWithin, after_open}
+use Rattle.cs_tree.specs.ReadCounts.{ReadCounts, after_open}
+use Rattle.cs_tree.specs.Reads.{ReadsWithin}
 use Rattle.cs_tree.specs.Snapshot.{Snapshot}
 use Rattle.cs_tree.specs.StreamModels.{SourceModel}
 use Rattle.cs_tree.specs.TreeReaders.{HasRead, open_model}
 use Rattle.cs_tree.specs.Trees.{OpensFile}
 use Rattle.cs_tree.proofs.ReadCountLemmas.{reads_open}
-use Rattle.cs_cindex.specs.Reads.{BytesWithin}
+use Rattle.cs_tree.specs.Reads.{BytesWithin}
 
 pub bytes_none : (limit : ℕ) (a : Option ReadCounts) → BytesWithin limit a a
 bytes_none limit None = tt

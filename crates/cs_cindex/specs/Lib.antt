@@ -11,7 +11,6 @@ pub mod Refusals
 pub mod Output
 pub mod Steps
 pub mod OldIndex
-pub mod Reads
 -- Definitions that private contracts cite.
 pub mod Verdicts
 pub mod Files

@@ -7,7 +7,7 @@ ghost use Rattle.cs_trigram.specs.Text.{limits};
 ghost use Rattle.cs_history.specs.Headline.{Indexes};
 ghost use Rattle.cs_history.specs.Jobs.{HasAbsoluteFolder};
 ghost use Rattle.cs_cindex.specs.Steps.{RightAll, Steps, job_trees, state};
-ghost use Rattle.cs_cindex.specs.Reads.{BytesWithin};
+ghost use Rattle.cs_tree.specs.Reads.{BytesWithin};
 
 use crate::job::do_job;
 use cs_args::{IndexJob, Reply};

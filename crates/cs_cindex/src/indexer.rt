@@ -1,6 +1,6 @@
 // Adds the files of a tree to an index, one after the other.
 ghost use Rattle.std.specs.Prelude.{◌+◌, ◌≡◌, ◌≤◌, ◌⊎◌, ◌++◌, true, [], map, string_bytes, length, Some, IfOk, IfErr, OnOk, OnErr, option_to_list};
-ghost use Rattle.cs_tree.specs.ReadCounts.{ReadsWithin};
+ghost use Rattle.cs_tree.specs.Reads.{ReadsWithin};
 ghost use Rattle.cs_tree.specs.Clean.{longest_path};
 ghost use Rattle.cs_tree.specs.NamesAscending.{are_ascending};
 ghost use Rattle.cs_tree.specs.Walks.{RequestsWithin, AreWithinPathLimit};

@@ -11,7 +11,7 @@ ghost use Rattle.cs_history.specs.Premises.{IsShort};
 ghost use Rattle.cs_cindex.specs.Files.{IsIndexingFault};
 ghost use Rattle.cs_cindex.specs.Next.{IsIndex, IsIndexOf, IsTreeTooLarge};
 ghost use Rattle.cs_cindex.specs.Diagnostics.{PrintsLines, PrintsLinesPrefix};
-ghost use Rattle.cs_cindex.specs.Reads.{BytesWithin};
+ghost use Rattle.cs_tree.specs.Reads.{BytesWithin};
 
 use crate::indexer::Indexer;
 use crate::printing::print_walk_faults;

@@ -9,7 +9,7 @@ ghost use Rattle.cs_cindex.specs.Output.{job_tree};
 ghost use Rattle.cs_cindex.specs.Steps.{IsUnread, IsWholeStep, LeavesFlushed, outputs, state};
 ghost use Rattle.cs_trigram.specs.Text.{limits};
 ghost use Rattle.cs_history.specs.Jobs.{HasAbsoluteFolder};
-ghost use Rattle.cs_cindex.specs.Reads.{BytesWithin};
+ghost use Rattle.cs_tree.specs.Reads.{BytesWithin};
 
 use crate::listing::list_old;
 use crate::walked::walked_index;

@@ -1,6 +1,6 @@
 // Reads a file that a walk finds.
 ghost use Rattle.std.specs.Prelude.{◌+◌, ◌≡◌, IfOk};
-ghost use Rattle.cs_tree.specs.ReadCounts.{ReadsWithin};
+ghost use Rattle.cs_tree.specs.Reads.{ReadsWithin};
 ghost use Rattle.cs_tree.specs.Trees.{RequestsPath};
 ghost use Rattle.cs_trigram.specs.Text.{limits};
 ghost use Rattle.cs_cindex.specs.Verdicts.{IsVerdictIn, HasTrigramsOnce, count_read};

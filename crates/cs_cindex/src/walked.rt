@@ -18,7 +18,7 @@ ghost use Rattle.cs_cindex.specs.OldIndex.{IsFit, IsIndex, IsUnreadable, has_fai
 ghost use Rattle.cs_cindex.specs.Output.{UnreadPrints, is_failed_write, job_tree, output};
 ghost use Rattle.cs_cindex.specs.Outcomes.{AnswersFor, WalkPrintsFor};
 ghost use Rattle.cs_cindex.specs.JobPaths.{AreCleaned, starts};
-ghost use Rattle.cs_cindex.specs.Reads.{BytesWithin};
+ghost use Rattle.cs_tree.specs.Reads.{BytesWithin};
 
 use crate::cleaning::clean_all;
 use crate::indexing::index_paths;

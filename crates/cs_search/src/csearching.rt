@@ -1,7 +1,7 @@
 // Search by a trigram index (Cox): a query of the pattern selects candidates, which are searched line by line.
 ghost use Rattle.std.specs.Prelude.{◌≡◌, ◌+◌, None, OnOk, option_copied};
 ghost use Rattle.cs_tree.specs.Sinks.{CountsOne, HasFlushed};
-ghost use Rattle.cs_tree.specs.ReadCounts.{ReadsWithin};
+ghost use Rattle.cs_tree.specs.Reads.{ReadsWithin};
 ghost use Rattle.cs_search.specs.InputReport.{max_searched};
 ghost use Rattle.cs_search.specs.Refusals.{has_write_failed, SilentOnError};
 ghost use Rattle.cs_search.specs.Plans.{RefusesPlan};

@@ -1,7 +1,7 @@
 // The plan of a csearch job, compiled before the index or a file is read.
 ghost use Rattle.std.specs.Prelude.{◌≡◌, ◌+◌, ℕ, List, Option, IfOk, IfErr, OnOk};
 ghost use Rattle.cs_tree.specs.Sinks.{CountsOne, HasFlushed};
-ghost use Rattle.cs_tree.specs.ReadCounts.{ReadsWithin};
+ghost use Rattle.cs_tree.specs.Reads.{ReadsWithin};
 ghost use Rattle.cs_search.specs.InputReport.{max_searched};
 ghost use Rattle.cs_trigram.specs.QueryOf.{IsQueryOf};
 ghost use Rattle.cs_search.specs.Plans.{IsPlan, AreSelected, RefusesPlan};

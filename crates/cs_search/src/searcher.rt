@@ -4,7 +4,7 @@ ghost use Rattle.cs_args.specs.FileFaults.{fault_line_of};
 ghost use Rattle.cs_tree.specs.Failures.{count_if};
 ghost use Rattle.cs_tree.specs.Sinks.{CountsOne};
 ghost use Rattle.cs_tree.specs.ConsumesAtMost.{ConsumesAtMost};
-ghost use Rattle.cs_tree.specs.ReadCounts.{ReadsWithin};
+ghost use Rattle.cs_tree.specs.Reads.{ReadsWithin};
 ghost use Rattle.cs_tree.specs.WritesBytes.{WritesBytes};
 ghost use Rattle.cs_search.specs.InputReport.{max_searched};
 ghost use Rattle.cs_search.specs.Searcher.{input_shown, file_shown, files_shown, PrintsBy, PrintsPrefixBy, PrintsAllFaults};

@@ -2,7 +2,7 @@
 ghost use Rattle.std.specs.Prelude.{◌≡◌, ◌+◌, ◌⊎◌, ℕ, Bool, List, [], IfOk, IfErr, OnOk, OnErr, MatchResult, string_bytes, if◌then◌else◌};
 ghost use Rattle.cs_tree.specs.Sinks.{CountsOne, GrowsFlushed, HasFlushed};
 ghost use Rattle.cs_tree.specs.ConsumesAtMost.{ConsumesAtMost};
-ghost use Rattle.cs_tree.specs.ReadCounts.{ReadsWithin};
+ghost use Rattle.cs_tree.specs.Reads.{ReadsWithin};
 ghost use Rattle.cs_syntax.specs.Matching.{Tree as PatternTree};
 ghost use Rattle.cs_syntax.specs.Parsing.{ParsesAs};
 ghost use Rattle.cs_match.specs.Deciding.{Decides};

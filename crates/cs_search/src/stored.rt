@@ -1,7 +1,7 @@
 // Search by an index in a store.
 ghost use Rattle.std.specs.Prelude.{◌≡◌, ◌+◌, IfOk, IfErr, OnOk, false};
 ghost use Rattle.cs_tree.specs.Sinks.{CountsOne, HasFlushed};
-ghost use Rattle.cs_tree.specs.ReadCounts.{ReadsWithin};
+ghost use Rattle.cs_tree.specs.Reads.{ReadsWithin};
 ghost use Rattle.cs_tree.specs.FailureCount.{count_after};
 ghost use Rattle.cs_tree.specs.Transfers.{is_io_failure};
 ghost use Rattle.cs_search.specs.Refusals.{has_write_failed, SilentOnError};

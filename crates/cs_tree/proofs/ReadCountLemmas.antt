@@ -7,7 +7,8 @@ use Rattle.cs_tree.specs.ConsumesAtMost.{ConsumesAtMost}
 use Rattle.cs_tree.specs.Snapshot.{Snapshot, item_at}
 use Rattle.cs_tree.specs.TreeAnswers.{opening_of}
 use Rattle.cs_tree.specs.StreamModels.{SourceModel}
-use Rattle.cs_tree.specs.ReadCounts.{ReadCounts, after_open, ReadsWithin}
+use Rattle.cs_tree.specs.ReadCounts.{ReadCounts, after_open}
+use Rattle.cs_tree.specs.Reads.{ReadsWithin}
 use Rattle.cs_tree.specs.TreeReaders.{HasRead, open_model}
 use Rattle.cs_tree.specs.Trees.{OpensFile}
 use Rattle.cs_tree.specs.declared.fault.TreeFault.{TreeFault}

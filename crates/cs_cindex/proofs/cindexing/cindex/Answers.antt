@@ -1,7 +1,7 @@
 use Rattle.std.proofs.Common.{◌≡◌, ◌≢◌, ◌<◌, ◌+◌, length, get_or, refl, arith, ◌∙◌, get_or-set_other}
 use Rattle.std.proofs.Math.Seq.{map-set_same}
 use Rattle.cs_cindex.proofs.Common.{get_or_default, longest_path, RequestsWithin, requests_none, requests_on}
-use Rattle.cs_cindex.specs.Reads.{BytesWithin}
+use Rattle.cs_tree.specs.Reads.{BytesWithin}
 use Rattle.cs_cindex.proofs.ReadLemmas.{bytes_none, bytes_on}
 use Rattle.cs_trigram.specs.Text.{limits}
 use Rattle.cs_cindex.proofs.JobSequenceLemmas.{indexes_none, indexes_more, right_all_more, steps_more, all_none, all_more}

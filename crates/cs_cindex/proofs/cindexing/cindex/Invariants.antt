@@ -1,7 +1,7 @@
 use Rattle.std.proofs.Common.{◌≡◌, ℕ, ◌≤◌, ◌+◌, take, map, get_or}
 use Rattle.cs_cindex.proofs.Common.{Indexes, AllZip, zip, longest_path, RequestsWithin, RightAll, Steps, job_trees, state}
 use Rattle.cs_trigram.specs.Text.{limits}
-use Rattle.cs_cindex.specs.Reads.{BytesWithin}
+use Rattle.cs_tree.specs.Reads.{BytesWithin}
 use Rattle.std.specs.Prelude.{option_map, vec_items}
 use Rattle.cs_cindex.proofs.cindexing.cindex.Given as goal
 

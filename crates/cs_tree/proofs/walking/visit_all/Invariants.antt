@@ -1,7 +1,7 @@
 use Rattle.std.proofs.Common.{◌≡◌, ◌≤◌, map, take}
 use Rattle.std.specs.Prelude.{string_bytes}
 use Rattle.cs_tree.specs.Clean.{longest_path}
-use Rattle.cs_tree.specs.ReadCounts.{ReadsNothing}
+use Rattle.cs_tree.specs.Reads.{ReadsNothing}
 use Rattle.cs_tree.specs.Walks.{RequestsWithin}
 use Rattle.cs_tree.specs.WalkSteps.{GathersIn, KeepsCount, KeepsTo, AddsFewFaults, KeepsPathLimit}
 use Rattle.cs_tree.specs.Cover.{is_covered}

@@ -2,7 +2,7 @@ use Rattle.std.proofs.Common.{◌≡◌, ◌+◌, Bool, List, ℕ, take}
 use Rattle.std.specs.Prelude.{option_map, map, string_bytes}
 use Rattle.cs_match.specs.Deciding.{Decides}
 use Rattle.cs_tree.specs.Snapshot.{Snapshot}
-use Rattle.cs_tree.specs.ReadCounts.{ReadsWithin}
+use Rattle.cs_tree.specs.Reads.{ReadsWithin}
 use Rattle.cs_search.specs.InputReport.{max_searched}
 use Rattle.cs_search.specs.Searcher.{Prints, IsKept, PrintsAllFaults}
 use Rattle.cs_search.specs.Printed.{file_printed, all_printed}

@@ -7,7 +7,7 @@ use Rattle.std.proofs.lemmas.Nat.{mul-le}
 use Rattle.std.proofs.lemmas.List.Sums.{sum_by_push}
 use Rattle.std.proofs.lemmas.Bool.{false≢true, or_cases, or_left, or_right}
 use Rattle.cs_syntax.specs.Matching.{Tree, Trees, alt, rep, more, Chain, MatchesSpan}
-use Rattle.cs_syntax.specs.Weight.{weight, weights, times}
+use Rattle.cs_syntax.specs.Weight.{weight, times}
 use Rattle.cs_trigram.specs.Query.{matches_set, mentions, query_size, HasTrigrams}
 use Rattle.cs_trigram.specs.MayMatch.{MayMatch, MayMatchBranch, HasMembers, HaveMembers}
 use Rattle.cs_trigram.specs.ExactRuns.{HasWhole, HasRunsWithin, HasExactRuns}

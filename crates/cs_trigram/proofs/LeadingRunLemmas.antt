@@ -1,5 +1,5 @@
 -- Runs with few exact strings, and leading runs.
-use Rattle.std.proofs.Common.{◌≡◌, ℕ, ◌-◌, ◌<◌, ◌≤◌, ◌⊎◌, ◌&&◌, inl, inr, true, false, List, [], ◌∷◌, ◌++◌, take, drop, length, map, refl, sym, ◌∙◌, ap, subst, arith, append_assoc, length-append}
+use Rattle.std.proofs.Common.{◌≡◌, ℕ, ◌-◌, ◌<◌, ◌⊎◌, ◌&&◌, inl, inr, true, false, List, [], ◌∷◌, ◌++◌, take, drop, length, map, refl, sym, ◌∙◌, ap, subst, arith, append_assoc, length-append}
 use Rattle.cs_syntax.specs.TreeList.{append}
 use Rattle.std.proofs.Math.Bool.{and_assoc}
 use Rattle.std.proofs.Math.Seq.{take-append_seam, drop-append_seam}
@@ -12,7 +12,7 @@ use Rattle.cs_trigram.specs.MayMatch.{MayMatch, MayMatchSequence, MayMatchBranch
 use Rattle.cs_trigram.specs.ExactStrings.{is_finite, are_finite, HaveFewExactStrings}
 use Rattle.cs_trigram.specs.Analysis.{with_strings, concatenations, IsEnumeration, IsBlocked, IsLongestLeadingRun, EnumeratesTree, AreExactStrings}
 use Rattle.cs_trigram.proofs.MayMatchLemmas.{sequence_of_both}
-use Rattle.cs_trigram.proofs.MemberLemmas.{map_member, different_within, no_member, first_member, only_member}
+use Rattle.cs_trigram.proofs.MemberLemmas.{map_member, different_within, first_member, only_member}
 use Rattle.cs_trigram.proofs.EnumerationLemmas.{enumeration_same, enumeration_strings, enumeration_of_concatenations}
 
 pub finite_append : (a b : Trees) → are_finite (append a b) ≡ (are_finite a && are_finite b)

@@ -6,7 +6,7 @@ use Rattle.cs_trigram.specs.SequenceQuery.{IsAcross}
 use Rattle.cs_trigram.specs.Query.{mentions}
 use Rattle.cs_trigram.proofs.NodeListLemmas.{if_ok, if_ok_both}
 use Rattle.cs_trigram.proofs.MentionLemmas.{trigrams_within, occurs_itself}
-use Rattle.cs_trigram.proofs.SizeLemmas.{size-All, few_pairs}
+use Rattle.cs_trigram.proofs.SizeLemmas.{few_pairs}
 use Rattle.cs_trigram.proofs.CrossProductLemmas.{pair_found, pairs_across}
 use Rattle.cs_trigram.proofs.cross_product.product_query.Goals as goal
 

@@ -11,12 +11,15 @@ from pathlib import Path
 crates = Path(__file__).resolve().parent.parent / "crates"
 IMPORT = re.compile(r"^\s*(?:pub )?(?:ghost )?use Rattle\.(cs_\w+|codesearch)\.specs\.([A-Za-z_.]+?)(?:\.\{([^}]*)\}| as (\S+?))?;?$", re.M)
 
+# the clauses of csearch_stored except `selective`, which says how few files its query selects
+STORED = "searches unopened silent unread reads flushed writes keeps modelled size failed".split()
+
 # the function, its file, the clauses that count besides its requirements (none: all), and the maximum number of lines
 # of definitions
 CONTRACTS = [
     ("cindex", "cs_cindex/src/cindexing.rt", ["indexes"], 520),
     ("cgrep", "cs_search/src/searching.rt", [], 850),
-    ("csearch_stored", "cs_search/src/stored.rt", [], 1350),
+    ("csearch_stored", "cs_search/src/stored.rt", STORED, 1350),
     ("cindex_stored", "cs_cindex/src/job.rt", [], None),
     ("run", "codesearch/src/running.rt", [], None),
     ("execute", "codesearch/src/execution.rt", [], None),

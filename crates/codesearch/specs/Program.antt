@@ -1,13 +1,9 @@
 -- What the program does: the tool that its arguments call, its errors in their order, what the tool does, what becomes
 -- of the index file, and the exit status. docs/PROMISES.md, "The program".
-use Rattle.std.specs.Prelude.{◌≡◌, ℕ, Bool, true, false, ◌&&◌, not, if◌then◌else◌, List, [], ◌∷◌, ◌++◌, map, drop, find, length, slice_get, Option, Some, None, is_none, unwrap_or, option_map, option_and_then, Result, Ok, Err, IfOk, OnErr, IsSomeAnd, ◌⊎◌, codes, decimal, bytes_eq, string_bytes, nat_eq, ◌+◌}
+use Rattle.std.specs.Prelude.{◌≡◌, ℕ, Bool, true, false, ◌&&◌, not, if◌then◌else◌, List, [], ◌∷◌, ◌++◌, map, drop, find, length, slice_get, Option, Some, None, is_none, unwrap_or, option_map, option_and_then, Result, Ok, Err, IsSomeAnd, ◌⊎◌, codes, decimal, bytes_eq, string_bytes, nat_eq}
 use Rattle.std.specs.Option.{option_or}
-use Rattle.cs_syntax.specs.Matching.{Tree}
-use Rattle.cs_syntax.specs.Parsing.{ParsesAs}
-use Rattle.cs_match.specs.Deciding.{Decides}
 use Rattle.cs_tree.specs.declared.fault.IoFault.{IoFault}
 use Rattle.cs_tree.specs.Cover.{is_absolute}
-use Rattle.cs_tree.specs.ConsumesAtMost.{ConsumesAtMost}
 use Rattle.cs_tree.specs.Failures.{count_if}
 use Rattle.cs_tree.specs.Sinks.{SinkModel, CountsOne}
 use Rattle.cs_tree.specs.Snapshot.{Snapshot}
@@ -37,12 +33,11 @@ use Rattle.cs_args.specs.declared.jobs.Tool.TheVariants.{Cindex, Csearch, Cgrep}
 use Rattle.cs_history.specs.History.{History, index_of}
 use Rattle.cs_history.specs.Jobs.{after_done}
 use Rattle.cs_history.specs.Premises.{modelled_snapshot, Premises}
-use Rattle.cs_search.specs.Cgrep.{cgrep_printed}
-use Rattle.cs_search.specs.CgrepFaults.{PatternFirst, PrintsFaultsOf}
-use Rattle.cs_search.specs.InputReport.{max_searched}
-use Rattle.cs_search.specs.Printed.{PrintsStatus, PrintsNothing, PrintsSome}
-use Rattle.cs_search.specs.Refusals.{IsAccepted, has_write_failed}
-use Rattle.cs_search.specs.Searched.{SearchOutputs, IsSearch}
+use Rattle.cs_search.specs.Cgrep.{IsGrep}
+use Rattle.cs_search.specs.Printed.{SearchOutputs, PrintsNothing}
+use Rattle.cs_search.specs.QueryOf.{IsQueryOf}
+use Rattle.cs_search.specs.Refusals.{has_write_failed}
+use Rattle.cs_search.specs.Searched.{IsSearch}
 use Rattle.cs_search.specs.declared.status.Status.{Status}
 use Rattle.cs_search.specs.declared.status.Status.TheVariants.{Matched, NoMatch}
 use Rattle.cs_cindex.specs.Output.{JobTree}
@@ -261,11 +256,20 @@ module _ {S T R O E : Type 0} (snapshot : T → Option Snapshot) (tree_failed : 
 abbrev pub KeepsInput : Surroundings → Surroundings → Type 0
 KeepsInput old new = (new.input ≡ old.input) × (new.input_failed ≡ old.input_failed)
 
+-- the models of the outputs
+abbrev pub models_of : Surroundings → Surroundings → SearchOutputs
+models_of old new = record {
+  out = old.outputs.out.model;
+  out_then = new.outputs.out.model;
+  err = old.outputs.err.model;
+  err_then = new.outputs.err.model;
+}
+
 -- nothing is printed, no call of the tree fails, and standard input is not read
 pub record IsUntouched (old new : Surroundings) : Type 0 where
   pub tree : new.tree_failed ≡ old.tree_failed
   pub input : KeepsInput old new
-  pub printed : PrintsNothing old.outputs.out.model new.outputs.out.model old.outputs.err.model new.outputs.err.model
+  pub printed : PrintsNothing (models_of old new)
   pub counted : CountsOne false old.outputs.out.failed new.outputs.out.failed old.outputs.err.failed new.outputs.err.failed
 
 -- a failed write is counted, if the answer is one
@@ -281,27 +285,6 @@ tree_of old new = record { snapshot = old.tree; failed = old.tree_failed; failed
 abbrev pub state_of : Option (List ℕ) → Surroundings → State
 state_of index around = record { index = index; outputs = around.outputs }
 
--- the models of the outputs
-abbrev pub search_outputs_of : Surroundings → SearchOutputs
-search_outputs_of around = record { out = around.outputs.out.model; err = around.outputs.err.model }
-
--- What cgrep promises.
-pub record IsGrep (job : GrepJob) (old new : Surroundings) (answer : Result Status ToolFault) : Type 0 where
-  pub prints : IfOk answer (λ status. (pattern : Tree) (has_match : List ℕ → Bool) →
-      ParsesAs (string_bytes job.pattern) job.fold pattern → Decides has_match pattern →
-      PrintsStatus (cgrep_printed max_searched job has_match old.tree old.input)
-      old.outputs.out.model new.outputs.out.model old.outputs.err.model new.outputs.err.model status)
-  pub prefix : OnErr answer
-      (PrintsNothing old.outputs.out.model new.outputs.out.model old.outputs.err.model new.outputs.err.model
-      ⊎ (IsAccepted (string_bytes job.pattern) job.fold × ((pattern : Tree) (has_match : List ℕ → Bool) →
-      ParsesAs (string_bytes job.pattern) job.fold pattern → Decides has_match pattern →
-      PrintsSome (cgrep_printed max_searched job has_match old.tree old.input)
-      old.outputs.out.model new.outputs.out.model old.outputs.err.model new.outputs.err.model)))
-  pub pattern : PatternFirst (string_bytes job.pattern) job.fold answer
-  pub faults : PrintsFaultsOf job old.tree_failed new.tree_failed old.input_failed new.input_failed
-      (λ lines. EndsAfter lines old.outputs.err.model new.outputs.err.model answer)
-  pub loses : ConsumesAtMost (max_searched + 1) old.input new.input
-
 -- A job of cindex is done over this index, and leaves that of the update.
 abbrev pub DoesIndexing : IndexJob → Option (List ℕ) → Surroundings → Surroundings → Outcome → Type 0
 DoesIndexing job index old new outcome =
@@ -313,13 +296,13 @@ abbrev pub DoesSearch : SearchJob → Option (List ℕ) → Surroundings → Sur
 DoesSearch job index old new outcome =
     (answer : Result Status ToolFault) × EndsSearch Csearch answer outcome × KeepsInput old new
     × CountsWrite answer old.outputs new.outputs
-    × IsSearch job index old.tree old.tree_failed new.tree_failed (search_outputs_of old) (search_outputs_of new) answer
+    × IsSearch IsQueryOf job index old.tree old.tree_failed new.tree_failed (models_of old new) answer
 
 -- A job of cgrep is done.
 abbrev pub DoesGrep : GrepJob → Surroundings → Surroundings → Outcome → Type 0
 DoesGrep job old new outcome =
     (answer : Result Status ToolFault) × EndsSearch Cgrep answer outcome × CountsWrite answer old.outputs new.outputs
-    × IsGrep job old new answer
+    × IsGrep job old.tree old.tree_failed new.tree_failed old.input new.input old.input_failed new.input_failed (models_of old new) answer
 
 -- The tool does its job over this index as it promises, and the outcome follows from its answer.
 abbrev pub DoesJob : Job → Option (List ℕ) → Surroundings → Surroundings → Outcome → Type 0

@@ -3,7 +3,7 @@ use Rattle.std.specs.Prelude.{◌≡◌, ℕ, ◌/◌, ◌%◌, nat_eq, ℤ, Lis
 use Rattle.std.specs.Str.{IsUtf8}
 use Rattle.cs_syntax.specs.Matching.{Tree}
 use Rattle.cs_args.specs.declared.jobs.Style.{Style}
-use Rattle.cs_search.specs.InputReport.{text_report}
+use Rattle.cs_search.specs.GrepReports.{text_report}
 use Rattle.codesearch_c.specs.Codes.{memory, not_utf8}
 use Rattle.codesearch_c.specs.Copies.{IsCopy}
 use Rattle.codesearch_c.specs.MatchingLines.{ForEachTest}

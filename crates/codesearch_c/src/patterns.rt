@@ -3,7 +3,7 @@ ghost use Rattle.std.specs.Prelude.{◌≡◌, ◌↔◌, None, IfOk, IfSome, On
 ghost use Rattle.cs_syntax.specs.Matching.{HasMatch};
 ghost use Rattle.cs_match.specs.Cached.{IsCacheOf};
 ghost use Rattle.cs_tree.specs.MemStreams.{sink_model};
-ghost use Rattle.cs_search.specs.InputReport.{text_report};
+ghost use Rattle.cs_search.specs.GrepReports.{text_report};
 ghost use Rattle.codesearch_c.specs.MatchingLines.{ForEachTest, IsFirstLine, IsListing};
 ghost use Rattle.codesearch_c.specs.Patterns.{IsCountCode};
 

@@ -1,5 +1,5 @@
 -- The clauses of cgrep, from those of the functions that it calls.
-use Rattle.std.proofs.Common.{◌≡◌, ℕ, Bool, true, false, cond, List, [], ◌∷◌, refl, sym, ap, subst, ◌∙◌, append-nil, Option, Some, None, Result, Ok, Err, ◌↔◌}
+use Rattle.std.proofs.Common.{◌≡◌, ℕ, Bool, true, false, cond, List, [], ◌∷◌, refl, sym, ap, subst, ◌∙◌, append-nil, Option, Some, None, Result, Ok, Err, ◌↔◌, ◌+◌, inl, inr, arith}
 use Rattle.std.specs.Prelude.{option_map, map, string_bytes}
 use Rattle.cs_syntax.specs.Matching.{Tree, HasMatch}
 use Rattle.cs_syntax.specs.Parsing.{ParsesAs}
@@ -8,26 +8,29 @@ use Rattle.cs_syntax.specs.declared.fault.PatternFault.{PatternFault}
 use Rattle.cs_syntax.specs.declared.fault.PatternFault.TheVariants as pattern
 use Rattle.cs_syntax.specs.declared.fault.PatternError.{PatternError}
 use Rattle.cs_match.specs.Deciding.{Decides}
-use Rattle.cs_tree.specs.TakesPrefix.{EndsAfter}
+use Rattle.cs_tree.specs.TakesPrefix.{EndsAfter, TakesPrefix}
+use Rattle.cs_tree.specs.ConsumesAtMost.{ConsumesAtMost}
 use Rattle.cs_tree.specs.StreamModels.{SourceModel}
 use Rattle.cs_tree.specs.Sinks.{SinkModel, GrowsFlushed}
 use Rattle.cs_tree.specs.Snapshot.{Snapshot}
 use Rattle.cs_tree.proofs.GrowsLemmas.{Grows-same, GrowsFlushed-chain}
+use Rattle.cs_tree.proofs.ConsumesLemmas.{Consumes_few}
+use Rattle.cs_search.proofs.InputWorkLemmas.{Consumes-none}
 use Rattle.cs_args.specs.declared.jobs.Tool.{Tool}
 use Rattle.cs_args.specs.declared.jobs.Tool.TheVariants.{Cgrep}
 use Rattle.cs_args.specs.declared.jobs.GrepJob.{GrepJob}
 use Rattle.cs_search.specs.declared.status.Status.{Status}
 use Rattle.cs_search.specs.declared.status.Status.TheVariants.{Matched, NoMatch}
-use Rattle.cs_search.specs.Printed.{Printed, PrintsStatus, input_printed, file_printed, all_printed, PrintsFaults, searched_by_cgrep}
+use Rattle.cs_search.specs.Printed.{Printed, PrintsAnswer, input_printed, file_printed, all_printed, PrintsFaults, SearchOutputs, searched_by_cgrep}
 use Rattle.cs_search.specs.Searcher.{Prints}
-use Rattle.cs_search.specs.Cgrep.{cgrep_printed, standard_name}
-use Rattle.cs_search.specs.CgrepFaults.{PatternFirst, PrintsFaultsOf}
+use Rattle.cs_search.specs.InputReport.{max_searched}
+use Rattle.cs_search.specs.Cgrep.{cgrep_printed, standard_name, PatternFirst, PrintsFaultsOf, IsGrep}
 use Rattle.cs_search.specs.Programs.{IsProgramOf, RefusesPattern}
-use Rattle.cs_search.specs.Refusals.{IsAccepted, SilentOnError}
+use Rattle.cs_search.specs.Refusals.{IsAccepted, DecidesText, SilentOnError}
 use Rattle.cs_search.specs.GrepFaults.{IsSearchFault}
 use Rattle.cs_args.specs.declared.fault.ToolFault.{ToolFault}
 use Rattle.cs_args.specs.declared.fault.ToolFault.TheVariants.{Pattern, FilePattern, NoIndex, BadIndex, Write, Memory}
-use Rattle.cs_search.proofs.PrintedInputLemmas.{PrintsFaults-no}
+use Rattle.cs_search.proofs.PrintedInputLemmas.{PrintsFaults-no, PrintsAnswer-nothing, outputs_of}
 use Rattle.cs_args.specs.Faults.{pattern_fault, pattern_fault_at}
 
 module _ (limit : ℕ) (job : GrepJob) (has_match : List ℕ → Bool) (snapshot : Option Snapshot) (input : Option SourceModel) where
@@ -68,11 +71,11 @@ abbrev status_of : Bool → Status
 status_of matched = cond matched Matched NoMatch
 
 -- both outputs are flushed
-pub PrintsStatus-flushed : (printed : Option Printed) (out now later err err-now err-later : Option SinkModel)
+pub PrintsAnswer-flushed : (printed : Option Printed) (out now later err err-now err-later : Option SinkModel)
     (matched : Bool) (status : Status) → Prints printed out now err err-now matched → GrowsFlushed now later [] →
-    GrowsFlushed err-now err-later [] → status ≡ status_of matched → PrintsStatus printed out later err err-later status
-PrintsStatus-flushed None out now later err err-now err-later matched status p flushed flushed-err is = tt
-PrintsStatus-flushed (Some printed) out now later err err-now err-later matched status p flushed flushed-err is = (
+    GrowsFlushed err-now err-later [] → status ≡ status_of matched → PrintsAnswer printed (outputs_of out later err err-later) (Ok status)
+PrintsAnswer-flushed None out now later err err-now err-later matched status p flushed flushed-err is = tt
+PrintsAnswer-flushed (Some printed) out now later err err-now err-later matched status p flushed flushed-err is = (
   subst (GrowsFlushed out later) (append-nil printed.output) (GrowsFlushed-chain out now later printed.output [] p.0 flushed),
   subst (GrowsFlushed err err-later) (append-nil printed.errors)
       (GrowsFlushed-chain err err-now err-later printed.errors [] p.1 flushed-err),
@@ -116,6 +119,51 @@ PrintsFaultsOf-nothing r fault job tree input err is = by_standard job.standard 
     by_standard false e = PrintsFaultsOf-files job tree tree input input (λ lines. EndsAfter lines err err r) e refl
         (PrintsFaults-no Cgrep r fault (map string_bytes job.files.items) tree tree err err is refl (Grows-same err))
 
+-- ---- the promise of cgrep
+
+-- an error before anything is searched
+pub grep_unsearched : (job : GrepJob) (tree : Option Snapshot) (failed : ℕ) (input : Option SourceModel) (input_failed : ℕ)
+    (out err : Option SinkModel) (fault : ToolFault) →
+    PatternFirst {A = Status} (string_bytes job.pattern) job.fold (Err fault) →
+    IsGrep job tree failed failed input input input_failed input_failed (outputs_of out out err err) (Err fault)
+grep_unsearched job tree failed input input_failed out err fault first = record {
+  prints = λ has_match tests. PrintsAnswer-nothing (cgrep_printed max_searched job has_match tree input)
+      (outputs_of out out err err) fault (Grows-same out, Grows-same err);
+  begins = inl (Grows-same out, Grows-same err);
+  pattern = first;
+  faults = PrintsFaultsOf-nothing {A = Status} (Err fault) fault job failed input_failed err refl;
+  loses = Consumes_few input input [] (max_searched + 1) (Consumes-none input) (omega arith);
+}
+
+module _ (job : GrepJob) (tree : Option Snapshot) (failed failed' : ℕ) (input input' : Option SourceModel)
+    (input_failed input_failed' : ℕ) (outputs : SearchOutputs) (accepted : IsAccepted (string_bytes job.pattern) job.fold)
+    (loses : ConsumesAtMost (max_searched + 1) input input') where
+  -- an error while inputs are searched, or in a flush
+  pub grep_failed : (fault : ToolFault) → PatternFirst {A = Status} (string_bytes job.pattern) job.fold (Err fault) →
+      ((has_match : List ℕ → Bool) → DecidesText (string_bytes job.pattern) job.fold has_match →
+      PrintsAnswer (cgrep_printed max_searched job has_match tree input) outputs (Err fault)) →
+      PrintsFaultsOf job failed failed' input_failed input_failed' (λ lines. TakesPrefix lines outputs.err outputs.err_then) →
+      IsGrep job tree failed failed' input input' input_failed input_failed' outputs (Err fault)
+  grep_failed fault first prints faults = record {
+    prints = prints;
+    begins = inr accepted;
+    pattern = first;
+    faults = faults;
+    loses = loses;
+  }
+
+  pub grep_done : (status : Status) → ((has_match : List ℕ → Bool) → DecidesText (string_bytes job.pattern) job.fold has_match →
+      PrintsAnswer (cgrep_printed max_searched job has_match tree input) outputs (Ok status)) →
+      PrintsFaultsOf job failed failed' input_failed input_failed' (λ lines. GrowsFlushed outputs.err outputs.err_then lines) →
+      IsGrep job tree failed failed' input input' input_failed input_failed' outputs (Ok status)
+  grep_done status prints faults = record {
+    prints = prints;
+    begins = inr accepted;
+    pattern = accepted;
+    faults = faults;
+    loses = loses;
+  }
+
 -- a text parses as one tree
 pub read_once : (text : List ℕ) (fold : Bool) (t u : Tree) → ParsesAs text fold t → ParsesAs text fold u → t ≡ u
 read_once text fold t u r s = cc
@@ -129,7 +177,7 @@ Decides-program has_match read compiled wanted same is decides =
     (λ h. (same line).1 (d.0 h), λ f. d.1 ((same line).0 f))
 
 -- the same for the program of a text
-pub decides_program : (text : List ℕ) (fold : Bool) (program pattern : Tree) (has_match : List ℕ → Bool) →
-    IsProgramOf text fold program → ParsesAs text fold pattern → Decides has_match pattern → Decides has_match program
-decides_program text fold program pattern has_match is reads decides = Decides-program has_match is.0 program pattern
-    is.3 (read_once text fold is.0 pattern is.1 reads) decides
+pub decides_program : (text : List ℕ) (fold : Bool) (program : Tree) (has_match : List ℕ → Bool) →
+    IsProgramOf text fold program → DecidesText text fold has_match → Decides has_match program
+decides_program text fold program has_match is tests = Decides-program has_match is.0 program tests.0
+    is.3 (read_once text fold is.0 tests.0 is.1 tests.1) tests.2

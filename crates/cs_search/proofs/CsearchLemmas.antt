@@ -39,7 +39,7 @@ use Rattle.cs_search.specs.GrepFaults.{IsSearchFault}
 use Rattle.cs_search.specs.Searcher.{PrintsAllFaults}
 use Rattle.cs_history.specs.MatchingFiles.{names_matching}
 use Rattle.cs_trigram.specs.QueryOf.{IsQueryOf}
-use Rattle.cs_search.specs.Csearch.{IndexQuery, file_text, Keeps, csearch_printed, AreAccepted, OpensWhole, RefusedInOrder}
+use Rattle.cs_search.specs.Csearch.{file_text, OpensWith, Keeps, csearch_printed, AreAccepted, OpensWhole, IsReady, RefusedInOrder}
 use Rattle.cs_search.specs.Plans.{IsPlan, RefusesPlan}
 use Rattle.cs_search.specs.declared.plan.Plan.{Plan}
 use Rattle.cs_search.specs.declared.status.Status.{Status}
@@ -145,23 +145,23 @@ module _ (job : SearchJob) (index : Option (List ℕ)) where
   bad_index bytes IndexMemory accepted is = (All, tt, refl)
   bad_index bytes fault accepted is = (All, (accepted, inl is), refl)
 
-  bad_list : (bytes : Option (List ℕ)) (query : Query) → AreAccepted job → (index_query : IndexQuery job bytes query) →
-      is_answerable index_query.parts query ≡ false → RefusesPlan job bytes (BadIndex BadList)
-  bad_list bytes query accepted index_query damaged = (query, (accepted, inr (refl, (index_query, damaged))), refl)
+  bad_list : (query : Query) → AreAccepted job → OpensWhole IsQueryOf job index query false → RefusesPlan job index (BadIndex BadList)
+  bad_list query accepted damaged = (query, (accepted, inr (refl, damaged)), refl)
 
-  pub lists_fourth : (query : Query) (fault : IndexFault) → AreAccepted job → (index_query : IndexQuery job index query)
-      → IsListFault (is_answerable index_query.parts query) fault → RefusesPlan job index (index_fault fault)
-  lists_fourth query fault accepted index_query (inl bad) =
+  pub lists_fourth : (query : Query) (fault : IndexFault) → AreAccepted job → (parts : Parts) → OpensWith index parts →
+      ((pattern : Tree) → ParsesAs (string_bytes job.pattern) job.fold pattern → IsQueryOf job.brute pattern query) →
+      IsListFault (is_answerable parts query) fault → RefusesPlan job index (index_fault fault)
+  lists_fourth query fault accepted parts opens right (inl bad) =
       subst (λ (f : IndexFault). RefusesPlan job index (index_fault f)) (sym bad.0)
-      (bad_list index query accepted index_query bad.1)
-  lists_fourth query fault accepted index_query (inr memory) =
+      (bad_list query accepted (record { parts = parts; opens = opens; is_right = right; lists = bad.1 }))
+  lists_fourth query fault accepted parts opens right (inr memory) =
       subst (λ (f : IndexFault). RefusesPlan job index (index_fault f)) (sym memory) (query, tt, refl)
 
-  pub search_last : (query : Query) (fault : ToolFault) → AreAccepted job → OpensWhole job index query true →
-      IsSearchFault {A = Status} (Err fault) → RefusedInOrder {A = Status} job index query (Err fault)
-  search_last query Write accepted ready is = (accepted, ready)
-  search_last query Memory accepted ready is = tt
-  search_last query fault accepted ready is = absurd is
+  pub search_last : (query : Query) (fault : ToolFault) → IsReady IsQueryOf job index query →
+      IsSearchFault {A = Status} (Err fault) → RefusedInOrder IsQueryOf job index query {A = Status} (Err fault)
+  search_last query Write ready is = ready
+  search_last query Memory ready is = tt
+  search_last query fault ready is = absurd is
 
 -- the answer of a search by an index that was not opened
 pub unopened_late : (A : Type 0) (job : SearchJob) (fault : IndexFault) → AreAccepted job →
@@ -187,7 +187,7 @@ pub names_decided : (text : Option (List ℕ)) (program : Option Tree) (keeps : 
     IsFileProgram text program → Keeps text keeps → DecidesNames keeps program
 names_decided None None keeps is names = names
 names_decided (Some text) (Some program) keeps is names =
-    decides_program text false program names.0 keeps is names.1 names.2
+    decides_program text false program keeps is names
 names_decided text program keeps is names = absurd is
 
 pub chosen : (limit : ℕ) (style : Style) (has_match keeps : List ℕ → Bool) (parts : Parts) (query : Query)

@@ -13,7 +13,6 @@ use Rattle.cs_syntax.specs.Weight.{weight, max_weight}
 use Rattle.cs_syntax.specs.declared.fault.PatternFault.{PatternFault}
 use Rattle.cs_syntax.specs.declared.fault.PatternFault.TheVariants as pattern
 use Rattle.cs_syntax.specs.declared.fault.PatternError.{PatternError}
-use Rattle.cs_match.specs.Deciding.{Decides}
 use Rattle.cs_tree.specs.StreamModels.{SourceModel}
 use Rattle.cs_tree.specs.Snapshot.{Snapshot}
 use Rattle.cs_tree.specs.PathSet.{Paths}
@@ -49,9 +48,9 @@ use Rattle.cs_search.specs.InputReport.{max_searched}
 use Rattle.cs_search.specs.declared.status.Status.{Status}
 use Rattle.cs_search.specs.Cgrep.{cgrep_printed}
 use Rattle.cs_search.specs.Printed.{searched_by_cgrep, Printed}
-use Rattle.cs_search.specs.Refusals.{IsAccepted, IsPatternRefused}
+use Rattle.cs_search.specs.Refusals.{IsAccepted, IsPatternRefused, DecidesText}
 use Rattle.cs_search.specs.GrepFaults.{IsSearchFault}
-use Rattle.cs_search.specs.Csearch.{DecidesSearch, file_text, AreAccepted, IsBad, RefusedInOrder}
+use Rattle.cs_search.specs.Csearch.{DecidesSearch, file_text, AreAccepted, IsSound, IsBad, RefusedInOrder}
 use Rattle.cs_search.specs.SearchHeadline.{SearchPremises, SearchesLikeGrep}
 use Rattle.cs_search.specs.SameSearch.{IsSameSearch}
 use Rattle.cs_search.proofs.SkippedFileLemmas.{search_silent}
@@ -113,18 +112,18 @@ module _ (history : History) (bytes : List ℕ) (left : HasIndex history bytes) 
   pub opens_whole : (parts : Parts) × (opening bytes ≡ Ok parts) × (are_whole parts ≡ true)
   opens_whole = let opens = history_opens history bytes left.is_history left.is_index left.short in (opens.parts, opens.opened, opens.whole)
 
-  never_bad : (job : SearchJob) (query : Query) (fault : IndexFault) → IsBad job (Some bytes) query fault → ⊥
+  never_bad : (job : SearchJob) (query : Query) (fault : IndexFault) → IsBad IsSound job (Some bytes) query fault → ⊥
   never_bad job query fault (inl closed) =
       let decoded = decodes_left history bytes left.is_history left.is_index left.short in
       decodable_does_not_fail bytes decoded.0 fault decoded.1 closed
   never_bad job query fault (inr damaged) =
-      let index_query = damaged.1 in
-      let same : opens_whole.0 ≡ index_query.0.parts = ok_once opens_whole.0 index_query.0.parts
-      (sym opens_whole.1 ∙ opens_as_decoded bytes index_query.0.parts index_query.0.opens) in
-      true≢false (sym (whole_answers index_query.0.parts query (ap are_whole (sym same) ∙ opens_whole.2)) ∙ index_query.1)
+      let opened = damaged.1 in
+      let same : opens_whole.0 ≡ opened.parts = ok_once opens_whole.0 opened.parts
+      (sym opens_whole.1 ∙ opens_as_decoded bytes opened.parts opened.opens) in
+      true≢false (sym (whole_answers opened.parts query (ap are_whole (sym same) ∙ opens_whole.2)) ∙ opened.lists)
 
   pub never_refused : (job : SearchJob) (query : Query) (answer : Result Status ToolFault) → AreAccepted job →
-      RefusedInOrder job (Some bytes) query answer → IsSearchFault answer
+      RefusedInOrder IsSound job (Some bytes) query answer → IsSearchFault answer
   never_refused job query (Ok status) accepted refused = tt
   never_refused job query (Err (Pattern error)) accepted refused = accepted_apart (string_bytes job.pattern) job.fold
       error accepted.0 refused.0 refused.1
@@ -176,14 +175,10 @@ unchanged_has_no_error style has_match keeps tree index earlier premises =
 
 module _ (job : SearchJob) (names : List (List ℕ)) (like : GrepJob) (same : IsSameSearch job names like) where
   pub decided_alike : (has_match keeps : List ℕ → Bool) → DecidesSearch job has_match keeps →
-      (pattern : Tree) × ParsesAs (string_bytes like.pattern) like.fold pattern × Decides has_match pattern
-  decided_alike has_match keeps decides_search = (
-    decides_search.pattern,
-    subst (λ text. ParsesAs (string_bytes text) like.fold decides_search.pattern) (sym same.pattern)
-        (subst (λ fold. ParsesAs (string_bytes job.pattern) fold decides_search.pattern) (sym same.fold)
-        decides_search.reads),
-    decides_search.decides,
-  )
+      DecidesText (string_bytes like.pattern) like.fold has_match
+  decided_alike has_match keeps tests =
+      subst (λ text. DecidesText (string_bytes text) like.fold has_match) (sym same.pattern)
+      (subst (λ fold. DecidesText (string_bytes job.pattern) fold has_match) (sym same.fold) tests.0)
 
   pub printed_by_cgrep : (has_match : List ℕ → Bool) (tree : Snapshot) (input : Option SourceModel) →
       cgrep_printed max_searched like has_match (Some tree) input

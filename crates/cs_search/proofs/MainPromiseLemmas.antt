@@ -7,6 +7,7 @@ use Rattle.std.specs.declared.alloc.Global.{Global}
 use Rattle.std.specs.FinMap as map'
 use Rattle.cs_tree.specs.PathSet as set
 use Rattle.cs_syntax.specs.Matching.{Tree}
+use Rattle.cs_syntax.specs.Parsing.{ParsesAs}
 use Rattle.cs_match.specs.Decidability.{MatchingIsDecidable}
 use Rattle.cs_match.specs.Deciding.{Decides}
 use Rattle.cs_tree.specs.Snapshot.{Snapshot}
@@ -41,55 +42,63 @@ use Rattle.cs_index.specs.declared.fault.IndexFault.{IndexFault}
 use Rattle.cs_args.specs.Faults.{index_fault}
 use Rattle.cs_search.specs.Plans.{IsPlan, AreSelected, RefusesPlan}
 use Rattle.cs_search.specs.declared.plan.Plan.{Plan}
-use Rattle.cs_search.specs.Csearch.{file_text, OpensWith, IndexQuery, DecidesSearch, csearch_printed, AreAccepted, OpensWhole, PrintsCandidates}
+use Rattle.cs_search.specs.Csearch.{file_text, OpensWith, IsSound, DecidesSearch, csearch_printed, OpensWhole, IsReady}
 use Rattle.cs_search.proofs.SkippedFileLemmas.{search_alike}
 use Rattle.cs_search.proofs.CgrepLemmas.{decides_program}
 use Rattle.cs_search.proofs.SelectionLemmas.{decided}
 use Rattle.cs_search.proofs.CsearchLemmas.{names_of_files, names_decided, accepted_plan, lists_fourth, chosen, PrintsAllFaults-chosen}
 
 -- `-brute` loses no line either
-loses : (brute : Bool) (pattern : Tree) (query : Query) → IsQueryOf brute pattern query → LosesNoLine query pattern
+loses : (brute : Bool) (pattern : Tree) (query : Query) → IsSound brute pattern query → LosesNoLine query pattern
 loses true pattern query all = λ line set found has. ap (λ (q : Query). matches_set q set) (all ∙ sym rolls-All)
     ∙ fold-roll-Query Bool (matches_set_step set) Query-F.All
-loses false pattern query right = right.0
+loses false pattern query right = right
 
 -- bytes open as one index
 pub opens_once : (index : Option (List ℕ)) (a b : Parts) → OpensWith index a → OpensWith index b → a ≡ b
 opens_once None a b x y = absurd x
 opens_once (Some bytes) a b x y = decoding_is_unique bytes a b x y
 
-module _ (job : SearchJob) (index : Option (List ℕ)) (has_match keeps : List ℕ → Bool) (query : Query)
-    (index_query : IndexQuery job index query) (tests : DecidesSearch job has_match keeps) (tree : Snapshot) where
+-- what is printed for the candidates
+abbrev pub PrintsCandidates : SearchJob → Option (List ℕ) → Query → Option Snapshot → (Option Printed → Type 0) → Type 0
+PrintsCandidates job index query tree Prints =
+    (parts : Parts) (has_match keeps : List ℕ → Bool) → OpensWith index parts → DecidesSearch job has_match keeps →
+    Prints (csearch_printed max_searched job.style has_match keeps parts query tree)
+
+-- the query is sound for the job's pattern
+abbrev IsSoundFor : SearchJob → Query → Type 0
+IsSoundFor job query = (pattern : Tree) → ParsesAs (string_bytes job.pattern) job.fold pattern → IsSound job.brute pattern query
+
+module _ (job : SearchJob) (has_match keeps : List ℕ → Bool) (query : Query) (sound : IsSoundFor job query)
+    (tests : DecidesSearch job has_match keeps) (tree : Snapshot) (parts : Parts) where
   -- the search by the index and the search by cgrep print the same
-  alike : ReadAsIndexed tree (files_read index_query.parts) →
-      all_printed (file_printed max_searched Csearch job.style has_match tree)
-      (filter keeps (names_matching query (files_read index_query.parts))) ≡ searched_by_cgrep max_searched job.style
-      has_match tree (filter keeps index_query.parts.names)
+  alike : ReadAsIndexed tree (files_read parts) →
+      all_printed (file_printed max_searched Csearch job.style has_match tree) (filter keeps (names_matching query (files_read parts)))
+      ≡ searched_by_cgrep max_searched job.style has_match tree (filter keeps parts.names)
   unfolding names_matching searched_by_cgrep
   alike agrees =
-      search_alike job.style has_match keeps tree query tests.pattern
-      (loses job.brute tests.pattern query (index_query.is_right tests.pattern tests.reads)) tests.decides Csearch Cgrep
-      (files_read index_query.parts) agrees
+      search_alike job.style has_match keeps tree query tests.0.0
+      (loses job.brute tests.0.0 query (sound tests.0.0 tests.0.1)) tests.0.2 Csearch Cgrep
+      (files_read parts) agrees
       ∙ ap (λ (names : List (List ℕ)). all_printed (file_printed max_searched Cgrep job.style has_match tree)
-      (filter keeps names)) (names_of_files 0 index_query.parts.names (lists_in index_query.parts))
+      (filter keeps names)) (names_of_files 0 parts.names (lists_in parts))
 
 -- a required list is damaged
 pub lists_refused : (job : SearchJob) (index : Option (List ℕ)) (plan : Plan) → IsPlan job plan → (parts : Parts) →
     OpensWith index parts → (fault : IndexFault) → IsListFault (is_answerable parts plan.query) fault →
     RefusesPlan job index (index_fault fault)
 lists_refused job index plan is parts opens fault refused =
-    lists_fourth job index plan.query fault (accepted_plan job plan is)
-    (record { parts = parts; opens = opens; is_right = is.query }) refused
+    lists_fourth job index plan.query fault (accepted_plan job plan is) parts opens is.query refused
 
 -- a plan, and the names that it selects
 module _ (job : SearchJob) (index : Option (List ℕ)) (plan : Plan) (is : IsPlan job plan) (texts : List (String Global))
     (selected : AreSelected plan index texts) where
-  abbrev index_query : IndexQuery job index plan.query
-  index_query = record { parts = selected.parts; opens = selected.opens; is_right = is.query }
+  abbrev opens_whole : OpensWhole IsQueryOf job index plan.query true
+  opens_whole = record { parts = selected.parts; opens = selected.opens; is_right = is.query; lists = selected.whole }
 
   -- both patterns are accepted, the index opens, and the required lists are whole
-  pub ready : AreAccepted job × OpensWhole job index plan.query true
-  ready = (accepted_plan job plan is, (index_query, selected.whole))
+  pub ready : IsReady IsQueryOf job index plan.query
+  ready = (accepted_plan job plan is, opens_whole)
 
   -- what is printed for them
   pub searched : (tree : Option Snapshot) (Prints : Option Printed → Type 0) →
@@ -97,16 +106,13 @@ module _ (job : SearchJob) (index : Option (List ℕ)) (plan : Plan) (is : IsPla
       Prints (option_map (λ (s : Snapshot). all_printed (file_printed max_searched Csearch job.style has_match s)
       (map string_bytes texts)) tree)) →
       PrintsCandidates job index plan.query tree Prints
-  searched tree Prints prints = (
-    index_query,
-    selected.whole,
-    λ has_match keeps decides_search.
-        let decides = decides_program (string_bytes job.pattern) job.fold plan.program decides_search.pattern has_match
-        is.program decides_search.reads decides_search.decides in
-        let kept = names_decided (file_text job) plan.file keeps is.file decides_search.names in
-        subst Prints (chosen max_searched job.style has_match keeps selected.parts plan.query tree
-        (map string_bytes texts) (selected.kept keeps kept)) (prints has_match decides),
-  )
+  searched tree Prints prints = λ parts has_match keeps opens tests.
+      let decides = decides_program (string_bytes job.pattern) job.fold plan.program has_match is.program tests.0 in
+      let kept = names_decided (file_text job) plan.file keeps is.file tests.1 in
+      subst (λ (p : Parts). Prints (csearch_printed max_searched job.style has_match keeps p plan.query tree))
+      (opens_once index selected.parts parts selected.opens opens)
+      (subst Prints (chosen max_searched job.style has_match keeps selected.parts plan.query tree
+      (map string_bytes texts) (selected.kept keeps kept)) (prints has_match decides))
 
   -- faults of the selected names are faults of indexed names
   pub faults_chosen : MatchingIsDecidable → {A E : Type 0} (r : Result A E) (opened : Parts) (failed failed' : ℕ)
@@ -123,24 +129,19 @@ module _ (job : SearchJob) (index : Option (List ℕ)) (plan : Plan) (is : IsPla
 module _ (job : SearchJob) (index : Option (List ℕ)) (query : Query) (tree : Option Snapshot)
     (Prints : Option Printed → Type 0) (by_index : PrintsCandidates job index query tree Prints) where
   -- what is printed over a tree with a snapshot
-  model_printed : (snapshot : Snapshot) (has_match keeps : List ℕ → Bool) → tree ≡ Some snapshot →
-      DecidesSearch job has_match keeps → Prints
+  model_printed : (parts : Parts) (snapshot : Snapshot) (has_match keeps : List ℕ → Bool) → OpensWith index parts →
+      tree ≡ Some snapshot → DecidesSearch job has_match keeps → Prints
       (Some (all_printed (file_printed max_searched Csearch job.style has_match snapshot)
-      (filter keeps (names_matching query (files_read by_index.0.parts)))))
+      (filter keeps (names_matching query (files_read parts)))))
   unfolding csearch_printed
-  model_printed snapshot has_match keeps is tests =
-      subst (λ (t : Option Snapshot). Prints (csearch_printed max_searched job.style has_match keeps by_index.0.parts
-      query t)) is (by_index.2 has_match keeps tests)
+  model_printed parts snapshot has_match keeps opens is tests =
+      subst (λ (t : Option Snapshot). Prints (csearch_printed max_searched job.style has_match keeps parts
+      query t)) is (by_index parts has_match keeps opens tests)
 
-  pub like_cgrep : PrintsLikeCgrep job index tree (λ printed. Prints (Some printed))
-  like_cgrep parts snapshot has_match keeps opens is agrees tests =
-      let index_query = by_index.0 in
-      let same : parts ≡ index_query.parts = opens_once index parts index_query.parts opens index_query.opens in
-      let there : ReadAsIndexed snapshot (files_read index_query.parts) =
-      subst (λ (p : Parts). ReadAsIndexed snapshot (files_read p)) same agrees in
-      subst Prints (ap (λ (p : Printed). Some p) (alike job index has_match keeps query index_query tests snapshot there
-      ∙ ap (λ (p : Parts). searched_by_cgrep max_searched job.style has_match snapshot (filter keeps p.names))
-      (sym same))) (model_printed snapshot has_match keeps is tests)
+  pub like_cgrep : IsSoundFor job query → PrintsLikeCgrep job index tree (λ printed. Prints (Some printed))
+  like_cgrep sound parts snapshot has_match keeps opens is agrees tests =
+      subst Prints (ap (λ (p : Printed). Some p) (alike job has_match keeps query sound tests snapshot parts agrees))
+      (model_printed parts snapshot has_match keeps opens is tests)
 
 -- ---- an index that jobs built
 
@@ -181,16 +182,18 @@ module _ (history : History) (bytes : List ℕ) (is : IsHistory history) (by : I
       subst (λ (p : Parts). ReadAsIndexed tree (files_read p)) same (subst (ReadAsIndexed tree) (sym files) still)
 
 pub as_promised : (job : SearchJob) (index : Option (List ℕ)) (query : Query) (tree : Option Snapshot)
-    (Prints : Option Printed → Type 0) → PrintsCandidates job index query tree Prints →
+    (Prints : Option Printed → Type 0) → OpensWhole IsSound job index query true → PrintsCandidates job index query tree Prints →
     SearchesLikeGrep job index tree (λ printed. Prints (Some printed))
-as_promised job index query None Prints by_index earlier has_match keeps premises tests = absurd premises.jobs_left.trees_modelled.0
-as_promised job None query (Some snapshot) Prints by_index earlier has_match keeps premises tests = absurd by_index.0.opens
-as_promised job (Some bytes) query (Some snapshot) Prints by_index earlier has_match keeps premises tests =
+as_promised job index query None Prints opened by_index earlier has_match keeps premises tests =
+    absurd premises.jobs_left.trees_modelled.0
+as_promised job None query (Some snapshot) Prints opened by_index earlier has_match keeps premises tests = absurd opened.opens
+as_promised job (Some bytes) query (Some snapshot) Prints opened by_index earlier has_match keeps premises tests =
     let left = premises.jobs_left in
-    let parts = by_index.0.parts in
-    let opens = by_index.0.opens in
+    let parts = opened.parts in
+    let opens = opened.opens in
     let agrees = agrees_still earlier bytes left.is_history premises.by_jobs left.is_index left.short parts snapshot
     opens premises.still_reads in
     subst (λ (names : List (List ℕ)). Prints (Some (searched_by_cgrep max_searched job.style has_match snapshot (filter keeps names))))
     (named earlier bytes left.is_history premises.by_jobs left.is_index left.short parts opens)
-    (like_cgrep job (Some bytes) query (Some snapshot) Prints by_index parts snapshot has_match keeps opens refl agrees tests)
+    (like_cgrep job (Some bytes) query (Some snapshot) Prints by_index opened.is_right parts snapshot has_match keeps opens
+    refl agrees tests)

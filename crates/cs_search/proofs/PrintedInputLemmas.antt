@@ -20,6 +20,7 @@ use Rattle.cs_args.specs.declared.jobs.Tool.{Tool}
 use Rattle.cs_args.specs.declared.jobs.Style.{Style}
 use Rattle.cs_args.specs.declared.fault.FileFault.{FileFault}
 use Rattle.cs_args.specs.declared.fault.FileFault.TheVariants.{Failed, InputTooLong}
+use Rattle.cs_args.specs.declared.fault.ToolFault.{ToolFault}
 use Rattle.cs_search.specs.declared.grep_fault.ReadFault.{ReadFault}
 use Rattle.cs_search.specs.declared.grep_fault.ReadFault.TheVariants.{Read, TooLong}
 use Rattle.cs_search.specs.declared.grepped.Grepped.{Grepped}
@@ -28,7 +29,7 @@ use Rattle.cs_search.specs.InputReport.{input_report}
 use Rattle.cs_tree.specs.TakesPrefix.{TakesPrefix, EndsAfter, MayEnd}
 use Rattle.cs_tree.specs.WritesBytes.{WritesBytes}
 use Rattle.cs_search.specs.GrepFaults.{is_failed_read}
-use Rattle.cs_search.specs.Printed.{Printed, both_printed, all_printed, input_printed, opened_printed, file_printed, NamedFault, fault_lines, failures_of, AreFaultsOf, PrintsNothing, PrintsSome, PrintsFaults}
+use Rattle.cs_search.specs.Printed.{Printed, both_printed, all_printed, input_printed, opened_printed, file_printed, NamedFault, fault_lines, failures_of, AreFaultsOf, SearchOutputs, PrintsNothing, PrintsAnswer, PrintsFaults}
 use Rattle.cs_search.specs.Searcher.{Prints, IsPrinted, PrintsAllFaults, PrintsPrefix}
 use Rattle.cs_tree.proofs.GrowsLemmas.{Grows-chain, Grows-same}
 use Rattle.cs_tree.proofs.NameLemmas.{mapped_more}
@@ -147,23 +148,30 @@ PrintsPrefix-none (Some printed) out err = (prefix_none _ out, prefix_none _ err
 
 -- ---- the end of a search
 
--- a prefix
-pub PrintsSome-prefix : (printed : Option Printed) (out out' err err' : Option SinkModel) →
-    PrintsPrefix printed out out' err err' → PrintsSome printed out out' err err'
-PrintsSome-prefix None out out' err err' p = tt
-PrintsSome-prefix (Some printed) out out' err err' p = (inl p.0, p.1)
+-- the outputs with these models
+abbrev pub outputs_of : Option SinkModel → Option SinkModel → Option SinkModel → Option SinkModel → SearchOutputs
+outputs_of out out' err err' = record { out = out; out_then = out'; err = err; err_then = err' }
 
-pub PrintsSome-nothing : (printed : Printed) (out out' err err' : Option SinkModel) → PrintsNothing out out' err err' →
-    PrintsSome (Some printed) out out' err err'
-PrintsSome-nothing printed out out' err err' nothing =
-    (inl (prefix_written printed.output out out' 0 nothing.0), prefix_written printed.errors err err' 0 nothing.1)
+-- a prefix
+pub PrintsAnswer-prefix : (printed : Option Printed) (fault : ToolFault) (out out' err err' : Option SinkModel) →
+    PrintsPrefix printed out out' err err' → PrintsAnswer printed (outputs_of out out' err err') (Err fault)
+PrintsAnswer-prefix None fault out out' err err' p = tt
+PrintsAnswer-prefix (Some printed) fault out out' err err' p = (inl p.0, p.1)
+
+pub PrintsAnswer-nothing : (printed : Option Printed) (outputs : SearchOutputs) (fault : ToolFault) →
+    PrintsNothing outputs → PrintsAnswer printed outputs (Err fault)
+PrintsAnswer-nothing None outputs fault nothing = tt
+PrintsAnswer-nothing (Some printed) outputs fault nothing = (
+  inl (prefix_written printed.output outputs.out outputs.out_then 0 nothing.0),
+  prefix_written printed.errors outputs.err outputs.err_then 0 nothing.1,
+)
 
 -- everything is printed, and then a flush fails
-pub PrintsSome-all : (printed : Option Printed) (out now later err err-now err-later : Option SinkModel)
+pub PrintsAnswer-all : (printed : Option Printed) (fault : ToolFault) (out now later err err-now err-later : Option SinkModel)
     (matched : Bool) → Prints printed out now err err-now matched → MayEnd [] now later →
-    TakesPrefix [] err-now err-later → PrintsSome printed out later err err-later
-PrintsSome-all None out now later err err-now err-later matched p ends ends-err = tt
-PrintsSome-all (Some printed) out now later err err-now err-later matched p ends ends-err =
+    TakesPrefix [] err-now err-later → PrintsAnswer printed (outputs_of out later err err-later) (Err fault)
+PrintsAnswer-all None fault out now later err err-now err-later matched p ends ends-err = tt
+PrintsAnswer-all (Some printed) fault out now later err err-now err-later matched p ends ends-err =
     (may_end_after _ out now later p.0 ends, prefix_after _ err err-now err-later p.1 ends-err)
 
 -- ---- one after the other

@@ -16,8 +16,8 @@ use Rattle.cs_match.specs.LastPart.{last_part, last_line}
 use Rattle.cs_match.proofs.LinesLemmas.{lines-split, terminated_lines-append}
 use Rattle.cs_search.specs.Report.{MatchingLine, matches_from, any_match, match_line, matches_output, tested_lines, report}
 use Rattle.cs_tree.specs.TakesPrefix.{TakesPrefix}
-use Rattle.cs_search.specs.GrepReports.{ReportsPrefix}
-use Rattle.cs_search.specs.InputReport.{input_report, text_report, fault_within}
+use Rattle.cs_search.specs.GrepReports.{text_report, ReportsPrefix}
+use Rattle.cs_search.specs.InputReport.{input_report, fault_within}
 use Rattle.cs_search.specs.TestedLines.{SameNumber, match_output, total, Tests, TestsPrefix}
 use Rattle.cs_search.specs.Progress.{HasReadInput, HasTested, Stops, TestsInput, TestsInputPrefix}
 use Rattle.cs_tree.proofs.PrefixLemmas.{prefix_left, prefix_right, prefix_all}

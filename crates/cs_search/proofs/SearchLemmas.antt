@@ -1,6 +1,7 @@
 -- The clauses of a search by an index, for each way in which it ends.
-use Rattle.std.proofs.Common.{◌≡◌, ℕ, true, List, ap, subst, Option, Some, None, Result, Ok, Err, refl, inl, inr, ◌⊎◌}
-use Rattle.std.specs.Prelude.{filter, IfOk, IfErr, IfSome, OnErr}
+use Rattle.std.proofs.Common.{◌≡◌, ℕ, Bool, true, false, List, ap, subst, Option, Some, None, Result, Ok, Err, refl, inl, inr, ◌⊎◌}
+use Rattle.std.specs.Prelude.{filter, IfErr, IfSome}
+use Rattle.cs_syntax.specs.Matching.{Tree}
 use Rattle.cs_tree.specs.TakesPrefix.{EndsAfter}
 use Rattle.cs_tree.specs.Snapshot.{Snapshot}
 use Rattle.cs_trigram.specs.declared.queries.Query.{Query}
@@ -13,67 +14,122 @@ use Rattle.cs_args.specs.declared.jobs.SearchJob.{SearchJob}
 use Rattle.cs_args.specs.declared.fault.ToolFault.{ToolFault}
 use Rattle.cs_args.specs.declared.fault.ToolFault.TheVariants.{Pattern, FilePattern, NoIndex, BadIndex, Write, Memory}
 use Rattle.cs_search.specs.declared.status.Status.{Status}
-use Rattle.cs_search.specs.Csearch.{OpensWith, PrintsCandidates, AreAccepted, OpensWhole, RefusedInOrder}
+use Rattle.cs_trigram.specs.QueryOf.{IsQueryOf}
+use Rattle.cs_search.specs.Csearch.{OpensWith, csearch_printed, IsSound, OpensWhole, IsReady, IsBad, RefusedInOrder}
 use Rattle.cs_search.specs.Plans.{RefusesPlan}
 use Rattle.cs_search.specs.InputReport.{max_searched}
-use Rattle.cs_search.specs.Printed.{Printed, PrintsStatus, PrintsNothing, PrintsSome, PrintsFaults, searched_by_cgrep}
+use Rattle.cs_search.specs.Printed.{Printed, SearchOutputs, PrintsAnswer, PrintsNothing, PrintsFaults, searched_by_cgrep}
 use Rattle.cs_search.specs.SameSearch.{PrintsLikeCgrep}
-use Rattle.cs_search.specs.Searched.{IsSearch, SearchOutputs}
+use Rattle.cs_search.specs.Searched.{IsSearch}
+use Rattle.cs_history.specs.HistoryIndex.{indexed_names}
+use Rattle.cs_history.specs.Premises.{modelled_snapshot}
 use Rattle.cs_search.specs.StoredSearch.{IsUnopened}
 use Rattle.cs_search.specs.GrepFaults.{IsSearchFault}
 use Rattle.cs_search.proofs.CsearchLemmas.{search_last}
-use Rattle.cs_search.proofs.PrintedInputLemmas.{PrintsFaults-no, PrintsSome-nothing}
-use Rattle.cs_search.proofs.MainPromiseLemmas.{like_cgrep, as_promised}
+use Rattle.cs_search.proofs.PrintedInputLemmas.{PrintsFaults-no, PrintsAnswer-nothing}
+use Rattle.cs_search.proofs.MainPromiseLemmas.{PrintsCandidates, like_cgrep, as_promised}
 
-module _ (job : SearchJob) (index : Option (List ℕ)) (tree : Option Snapshot) where
-  -- an error before anything is searched
-  pub refused_first : (failed failed' : ℕ) (old new : SearchOutputs) (fault : ToolFault) →
-      PrintsNothing old.out new.out old.err new.err → failed' ≡ failed → RefusesPlan job index fault →
-      IsSearch job index tree failed failed' old new (Err fault)
-  refused_first failed failed' old new fault nothing same refused = record {
-    query = refused.0;
-    prints = tt;
-    promised = tt;
-    prefix = inl nothing;
-    refused = refused.1;
-    faults = λ parts opens. PrintsFaults-no Csearch {A = Status} (Err fault) fault parts.names failed failed' old.err
-        new.err refl same nothing.1;
+-- ---- a query that is selective is sound
+
+sound : (brute : Bool) (pattern : Tree) (query : Query) → IsQueryOf brute pattern query → IsSound brute pattern query
+sound true pattern query is = is
+sound false pattern query is = is.0
+
+module _ (job : SearchJob) (index : Option (List ℕ)) (query : Query) where
+  sound_whole : (whole : Bool) → OpensWhole IsQueryOf job index query whole → OpensWhole IsSound job index query whole
+  sound_whole whole opened = record {
+    parts = opened.parts;
+    opens = opened.opens;
+    is_right = λ pattern reads. sound job.brute pattern query (opened.is_right pattern reads);
+    lists = opened.lists;
   }
 
-  pub out_of_memory : (failed failed' : ℕ) (old new : SearchOutputs) → PrintsNothing old.out new.out old.err new.err →
-      failed' ≡ failed → IsSearch job index tree failed failed' old new (Err Memory)
-  out_of_memory failed failed' old new nothing same = refused_first failed failed' old new Memory nothing same (All, tt, refl)
+  sound_bad : (fault : IndexFault) → IsBad IsQueryOf job index query fault → IsBad IsSound job index query fault
+  sound_bad fault (inl closed) = inl closed
+  sound_bad fault (inr damaged) = inr (damaged.0, sound_whole false damaged.1)
 
-  module _ (failed failed' : ℕ) (old new : SearchOutputs) (query : Query) (ready : AreAccepted job × OpensWhole job index query true) where
-    -- an error while files are searched, or in a flush
-    pub refused_late : (fault : ToolFault) → IsSearchFault {A = Status} (Err fault) →
-        PrintsCandidates job index query tree (λ printed. PrintsSome printed old.out new.out old.err new.err) →
-        ((parts : Parts) → OpensWith index parts → PrintsFaults Csearch parts.names failed failed'
-        (λ lines. EndsAfter {A = Status} lines old.err new.err (Err fault))) →
-        IsSearch job index tree failed failed' old new (Err fault)
-    refused_late fault is prints faults = record {
-      query = query;
-      prints = tt;
-      promised = tt;
-      prefix = inr (ready.0, prints);
-      refused = search_last job index query fault ready.0 ready.1 is;
-      faults = faults;
-    }
+  sound_ready : IsReady IsQueryOf job index query → IsReady IsSound job index query
+  sound_ready ready = (ready.0, sound_whole true ready.1)
 
-    pub searched_to_the_end : (status : Status) → PrintsCandidates job index query tree
-        (λ printed. PrintsStatus printed old.out new.out old.err new.err status) →
+  sound_refusal : {A : Type 0} (answer : Result A ToolFault) → RefusedInOrder IsQueryOf job index query answer →
+      RefusedInOrder IsSound job index query answer
+  sound_refusal (Ok x) is = sound_ready is
+  sound_refusal (Err (Pattern error)) is = is
+  sound_refusal (Err (FilePattern error)) is = is
+  sound_refusal (Err NoIndex) is = is
+  sound_refusal (Err (BadIndex fault)) is = (is.0, sound_bad fault is.1)
+  sound_refusal (Err Write) is = sound_ready is
+  sound_refusal (Err Memory) is = tt
+
+  sound_begins : (outputs : SearchOutputs) → PrintsNothing outputs ⊎ IsReady IsQueryOf job index query →
+      PrintsNothing outputs ⊎ IsReady IsSound job index query
+  sound_begins outputs (inl nothing) = inl nothing
+  sound_begins outputs (inr ready) = inr (sound_ready ready)
+
+module _ (job : SearchJob) (index : Option (List ℕ)) (tree : Option Snapshot) where
+  pub sound_search : (failed failed' : ℕ) (outputs : SearchOutputs) (answer : Result Status ToolFault) →
+      IsSearch IsQueryOf job index tree failed failed' outputs answer → IsSearch IsSound job index tree failed failed' outputs answer
+  sound_search failed failed' outputs answer is = record {
+    query = is.query;
+    prints = is.prints;
+    promised = is.promised;
+    begins = sound_begins job index is.query outputs is.begins;
+    refused = sound_refusal job index is.query answer is.refused;
+    faults = is.faults;
+  }
+
+  -- an error before anything is searched
+  pub refused_first : (failed failed' : ℕ) (outputs : SearchOutputs) (fault : ToolFault) →
+      PrintsNothing outputs → failed' ≡ failed → RefusesPlan job index fault →
+      IsSearch IsQueryOf job index tree failed failed' outputs (Err fault)
+  refused_first failed failed' outputs fault nothing same refused = record {
+    query = refused.0;
+    prints = λ parts has_match keeps opens tests. PrintsAnswer-nothing
+        (csearch_printed max_searched job.style has_match keeps parts refused.0 tree) outputs fault nothing;
+    promised = λ earlier has_match keeps premises tests. PrintsAnswer-nothing
+        (Some (searched_by_cgrep max_searched job.style has_match (modelled_snapshot tree) (filter keeps (indexed_names earlier))))
+        outputs fault nothing;
+    begins = inl nothing;
+    refused = refused.1;
+    faults = λ parts opens. PrintsFaults-no Csearch {A = Status} (Err fault) fault parts.names failed failed' outputs.err
+        outputs.err_then refl same nothing.1;
+  }
+
+  pub out_of_memory : (failed failed' : ℕ) (outputs : SearchOutputs) → PrintsNothing outputs →
+      failed' ≡ failed → IsSearch IsQueryOf job index tree failed failed' outputs (Err Memory)
+  out_of_memory failed failed' outputs nothing same = refused_first failed failed' outputs Memory nothing same (All, tt, refl)
+
+  module _ (failed failed' : ℕ) (outputs : SearchOutputs) (query : Query) (ready : IsReady IsQueryOf job index query) where
+    -- a search of the selected files
+    begun : (answer : Result Status ToolFault) → RefusedInOrder IsQueryOf job index query answer →
+        PrintsCandidates job index query tree (λ printed. PrintsAnswer printed outputs answer) →
         ((parts : Parts) → OpensWith index parts → PrintsFaults Csearch parts.names failed failed'
-        (λ lines. EndsAfter {E = ToolFault} lines old.err new.err (Ok status))) →
-        IsSearch job index tree failed failed' old new (Ok status)
-    searched_to_the_end status prints faults = record {
+        (λ lines. EndsAfter lines outputs.err outputs.err_then answer)) →
+        IsSearch IsQueryOf job index tree failed failed' outputs answer
+    begun answer refused prints faults = record {
       query = query;
       prints = prints;
-      promised = as_promised job index query tree
-          (λ (printed : Option Printed). PrintsStatus printed old.out new.out old.err new.err status) prints;
-      prefix = tt;
-      refused = ready;
+      promised = as_promised job index query tree (λ (printed : Option Printed). PrintsAnswer printed outputs answer)
+          (sound_whole job index query true ready.1) prints;
+      begins = inr ready;
+      refused = refused;
       faults = faults;
     }
+
+    -- an error while files are searched, or in a flush
+    pub refused_late : (fault : ToolFault) → IsSearchFault {A = Status} (Err fault) →
+        PrintsCandidates job index query tree (λ printed. PrintsAnswer printed outputs (Err fault)) →
+        ((parts : Parts) → OpensWith index parts → PrintsFaults Csearch parts.names failed failed'
+        (λ lines. EndsAfter {A = Status} lines outputs.err outputs.err_then (Err fault))) →
+        IsSearch IsQueryOf job index tree failed failed' outputs (Err fault)
+    refused_late fault is prints faults = begun (Err fault) (search_last job index query fault ready is) prints faults
+
+    pub searched_to_the_end : (status : Status) → PrintsCandidates job index query tree
+        (λ printed. PrintsAnswer printed outputs (Ok status)) →
+        ((parts : Parts) → OpensWith index parts → PrintsFaults Csearch parts.names failed failed'
+        (λ lines. EndsAfter {E = ToolFault} lines outputs.err outputs.err_then (Ok status))) →
+        IsSearch IsQueryOf job index tree failed failed' outputs (Ok status)
+    searched_to_the_end status prints faults = begun (Ok status) ready prints faults
 
 -- ---- a store that has a model
 
@@ -84,46 +140,44 @@ if_modelled (Some bytes) P holds = holds bytes refl
 pub of_model : (model : Option (List ℕ)) (P : List ℕ → Type 0) (bytes : List ℕ) → model ≡ Some bytes → IfSome model P → P bytes
 of_model model P bytes is holds = subst (λ (m : Option (List ℕ)). IfSome m P) is holds
 
+pub sound_if_read : (job : SearchJob) (model : Option (List ℕ)) (tree : Option Snapshot) (failed failed' : ℕ)
+    (outputs : SearchOutputs) (answer : Result Status ToolFault) →
+    IfSome model (λ bytes. IsSearch IsQueryOf job (Some bytes) tree failed failed' outputs answer) →
+    IfSome model (λ bytes. IsSearch IsSound job (Some bytes) tree failed failed' outputs answer)
+sound_if_read job None tree failed failed' outputs answer is = tt
+sound_if_read job (Some bytes) tree failed failed' outputs answer is = sound_search job (Some bytes) tree failed failed' outputs answer is
+
 -- ---- the same by cgrep, if each file reads as it was indexed
 
-module _ (job : SearchJob) (index : Option (List ℕ)) (tree : Option Snapshot) (failed failed' : ℕ) (old new : SearchOutputs) where
-  pub agrees : (answer : Result Status ToolFault) → IsSearch job index tree failed failed' old new answer →
-      IfOk answer (λ status. PrintsLikeCgrep job index tree
-      (λ printed. PrintsStatus (Some printed) old.out new.out old.err new.err status))
+module _ (job : SearchJob) (index : Option (List ℕ)) (tree : Option Snapshot) (failed failed' : ℕ) (outputs : SearchOutputs) where
+  pub agrees : (answer : Result Status ToolFault) → IsSearch IsSound job index tree failed failed' outputs answer →
+      PrintsLikeCgrep job index tree (λ printed. PrintsAnswer (Some printed) outputs answer)
   agrees (Ok status) is = like_cgrep job index is.query tree
-      (λ (printed : Option Printed). PrintsStatus printed old.out new.out old.err new.err status) is.prints
-  agrees (Err fault) is = tt
-
-  pub prefix_agrees : (answer : Result Status ToolFault) → IsSearch job index tree failed failed' old new answer →
-      OnErr answer (PrintsLikeCgrep job index tree
-      (λ printed. PrintsSome (Some printed) old.out new.out old.err new.err))
-  prefix_agrees (Ok status) is = tt
-  prefix_agrees (Err fault) is = by_prefix is.query is.prefix
+      (λ (printed : Option Printed). PrintsAnswer printed outputs (Ok status)) is.prints is.refused.1.is_right
+  agrees (Err fault) is = by_begins is.begins
     where
-      by_prefix : (query : Query) → PrintsNothing old.out new.out old.err new.err ⊎
-          (AreAccepted job × PrintsCandidates job index query tree
-          (λ printed. PrintsSome printed old.out new.out old.err new.err)) →
-          PrintsLikeCgrep job index tree (λ printed. PrintsSome (Some printed) old.out new.out old.err new.err)
-      by_prefix query (inl nothing) = λ parts snapshot has_match keeps opens is still decides_search. PrintsSome-nothing
-          (searched_by_cgrep max_searched job.style has_match snapshot (filter keeps parts.names)) old.out new.out
-          old.err new.err nothing
-      by_prefix query (inr some) = like_cgrep job index query tree
-          (λ (printed : Option Printed). PrintsSome printed old.out new.out old.err new.err) some.1
+      by_begins : PrintsNothing outputs ⊎ IsReady IsSound job index is.query →
+          PrintsLikeCgrep job index tree (λ printed. PrintsAnswer (Some printed) outputs (Err fault))
+      by_begins (inl nothing) = λ parts snapshot has_match keeps opens same still tests. PrintsAnswer-nothing
+          (Some (searched_by_cgrep max_searched job.style has_match snapshot (filter keeps parts.names))) outputs fault nothing
+      by_begins (inr ready) = like_cgrep job index is.query tree
+          (λ (printed : Option Printed). PrintsAnswer printed outputs (Err fault)) is.prints ready.1.is_right
 
 -- ---- an index in a store that does not open
 
 refusal_of : (A B : Type 0) (job : SearchJob) (index : Option (List ℕ)) (query : Query) (fault : ToolFault) →
-    RefusedInOrder {A = A} job index query (Err fault) → RefusedInOrder {A = B} job index query (Err fault)
+    RefusedInOrder IsSound job index query {A = A} (Err fault) → RefusedInOrder IsSound job index query {A = B} (Err fault)
 refusal_of A B job index query Memory is = tt
 refusal_of A B job index query fault is = is
 
 module _ (A B : Type 0) (job : SearchJob) where
   -- an error of the plan, whatever the index is
   pub unopened_first : (opened : Result StoredParts IndexFault) (why : ToolFault) →
-      ((index : Option (List ℕ)) → (query : Query) × RefusedInOrder {A = A} job index query (Err why)) →
+      ((index : Option (List ℕ)) → (query : Query) × RefusedInOrder IsQueryOf job index query {A = A} (Err why)) →
       IfErr opened (λ fault. IsUnopened {A = B} job fault (Ok (Err why)))
   unopened_first (Ok held) why refused = tt
-  unopened_first (Err fault) why refused = inl (λ index. let r = refused index in (r.0, refusal_of A B job index r.0 why r.1))
+  unopened_first (Err fault) why refused = inl (λ index. let r = refused index in
+      (r.0, refusal_of A B job index r.0 why (sound_refusal job index r.0 {A = A} (Err why) r.1)))
 
   -- the same error
   pub unopened_as : (opened : Result StoredParts IndexFault) (why : ToolFault) →
@@ -142,8 +196,8 @@ module _ (A B : Type 0) (job : SearchJob) where
       err_once : (a b : ToolFault) → ◌≡◌ {A = Result A ToolFault} (Err a) (Err b) → a ≡ b
       err_once a b e = cc
 
-  unready : (query : Query) × (AreAccepted job × OpensWhole job None query true) → ⊥
-  unready r = r.1.1.0.opens
+  unready : (query : Query) × IsReady IsSound job None query → ⊥
+  unready r = r.1.1.opens
 
   -- nothing is searched
   pub unopened_unready : (opened : Result StoredParts IndexFault) (ready : A) (answer : Result B ToolFault) →

@@ -7,7 +7,8 @@ use Rattle.cs_tree.specs.Sinks.{Grows, SinkModel}
 use Rattle.cs_search.specs.declared.grep_fault.ReadFault.{ReadFault}
 use Rattle.cs_search.specs.declared.grepped.Grepped.{Grepped}
 use Rattle.cs_tree.specs.TakesPrefix.{TakesPrefix}
-use Rattle.cs_search.specs.Report.{Report}
+use Rattle.cs_search.specs.Report.{Report, report as report_of}
+use Rattle.cs_args.specs.declared.jobs.Style.{Style}
 
 -- The output of the report was written, and the answer has the report's match and fault.
 abbrev pub IsReported : Report ReadFault → Option SinkModel → Option SinkModel → Grepped → Type 0
@@ -34,6 +35,10 @@ abbrev pub ReportsPrefixBy : Tree → Option SourceModel → ((List ℕ → Bool
     Option SinkModel → Option SinkModel → Type 0
 ReportsPrefixBy tree model report before after =
     (has_match : List ℕ → Bool) → Decides has_match tree → ReportsPrefix model (report has_match) before after
+
+-- the report of a text in memory, which is searched to its end
+abbrev pub text_report : Style → List ℕ → (List ℕ → Bool) → List ℕ → Report ReadFault
+text_report style name has_match text = report_of style name has_match text None
 
 -- of a text in memory
 abbrev pub IsReportedBy : Tree → ((List ℕ → Bool) → Report ReadFault) → Option SinkModel → Option SinkModel → Grepped → Type 0

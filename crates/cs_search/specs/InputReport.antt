@@ -19,7 +19,3 @@ fault_within limit model = if nat_lt limit (length model.bytes) then Some TooLon
 unfoldable pub input_report : ℕ → Style → List ℕ → (List ℕ → Bool) → SourceModel → Report ReadFault
 input_report limit style name has_match model =
     report style name has_match (take limit model.bytes) (fault_within limit model)
-
--- the report of a text in memory, which is searched to its end
-abbrev pub text_report : Style → List ℕ → (List ℕ → Bool) → List ℕ → Report ReadFault
-text_report style name has_match text = report style name has_match text None

@@ -38,7 +38,6 @@ pub mod Printed
 pub mod Work
 pub mod Refusals
 pub mod Cgrep
-pub mod CgrepFaults
 pub mod Csearch
 pub mod SearchHeadline
 pub mod Searched

@@ -27,7 +27,7 @@ pub record IsPlan (job : SearchJob) (plan : Plan) : Type 0 where
 -- The error is right for this job and index, and is not a failed write.
 abbrev pub RefusesPlan : SearchJob → Option (List ℕ) → ToolFault → Type 0
 RefusesPlan job index fault =
-    (query : Query) × RefusedInOrder {A = Status} job index query (Err fault)
+    (query : Query) × RefusedInOrder IsQueryOf job index query {A = Status} (Err fault)
     × (has_write_failed {A = Status} (Err fault) ≡ false)
 
 -- The texts are the names that the plan selects from the index in the bytes: those of the candidates that `-f` keeps. Each

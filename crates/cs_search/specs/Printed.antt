@@ -1,6 +1,6 @@
 -- What a tool prints and returns for the inputs that it searches, one after another.
 -- docs/PROMISES.md, "What is printed".
-use Rattle.std.specs.Prelude.{ℕ, ◌≡◌, ◌⊎◌, Bool, true, false, ◌||◌, if◌then◌else◌, List, [], ◌∷◌, ◌++◌, Option, Some, None, IfSome, Result, Ok, Err}
+use Rattle.std.specs.Prelude.{ℕ, ◌≡◌, ◌⊎◌, Bool, true, false, ◌||◌, if◌then◌else◌, List, [], ◌∷◌, ◌++◌, Option, Some, None, IfSome, Result, Ok, Err, MatchResult}
 use Rattle.cs_tree.specs.TreeAnswers.{opening_of}
 use Rattle.cs_args.specs.FileFaults.{fault_line_of, file_fault_of, is_file_failure}
 use Rattle.cs_tree.specs.Failures.{count_if}
@@ -14,6 +14,7 @@ use Rattle.cs_args.specs.declared.jobs.Tool.TheVariants.{Cgrep}
 use Rattle.cs_args.specs.declared.jobs.Style.{Style}
 use Rattle.cs_args.specs.declared.fault.FileFault.{FileFault}
 use Rattle.cs_args.specs.declared.fault.FileFault.TheVariants.{Failed, InputTooLong}
+use Rattle.cs_args.specs.declared.fault.ToolFault.{ToolFault}
 use Rattle.cs_search.specs.declared.grep_fault.ReadFault.TheVariants.{Read, TooLong}
 use Rattle.cs_search.specs.declared.status.Status.{Status}
 use Rattle.cs_search.specs.declared.status.Status.TheVariants.{Matched, NoMatch}
@@ -61,22 +62,31 @@ all_printed printed (name ∷ names) = both_printed (printed name) (all_printed 
 unfoldable pub searched_by_cgrep : ℕ → Style → (List ℕ → Bool) → Snapshot → List (List ℕ) → Printed
 searched_by_cgrep limit style has_match tree names = all_printed (file_printed limit Cgrep style has_match tree) names
 
--- If what was searched has a model: this was printed, each output was then flushed once, and the status says whether
--- some line matched.
-abbrev pub PrintsStatus : Option Printed → Option SinkModel → Option SinkModel → Option SinkModel → Option SinkModel → Status → Type 0
-PrintsStatus model out out' err err' status = IfSome model (λ (printed : Printed).
-    GrowsFlushed out out' printed.output × GrowsFlushed err err' printed.errors × (status ≡ (if printed.matched then Matched else NoMatch)))
+-- ---- the outputs of a search
 
--- ---- failed searches
+-- the models of both outputs, before and after the search
+pub record SearchOutputs : Type 0 where
+  pub out : Option SinkModel
+  pub out_then : Option SinkModel
+  pub err : Option SinkModel
+  pub err_then : Option SinkModel
 
-abbrev pub PrintsNothing : Option SinkModel → Option SinkModel → Option SinkModel → Option SinkModel → Type 0
-PrintsNothing out out' err err' = Grows out out' [] × Grows err err' []
+-- of two sinks
+abbrev pub search_outputs : {O E : Type 0} → (O → Option SinkModel) → (E → Option SinkModel) → O → O → E → E → SearchOutputs
+search_outputs out_model err_model out out' err err' =
+    record { out = out_model out; out_then = out_model out'; err = err_model err; err_then = err_model err' }
 
--- If what was searched has a model: each output has a prefix of this, and `out` may have been flushed after all of
--- it. So `err` is flushed last.
-abbrev pub PrintsSome : Option Printed → Option SinkModel → Option SinkModel → Option SinkModel → Option SinkModel → Type 0
-PrintsSome model out out' err err' =
-    IfSome model (λ (printed : Printed). MayEnd printed.output out out' × TakesPrefix printed.errors err err')
+-- If what was searched has a model: this was printed, each output was then flushed once, and the status says whether some
+-- line matched. After an error each output has a prefix of this, and `out` may have been flushed after all of it. So `err`
+-- is flushed last.
+abbrev pub PrintsAnswer : Option Printed → SearchOutputs → Result Status ToolFault → Type 0
+PrintsAnswer model outputs answer = IfSome model (λ (printed : Printed). MatchResult answer
+    (λ status. GrowsFlushed outputs.out outputs.out_then printed.output × GrowsFlushed outputs.err outputs.err_then printed.errors
+    × (status ≡ (if printed.matched then Matched else NoMatch)))
+    (λ fault. MayEnd printed.output outputs.out outputs.out_then × TakesPrefix printed.errors outputs.err outputs.err_then))
+
+abbrev pub PrintsNothing : SearchOutputs → Type 0
+PrintsNothing outputs = Grows outputs.out outputs.out_then [] × Grows outputs.err outputs.err_then []
 
 -- ---- printed faults and counted failures
 

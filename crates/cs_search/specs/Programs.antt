@@ -6,7 +6,7 @@ use Rattle.cs_syntax.specs.Weight.{weight, max_weight}
 use Rattle.cs_match.specs.SameLines.{MatchSameLines}
 use Rattle.cs_args.specs.declared.fault.ToolFault.{ToolFault}
 use Rattle.cs_search.specs.declared.status.Status.{Status}
-use Rattle.cs_search.specs.CgrepFaults.{PatternFirst}
+use Rattle.cs_search.specs.Cgrep.{PatternFirst}
 use Rattle.cs_search.specs.Refusals.{has_write_failed}
 
 -- The text parses as a pattern within the weight limit, and the program matches what the pattern matches.

@@ -52,14 +52,10 @@ pub record Report (Fault : Type 0) : Type 0 where
   pub fault : Option Fault
   pub matched : Bool
 
-abbrev pub report_of_matches : {Fault : Type 0} → Style → List ℕ → Option Fault → List MatchingLine → Report Fault
-report_of_matches style name fault matches = record {
+-- of an input with this name, whose bytes up to the fault or the end are `text`
+unfoldable pub report : {Fault : Type 0} → Style → List ℕ → (List ℕ → Bool) → List ℕ → Option Fault → Report Fault
+report style name has_match text fault = let matches = matches_from 1 has_match (tested_lines (is_none fault) text) in record {
   output = matches_output style name (is_none fault) matches;
   fault = if style.list && any_match matches then None else fault;
   matched = any_match matches;
 }
-
--- of an input with this name, whose bytes up to the fault or the end are `text`
-unfoldable pub report : {Fault : Type 0} → Style → List ℕ → (List ℕ → Bool) → List ℕ → Option Fault → Report Fault
-report style name has_match text fault =
-    report_of_matches style name fault (matches_from 1 has_match (tested_lines (is_none fault) text))

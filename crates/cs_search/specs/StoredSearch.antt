@@ -9,7 +9,7 @@ use Rattle.cs_index.specs.Stored.{StoredParts, DecodesOrFails}
 use Rattle.cs_args.specs.declared.fault.ToolFault.{ToolFault}
 use Rattle.cs_args.specs.declared.fault.ToolFault.TheVariants.{BadIndex}
 use Rattle.cs_args.specs.declared.jobs.SearchJob.{SearchJob}
-use Rattle.cs_search.specs.Csearch.{AreAccepted, RefusedInOrder}
+use Rattle.cs_search.specs.Csearch.{IsSound, AreAccepted, RefusedInOrder}
 use Rattle.cs_search.specs.Refusals.{has_write_failed}
 
 -- the bytes of the store's model decode as that index, or have that error
@@ -17,15 +17,14 @@ abbrev pub IsOpened : Option (List ℕ) → Result StoredParts IndexFault → Ty
 IsOpened model opened = IfSome model (λ bytes. DecodesOrFails bytes opened)
 
 -- `Claim` holds of the index and the answer, if the store could be read and its model has the bytes of the index.
-abbrev pub IfRead : {A : Type 0} → Option (List ℕ) → Result A IoFault → (Option (List ℕ) → A → Type 0) →
-    Type 0
+abbrev pub IfRead : {A : Type 0} → Option (List ℕ) → Result A IoFault → (Option (List ℕ) → A → Type 0) → Type 0
 IfRead model result Claim = IfOk result (λ answer. IfSome model (λ bytes. Claim (Some bytes) answer))
 
 -- If opening returned an error, the search fails for a pattern or out of memory, whatever the index is; or both
 -- patterns are accepted, and the search returns that error, which is not out of memory.
 abbrev pub IsUnopened : {A : Type 0} → SearchJob → IndexFault → Result (Result A ToolFault) IoFault → Type 0
 IsUnopened job fault result = IsOkAnd result (λ answer.
-    ((index : Option (List ℕ)) → (query : Query) × RefusedInOrder job index query answer)
+    ((index : Option (List ℕ)) → (query : Query) × RefusedInOrder IsSound job index query answer)
     ⊎ (AreAccepted job × (answer ≡ Err (BadIndex fault)) × (fault ≢ index.Memory)))
 
 -- a write to one of the outputs failed

@@ -5,8 +5,10 @@ ghost use Rattle.cs_tree.specs.Reads.{ReadsWithin};
 ghost use Rattle.cs_search.specs.InputReport.{max_searched};
 ghost use Rattle.cs_search.specs.Refusals.{has_write_failed, SilentOnError};
 ghost use Rattle.cs_search.specs.Plans.{RefusesPlan};
-ghost use Rattle.cs_search.specs.Printed.{PrintsNothing};
-ghost use Rattle.cs_search.specs.Searched.{IsSearch, search_outputs};
+ghost use Rattle.cs_search.specs.Csearch.{IsSound};
+ghost use Rattle.cs_trigram.specs.QueryOf.{IsQueryOf};
+ghost use Rattle.cs_search.specs.Printed.{search_outputs, PrintsNothing};
+ghost use Rattle.cs_search.specs.Searched.{IsSearch};
 
 use crate::plan::Plan;
 use crate::status::Status;
@@ -33,12 +35,14 @@ pub fn csearch<T: Tree, O: Sink, E: Sink>(
     out: &mut O,
     err: &mut E,
 ) -> Result<Status, ToolFault>
-    ensures searches { IsSearch job.now (option_copied index.entry)
+    ensures searches { IsSearch IsSound job.now (option_copied index.entry)
         (T.snapshot tree.old) (T.failed tree.old) (T.failed tree.new)
-        (search_outputs O.model E.model out.old err.old)
-        (search_outputs O.model E.model out.new err.new) result }
+        (search_outputs O.model E.model out.old out.new err.old err.new) result }
+    ensures selective { IsSearch IsQueryOf job.now (option_copied index.entry)
+        (T.snapshot tree.old) (T.failed tree.old) (T.failed tree.new)
+        (search_outputs O.model E.model out.old out.new err.old err.new) result }
     ensures silent { SilentOnError result
-        (PrintsNothing (O.model out.old) (O.model out.new) (E.model err.old) (E.model err.new)
+        (PrintsNothing (search_outputs O.model E.model out.old out.new err.old err.new)
         × (T.failed tree.new ≡ T.failed tree.old)
         × (T.longest_requested tree.new ≡ T.longest_requested tree.old)) }
     ensures reads { ReadsWithin (max_searched + 1)

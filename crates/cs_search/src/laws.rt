@@ -1,12 +1,10 @@
 // Laws of the definitions.
-ghost use Rattle.std.specs.Prelude.{◌≡◌, ◌<◌, ℕ, Bool, true, List, [], length, filter, string_bytes, Option, Some, Result, Ok, IfOk, OnErr};
+ghost use Rattle.std.specs.Prelude.{◌≡◌, ◌<◌, ℕ, Bool, true, List, [], length, filter, string_bytes, Option, Some, Result, Ok};
 ghost use Rattle.std.specs.List.{list_any};
 ghost use Rattle.cs_syntax.specs.Matching.{Tree};
-ghost use Rattle.cs_syntax.specs.Parsing.{ParsesAs};
 ghost use Rattle.cs_match.specs.Deciding.{Decides};
 ghost use Rattle.cs_match.specs.Lines.{lines};
 ghost use Rattle.cs_tree.specs.StreamModels.{SourceModel};
-ghost use Rattle.cs_tree.specs.Sinks.{SinkModel};
 ghost use Rattle.cs_tree.specs.Snapshot.{Snapshot};
 ghost use Rattle.cs_trigram.specs.declared.queries.Query.{Query};
 ghost use Rattle.cs_trigram.specs.Trigram.{has};
@@ -34,11 +32,12 @@ ghost use Rattle.cs_args.specs.declared.fault.ToolFault.{ToolFault};
 ghost use Rattle.cs_search.specs.InputReport.{max_searched};
 ghost use Rattle.cs_search.specs.declared.status.Status.{Status};
 ghost use Rattle.cs_search.specs.Cgrep.{cgrep_printed};
-ghost use Rattle.cs_search.specs.Printed.{searched_by_cgrep, PrintsStatus, PrintsSome, all_printed, file_printed};
+ghost use Rattle.cs_search.specs.Printed.{searched_by_cgrep, SearchOutputs, PrintsAnswer, all_printed, file_printed};
+ghost use Rattle.cs_search.specs.Refusals.{DecidesText};
 ghost use Rattle.cs_search.specs.GrepFaults.{IsSearchFault};
-ghost use Rattle.cs_search.specs.Csearch.{DecidesSearch, AreAccepted, RefusedInOrder};
+ghost use Rattle.cs_search.specs.Csearch.{IsSound, DecidesSearch, AreAccepted, RefusedInOrder};
 ghost use Rattle.cs_search.specs.SearchHeadline.{SearchPremises, SearchesLikeGrep};
-ghost use Rattle.cs_search.specs.Searched.{IsSearch, SearchOutputs};
+ghost use Rattle.cs_search.specs.Searched.{IsSearch};
 ghost use Rattle.cs_search.specs.SameSearch.{PrintsLikeCgrep, IsSameSearch};
 
 /// If files read as they were indexed, those that a sound query excludes have no matching line: leaving them out
@@ -54,18 +53,12 @@ pub fn skipped_files_have_no_match()
 {}
 
 /// If each file reads as it was indexed, a search by an index prints what cgrep prints for all names that `-f` keeps,
-/// and after an error a prefix of that: this follows from the clauses `prints` and `prefix` of `csearch`.
+/// and after an error a prefix of that: this follows from the clause `searches` of `csearch`.
 pub fn searches_agree_with_cgrep()
-    ensures agrees { (job : SearchJob) (index : Option (List ℕ)) (tree : Option Snapshot)
-        (failed failed' : ℕ) (old new : SearchOutputs) (answer : Result Status ToolFault) →
-        IsSearch job index tree failed failed' old new answer →
-        IfOk answer (λ status. PrintsLikeCgrep job index tree
-        (λ printed. PrintsStatus (Some printed) old.out new.out old.err new.err status)) }
-    ensures prefix { (job : SearchJob) (index : Option (List ℕ)) (tree : Option Snapshot)
-        (failed failed' : ℕ) (old new : SearchOutputs) (answer : Result Status ToolFault) →
-        IsSearch job index tree failed failed' old new answer →
-        OnErr answer (PrintsLikeCgrep job index tree
-        (λ printed. PrintsSome (Some printed) old.out new.out old.err new.err)) }
+    ensures { (job : SearchJob) (index : Option (List ℕ)) (tree : Option Snapshot)
+        (failed failed' : ℕ) (outputs : SearchOutputs) (answer : Result Status ToolFault) →
+        IsSearch IsSound job index tree failed failed' outputs answer →
+        PrintsLikeCgrep job index tree (λ printed. PrintsAnswer (Some printed) outputs answer) }
 {}
 
 /// An index that jobs left, or an existing one that they may start from, opens, and all its lists are whole. So with
@@ -75,7 +68,7 @@ pub fn indexes_of_jobs_are_accepted()
         (parts : Parts) × (opening bytes ≡ Ok parts) × (are_whole parts ≡ true) }
     ensures accepted { (job : SearchJob) (history : History) (bytes : List ℕ)
         (query : Query) (answer : Result Status ToolFault) → HasIndex history bytes → AreAccepted job →
-        RefusedInOrder job (Some bytes) query answer → IsSearchFault answer }
+        RefusedInOrder IsSound job (Some bytes) query answer → IsSearchFault answer }
 {}
 
 /// After a first job each indexed file reads as it was indexed while the tree stays unchanged: the premises of the
@@ -97,27 +90,25 @@ pub fn unchanged_files_have_no_fault()
 {}
 
 /// Searching by an index of jobs prints what `cgrep` prints for the selected names, with any standard input. `decided`
-/// gives the premises of the clause `prints` of `cgrep`.
+/// gives the premise of `prints` of `IsGrep`.
 pub fn searches_are_those_of_cgrep()
     ensures decided { (job : SearchJob) (names : List (List ℕ)) (like : GrepJob)
         (has_match keeps : List ℕ → Bool) → IsSameSearch job names like →
         DecidesSearch job has_match keeps →
-        (pattern : Tree) × ParsesAs (string_bytes like.pattern) like.fold pattern
-        × Decides has_match pattern }
+        DecidesText (string_bytes like.pattern) like.fold has_match }
     ensures files { (job : SearchJob) (names : List (List ℕ)) (like : GrepJob)
         (has_match : List ℕ → Bool) (tree : Snapshot) (input : Option SourceModel) →
         IsSameSearch job names like → cgrep_printed max_searched like has_match (Some tree) input ≡
         Some (searched_by_cgrep max_searched job.style has_match tree names) }
     ensures promised { (job : SearchJob) (index : Option (List ℕ)) (tree : Snapshot)
-        (input : Option SourceModel) (out out' err err' : Option SinkModel) (status : Status)
+        (input : Option SourceModel) (outputs : SearchOutputs) (answer : Result Status ToolFault)
         (has_match keeps : List ℕ → Bool) (earlier : History) (like : GrepJob) →
         SearchesLikeGrep job index (Some tree)
-        (λ printed. PrintsStatus (Some printed) out out' err err' status) →
+        (λ printed. PrintsAnswer (Some printed) outputs answer) →
         DecidesSearch job has_match keeps →
         SearchPremises (Some tree) index earlier →
         IsSameSearch job (filter keeps (indexed_names earlier)) like →
-        PrintsStatus (cgrep_printed max_searched like has_match (Some tree) input)
-        out out' err err' status }
+        PrintsAnswer (cgrep_printed max_searched like has_match (Some tree) input) outputs answer }
 {}
 
 /// Each file with a matching line is a candidate, if it reads as it was indexed, and each candidate has the trigrams

@@ -5,9 +5,9 @@ ghost use Rattle.cs_tree.specs.Reads.{ReadsWithin};
 ghost use Rattle.cs_search.specs.InputReport.{max_searched};
 ghost use Rattle.cs_trigram.specs.QueryOf.{IsQueryOf};
 ghost use Rattle.cs_search.specs.Plans.{IsPlan, AreSelected, RefusesPlan};
-ghost use Rattle.cs_search.specs.Printed.{PrintsNothing};
+ghost use Rattle.cs_search.specs.Printed.{search_outputs, PrintsNothing};
 ghost use Rattle.cs_search.specs.Refusals.{has_write_failed, SilentOnError};
-ghost use Rattle.cs_search.specs.Searched.{IsSearch, search_outputs};
+ghost use Rattle.cs_search.specs.Searched.{IsSearch};
 
 use crate::name_filter::compile_file;
 use crate::searcher::Searcher;
@@ -59,11 +59,10 @@ impl Plan {
     ) -> Result<Status, ToolFault>
         requires { IsPlan job.now self.now }
         ensures searches { (bytes : Option (List ℕ)) → AreSelected self.now bytes names.now →
-            IsSearch job.now bytes (T.snapshot tree.old) (T.failed tree.old) (T.failed tree.new)
-            (search_outputs O.model E.model out.old err.old)
-            (search_outputs O.model E.model out.new err.new) result }
+            IsSearch IsQueryOf job.now bytes (T.snapshot tree.old) (T.failed tree.old) (T.failed tree.new)
+            (search_outputs O.model E.model out.old out.new err.old err.new) result }
         ensures silent { SilentOnError result
-            (PrintsNothing (O.model out.old) (O.model out.new) (E.model err.old) (E.model err.new)
+            (PrintsNothing (search_outputs O.model E.model out.old out.new err.old err.new)
             × (T.failed tree.new ≡ T.failed tree.old)
             × (T.longest_requested tree.new ≡ T.longest_requested tree.old)) }
         ensures reads { ReadsWithin (max_searched + 1)

@@ -1,21 +1,17 @@
 // The tool `cgrep`.
-ghost use Rattle.std.specs.Prelude.{◌≡◌, ◌+◌, ◌⊎◌, ℕ, Bool, List, [], IfOk, IfErr, OnOk, OnErr, MatchResult, string_bytes, if◌then◌else◌};
+ghost use Rattle.std.specs.Prelude.{◌≡◌, ◌+◌, [], IfOk, IfErr, OnOk, OnErr, MatchResult, string_bytes, if◌then◌else◌};
 ghost use Rattle.cs_tree.specs.Sinks.{CountsOne, GrowsFlushed, HasFlushed};
 ghost use Rattle.cs_tree.specs.ConsumesAtMost.{ConsumesAtMost};
 ghost use Rattle.cs_tree.specs.Reads.{ReadsWithin};
-ghost use Rattle.cs_syntax.specs.Matching.{Tree as PatternTree};
-ghost use Rattle.cs_syntax.specs.Parsing.{ParsesAs};
-ghost use Rattle.cs_match.specs.Deciding.{Decides};
 ghost use Rattle.cs_tree.specs.TakesPrefix.{EndsAfter, MayEnd};
 ghost use Rattle.cs_tree.specs.WritesBytes.{WritesBytes};
 ghost use Rattle.cs_search.specs.InputReport.{max_searched};
-ghost use Rattle.cs_search.specs.Cgrep.{cgrep_printed};
-ghost use Rattle.cs_search.specs.CgrepFaults.{PatternFirst, PrintsFaultsOf};
-ghost use Rattle.cs_search.specs.Refusals.{IsAccepted, SilentOnError, has_write_failed};
+ghost use Rattle.cs_search.specs.Cgrep.{cgrep_printed, PrintsFaultsOf, IsGrep};
+ghost use Rattle.cs_search.specs.Refusals.{SilentOnError, has_write_failed};
 ghost use Rattle.cs_search.specs.GrepFaults.{IsSearchFault};
 ghost use Rattle.cs_search.specs.Programs.{IsProgramOf, RefusesPattern};
 ghost use Rattle.cs_search.specs.Searcher.{PrintsBy, PrintsPrefixBy};
-ghost use Rattle.cs_search.specs.Printed.{PrintsStatus, PrintsNothing, PrintsSome};
+ghost use Rattle.cs_search.specs.Printed.{search_outputs, PrintsNothing};
 
 use crate::searcher::Searcher;
 use crate::status::Status;
@@ -41,32 +37,17 @@ pub fn cgrep<T: Tree, R: Source, O: Sink, E: Sink>(
     out: &mut O,
     err: &mut E,
 ) -> Result<Status, ToolFault>
-    ensures prints { IfOk result (λ status. (pattern : PatternTree) (has_match : List ℕ → Bool) →
-        ParsesAs (string_bytes job.now.pattern) job.now.fold pattern → Decides has_match pattern →
-        PrintsStatus
-        (cgrep_printed max_searched job.now has_match (T.snapshot tree.old) (R.model input.old))
-        (O.model out.old) (O.model out.new) (E.model err.old) (E.model err.new) status) }
-    ensures prefix { OnErr result
-        (PrintsNothing (O.model out.old) (O.model out.new) (E.model err.old) (E.model err.new)
-        ⊎ (IsAccepted (string_bytes job.now.pattern) job.now.fold
-        × ((pattern : PatternTree) (has_match : List ℕ → Bool) →
-        ParsesAs (string_bytes job.now.pattern) job.now.fold pattern → Decides has_match pattern →
-        PrintsSome
-        (cgrep_printed max_searched job.now has_match (T.snapshot tree.old) (R.model input.old))
-        (O.model out.old) (O.model out.new) (E.model err.old) (E.model err.new)))) }
-    ensures pattern { PatternFirst (string_bytes job.now.pattern) job.now.fold result }
+    ensures searches { IsGrep job.now (T.snapshot tree.old) (T.failed tree.old) (T.failed tree.new)
+        (R.model input.old) (R.model input.new) (R.failed input.old) (R.failed input.new)
+        (search_outputs O.model E.model out.old out.new err.old err.new) result }
     ensures silent { SilentOnError result
-        (PrintsNothing (O.model out.old) (O.model out.new) (E.model err.old) (E.model err.new)
+        (PrintsNothing (search_outputs O.model E.model out.old out.new err.old err.new)
         × (T.failed tree.new ≡ T.failed tree.old)
         × (T.longest_requested tree.new ≡ T.longest_requested tree.old)
         × (R.failed input.new ≡ R.failed input.old)
         × (R.model input.new ≡ R.model input.old)) }
-    ensures loses { ConsumesAtMost (max_searched + 1) (R.model input.old) (R.model input.new) }
     ensures reads { ReadsWithin (max_searched + 1)
         (T.read_counts tree.old) (T.read_counts tree.new) }
-    ensures faults { PrintsFaultsOf job.now
-        (T.failed tree.old) (T.failed tree.new) (R.failed input.old) (R.failed input.new)
-        (λ lines. EndsAfter lines (E.model err.old) (E.model err.new) result) }
     ensures flushed { OnOk result (HasFlushed (O.model out.new) × HasFlushed (E.model err.new)) }
     ensures writes { CountsOne (has_write_failed result)
         (O.failed out.old) (O.failed out.new) (E.failed err.old) (E.failed err.new) }

@@ -5,10 +5,11 @@ ghost use Rattle.cs_tree.specs.Reads.{ReadsWithin};
 ghost use Rattle.cs_tree.specs.FailureCount.{count_after};
 ghost use Rattle.cs_tree.specs.Transfers.{is_io_failure};
 ghost use Rattle.cs_search.specs.Refusals.{has_write_failed, SilentOnError};
-ghost use Rattle.cs_search.specs.Csearch.{AreAccepted};
+ghost use Rattle.cs_search.specs.Csearch.{IsSound, AreAccepted};
+ghost use Rattle.cs_trigram.specs.QueryOf.{IsQueryOf};
 ghost use Rattle.cs_search.specs.Plans.{IsPlan, AreSelected, RefusesPlan};
-ghost use Rattle.cs_search.specs.Printed.{PrintsNothing};
-ghost use Rattle.cs_search.specs.Searched.{IsSearch, search_outputs};
+ghost use Rattle.cs_search.specs.Printed.{search_outputs, PrintsNothing};
+ghost use Rattle.cs_search.specs.Searched.{IsSearch};
 ghost use Rattle.cs_search.specs.InputReport.{max_searched};
 ghost use Rattle.cs_search.specs.StoredSearch.{IsOpened, IfRead, IsUnopened, has_output_failed};
 
@@ -38,18 +39,20 @@ pub fn csearch_stored<S: Store, T: Tree, O: Sink, E: Sink>(
 ) -> Result<Result<Status, ToolFault>, IoFault>
     requires { IsOpened (S.model store.old) opened }
     ensures searches { IfRead (S.model store.old) result (λ index answer.
-        IsSearch job.now index (T.snapshot tree.old) (T.failed tree.old) (T.failed tree.new)
-        (search_outputs O.model E.model out.old err.old)
-        (search_outputs O.model E.model out.new err.new) answer) }
+        IsSearch IsSound job.now index (T.snapshot tree.old) (T.failed tree.old) (T.failed tree.new)
+        (search_outputs O.model E.model out.old out.new err.old err.new) answer) }
+    ensures selective { IfRead (S.model store.old) result (λ index answer.
+        IsSearch IsQueryOf job.now index (T.snapshot tree.old) (T.failed tree.old) (T.failed tree.new)
+        (search_outputs O.model E.model out.old out.new err.old err.new) answer) }
     ensures unopened { IfErr opened (λ fault. IsUnopened job.now fault result) }
     ensures silent { IfOk result (λ answer. SilentOnError answer
-        (PrintsNothing (O.model out.old) (O.model out.new) (E.model err.old) (E.model err.new)
+        (PrintsNothing (search_outputs O.model E.model out.old out.new err.old err.new)
         × (T.failed tree.new ≡ T.failed tree.old)
         × (T.longest_requested tree.new ≡ T.longest_requested tree.old))) }
     ensures unread { IfErr result (λ _. AreAccepted job.now
         × (T.failed tree.new ≡ T.failed tree.old)
         × (T.longest_requested tree.new ≡ T.longest_requested tree.old)
-        × PrintsNothing (O.model out.old) (O.model out.new) (E.model err.old) (E.model err.new)) }
+        × PrintsNothing (search_outputs O.model E.model out.old out.new err.old err.new)) }
     ensures reads { ReadsWithin (max_searched + 1)
         (T.read_counts tree.old) (T.read_counts tree.new) }
     ensures flushed { IfOk result (λ answer. OnOk answer

@@ -4,8 +4,7 @@ ghost use Rattle.cs_tree.specs.FailureCount.{count_after};
 ghost use Rattle.cs_match.specs.Work.{state_work};
 ghost use Rattle.cs_search.specs.Work.{input_work};
 ghost use Rattle.cs_search.specs.GrepFaults.{is_grep_failure};
-ghost use Rattle.cs_search.specs.GrepReports.{IsReportedBy, TakesPrefixBy};
-ghost use Rattle.cs_search.specs.InputReport.{text_report};
+ghost use Rattle.cs_search.specs.GrepReports.{text_report, IsReportedBy, TakesPrefixBy};
 
 use crate::grep_fault::GrepFault;
 use crate::grepped::Grepped;

@@ -1,5 +1,5 @@
-use Rattle.cs_search.proofs.SearchLemmas.{agrees, prefix_agrees}
+use Rattle.cs_search.proofs.SearchLemmas.{agrees}
 use Rattle.cs_search.proofs.laws.searches_agree_with_cgrep.Goals as goal
 
 pub returns : goal.returns
-returns c = record { agrees = agrees; prefix = prefix_agrees }
+returns c = agrees

@@ -1,6 +1,6 @@
 use Rattle.std.proofs.Common.{ℕ, List, [], ◌++◌, Option, Some, None, sym, ap, ◌∙◌}
 use Rattle.cs_tree.specs.Sinks.{SinkModel}
-use Rattle.cs_search.specs.InputReport.{text_report}
+use Rattle.cs_search.specs.GrepReports.{text_report}
 use Rattle.codesearch_c.specs.Compiled.{Compiled}
 use Rattle.codesearch_c.proofs.MatchingLineLemmas.{decides_program}
 use Rattle.codesearch_c.proofs.held.HeldPattern.report.Goals as goal

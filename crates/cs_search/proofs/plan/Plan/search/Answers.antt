@@ -6,14 +6,13 @@ use Rattle.cs_tree.specs.Sinks.{CountsOne}
 use Rattle.cs_args.specs.declared.fault.ToolFault.{ToolFault}
 use Rattle.cs_args.specs.declared.jobs.Tool.{Tool}
 use Rattle.cs_args.specs.declared.jobs.Tool.TheVariants.{Csearch}
-use Rattle.cs_search.specs.Printed.{Printed, PrintsStatus, PrintsSome}
-use Rattle.cs_search.specs.Searched.{SearchOutputs}
+use Rattle.cs_search.specs.Printed.{Printed, PrintsAnswer}
 use Rattle.cs_search.specs.Refusals.{has_write_failed}
 use Rattle.cs_search.specs.Searcher.{Prints, PrintsPrefix, PrintsAllFaults}
 use Rattle.cs_search.specs.declared.status.Status.{Status}
-use Rattle.cs_search.proofs.CgrepLemmas.{PrintsStatus-flushed}
+use Rattle.cs_search.proofs.CgrepLemmas.{PrintsAnswer-flushed}
 use Rattle.cs_search.proofs.CsearchLemmas.{by_csearch, search_silent}
-use Rattle.cs_search.proofs.PrintedInputLemmas.{PrintsSome-prefix, PrintsSome-all, done, undone, PrintsFaults-flushed, PrintsFaults-cut}
+use Rattle.cs_search.proofs.PrintedInputLemmas.{outputs_of, PrintsAnswer-prefix, PrintsAnswer-all, done, undone, PrintsFaults-flushed, PrintsFaults-cut}
 use Rattle.cs_search.proofs.MainPromiseLemmas.{searched, ready, faults_chosen}
 use Rattle.cs_search.proofs.SearchLemmas.{out_of_memory, refused_late, searched_to_the_end}
 use Rattle.cs_search.proofs.plan.Plan.search.Goals as goal
@@ -24,9 +23,10 @@ pub returns-in_err-searcher-clause-searches : goal.returns-in_err-searcher-claus
 returns-in_err-searcher-clause-searches g c = λ bytes selected.
     let p = err_from_is_err_and c.from_residual.result c.from_residual.ensures.1 in
     let failed = g.T.Tree.failed c.args.tree.now in
-    let outputs : SearchOutputs = record { out = g.O.Sink.model c.args.out.now; err = g.E.Sink.model c.args.err.now } in
-    rw (p.1, p.2) (out_of_memory c.args.job.now bytes (g.T.Tree.snapshot c.args.tree.now) failed failed outputs outputs
-    (Grows-same outputs.out, Grows-same outputs.err) refl)
+    let out = g.O.Sink.model c.args.out.now in
+    let err = g.E.Sink.model c.args.err.now in
+    rw (p.1, p.2) (out_of_memory c.args.job.now bytes (g.T.Tree.snapshot c.args.tree.now) failed failed
+    (outputs_of out out err err) (Grows-same out, Grows-same err) refl)
 
 -- ---- the search fails
 
@@ -51,11 +51,11 @@ returns-in_err-matched-clause-searches g c = λ bytes selected.
     let faults = subst (λ (t : Tool). PrintsAllFaults t (map string_bytes texts) before after err err-now undone)
     is.tool c.in_err-matched.ensures.faults in
     rw (p.1, p.2)
-    (refused_late job bytes tree before after (record { out = out; err = err })
-    (record { out = out-now; err = err-now }) plan.query (ready job bytes plan c.requires texts selected)
+    (refused_late job bytes tree before after (outputs_of out out-now err err-now) plan.query (ready job bytes plan c.requires texts selected)
     c.in_err-matched.field-0.0 c.in_err-matched.ensures.only
-    (searched job bytes plan c.requires texts selected tree (λ (printed : Option Printed). PrintsSome printed out out-now err err-now)
-    (λ has_match decides. PrintsSome-prefix _ out out-now err err-now (prints has_match decides)))
+    (searched job bytes plan c.requires texts selected tree (λ (printed : Option Printed). PrintsAnswer printed
+    (outputs_of out out-now err err-now) (Err c.in_err-matched.field-0.0))
+    (λ has_match decides. PrintsAnswer-prefix _ c.in_err-matched.field-0.0 out out-now err err-now (prints has_match decides)))
     (λ opened opens. PrintsFaults-cut Csearch {A = Status} (Err c.in_err-matched.field-0.0) _ opened.names before after
     err err-now refl (faults_chosen job bytes plan c.requires texts selected c.matching_is_decidable.ensures undone
     opened before after err err-now opens faults)))
@@ -95,11 +95,12 @@ returns-in_err-status-clause-searches g c = λ bytes selected.
     let faults = subst (λ (t : Tool). PrintsAllFaults t (map string_bytes texts) before after err err-now done) is.tool
     c.in_ok-matched.ensures.faults in
     rw (p.1, p.2)
-    (refused_late job bytes tree before after (record { out = out; err = err })
-    (record { out = out-later; err = err-later }) plan.query (ready job bytes plan c.requires texts selected)
+    (refused_late job bytes tree before after (outputs_of out out-later err err-later) plan.query (ready job bytes plan c.requires texts selected)
     c.in_err-status.field-0.0 c.in_err-status.ensures.only
-    (searched job bytes plan c.requires texts selected tree (λ (printed : Option Printed). PrintsSome printed out out-later err err-later)
-    (λ has_match decides. PrintsSome-all _ _ out-now _ _ err-now _ c.in_ok-matched.matched (prints has_match decides)
+    (searched job bytes plan c.requires texts selected tree (λ (printed : Option Printed). PrintsAnswer printed
+    (outputs_of out out-later err err-later) (Err c.in_err-status.field-0.0))
+    (λ has_match decides. PrintsAnswer-all _ c.in_err-status.field-0.0 out out-now out-later err err-now err-later
+    c.in_ok-matched.matched (prints has_match decides)
     c.in_err-status.ensures.out c.in_err-status.ensures.err))
     (λ opened opens. PrintsFaults-flushed Csearch {A = Status} (Err c.in_err-status.field-0.0) opened.names before after
     err err-now err-later
@@ -147,11 +148,10 @@ returns-clause-searches g c = λ bytes selected.
     plan.program is.tool is.style is.matcher c.in_ok-matched.ensures.prints in
     let faults = subst (λ (t : Tool). PrintsAllFaults t (map string_bytes texts) before after err err-now done) is.tool
     c.in_ok-matched.ensures.faults in
-    searched_to_the_end job bytes tree before after (record { out = out; err = err })
-    (record { out = out-later; err = err-later }) plan.query (ready job bytes plan c.requires texts selected) status
+    searched_to_the_end job bytes tree before after (outputs_of out out-later err err-later) plan.query (ready job bytes plan c.requires texts selected) status
     (searched job bytes plan c.requires texts selected tree
-    (λ (printed : Option Printed). PrintsStatus printed out out-later err err-later status)
-    (λ has_match decides. PrintsStatus-flushed _ _ out-now _ _ err-now _ c.in_ok-matched.matched status
+    (λ (printed : Option Printed). PrintsAnswer printed (outputs_of out out-later err err-later) (Ok status))
+    (λ has_match decides. PrintsAnswer-flushed _ out out-now out-later err err-now err-later c.in_ok-matched.matched status
     (prints has_match decides) c.in_ok-status.ensures.out c.in_ok-status.ensures.err c.in_ok-status.ensures.status))
     (λ opened opens. PrintsFaults-flushed Csearch {E = ToolFault} (Ok status) opened.names before after err err-now err-later
     (faults_chosen job bytes plan c.requires texts selected c.matching_is_decidable.ensures done opened before after err

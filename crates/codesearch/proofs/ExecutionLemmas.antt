@@ -180,7 +180,7 @@ is_opening Cgrep folder failed unreadable other is = absurd (other refl)
 abbrev why_unread : Bool → Option StorageFault
 why_unread failed = if failed then Some Failed else None
 
--- a file of which no read had failed is unreadable if one failed
+-- a file, none of whose reads had failed, is unreadable if one has failed
 counted : (failed : Bool) (n : ℕ) → n ≡ count_if failed 0 → why_unread failed ≡ (if nat_lt 0 n then Some Failed else None)
 counted true n is = rw (is) refl
 counted false n is = rw (is) refl

@@ -21,8 +21,8 @@ CONTRACTS = [
     ("cgrep", "cs_search/src/searching.rt", [], 850),
     ("csearch_stored", "cs_search/src/stored.rt", STORED, 1350),
     ("cindex_stored", "cs_cindex/src/job.rt", [], None),
-    ("run", "codesearch/src/running.rt", [], 2500),
-    ("execute", "codesearch/src/execution.rt", [], 2600),
+    ("run", "codesearch/src/running.rt", [], 2600),
+    ("execute", "codesearch/src/execution.rt", [], 2700),
 ]
 
 # the files of the traits

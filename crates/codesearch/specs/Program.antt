@@ -35,7 +35,7 @@ use Rattle.cs_history.specs.Jobs.{after_done}
 use Rattle.cs_history.specs.Premises.{modelled_snapshot, Premises}
 use Rattle.cs_search.specs.Cgrep.{IsGrep}
 use Rattle.cs_search.specs.Printed.{SearchOutputs, PrintsNothing}
-use Rattle.cs_search.specs.QueryOf.{IsQueryOf}
+use Rattle.cs_trigram.specs.QueryOf.{IsQueryOf}
 use Rattle.cs_search.specs.Refusals.{has_write_failed}
 use Rattle.cs_search.specs.Searched.{IsSearch}
 use Rattle.cs_search.specs.declared.status.Status.{Status}

@@ -1,7 +1,7 @@
 use Rattle.std.proofs.Common.{◌≡◌, Some, refl, sym, subst, rules}
 use Rattle.std.specs.Prelude.{IsSomeAnd}
 use Rattle.cs_search.specs.Printed.{search_outputs}
-use Rattle.cs_search.specs.QueryOf.{IsQueryOf}
+use Rattle.cs_trigram.specs.QueryOf.{IsQueryOf}
 use Rattle.cs_search.specs.Searched.{IsSearch}
 use Rattle.cs_cindex.specs.OldIndex.{IsIndex}
 use Rattle.codesearch.proofs.CallLemmas.{of_known}

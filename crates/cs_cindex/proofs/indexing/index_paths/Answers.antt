@@ -6,6 +6,7 @@ use Rattle.cs_index.proofs.common.ResultClauses.{any_err}
 use Rattle.cs_cindex.proofs.DiagnosticLemmas.{Prefix-none}
 use Rattle.cs_cindex.proofs.WalkIndexLemmas.{index_is, lies_under, index_built, too_large, too_many, many_found}
 use Rattle.cs_cindex.proofs.WalkOutputLemmas.{files_prefix, texts_walked, many_walked, prefix_left, prefix_files, prefix_whole, walk_printed}
+use Rattle.cs_cindex.proofs.ReadLemmas.{bytes_on, walked_bytes, reads_bytes}
 use Rattle.cs_cindex.proofs.indexing.index_paths.Goals as goal
 
 pub returns-in_err-indexer-clause-prefix : goal.returns-in_err-indexer-clause-prefix
@@ -132,3 +133,11 @@ pub returns-clause-requested : goal.returns-clause-requested
 returns-clause-requested g c = requests_on longest_path (g.T.Tree.longest_requested c.args.tree.now)
     (g.T.Tree.longest_requested c.walk.new.tree) (g.T.Tree.longest_requested c.index_files.new.tree)
     c.walk.ensures.requested c.index_files.ensures.requested
+
+pub returns-in_err-index-clause-reads : goal.returns-in_err-index-clause-reads
+returns-in_err-index-clause-reads g c =
+    bytes_on _ _ _ _ (walked_bytes _ _ _ c.walk.ensures.counts) (reads_bytes _ _ _ c.index_files.ensures.reads)
+
+pub returns-clause-reads : goal.returns-clause-reads
+returns-clause-reads g c =
+    bytes_on _ _ _ _ (walked_bytes _ _ _ c.walk.ensures.counts) (reads_bytes _ _ _ c.index_files.ensures.reads)

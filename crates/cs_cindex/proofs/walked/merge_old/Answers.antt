@@ -78,3 +78,7 @@ returns-in-Ok-true-clause-merged g c = λ bytes known parts are.
       short = c.requires.newer.short;
     })
     c.send.result c.send.ensures.bytes c.send.ensures.memory
+
+pub returns-in-Ok-false-clause-merged : goal.returns-in-Ok-false-clause-merged
+returns-in-Ok-false-clause-merged g c = λ bytes known parts are sound.
+    (refl, sym (c.in-Ok-false.ensures.whole bytes known parts are) ∙ c.in-Ok-false.field-0-test)

@@ -92,7 +92,7 @@ fn run_over<'a, F: IndexFolder, T: Tree, R: Source, O: Sink, E: Sink>(
 }
 
 /// Updates the claimed index file as the outcome says, and returns how the run ends.
-#[tactic(auto, using(crate::proofs::ExecutionLemmas::finish_done, crate::proofs::ExecutionLemmas::finish_failed, crate::proofs::ExecutionLemmas::finish_refused))]
+#[tactic(auto, using(crate::proofs::ExecutionLemmas::finish_done, crate::proofs::ExecutionLemmas::finish_failed))]
 fn updated<'a, F: IndexFolder>(
     outcome: Outcome<'a>,
     file: &'a str,

@@ -116,12 +116,15 @@ fn merge_limited(
 
 /// Whether two indexes merge to these bytes if the limit is their length, and fail if it is less.
 fn keeps_limits(alloc: Global, old: &[u8], newer: &[u8], want: &[u8]) -> Result<bool, MergeFault> {
-    for most in 0..want.len() as u32 {
+    let Ok(len) = u32::try_from(want.len()) else {
+        return Ok(false);
+    };
+    for most in 0..len {
         if merge_limited(alloc, most, old, newer).err() != Some(MergeFault::TooLarge) {
             return Ok(false);
         }
     }
-    Ok(merge_limited(alloc, want.len() as u32, old, newer)?.as_slice() == want)
+    Ok(merge_limited(alloc, len, old, newer)?.as_slice() == want)
 }
 
 #[test]

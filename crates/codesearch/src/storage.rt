@@ -357,7 +357,9 @@ fn open_unlocked(rt: &HostRuntime, path: &str, there: &Metadata) -> Result<File,
         }
         Err(error) => return Err(StorageFault::from(error)),
     };
-    if !is_same(there, &opened.metadata()?) {
+    let found = opened.metadata()?;
+    // A pipe may have the number of the removed file, and its read would wait.
+    if !found.is_file() || !is_same(there, &found) {
         return Err(StorageFault::Failed);
     }
     match opened.try_lock() {

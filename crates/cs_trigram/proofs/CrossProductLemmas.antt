@@ -1,14 +1,14 @@
 -- Trigrams across two adjacent texts.
-use Rattle.std.proofs.Common.{◌≡◌, ℕ, ◌-◌, Bool, true, List, [], ◌∷◌, ◌++◌, map, reverse, refl, inl, inr, sym, ◌∙◌, ap, subst, append_assoc}
-use Rattle.std.proofs.lemmas.List.{reverse-append, reverse-reverse}
+use Rattle.std.proofs.Common.{◌≡◌, ℕ, ◌-◌, ◌*◌, ◌<◌, ◌≤◌, Bool, true, List, [], ◌∷◌, ◌++◌, length, map, reverse, take, refl, inl, inr, sym, ◌∙◌, ap, subst, arith, append_assoc}
+use Rattle.std.proofs.lemmas.List.{reverse-append, reverse-reverse, take-take}
 use Rattle.cs_syntax.specs.Matching.{Tree, Trees, cat, more, MatchesSequence}
 use Rattle.cs_trigram.specs.Query.{matches_set, mentions, HasTrigrams}
 use Rattle.cs_tree.specs.Cover.{is_among}
 use Rattle.cs_trigram.specs.Analysis.{has_any}
-use Rattle.cs_trigram.specs.SequenceQuery.{IsAcross, IsCrossQuery, pairs}
+use Rattle.cs_trigram.specs.SequenceQuery.{IsAcross, IsCrossQuery, HasPair, HasPairs, pairs}
 use Rattle.std.specs.Prelude.{Contains, slice_range}
 use Rattle.std.proofs.lemmas.List.Elements.{Contains-append_right}
-use Rattle.cs_trigram.specs.EndStrings.{forward, backward, IsTruncation, whole_text, HasEndString, HasSomeEndString, AreCoarser, AreEndStrings}
+use Rattle.cs_trigram.specs.EndStrings.{forward, backward, IsTruncation, whole_text, HasEndString, HasSomeEndString, AreCoarser, AreEndStrings, all_truncated}
 use Rattle.cs_trigram.proofs.MayMatchLemmas.{OccursIn}
 use Rattle.cs_trigram.specs.declared.end_strings.EndString.{EndString}
 use Rattle.cs_trigram.specs.declared.queries.Query.{Query}
@@ -17,8 +17,9 @@ use Rattle.cs_trigram.proofs.MentionLemmas.{trigrams_within}
 use Rattle.cs_trigram.proofs.SubstringTrigramLemmas.{has_part, has_prefix, has_suffix}
 use Rattle.cs_trigram.proofs.ExactStringLemmas.{part_split}
 use Rattle.cs_trigram.proofs.EndStringLemmas.{rises, rises_all}
-use Rattle.cs_trigram.proofs.TruncationLemmas.{none_contained, first_contained, contained_cases, coarser_has}
-use Rattle.cs_trigram.proofs.SequenceQueryLemmas.{found_any_run}
+use Rattle.cs_trigram.proofs.TruncationLemmas.{none_contained, first_contained, contained_cases, coarser_has, truncated_from}
+use Rattle.cs_trigram.proofs.SequenceQueryLemmas.{any_run_found, found_any_run}
+use Rattle.cs_trigram.proofs.CrossLemmas.{fewer_within}
 
 -- a suffix followed by a prefix occurs in the concatenation
 pub occurs_across : (suffix prefix : EndString) (string u v : List ℕ) → string ≡ reverse suffix.string
@@ -127,3 +128,68 @@ pairs_across (suffix ∷ suffixes) prefixes w m =
           | inl same ↦ (p, first_contained p ps, same)
           | inr later ↦ let r = of_prefix ps later in (r.0, Contains-append_right (p ∷ []) ps r.0 r.1, r.2)
         ]
+
+-- ---- the pairs that a query asks for
+
+-- equal lists have as many pairs
+pub as_many_pairs : (last first suffixes prefixes : List EndString) → last ≡ suffixes → first ≡ prefixes →
+    length last * length first ≡ length suffixes * length prefixes
+as_many_pairs last first suffixes prefixes a b = (λ i. length (a i) * length (b i))
+
+-- each end string of a list begins one of another list, and has its first n bytes
+abbrev AreCut : ℕ → List EndString → List EndString → Type 0
+AreCut n short xs = (x : EndString) → Contains short x → (y : EndString) × Contains xs y × (x.string ≡ take n y.string)
+
+cut_twice : (m n : ℕ) (shorter short xs : List EndString) → m ≤ n → AreCut m shorter short → AreCut n short xs → AreCut m shorter xs
+cut_twice m n shorter short xs le a b x there =
+    let y = a x there in
+    let z = b y.0 y.1 in
+    (z.0, z.1, y.2 ∙ ap (take m) z.2 ∙ take-take m n z.0.string le)
+
+cut_as : (n : ℕ) (short xs : List EndString) → short ≡ all_truncated n xs → AreCut n short xs
+cut_as n short xs is x there = truncated_from n xs x (subst (λ (es : List EndString). Contains es x) is there)
+
+module _ (set : ℕ → Bool) (suffixes prefixes : List EndString) where
+  -- a pair of cut end strings
+  pair_of_cut : (m n : ℕ) (last first : List EndString) → AreCut m last suffixes → AreCut n first prefixes →
+      has_any set (pairs last first) ≡ true → HasPair set m n suffixes prefixes
+  pair_of_cut m n last first a b has =
+      let w = any_run_found set (pairs last first) has in
+      let across = pairs_across last first w.0 w.1 in
+      let suffix = a across.0 across.2 in
+      let prefix = b across.1 across.3 in (
+        suffix.0,
+        prefix.0,
+        suffix.1,
+        prefix.1,
+        subst (HasTrigrams set) (across.4 ∙ ap (λ (x : List ℕ). reverse x ++ across.1.string) suffix.2
+            ∙ ap (λ (x : List ℕ). reverse (take m suffix.0.string) ++ x) prefix.2) w.2,
+      )
+
+  fewer_of_pair : (m n : ℕ) → m ≤ 2 → n ≤ 2 → HasPair set 2 2 suffixes prefixes → HasPair set m n suffixes prefixes
+  fewer_of_pair m n a b pair = (pair.0, pair.1, pair.2, pair.3, fewer_within set 2 2 m n pair.0.string pair.1.string a b pair.4)
+
+  module _ (last first : List EndString) (is_last : last ≡ all_truncated 2 suffixes) (is_first : first ≡ all_truncated 2 prefixes) where
+    as_many : length last * length first ≡ length (all_truncated 2 suffixes) * length (all_truncated 2 prefixes)
+    as_many = as_many_pairs last first (all_truncated 2 suffixes) (all_truncated 2 prefixes) is_last is_first
+
+    pub pairs_of_product : length last * length first ≤ 64 → has_any set (pairs last first) ≡ true → HasPairs set suffixes prefixes
+    pairs_of_product few has =
+        let pair = pair_of_cut 2 2 last first (cut_as 2 last suffixes is_last) (cut_as 2 first prefixes is_first) has in
+        (λ le. pair, λ le. (fewer_of_pair 2 1 (omega arith) (omega arith) pair, fewer_of_pair 1 2 (omega arith) (omega arith) pair))
+
+    pub pairs_of_split : 64 < length last * length first →
+        (length last * length first ≤ 256 → (has_any set (pairs last (all_truncated 1 first)) ≡ true)
+        × (has_any set (pairs (all_truncated 1 last) first) ≡ true)) → HasPairs set suffixes prefixes
+    pairs_of_split many has = (
+      λ le. absurd (omega (arith, le, many, as_many)),
+      λ le.
+          let both = has (omega (arith, le, as_many)) in
+          let last_cut = cut_as 2 last suffixes is_last in
+          let first_cut = cut_as 2 first prefixes is_first in (
+            pair_of_cut 2 1 last (all_truncated 1 first) last_cut
+                (cut_twice 1 2 (all_truncated 1 first) first prefixes (omega arith) (truncated_from 1 first) first_cut) both.0,
+            pair_of_cut 1 2 (all_truncated 1 last) first
+                (cut_twice 1 2 (all_truncated 1 last) last suffixes (omega arith) (truncated_from 1 last) last_cut) first_cut both.1,
+          ),
+    )

@@ -10,11 +10,11 @@ use Rattle.cs_tree.specs.Cover.{is_among}
 use Rattle.cs_syntax.specs.Matching.{Tree, Trees, cat, alt, rep, none, more}
 use Rattle.cs_trigram.specs.MayMatch.{IsRepeated, MayMatch, MayMatchSequence, MayMatchBranch}
 use Rattle.cs_trigram.specs.Analysis.{AreExactStrings}
-use Rattle.cs_trigram.specs.EndStrings.{Direction, forward, backward, read, IsTruncation, whole_text, HasEndString, HasSomeEndString, AreCoarser, IsConcatenation, AreConcatenations, IsEndStringOf, AreEndStrings, AreEndStringsOfSome}
+use Rattle.cs_trigram.specs.EndStrings.{Direction, forward, backward, read, IsTruncation, whole_text, whole_end, with_end_strings, HasEndString, HasSomeEndString, AreCoarser, IsConcatenation, AreConcatenations, IsEndStringOf, AreEndStrings, AreEndStringsOfSome}
 use Rattle.cs_trigram.specs.declared.end_strings.EndString.{EndString}
 use Rattle.cs_trigram.proofs.MemberLemmas.{first_member, later_member}
 use Rattle.cs_trigram.proofs.EndStringLemmas.{rises, rises_all, end_strings_none, spans_forward, spans_backward, iteration_more, iterations_any}
-use Rattle.cs_trigram.proofs.TruncationLemmas.{any_end, empty_end, any_has, none_contained, only_contained, first_contained, contained_cases, contained_map, contained_in_map, truncation_same, truncation_both, coarser_has}
+use Rattle.cs_trigram.proofs.TruncationLemmas.{any_end, empty_end, any_has, none_contained, only_contained, first_contained, contained_cases, contained_map, contained_in_map, truncation_same, truncation_both, truncated_is, coarser_has, coarser_with_map}
 use Rattle.cs_trigram.proofs.ExactStringLemmas.{match_is_exact}
 use Rattle.cs_trigram.proofs.MayMatchLemmas.{exact_may_match, repeated_text, repeated_empty, repeated_both, some_empty, text_of, text_of_all, branches_have_members}
 
@@ -120,7 +120,7 @@ empty_end_strings direction end_strings is = record {
   each = λ h x m. empty_origin direction (MayMatchSequence false none) x refl (only_empty end_strings x is m);
 }
 
-member_contained : (texts : List (List ℕ)) (text : List ℕ) → Contains texts text → is_among texts text ≡ true
+pub member_contained : (texts : List (List ℕ)) (text : List ℕ) → Contains texts text → is_among texts text ≡ true
 member_contained [] text m = absurd (none_contained text m)
 member_contained (w ∷ texts) text m =
     elim (contained_cases w texts text m) [
@@ -130,10 +130,12 @@ member_contained (w ∷ texts) text m =
 
 -- the end strings of exact strings
 pub end_strings_of_exact : (direction : Direction) (texts : List (List ℕ)) (end_strings : List EndString) (t : Tree) →
-    AreExactStrings texts t →
-    AreCoarser end_strings (map (λ w. whole_text (read direction w)) texts) → AreEndStrings direction end_strings t
-end_strings_of_exact direction texts end_strings t exact coarser =
+    AreExactStrings texts t → end_strings ≡ with_end_strings [] (map (λ w. whole_end (read direction w)) texts) →
+    AreEndStrings direction end_strings t
+end_strings_of_exact direction texts end_strings t exact is =
     let whole_read : List ℕ → EndString = λ w. whole_text (read direction w) in
+    let coarser = subst (λ (es : List EndString). AreCoarser es (map whole_read texts)) (sym is)
+    (coarser_with_map (λ w. whole_end (read direction w)) whole_read (λ w. truncated_is 3 (whole_read w)) texts) in
     record {
       matching = λ s i j h.
           let text = slice_range s i j in

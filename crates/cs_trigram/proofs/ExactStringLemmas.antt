@@ -1,5 +1,5 @@
 -- A finite tree matches exactly the spans that are its exact strings, and an exact string has its exact runs.
-use Rattle.std.proofs.Common.{◌≡◌, ℕ, zero, suc, ◌+◌, ◌-◌, ◌<◌, ◌≤◌, inl, inr, Bool, true, List, [], ◌∷◌, ◌++◌, take, drop, length, refl, sym, ◌∙◌, ap, subst, arith, drop-cons}
+use Rattle.std.proofs.Common.{◌≡◌, ℕ, zero, suc, ◌+◌, ◌-◌, ◌<◌, ◌≤◌, inl, inr, Bool, true, List, [], ◌∷◌, ◌++◌, take, drop, length, refl, sym, ◌∙◌, ap, subst, arith, append_assoc, drop-cons}
 use Rattle.cs_syntax.specs.TreeList.{append}
 use Rattle.std.specs.Prelude.{slice_index, nat_le, Some, None, slice_range}
 use Rattle.std.proofs.Math.Seq.{take-add}
@@ -7,11 +7,12 @@ use Rattle.std.proofs.lemmas.Bool.{and_parts}
 use Rattle.std.proofs.lemmas.List.{drop-drop}
 use Rattle.cs_syntax.specs.Matching.{Tree, Trees, empty, one_of, one_char, cat, alt, rep, line_start, line_end, word_edge, not_word_edge, none, more, Chain, MatchesSpan, MatchesSequence, MatchesBranch}
 use Rattle.cs_trigram.specs.Query.{HasTrigrams}
-use Rattle.cs_trigram.specs.ExactRuns.{HasEachRun, HasWhole, HasRunsWithin, AllHaveRunsWithin, HasExactRuns, SomeHasExactRuns}
+use Rattle.cs_trigram.specs.ExactRuns.{HasEachRun, HasEachCross, HasWhole, HasRunsWithin, AllHaveRunsWithin, HasExactRuns, SomeHasExactRuns}
 use Rattle.cs_trigram.specs.MayMatch.{IsRepeated, MayMatch, MayMatchSequence, MayMatchBranch}
 use Rattle.cs_trigram.specs.ExactStrings.{is_finite, are_finite}
 use Rattle.cs_trigram.proofs.LeadingRunLemmas.{concatenates_one, concatenates_split}
 use Rattle.cs_trigram.proofs.SubstringTrigramLemmas.{has_prefix, has_suffix}
+use Rattle.cs_trigram.proofs.CrossLemmas.{ends_within, all_crosses}
 
 pub part_empty : (s : List ℕ) (i : ℕ) → slice_range s i i ≡ []
 part_empty s i = let none_left : i - i ≡ 0 = omega arith in ap (λ n. take n (drop i s)) none_left
@@ -100,12 +101,23 @@ module _ (set : ℕ → Bool) where
       let rest = has_suffix set first.0 first.1 (subst (HasTrigrams set) first.4 h) in
       (second.0, second.2, has_prefix set second.0 second.1 (subst (HasTrigrams set) second.4 rest))
 
+  crosses_found : (ts : Trees) (w : List ℕ) → MayMatchSequence true ts w → HasTrigrams set w → HasEachCross set ts
+  crosses_found ts w j h before t after e =
+      let first = concatenates_split before (more t after) w (subst (λ (x : Trees). MayMatchSequence true x w) e j) in
+      let part = first.3 in
+      let rest = subst (HasTrigrams set) part.4 (has_suffix set first.0 first.1 (subst (HasTrigrams set) first.4 h)) in
+      all_crosses set t after
+      (λ run behind a b m n is few small strings runs long.
+      let second = concatenates_split run behind part.1 (subst (λ (x : Trees). MayMatchSequence true x part.1) is part.3) in
+      let both = subst (HasTrigrams set) (ap (λ (x : List ℕ). part.0 ++ x) second.4 ∙ sym (append_assoc part.0 second.0 second.1)) rest in
+      (part.0, second.0, part.2, second.2, ends_within set m n part.0 second.0 (has_prefix set (part.0 ++ second.0) second.1 both)))
+
   exact_has_whole : (t : Tree) (w : List ℕ) → MayMatch true t w → HasTrigrams set w → HasWhole set t
   exact_has_whole t w s h few = (w, concatenates_one t w s, h)
 
   mutual
     pub exact_match_has_runs_within : (t : Tree) (w : List ℕ) → MayMatch true t w → HasTrigrams set w → HasRunsWithin set t
-    exact_match_has_runs_within (cat ts) w s h = (runs_found ts w s h, concatenated_within ts w s h)
+    exact_match_has_runs_within (cat ts) w s h = (runs_found ts w s h, crosses_found ts w s h, concatenated_within ts w s h)
     exact_match_has_runs_within (alt ts) w s h = some_exact_runs ts w s h
     exact_match_has_runs_within (rep x zero m) w s h = tt
     exact_match_has_runs_within (rep x (suc n) m) w s h =

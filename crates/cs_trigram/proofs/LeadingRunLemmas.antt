@@ -1,5 +1,5 @@
 -- Runs with few exact strings, and leading runs.
-use Rattle.std.proofs.Common.{◌≡◌, ℕ, ◌-◌, ◌<◌, ◌⊎◌, ◌&&◌, inl, inr, true, false, List, [], ◌∷◌, ◌++◌, take, drop, length, map, refl, sym, ◌∙◌, ap, subst, arith, append_assoc, length-append}
+use Rattle.std.proofs.Common.{◌≡◌, ℕ, ◌-◌, ◌<◌, ◌≤◌, ◌⊎◌, ◌&&◌, inl, inr, true, false, List, [], ◌∷◌, ◌++◌, take, drop, length, map, refl, sym, ◌∙◌, ap, subst, arith, append_assoc, length-append}
 use Rattle.cs_syntax.specs.TreeList.{append}
 use Rattle.std.proofs.Math.Bool.{and_assoc}
 use Rattle.std.proofs.Math.Seq.{take-append_seam, drop-append_seam}
@@ -9,7 +9,7 @@ use Rattle.cs_syntax.specs.Matching.{Tree, Trees, cat, alt, none, more}
 use Rattle.cs_syntax.proofs.TreeListLemmas.{append_assoc_trees}
 use Rattle.cs_tree.specs.Cover.{is_among}
 use Rattle.cs_trigram.specs.MayMatch.{MayMatch, MayMatchSequence, MayMatchBranch}
-use Rattle.cs_trigram.specs.ExactStrings.{is_finite, are_finite, HaveFewExactStrings}
+use Rattle.cs_trigram.specs.ExactStrings.{is_finite, are_finite, HaveExactStrings, HaveFewExactStrings}
 use Rattle.cs_trigram.specs.Analysis.{with_strings, concatenations, IsEnumeration, IsBlocked, IsLongestLeadingRun, EnumeratesTree, AreExactStrings}
 use Rattle.cs_trigram.proofs.MayMatchLemmas.{sequence_of_both}
 use Rattle.cs_trigram.proofs.MemberLemmas.{map_member, different_within, first_member, only_member}
@@ -35,11 +35,11 @@ pub exact_of_one : (t : Tree) (w : List ℕ) → MayMatchSequence true (more t n
 exact_of_one t w j =
     subst (MayMatch true t) (sym (j.4 ∙ ap (λ x. j.0 ++ x) j.3 ∙ append-nil j.0)) j.2
 
--- a run with few strings has only subruns with few strings
-few_part : (run part : Trees) (whole cut : List ℕ → List ℕ) → ((u : List ℕ) → cut (whole u) ≡ u) →
+-- a run with at most n strings has only subruns with at most n strings
+few_part : (n : ℕ) (run part : Trees) (whole cut : List ℕ → List ℕ) → ((u : List ℕ) → cut (whole u) ≡ u) →
     ((u : List ℕ) → MayMatchSequence true part u → MayMatchSequence true run (whole u)) →
-    are_finite part ≡ true → (u : List ℕ) → MayMatchSequence true part u → HaveFewExactStrings run → HaveFewExactStrings part
-few_part run part whole cut back to finite u one few = (
+    are_finite part ≡ true → (u : List ℕ) → MayMatchSequence true part u → HaveExactStrings n run → HaveExactStrings n part
+few_part n run part whole cut back to finite u one few = (
   finite,
   (
     (u, one),
@@ -52,23 +52,33 @@ few_part run part whole cut back to finite u one few = (
   ),
 )
 
-pub few_prefix : (a b : Trees) → HaveFewExactStrings (append a b) → HaveFewExactStrings a
-few_prefix a b few =
+pub strings_of_prefix : (n : ℕ) (a b : Trees) → HaveExactStrings n (append a b) → HaveExactStrings n a
+strings_of_prefix n a b few =
     let parts = and_parts (are_finite a) (are_finite b) (sym (finite_append a b) ∙ few.0) in
     let first = concatenates_split a b few.1.0.0 few.1.0.1 in
     let v = first.1 in
-    few_part (append a b) a (λ u. u ++ v) (λ x. take (length x - length v) x)
+    few_part n (append a b) a (λ u. u ++ v) (λ x. take (length x - length v) x)
     (λ u. let long : length (u ++ v) - length v ≡ length u = omega (arith, length-append u v) in
     ap (λ n. take n (u ++ v)) long ∙ take-append_seam u v)
     (λ u j. sequence_of_both true a b u v j first.3) parts.0 first.0 first.2 few
 
-pub few_suffix : (a b : Trees) → HaveFewExactStrings (append a b) → HaveFewExactStrings b
-few_suffix a b few =
+pub strings_of_suffix : (n : ℕ) (a b : Trees) → HaveExactStrings n (append a b) → HaveExactStrings n b
+strings_of_suffix n a b few =
     let parts = and_parts (are_finite a) (are_finite b) (sym (finite_append a b) ∙ few.0) in
     let first = concatenates_split a b few.1.0.0 few.1.0.1 in
     let u = first.0 in
-    few_part (append a b) b (λ v. u ++ v) (drop (length u)) (drop-append_seam u)
+    few_part n (append a b) b (λ v. u ++ v) (drop (length u)) (drop-append_seam u)
     (λ v j. sequence_of_both true a b u v first.2 j) parts.1 first.1 first.3 few
+
+pub few_prefix : (a b : Trees) → HaveFewExactStrings (append a b) → HaveFewExactStrings a
+few_prefix = strings_of_prefix 20
+
+pub few_suffix : (a b : Trees) → HaveFewExactStrings (append a b) → HaveFewExactStrings b
+few_suffix = strings_of_suffix 20
+
+-- at most n strings are at most m
+pub strings_within : (n m : ℕ) (ts : Trees) → n ≤ m → HaveExactStrings n ts → HaveExactStrings m ts
+strings_within n m ts le strings = (strings.0, (strings.1.0, (strings.1.1.0, omega (arith, le, strings.1.1.1), strings.1.1.2)))
 
 -- two prefixes of one list: one of them is a prefix of the other
 pub prefixes_compare : (a x b y : Trees) → append a x ≡ append b y →

@@ -7,6 +7,9 @@ mod SequenceQueryLemmas
 mod CharStringLemmas
 mod ExactSetLemmas
 mod CrossProductLemmas
+mod CrossLemmas
+mod RunPrefixLemmas
+mod CrossQueryLemmas
 mod Examples
 mod LeadingRunLemmas
 mod SixgramCacheLemmas

@@ -1,20 +1,17 @@
 -- The trigrams that queries mention.
-use Rattle.std.proofs.Common.{◌≡◌, ℕ, zero, suc, ◌+◌, ◌<◌, ◌&&◌, ◌||◌, Bool, true, false, List, [], ◌∷◌, ◌++◌, get_or, drop, take, length, refl, sym, ◌∙◌, ap, subst, inl, inr, arith}
+use Rattle.std.proofs.Common.{◌≡◌, ℕ, ◌<◌, ◌||◌, Bool, true, false, List, [], ◌∷◌, ◌++◌, drop, take, refl, sym, ◌∙◌, ap, subst, inl, inr}
 use Rattle.std.proofs.lemmas.Bool.{false≢true, or_cases, or_left, or_right, eqb-true, eq-eqb}
-use Rattle.std.proofs.Math.Bool.{and_assoc}
-use Rattle.std.specs.List.{list_all}
 use Rattle.std.proofs.lemmas.List.{append-nil, take-append-drop}
 use Rattle.std.specs.Prelude.{nat_eq}
-use Rattle.cs_trigram.specs.Trigram.{trigram, trigram_sequence, tri, has}
+use Rattle.cs_trigram.specs.Trigram.{trigram_sequence, tri, has}
 use Rattle.cs_trigram.specs.TrigramSets.{trigram_count}
-use Rattle.cs_trigram.specs.Query.{matches_set, mentions}
+use Rattle.cs_trigram.specs.Query.{mentions}
 use Rattle.cs_trigram.specs.MayMatch.{IsTrigramOf}
 use Rattle.cs_trigram.proofs.MayMatchLemmas.{OccursIn}
-use Rattle.cs_trigram.specs.Analysis.{AreTrigramsOf, all_match}
-use Rattle.cs_trigram.specs.declared.queries.Query.{Query}
+use Rattle.cs_trigram.specs.Analysis.{AreTrigramsOf}
 use Rattle.cs_trigram.specs.declared.queries.Query.TheVariants.{All, Tri}
-use Rattle.cs_trigram.proofs.LawLemmas.{has-before, has-part_of}
-use Rattle.cs_trigram.proofs.QueryLemmas.{matches_set-Tri, mentions-All, mentions-Tri}
+use Rattle.cs_trigram.proofs.LawLemmas.{has-part_of}
+use Rattle.cs_trigram.proofs.QueryLemmas.{mentions-All, mentions-Tri}
 use Rattle.cs_trigram.proofs.SetLemmas.{has-append, has-set_of_numbers}
 
 -- a trigram of a text is one of each text in which it occurs

@@ -1,22 +1,23 @@
 -- Worked examples: what a query loses, how selective it is, and what it may mention.
-use Rattle.std.proofs.Common.{◌≡◌, ℕ, zero, suc, inl, inr, Bool, true, false, List, [], ◌∷◌, ◌++◌, refl, sym, ap, subst, ◌∙◌, arith, codes, Some, None, replicate}
-use Rattle.std.specs.Prelude.{◌↔◌, ◌&&◌, encode_utf8, nat_le}
+use Rattle.std.proofs.Common.{◌≡◌, ℕ, zero, suc, inl, inr, Bool, true, false, List, [], ◌∷◌, ◌++◌, refl, sym, ap, subst, ◌∙◌, arith, codes, length, take, reverse, Some, None, replicate}
+use Rattle.std.specs.Prelude.{◌↔◌, ◌&&◌, encode_utf8, nat_eq, nat_le}
 use Rattle.std.specs.List.{list_all}
-use Rattle.std.proofs.lemmas.Bool.{true≢false, and_parts, or_cases, leb-true}
+use Rattle.std.proofs.lemmas.Bool.{true≢false, and_parts, or_cases, leb-true, eqb-true}
 use Rattle.cs_syntax.specs.Matching.{Tree, Trees, empty, one_of, one_char, cat, alt, rep, line_end, word_edge, none, more, member, HasMatch, MatchesSequence}
 use Rattle.cs_syntax.specs.Characters.{is_scalar, has_char}
 use Rattle.cs_tree.specs.Cover.{is_among}
-use Rattle.cs_trigram.proofs.MemberLemmas.{first_member, later_member, member_cases, only_member}
+use Rattle.cs_trigram.proofs.MemberLemmas.{no_member, first_member, later_member, member_cases, only_member}
 use Rattle.cs_trigram.specs.Trigram.{has, tri}
-use Rattle.cs_trigram.specs.MayMatch.{MayMatch, MayMatchSequence, HasMembers, MentionsTrigramsOf}
+use Rattle.cs_trigram.specs.MayMatch.{MayMatch, MayMatchSequence, MayMatchBranch, HasMembers, MentionsTrigramsOf}
 use Rattle.cs_trigram.specs.Query.{HasTrigrams, LosesNoLine}
-use Rattle.cs_trigram.specs.ExactStrings.{is_finite, HaveFewExactStrings}
+use Rattle.cs_trigram.specs.ExactStrings.{is_finite, HaveExactStrings, HaveFewExactStrings, HaveLongStrings}
 use Rattle.cs_trigram.specs.ExactQuery.{HasFewExactStrings, RequiresExactString}
-use Rattle.cs_trigram.specs.ExactRuns.{HasExactRuns, IsSelective}
+use Rattle.cs_trigram.specs.ExactRuns.{HasCross, HasExactRuns, IsSelective}
 use Rattle.cs_trigram.specs.declared.queries.Query.TheVariants.{All, Tri}
 use Rattle.cs_trigram.proofs.QueryLemmas.{matches_set-All, matches_set-Tri, mentions-Tri}
 use Rattle.cs_trigram.proofs.LeadingRunLemmas.{concatenates_one, exact_of_one}
 use Rattle.cs_trigram.proofs.ExactStringLemmas.{exact_match_has_runs}
+use Rattle.cs_trigram.proofs.SubstringTrigramLemmas.{all_trigrams_tri}
 
 -- the set of one byte
 abbrev only : ℕ → List Bool
@@ -108,6 +109,84 @@ requiring_nothing_is_not_selective selective =
       | inl first ↦ true≢false (sym (subst (HasTrigrams (λ n. false)) first has_runs.2))
       | inr rest ↦ true≢false (sym (subst (HasTrigrams (λ n. false)) (only_member has_runs.0 (codes "cdef") rest) has_runs.2))
     ]
+
+-- ---- `(ab|cd|ef|gh|ij|kl)(mn|op|qr|st|uv)`: the thirty strings are no run, but each of the two parts has few. The set
+-- has the trigrams of one of the thirty, so a query that requires nothing is not selective
+
+-- an alternation of words
+abbrev words : List (List ℕ) → Trees
+words [] = none
+words (word ∷ rest) = more (cat (letters word)) (words rest)
+
+word_of : (all : List (List ℕ)) (string : List ℕ) → MayMatchBranch true (words all) string → is_among all string ≡ true
+word_of [] string b = absurd b
+word_of (word ∷ rest) string b =
+    elim b [
+      | inl this ↦ first_member string word rest (concatenates_no_other true word string this)
+      | inr other ↦ later_member string word rest (word_of rest string other)
+    ]
+
+abbrev six : List (List ℕ)
+six = codes "ab" ∷ codes "cd" ∷ codes "ef" ∷ codes "gh" ∷ codes "ij" ∷ codes "kl" ∷ []
+
+abbrev five : List (List ℕ)
+five = codes "mn" ∷ codes "op" ∷ codes "qr" ∷ codes "st" ∷ codes "uv" ∷ []
+
+abbrev run_of_five : Trees
+run_of_five = more (alt (words five)) none
+
+six_have_exact_strings : HaveExactStrings 6 (more (alt (words six)) none)
+six_have_exact_strings = (
+  refl,
+  (
+    (codes "ab", concatenates_one (alt (words six)) (codes "ab") (inl (concatenates true (codes "ab")))),
+    (six, omega arith, λ string j. word_of six string (exact_of_one (alt (words six)) string j)),
+  ),
+)
+
+five_have_exact_strings : HaveExactStrings 5 run_of_five
+five_have_exact_strings = (
+  refl,
+  (
+    (codes "mn", concatenates_one (alt (words five)) (codes "mn") (inl (concatenates true (codes "mn")))),
+    (five, omega arith, λ string j. word_of five string (exact_of_one (alt (words five)) string j)),
+  ),
+)
+
+two_bytes_of : (all : List (List ℕ)) (string : List ℕ) → list_all (λ word. nat_eq (length word) 2) all ≡ true →
+    is_among all string ≡ true → length string ≡ 2
+two_bytes_of [] string each m = absurd (no_member string m)
+two_bytes_of (word ∷ rest) string each m =
+    let both = and_parts (nat_eq (length word) 2) (list_all (λ w. nat_eq (length w) 2) rest) each in
+    elim (member_cases string word rest m) [
+      | inl same ↦ ap length same ∙ eqb-true (length word) 2 both.0
+      | inr later ↦ two_bytes_of rest string both.1 later
+    ]
+
+five_are_long : HaveLongStrings 2 run_of_five
+five_are_long string j = omega (arith, two_bytes_of five string refl (word_of five string (exact_of_one (alt (words five)) string j)))
+
+-- both trigrams of the two bytes before the end of the first part and the two after it
+cross_of_thirty : (set : ℕ → Bool) → HasExactRuns set (cat (more (alt (words six)) run_of_five)) →
+    HasCross set 2 2 (alt (words six)) run_of_five
+cross_of_thirty set has_runs =
+    (has_runs.1.1 none (alt (words six)) run_of_five refl run_of_five none 6 5 refl (omega arith) (omega arith) six_have_exact_strings
+    five_have_exact_strings five_are_long).0 (omega arith)
+
+requiring_nothing_across_is_not_selective : IsSelective All (cat (more (alt (words six)) run_of_five)) → ⊥
+requiring_nothing_across_is_not_selective selective =
+    let cross = cross_of_thirty (λ n. false) (selective (λ n. false) (matches_set-All (λ n. false))) in
+    by cross.0 cross.1 (two_bytes_of six cross.0 refl (word_of six cross.0 cross.2))
+    (two_bytes_of five cross.1 refl (word_of five cross.1 (exact_of_one (alt (words five)) cross.1 cross.3))) cross.4
+  where
+    by : (u v : List ℕ) → length u ≡ 2 → length v ≡ 2 → HasTrigrams (λ n. false) (reverse (take 2 (reverse u)) ++ take 2 v) → ⊥
+    by (a ∷ b ∷ []) (c ∷ d ∷ []) x y has = true≢false (sym (sym (all_trigrams_tri (λ n. false) (a ∷ b ∷ c ∷ d ∷ [])) ∙ has))
+    by [] v x y has = absurd (omega (arith, x))
+    by (a ∷ []) v x y has = absurd (omega (arith, x))
+    by (a ∷ b ∷ c ∷ u) v x y has = absurd (omega (arith, x))
+    by (a ∷ b ∷ []) [] x y has = absurd (omega (arith, y))
+    by (a ∷ b ∷ []) (c ∷ []) x y has = absurd (omega (arith, y))
+    by (a ∷ b ∷ []) (c ∷ d ∷ e ∷ v) x y has = absurd (omega (arith, y))
 
 -- ---- `abc?`: a query that requires `abc` loses the line `ab`
 

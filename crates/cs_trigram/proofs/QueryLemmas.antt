@@ -1,11 +1,11 @@
 -- The equations of `matches_set` and of `mentions`, one for each variant.
-use Rattle.std.proofs.Common.{◌≡◌, ℕ, ◌+◌, ◌≤◌, ◌&&◌, ◌||◌, Bool, true, false, List, [], ◌∷◌, ◌++◌, drop, length, Vec, Global, sym, ◌∙◌, ap, arith, length-drop}
+use Rattle.std.proofs.Common.{◌≡◌, ℕ, ◌≤◌, ◌&&◌, ◌||◌, Bool, true, false, List, [], ◌∷◌, ◌++◌, length, Vec, Global, sym, ◌∙◌, ap, arith}
 use Rattle.std.specs.Prelude.{nat_eq}
 use Rattle.std.specs.List.{list_all}
 use Rattle.std.proofs.Math.Bool.{and-true, or-false, or-true, or_assoc}
 use Rattle.std.proofs.lemmas.List.Folds.{list_all-map, list_all-append, list_any-append}
 use Rattle.cs_tree.proofs.NameLemmas.{list_any-map}
-use Rattle.cs_trigram.specs.Trigram.{trigram_sequence, set_of_numbers}
+use Rattle.cs_trigram.specs.Trigram.{set_of_numbers}
 use Rattle.cs_trigram.proofs.SplitTrigramLemmas.{sequence-short}
 use Rattle.cs_trigram.specs.Query.{matches_set, matches_set_step, mentions, mentions_step}
 use Rattle.cs_trigram.specs.Analysis.{has_trigrams, all_match, some_matches, some_mentions, has_any}

@@ -1,5 +1,5 @@
 -- The query of a sequence, part by part from the last to the first.
-use Rattle.std.proofs.Common.{◌≡◌, ℕ, ◌-◌, ◌<◌, ◌≤◌, ◌&&◌, inl, inr, Bool, true, List, [], ◌∷◌, ◌++◌, length, refl, sym, ◌∙◌, ap, subst, arith}
+use Rattle.std.proofs.Common.{◌≡◌, ℕ, ◌-◌, ◌≤◌, ◌&&◌, inl, inr, Bool, true, List, [], ◌∷◌, length, refl, sym, ◌∙◌, ap, subst}
 use Rattle.cs_syntax.specs.TreeList.{append}
 use Rattle.cs_tree.specs.Cover.{is_among}
 use Rattle.cs_trigram.proofs.MemberLemmas.{no_member, first_member, later_member, member_cases}
@@ -7,12 +7,13 @@ use Rattle.std.proofs.lemmas.Bool.{and_parts, and_from, or_cases, or_left, or_ri
 use Rattle.cs_syntax.specs.Matching.{Tree, Trees, cat, none, more, MatchesSpan, MatchesSequence}
 use Rattle.std.specs.Prelude.{slice_range}
 use Rattle.cs_trigram.specs.Query.{HasTrigrams}
-use Rattle.cs_trigram.specs.Analysis.{has_trigrams, with_strings, concatenations, EnumeratesTree, IsBlocked, IsLongestLeadingRun, AreExactStrings, has_any, IsQueryBeyondRun}
-use Rattle.cs_trigram.specs.ExactRuns.{HasRun, HasEachRun, HasRunsWithin, HasExactRuns}
+use Rattle.cs_trigram.specs.Analysis.{has_trigrams, with_strings, concatenations, IsBlocked, IsLongestLeadingRun, AreExactStrings, has_any, IsQueryBeyondRun}
+use Rattle.cs_trigram.specs.ExactRuns.{HasRun, HasEachRun, HasCrosses, HasRunsWithin, HasExactRuns}
 use Rattle.cs_trigram.specs.ExactStrings.{is_finite, HaveFewExactStrings}
 use Rattle.cs_trigram.proofs.EnumerationLemmas.{some_member, some_concatenation}
 use Rattle.cs_trigram.proofs.LeadingRunLemmas.{empty_run_strings, few_prefix, few_suffix, run_begins, run_step, concatenates_one, exact_of_one}
 use Rattle.cs_trigram.proofs.SubstringTrigramLemmas.{has_part, has_prefix, has_suffix}
+use Rattle.cs_trigram.proofs.CrossLemmas.{crosses_more, no_crosses}
 use Rattle.cs_trigram.proofs.ExactStringLemmas.{match_of_all_is_exact, matches_prefix, exact_match_has_runs_within}
 
 module _ (set : ℕ → Bool) where
@@ -59,13 +60,14 @@ module _ (set : ℕ → Bool) where
 pub empty_run : (t : Tree) (ts : Trees) → (HaveFewExactStrings (more t none) → ⊥) → IsLongestLeadingRun (more t ts) ([] ∷ [])
 empty_run t ts no_few = record { run = none; after = more t ts; is = refl; exact = empty_run_strings; blocked = no_few }
 
-pub query_of_none : (conjuncts : (ℕ → Bool) → Bool) → ((set : ℕ → Bool) → conjuncts set ≡ true) → IsQueryBeyondRun ([] ∷ []) conjuncts none
+pub query_of_none : (conjuncts : (ℕ → Bool) → Bool) → ((set : ℕ → Bool) → conjuncts set ≡ true) → IsQueryBeyondRun ([] ∷ []) conjuncts none none
 query_of_none conjuncts all = record {
   run = record { run = none; after = none; is = refl; exact = empty_run_strings; blocked = tt };
   matching = λ s set i j h has. all set;
   selective = λ set n h. (
     λ before run after e few. let parts = none_appended before (append run after) e in let inner =
         none_appended run after parts.1 in subst (HasRun set) (sym inner.0) ([], refl, refl),
+    no_crosses set,
     tt,
   );
 }
@@ -75,13 +77,13 @@ query_of_none conjuncts all = record {
     none_appended (more t a) b e = (cc)
 
 module _ (leading : List (List ℕ)) (conjuncts later : (ℕ → Bool) → Bool) (t : Tree) (ts : Trees)
-    (sequence_query : IsQueryBeyondRun leading conjuncts ts) where
+    (sequence_query : IsQueryBeyondRun leading conjuncts ts ts) where
   -- a part with exact strings that are not few
   pub query_past_cut : (match_query : (ℕ → Bool) → Bool) → (HaveFewExactStrings (more t none) → ⊥) →
       ((s : List ℕ) (set : ℕ → Bool) (i j : ℕ) → MatchesSpan s t i j → HasTrigrams set s → match_query set ≡ true) →
       ((set : ℕ → Bool) → match_query set ≡ true → HasExactRuns set t) →
       ((set : ℕ → Bool) → later set ≡ ((conjuncts set && has_any set leading) && match_query set)) →
-      IsQueryBeyondRun ([] ∷ []) later (more t ts)
+      IsQueryBeyondRun ([] ∷ []) later (more t ts) ts
   query_past_cut match_query no_few matching selective is = record {
     run = empty_run t ts no_few;
     matching = λ s set i j h has.
@@ -93,7 +95,7 @@ module _ (leading : List (List ℕ)) (conjuncts later : (ℕ → Bool) → Bool)
         let both = and_parts (conjuncts set && has_any set leading) (match_query set) (sym (is set) ∙ n) in
         let old = and_parts (conjuncts set) (has_any set leading) both.0 in
         let runs = sequence_query.selective set old.0 old.1 in
-        (runs_more set t ts runs.0 (short set), ((selective set both.1).1, runs.1));
+        (runs_more set t ts runs.0 (short set), runs.1, ((selective set both.1).1, runs.2));
   }
     where
       short : (set : ℕ → Bool) (run after : Trees) → more t ts ≡ append run after → HaveFewExactStrings run → HasRun set run
@@ -104,7 +106,7 @@ module _ (leading : List (List ℕ)) (conjuncts later : (ℕ → Bool) → Bool)
 
   -- a part that extends the leading run
   pub query_past_few : (us : List (List ℕ)) → AreExactStrings us t → length (with_strings [] (concatenations us leading)) ≤ 20 →
-      IsQueryBeyondRun (with_strings [] (concatenations us leading)) conjuncts (more t ts)
+      IsQueryBeyondRun (with_strings [] (concatenations us leading)) conjuncts (more t ts) ts
   query_past_few us strings le =
       let old = sequence_query.run in
       let ws = with_strings [] (concatenations us leading) in
@@ -127,7 +129,8 @@ module _ (leading : List (List ℕ)) (conjuncts later : (ℕ → Bool) → Bool)
             (has_suffix set parts.0 parts.1 has) in
             let runs = sequence_query.selective set n prefix_string in (
               runs_more set t ts runs.0 (run_found set (more t ts) ws f h),
-              (exact_match_has_runs_within set t parts.0 parts.2 (has_prefix set parts.0 parts.1 has), runs.1),
+              runs.1,
+              (exact_match_has_runs_within set t parts.0 parts.2 (has_prefix set parts.0 parts.1 has), runs.2),
             );
       }
     where
@@ -138,7 +141,7 @@ module _ (leading : List (List ℕ)) (conjuncts later : (ℕ → Bool) → Bool)
   -- a part that does not extend the leading run, and begins another one
   pub query_past_run : (ws : List (List ℕ)) → IsLongestLeadingRun (more t ts) ws → HaveFewExactStrings (more t none) →
       ((set : ℕ → Bool) → later set ≡ (conjuncts set && has_any set leading)) →
-      IsQueryBeyondRun ws later (more t ts)
+      IsQueryBeyondRun ws later (more t ts) ts
   query_past_run ws f few is = record {
     run = f;
     matching = λ s set i j h has.
@@ -149,12 +152,13 @@ module _ (leading : List (List ℕ)) (conjuncts later : (ℕ → Bool) → Bool)
         let runs = sequence_query.selective set old.0 old.1 in
         let one = run_found set (more t ts) ws f h (more t none) ts refl few in (
           runs_more set t ts runs.0 (run_found set (more t ts) ws f h),
-          (exact_match_has_runs_within set t one.0 (exact_of_one t one.0 one.1) one.2, runs.1),
+          runs.1,
+          (exact_match_has_runs_within set t one.0 (exact_of_one t one.0 one.1) one.2, runs.2),
         );
   }
 
 -- the whole sequence
-pub query_of_whole : (leading : List (List ℕ)) (conjuncts whole : (ℕ → Bool) → Bool) (ts : Trees) → IsQueryBeyondRun leading conjuncts ts →
+pub query_of_whole : (leading : List (List ℕ)) (conjuncts whole : (ℕ → Bool) → Bool) (ts : Trees) → IsQueryBeyondRun leading conjuncts ts ts →
     ((set : ℕ → Bool) → whole set ≡ (conjuncts set && has_any set leading)) →
     ((s : List ℕ) (set : ℕ → Bool) (i j : ℕ) → MatchesSequence s ts i j → HasTrigrams set s → whole set ≡ true)
     × ((set : ℕ → Bool) → whole set ≡ true → HasRunsWithin set (cat ts))
@@ -175,14 +179,30 @@ few_tree us t strings =
       ),
     )
 
--- one more conjunct, which each matching line satisfies
-pub query_of_more : (leading : List (List ℕ)) (conjuncts query later : (ℕ → Bool) → Bool) (ts : Trees) →
-    IsQueryBeyondRun leading conjuncts ts →
-    ((s : List ℕ) (set : ℕ → Bool) (i j : ℕ) → MatchesSequence s ts i j → HasTrigrams set s → query set ≡ true) →
-    ((set : ℕ → Bool) → later set ≡ (conjuncts set && query set)) → IsQueryBeyondRun leading later ts
-query_of_more leading conjuncts query later ts sequence_query cross_matches is = record {
+-- one more conjunct, which each matching line satisfies, and which requires the crosses of the first part
+pub query_of_more : (leading : List (List ℕ)) (conjuncts query later : (ℕ → Bool) → Bool) (t : Tree) (ts : Trees) →
+    IsQueryBeyondRun leading conjuncts (more t ts) ts →
+    ((s : List ℕ) (set : ℕ → Bool) (i j : ℕ) → MatchesSequence s (more t ts) i j → HasTrigrams set s → query set ≡ true) →
+    ((set : ℕ → Bool) → query set ≡ true → HasCrosses set t ts) →
+    ((set : ℕ → Bool) → later set ≡ (conjuncts set && query set)) → IsQueryBeyondRun leading later (more t ts) (more t ts)
+query_of_more leading conjuncts query later t ts sequence_query cross_matches crosses is = record {
   run = sequence_query.run;
   matching = λ s set i j h has. is set ∙ and_from (conjuncts set) (query set) (sequence_query.matching s set i j h has)
       (cross_matches s set i j h has);
-  selective = λ set n h. sequence_query.selective set (and_parts (conjuncts set) (query set) (sym (is set) ∙ n)).0 h;
+  selective = λ set n h.
+      let both = and_parts (conjuncts set) (query set) (sym (is set) ∙ n) in
+      let runs = sequence_query.selective set both.0 h in
+      (runs.0, crosses_more set t ts runs.1 (crosses set both.1), runs.2);
+}
+
+-- a leading run with the crosses of the first part
+pub query_with_crosses : (leading : List (List ℕ)) (conjuncts : (ℕ → Bool) → Bool) (t : Tree) (ts : Trees) →
+    IsQueryBeyondRun leading conjuncts (more t ts) ts → ((set : ℕ → Bool) → has_any set leading ≡ true → HasCrosses set t ts) →
+    IsQueryBeyondRun leading conjuncts (more t ts) (more t ts)
+query_with_crosses leading conjuncts t ts sequence_query crosses = record {
+  run = sequence_query.run;
+  matching = sequence_query.matching;
+  selective = λ set n h.
+      let runs = sequence_query.selective set n h in
+      (runs.0, crosses_more set t ts runs.1 (crosses set h), runs.2);
 }

@@ -1,5 +1,5 @@
 -- The sizes of queries, and of the strings that they are made of.
-use Rattle.std.proofs.Common.{◌≡◌, ℕ, zero, suc, ◌+◌, ◌-◌, ◌*◌, ◌≤◌, inl, inr, Bool, true, false, List, [], ◌∷◌, ◌++◌, length, map, reverse, Vec, Global, refl, sym, ◌∙◌, ap, arith, max, length-append, length-take}
+use Rattle.std.proofs.Common.{◌≡◌, ℕ, zero, suc, ◌+◌, ◌-◌, ◌*◌, ◌≤◌, inl, inr, Bool, true, false, List, [], ◌∷◌, ◌++◌, length, map, reverse, Vec, Global, refl, sym, ◌∙◌, ap, subst, arith, max, length-append, length-take}
 use Rattle.std.specs.Prelude.{Some, None, nat_le, if◌then◌else◌}
 use Rattle.std.specs.List.{All, list_any, sum_by}
 use Rattle.std.proofs.lemmas.Bool.{and_parts, false≢true}
@@ -14,7 +14,7 @@ use Rattle.cs_syntax.specs.Weight.{weight, weights}
 use Rattle.cs_trigram.specs.Query.{query_size, query_size_step}
 use Rattle.cs_trigram.specs.MayMatch.{IsRepeated, MayMatch, MayMatchSequence, MayMatchBranch}
 use Rattle.cs_trigram.specs.ExactStrings.{is_finite, are_finite}
-use Rattle.cs_trigram.specs.EndStrings.{AreShort, subsumes, truncated, with_end_string, with_end_strings}
+use Rattle.cs_trigram.specs.EndStrings.{AreShort, all_truncated, subsumes, truncated, with_end_string, with_end_strings}
 use Rattle.cs_trigram.specs.SequenceQuery.{pairs}
 use Rattle.cs_trigram.specs.declared.end_strings.EndString.{EndString}
 use Rattle.cs_trigram.specs.declared.queries.Query.{Query, Query-F, fold-roll-Query}
@@ -125,7 +125,7 @@ abbrev pub IsShort : ℕ → EndString → Type 0
 IsShort n end_string = length end_string.string ≤ n
 
 -- truncated end strings are short
-pub truncated_short : (n : ℕ) (end_strings others : List EndString) → AreShort n end_strings →
+truncated_short : (n : ℕ) (end_strings others : List EndString) → AreShort n end_strings →
     AreShort n (with_end_strings end_strings (map (truncated n) others))
 truncated_short n end_strings [] short = short
 truncated_short n end_strings (x ∷ others) short =
@@ -135,6 +135,9 @@ truncated_short n end_strings (x ∷ others) short =
     by : (b : Bool) → AreShort n (if b then end_strings else end_strings ++ truncated n x ∷ [])
     by true = short
     by false = All-push (IsShort n) end_strings (truncated n x) short (omega (arith, length-take n x.string))
+
+pub short_as : (n : ℕ) (short xs : List EndString) → short ≡ all_truncated n xs → AreShort n short
+short_as n short xs is = subst (AreShort n) (sym is) (truncated_short n [] xs (All-nil (IsShort n)))
 
 -- the strings of short suffixes and prefixes
 module _ (a b : ℕ) (prefixes : List EndString) (short : AreShort b prefixes) where

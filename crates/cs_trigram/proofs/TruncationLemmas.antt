@@ -1,12 +1,12 @@
 -- Truncated end strings, sets of them, and cross products.
-use Rattle.std.proofs.Common.{◌≡◌, ℕ, ◌<◌, ◌≤◌, ◌⊎◌, ◌||◌, not, Bool, true, false, List, [], ◌∷◌, ◌++◌, drop, length, map, refl, sym, ◌∙◌, ap, subst, inl, inr, arith, drop_of_length-le, append_assoc, length-append}
+use Rattle.std.proofs.Common.{◌≡◌, ℕ, ◌+◌, ◌<◌, ◌≤◌, ◌⊎◌, ◌||◌, not, Bool, true, false, List, [], ◌∷◌, ◌++◌, take, drop, length, map, refl, sym, ◌∙◌, ap, subst, inl, inr, arith, drop_of_length-le, append_assoc, length-append}
 use Rattle.std.specs.Prelude.{Contains, bytes_eq, nat_le, if◌then◌else◌}
 use Rattle.std.specs.List.{list_any}
 use Rattle.std.proofs.lemmas.Bool.{false≢true, and_parts, or_cases, leb-true}
-use Rattle.std.proofs.lemmas.List.{append-nil, take-append-drop, length-take}
+use Rattle.std.proofs.lemmas.List.{append-nil, take-append-drop, length-map, length-take, map-id}
 use Rattle.std.proofs.lemmas.List.Elements.{Contains-push_cases, Contains-append_left, Contains-append_right, Contains-append_cases}
 use Rattle.std.proofs.lemmas.Slice.Eq.{bytes_eq-Decides}
-use Rattle.cs_trigram.specs.EndStrings.{IsTruncation, whole_text, HasEndString, HasTruncation, HasSomeEndString, subsumes, with_end_string, with_end_strings, truncated, end_of_two, concatenated, AreCoarser, IsConcatenation, AreConcatenations}
+use Rattle.cs_trigram.specs.EndStrings.{IsTruncation, whole_text, HasEndString, HasTruncation, HasSomeEndString, subsumes, with_end_string, with_end_strings, truncated, end_of_two, concatenated, AreCoarser, IsConcatenation, AreConcatenations, all_concatenated, end_product, all_truncated}
 use Rattle.cs_trigram.specs.declared.end_strings.EndString.{EndString}
 
 -- the end string of every text, and that of the empty text
@@ -152,9 +152,67 @@ pub with_end_strings_append : (xs ys zs : List EndString) → with_end_strings x
 with_end_strings_append xs [] zs = refl
 with_end_strings_append xs (y ∷ ys) zs = with_end_strings_append (with_end_string xs y) ys zs
 
--- the end strings of whole texts
-abbrev pub whole_end : List ℕ → EndString
-whole_end text = truncated 3 (whole_text text)
+truncated_coarser : (n : ℕ) (xs : List EndString) → AreCoarser (all_truncated n xs) xs
+truncated_coarser n xs = subst (AreCoarser _) (map-id xs) (coarser_with_map (truncated n) (λ e. e) (truncated_is n) xs)
+
+pub coarser_as : (n : ℕ) (short xs : List EndString) → short ≡ all_truncated n xs → AreCoarser short xs
+coarser_as n short xs is = subst (λ (es : List EndString). AreCoarser es xs) (sym is) (truncated_coarser n xs)
+
+-- each of the end strings is one of those that are added one after another
+contained_before : (xs ys : List EndString) (x : EndString) → Contains (with_end_strings xs ys) x → Contains xs x ⊎ Contains ys x
+contained_before xs [] x m = inl m
+contained_before xs (y ∷ ys) x m =
+    elim (contained_before (with_end_string xs y) ys x m) [
+      | inl a ↦ elim (by (list_any (λ other. subsumes other y) xs) a) [
+        | inl before ↦ inl before
+        | inr same ↦ inr (subst (Contains (y ∷ ys)) same (first_contained y ys))
+      ]
+      | inr b ↦ inr (Contains-append_right (y ∷ []) ys x b)
+    ]
+  where
+    by : (b : Bool) → Contains (if b then xs else xs ++ y ∷ []) x → Contains xs x ⊎ (y ≡ x)
+    by true a = inl a
+    by false a = Contains-push_cases xs y x a
+
+pub contained_added : (xs : List EndString) (x : EndString) → Contains (with_end_strings [] xs) x → Contains xs x
+contained_added xs x m = elim (contained_before [] xs x m) [ inl a ↦ absurd (none_contained x a) | inr b ↦ b ]
+
+-- a truncated end string is that of one of the end strings
+pub truncated_from : (n : ℕ) (xs : List EndString) (x : EndString) → Contains (all_truncated n xs) x →
+    (y : EndString) × Contains xs y × (x.string ≡ take n y.string)
+truncated_from n xs x m =
+    let y = contained_in_map (truncated n) xs x (contained_added (map (truncated n) xs) x m) in
+    (y.0, y.1, ap (λ (z : EndString). z.string) (sym y.2))
+
+added_at_most : (xs ys : List EndString) → length (with_end_strings xs ys) ≤ length xs + length ys
+added_at_most xs [] = omega arith
+added_at_most xs (y ∷ ys) =
+    let one = by (list_any (λ other. subsumes other y) xs) in
+    let more = added_at_most (with_end_string xs y) ys in
+    omega (arith, one, more)
+  where
+    by : (b : Bool) → length (if b then xs else xs ++ y ∷ []) ≤ length xs + 1
+    by true = omega arith
+    by false = omega (arith, length-append xs (y ∷ []))
+
+-- end strings that are added one after another are at most as many
+pub not_more : (xs : List EndString) → length (with_end_strings [] xs) ≤ length xs
+not_more xs = let le = added_at_most [] xs in omega (arith, le)
+
+pub truncated_not_more : (n : ℕ) (xs : List EndString) → length (all_truncated n xs) ≤ length xs
+truncated_not_more n xs = let le = not_more (map (truncated n) xs) in omega (arith, le, length-map xs (truncated n))
+
+-- the end strings with more of them are not fewer
+pub with_not_fewer : (xs ys : List EndString) → length xs ≤ length (with_end_strings xs ys)
+with_not_fewer xs [] = omega arith
+with_not_fewer xs (y ∷ ys) =
+    let one = by (list_any (λ other. subsumes other y) xs) in
+    let more = with_not_fewer (with_end_string xs y) ys in
+    omega (arith, one, more)
+  where
+    by : (b : Bool) → length xs ≤ length (if b then xs else xs ++ y ∷ [])
+    by true = omega arith
+    by false = omega (arith, length-append xs (y ∷ []))
 
 -- ---- concatenations
 
@@ -197,11 +255,6 @@ module _ (n : ℕ) (near : EndString) where
           (inr (y.0, y.1, two_has is y.0, omega (arith, le, length-take n (near.string ++ y.0.string))))
       by false is m = subst (λ (z : EndString). IsConcatenation near fars z) (only_contained (truncated n near) x m) (inl (open_has is))
 
--- the same for each of several near ones
-abbrev pub all_concatenated : ℕ → List EndString → List EndString → List EndString
-all_concatenated n [] fars = []
-all_concatenated n (near ∷ nears) fars = concatenated n near fars ++ all_concatenated n nears fars
-
 module _ (n : ℕ) (fars : List EndString) where
   all_has : (nears : List EndString) (near : EndString) (text : List ℕ) → Contains nears near →
       HasSomeEndString (concatenated n near fars) text → HasSomeEndString (all_concatenated n nears fars) text
@@ -216,25 +269,25 @@ module _ (n : ℕ) (fars : List EndString) where
             (r.0, Contains-append_right (concatenated n e fars) (all_concatenated n nears fars) r.0 r.1, r.2)
       ]
 
-  all_from : n ≤ 3 → (nears : List EndString) (x : EndString) → Contains (all_concatenated n nears fars) x →
-      (near : EndString) × Contains nears near × IsConcatenation near fars x
-  all_from le [] x m = absurd (none_contained x m)
-  all_from le (near ∷ nears) x m =
+  pub all_from : (nears : List EndString) (x : EndString) → Contains (all_concatenated n nears fars) x →
+      (near : EndString) × Contains nears near × Contains (concatenated n near fars) x
+  all_from [] x m = absurd (none_contained x m)
+  all_from (near ∷ nears) x m =
       elim (Contains-append_cases (concatenated n near fars) (all_concatenated n nears fars) x m) [
-        | inl a ↦ (near, first_contained near nears, concatenated_from n near le fars x a)
-        | inr b ↦ let r = all_from le nears x b in (r.0, Contains-append_right (near ∷ []) nears r.0 r.1, r.2)
+        | inl a ↦ (near, first_contained near nears, a)
+        | inr b ↦ let r = all_from nears x b in (r.0, Contains-append_right (near ∷ []) nears r.0 r.1, r.2)
       ]
 
   pub all_concatenations : n ≤ 3 → (nears : List EndString) →
-      AreConcatenations nears fars (with_end_strings [] (all_concatenated n nears fars))
+      AreConcatenations nears fars (end_product n nears fars)
   all_concatenations le nears = record {
     all = λ u v a b.
         coarser_has _ (all_concatenated n nears fars) (coarser_with [] (all_concatenated n nears fars)) (whole_text (u ++ v))
         (all_has nears a.0 (u ++ v) a.1 (concatenated_has n a.0 fars u v a.2 b));
     each = λ x m.
         let y = (coarser_with [] (all_concatenated n nears fars)).each x m in
-        let near = all_from le nears y.0 y.1 in
-        (near.0, near.1, shorter near.0 x y.0 y.2 near.2);
+        let near = all_from nears y.0 y.1 in
+        (near.0, near.1, shorter near.0 x y.0 y.2 (concatenated_from n near.0 le fars y.0 near.2));
   }
     where
       shorter : (near x y : EndString) → IsTruncation x y → IsConcatenation near fars y → IsConcatenation near fars x
@@ -246,6 +299,11 @@ module _ (n : ℕ) (fars : List EndString) where
             (λ u v a b. truncation_both x y (whole_text (u ++ v)) t (two.2 u v a b)),
             omega (arith, two.3, ap length t.1, length-append x.string t.0),
           )
+
+-- a near end string of a cross product
+pub some_near : (n : ℕ) (nears fars : List EndString) → 0 < length (end_product n nears fars) → (near : EndString) × Contains nears near
+some_near n [] fars lt = absurd (omega arith)
+some_near n (near ∷ nears) fars lt = (near, first_contained near nears)
 
 -- the end string of every text
 pub any_concatenations : (nears fars : List EndString) (near : EndString) → Contains nears near →

@@ -10,7 +10,7 @@ use Rattle.cs_syntax.specs.Matching.{Tree, Trees, none, more, cat, MatchesSpan, 
 use Rattle.cs_trigram.specs.Trigram.{tri}
 use Rattle.cs_syntax.specs.Weight.{weight, weights}
 use Rattle.cs_trigram.specs.Query.{matches_set, mentions, query_size, HasTrigrams}
-use Rattle.cs_trigram.specs.ExactRuns.{HasRunsWithin, SomeHasExactRuns, IsSelective}
+use Rattle.cs_trigram.specs.ExactRuns.{HasEachRun, HasEachCross, AllHaveRunsWithin, SomeHasExactRuns, IsSelective}
 use Rattle.cs_trigram.specs.ExactStrings.{HaveFewExactStrings, is_finite}
 use Rattle.cs_trigram.specs.ExactQuery.{HasFewExactStrings}
 use Rattle.cs_trigram.specs.declared.queries.Query.{Query}
@@ -115,11 +115,12 @@ abbrev pub RequiresText : Query → List ℕ → Type 0
 RequiresText query text = (set : ℕ → Bool) → matches_set query set ≡ has_trigrams set text
 
 -- The requirements of a sequence other than its longest leading run. Each set with the trigrams of a matching
--- line satisfies them. If a set satisfies them and has a string of that run, it has all runs within the sequence.
+-- line satisfies them. If a set satisfies them and has a string of that run, it has all runs within the sequence, and
+-- the crosses of its last parts, which are all parts but maybe the first.
 pub record IsQueryBeyondRun (leading : List (List ℕ)) (conjuncts : (ℕ → Bool) → Bool)
-    (ts : Trees) : Type 0 where
+    (ts last : Trees) : Type 0 where
   pub run : IsLongestLeadingRun ts leading
   pub matching : (s : List ℕ) (set : ℕ → Bool) (i j : ℕ) → MatchesSequence s ts i j → HasTrigrams set s →
       conjuncts set ≡ true
   pub selective : (set : ℕ → Bool) → conjuncts set ≡ true → has_any set leading ≡ true →
-      HasRunsWithin set (cat ts)
+      HasEachRun set ts × HasEachCross set last × AllHaveRunsWithin set ts

@@ -1,8 +1,8 @@
 -- Prefixes and suffixes of matches, as end strings. A suffix is stored reversed: both are the first bytes of a
 -- match, read forward or backward.
 -- Cox, "Regular Expression Matching with a Trigram Index".
-use Rattle.std.specs.Prelude.{false, ℕ, ◌≡◌, ◌<◌, ◌≤◌, ◌⊎◌, ◌++◌, ◌∷◌, [], Bool, true, List, Contains, length, take, reverse, map, not, ◌&&◌, ◌||◌, if◌then◌else◌, nat_eq, nat_le, bytes_eq, slice_range}
-use Rattle.std.specs.List.{All, list_all, list_any}
+use Rattle.std.specs.Prelude.{false, ℕ, ◌≡◌, ◌<◌, ◌≤◌, ◌⊎◌, ◌++◌, ◌∷◌, [], Bool, true, List, Contains, length, take, reverse, map, not, ◌&&◌, ◌||◌, if◌then◌else◌, nat_le, bytes_eq, slice_range}
+use Rattle.std.specs.List.{All, list_any}
 use Rattle.cs_syntax.specs.Matching.{Tree, Trees, MatchesSpan, MatchesBranch}
 use Rattle.cs_trigram.specs.MayMatch.{MayMatch, MayMatchBranch, HasMembers, HaveMembers}
 use Rattle.cs_trigram.specs.declared.end_strings.EndString.{EndString}
@@ -15,10 +15,6 @@ pub data Direction : Type 0 where
 abbrev pub read : Direction → List ℕ → List ℕ
 read forward text = text
 read backward text = reverse text
-
--- no end string has a byte
-abbrev pub are_all_empty : List EndString → Bool
-are_all_empty end_strings = list_all (λ end_string. nat_eq (length end_string.string) 0) end_strings
 
 -- the end string is the other one without its last bytes; if it is whole, it is the other one
 abbrev pub IsTruncation : EndString → EndString → Type 0
@@ -72,6 +68,26 @@ end_of_two n near far = truncated n (record { string = near.string ++ far.string
 -- the end strings of a near text with the first one and a far text with one of the others
 abbrev pub concatenated : ℕ → EndString → List EndString → List EndString
 concatenated n near fars = if near.whole then map (end_of_two n near) fars else truncated n near ∷ []
+
+-- the same for each of several near ones
+abbrev pub all_concatenated : ℕ → List EndString → List EndString → List EndString
+all_concatenated n [] fars = []
+all_concatenated n (near ∷ nears) fars = concatenated n near fars ++ all_concatenated n nears fars
+
+-- the cross product, truncated to n bytes
+abbrev pub end_product : ℕ → List EndString → List EndString → List EndString
+end_product n nears fars = with_end_strings [] (all_concatenated n nears fars)
+
+-- the end strings, each truncated to n bytes
+abbrev pub all_truncated : ℕ → List EndString → List EndString
+all_truncated n end_strings = with_end_strings [] (map (truncated n) end_strings)
+
+-- the end string of a text, and those of texts
+abbrev pub whole_end : List ℕ → EndString
+whole_end text = truncated 3 (whole_text text)
+
+abbrev pub whole_ends : List (List ℕ) → List EndString
+whole_ends texts = with_end_strings [] (map whole_end texts)
 
 -- the end strings are the others, truncated
 pub record AreCoarser (end_strings others : List EndString) : Type 0 where

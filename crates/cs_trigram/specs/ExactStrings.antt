@@ -18,10 +18,18 @@ abbrev mutual
   are_finite none = true
   are_finite (more t ts) = is_finite t && are_finite ts
 
--- the trees are finite, and the concatenations of their strings are few: at least one and at most twenty
-abbrev pub HaveFewExactStrings : Trees → Type 0
-HaveFewExactStrings ts =
+-- the trees are finite, and the concatenations of their strings are at least one and at most n
+abbrev pub HaveExactStrings : ℕ → Trees → Type 0
+HaveExactStrings n ts =
     (are_finite ts ≡ true)
     × (((string : List ℕ) × MayMatchSequence true ts string)
-    × ((strings : List (List ℕ)) × (length strings ≤ 20)
+    × ((strings : List (List ℕ)) × (length strings ≤ n)
     × ((string : List ℕ) → MayMatchSequence true ts string → IsTrue (is_among strings string))))
+
+-- they are few: at most twenty
+abbrev pub HaveFewExactStrings : Trees → Type 0
+HaveFewExactStrings ts = HaveExactStrings 20 ts
+
+-- each exact string of the trees has at least n bytes
+abbrev pub HaveLongStrings : ℕ → Trees → Type 0
+HaveLongStrings n ts = (string : List ℕ) → MayMatchSequence true ts string → n ≤ length string

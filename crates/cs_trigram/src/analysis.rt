@@ -23,8 +23,10 @@ use std::alloc::{AllocError, Global};
 ///
 /// For each run of neighbouring parts that has one to twenty exact strings, it requires at least
 /// the trigrams of one of these strings: for `(ab|cd)ef` the trigrams `abe` and `bef`, or `cde` and
-/// `def`. If the whole pattern has one to twenty exact strings, the query requires the trigrams of
-/// one of them, and nothing else.
+/// `def`. It also requires the trigrams across a part with at most twenty exact strings and a run
+/// after it with at most ten: for `(ab|cd|ef|gh|ij|kl)(mn|op|qr|st|uv)` the trigrams `abm` and
+/// `bmn`, or `abo` and `bop`, and so on. If the whole pattern has one to twenty exact strings, the
+/// query requires the trigrams of one of them, and nothing else.
 ///
 /// The query mentions only trigrams of texts that the pattern may match, if each set in it has a
 /// member and each alternation a branch. It has at most 3000 nodes for each unit of the weight of

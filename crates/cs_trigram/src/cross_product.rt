@@ -1,10 +1,10 @@
 // Trigrams across two neighbouring parts, from the cross product of the suffixes of the first and
 // the prefixes of the second (`concat` in Go's codesearch).
-ghost use Rattle.std.specs.Prelude.{◌≡◌, ◌+◌, ◌-◌, ◌*◌, ◌^◌, ◌≤◌, ◌++◌, ℕ, IfOk, OnOk, length, map, min, reverse};
-ghost use Rattle.cs_trigram.specs.Query.{query_size};
-ghost use Rattle.cs_trigram.specs.EndStrings.{AreShort};
-ghost use Rattle.cs_trigram.specs.Analysis.{cross_size};
-ghost use Rattle.cs_trigram.specs.SequenceQuery.{IsCrossQuery, pairs};
+ghost use Rattle.std.specs.Prelude.{◌≡◌, ◌+◌, ◌-◌, ◌*◌, ◌^◌, ◌≤◌, ◌++◌, ℕ, Bool, true, IfOk, OnOk, length, map, min, reverse};
+ghost use Rattle.cs_trigram.specs.Query.{matches_set, query_size};
+ghost use Rattle.cs_trigram.specs.EndStrings.{AreShort, all_truncated};
+ghost use Rattle.cs_trigram.specs.Analysis.{cross_size, has_any};
+ghost use Rattle.cs_trigram.specs.SequenceQuery.{IsCrossQuery, HasPairs, pairs};
 
 use crate::connectives::{add_conjunct, any_string};
 use crate::end_strings::{EndString, truncated_end_strings};
@@ -65,6 +65,9 @@ fn product_query(
     prefixes: &[EndString],
 ) -> Result<Query, AllocError>
     ensures across { IfOk result (λ query. IsCrossQuery query suffixes.now prefixes.now) }
+    ensures asked { IfOk result (λ query. (set : ℕ → Bool) → matches_set query set ≡ true →
+        length suffixes.now * length prefixes.now ≤ 256 →
+        has_any set (pairs suffixes.now prefixes.now) ≡ true) }
     ensures small { IfOk result (λ query. (a b : ℕ) → AreShort a suffixes.now →
         AreShort b prefixes.now → query_size query ≤ 1 + 256 * (a + b - 1)) }
 {
@@ -82,6 +85,10 @@ fn split_product_query(
     prefixes: &[EndString],
 ) -> Result<Query, AllocError>
     ensures across { IfOk result (λ query. IsCrossQuery query suffixes.now prefixes.now) }
+    ensures asked { IfOk result (λ query. (set : ℕ → Bool) → matches_set query set ≡ true →
+        length suffixes.now * length prefixes.now ≤ 256 →
+        has_any set (pairs suffixes.now (all_truncated 1 prefixes.now)) ≡ true ×
+        has_any set (pairs (all_truncated 1 suffixes.now) prefixes.now) ≡ true) }
     ensures small { IfOk result (λ query. AreShort 2 suffixes.now → AreShort 2 prefixes.now →
         query_size query ≤ cross_size) }
 {
@@ -100,6 +107,8 @@ pub(crate) fn cross_product_query(
     prefixes: &[EndString],
 ) -> Result<Query, AllocError>
     ensures across { IfOk result (λ query. IsCrossQuery query suffixes.now prefixes.now) }
+    ensures asked { IfOk result (λ query. (set : ℕ → Bool) → matches_set query set ≡ true →
+        HasPairs set suffixes.now prefixes.now) }
     ensures small { IfOk result (λ query. query_size query ≤ cross_size) }
 {
     let suffixes = truncated_end_strings(alloc, suffixes, 2)?;

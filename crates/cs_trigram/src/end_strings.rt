@@ -2,13 +2,14 @@
 // truncation (`cross`, `union` and `simplifySet` in Go's codesearch). A suffix is stored reversed,
 // so that both are end strings: the first bytes of a match, read forward or backward. Of two
 // adjacent texts, the *near* one is read first.
-ghost use Rattle.std.specs.Prelude.{◌≡◌, ◌≤◌, ◌++◌, [], ◌∷◌, Contains, length, map, IfOk, MatchOption, OnOk, Option, ℕ};
+ghost use Rattle.std.specs.Prelude.{◌≡◌, ◌<◌, ◌≤◌, ◌++◌, [], ◌∷◌, length, IfOk, MatchOption, OnOk, Option, ℕ};
 ghost use Rattle.std.specs.List.{list_any};
 ghost use Rattle.cs_syntax.specs.Matching.{Tree, rep};
-ghost use Rattle.cs_trigram.specs.EndStrings.{Direction, whole_text, are_all_empty, subsumes, AreShort, AreCoarser, AreConcatenations, AreEndStrings, truncated, with_end_string, with_end_strings, concatenated};
+ghost use Rattle.cs_trigram.specs.EndStrings.{Direction, subsumes, AreCoarser, AreConcatenations, AreEndStrings, truncated, with_end_string, with_end_strings, concatenated, end_product, all_truncated, whole_ends};
 
 use crate::exact_string::ExactString;
 use std::alloc::{AllocError, Global};
+use std::mem;
 
 /// The most end strings of a set (`maxSet` in Go's codesearch).
 const MAX_SET: usize = 20;
@@ -76,8 +77,7 @@ pub(crate) fn truncated_end_strings(
     end_strings: &[EndString],
     longest: usize,
 ) -> Result<Vec<EndString>, AllocError>
-    ensures coarser { IfOk result (λ short. AreCoarser short.items end_strings.now) }
-    ensures short { IfOk result (λ short. AreShort longest short.items) }
+    ensures { IfOk result (λ short. short.items ≡ all_truncated longest end_strings.now) }
 {
     let mut short = Vec::with_capacity(alloc, end_strings.len())?;
     for end_string in end_strings {
@@ -110,8 +110,10 @@ fn add_concatenations(
     longest: usize,
     end_strings: &mut Vec<EndString>,
 ) -> Result<(), AllocError>
-    ensures { OnOk result (length end_strings.new.items ≤ 20 → end_strings.new.items ≡
+    ensures few { OnOk result (length end_strings.new.items ≤ 20 → end_strings.new.items ≡
         with_end_strings end_strings.old.items (concatenated longest near.now fars.now)) }
+    ensures many { OnOk result (20 < length end_strings.new.items → 20 < length
+        (with_end_strings end_strings.old.items (concatenated longest near.now fars.now))) }
 {
     if !near.whole {
         let alone = truncated_end_string(alloc, near.string.bytes(), near.whole, longest)?;
@@ -136,9 +138,9 @@ fn few_concatenations(
     fars: &[EndString],
     longest: usize,
 ) -> Result<Option<Vec<EndString>>, AllocError>
-    requires { longest ≤ 3 }
-    ensures { IfOk result (λ found. MatchOption found ((x : EndString) × Contains nears.now x)
-        (λ end_strings. AreConcatenations nears.now fars.now end_strings.items)) }
+    ensures { IfOk result (λ found. MatchOption found
+        (20 < length (end_product longest nears.now fars.now))
+        (λ end_strings. end_strings.items ≡ end_product longest nears.now fars.now)) }
 {
     let mut end_strings = Vec::with_capacity(alloc, MAX_SET + 1)?;
     for near in nears {
@@ -156,7 +158,10 @@ pub(crate) fn concatenate_end_strings(
     nears: &[EndString],
     fars: &[EndString],
 ) -> Result<Vec<EndString>, AllocError>
-    ensures { IfOk result (λ end_strings. AreConcatenations nears.now fars.now end_strings.items) }
+    ensures all { IfOk result (λ end_strings. AreConcatenations nears.now fars.now end_strings.items) }
+    ensures long { IfOk result (λ end_strings. (n : ℕ) → 0 < n → n ≤ 3 →
+        length (end_product n nears.now fars.now) ≤ 20 →
+        (m : ℕ) × n ≤ m × end_strings.items ≡ end_product m nears.now fars.now) }
 {
     let mut longest = MAX_LEN;
     'cut: while longest > 0 {
@@ -169,7 +174,7 @@ pub(crate) fn concatenate_end_strings(
 }
 
 /// The union of the two sets, truncated to at most `MAX_SET` members.
-pub(crate) fn union_of_end_strings(
+fn union_of_end_strings(
     alloc: Global,
     end_strings: Vec<EndString>,
     more: Vec<EndString>,
@@ -181,6 +186,20 @@ pub(crate) fn union_of_end_strings(
         add_end_string(&mut both, end_string)?;
     }
     simplify_set(alloc, both)
+}
+
+/// Adds the other end strings, as `union_of_end_strings` does.
+pub(crate) fn add_end_strings(
+    alloc: Global,
+    end_strings: &mut Vec<EndString>,
+    more: Vec<EndString>,
+) -> Result<(), AllocError>
+    ensures { OnOk result (AreCoarser end_strings.new.items (end_strings.old.items ++ more.items)) }
+{
+    let before = mem::replace(end_strings, Vec::new(alloc));
+    let both = union_of_end_strings(alloc, before, more)?;
+    *end_strings = both;
+    Ok(())
 }
 
 /// The end string without bytes: if it is not whole, every text has it, otherwise the empty text.
@@ -198,7 +217,7 @@ pub(crate) fn end_strings_of(
     alloc: Global,
     strings: &[ExactString],
 ) -> Result<Vec<EndString>, AllocError>
-    ensures { IfOk result (λ end_strings. AreCoarser end_strings.items (map whole_text strings.now)) }
+    ensures { IfOk result (λ end_strings. end_strings.items ≡ whole_ends strings.now) }
 {
     let mut end_strings = Vec::with_capacity(alloc, strings.len())?;
     for string in strings {
@@ -224,13 +243,4 @@ pub(crate) fn end_strings_of_repeat(
         end_strings = concatenate_end_strings(alloc, once, &end_strings)?;
     }
     Ok(end_strings)
-}
-
-/// Whether no end string has a byte.
-pub(crate) fn are_empty(end_strings: &[EndString]) -> bool
-    ensures { result ≡ are_all_empty end_strings.now }
-{
-    end_strings
-        .iter()
-        .all(|end_string| end_string.string.bytes().len() == 0)
 }

@@ -45,8 +45,8 @@ pub fn what_is_found_of_a_whole_file()
         skip most bytes ≡ Some reason × text_trigrams most bytes ≡ None }
 {}
 
-/// A set that has the trigrams of a matching line has the exact runs of the tree. So a query that
-/// requires only the exact runs loses no line.
+/// A set that has the trigrams of a matching line has the exact runs and the crosses of the tree.
+/// So a query that requires only these loses no line.
 pub fn matching_lines_have_the_exact_runs()
     ensures { (tree : Tree) (line : List ℕ) (set : ℕ → Bool) →
         HasMatch tree line → HasTrigrams set line → HasExactRuns set tree }

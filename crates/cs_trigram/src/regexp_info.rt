@@ -1,26 +1,64 @@
 // The result of the analysis of a tree (`regexpInfo` in Go's codesearch), and those of the last
 // parts of a sequence and of the last branches of an alternation, which grow part by part from the
 // last to the first (`concat` and `alternate`).
-ghost use Rattle.std.specs.Prelude.{ℕ, Bool, IfOk, OnOk};
+ghost use Rattle.std.specs.Prelude.{◌≡◌, ℕ, Bool, IfOk, OnOk, Option, map, reverse};
 ghost use Rattle.cs_syntax.specs.Matching.{Tree, rep, Trees, none, more, cat, alt};
 ghost use Rattle.cs_trigram.specs.ExactRuns.{HasRunsWithin};
 ghost use Rattle.cs_trigram.specs.ExactSet.{IsExactSetOf};
-ghost use Rattle.cs_trigram.specs.EndStrings.{forward, backward, AreEndStrings};
+ghost use Rattle.cs_trigram.specs.EndStrings.{forward, backward, whole_ends, AreEndStrings};
+ghost use Rattle.cs_trigram.specs.ExactQuery.{RequiresExactString};
 ghost use Rattle.cs_trigram.specs.RegexpInfo.{IsInfoOf, IsSequence, IsAlternation};
-ghost use Rattle.cs_trigram.specs.Analysis.{IsMatchQuery};
+ghost use Rattle.cs_trigram.specs.Analysis.{AreExactStrings, IsCorrect, IsMatchQuery};
 
 use crate::connectives::any_string;
 use crate::end_strings::{
-    EndString, bare_end_string, concatenate_end_strings, end_strings_of, end_strings_of_repeat,
-    union_of_end_strings,
+    EndString, add_end_strings, bare_end_string, concatenate_end_strings, end_strings_of,
+    end_strings_of_repeat,
 };
 use crate::exact_set::ExactSet;
-use crate::exact_string::reversed;
+use crate::exact_string::{ExactString, reversed};
 use crate::expansion::{empty_string, strings_of_repeat};
 use crate::queries::Query;
 use crate::sequence_query::SequenceQuery;
 use std::alloc::{AllocError, Global};
-use std::mem;
+
+/// The prefixes, the suffixes and the query of a tree with few exact strings.
+#[derive(Drop)]
+struct StringsInfo {
+    prefix: Vec<EndString>,
+    suffix: Vec<EndString>,
+    query: Query,
+}
+
+impl StringsInfo {
+    /// The analysis of a tree with these exact strings.
+    fn new(alloc: Global, strings: &[ExactString]) -> Result<StringsInfo, AllocError>
+        ensures prefix { IfOk result (λ info. info.prefix.items ≡ whole_ends strings.now) }
+        ensures suffix { IfOk result (λ info.
+            info.suffix.items ≡ whole_ends (map reverse strings.now)) }
+        ensures query { IfOk result (λ info. (t : Tree) → AreExactStrings strings.now t →
+            IsCorrect info.query t × RequiresExactString info.query t) }
+    {
+        let prefix = end_strings_of(alloc, strings)?;
+        let suffix = end_strings_of(alloc, &reversed(alloc, strings)?)?;
+        let query = any_string(alloc, strings)?;
+        Ok(StringsInfo {
+            prefix,
+            suffix,
+            query,
+        })
+    }
+}
+
+/// The query of at least `least` iterations, each of which has the given query.
+fn query_of_repeat(once: Query, least: u32) -> Query
+    ensures { (t : Tree) (most : Option ℕ) → IsCorrect once t → IsMatchQuery result (rep t least most) }
+{
+    if least == 0 {
+        return Query::All;
+    }
+    once
+}
 
 /// The result of the analysis of a tree.
 #[derive(Drop)]
@@ -56,14 +94,12 @@ impl RegexpInfo {
                 query,
             });
         };
-        let prefix = end_strings_of(alloc, few)?;
-        let suffix = end_strings_of(alloc, &reversed(alloc, few)?)?;
-        let query = any_string(alloc, few)?;
+        let info = StringsInfo::new(alloc, few)?;
         Ok(RegexpInfo {
             exact,
-            prefix,
-            suffix,
-            query,
+            prefix: info.prefix,
+            suffix: info.suffix,
+            query: info.query,
         })
     }
 
@@ -89,10 +125,8 @@ impl RegexpInfo {
         let exact = strings_of_repeat(alloc, &once.exact, least, most)?;
         let prefix = end_strings_of_repeat(alloc, &once.prefix, least)?;
         let suffix = end_strings_of_repeat(alloc, &once.suffix, least)?;
-        if least == 0 {
-            return RegexpInfo::new(alloc, exact, prefix, suffix, Query::All);
-        }
-        RegexpInfo::new(alloc, exact, prefix, suffix, once.query)
+        let query = query_of_repeat(once.query, least);
+        RegexpInfo::new(alloc, exact, prefix, suffix, query)
     }
 }
 
@@ -174,10 +208,8 @@ impl AlternationInfo {
             IsAlternation self.new (more t ts)) }
     {
         self.exact = branch.exact.union(alloc, &self.exact)?;
-        let prefixes = mem::replace(&mut self.prefix, Vec::new(alloc));
-        self.prefix = union_of_end_strings(alloc, prefixes, branch.prefix)?;
-        let suffixes = mem::replace(&mut self.suffix, Vec::new(alloc));
-        self.suffix = union_of_end_strings(alloc, suffixes, branch.suffix)?;
+        add_end_strings(alloc, &mut self.prefix, branch.prefix)?;
+        add_end_strings(alloc, &mut self.suffix, branch.suffix)?;
         self.members.push(branch.query)?;
         Ok(())
     }

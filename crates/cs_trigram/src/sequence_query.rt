@@ -1,10 +1,10 @@
 // The query of a sequence, part by part from the last to the first: a string of each exact run, and
 // what the other parts require.
-ghost use Rattle.std.specs.Prelude.{◌≡◌, ◌||◌, IfOk, OnOk, MatchOption};
+ghost use Rattle.std.specs.Prelude.{◌≡◌, IfOk, OnOk, MatchOption};
 ghost use Rattle.std.specs.List.{list_all};
 ghost use Rattle.cs_syntax.specs.Matching.{Tree, Trees, none, more, cat};
 ghost use Rattle.cs_trigram.specs.ExactQuery.{HasFewExactStrings};
-ghost use Rattle.cs_trigram.specs.EndStrings.{forward, backward, are_all_empty, AreEndStrings};
+ghost use Rattle.cs_trigram.specs.EndStrings.{forward, backward, AreEndStrings};
 ghost use Rattle.cs_trigram.specs.ExactSet.{IsExactSetOf, AreExactSetsReversed};
 ghost use Rattle.cs_trigram.specs.Analysis.{cross_size, IsCorrect, IsMatchQuery, AreExactStrings, IsLongestLeadingRun};
 ghost use Rattle.cs_syntax.specs.TreeList.{append};
@@ -12,7 +12,7 @@ ghost use Rattle.cs_trigram.specs.ExactStrings.{HaveFewExactStrings};
 
 use crate::connectives::{add_conjunct, any_string};
 use crate::cross_product::cross_product_query;
-use crate::end_strings::{EndString, are_empty};
+use crate::end_strings::EndString;
 use crate::exact_set::ExactSet;
 use crate::exact_string::{ExactString, MAX_EXACT, are_longer, cross_product, prepended};
 use crate::expansion::empty_string;
@@ -32,7 +32,7 @@ pub(crate) struct SequenceQuery {
 }
 
 impl SequenceQuery {
-    ghost use Rattle.cs_trigram.specs.SequenceQuery.{IsSequenceQueryOf, ExtendsSequenceQuery, AreSmall, StaysSmall, goes_two_past};
+    ghost use Rattle.cs_trigram.specs.SequenceQuery.{IsSequenceQueryOf, IsSequenceQueryWith, ExtendsSequenceQuery, AreExactEnds, BeginRuns, AreSmall, StaysSmall, goes_two_past};
 
     /// The query of no parts.
     pub(crate) fn new(alloc: Global) -> Result<SequenceQuery, AllocError>
@@ -89,20 +89,12 @@ impl SequenceQuery {
         suffix.whole && are_longer(&self.leading, suffix.string.bytes().len() + 1)
     }
 
-    /// The same, for each of these suffixes.
+    /// The same, for each of these suffixes. So the leading run has the trigrams across the end of
+    /// its first part.
     fn extend_past_all(&self, suffixes: &[EndString]) -> bool
         ensures { result ≡ list_all (goes_two_past self.now.leading.items) suffixes.now }
     {
         suffixes.iter().all(|suffix| self.extends_past(suffix))
-    }
-
-    /// Whether the leading run has all trigrams across the end of its first part, which has these
-    /// suffixes, into the parts after it, which have these prefixes.
-    fn covers_cross(&self, suffixes: &[EndString], prefixes: &[EndString]) -> bool
-        ensures { result ≡ (are_all_empty suffixes.now || (are_all_empty prefixes.now
-            || list_all (goes_two_past self.now.leading.items) suffixes.now)) }
-    {
-        are_empty(suffixes) || are_empty(prefixes) || self.extend_past_all(suffixes)
     }
 
     /// Requires the trigrams across the end of the first part, unless the leading run has them.
@@ -114,12 +106,13 @@ impl SequenceQuery {
     ) -> Result<(), AllocError>
         ensures parts { OnOk result (self.new.parts ≡ self.old.parts) }
         ensures required { OnOk result ((t : Tree) (ts : Trees) → AreEndStrings backward suffixes.now t →
-            AreEndStrings forward prefixes.now (cat ts) →
-            IsSequenceQueryOf self.old (more t ts) → IsSequenceQueryOf self.new (more t ts)) }
+            AreEndStrings forward prefixes.now (cat ts) → AreExactEnds backward suffixes.now t →
+            BeginRuns prefixes.now ts →
+            IsSequenceQueryWith self.old (more t ts) ts → IsSequenceQueryOf self.new (more t ts)) }
         ensures small { OnOk result ((ts : Trees) →
             AreSmall cross_size self.old.conjuncts.items ts → AreSmall 0 self.new.conjuncts.items ts) }
     {
-        if self.covers_cross(suffixes, prefixes) {
+        if self.extend_past_all(suffixes) {
             return Ok(());
         }
         let cross_query = cross_product_query(alloc, suffixes, prefixes)?;
@@ -142,8 +135,9 @@ impl SequenceQuery {
             AreExactSetsReversed self.new.parts.items (more t ts)) }
         ensures required { OnOk result ((t : Tree) (ts : Trees) → IsExactSetOf exact t →
             IsCorrect match_query t → AreEndStrings backward suffixes.now t →
-            AreEndStrings forward prefixes.now (cat ts) →
-            AreExactSetsReversed self.old.parts.items ts → ExtendsSequenceQuery self.old self.new t ts) }
+            AreEndStrings forward prefixes.now (cat ts) → AreExactEnds backward suffixes.now t →
+            BeginRuns prefixes.now ts → AreExactSetsReversed self.old.parts.items ts →
+            IsSequenceQueryOf self.old ts → IsSequenceQueryOf self.new (more t ts)) }
         ensures small { OnOk result ((t : Tree) (ts : Trees) → IsExactSetOf exact t →
             IsCorrect match_query t → StaysSmall 0 self.old self.new t ts) }
     {

@@ -1,4 +1,4 @@
-use Rattle.std.proofs.Common.{ℕ, ◌-◌, List, true, ◌≡◌, ◌∙◌, ap, refl, subst, length, arith}
+use Rattle.std.proofs.Common.{ℕ, ◌-◌, List, true, ◌≡◌, sym, ◌∙◌, ap, refl, subst, length, arith}
 use Rattle.std.specs.List.{sum_by}
 use Rattle.cs_tree.specs.Cover.{is_among}
 use Rattle.cs_trigram.specs.Analysis.{has_any}
@@ -27,6 +27,12 @@ returns-clause-across c =
             occurs_itself w w refl,
           ));
     })
+
+pub returns-clause-asked : goal.returns-clause-asked
+returns-clause-asked c =
+    let all = c.deref.ensures.value ∙ c.in_ok-all_pairs.ensures in
+    if_ok c.any_string.result _ _ c.any_string.ensures.required
+    (λ q required. λ set matches few. sym (required set ∙ ap (has_any set) all) ∙ matches)
 
 pub returns-clause-small : goal.returns-clause-small
 returns-clause-small c =

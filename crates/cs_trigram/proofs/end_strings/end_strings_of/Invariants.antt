@@ -1,6 +1,5 @@
 use Rattle.std.proofs.Common.{◌≡◌, [], map, drop}
-use Rattle.cs_trigram.specs.EndStrings.{with_end_strings}
-use Rattle.cs_trigram.proofs.TruncationLemmas.{whole_end}
+use Rattle.cs_trigram.specs.EndStrings.{with_end_strings, whole_end}
 use Rattle.cs_trigram.proofs.end_strings.end_strings_of.Given as goal
 
 abbrev pub invariant-loop-string : goal.invariant-loop-string

@@ -12,7 +12,7 @@ loop-iteration-init c = λ direction t a.
     let begun = c.in_ok-begun.begun.items in
     let some =
     end_strings_of_iteration direction c.args.once.now any begun t 0
-    (concatenations_via _ _ c.args.once.now any begun refl c.deref.ensures.value c.in_ok-begun.ensures) a
+    (concatenations_via _ _ c.args.once.now any begun refl c.deref.ensures.value c.in_ok-begun.ensures.all) a
     (any_end_strings direction any (rep t 0 None) c.in_ok-bare_end_string.ensures) in
     end_strings_of_any_iterations direction begun c.in_ok-bare_end_string-2.field-0.items
     c.in_ok-end_strings.end_strings.items t c.in_ok-bare_end_string-2.ensures
@@ -24,7 +24,7 @@ loop-iteration-preserved c = λ direction t a.
     let next = c.in_ok-end_strings-2.end_strings.items in
     end_strings_of_iteration direction c.args.once.now fars next t c.loop-iteration._iteration
     (concatenations_via _ _ c.args.once.now fars next refl c.deref-in-loop-iteration.ensures.value
-    c.in_ok-end_strings-2.ensures) a (c.loop-iteration.invariant direction t a)
+    c.in_ok-end_strings-2.ensures.all) a (c.loop-iteration.invariant direction t a)
 
 pub returns : goal.returns
 returns c = λ direction t a most.

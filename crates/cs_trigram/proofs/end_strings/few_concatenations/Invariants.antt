@@ -1,6 +1,5 @@
 use Rattle.std.proofs.Common.{◌≡◌, [], drop}
-use Rattle.cs_trigram.specs.EndStrings.{with_end_strings}
-use Rattle.cs_trigram.proofs.TruncationLemmas.{all_concatenated}
+use Rattle.cs_trigram.specs.EndStrings.{with_end_strings, all_concatenated}
 use Rattle.cs_trigram.proofs.end_strings.few_concatenations.Given as goal
 
 abbrev pub invariant-loop-near : goal.invariant-loop-near

@@ -22,7 +22,7 @@ returns-clause-required c = λ t ts no_few match_query sequence_query.
     λ set. c.in_ok-add_conjunct-2.ensures.required set
     ∙ ap (λ b. b && matches_set c.args.match_query set) (c.in_ok-add_conjunct.ensures.required set
     ∙ ap (λ b. conjuncts set && b) (c.in_ok-any_string.ensures.required set ∙ ap (has_any set) finished_run)) in (
-      subst (λ (ws : List (List ℕ)). IsQueryBeyondRun ws later (more t ts)) (sym c.in_ok-self.ensures)
+      subst (λ (ws : List (List ℕ)). IsQueryBeyondRun ws later (more t ts) ts) (sym c.in_ok-self.ensures)
           (query_past_cut leading conjuncts later t ts sequence_query.0 (λ set. matches_set c.args.match_query set)
           no_few match_query.matching match_query.selective is),
       trigrams_of_both (some_mentions c.add_conjunct.new.conjuncts.items) (mentions c.args.match_query)

@@ -10,7 +10,7 @@ use Rattle.cs_trigram.proofs.sequence_query.SequenceQuery.new.Goals as goal
 
 pub returns-clause-required : goal.returns-clause-required
 returns-clause-required c = (
-  subst (λ (ws : List (List ℕ)). IsQueryBeyondRun ws (λ set. all_match c.new.result.items set) none) (sym c.in_ok-leading.ensures)
+  subst (λ (ws : List (List ℕ)). IsQueryBeyondRun ws (λ set. all_match c.new.result.items set) none none) (sym c.in_ok-leading.ensures)
       (query_of_none (λ set. all_match c.new.result.items set) (λ set. ap (λ (qs : List Query). all_match qs set) c.new.ensures.items)),
   no_trigrams (some_mentions c.new.result.items) (HaveMembers none) (MayMatchSequence false none)
       (λ g. ap (λ (qs : List Query). some_mentions qs g) c.new.ensures.items),

@@ -26,7 +26,7 @@ returns-then-len-le-MAX_EXACT-clause-required c = λ t ts strings parts sequence
     ∙ ap (λ (vs : List (List ℕ)). with_strings [] (concatenations us vs)) c.deref.ensures.value in
     let few : length (with_strings [] (concatenations us leading)) ≤ 20 = subst (λ (ws : List (List ℕ)). length ws ≤ 20)
     same (omega arith) in (
-      subst (λ (ws : List (List ℕ)). IsQueryBeyondRun ws conjuncts (more t ts)) (sym same)
+      subst (λ (ws : List (List ℕ)). IsQueryBeyondRun ws conjuncts (more t ts) ts) (sym same)
           (query_past_few leading conjuncts conjuncts t ts sequence_query.0 us strings few),
       trigrams_of_rest (some_mentions c.args.self.now.conjuncts.items) t ts sequence_query.1,
     )

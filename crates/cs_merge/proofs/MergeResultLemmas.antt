@@ -1,5 +1,5 @@
 -- Results of the merge.
-use Rattle.std.proofs.Common.{◌≡◌, ℕ, ◌<◌, true, List, length, Result, Ok, Err, ap, sym, subst, ◌∙◌, IfOk, IfErr, MatchResult}
+use Rattle.std.proofs.Common.{◌≡◌, ℕ, ◌<◌, true, ◌&&◌, List, length, Result, Ok, Err, ap, sym, subst, ◌∙◌, IfOk, IfErr, MatchResult}
 use Rattle.cs_merge.proofs.Common.{and_from, and_parts, is_covered, are_distinct, encoding_of, Parts, are_whole, paths_in, entries_of, Written, entries_written, MergeFault, merge_index, AreTested, merge_paths, NewIds, AreIdMaps, AreMergedNames, IsListsFault, IsMerged, IsMergeFault, damaged, long, refused, SortedNames, AreTestedNames, AreAllMerged}
 use Rattle.cs_output.specs.declared.sent.Sent.{Sent}
 use Rattle.cs_tree.specs.PathSet as set
@@ -7,6 +7,8 @@ use Rattle.cs_merge.specs.ListsFault.{damaged as lists_damaged, long as lists_lo
 use Rattle.cs_merge.proofs.MergedFilesLemmas.{AreWritten, all_covered, written_merged}
 use Rattle.cs_merge.proofs.NameMergeLemmas.{id_maps}
 use Rattle.cs_merge.proofs.SortedNamesLemmas.{sorted_distinct}
+use Rattle.cs_merge.specs.declared.fault.MergeFault.TheVariants.{Memory}
+use Rattle.cs_merge.specs.Begun.{IsBegun}
 use Rattle.cs_merge.specs.MergeResult.{IsIndexWithin, IsBuildFault, too_long, memory}
 
 -- ---- results
@@ -31,27 +33,11 @@ module _ (old newer : Parts) (most : ℕ) where
     | memory e ↦ refused e (λ up. tested)
   ]
 
--- an error of the merge of the lists
-pub lists_say : (old newer : Parts) (most : ℕ) (older_ids newer_ids : NewIds) (output : Written) (fault : MergeFault) →
-    output.paths ≡ set.items (merge_paths (paths_in old) (paths_in newer)) →
-    AreMergedNames (is_covered (paths_in newer)) old.names newer.names output.names older_ids newer_ids →
-    AreTested old newer → IsListsFault old newer older_ids newer_ids output most fault →
-    IsMergeFault old newer most fault
-lists_say old newer most older_ids newer_ids output fault paths named tested (lists_damaged is fails) = damaged is tested fails
-lists_say old newer most older_ids newer_ids output fault paths named tested (lists_refused is) = refused is (λ up. tested)
-lists_say old newer most older_ids newer_ids output fault paths named tested (lists_long is whole more) =
-    let written : AreWritten old newer output.names older_ids newer_ids more.lists =
-    record { named = named; older_sets = more.older_sets; newer_sets = more.newer_sets } in
-    long is (record { tested = tested; whole = whole })
-    (subst (λ (bytes : List ℕ). most < length bytes)
-    (ap (λ ps. encoding_of ps (entries_of 0 output.names more.lists)) paths
-    ∙ written_merged old newer output.names older_ids newer_ids more.lists written tested) more.long)
-
 -- ---- an index that is begun
 
 module _ (old newer : Parts) (older_sorted newer_sorted : SortedNames)
     (tested : AreTestedNames old.names newer older_sorted newer_sorted) where
-  pub are_tested : AreTested old newer
+  are_tested : AreTested old newer
   are_tested = record {
     distinct = and_from (are_distinct old.names) (are_distinct newer.names)
         (ap are_distinct (sym tested.older_names) ∙ sorted_distinct older_sorted tested.older)
@@ -59,38 +45,71 @@ module _ (old newer : Parts) (older_sorted newer_sorted : SortedNames)
     covered = tested.covered;
   }
 
-  module _ (output : Written) (older_ids newer_ids : NewIds)
-      (begun : AreMergedNames (is_covered (paths_in newer)) older_sorted.names newer.names output.names older_ids
-      newer_ids) where
-    named : AreMergedNames (is_covered (paths_in newer)) old.names newer.names output.names older_ids newer_ids
+  -- why names that pass the tests are not merged
+  pub begin_fails : (most : ℕ) (fault : MergeFault) → fault ≡ Memory → IsMergeFault old newer most fault
+  begin_fails most fault is = refused is (λ up. are_tested)
+
+  pub is_begun : (output : Written) (older_ids newer_ids : NewIds) →
+      output.paths ≡ set.items (merge_paths (paths_in old) (paths_in newer)) →
+      AreMergedNames (is_covered (paths_in newer)) older_sorted.names newer.names output.names older_ids newer_ids →
+      IsBegun old newer output older_ids newer_ids
+  is_begun output older_ids newer_ids paths named = record {
+    tested = are_tested;
+    paths = paths;
     named = subst (λ (names : List (List ℕ)). AreMergedNames (is_covered (paths_in newer)) names newer.names
-        output.names older_ids newer_ids) tested.older_names begun
+        output.names older_ids newer_ids) tested.older_names named;
+  }
 
-    -- both maps map into the names that are written
-    pub begun_maps : AreIdMaps (length output.names) older_ids newer_ids
-    begun_maps =
-        let both = and_parts (are_distinct old.names) (are_distinct newer.names) are_tested.distinct in
-        id_maps (is_covered (paths_in newer)) old.names newer.names output.names older_ids newer_ids named both.0 both.1
-        (all_covered newer tested.covered)
+-- an old index with the same paths and names
+pub begun_of : (known old newer : Parts) (output : Written) (older_ids newer_ids : NewIds) → known.paths ≡ old.paths →
+    known.names ≡ old.names → IsBegun known newer output older_ids newer_ids →
+    IsBegun old newer output older_ids newer_ids
+begun_of known old newer output older_ids newer_ids paths names begun = record {
+  tested = record {
+    distinct = subst (λ (ns : List (List ℕ)). (are_distinct ns && are_distinct newer.names) ≡ true) names
+        begun.tested.distinct;
+    covered = begun.tested.covered;
+  };
+  paths = begun.paths ∙ ap (λ (ps : List (List ℕ)). set.items (merge_paths (set.from_list ps) (paths_in newer))) paths;
+  named = subst (λ (ns : List (List ℕ)). AreMergedNames (is_covered (paths_in newer)) ns newer.names output.names
+      older_ids newer_ids) names begun.named;
+}
 
-    module _ (most : ℕ) (paths : output.paths ≡ set.items (merge_paths (paths_in old) (paths_in newer))) where
-      -- an error of the merge of its lists
-      pub lists_fail : (fault : MergeFault) → IsListsFault old newer older_ids newer_ids output most fault →
-          IsMergeFault old newer most fault
-      lists_fail fault is_fault = lists_say old newer most older_ids newer_ids output fault paths named are_tested is_fault
+module _ (old newer : Parts) (output : Written) (older_ids newer_ids : NewIds)
+    (begun : IsBegun old newer output older_ids newer_ids) where
+  -- both maps map into the names that are written
+  pub begun_maps : AreIdMaps (length output.names) older_ids newer_ids
+  begun_maps =
+      let both = and_parts (are_distinct old.names) (are_distinct newer.names) begun.tested.distinct in
+      id_maps (is_covered (paths_in newer)) old.names newer.names output.names older_ids newer_ids begun.named both.0
+      both.1 (all_covered newer begun.tested.covered)
 
-      -- its encoding, once all lists are merged
-      pub lists_built : (answer : Result Sent MergeFault) (now : Written) → now.paths ≡ output.paths → now.names
-          ≡ output.names → AreAllMerged old newer older_ids newer_ids now.lists
-          → IfOk answer (λ bytes. IsIndexWithin most (encoding_of now.paths (entries_written now)) bytes.bytes) →
-          IfErr answer (λ fault. IsBuildFault most (encoding_of now.paths (entries_written now)) fault) →
-          Says old newer most answer
-      lists_built answer now same_paths same_names all ok err =
-          let whole = and_parts (are_whole old) (are_whole newer) all.whole in
-          let written : AreWritten old newer output.names older_ids newer_ids now.lists =
-          record { named = named; older_sets = all.older_sets; newer_sets = all.newer_sets } in
-          let there : now.paths ≡ set.items (merge_paths (paths_in old) (paths_in newer)) = same_paths ∙ paths in
-          built_says old newer most answer (encoding_of now.paths (entries_written now))
-          ((λ i. encoding_of (there i) (entries_of 0 (same_names i) now.lists))
-          ∙ written_merged old newer output.names older_ids newer_ids now.lists written are_tested)
-          are_tested whole.0 whole.1 ok err
+  module _ (most : ℕ) where
+    -- an error of the merge of its lists
+    pub lists_fail : (fault : MergeFault) → IsListsFault old newer older_ids newer_ids output most fault →
+        IsMergeFault old newer most fault
+    lists_fail fault (lists_damaged is fails) = damaged is begun.tested fails
+    lists_fail fault (lists_refused is) = refused is (λ up. begun.tested)
+    lists_fail fault (lists_long is whole more) =
+        let written : AreWritten old newer output.names older_ids newer_ids more.lists =
+        record { named = begun.named; older_sets = more.older_sets; newer_sets = more.newer_sets } in
+        long is (record { tested = begun.tested; whole = whole })
+        (subst (λ (bytes : List ℕ). most < length bytes)
+        (ap (λ ps. encoding_of ps (entries_of 0 output.names more.lists)) begun.paths
+        ∙ written_merged old newer output.names older_ids newer_ids more.lists written begun.tested) more.long)
+
+    -- its encoding, once all lists are merged
+    pub lists_built : (answer : Result Sent MergeFault) (now : Written) → now.paths ≡ output.paths → now.names
+        ≡ output.names → AreAllMerged old newer older_ids newer_ids now.lists
+        → IfOk answer (λ bytes. IsIndexWithin most (encoding_of now.paths (entries_written now)) bytes.bytes) →
+        IfErr answer (λ fault. IsBuildFault most (encoding_of now.paths (entries_written now)) fault) →
+        Says old newer most answer
+    lists_built answer now same_paths same_names all ok err =
+        let whole = and_parts (are_whole old) (are_whole newer) all.whole in
+        let written : AreWritten old newer output.names older_ids newer_ids now.lists =
+        record { named = begun.named; older_sets = all.older_sets; newer_sets = all.newer_sets } in
+        let there : now.paths ≡ set.items (merge_paths (paths_in old) (paths_in newer)) = same_paths ∙ begun.paths in
+        built_says old newer most answer (encoding_of now.paths (entries_written now))
+        ((λ i. encoding_of (there i) (entries_of 0 (same_names i) now.lists))
+        ∙ written_merged old newer output.names older_ids newer_ids now.lists written begun.tested)
+        begun.tested whole.0 whole.1 ok err

@@ -17,5 +17,6 @@ pub mod ListsFault
 pub mod SomePaths
 pub mod SortedNames
 pub mod IdMap
+pub mod Begun
 pub mod ListMerge
 pub mod ListSources

@@ -11,7 +11,8 @@ ghost use Rattle.cs_index.specs.StoredTables.{TablesIn};
 ghost use Rattle.cs_index.specs.Sending.{IsSentOn};
 ghost use Rattle.cs_index.specs.Written.{entries_written};
 ghost use Rattle.cs_merge.specs.IdMap.{AreMergedNames};
-ghost use Rattle.cs_merge.specs.ListSources.{IsSourceOf};
+ghost use Rattle.cs_merge.specs.Begun.{IsBegun};
+ghost use Rattle.cs_merge.specs.ListSources.{known_parts, IsSourceOf};
 ghost use Rattle.cs_merge.specs.Merge.{merge_paths};
 ghost use Rattle.cs_merge.specs.Mergeable.{AreTested};
 ghost use Rattle.cs_merge.specs.MergeResult.{most_bytes, IsBuildFault, IsIndexWithin, IsMerged, IsMergeFault};
@@ -143,11 +144,7 @@ fn merge_source<'a, S: Store, O: Output>(
 {
     old.are_valid();
     newer.are_valid();
-    let names = match sort_names(alloc, old.name_table(), newer) {
-        Ok(names) => names,
-        Err(fault) => return Ok(Err(fault)),
-    };
-    let (mut sections, ids) = match begin_merged(alloc, old.paths(), newer, &names) {
+    let (sections, ids) = match begin_source(alloc, old, newer) {
         Ok(begun) => begun,
         Err(fault) => return Ok(Err(fault)),
     };
@@ -157,10 +154,56 @@ fn merge_source<'a, S: Store, O: Output>(
         newer,
         runs,
     };
-    match merge_lists(alloc, store, &mut sections, &sides, most, out)? {
+    merge_begun(alloc, store, sections, &sides, most, out)
+}
+
+/// Merges the lists of both indexes into one that has their paths and names, and sends it.
+fn merge_begun<S: Store, O: Output>(
+    alloc: Global,
+    store: &mut S,
+    mut sections: Sections,
+    sides: &Sides<'_>,
+    most: u32,
+    out: &mut O,
+) -> Result<Result<Sent, MergeFault>, IoFault>
+    requires begun { IsBegun (known_parts sides.now.older.now) sides.now.newer.now sections
+        sides.now.runs.older sides.now.runs.newer }
+    requires unlisted { sections.lists ≡ [] }
+    requires sent { sections.sent ≡ [] }
+    ensures merged { (parts : Parts) → IsSourceOf (S.model store.old) sides.now.older.now parts →
+        IfOk result (λ merged. MatchResult merged
+        (λ index. IsMerged parts sides.now.newer.now most index.bytes)
+        (λ fault. IsMergeFault parts sides.now.newer.now most fault)) }
+    ensures given { IfOk result (λ merged. IfOk merged
+        (λ index. O.given out.new ≡ O.given out.old ++ index.bytes)) }
+    ensures keeps_out { O.Keeps out.old out.new }
+    ensures keeps { S.model store.new ≡ S.model store.old }
+    ensures size { S.size store.new ≡ S.size store.old }
+    ensures failed { S.failed store.new ≡ count_after is_io_failure result (S.failed store.old) }
+{
+    match merge_lists(alloc, store, &mut sections, sides, most, out)? {
         Ok(()) => Ok(finish(sections, most, out)),
         Err(fault) => Ok(Err(fault)),
     }
+}
+
+/// An index of the merged paths and names, which has no lists yet, and the id maps of both indexes. Tests that no name
+/// occurs twice and that the newer paths cover the newer names.
+fn begin_source(
+    alloc: Global,
+    old: &ListSource<'_>,
+    newer: &Index<'_>,
+) -> Result<(Sections, IdMaps), MergeFault>
+    ensures begun { IfOk result
+        (λ begun. IsBegun (known_parts old.now) newer.now begun.0 begun.1.older begun.1.newer) }
+    ensures unlisted { IfOk result (λ begun. begun.0.lists ≡ []) }
+    ensures sent { IfOk result (λ begun. begun.0.sent ≡ []) }
+    ensures fault { IfErr result (λ fault. (most : ℕ) (parts : Parts) →
+        parts.names ≡ (known_parts old.now).names → IsMergeFault parts newer.now most fault) }
+{
+    old.are_valid();
+    let names = sort_names(alloc, old.name_table(), newer)?;
+    begin_merged(alloc, old.paths(), newer, &names)
 }
 
 /// The names of both indexes in ascending order.
@@ -216,16 +259,29 @@ fn begin_merged(
     ensures fault { IfErr result (λ fault. fault ≡ MergeFault.Memory) }
 {
     newer.are_valid();
-    let merged = merged_paths(alloc, paths, newer.paths())?;
-    let mut sections = match Sections::new(alloc, &merged) {
-        Ok(sections) => sections,
-        // The merged paths are valid paths of an index.
-        Err(BuildFault::BadPaths) => unreachable!(),
-        Err(_) => return Err(MergeFault::Memory),
-    };
+    let mut sections = begin_paths(alloc, paths, newer.paths())?;
     let cover = Cover::new(alloc, newer.paths())?;
     let ids = merge_names(alloc, &mut sections, &names.old, &names.newer, &cover)?;
     Ok((sections, ids))
+}
+
+/// An index of the merged paths, which has no names and no lists yet.
+fn begin_paths(alloc: Global, old: Texts<'_>, newer: Texts<'_>) -> Result<Sections, AllocError>
+    requires old { AllByRecursion IsString old }
+    requires newer { AllByRecursion IsString newer }
+    ensures paths { IfOk result (λ sections. sections.paths ≡
+        set.items (merge_paths (set.from_list old.entry) (set.from_list newer.entry))) }
+    ensures unnamed { IfOk result (λ sections. sections.names ≡ []) }
+    ensures unlisted { IfOk result (λ sections. sections.lists ≡ []) }
+    ensures sent { IfOk result (λ sections. sections.sent ≡ []) }
+{
+    let paths = merged_paths(alloc, old, newer)?;
+    match Sections::new(alloc, &paths) {
+        Ok(sections) => Ok(sections),
+        // The merged paths are valid paths of an index.
+        Err(BuildFault::BadPaths) => unreachable!(),
+        Err(_) => Err(AllocError),
+    }
 }
 
 /// The paths of both that no other path covers, ascending.

@@ -1,11 +1,12 @@
 // The merge of the posting lists: a two-way merge by trigram, which reads the lists of each index in
 // their order.
-ghost use Rattle.std.specs.Prelude.{◌≡◌, ◌<◌, ◌^◌, ◌+◌, ◌&&◌, [], true, false, Some, None, length, IfErr, IfOk, MatchResult, OnOk};
+ghost use Rattle.std.specs.Prelude.{◌≡◌, ◌<◌, ◌^◌, ◌+◌, ◌&&◌, ℕ, [], true, false, Some, None, length, IfErr, IfOk, MatchResult, OnOk};
 ghost use Rattle.cs_tree.specs.FailureCount.{count_after};
 ghost use Rattle.cs_tree.specs.Transfers.{is_io_failure};
 ghost use Rattle.cs_index.specs.OpenedParts.{Parts};
 ghost use Rattle.cs_index.specs.Postings.{IsListFault};
 ghost use Rattle.cs_index.specs.Sending.{IsSentOn};
+ghost use Rattle.cs_index.specs.Written.{IsSentEarly, Written};
 ghost use Rattle.cs_merge.specs.IdMap.{new_ids_of, new_ids_read, AreIdMaps};
 ghost use Rattle.cs_merge.specs.ListMerge.{list_ids, list_trigram, lower_of, position_after, AreLeft, IsMergedList};
 ghost use Rattle.cs_merge.specs.ListSources.{known_parts, source_ids, AreAllMerged, HasBuffer, IsMergingLists, IsSourceOf};
@@ -60,6 +61,7 @@ pub(crate) fn merge_lists<S: Store, O: Output>(
         sides.now.runs.older sides.now.runs.newer sections.old most)) }
     ensures given { IfOk result (λ merged. OnOk merged
         (IsSentOn sections.old.sent sections.new.sent (O.given out.old) (O.given out.new))) }
+    ensures early { IfOk result (λ merged. OnOk merged (IsSentEarly sections.new)) }
     ensures keeps_out { O.Keeps out.old out.new }
     ensures keeps { S.model store.new ≡ S.model store.old }
     ensures size { S.size store.new ≡ S.size store.old }
@@ -73,20 +75,63 @@ pub(crate) fn merge_lists<S: Store, O: Output>(
         newer: 0,
     };
     'lists: while sections.list_bytes() <= most as usize {
-        match merge_next(alloc, store, sections, sides, &mut progress)? {
+        match send_next(alloc, store, sections, sides, &mut progress, out)? {
             Ok(true) => {}
             Ok(false) => return Ok(Ok(())),
-            Err(fault) => return Ok(Err(MergeFault::from(fault))),
+            Err(fault) => return Ok(Err(fault)),
         }
-        let Ok(()) = sections.send(out) else {
-            return Ok(Err(MergeFault::Memory));
-        };
     }
     let fault = fault_of_rest(alloc, store, sides, &mut progress)?;
     Ok(Err(fault))
 }
 
-/// Merges the lists of the next trigram. False if no list remains.
+/// Merges the lists of the next trigram, and sends them with those before if they are long enough. False if no list
+/// remains.
+fn send_next<S: Store, O: Output>(
+    alloc: Global,
+    store: &mut S,
+    sections: &mut Sections,
+    sides: &Sides<'_>,
+    progress: &mut Progress,
+    out: &mut O,
+) -> Result<Result<bool, MergeFault>, IoFault>
+    requires ids { AreIdMaps (length sections.old.names) sides.now.runs.older sides.now.runs.newer }
+    requires so_far { IsMergingLists (S.model store.old) sides.now.older.now progress.old.buffer
+        sides.now.newer.now sides.now.runs.older sides.now.runs.newer sections.old sections.old
+        progress.old.older progress.old.newer }
+    requires early { IsSentEarly sections.old }
+    ensures so_far { IfOk result (λ sent. OnOk sent (IsMergingLists (S.model store.old)
+        sides.now.older.now progress.new.buffer sides.now.newer.now
+        sides.now.runs.older sides.now.runs.newer sections.old sections.new
+        progress.new.older progress.new.newer)) }
+    ensures more { IfOk result (λ sent. IfOk sent (λ more. more ≡ true →
+        progress.old.older + progress.old.newer < progress.new.older + progress.new.newer)) }
+    ensures all { IfOk result (λ sent. IfOk sent (λ more. more ≡ false → lower_of
+        (list_trigram (known_parts sides.now.older.now) progress.new.older)
+        (list_trigram sides.now.newer.now progress.new.newer) ≡ None)) }
+    ensures given { IfOk result (λ sent. OnOk sent
+        (IsSentOn sections.old.sent sections.new.sent (O.given out.old) (O.given out.new))) }
+    ensures early { IfOk result (λ sent. OnOk sent (IsSentEarly sections.new)) }
+    ensures fault { (old : Parts) → IsSourceOf (S.model store.old) sides.now.older.now old →
+        (before : Written) (most : ℕ) → IfOk result (λ sent. IfErr sent (IsListsFault old sides.now.newer.now
+        sides.now.runs.older sides.now.runs.newer before most)) }
+    ensures keeps_out { O.Keeps out.old out.new }
+    ensures keeps { S.model store.new ≡ S.model store.old }
+    ensures size { S.size store.new ≡ S.size store.old }
+    ensures failed { S.failed store.new ≡ count_after is_io_failure result (S.failed store.old) }
+{
+    match merge_next(alloc, store, sections, sides, progress)? {
+        Ok(true) => {}
+        Ok(false) => return Ok(Ok(false)),
+        Err(fault) => return Ok(Err(MergeFault::from(fault))),
+    }
+    let Ok(()) = sections.send(out) else {
+        return Ok(Err(MergeFault::Memory));
+    };
+    Ok(Ok(true))
+}
+
+/// Merges the lists of the next trigram. False if no list remains; then the index is unchanged.
 fn merge_next<S: Store>(
     alloc: Global,
     store: &mut S,
@@ -105,6 +150,8 @@ fn merge_next<S: Store>(
     ensures more { IfOk result (λ merged. IfOk merged (λ more. more ≡ true →
         progress.old.older + progress.old.newer < progress.new.older + progress.new.newer)) }
     ensures sent { IfOk result (λ merged. OnOk merged (sections.new.sent ≡ sections.old.sent)) }
+    ensures same { IfOk result
+        (λ merged. IfOk merged (λ more. more ≡ false → sections.new ≡ sections.old)) }
     ensures all { IfOk result (λ merged. IfOk merged (λ more. more ≡ false → lower_of
         (list_trigram (known_parts sides.now.older.now) progress.new.older)
         (list_trigram sides.now.newer.now progress.new.newer) ≡ None)) }

@@ -82,29 +82,16 @@ module _ (tree : Snapshot) (paths names : List (List ℕ)) (faults : List FaultE
 
 module _ (model : Option Snapshot) (paths names : List (List ℕ)) (faults : List FaultEntry)
     (ok : are_paths paths ≡ true) (finds : FindsIn model (set.from_list paths) names faults) where
-  pub index_is : (built : List (List ℕ)) (entries : List Entry) (bytes : List ℕ) → built ≡ paths →
-      AreTextsIn model names entries → bytes ≡ encoding_of built entries → IsIndexOf model (set.from_list paths) bytes
-  index_is built entries bytes same are is = by_tree model finds are
+  pub index_is : (entries : List Entry) → AreTextsIn model names entries →
+      IsIndexOf model (set.from_list paths) (encoding_of paths entries)
+  index_is entries are = by_tree model finds are
     where
       by_tree : (model : Option Snapshot) → FindsIn model (set.from_list paths) names faults →
-          AreTextsIn model names entries → IsIndexOf model (set.from_list paths) bytes
+          AreTextsIn model names entries → IsIndexOf model (set.from_list paths) (encoding_of paths entries)
       by_tree None finds are = λ modelled. absurd modelled
       by_tree (Some tree) finds are = λ tree_is.
-          is ∙ ap (λ ps. encoding_of ps entries) same
-          ∙ ap (encoding_of paths) (are (names_stored tree paths names faults ok (finds tree_is) tree_is))
+          ap (encoding_of paths) (are (names_stored tree paths names faults ok (finds tree_is) tree_is))
           ∙ encoding_found tree paths names faults ok (finds tree_is)
-
-  pub too_large : (built : List (List ℕ)) (entries : List Entry) → built ≡ paths → AreTextsIn model names entries →
-      IsLong (Some (encoding_of built entries)) → IsTreeTooLarge model (set.from_list paths)
-  too_large built entries same are large = by_tree model finds are
-    where
-      by_tree : (model : Option Snapshot) → FindsIn model (set.from_list paths) names faults →
-          AreTextsIn model names entries → IsTreeTooLarge model (set.from_list paths)
-      by_tree None finds are = λ modelled. absurd modelled
-      by_tree (Some tree) finds are = λ tree_is.
-          subst (λ bytes. IsLong (Some bytes)) (ap (λ ps. encoding_of ps entries) same
-          ∙ ap (encoding_of paths) (are (names_stored tree paths names faults ok (finds tree_is) tree_is))
-          ∙ encoding_found tree paths names faults ok (finds tree_is)) large
 
   -- 2^30 names take four bytes each in the name index alone
   pub too_many : AreTooManyIn model names → IsTreeTooLarge model (set.from_list paths)

@@ -1,10 +1,13 @@
 // The index of the files below some paths.
-ghost use Rattle.std.specs.Prelude.{◌+◌, ◌≡◌, ◌⊎◌, ◌++◌, true, map, string_bytes, IfOk, IfErr, Some};
+ghost use Rattle.std.specs.Prelude.{◌+◌, ◌≡◌, ◌⊎◌, ◌++◌, true, [], map, string_bytes, IfOk, IfErr, OnOk, OnErr, Some};
+ghost use Rattle.std.specs.FinMap as map';
 ghost use Rattle.cs_tree.specs.Clean.{longest_path};
 ghost use Rattle.cs_tree.specs.FailureCount.{count_after};
 ghost use Rattle.cs_tree.specs.Walks.{RequestsWithin};
 ghost use Rattle.cs_tree.specs.PathSet as set;
 ghost use Rattle.cs_index.specs.Built.{are_paths};
+ghost use Rattle.cs_index.specs.Encoding.{encoding_of};
+ghost use Rattle.cs_merge.specs.Content.{LieUnder};
 ghost use Rattle.cs_cindex.specs.Output.{AreTooMany, is_failed_write};
 ghost use Rattle.cs_trigram.specs.Text.{limits};
 ghost use Rattle.cs_history.specs.Premises.{IsShort};
@@ -68,10 +71,48 @@ pub(crate) fn index_paths<T: Tree, W: Output, E: Sink>(
     ensures keeps { T.snapshot tree.new ≡ T.snapshot tree.old }
 {
     let mut indexer = Indexer::new(alloc, paths, log_skip)?;
+    index_found(alloc, tree, paths, &mut indexer, err)?;
+    let index = indexer.finish_into(new)?;
+    Ok(index)
+}
+
+/// Adds the text files that a walk from the paths finds, and prints the diagnostics of the walk and of its files.
+fn index_found<T: Tree, E: Sink>(
+    alloc: Global,
+    tree: &mut T,
+    paths: &[String],
+    indexer: &mut Indexer,
+    err: &mut E,
+) -> Result<(), CindexFault>
+    requires valid { are_paths (map string_bytes paths.now) ≡ true }
+    requires empty { indexer.old.builder.entries ≡ [] }
+    ensures encoding { OnOk result (IsIndexOf
+        (T.snapshot tree.old) (set.from_list (map string_bytes paths.now))
+        (encoding_of (map string_bytes paths.now) indexer.new.builder.entries)) }
+    ensures under { OnOk result (LieUnder
+        (set.from_list (map string_bytes paths.now)) (map'.from_entries indexer.new.builder.entries)) }
+    ensures prints { OnOk result (PrintsLines
+        indexer.old.log_skip (T.snapshot tree.old) (set.from_list (map string_bytes paths.now))
+        (T.failed tree.old) (T.failed tree.new) (E.model err.old) (E.model err.new)) }
+    ensures too_large { result ≡ Err CindexFault.TooLarge →
+        IsTreeTooLarge (T.snapshot tree.old) (set.from_list (map string_bytes paths.now)) }
+    ensures too_many { result ≡ Err CindexFault.TooLarge →
+        AreTooMany (T.snapshot tree.old) (set.from_list (map string_bytes paths.now)) }
+    ensures only { IfErr result IsIndexingFault }
+    ensures prefix { OnErr result (PrintsLinesPrefix
+        indexer.old.log_skip (T.snapshot tree.old) (set.from_list (map string_bytes paths.now))
+        (T.failed tree.old) (T.failed tree.new) (E.model err.old) (E.model err.new)) }
+    ensures paths { indexer.new.builder.paths ≡ indexer.old.builder.paths }
+    ensures writes { E.failed err.new ≡ count_after is_failed_write result (E.failed err.old) }
+    ensures requested { RequestsWithin longest_path (T.longest_requested tree.old)
+        (T.longest_requested tree.new) }
+    ensures reads { BytesWithin (limits.bytes + 1)
+        (T.read_counts tree.old) (T.read_counts tree.new) }
+    ensures keeps { T.snapshot tree.new ≡ T.snapshot tree.old }
+{
     let mut scanner = Scanner::new(alloc)?;
     let walked = walk(alloc, tree, paths)?;
     print_walk_faults(alloc, &walked.faults, err)?;
     indexer.index_files(&mut scanner, tree, &walked.names, err)?;
-    let index = indexer.finish_into(new)?;
-    Ok(index)
+    Ok(())
 }

@@ -1,5 +1,5 @@
 // Jobs that walk.
-ghost use Rattle.std.specs.Prelude.{◌+◌, ◌≡◌, ◌++◌, ℕ, List, Option, false, true, Some, None, Ok, map, option_map, string_bytes, IfOk, IfErr, MatchResult};
+ghost use Rattle.std.specs.Prelude.{◌+◌, ◌≡◌, ◌⊎◌, ◌++◌, ℕ, List, Option, false, true, Some, None, Ok, map, option_map, string_bytes, IfOk, IfErr, MatchResult};
 ghost use Rattle.cs_tree.specs.Clean.{longest_path};
 ghost use Rattle.cs_tree.specs.Walks.{RequestsWithin};
 ghost use Rattle.cs_tree.specs.FailureCount.{count_after};
@@ -10,12 +10,15 @@ ghost use Rattle.cs_index.specs.Opening.{opening};
 ghost use Rattle.cs_index.specs.OpenedParts.{Parts};
 ghost use Rattle.cs_index.specs.StoredTables.{TablesIn};
 ghost use Rattle.cs_cindex.specs.Merges.{IsMergeRefusal, MergesShort, refusal_of};
-ghost use Rattle.cs_cindex.specs.Next.{IsNext, IsReducedIndex};
+ghost use Rattle.cs_cindex.specs.Next.{IsIndex as IsBuiltIndex, IsIndexOf, IsNext, IsReducedIndex, IsTreeTooLarge};
+ghost use Rattle.cs_cindex.specs.Diagnostics.{PrintsLines, PrintsLinesPrefix};
+ghost use Rattle.cs_cindex.specs.Files.{IsIndexingFault};
 ghost use Rattle.cs_cindex.specs.Refusals.{IsWalkFault, base, base_fault, early_walk_fault};
 ghost use Rattle.cs_trigram.specs.Text.{limits};
 ghost use Rattle.cs_history.specs.Jobs.{HasAbsoluteFolder};
+ghost use Rattle.cs_history.specs.Premises.{IsShort};
 ghost use Rattle.cs_cindex.specs.OldIndex.{IsFit, IsIndex, IsUnreadable, has_failed};
-ghost use Rattle.cs_cindex.specs.Output.{UnreadPrints, is_failed_write, job_tree, output};
+ghost use Rattle.cs_cindex.specs.Output.{AreTooMany, UnreadPrints, is_failed_write, job_tree, output};
 ghost use Rattle.cs_cindex.specs.Outcomes.{AnswersFor, WalkPrintsFor};
 ghost use Rattle.cs_cindex.specs.JobPaths.{AreCleaned, starts};
 ghost use Rattle.cs_tree.specs.Reads.{BytesWithin};
@@ -156,14 +159,54 @@ fn extended_index<S: Store, T: Tree, W: Output, E: Sink>(
         Ok(Err(fault)) => return Ok(Err(fault)),
         Err(fault) => return Err(fault),
     };
-    let Ok(paths) = paths_to_walk(alloc, &tables, given) else {
-        return Ok(Err(CindexFault::Memory));
+    let newer = match own_index(alloc, &tables, given, job, tree, err) {
+        Ok(newer) => newer,
+        Err(fault) => return Ok(Err(fault)),
     };
-    let mut newer = Vec::new(alloc);
-    if let Err(fault) = index_paths(alloc, tree, &paths, job.log_skip, &mut newer, err) {
-        return Ok(Err(fault));
-    }
     merge_old(alloc, store, &tables, &newer, new)
+}
+
+/// The job's own index: that of what it finds below its cleaned paths, or, if it has none, below those of the base index.
+fn own_index<T: Tree, E: Sink>(
+    alloc: Global,
+    tables: &StoredTables,
+    given: &[String],
+    job: &IndexJob,
+    tree: &mut T,
+    err: &mut E,
+) -> Result<Vec<u8>, CindexFault>
+    requires cleaned { AreCleaned job.now (map string_bytes given.now) }
+    requires fit { IsFit tables.now }
+    ensures encoding { IfOk result (λ index. IsIndexOf (T.snapshot tree.old)
+        (least (set.from_list (starts (map string_bytes given.now) tables.now.paths))) index.items) }
+    ensures well_formed { IfOk result (λ index. IsBuiltIndex
+        (least (set.from_list (starts (map string_bytes given.now) tables.now.paths))) index.items) }
+    ensures short { IfOk result (λ index. IsShort (Some index.items)) }
+    ensures prints { IfOk result (λ _. PrintsLines job.now.log_skip (T.snapshot tree.old)
+        (least (set.from_list (starts (map string_bytes given.now) tables.now.paths)))
+        (T.failed tree.old) (T.failed tree.new) (E.model err.old) (E.model err.new)) }
+    ensures too_large { result ≡ Err CindexFault.TooLarge → IsTreeTooLarge (T.snapshot tree.old)
+        (least (set.from_list (starts (map string_bytes given.now) tables.now.paths))) }
+    ensures whole { result ≡ Err CindexFault.TooLarge → AreTooMany (T.snapshot tree.old)
+        (least (set.from_list (starts (map string_bytes given.now) tables.now.paths)))
+        ⊎ PrintsLines job.now.log_skip (T.snapshot tree.old)
+        (least (set.from_list (starts (map string_bytes given.now) tables.now.paths)))
+        (T.failed tree.old) (T.failed tree.new) (E.model err.old) (E.model err.new) }
+    ensures only { IfErr result IsIndexingFault }
+    ensures prefix { IfErr result (λ _. PrintsLinesPrefix job.now.log_skip (T.snapshot tree.old)
+        (least (set.from_list (starts (map string_bytes given.now) tables.now.paths)))
+        (T.failed tree.old) (T.failed tree.new) (E.model err.old) (E.model err.new)) }
+    ensures writes { E.failed err.new ≡ count_after is_failed_write result (E.failed err.old) }
+    ensures requested { RequestsWithin longest_path (T.longest_requested tree.old)
+        (T.longest_requested tree.new) }
+    ensures reads { BytesWithin (limits.bytes + 1)
+        (T.read_counts tree.old) (T.read_counts tree.new) }
+    ensures tree_keeps { T.snapshot tree.new ≡ T.snapshot tree.old }
+{
+    let paths = paths_to_walk(alloc, tables, given)?;
+    let mut newer = Vec::new(alloc);
+    index_paths(alloc, tree, &paths, job.log_skip, &mut newer, err)?;
+    Ok(newer)
 }
 
 /// The reduced paths that a job walks: its own, or, if it has none, those of the index.

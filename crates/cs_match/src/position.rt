@@ -1,5 +1,5 @@
 // The positions of a tree, and what each does over a byte.
-ghost use Rattle.std.specs.Prelude.{◌≡◌, ◌++◌, OnOk};
+ghost use Rattle.std.specs.Prelude.{◌≡◌, ◌++◌, IfOk, OnOk};
 ghost use Rattle.cs_syntax.specs.Node.{tree_of};
 ghost use Rattle.cs_syntax.specs.NodeList.{trees_of};
 ghost use Rattle.cs_match.specs.Entered.{position_list, position_list_of, if_entered, if_previous, if_kept};
@@ -58,9 +58,18 @@ impl Position {
     }
 }
 
+/// The positions of the tree.
+pub(crate) fn positions_of(alloc: Global, node: &Node) -> Result<Vec<Position>, AllocError>
+    ensures { IfOk result (λ positions. positions.items ≡ position_list (tree_of node.now)) }
+{
+    let mut positions = Vec::new(alloc);
+    add_positions(alloc, node, &mut positions)?;
+    Ok(positions)
+}
+
 /// Adds the positions of the tree.
 #[cycle(add_positions)]
-pub(crate) fn add_positions(
+fn add_positions(
     alloc: Global,
     node: &Node,
     positions: &mut Vec<Position>,

@@ -1,6 +1,7 @@
 // Programs: compiled patterns.
-ghost use Rattle.std.specs.Prelude.{◌≡◌, ◌≤◌, IfOk, IfSome, length};
+ghost use Rattle.std.specs.Prelude.{◌≡◌, ◌≤◌, ◌<◌, ◌^◌, IfOk, IfSome, length};
 ghost use Rattle.cs_syntax.specs.Node.{tree_of};
+ghost use Rattle.cs_syntax.specs.Cuts.{AreCutsOf};
 ghost use Rattle.cs_match.specs.SameLines.{MatchSameLines};
 ghost use Rattle.cs_match.specs.Glushkov.{position_count, repeats, char_step_of, IsExpanded};
 ghost use Rattle.cs_prefilter.specs.WordAt.{IsPrefilterOf};
@@ -16,7 +17,7 @@ use crate::expand::expand;
 use crate::glushkov::count_repeats;
 use crate::look_around::{LookBehind, is_anchored, look_behind};
 use crate::parts::{Part, part_of};
-use crate::position::{Position, add_positions};
+use crate::position::{Position, positions_of};
 use cs_prefilter::Prefilter;
 use cs_syntax::{CharStep, Cuts, Node, Pattern, Unfinished};
 use std::alloc::{AllocError, Global};
@@ -84,15 +85,16 @@ impl Program {
         ensures small { IfOk result (λ program. FitsWeight program pattern.now) }
     {
         let root = expand(alloc, pattern.tree())?;
+        let Tables {
+            part,
+            positions,
+            cuts,
+            prefilter,
+        } = Tables::of_tree(alloc, &root)?;
         let repeats = count_repeats(&root);
         let look_behind = look_behind(&root);
         let is_anchored = is_anchored(&root);
         let byte_classes = byte_classes(&root, look_behind);
-        let cuts = Cuts::of_tree(alloc, &root)?;
-        let prefilter = Prefilter::of(alloc, &root)?;
-        let part = part_of(alloc, &root)?;
-        let mut positions = Vec::new(alloc);
-        add_positions(alloc, &root, &mut positions)?;
         Ok(Program {
             root,
             part,
@@ -167,5 +169,37 @@ impl Program {
         ensures { IfSome result (λ prefilter. IsPrefilterOf self.now prefilter.now) }
     {
         self.prefilter.as_ref()
+    }
+}
+
+/// The allocated parts of a program besides its tree.
+#[derive(Drop)]
+struct Tables {
+    part: Part,
+    positions: Vec<Position>,
+    cuts: Cuts,
+    prefilter: Option<Prefilter>,
+}
+
+impl Tables {
+    /// The parts for an expanded tree.
+    fn of_tree(alloc: Global, root: &Node) -> Result<Tables, AllocError>
+        requires { position_count (tree_of root.now) < 2 ^ 64 }
+        ensures shape { IfOk result (λ tables. HaveSameShape (tree_of root.now) (shape_of tables.part)) }
+        ensures size { IfOk result (λ tables. size_of tables.part ≤ nodes (tree_of root.now)) }
+        ensures positions { IfOk result (λ tables. tables.positions.items ≡ position_list (tree_of root.now)) }
+        ensures cuts { IfOk result (λ tables. AreCutsOf (tree_of root.now) tables.cuts) }
+        ensures prefilter { IfOk result (λ tables. IfSome tables.prefilter (IsPrefilterOf (tree_of root.now))) }
+    {
+        let positions = positions_of(alloc, root)?;
+        let cuts = Cuts::of_tree(alloc, root)?;
+        let part = part_of(alloc, root)?;
+        let prefilter = Prefilter::of(alloc, root)?;
+        Ok(Tables {
+            part,
+            positions,
+            cuts,
+            prefilter,
+        })
     }
 }

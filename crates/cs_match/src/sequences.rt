@@ -34,18 +34,12 @@ impl Sequences {
     pub(crate) fn new(alloc: Global, following: Vec<usize>) -> Result<Sequences, AllocError>
         ensures { IfOk result (λ sequences. sequences ≡ following.items) }
     {
-        let mut firsts = Vec::new(alloc);
-        let mut lasts = Vec::new(alloc);
-        for n in &following {
-            firsts.push(true)?;
-            add_others(&mut firsts, *n)?;
-            add_others(&mut lasts, *n)?;
-            lasts.push(true)?;
-        }
+        let firsts = firsts_of(alloc, &following)?;
+        let lasts = lasts_of(alloc, &following)?;
         Ok(Sequences {
-            firsts: PositionSet::of(alloc, &firsts)?,
-            lasts: PositionSet::of(alloc, &lasts)?,
             following,
+            firsts,
+            lasts,
         })
     }
 
@@ -62,6 +56,30 @@ impl Sequences {
     {
         &self.lasts
     }
+}
+
+/// The first position of each sequence.
+fn firsts_of(alloc: Global, following: &[usize]) -> Result<PositionSet, AllocError>
+    ensures { IfOk result (λ firsts. firsts ≡ firsts_of following.now) }
+{
+    let mut firsts = Vec::new(alloc);
+    for n in following {
+        firsts.push(true)?;
+        add_others(&mut firsts, *n)?;
+    }
+    PositionSet::of(alloc, &firsts)
+}
+
+/// The last position of each sequence.
+fn lasts_of(alloc: Global, following: &[usize]) -> Result<PositionSet, AllocError>
+    ensures { IfOk result (λ lasts. lasts ≡ lasts_of following.now) }
+{
+    let mut lasts = Vec::new(alloc);
+    for n in following {
+        add_others(&mut lasts, *n)?;
+        lasts.push(true)?;
+    }
+    PositionSet::of(alloc, &lasts)
 }
 
 /// Adds so many positions that are not in the set.

@@ -1,6 +1,6 @@
 -- The clauses of cgrep, from those of the functions that it calls.
 use Rattle.std.proofs.Common.{◌≡◌, ℕ, Bool, true, false, cond, List, [], ◌∷◌, refl, sym, ap, subst, ◌∙◌, append-nil, Option, Some, None, Result, Ok, Err, ◌↔◌, ◌+◌, inl, inr, arith}
-use Rattle.std.specs.Prelude.{option_map, map, string_bytes}
+use Rattle.std.specs.Prelude.{option_map, map, string_bytes, IfOk, OnOk, MatchResult}
 use Rattle.cs_syntax.specs.Matching.{Tree, HasMatch}
 use Rattle.cs_syntax.specs.Parsing.{ParsesAs}
 use Rattle.cs_syntax.specs.ParseErrors.{IsParseError}
@@ -8,12 +8,12 @@ use Rattle.cs_syntax.specs.declared.fault.PatternFault.{PatternFault}
 use Rattle.cs_syntax.specs.declared.fault.PatternFault.TheVariants as pattern
 use Rattle.cs_syntax.specs.declared.fault.PatternError.{PatternError}
 use Rattle.cs_match.specs.Deciding.{Decides}
-use Rattle.cs_tree.specs.TakesPrefix.{EndsAfter, TakesPrefix}
+use Rattle.cs_tree.specs.TakesPrefix.{EndsAfter, MayEnd}
 use Rattle.cs_tree.specs.ConsumesAtMost.{ConsumesAtMost}
 use Rattle.cs_tree.specs.StreamModels.{SourceModel}
-use Rattle.cs_tree.specs.Sinks.{SinkModel, GrowsFlushed}
+use Rattle.cs_tree.specs.Sinks.{SinkModel, GrowsFlushed, HasFlushed}
 use Rattle.cs_tree.specs.Snapshot.{Snapshot}
-use Rattle.cs_tree.proofs.GrowsLemmas.{Grows-same, GrowsFlushed-chain}
+use Rattle.cs_tree.proofs.GrowsLemmas.{Grows-same, GrowsFlushed-chain, leaves_flushed}
 use Rattle.cs_tree.proofs.ConsumesLemmas.{Consumes_few}
 use Rattle.cs_search.proofs.InputWorkLemmas.{Consumes-none}
 use Rattle.cs_args.specs.declared.jobs.Tool.{Tool}
@@ -30,7 +30,7 @@ use Rattle.cs_search.specs.Refusals.{IsAccepted, DecidesText, SilentOnError}
 use Rattle.cs_search.specs.GrepFaults.{IsSearchFault}
 use Rattle.cs_args.specs.declared.fault.ToolFault.{ToolFault}
 use Rattle.cs_args.specs.declared.fault.ToolFault.TheVariants.{Pattern, FilePattern, NoIndex, BadIndex, Write, Memory}
-use Rattle.cs_search.proofs.PrintedInputLemmas.{PrintsFaults-no, PrintsAnswer-nothing, outputs_of}
+use Rattle.cs_search.proofs.PrintedInputLemmas.{PrintsFaults-no, PrintsAnswer-nothing, PrintsAnswer-all, outputs_of}
 use Rattle.cs_args.specs.Faults.{pattern_fault, pattern_fault_at}
 
 module _ (limit : ℕ) (job : GrepJob) (has_match : List ℕ → Bool) (snapshot : Option Snapshot) (input : Option SourceModel) where
@@ -55,12 +55,20 @@ pub pattern_refused : (text : List ℕ) (fold : Bool) (error : PatternError) →
     RefusesPattern text fold (pattern_fault error)
 pattern_refused text fold error refused = pattern_refused_at text fold error error.fault refl refused
 
--- a search that fails after it began
-pub begun_refused : (A B : Type 0) (text : List ℕ) (fold : Bool) (fault : ToolFault) →
-    IsSearchFault {A = A} (Err fault) → IsAccepted text fold → PatternFirst {A = B} text fold (Err fault)
-begun_refused A B text fold Write only is = is
-begun_refused A B text fold Memory only is = tt
-begun_refused A B text fold fault only is = absurd only
+-- a search that began
+begun_first : (text : List ℕ) (fold : Bool) (answer : Result Status ToolFault) → IsSearchFault answer →
+    IsAccepted text fold → PatternFirst text fold answer
+begun_first text fold (Ok status) only is = is
+begun_first text fold (Err Write) only is = is
+begun_first text fold (Err Memory) only is = tt
+begun_first text fold (Err fault) only is = absurd only
+
+-- its errors may come after output
+pub begun_silent : {A : Type 0} (Silent : Type 0) (answer : Result A ToolFault) → IsSearchFault answer → SilentOnError answer Silent
+begun_silent Silent (Ok status) only = tt
+begun_silent Silent (Err Write) only = λ unwritten forced. absurd (unwritten refl)
+begun_silent Silent (Err Memory) only = λ unwritten forced. absurd (forced refl)
+begun_silent Silent (Err fault) only = absurd only
 
 -- nothing was printed
 pub all_silent : {A : Type 0} (Silent : Type 0) (answer : Result A ToolFault) → Silent → SilentOnError answer Silent
@@ -70,17 +78,32 @@ all_silent Silent (Err fault) silent = λ unwritten forced. silent
 abbrev status_of : Bool → Status
 status_of matched = cond matched Matched NoMatch
 
--- both outputs are flushed
-pub PrintsAnswer-flushed : (printed : Option Printed) (out now later err err-now err-later : Option SinkModel)
-    (matched : Bool) (status : Status) → Prints printed out now err err-now matched → GrowsFlushed now later [] →
-    GrowsFlushed err-now err-later [] → status ≡ status_of matched → PrintsAnswer printed (outputs_of out later err err-later) (Ok status)
-PrintsAnswer-flushed None out now later err err-now err-later matched status p flushed flushed-err is = tt
-PrintsAnswer-flushed (Some printed) out now later err err-now err-later matched status p flushed flushed-err is = (
-  subst (GrowsFlushed out later) (append-nil printed.output) (GrowsFlushed-chain out now later printed.output [] p.0 flushed),
-  subst (GrowsFlushed err err-later) (append-nil printed.errors)
-      (GrowsFlushed-chain err err-now err-later printed.errors [] p.1 flushed-err),
-  is ∙ ap status_of p.2,
-)
+-- everything was printed, and then both outputs are flushed
+module _ (out now later err err-now err-later : Option SinkModel) where
+  PrintsAnswer-flushed : (printed : Option Printed) (matched : Bool) (status : Status) →
+      Prints printed out now err err-now matched → GrowsFlushed now later [] → GrowsFlushed err-now err-later [] →
+      status ≡ status_of matched → PrintsAnswer printed (outputs_of out later err err-later) (Ok status)
+  PrintsAnswer-flushed None matched status p flushed flushed-err is = tt
+  PrintsAnswer-flushed (Some printed) matched status p flushed flushed-err is = (
+    subst (GrowsFlushed out later) (append-nil printed.output) (GrowsFlushed-chain out now later printed.output [] p.0 flushed),
+    subst (GrowsFlushed err err-later) (append-nil printed.errors)
+        (GrowsFlushed-chain err err-now err-later printed.errors [] p.1 flushed-err),
+    is ∙ ap status_of p.2,
+  )
+
+  pub PrintsAnswer-ended : (printed : Option Printed) (matched : Bool) (answer : Result Status ToolFault) →
+      Prints printed out now err err-now matched →
+      MatchResult answer (λ _. GrowsFlushed now later []) (λ _. MayEnd [] now later) → EndsAfter [] err-now err-later answer →
+      IfOk answer (λ status. status ≡ status_of matched) → PrintsAnswer printed (outputs_of out later err err-later) answer
+  PrintsAnswer-ended printed matched (Ok status) p ends ends-err is = PrintsAnswer-flushed printed matched status p ends ends-err is
+  PrintsAnswer-ended printed matched (Err fault) p ends ends-err is =
+      PrintsAnswer-all printed fault out now later err err-now err-later matched p ends ends-err
+
+  pub ended_flushed : (answer : Result Status ToolFault) →
+      MatchResult answer (λ _. GrowsFlushed now later []) (λ _. MayEnd [] now later) → EndsAfter [] err-now err-later answer →
+      OnOk answer (HasFlushed later × HasFlushed err-later)
+  ended_flushed (Ok status) ends ends-err = (leaves_flushed now later [] ends, leaves_flushed err-now err-later [] ends-err)
+  ended_flushed (Err fault) ends ends-err = tt
 
 -- ---- the printed faults
 
@@ -135,34 +158,21 @@ grep_unsearched job tree failed input input_failed out err fault first = record 
   loses = Consumes_few input input [] (max_searched + 1) (Consumes-none input) (omega arith);
 }
 
-module _ (job : GrepJob) (tree : Option Snapshot) (failed failed' : ℕ) (input input' : Option SourceModel)
-    (input_failed input_failed' : ℕ) (outputs : SearchOutputs) (accepted : IsAccepted (string_bytes job.pattern) job.fold)
-    (loses : ConsumesAtMost (max_searched + 1) input input') where
-  -- an error while inputs are searched, or in a flush
-  pub grep_failed : (fault : ToolFault) → PatternFirst {A = Status} (string_bytes job.pattern) job.fold (Err fault) →
-      ((has_match : List ℕ → Bool) → DecidesText (string_bytes job.pattern) job.fold has_match →
-      PrintsAnswer (cgrep_printed max_searched job has_match tree input) outputs (Err fault)) →
-      PrintsFaultsOf job failed failed' input_failed input_failed' (λ lines. TakesPrefix lines outputs.err outputs.err_then) →
-      IsGrep job tree failed failed' input input' input_failed input_failed' outputs (Err fault)
-  grep_failed fault first prints faults = record {
-    prints = prints;
-    begins = inr accepted;
-    pattern = first;
-    faults = faults;
-    loses = loses;
-  }
-
-  pub grep_done : (status : Status) → ((has_match : List ℕ → Bool) → DecidesText (string_bytes job.pattern) job.fold has_match →
-      PrintsAnswer (cgrep_printed max_searched job has_match tree input) outputs (Ok status)) →
-      PrintsFaultsOf job failed failed' input_failed input_failed' (λ lines. GrowsFlushed outputs.err outputs.err_then lines) →
-      IsGrep job tree failed failed' input input' input_failed input_failed' outputs (Ok status)
-  grep_done status prints faults = record {
-    prints = prints;
-    begins = inr accepted;
-    pattern = accepted;
-    faults = faults;
-    loses = loses;
-  }
+-- a search that began
+pub grep_begun : (job : GrepJob) (tree : Option Snapshot) (failed failed' : ℕ) (input input' : Option SourceModel)
+    (input_failed input_failed' : ℕ) (outputs : SearchOutputs) (answer : Result Status ToolFault) →
+    IsAccepted (string_bytes job.pattern) job.fold → IsSearchFault answer → ConsumesAtMost (max_searched + 1) input input' →
+    ((has_match : List ℕ → Bool) → DecidesText (string_bytes job.pattern) job.fold has_match →
+    PrintsAnswer (cgrep_printed max_searched job has_match tree input) outputs answer) →
+    PrintsFaultsOf job failed failed' input_failed input_failed' (λ lines. EndsAfter lines outputs.err outputs.err_then answer) →
+    IsGrep job tree failed failed' input input' input_failed input_failed' outputs answer
+grep_begun job tree failed failed' input input' input_failed input_failed' outputs answer accepted only loses prints faults = record {
+  prints = prints;
+  begins = inr accepted;
+  pattern = begun_first (string_bytes job.pattern) job.fold answer only accepted;
+  faults = faults;
+  loses = loses;
+}
 
 -- a text parses as one tree
 pub read_once : (text : List ℕ) (fold : Bool) (t u : Tree) → ParsesAs text fold t → ParsesAs text fold u → t ≡ u

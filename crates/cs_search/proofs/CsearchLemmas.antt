@@ -1,6 +1,5 @@
 -- The clauses of csearch, from those of the functions that it calls.
 use Rattle.std.proofs.Common.{◌≡◌, ℕ, ◌+◌, Bool, true, false, cond, List, [], ◌∷◌, ◌++◌, length, map, refl, sym, ap, subst, ◌∙◌, append_assoc, length-append, Option, Some, None, Result, Ok, Err, inl, inr}
-use Rattle.cs_tree.specs.Sinks.{SinkModel}
 use Rattle.cs_index.specs.Postings.{IsListFault}
 use Rattle.cs_index.specs.PostingLists.{set_at, entries_of}
 use Rattle.cs_trigram.specs.Trigram.{has}
@@ -34,9 +33,8 @@ use Rattle.cs_index.specs.Answerable.{is_answerable}
 use Rattle.cs_search.specs.InputReport.{max_searched}
 use Rattle.cs_match.specs.Deciding.{Decides}
 use Rattle.cs_search.specs.StoredSearch.{IsUnopened}
-use Rattle.cs_search.specs.Refusals.{IsAccepted, SilentOnError, has_write_failed}
+use Rattle.cs_search.specs.Refusals.{IsAccepted, has_write_failed}
 use Rattle.cs_search.specs.GrepFaults.{IsSearchFault}
-use Rattle.cs_search.specs.Searcher.{PrintsAllFaults}
 use Rattle.cs_history.specs.MatchingFiles.{names_matching}
 use Rattle.cs_trigram.specs.QueryOf.{IsQueryOf}
 use Rattle.cs_search.specs.Csearch.{file_text, OpensWith, Keeps, csearch_printed, AreAccepted, OpensWhole, IsReady, RefusedInOrder}
@@ -46,7 +44,7 @@ use Rattle.cs_search.specs.declared.status.Status.{Status}
 use Rattle.cs_args.proofs.ArgSplitLemmas.{slice_get-prefix}
 use Rattle.cs_search.proofs.CgrepLemmas.{read_once, decides_program}
 use Rattle.cs_search.specs.IndexSearch.{FileRefused, file_fault_at, file_pattern_fault, names_at, IsFileProgram, DecidesNames}
-use Rattle.cs_search.specs.Printed.{Printed, NamedFault, AreFaultsOf, file_printed, all_printed}
+use Rattle.cs_search.specs.Printed.{Printed, NamedFault, AreFaultsOf, PrintsFaults, file_printed, all_printed}
 
 -- ---- errors of the `-f` pattern
 
@@ -115,11 +113,6 @@ accepted_file None None is = tt
 accepted_file (Some text) (Some program) is = (is.0, is.1, is.2)
 accepted_file text program is = absurd is
 
--- the job's pattern parses as this tree
-pub reads_job : (job : SearchJob) (text : List ℕ) (pattern : Tree) → text ≡ string_bytes job.pattern →
-    ParsesAs text job.fold pattern → ParsesAs (string_bytes job.pattern) job.fold pattern
-reads_job job text pattern same read = subst (λ (t : List ℕ). ParsesAs t job.fold pattern) same read
-
 -- a plan exists only for accepted patterns
 pub accepted_plan : (job : SearchJob) (plan : Plan) → IsPlan job plan → AreAccepted job
 accepted_plan job plan is = ((is.program.0, is.program.1, is.program.2), accepted_file (file_text job) plan.file is.file)
@@ -157,11 +150,12 @@ module _ (job : SearchJob) (index : Option (List ℕ)) where
   lists_fourth query fault accepted parts opens right (inr memory) =
       subst (λ (f : IndexFault). RefusesPlan job index (index_fault f)) (sym memory) (query, tt, refl)
 
-  pub search_last : (query : Query) (fault : ToolFault) → IsReady IsQueryOf job index query →
-      IsSearchFault {A = Status} (Err fault) → RefusedInOrder IsQueryOf job index query {A = Status} (Err fault)
-  search_last query Write ready is = ready
-  search_last query Memory ready is = tt
-  search_last query fault ready is = absurd is
+  pub search_last : (query : Query) (answer : Result Status ToolFault) → IsReady IsQueryOf job index query →
+      IsSearchFault answer → RefusedInOrder IsQueryOf job index query answer
+  search_last query (Ok status) ready is = ready
+  search_last query (Err Write) ready is = ready
+  search_last query (Err Memory) ready is = tt
+  search_last query (Err fault) ready is = absurd is
 
 -- the answer of a search by an index that was not opened
 pub unopened_late : (A : Type 0) (job : SearchJob) (fault : IndexFault) → AreAccepted job →
@@ -173,13 +167,6 @@ unopened_late A job fault accepted = inr (accepted, refl, λ e. cc e)
 pub list_unwritten : (fault : IndexFault) → has_write_failed {A = Status} (Err (index_fault fault)) ≡ false
 list_unwritten IndexMemory = refl
 list_unwritten fault = refl
-
--- an error of a search may come after output
-pub search_silent : (Silent : Type 0) (fault : ToolFault) → IsSearchFault {A = Status} (Err fault) →
-    SilentOnError {A = Status} (Err fault) Silent
-search_silent Silent Write is = λ unwritten forced. absurd (unwritten refl)
-search_silent Silent Memory is = λ unwritten forced. absurd (forced refl)
-search_silent Silent fault is = absurd is
 
 -- ---- the selected names
 
@@ -244,11 +231,11 @@ faults_chosen parts query faults are =
     (subst (λ (l : List (List ℕ)). AreFaultsOf l faults) (candidates_named parts query) are))
 
 -- faults of selected names are faults of indexed files
-pub PrintsAllFaults-chosen : {A E : Type 0} (r : Result A E) (tool : Tool) (parts : Parts) (query : Query)
-    (keeps : List ℕ → Bool) (names : List (List ℕ)) (failed failed' : ℕ) (err err' : Option SinkModel) → names
+pub PrintsFaults-chosen : (Writes : List ℕ → Type 0) (tool : Tool) (parts : Parts) (query : Query)
+    (keeps : List ℕ → Bool) (names : List (List ℕ)) (failed failed' : ℕ) → names
     ≡ filter keeps (names_at parts.names (candidates_of parts query)) →
-    PrintsAllFaults tool names failed failed' err err' r → PrintsAllFaults tool parts.names failed failed' err err' r
-PrintsAllFaults-chosen r tool parts query keeps names failed failed' err err' are faults = (
+    PrintsFaults tool names failed failed' Writes → PrintsFaults tool parts.names failed failed' Writes
+PrintsFaults-chosen Writes tool parts query keeps names failed failed' are faults = (
   faults.0,
   faults_chosen parts query faults.0 (faults_of_kept keeps (names_at parts.names (candidates_of parts query)) faults.0
       (subst (λ (l : List (List ℕ)). AreFaultsOf l faults.0) are faults.1)),

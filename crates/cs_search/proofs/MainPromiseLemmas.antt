@@ -1,6 +1,5 @@
 -- csearch prints what cgrep prints if files read as they were indexed, in particular over an index that jobs left.
-use Rattle.std.proofs.Common.{◌≡◌, ℕ, ◌<◌, ◌^◌, List, length, refl, sym, ap, subst, ◌∙◌, Bool, true, false, Option, Some, None, Result}
-use Rattle.cs_tree.specs.Sinks.{SinkModel}
+use Rattle.std.proofs.Common.{◌≡◌, ℕ, ◌<◌, ◌^◌, List, length, refl, sym, ap, subst, ◌∙◌, Bool, true, false, Option, Some, None}
 use Rattle.cs_index.specs.Roundtrip.{parts_written, IsIndexWith}
 use Rattle.std.specs.Prelude.{filter, map, option_map, String, string_bytes}
 use Rattle.std.specs.declared.alloc.Global.{Global}
@@ -31,11 +30,10 @@ use Rattle.cs_history.specs.WellFormed.{IsHistory}
 use Rattle.cs_history.proofs.HistoryLemmas.{history_content, index_is}
 use Rattle.cs_args.specs.declared.jobs.Tool.TheVariants.{Csearch, Cgrep}
 use Rattle.cs_args.specs.declared.jobs.SearchJob.{SearchJob}
-use Rattle.cs_search.specs.Searcher.{PrintsAllFaults}
 use Rattle.cs_search.specs.InputReport.{max_searched}
 use Rattle.cs_search.specs.SearchHeadline.{SearchPremises, SearchesLikeGrep}
 use Rattle.cs_search.specs.SameSearch.{PrintsLikeCgrep}
-use Rattle.cs_search.specs.Printed.{searched_by_cgrep, Printed, all_printed, file_printed}
+use Rattle.cs_search.specs.Printed.{searched_by_cgrep, Printed, PrintsFaults, all_printed, file_printed}
 use Rattle.cs_index.specs.Answerable.{is_answerable}
 use Rattle.cs_index.specs.Postings.{IsListFault}
 use Rattle.cs_index.specs.declared.fault.IndexFault.{IndexFault}
@@ -46,7 +44,7 @@ use Rattle.cs_search.specs.Csearch.{file_text, OpensWith, IsSound, DecidesSearch
 use Rattle.cs_search.proofs.SkippedFileLemmas.{search_alike}
 use Rattle.cs_search.proofs.CgrepLemmas.{decides_program}
 use Rattle.cs_search.proofs.SelectionLemmas.{decided}
-use Rattle.cs_search.proofs.CsearchLemmas.{names_of_files, names_decided, accepted_plan, lists_fourth, chosen, PrintsAllFaults-chosen}
+use Rattle.cs_search.proofs.CsearchLemmas.{names_of_files, names_decided, accepted_plan, lists_fourth, chosen, PrintsFaults-chosen}
 
 -- `-brute` loses no line either
 loses : (brute : Bool) (pattern : Tree) (query : Query) → IsSound brute pattern query → LosesNoLine query pattern
@@ -115,16 +113,15 @@ module _ (job : SearchJob) (index : Option (List ℕ)) (plan : Plan) (is : IsPla
       (map string_bytes texts) (selected.kept keeps kept)) (prints has_match decides))
 
   -- faults of the selected names are faults of indexed names
-  pub faults_chosen : MatchingIsDecidable → {A E : Type 0} (r : Result A E) (opened : Parts) (failed failed' : ℕ)
-      (err err' : Option SinkModel) → OpensWith index opened →
-      PrintsAllFaults Csearch (map string_bytes texts) failed failed' err err' r → PrintsAllFaults Csearch opened.names
-      failed failed' err err' r
-  faults_chosen decidable r opened failed failed' err err' opens faults =
+  pub faults_chosen : MatchingIsDecidable → (Writes : List ℕ → Type 0) (opened : Parts) (failed failed' : ℕ) →
+      OpensWith index opened → PrintsFaults Csearch (map string_bytes texts) failed failed' Writes →
+      PrintsFaults Csearch opened.names failed failed' Writes
+  faults_chosen decidable Writes opened failed failed' opens faults =
       let test = decided decidable plan.file in
-      subst (λ (p : Parts). PrintsAllFaults Csearch p.names failed failed' err err' r)
+      subst (λ (p : Parts). PrintsFaults Csearch p.names failed failed' Writes)
       (opens_once index selected.parts opened selected.opens opens)
-      (PrintsAllFaults-chosen r Csearch selected.parts plan.query test.0 (map string_bytes texts) failed failed' err
-      err' (selected.kept test.0 test.1) faults)
+      (PrintsFaults-chosen Writes Csearch selected.parts plan.query test.0 (map string_bytes texts) failed failed'
+      (selected.kept test.0 test.1) faults)
 
 module _ (job : SearchJob) (index : Option (List ℕ)) (query : Query) (tree : Option Snapshot)
     (Prints : Option Printed → Type 0) (by_index : PrintsCandidates job index query tree Prints) where

@@ -391,12 +391,6 @@ module _ (tool : Tool) where
   PrintsFaults-no r fault names failed failed' err err' is same nothing =
       rw is ([], faults_none names, same, prefix_written [] err err' 0 nothing)
 
-  -- an error before the outputs are flushed
-  pub PrintsFaults-cut : {A E : Type 0} (r : Result A E) (fault : E) (names : List (List ℕ)) (failed failed' : ℕ)
-      (err err' : Option SinkModel) → r ≡ Err fault → PrintsAllFaults tool names failed failed' err err' undone →
-      Ends names failed failed' err err' r
-  PrintsFaults-cut r fault names failed failed' err err' is faults = rw is faults
-
   -- then the outputs are flushed
   pub PrintsFaults-flushed : {A E : Type 0} (r : Result A E) (names : List (List ℕ)) (failed failed' : ℕ)
       (err err-now err-later : Option SinkModel) → PrintsAllFaults tool names failed failed' err err-now done →

@@ -1,5 +1,5 @@
 -- A failed search has printed a prefix of what the search prints.
-use Rattle.std.proofs.Common.{◌≡◌, ℕ, ◌+◌, ◌≤◌, Bool, true, false, cond, List, [], ◌∷◌, ◌++◌, length, take, drop, sym, ap, subst, ◌∙◌, arith, append-nil, Option, Some, None, ⊎_elim, is_none}
+use Rattle.std.proofs.Common.{◌≡◌, ℕ, ◌+◌, ◌≤◌, Bool, true, false, cond, List, [], ◌∷◌, ◌++◌, length, take, drop, sym, ap, subst, ◌∙◌, arith, append-nil, Option, Some, None, ⊎_elim, is_none, inl, inr}
 use Rattle.std.specs.List.{flat_map}
 use Rattle.std.proofs.lemmas.List.{nil_from_length, take-append-drop, take-take}
 use Rattle.std.proofs.lemmas.List.Concat.{flat_map-append}
@@ -18,7 +18,7 @@ use Rattle.cs_search.specs.Report.{MatchingLine, matches_from, any_match, match_
 use Rattle.cs_tree.specs.TakesPrefix.{TakesPrefix}
 use Rattle.cs_search.specs.GrepReports.{text_report, ReportsPrefix}
 use Rattle.cs_search.specs.InputReport.{input_report, fault_within}
-use Rattle.cs_search.specs.TestedLines.{SameNumber, match_output, total, Tests, TestsPrefix}
+use Rattle.cs_search.specs.TestedLines.{SameNumber, match_output, total, Tests, TestsPrefix, EndsPrefix}
 use Rattle.cs_search.specs.Progress.{HasReadInput, HasTested, Stops, TestsInput, TestsInputPrefix}
 use Rattle.cs_tree.proofs.PrefixLemmas.{prefix_left, prefix_right, prefix_all}
 use Rattle.cs_search.proofs.MatchListLemmas.{matches_from-append, matches_from-one}
@@ -196,7 +196,7 @@ module _ (style : Style) (name : List ℕ) (has_match : List ℕ → Bool) (befo
   all_lines rest is = ap (λ r. terminated_lines text ++ last_line r) is ∙ sym (lines-split text)
 
   -- at the end of the text, in the unfinished line
-  pub report_prefix-rest : (mid : Tally) (now : Option SinkModel) (rest : List ℕ) (out : Option SinkModel) →
+  report_prefix-rest : (mid : Tally) (now : Option SinkModel) (rest : List ℕ) (out : Option SinkModel) →
       rest ≡ last_part text → SameNumber style mid.lines (length (terminated_lines text)) →
       (style.list ≡ true → mid.matches ≡ 0) → Tests style name has_match (terminated_lines text) before mid sink now →
       TestsPrefix style name has_match (last_line rest) (mid.lines + 1) now out →
@@ -212,7 +212,7 @@ module _ (style : Style) (name : List ℕ) (has_match : List ℕ → Bool) (befo
       (ap (λ ls. matches_from (before.lines + 1) has_match ls) (all_lines rest is) ∙ from_one (lines text)) tested_all))
 
   -- in the count
-  pub report_prefix-total : (mid after : Tally) (now later : Option SinkModel) (rest : List ℕ) (out : Option SinkModel)
+  report_prefix-total : (mid after : Tally) (now later : Option SinkModel) (rest : List ℕ) (out : Option SinkModel)
       → rest ≡ last_part text → SameNumber style mid.lines (length (terminated_lines text)) →
       (style.list ≡ true → mid.matches ≡ 0) → Tests style name has_match (terminated_lines text) before mid sink now →
       Tests style name has_match (last_line rest) mid after now later → TakesPrefix (total style name after.matches)
@@ -233,6 +233,17 @@ module _ (style : Style) (name : List ℕ) (has_match : List ℕ → Bool) (befo
       (prefix_right _ _ sink later out (subst (λ (hs : List MatchingLine). Grows sink later
       (flat_map (match_output style name) hs)) (from_one (lines text)) whole.written) prefix)
 
+  -- in either
+  pub report_prefix-ended : (mid after : Tally) (now : Option SinkModel) (rest : List ℕ) (out : Option SinkModel) →
+      rest ≡ last_part text → SameNumber style mid.lines (length (terminated_lines text)) →
+      (style.list ≡ true → mid.matches ≡ 0) → Tests style name has_match (terminated_lines text) before mid sink now →
+      EndsPrefix style name has_match (last_line rest) mid after now out →
+      TakesPrefix (text_report style name has_match text).output sink out
+  report_prefix-ended mid after now rest out is counted none tests (inl prefix) =
+      report_prefix-rest mid now rest out is counted none tests prefix
+  report_prefix-ended mid after now rest out is counted none tests (inr prefix) =
+      report_prefix-total mid after now prefix.0 rest out is counted none tests prefix.1 prefix.2
+
 -- of an input that is searched up to a limit
 module _ (style : Style) (name : List ℕ) (has_match : List ℕ → Bool) (before : Tally) (no_lines : before.lines ≡ 0)
     (no_matches : before.matches ≡ 0) (sink : Option SinkModel) (limit : ℕ) where
@@ -244,28 +255,15 @@ module _ (style : Style) (name : List ℕ) (has_match : List ℕ → Bool) (befo
       report_prefix style name has_match (take limit model.bytes) sink out (fault_within limit model)
       (subst (λ n. TestsPrefix style name has_match (terminated_lines (take limit model.bytes)) (n + 1) sink out) no_lines prefix)
 
-  pub ReportsPrefix-rest : (model : Option SourceModel) (mid : Tally) (now : Option SinkModel) (rest : List ℕ)
+  pub ReportsPrefix-ended : (model : Option SourceModel) (mid after : Tally) (now : Option SinkModel) (rest : List ℕ)
       (out : Option SinkModel) → Stops style limit End model rest mid.lines → (style.list ≡ true → mid.matches ≡ 0) →
       TestsInput style name has_match before mid sink now limit End model →
-      TestsPrefix style name has_match (last_line rest) (mid.lines + 1) now out →
+      EndsPrefix style name has_match (last_line rest) mid after now out →
       ReportsPrefix model (input_report limit style name has_match) sink out
   unfolding input_report
-  ReportsPrefix-rest None mid now rest out stops none tests prefix = tt
-  ReportsPrefix-rest (Some model) mid now rest out stops none tests prefix =
+  ReportsPrefix-ended None mid after now rest out stops none tests prefix = tt
+  ReportsPrefix-ended (Some model) mid after now rest out stops none tests prefix =
       subst (λ (fault : Option ReadFault). TakesPrefix
       (report style name has_match (take limit model.bytes) fault).output sink out) (sym stops.0)
-      (report_prefix-rest style name has_match before no_lines no_matches sink (take limit model.bytes) mid now rest out
-      stops.1 stops.2 none tests prefix)
-
-  pub ReportsPrefix-total : (model : Option SourceModel) (mid after : Tally) (now later : Option SinkModel)
-      (rest : List ℕ) (out : Option SinkModel) → Stops style limit End model rest mid.lines →
-      (style.list ≡ true → mid.matches ≡ 0) → TestsInput style name has_match before mid sink now limit End model →
-      Tests style name has_match (last_line rest) mid after now later → TakesPrefix (total style name after.matches)
-      later out → ReportsPrefix model (input_report limit style name has_match) sink out
-  unfolding input_report
-  ReportsPrefix-total None mid after now later rest out stops none tests last prefix = tt
-  ReportsPrefix-total (Some model) mid after now later rest out stops none tests last prefix =
-      subst (λ (fault : Option ReadFault). TakesPrefix
-      (report style name has_match (take limit model.bytes) fault).output sink out) (sym stops.0)
-      (report_prefix-total style name has_match before no_lines no_matches sink (take limit model.bytes) mid after now
-      later rest out stops.1 stops.2 none tests last prefix)
+      (report_prefix-ended style name has_match before no_lines no_matches sink (take limit model.bytes) mid after now rest
+      out stops.1 stops.2 none tests prefix)

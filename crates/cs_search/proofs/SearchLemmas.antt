@@ -101,35 +101,20 @@ module _ (job : SearchJob) (index : Option (List ℕ)) (tree : Option Snapshot) 
 
   module _ (failed failed' : ℕ) (outputs : SearchOutputs) (query : Query) (ready : IsReady IsQueryOf job index query) where
     -- a search of the selected files
-    begun : (answer : Result Status ToolFault) → RefusedInOrder IsQueryOf job index query answer →
+    pub begun : (answer : Result Status ToolFault) → IsSearchFault answer →
         PrintsCandidates job index query tree (λ printed. PrintsAnswer printed outputs answer) →
         ((parts : Parts) → OpensWith index parts → PrintsFaults Csearch parts.names failed failed'
         (λ lines. EndsAfter lines outputs.err outputs.err_then answer)) →
         IsSearch IsQueryOf job index tree failed failed' outputs answer
-    begun answer refused prints faults = record {
+    begun answer is prints faults = record {
       query = query;
       prints = prints;
       promised = as_promised job index query tree (λ (printed : Option Printed). PrintsAnswer printed outputs answer)
           (sound_whole job index query true ready.1) prints;
       begins = inr ready;
-      refused = refused;
+      refused = search_last job index query answer ready is;
       faults = faults;
     }
-
-    -- an error while files are searched, or in a flush
-    pub refused_late : (fault : ToolFault) → IsSearchFault {A = Status} (Err fault) →
-        PrintsCandidates job index query tree (λ printed. PrintsAnswer printed outputs (Err fault)) →
-        ((parts : Parts) → OpensWith index parts → PrintsFaults Csearch parts.names failed failed'
-        (λ lines. EndsAfter {A = Status} lines outputs.err outputs.err_then (Err fault))) →
-        IsSearch IsQueryOf job index tree failed failed' outputs (Err fault)
-    refused_late fault is prints faults = begun (Err fault) (search_last job index query fault ready is) prints faults
-
-    pub searched_to_the_end : (status : Status) → PrintsCandidates job index query tree
-        (λ printed. PrintsAnswer printed outputs (Ok status)) →
-        ((parts : Parts) → OpensWith index parts → PrintsFaults Csearch parts.names failed failed'
-        (λ lines. EndsAfter {E = ToolFault} lines outputs.err outputs.err_then (Ok status))) →
-        IsSearch IsQueryOf job index tree failed failed' outputs (Ok status)
-    searched_to_the_end status prints faults = begun (Ok status) ready prints faults
 
 -- ---- a store that has a model
 

@@ -9,7 +9,9 @@ use Rattle.cs_tree.specs.WritesBytes.{WritesBytes}
 use Rattle.cs_search.specs.declared.searcher.Searcher.{Searcher}
 use Rattle.cs_args.specs.declared.jobs.Tool.{Tool}
 use Rattle.cs_search.specs.InputReport.{max_searched}
-use Rattle.cs_search.specs.Printed.{Printed, input_printed, file_printed, all_printed, PrintsFaults}
+use Rattle.cs_args.specs.declared.fault.ToolFault.{ToolFault}
+use Rattle.cs_search.specs.declared.status.Status.{Status}
+use Rattle.cs_search.specs.Printed.{Printed, input_printed, file_printed, all_printed, PrintsFaults, SearchOutputs, PrintsAnswer}
 
 pub record IsKept (old new : Searcher) : Type 0 where
   pub tool : new.tool ≡ old.tool
@@ -55,6 +57,11 @@ module _ (searcher : Searcher) where
       Option SinkModel → Option SinkModel → Type 0
   PrintsPrefixBy printed out out' err err' =
       (has_match : List ℕ → Bool) → Decides has_match searcher.matcher.tree → PrintsPrefix (printed has_match) out out' err err'
+
+  -- the same, and then both outputs were flushed
+  abbrev pub AnswersBy : ((List ℕ → Bool) → Option Printed) → SearchOutputs → Result Status ToolFault → Type 0
+  AnswersBy printed outputs answer =
+      (has_match : List ℕ → Bool) → Decides has_match searcher.matcher.tree → PrintsAnswer (printed has_match) outputs answer
 
 -- Fault lines of some of the names were printed, or a prefix of them if the call failed.
 abbrev pub PrintsAllFaults : {A E : Type 0} → Tool → List (List ℕ) → ℕ → ℕ → Option SinkModel → Option SinkModel →

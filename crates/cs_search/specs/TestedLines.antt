@@ -1,5 +1,5 @@
 -- Inside a search: which lines were tested, and what was printed for them.
-use Rattle.std.specs.Prelude.{ℕ, ◌+◌, ◌<◌, ◌≤◌, ◌≡◌, nat_lt, true, false, if◌then◌else◌, Bool, List, [], ◌∷◌, ◌++◌, length, Option}
+use Rattle.std.specs.Prelude.{ℕ, ◌+◌, ◌<◌, ◌≤◌, ◌≡◌, ◌⊎◌, nat_lt, true, false, if◌then◌else◌, Bool, List, [], ◌∷◌, ◌++◌, length, Option}
 use Rattle.std.specs.List.{flat_map}
 use Rattle.cs_tree.specs.Sinks.{Grows, SinkModel}
 use Rattle.cs_args.specs.declared.jobs.Style.{Style}
@@ -60,3 +60,26 @@ unfoldable pub total : Style → List ℕ → ℕ → List ℕ
 total style name count =
     if style.list then []
     else (if style.count then (if nat_lt 0 count then count_line name count else []) else [])
+
+-- These lines were tested at the end of an input, and the total was written after that.
+pub record Ends (style : Style) (name : List ℕ) (has_match : List ℕ → Bool) (lines : List (List ℕ))
+    (before after : Tally) (sink later : Option SinkModel) : Type 0 where
+  pub tested : Option SinkModel
+  pub tests : Tests style name has_match lines before after sink tested
+  pub written : Grows tested later (total style name after.matches)
+
+-- A prefix of their output was written, or all of it and a prefix of the total.
+abbrev pub EndsPrefix : Style → List ℕ → (List ℕ → Bool) → List (List ℕ) → Tally → Tally → Option SinkModel →
+    Option SinkModel → Type 0
+EndsPrefix style name has_match lines before after sink later =
+    TestsPrefix style name has_match lines (before.lines + 1) sink later
+    ⊎ ((tested : Option SinkModel) × Tests style name has_match lines before after sink tested
+    × TakesPrefix (total style name after.matches) tested later)
+
+-- both, by each test that decides which lines match
+module _ (tree : Tree) (style : Style) (name : List ℕ) (lines : List (List ℕ)) (before after : Tally) (sink later : Option SinkModel) where
+  abbrev pub EndsBy : Type 0
+  EndsBy = (has_match : List ℕ → Bool) → Decides has_match tree → Ends style name has_match lines before after sink later
+
+  abbrev pub EndsPrefixBy : Type 0
+  EndsPrefixBy = (has_match : List ℕ → Bool) → Decides has_match tree → EndsPrefix style name has_match lines before after sink later

@@ -3,8 +3,10 @@ ghost use Rattle.std.specs.Prelude.{◌≡◌, ◌≤◌, ◌<◌, ◌+◌, vec_
 ghost use Rattle.cs_tree.specs.Transfers.{ReadGives, is_io_failure};
 ghost use Rattle.cs_tree.specs.FailureCount.{count_after};
 
+use cs_match::Steps;
 use cs_tree::{IoFault, Source};
 use std::alloc::{AllocError, Global};
+use std::sync::ledger::Ledger;
 
 /// The initial size in bytes.
 const FIRST_SIZE: usize = 65536;
@@ -108,8 +110,14 @@ impl LineBuffer {
     }
 
     /// Reads up to `limit` bytes after the pending ones and returns their number, which is 0 at the end of the input.
+    /// The read is a step.
     #[tactic(auto, unfolding(crate::specs::Buffer::pending_bytes))]
-    pub(crate) fn fill<R: Source>(&mut self, input: &mut R, limit: usize) -> Result<usize, IoFault>
+    pub(crate) fn fill<R: Source, L: Ledger>(
+        &mut self,
+        input: &mut R,
+        limit: usize,
+        steps: &mut Steps<L>,
+    ) -> Result<usize, IoFault>
         requires some { 0 < limit }
         requires bound { length (pending_bytes self.old) < 2 ^ 32 }
         ensures within { IfOk result (λ n. n ≤ limit) }
@@ -122,7 +130,9 @@ impl LineBuffer {
         ensures failed { R.failed input.new ≡
             count_after is_io_failure result (R.failed input.old) }
         ensures keeps { R.Keeps input.old input.new }
+        ensures work { steps.new ≡ steps.old + 1 }
     {
+        steps.add(1);
         self.make_room()?;
         let n = read_behind(input, &mut self.bytes, self.end, limit)?;
         self.end += n;

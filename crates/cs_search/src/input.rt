@@ -61,9 +61,8 @@ pub(crate) fn search_input<R: Source, O: Sink, L: Ledger>(
 {
     let mut left = limit;
     'pieces: while left > 0 {
-        steps.add(1);
         let scanned = buffer.pending().len();
-        match buffer.fill(input, left) {
+        match buffer.fill(input, left, steps) {
             Ok(0) => return Ok(Stop::End),
             Ok(n) => left -= n,
             Err(IoFault::Failed) => return Ok(Stop::Faulted(ReadFault::Read)),
@@ -83,19 +82,20 @@ pub(crate) fn search_input<R: Source, O: Sink, L: Ledger>(
         };
         buffer.skip(start);
     }
-    steps.add(1);
-    let stop = probe_end(input)?;
+    let stop = probe_end(input, steps)?;
     Ok(stop)
 }
 
-/// Reads one byte more, to learn whether the input ends at the limit.
-fn probe_end<R: Source>(input: &mut R) -> Result<Stop, GrepFault>
+/// Reads one byte more, to learn whether the input ends at the limit. The read is a step.
+fn probe_end<R: Source, L: Ledger>(input: &mut R, steps: &mut Steps<L>) -> Result<Stop, GrepFault>
     ensures stop { IfOk result (λ stop. StopsHere stop (R.model input.old)) }
     ensures refused { IsOkUnless result GrepFault.Memory }
     ensures failed { R.failed input.new ≡ count_if (has_stop_failed result) (R.failed input.old) }
     ensures keeps { R.Keeps input.old input.new }
     ensures read { ReadsOne result (R.model input.old) (R.model input.new) }
+    ensures work { steps.new ≡ steps.old + 1 }
 {
+    steps.add(1);
     let mut next = [0u8; 1];
     match input.read(&mut next) {
         Ok(0) => Ok(Stop::End),

@@ -1,13 +1,18 @@
 // The plan of a csearch job, compiled before the index or a file is read.
-ghost use Rattle.std.specs.Prelude.{◌≡◌, ◌+◌, ℕ, List, Option, IfOk, IfErr, OnOk};
+ghost use Rattle.std.specs.Prelude.{◌≡◌, ◌≤◌, ◌+◌, ℕ, List, Option, IfOk, IfErr, OnOk, map, string_bytes};
+ghost use Rattle.cs_syntax.specs.Parsing.{ParsesAs};
+ghost use Rattle.cs_syntax.specs.Weight.{weight, max_weight};
 ghost use Rattle.cs_tree.specs.Sinks.{CountsOne, HasFlushed};
 ghost use Rattle.cs_tree.specs.Reads.{ReadsWithin};
+ghost use Rattle.cs_tree.specs.TakesPrefix.{EndsAfter};
 ghost use Rattle.cs_search.specs.InputReport.{max_searched};
 ghost use Rattle.cs_trigram.specs.QueryOf.{IsQueryOf};
 ghost use Rattle.cs_search.specs.Plans.{IsPlan, AreSelected, RefusesPlan};
-ghost use Rattle.cs_search.specs.Printed.{search_outputs, PrintsNothing};
+ghost use Rattle.cs_search.specs.Printed.{search_outputs, PrintsNothing, PrintsFaults};
 ghost use Rattle.cs_search.specs.Refusals.{has_write_failed, SilentOnError};
+ghost use Rattle.cs_search.specs.GrepFaults.{IsSearchFault};
 ghost use Rattle.cs_search.specs.Searched.{IsSearch};
+ghost use Rattle.cs_search.specs.Searcher.{AnswersBy, files_shown};
 
 use crate::name_filter::compile_file;
 use crate::searcher::Searcher;
@@ -22,11 +27,21 @@ use cs_trigram::{Query, query};
 use std::alloc::{AllocError, Global};
 
 /// The query of a job, and the programs of both patterns.
-#[derive(Drop)]
 pub(crate) struct Plan {
     pub(crate) query: Query,
     program: Program,
     pub(crate) file: Option<Program>,
+}
+
+// A body that owns a plan drops it by a call. A derived `drop` would stand there with each field of both programs.
+impl Drop for Plan {
+    fn drop(self) {
+        let Plan {
+            query: _query,
+            program: _program,
+            file: _file,
+        } = self;
+    }
 }
 
 impl Plan {
@@ -37,29 +52,48 @@ impl Plan {
             (λ fault. (index : Option (List ℕ)) → RefusesPlan job.now index fault) }
     {
         let pattern = parse(alloc, job.pattern.as_str(), job.fold)?;
+        Plan::of_pattern(alloc, job, &pattern)
+    }
+
+    /// Compiles the job, whose pattern is parsed.
+    fn of_pattern(alloc: Global, job: &SearchJob, pattern: &Pattern) -> Result<Plan, ToolFault>
+        requires reads { ParsesAs (string_bytes job.now.pattern) job.now.fold pattern.now }
+        requires light { weight pattern.now ≤ max_weight }
+        ensures plan { IfOk result (IsPlan job.now) }
+        ensures refused { IfErr result
+            (λ fault. (index : Option (List ℕ)) → RefusesPlan job.now index fault) }
+    {
+        let query = query_of(alloc, job.brute, pattern)?;
+        let program = Program::compile(alloc, pattern)?;
         let file = compile_file(alloc, job)?;
-        let query = query_of(alloc, job.brute, &pattern)?;
-        let program = Program::compile(alloc, &pattern)?;
         Ok(Plan {
             query,
             program,
             file,
         })
     }
+}
 
+/// A job of `csearch` with its plan.
+#[derive(Clone, Copy, Drop)]
+pub(crate) struct PlannedJob<'a> {
+    pub(crate) alloc: Global,
+    pub(crate) job: &'a SearchJob,
+    pub(crate) plan: &'a Plan,
+}
+
+impl PlannedJob<'_> {
     /// Searches the files with these names, which the plan selects.
-    pub(crate) fn search<T: Tree, O: Sink, E: Sink>(
+    pub(crate) fn run<T: Tree, O: Sink, E: Sink>(
         &self,
-        alloc: Global,
-        job: &SearchJob,
         names: &[String],
         tree: &mut T,
         out: &mut O,
         err: &mut E,
     ) -> Result<Status, ToolFault>
-        requires { IsPlan job.now self.now }
-        ensures searches { (bytes : Option (List ℕ)) → AreSelected self.now bytes names.now →
-            IsSearch IsQueryOf job.now bytes (T.snapshot tree.old) (T.failed tree.old) (T.failed tree.new)
+        requires { IsPlan self.now.job.now self.now.plan.now }
+        ensures searches { (bytes : Option (List ℕ)) → AreSelected self.now.plan.now bytes names.now →
+            IsSearch IsQueryOf self.now.job.now bytes (T.snapshot tree.old) (T.failed tree.old) (T.failed tree.new)
             (search_outputs O.model E.model out.old out.new err.old err.new) result }
         ensures silent { SilentOnError result
             (PrintsNothing (search_outputs O.model E.model out.old out.new err.old err.new)
@@ -74,11 +108,40 @@ impl Plan {
     {
         // The names are those that some test keeps.
         matching_is_decidable();
-        let mut searcher = Searcher::new(alloc, Tool::Csearch, job.style, &self.program)?;
-        let matched = searcher.search_files(tree, names, out, err)?;
-        let status = finish(matched, out, err)?;
-        Ok(status)
+        let mut searcher = Searcher::new(
+            self.alloc,
+            Tool::Csearch,
+            self.job.style,
+            &self.plan.program,
+        )?;
+        search_names(&mut searcher, names, tree, out, err)
     }
+}
+
+/// Searches the files with these names, and flushes both outputs.
+fn search_names<T: Tree, O: Sink, E: Sink>(
+    searcher: &mut Searcher<'_>,
+    names: &[String],
+    tree: &mut T,
+    out: &mut O,
+    err: &mut E,
+) -> Result<Status, ToolFault>
+    ensures prints { AnswersBy searcher.old
+        (files_shown searcher.old (map string_bytes names.now) (T.snapshot tree.old))
+        (search_outputs O.model E.model out.old out.new err.old err.new) result }
+    ensures reads { ReadsWithin (max_searched + 1)
+        (T.read_counts tree.old) (T.read_counts tree.new) }
+    ensures faults { PrintsFaults searcher.old.tool (map string_bytes names.now)
+        (T.failed tree.old) (T.failed tree.new)
+        (λ lines. EndsAfter lines (E.model err.old) (E.model err.new) result) }
+    ensures flushed { OnOk result (HasFlushed (O.model out.new) × HasFlushed (E.model err.new)) }
+    ensures writes { CountsOne (has_write_failed result)
+        (O.failed out.old) (O.failed out.new) (E.failed err.old) (E.failed err.new) }
+    ensures only { IsSearchFault result }
+    ensures keeps { T.snapshot tree.new ≡ T.snapshot tree.old }
+{
+    let matched = searcher.search_files(tree, names, out, err)?;
+    finish(matched, out, err)
 }
 
 /// The query of a pattern; with `-brute` the query that every file matches.

@@ -7,9 +7,9 @@ ghost use Rattle.cs_match.specs.LastPart.{last_line};
 ghost use Rattle.cs_search.specs.GrepReports.{ReportsBy, ReportsPrefixBy};
 ghost use Rattle.cs_search.specs.InputReport.{max_searched, input_report};
 ghost use Rattle.cs_search.specs.GrepFaults.{is_grep_failure, has_read_failed};
-ghost use Rattle.cs_search.specs.TestedLines.{TestsBy, TestsPrefixBy};
+ghost use Rattle.cs_search.specs.TestedLines.{TestsBy, TestsPrefixBy, EndsBy, EndsPrefixBy};
 ghost use Rattle.cs_match.specs.Work.{state_work};
-ghost use Rattle.cs_search.specs.Work.{TakesSteps, input_work};
+ghost use Rattle.cs_search.specs.Work.{TakesSteps, input_work, printed_work};
 ghost use Rattle.cs_search.specs.SearchedWork.{rest_work};
 
 use crate::buffer::LineBuffer;
@@ -135,8 +135,7 @@ pub fn grep_counted<R: Source, O: Sink, L: Ledger>(
             fault: Some(fault),
         }),
         Stop::End => {
-            search_rest(printer, &mut tally, buffer.pending(), matcher, out, steps)?;
-            printer.print_total(tally.matches, out, steps)?;
+            end_search(printer, &mut tally, buffer.pending(), matcher, out, steps)?;
             Ok(Grepped {
                 matched: tally.matches > 0,
                 fault: None,
@@ -174,8 +173,33 @@ fn grep_from_blank<R: Source, O: Sink, L: Ledger>(
     grep_counted(printer, input, limit, buffer, matcher, out, &mut steps)
 }
 
+/// Ends the search of an input: tests the bytes after the last newline, and prints the number of matching lines.
+pub(crate) fn end_search<O: Sink, L: Ledger>(
+    printer: &Printer<'_>,
+    tally: &mut Tally,
+    rest: &[u8],
+    matcher: &mut Matcher<'_>,
+    out: &mut O,
+    steps: &mut Steps<L>,
+) -> Result<(), GrepFault>
+    requires { tally.old.lines + 1 < 2 ^ 64 }
+    ensures ends { OnOk result (EndsBy matcher.old.tree printer.now.style printer.now.name.now
+        (last_line rest.now) tally.old tally.new (O.model out.old) (O.model out.new)) }
+    ensures prefix { OnErr result (EndsPrefixBy matcher.old.tree printer.now.style printer.now.name.now
+        (last_line rest.now) tally.old tally.new (O.model out.old) (O.model out.new)) }
+    ensures same { matcher.new.tree ≡ matcher.old.tree }
+    ensures failed { O.failed out.new ≡ count_after is_grep_failure result (O.failed out.old) }
+    ensures work { steps.new + state_work * matcher.new.states
+        ≤ steps.old + state_work * matcher.old.states
+        + rest_work matcher.old.tree printer.now.name.now rest.now + printed_work printer.now.name.now }
+{
+    search_rest(printer, tally, rest, matcher, out, steps)?;
+    printer.print_total(tally.matches, out, steps)?;
+    Ok(())
+}
+
 /// Tests the bytes after the last newline as a line, if there are any.
-pub(crate) fn search_rest<O: Sink, L: Ledger>(
+fn search_rest<O: Sink, L: Ledger>(
     printer: &Printer<'_>,
     tally: &mut Tally,
     rest: &[u8],

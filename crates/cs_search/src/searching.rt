@@ -10,7 +10,7 @@ ghost use Rattle.cs_search.specs.Cgrep.{cgrep_printed, PrintsFaultsOf, IsGrep};
 ghost use Rattle.cs_search.specs.Refusals.{SilentOnError, has_write_failed};
 ghost use Rattle.cs_search.specs.GrepFaults.{IsSearchFault};
 ghost use Rattle.cs_search.specs.Programs.{IsProgramOf, RefusesPattern};
-ghost use Rattle.cs_search.specs.Searcher.{PrintsBy, PrintsPrefixBy};
+ghost use Rattle.cs_search.specs.Searcher.{PrintsBy, PrintsPrefixBy, AnswersBy};
 ghost use Rattle.cs_search.specs.Printed.{search_outputs, PrintsNothing};
 
 use crate::searcher::Searcher;
@@ -55,10 +55,57 @@ pub fn cgrep<T: Tree, R: Source, O: Sink, E: Sink>(
     ensures input_keeps { R.Keeps input.old input.new }
 {
     let program = compile(alloc, job)?;
-    let mut searcher = Searcher::new(alloc, Tool::Cgrep, job.style, &program)?;
-    let matched = search_job(&mut searcher, job, tree, input, out, err)?;
-    let status = finish(matched, out, err)?;
-    Ok(status)
+    let compiled = CompiledJob {
+        alloc,
+        job,
+        program,
+    };
+    compiled.run(tree, input, out, err)
+}
+
+/// A job of `cgrep` with the program of its pattern.
+struct CompiledJob<'a> {
+    alloc: Global,
+    job: &'a GrepJob,
+    program: Program,
+}
+
+// A body that owns a compiled job drops it by a call, as it does a `Plan`.
+impl Drop for CompiledJob<'_> {
+    fn drop(self) {
+        let CompiledJob {
+            alloc: _alloc,
+            job: _job,
+            program: _program,
+        } = self;
+    }
+}
+
+impl CompiledJob<'_> {
+    /// `cgrep` after the pattern is compiled.
+    fn run<T: Tree, R: Source, O: Sink, E: Sink>(
+        &self,
+        tree: &mut T,
+        input: &mut R,
+        out: &mut O,
+        err: &mut E,
+    ) -> Result<Status, ToolFault>
+        requires { IsProgramOf (string_bytes self.now.job.now.pattern) self.now.job.now.fold self.now.program }
+        ensures searches { IsGrep self.now.job.now (T.snapshot tree.old) (T.failed tree.old) (T.failed tree.new)
+            (R.model input.old) (R.model input.new) (R.failed input.old) (R.failed input.new)
+            (search_outputs O.model E.model out.old out.new err.old err.new) result }
+        ensures only { IsSearchFault result }
+        ensures reads { ReadsWithin (max_searched + 1)
+            (T.read_counts tree.old) (T.read_counts tree.new) }
+        ensures flushed { OnOk result (HasFlushed (O.model out.new) × HasFlushed (E.model err.new)) }
+        ensures writes { CountsOne (has_write_failed result)
+            (O.failed out.old) (O.failed out.new) (E.failed err.old) (E.failed err.new) }
+        ensures tree_keeps { T.snapshot tree.new ≡ T.snapshot tree.old }
+        ensures input_keeps { R.Keeps input.old input.new }
+    {
+        let mut searcher = Searcher::new(self.alloc, Tool::Cgrep, self.job.style, &self.program)?;
+        search_job(&mut searcher, self.job, tree, input, out, err)
+    }
 }
 
 /// Compiles the job's pattern.
@@ -91,8 +138,39 @@ pub(crate) fn finish<O: Sink, E: Sink>(
     Ok(Status::of(matched))
 }
 
-/// Searches standard input, or the files of the job.
+/// Searches standard input, or the files of the job, and flushes both outputs.
 fn search_job<T: Tree, R: Source, O: Sink, E: Sink>(
+    searcher: &mut Searcher<'_>,
+    job: &GrepJob,
+    tree: &mut T,
+    input: &mut R,
+    out: &mut O,
+    err: &mut E,
+) -> Result<Status, ToolFault>
+    requires tool { searcher.old.tool ≡ Tool.Cgrep }
+    requires style { searcher.old.style ≡ job.now.style }
+    ensures prints { AnswersBy searcher.old (λ has_match.
+        cgrep_printed max_searched job.now has_match (T.snapshot tree.old) (R.model input.old))
+        (search_outputs O.model E.model out.old out.new err.old err.new) result }
+    ensures loses { ConsumesAtMost (max_searched + 1) (R.model input.old) (R.model input.new) }
+    ensures reads { ReadsWithin (max_searched + 1)
+        (T.read_counts tree.old) (T.read_counts tree.new) }
+    ensures faults { PrintsFaultsOf job.now
+        (T.failed tree.old) (T.failed tree.new) (R.failed input.old) (R.failed input.new)
+        (λ lines. EndsAfter lines (E.model err.old) (E.model err.new) result) }
+    ensures flushed { OnOk result (HasFlushed (O.model out.new) × HasFlushed (E.model err.new)) }
+    ensures writes { CountsOne (has_write_failed result)
+        (O.failed out.old) (O.failed out.new) (E.failed err.old) (E.failed err.new) }
+    ensures only { IsSearchFault result }
+    ensures tree_keeps { T.snapshot tree.new ≡ T.snapshot tree.old }
+    ensures input_keeps { R.Keeps input.old input.new }
+{
+    let matched = search_inputs(searcher, job, tree, input, out, err)?;
+    finish(matched, out, err)
+}
+
+/// Searches standard input, or the files of the job.
+fn search_inputs<T: Tree, R: Source, O: Sink, E: Sink>(
     searcher: &mut Searcher<'_>,
     job: &GrepJob,
     tree: &mut T,

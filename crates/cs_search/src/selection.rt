@@ -14,14 +14,24 @@ use crate::plan::Plan;
 use cs_index::{IndexFault, NameReader, StoredIndex};
 use cs_match::Program;
 use cs_tree::{IoFault, Store};
-use std::alloc::Global;
+use std::alloc::{AllocError, Global};
 
 /// The names that were read and that `-f` keeps.
-#[derive(Drop)]
 pub(crate) struct Selection<'p> {
     reader: NameReader,
     filter: NameFilter<'p>,
     names: Vec<String>,
+}
+
+// A body that owns a selection drops it by a call, as it does a `Plan`.
+impl Drop for Selection<'_> {
+    fn drop(self) {
+        let Selection {
+            reader: _reader,
+            filter: _filter,
+            names: _names,
+        } = self;
+    }
 }
 
 /// The names of the plan's candidates that `-f` keeps, or `BadList`.
@@ -59,21 +69,57 @@ fn kept_names<S: Store>(
     ensures size { S.size store.new ≡ S.size store.old }
     ensures failed { S.failed store.new ≡ count_after is_io_failure result (S.failed store.old) }
 {
-    let mut selection = Selection {
-        reader: index.name_reader(alloc),
-        filter: NameFilter::new(alloc, file)?,
-        names: Vec::new(alloc),
-    };
-    'ids: for id in ids {
-        if let Err(fault) = selection.read(alloc, store, *id)? {
-            return Ok(Err(fault));
-        }
+    let mut selection = Selection::new(alloc, index, file)?;
+    match selection.read_all(alloc, store, ids)? {
+        Ok(()) => Ok(Ok(selection.into_names())),
+        Err(fault) => Ok(Err(fault)),
     }
-    Ok(Ok(selection.names))
 }
 
 impl<'p> Selection<'p> {
     ghost use Rattle.cs_search.specs.IndexSearch.{matcher_tree};
+
+    /// Without names.
+    fn new(
+        alloc: Global,
+        index: &StoredIndex,
+        file: Option<&'p Program>,
+    ) -> Result<Selection<'p>, AllocError>
+        ensures selected { IfOk result (λ selection. (bytes : List ℕ) (parts : Parts) →
+            StandsIn bytes index.now parts → HasSelected bytes parts [] selection) }
+        ensures file { IfOk result (λ selection.
+            matcher_tree selection.filter.matcher ≡ option_copied file.entry) }
+    {
+        let filter = NameFilter::new(alloc, file)?;
+        Ok(Selection {
+            reader: index.name_reader(alloc),
+            filter,
+            names: Vec::new(alloc),
+        })
+    }
+
+    /// Reads the names with these ids.
+    fn read_all<S: Store>(
+        &mut self,
+        alloc: Global,
+        store: &mut S,
+        ids: &[u32],
+    ) -> Result<Result<(), IndexFault>, IoFault>
+        ensures read { (bytes : List ℕ) (parts : Parts) → S.model store.old ≡ Some bytes →
+            HasSelected bytes parts [] self.old → All (λ id. id < length parts.names) ids.now →
+            IfOk result (λ answer. IsOkAnd answer (λ _. HasSelected bytes parts ids.now self.new)) }
+        ensures same { matcher_tree self.new.filter.matcher ≡ matcher_tree self.old.filter.matcher }
+        ensures keeps { S.model store.new ≡ S.model store.old }
+        ensures size { S.size store.new ≡ S.size store.old }
+        ensures failed { S.failed store.new ≡ count_after is_io_failure result (S.failed store.old) }
+    {
+        'ids: for id in ids {
+            if let Err(fault) = self.read(alloc, store, *id)? {
+                return Ok(Err(fault));
+            }
+        }
+        Ok(Ok(()))
+    }
 
     /// Reads the name with this id, and pushes it if it is kept.
     fn read<S: Store>(
@@ -102,5 +148,16 @@ impl<'p> Selection<'p> {
             }
             Err(fault) => Ok(Err(fault)),
         }
+    }
+
+    fn into_names(self) -> Vec<String>
+        ensures { result.items ≡ self.entry.names.items }
+    {
+        let Selection {
+            reader: _reader,
+            filter: _filter,
+            names,
+        } = self;
+        names
     }
 }

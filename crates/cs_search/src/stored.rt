@@ -13,7 +13,7 @@ ghost use Rattle.cs_search.specs.Searched.{IsSearch};
 ghost use Rattle.cs_search.specs.InputReport.{max_searched};
 ghost use Rattle.cs_search.specs.StoredSearch.{IsOpened, IfRead, IsUnopened, has_output_failed};
 
-use crate::plan::Plan;
+use crate::plan::{Plan, PlannedJob};
 use crate::selection::selected_names;
 use crate::status::Status;
 use cs_args::{SearchJob, ToolFault};
@@ -64,46 +64,48 @@ pub fn csearch_stored<S: Store, T: Tree, O: Sink, E: Sink>(
     ensures size { S.size store.new ≡ S.size store.old }
     ensures failed { S.failed store.new ≡ count_after is_io_failure result (S.failed store.old) }
 {
-    let ready = select(alloc, job, opened, store)?;
-    match ready {
-        Ok((plan, names)) => {
-            let answer = plan.search(alloc, job, &names, tree, out, err);
+    let plan = match Plan::new(alloc, job) {
+        Ok(plan) => plan,
+        Err(fault) => return Ok(Err(fault)),
+    };
+    let planned = PlannedJob {
+        alloc,
+        job,
+        plan: &plan,
+    };
+    match select(&planned, opened, store)? {
+        Ok(names) => {
+            let answer = planned.run(&names, tree, out, err);
             Ok(answer)
         }
         Err(fault) => Ok(Err(fault)),
     }
 }
 
-/// The plan of the job, and the names that it selects.
+/// The names that the plan selects.
 fn select<S: Store>(
-    alloc: Global,
-    job: &SearchJob,
+    planned: &PlannedJob<'_>,
     opened: Result<StoredIndex, IndexFault>,
     store: &mut S,
-) -> Result<Result<(Plan, Vec<String>), ToolFault>, IoFault>
-    requires { IsOpened (S.model store.old) opened }
-    ensures plan { IfOk result (λ answer. IfOk answer (λ ready. IsPlan job.now ready.0)) }
+) -> Result<Result<Vec<String>, ToolFault>, IoFault>
+    requires plan { IsPlan planned.now.job.now planned.now.plan.now }
+    requires opened { IsOpened (S.model store.old) opened }
     ensures selected { IfRead (S.model store.old) result (λ index answer.
-        IfOk answer (λ ready. AreSelected ready.0 index ready.1.items)) }
+        IfOk answer (λ names. AreSelected planned.now.plan.now index names.items)) }
     ensures refused { IfRead (S.model store.old) result (λ index answer.
-        IfErr answer (RefusesPlan job.now index)) }
-    ensures unopened { IfErr opened (λ fault. IsUnopened job.now fault result) }
+        IfErr answer (RefusesPlan planned.now.job.now index)) }
+    ensures unopened { IfErr opened (λ fault. IsUnopened planned.now.job.now fault result) }
     ensures unwritten { IfOk result (λ answer. has_write_failed answer ≡ false) }
-    ensures accepted { IfErr result (λ _. AreAccepted job.now) }
     ensures modelled { S.model store.new ≡ S.model store.old }
     ensures size { S.size store.new ≡ S.size store.old }
     ensures failed { S.failed store.new ≡ count_after is_io_failure result (S.failed store.old) }
 {
-    let plan = match Plan::new(alloc, job) {
-        Ok(plan) => plan,
-        Err(fault) => return Ok(Err(fault)),
-    };
     let index = match opened {
         Ok(index) => index,
         Err(fault) => return Ok(Err(ToolFault::from(fault))),
     };
-    match selected_names(alloc, &plan, &index, store)? {
-        Ok(names) => Ok(Ok((plan, names))),
+    match selected_names(planned.alloc, planned.plan, &index, store)? {
+        Ok(names) => Ok(Ok(names)),
         Err(fault) => Ok(Err(ToolFault::from(fault))),
     }
 }

@@ -10,7 +10,7 @@ use crate::grep_fault::GrepFault;
 use crate::grepped::Grepped;
 use crate::line_search::search_block;
 use crate::printer::Printer;
-use crate::report::search_rest;
+use crate::report::end_search;
 use crate::tally::Tally;
 use cs_match::{Matcher, Steps};
 use cs_tree::Sink;
@@ -63,8 +63,7 @@ pub fn grep_text_counted<O: Sink, L: Ledger>(
             fault: None,
         }),
         Some(start) => {
-            search_rest(printer, &mut tally, &text[start..], matcher, out, steps)?;
-            printer.print_total(tally.matches, out, steps)?;
+            end_search(printer, &mut tally, &text[start..], matcher, out, steps)?;
             Ok(Grepped {
                 matched: tally.matches > 0,
                 fault: None,

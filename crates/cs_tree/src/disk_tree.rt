@@ -14,7 +14,7 @@ use crate::ordering::order_names;
 use crate::paths::is_element;
 use crate::retry::{gave_up, is_interrupted, retry_read};
 use crate::tree::{Kind, Listing, Tree};
-use std::alloc::Global;
+use std::alloc::{AllocError, Global};
 use std::fs::{DirEntry, Metadata, OpenFile};
 use std::io::{ErrorKind, Read};
 use std::os::unix::fs::MetadataExt;
@@ -260,15 +260,26 @@ fn list_entry<R: Files + AllocGlobal + Clone + Drop>(
         (λ _. listing.new.unnamed ≡ true)) }
 {
     match entry {
-        Ok(entry) if is_element(entry.file_name()) => {
-            listing
-                .names
-                .push(String::from_str(alloc, entry.file_name())?)?;
-        }
-        Ok(_) => listing.unnamed = true,
+        Ok(entry) => list_name(alloc, listing, entry.file_name())?,
         // A name that is not text.
         Err(error) if error.kind() == ErrorKind::InvalidFilename => listing.unnamed = true,
         Err(error) => return Err(error),
+    }
+    Ok(())
+}
+
+/// Adds a name to the listing. A name that is no element only sets `unnamed`.
+fn list_name(alloc: Global, listing: &mut Listing, name: &str) -> Result<(), AllocError>
+    requires { list_all is_element' (listing_names listing.old) ≡ true }
+    ensures elements { OnOk result (list_all is_element' (listing_names listing.new) ≡ true) }
+    ensures added { OnOk result (listing_names listing.new ≡ (if is_element' name.now
+        then listing_names listing.old ++ name.now ∷ [] else listing_names listing.old)) }
+    ensures unnamed { OnOk result (listing.new.unnamed ≡ (listing.old.unnamed || not (is_element' name.now))) }
+{
+    if is_element(name) {
+        listing.names.push(String::from_str(alloc, name)?)?;
+    } else {
+        listing.unnamed = true;
     }
     Ok(())
 }

@@ -247,7 +247,7 @@ range_split a (suc n) m = ap (range_with_len a) (let z : suc n + m ≡ suc (n + 
     ∙ ap (λ (t : List ℕ). a ∷ t) (range_split (a + 1) n m ∙ ap (λ k. range_with_len (a + 1) n ++ range_with_len k m)
     (let z : a + 1 + n ≡ a + suc n = omega arith in z))
 
-filter_alike : (p q : ℕ → Bool) (a n : ℕ) → ((k : ℕ) → k < n → p (a + k) ≡ q (a + k)) → filter p (range_with_len a n)
+pub filter_alike : (p q : ℕ → Bool) (a n : ℕ) → ((k : ℕ) → k < n → p (a + k) ≡ q (a + k)) → filter p (range_with_len a n)
     ≡ filter q (range_with_len a n)
 filter_alike p q a zero f = refl
 filter_alike p q a (suc n) f =

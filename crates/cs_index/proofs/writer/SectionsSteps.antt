@@ -666,28 +666,25 @@ ended_some s now bytes entries view is some written pushed =
     open_list : IsOpenAs s (closed_of s) (current_ids s)
     open_list = is.opened some
 
--- the fields after the lists are closed
-abbrev pub after_close : Inside → Outgoing → Vec ListEntry Global → Inside
-after_close s out entries = record s { out = out; entries = entries }
-
 -- All lists are closed.
-pub record Closed (now : Written) (s : Inside) (entries : List ListEntry) : Type 0 where
-  pub end : Ended s.paths s.names now (bytes_in s.out) entries
-  pub sent : s.out.sent ≡ now.sent
+pub record Closed (s : Inside) (now : Written) (out : Outgoing) (entries : List ListEntry) : Type 0 where
+  pub end : Ended s.paths s.names now (bytes_in out) entries
+  pub sent : out.sent ≡ now.sent
 
-pub closed_none : (s : Inside) (now : Written) (out : Outgoing) → written_of s ≡ now → IsSections s → s.count ≡ 0 →
-    out ≡ record { sent = []; unsent = prefix_of s.paths s.names } → Closed now (after_close s out s.entries) s.entries.items
-closed_none s now out view is zero written = record {
-  end = subst (Ended s.paths s.names now (bytes_in out)) (sym (is.unwritten zero))
+pub closed_none : (s : Inside) (now : Written) (out : Outgoing) (entries : List ListEntry) → written_of s ≡ now →
+    IsSections s → s.count ≡ 0 → out ≡ record { sent = []; unsent = prefix_of s.paths s.names } →
+    entries ≡ s.entries.items → Closed s now out entries
+closed_none s now out entries view is zero written same = record {
+  end = subst (Ended s.paths s.names now (bytes_in out)) (sym (same ∙ is.unwritten zero))
       (ended_none s now (bytes_in out) view is zero (ap bytes_in written));
   sent = ap (λ (o : Outgoing). o.sent) written ∙ sym (no_sent s is zero) ∙ ap (λ (l : Written). l.sent) view;
 }
 
-pub closed_some : (s : Inside) (now : Written) (out : Outgoing) (entries : Vec ListEntry Global) → written_of s ≡ now →
-    IsSections s → s.count ≢ 0 → out ≡ with_bytes s.out (0 ∷ []) → entries.items ≡ s.entries.items ++ current_list s ∷ [] →
-    Closed now (after_close s out entries) entries.items
+pub closed_some : (s : Inside) (now : Written) (out : Outgoing) (entries : List ListEntry) → written_of s ≡ now →
+    IsSections s → s.count ≢ 0 → out ≡ with_bytes s.out (0 ∷ []) → entries ≡ s.entries.items ++ current_list s ∷ [] →
+    Closed s now out entries
 closed_some s now out entries view is some written pushed = record {
-  end = ended_some s now (bytes_in out) entries.items view is some (ap bytes_in written ∙ bytes_more s.out (0 ∷ [])) pushed;
+  end = ended_some s now (bytes_in out) entries view is some (ap bytes_in written ∙ bytes_more s.out (0 ∷ [])) pushed;
   sent = ap (λ (o : Outgoing). o.sent) written ∙ ap (λ (l : Written). l.sent) view;
 }
 

@@ -214,8 +214,7 @@ fn meet<S: Store>(
     let mut start = next_start(alloc, store, lists, rarest, all)?;
     'windows: while start < count {
         let end = start + width.min(count - start);
-        let rows = rows_of(alloc, store, &form.nodes, lists, Window { start, end })?;
-        push_ids(&mut ids, row_at(&rows, form.root), start, end)?;
+        meet_window(alloc, store, form, lists, Window { start, end }, &mut ids)?;
         let rest = Window {
             start: end,
             end: count,
@@ -223,6 +222,32 @@ fn meet<S: Store>(
         start = next_start(alloc, store, lists, rarest, rest)?;
     }
     Ok(ids)
+}
+
+/// Appends the ids of a window that match a form. The lists are read up to the window's end.
+fn meet_window<S: Store>(
+    alloc: Global,
+    store: &mut S,
+    form: &Form,
+    lists: &mut [StoredList],
+    window: Window,
+    ids: &mut Vec<u32>,
+) -> Result<(), IoFault>
+    requires order { window.start < window.end }
+    ensures ids { (bytes : List ℕ) → S.model store.old ≡ Some bytes →
+        AllByRecursion (IsLeft bytes) lists.old → OnOk result (ids.new.items ≡ ids.old.items ++
+        filter (λ id. number_matches (have_id bytes lists.old id) form.now.nodes.items form.now.root)
+        (range_with_len window.start (window.end - window.start))) }
+    ensures lists { (bytes : List ℕ) → S.model store.old ≡ Some bytes →
+        AllByRecursion (IsLeft bytes) lists.old →
+        OnOk result (AllZip (IsReadOn bytes window.end) lists.old lists.new) }
+    ensures keeps { S.model store.new ≡ S.model store.old }
+    ensures size { S.size store.new ≡ S.size store.old }
+    ensures failed { S.failed store.new ≡ count_after is_io_failure result (S.failed store.old) }
+{
+    let rows = rows_of(alloc, store, &form.nodes, lists, window)?;
+    push_ids(ids, row_at(&rows, form.root), window.start, window.end)?;
+    Ok(())
 }
 
 /// The number of ids of a window, for a form with these numbers of nodes and lists.

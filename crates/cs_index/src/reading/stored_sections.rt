@@ -1,10 +1,11 @@
 // The sections of an index in a store, which are tested piece by piece.
-ghost use Rattle.std.specs.Prelude.{◌≡◌, ◌≤◌, ◌<◌, ◌^◌, ◌+◌, ◌*◌, ◌-◌, ◌∷◌, [], ℕ, List, Some, length, IfOk, IfSome, true};
+ghost use Rattle.std.specs.Prelude.{◌≡◌, ◌≤◌, ◌<◌, ◌^◌, ◌+◌, ◌*◌, ◌-◌, ◌∷◌, ◌++◌, [], ℕ, List, Some, length, IfOk, IfSome, IfNone, true, false};
 ghost use Rattle.cs_tree.specs.FailureCount.{count_after};
 ghost use Rattle.cs_tree.specs.Store.{part_of};
 ghost use Rattle.cs_tree.specs.Transfers.{is_io_failure};
-ghost use Rattle.cs_index.specs.Opening.{is_list_index, is_section};
+ghost use Rattle.cs_index.specs.Opening.{is_list_index, is_section, texts_of};
 ghost use Rattle.cs_index.specs.SectionPieces.{AreNamesTested, ArePathsRead};
+ghost use Rattle.cs_index.specs.ValidSections.{has_starts};
 ghost use Rattle.cs_index.specs.StoredOpening.{AreAscendingOffsets};
 
 use crate::reading::bytes::{first_texts, is_closed, is_ending};
@@ -13,7 +14,7 @@ use crate::reading::part::read_into;
 use crate::reading::section_offsets::SectionOffsets;
 use crate::reading::section_window::Window;
 use cs_tree::{IoFault, Store, read_part};
-use std::alloc::Global;
+use std::alloc::{AllocError, Global};
 
 /// The most bytes of a piece of the list index: as many as entries of 64 KiB have.
 const ENTRIES_LEN: usize = 5957 * ENTRY_LEN;
@@ -49,10 +50,19 @@ pub(crate) fn read_paths<S: Store>(
         paths.extend_from_slice(&window.piece[..run.len])?;
         used = run.len;
     }
-    if !is_closed(&window.piece) {
+    Ok(with_last_piece(paths, &window.piece)?)
+}
+
+/// The paths with the last piece of their section; `None` if this is not strings and one final NUL.
+fn with_last_piece(mut paths: Vec<u8>, piece: &[u8]) -> Result<Option<Vec<u8>>, AllocError>
+    ensures paths { IfOk result (λ found. IfSome found (λ all. all.items ≡ paths.items ++ piece.now)) }
+    ensures closed { IfOk result (λ found. IfSome found (λ _. is_section (0 ∷ []) piece.now ≡ true)) }
+    ensures none { IfOk result (λ found. IfNone found (is_section (0 ∷ []) piece.now ≡ false)) }
+{
+    if !is_closed(piece) {
         return Ok(None);
     }
-    paths.extend_from_slice(&window.piece)?;
+    paths.extend_from_slice(piece)?;
     Ok(Some(paths))
 }
 
@@ -82,21 +92,48 @@ pub(crate) fn test_names<S: Store>(
         let Some(run) = first_texts(&window.piece) else {
             return Ok(None);
         };
-        let numbers = read_numbers(alloc, store, starts, count, run.count)?;
+        let names = &window.piece[..run.len];
         let start = window.start - starts.names;
-        let have = has_offsets(&numbers, &window.piece[..run.len], start, run.count);
-        have_offsets = have_offsets && have;
+        let have = has_stored_offsets(alloc, store, starts, names, start, count, run.count)?;
+        have_offsets &= have;
         count += run.count;
         used = run.len;
     }
     if !is_ending(&window.piece[used..]) {
         return Ok(None);
     }
-    have_offsets = have_offsets && starts.list_index - starts.name_index == 4 * (count + 1);
+    have_offsets &= starts.list_index - starts.name_index == 4 * (count + 1);
     Ok(Some(NameTest {
         count,
         have_offsets,
     }))
+}
+
+/// Whether the name index has the offsets of `count` names after the first `done`. The first of them begins at `start`.
+fn has_stored_offsets<S: Store>(
+    alloc: Global,
+    store: &mut S,
+    starts: &SectionOffsets,
+    names: &[u8],
+    start: usize,
+    done: usize,
+    count: usize,
+) -> Result<bool, IoFault>
+    requires order { AreAscendingOffsets starts.now }
+    requires names { is_section [] names.now ≡ true }
+    requires count { count ≡ length (texts_of names.now) }
+    requires few { done + count < 2 ^ 33 }
+    requires fits { start + length names.now < 2 ^ 64 }
+    ensures offsets { (bytes : List ℕ) → S.model store.old ≡ Some bytes →
+        IfOk result (λ has. has ≡ has_starts (part_of
+        (part_of bytes starts.now.name_index (starts.now.list_index - starts.now.name_index)) (4 * done)
+        (4 * (count + 1))) 0 start (texts_of names.now)) }
+    ensures keeps { S.model store.new ≡ S.model store.old }
+    ensures size { S.size store.new ≡ S.size store.old }
+    ensures failed { S.failed store.new ≡ count_after is_io_failure result (S.failed store.old) }
+{
+    let numbers = read_numbers(alloc, store, starts, done, count)?;
+    Ok(has_offsets(&numbers, names, start, count))
 }
 
 /// The offsets of `count` names after the first `done`, and one more number, as far as the name index has them.

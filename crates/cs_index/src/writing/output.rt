@@ -45,9 +45,38 @@ pub(crate) fn write_prefix(
     Ok(out)
 }
 
+/// Appends what follows the posting lists, as `write_tables` makes it. `TooLarge` if the index would
+/// be longer than `limit` bytes.
+pub(crate) fn append_tables(
+    alloc: Global,
+    out: &mut SendBuffer,
+    paths: &Strings,
+    names: &Strings,
+    entries: &[WrittenList],
+    limit: u32,
+) -> Result<(), BuildFault>
+    requires lists { bytes_in out.old ≡ prefix_of paths.now names.now ++
+        concat (map posting_list_bytes (lists_at (bytes_in out.old) entries.now)) }
+    requires entries { entries.now ≡ list_entries
+        (length (prefix_of paths.now names.now)) (lists_at (bytes_in out.old) entries.now) }
+    ensures ok { IfOk result (λ _. bytes_in out.new ≡
+        layout (sections_of paths.now names.now (lists_at (bytes_in out.old) entries.now))) }
+    ensures sent { IfOk result (λ _. out.new.sent ≡ out.old.sent) }
+    ensures within { IfOk result (λ _. length (bytes_in out.new) ≤ limit) }
+    ensures too_large { result ≡ Err BuildFault.TooLarge →
+        limit < length (layout
+        (sections_of paths.now names.now (lists_at (bytes_in out.old) entries.now))) }
+    ensures other { IfErr result
+        (λ fault. (fault ≡ BuildFault.TooLarge) ⊎ (fault ≡ BuildFault.Memory)) }
+{
+    let tables = write_tables(alloc, out, paths, names, entries, limit)?;
+    out.append(&tables)?;
+    Ok(())
+}
+
 /// What follows the posting lists: the closing list, the name index, the list index and the trailer.
 /// `TooLarge` if the index would be longer than `limit` bytes.
-pub(crate) fn write_tables(
+fn write_tables(
     alloc: Global,
     out: &SendBuffer,
     paths: &Strings,

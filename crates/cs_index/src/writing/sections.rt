@@ -1,5 +1,5 @@
 // The section writer: the one layer that encodes an index.
-ghost use Rattle.std.specs.Prelude.{◌≡◌, ◌≢◌, ◌<◌, ◌≤◌, ◌+◌, ◌^◌, ◌⊎◌, ◌↔◌, [], List, ℕ, true, false, length, map, string_bytes, None, Some, Err, IfOk, IfErr, OnOk, OnErr};
+ghost use Rattle.std.specs.Prelude.{◌≡◌, ◌≢◌, ◌<◌, ◌≤◌, ◌+◌, ◌^◌, ◌++◌, ◌⊎◌, ◌↔◌, [], ◌∷◌, List, ℕ, true, false, length, map, string_bytes, None, Some, Err, IfOk, IfErr, OnOk, OnErr};
 ghost use Rattle.cs_trigram.specs.Trigram.{closing_trigram};
 ghost use Rattle.cs_index.specs.IdStream.{ids_in, IsStream};
 ghost use Rattle.cs_index.specs.AscendingIds.{next_after, ids_onward, max_ids};
@@ -7,14 +7,14 @@ ghost use Rattle.std.specs.List.{AllByRecursion, concat};
 ghost use Rattle.cs_index.specs.Encoding.{encoding_of, posting_list_bytes, IsString};
 ghost use Rattle.cs_index.specs.Indexable.{IsIndexable};
 ghost use Rattle.cs_index.specs.Built.{are_paths, is_above, is_storable};
-ghost use Rattle.cs_index.specs.Written.{entries_written, last_ids, with_written_name, with_last_id, with_last_ids, with_list, with_sent, AllBelow, IsSentEarly};
-ghost use Rattle.cs_index.specs.Sending.{IsSentOn};
+ghost use Rattle.cs_index.specs.Written.{entries_written, last_ids, with_written_name, with_last_id, with_last_ids, with_list, with_sent, prefix_of, AllBelow, IsSentEarly};
+ghost use Rattle.cs_index.specs.Sending.{bytes_in, with_bytes, IsSentOn};
 ghost use Rattle.cs_index.specs.SectionsInvariant.{first_of};
 ghost use Rattle.cs_index.specs.WrittenLists.{with_posting, IsWritten};
 
 use crate::encoded_run::EncodedRun;
 use crate::fault::BuildFault;
-use crate::writing::output::{WrittenList, write_prefix, write_tables};
+use crate::writing::output::{WrittenList, append_tables, write_prefix};
 use crate::writing::send_buffer::SendBuffer;
 use crate::writing::storable_texts::are_index_paths;
 use crate::writing::strings::{Strings, strings_of};
@@ -279,7 +279,7 @@ impl Sections {
 
     /// Encodes the index and sends what is not sent yet. `TooLarge` if the index would be longer
     /// than `limit` bytes.
-    pub fn finish_into<O: Output>(mut self, out: &mut O, limit: u32) -> Result<Sent, BuildFault>
+    pub fn finish_into<O: Output>(self, out: &mut O, limit: u32) -> Result<Sent, BuildFault>
         ensures ok { IfOk result
             (λ index. index.bytes ≡ encoding_of self.paths (entries_written self)) }
         ensures within { IfOk result (λ index. length index.bytes ≤ limit) }
@@ -292,28 +292,46 @@ impl Sections {
             (λ index. IsSentOn self.sent index.bytes (O.given out.old) (O.given out.new)) }
         ensures keeps { O.Keeps out.old out.new }
     {
-        if self.count == 0 {
-            self.out = SendBuffer::new(write_prefix(self.alloc, &self.paths, &self.names)?);
-        } else {
-            self.out.append(&[0])?;
-            self.entries.reserve(1)?;
-            self.entries.push_reserved(WrittenList {
-                trigram: self.trigram,
-                count: self.count,
-                start: self.start,
-            });
-        }
-        let tables = write_tables(
+        let mut index = self.complete(limit)?;
+        index.send(out)?;
+        Ok(index.into_sent())
+    }
+
+    /// The whole index: the bytes that were sent, and the others in memory. `TooLarge` if it would be
+    /// longer than `limit` bytes.
+    fn complete(mut self, limit: u32) -> Result<SendBuffer, BuildFault>
+        ensures ok { IfOk result
+            (λ index. bytes_in index ≡ encoding_of self.paths (entries_written self)) }
+        ensures sent { IfOk result (λ index. index.sent ≡ self.sent) }
+        ensures within { IfOk result (λ index. length (bytes_in index) ≤ limit) }
+        ensures indexable { IfOk result (λ _. IsIndexable self.paths (entries_written self)) }
+        ensures too_large { result ≡ Err BuildFault.TooLarge →
+            limit < length (encoding_of self.paths (entries_written self)) }
+        ensures other { IfErr result
+            (λ fault. (fault ≡ BuildFault.TooLarge) ⊎ (fault ≡ BuildFault.Memory)) }
+    {
+        let current = WrittenList {
+            trigram: self.trigram,
+            count: self.count,
+            start: self.start,
+        };
+        close_lists(
             self.alloc,
-            &self.out,
+            &mut self.out,
+            &self.paths,
+            &self.names,
+            &mut self.entries,
+            current,
+        )?;
+        append_tables(
+            self.alloc,
+            &mut self.out,
             &self.paths,
             &self.names,
             &self.entries,
             limit,
         )?;
-        self.out.append(&tables)?;
-        self.out.send(out)?;
-        Ok(self.out.into_sent())
+        Ok(self.out)
     }
 }
 
@@ -325,4 +343,29 @@ fn first_start(entries: &[WrittenList], last: usize) -> usize
         Some(list) => list.start,
         None => last,
     }
+}
+
+/// Closes the current list, or writes the prefix if no list has an id.
+fn close_lists(
+    alloc: Global,
+    out: &mut SendBuffer,
+    paths: &Strings,
+    names: &Strings,
+    entries: &mut Vec<WrittenList>,
+    current: WrittenList,
+) -> Result<(), AllocError>
+    ensures none { current.count ≡ 0 → OnOk result
+        ((out.new ≡ record { sent = []; unsent = prefix_of paths.now names.now })
+        × (entries.new.items ≡ entries.old.items)) }
+    ensures some { current.count ≢ 0 → OnOk result
+        ((out.new ≡ with_bytes out.old (0 ∷ []))
+        × (entries.new.items ≡ entries.old.items ++ current ∷ [])) }
+{
+    if current.count == 0 {
+        *out = SendBuffer::new(write_prefix(alloc, paths, names)?);
+        return Ok(());
+    }
+    out.append(&[0])?;
+    entries.push(current)?;
+    Ok(())
 }

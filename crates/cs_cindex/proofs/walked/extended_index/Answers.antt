@@ -1,11 +1,11 @@
-use Rattle.std.proofs.Common.{◌≡◌, ◌∙◌, ◌++◌, ℕ, List, [], map, ap, sym, subst, refl, false, Option, Some, None, Result, Ok, Err, string_bytes, IfErr, IfOk, MatchResult}
+use Rattle.std.proofs.Common.{◌≡◌, ◌∙◌, ℕ, List, map, ap, sym, subst, refl, false, Option, Some, None, Result, Ok, Err, string_bytes, IfErr, IfOk, MatchResult}
 use Rattle.cs_cindex.proofs.Common.{IoFault, least, Snapshot, Sent, CindexFault, Write, Memory, IndexJob, AreCleaned, starts, IsMergeRefusal, MergesShort, IsNext, IsOwnIndex, IsReducedIndex, paths_of_job, IsFit, IsFitFor, TableParts, AnswersFor, WalkPrintsFor, JobTree, Output, WalkPrints, UnreadPrints, after, is_failed_write, job_tree, output, IsWalkFault, IsOutputFault, EarlyOr, base_fault, opening_fault, unfit_parts_fault}
 use Rattle.cs_tree.specs.PathSet as set
 use Rattle.cs_index.specs.Opening.{opening}
 use Rattle.cs_cindex.specs.OldIndex.{IsIndex}
 use Rattle.cs_cindex.proofs.JobOutputLemmas.{nothing_printed, start_walk, prefix_over, whole_over, prints_over}
 use Rattle.cs_cindex.proofs.StoredIndexLemmas.{known_bytes, stands_open}
-use Rattle.cs_cindex.proofs.WalkedPathLemmas.{start_paths, sound_own, walk_as_set}
+use Rattle.cs_cindex.proofs.WalkedPathLemmas.{sound_own, walk_as_set}
 use Rattle.cs_cindex.proofs.NextIndexLemmas.{own_index, next_extended, index_refusal, merge_refused, reduced_index}
 use Rattle.cs_cindex.proofs.walked.extended_index.Goals as goal
 
@@ -19,11 +19,13 @@ module _ (job : IndexJob) (old : List ℕ) (tables : TableParts) (fit : IsFitFor
   good = ap (opening_fault unfit_parts_fault) opens ∙ fit.fit
 
   -- the walked paths are those of the job
-  walked_as : (ts paths : List (List ℕ)) → AreCleaned job ts → paths
-      ≡ set.items (least (set.from_list (starts ts tables.paths))) → set.from_list paths ≡ paths_of_job job (Some old)
-  walked_as ts paths clean e =
-      start_walk job old fit.parts ts paths clean opens
-      (subst (λ ps. paths ≡ set.items (least (set.from_list (starts ts ps)))) fit.are.stands.paths e)
+  walked_as : (ts : List (List ℕ)) → AreCleaned job ts →
+      least (set.from_list (starts ts tables.paths)) ≡ paths_of_job job (Some old)
+  walked_as ts clean =
+      let walked = set.items (least (set.from_list (starts ts tables.paths))) in
+      sym (walk_as_set walked (starts ts tables.paths) refl)
+      ∙ start_walk job old fit.parts ts walked clean opens
+      (subst (λ ps. walked ≡ set.items (least (set.from_list (starts ts ps)))) fit.are.stands.paths refl)
 
   -- the job fails later
   late : (tree : Option Snapshot) (fault : CindexFault) → IsWalkFault job tree (Some old) fault →
@@ -91,72 +93,56 @@ returns-in-Ok-Err-clause-prints g c = λ old known.
     c.in-Ok-Err.field-0-is c.in-Ok-Err.ensures.writes)
     (subst (Opened old) c.in-Ok-Err.field-0-is (c.in-Ok-Err.ensures.opened old known))
 
-pub index_paths-requires : goal.index_paths-requires
-index_paths-requires g c =
-    let fit = subst (λ (r : Result TableParts CindexFault). IfOk r IsFit) c.in-Ok-Ok.field-0-is c.in-Ok-Ok.ensures.fit in
-    start_paths c.args.job.now c.in-Ok-Ok.tables.paths (map string_bytes c.args.given.now)
-    (map string_bytes c.deref.result.now) c.requires fit.normalized
-    (ap (λ ps. map string_bytes ps) c.deref.ensures.value ∙ c.in-Ok.ensures)
+pub own_index-requires-clause-fit : goal.own_index-requires-clause-fit
+own_index-requires-clause-fit g c =
+    subst (λ (r : Result TableParts CindexFault). IfOk r IsFit) c.in-Ok-Ok.field-0-is c.in-Ok-Ok.ensures.fit
 
-pub returns-in-Err-index_paths-clause-refusal : goal.returns-in-Err-index_paths-clause-refusal
-returns-in-Err-index_paths-clause-refusal g c = λ old known.
+pub returns-in-Err-own_index-clause-refusal : goal.returns-in-Err-own_index-clause-refusal
+returns-in-Err-own_index-clause-refusal g c = λ old known.
     let job = c.args.job.now in
     let snapshot = g.T.Tree.snapshot c.args.tree.now in
     let fit = subst (Opened old) c.in-Ok-Ok.field-0-is (c.in-Ok-Ok.ensures.opened old known) in
-    let walked = walked_as job old c.in-Ok-Ok.tables fit (map string_bytes c.args.given.now)
-    (map string_bytes c.deref.result.now) c.requires (ap (λ ps. map string_bytes ps) c.deref.ensures.value
-    ∙ c.in-Ok.ensures) in
-    let part = c.in-Err-index_paths.ensures in
-    late job old c.in-Ok-Ok.tables fit snapshot c.in-Err-index_paths.fault
-    (index_refusal job snapshot (Some old) (set.from_list (map string_bytes c.deref.result.now))
-    c.in-Err-index_paths.fault walked part.only (λ e. part.too_large (ap Err e)))
+    let paths = least (set.from_list (starts (map string_bytes c.args.given.now) c.in-Ok-Ok.tables.paths)) in
+    let walked = walked_as job old c.in-Ok-Ok.tables fit (map string_bytes c.args.given.now) c.requires in
+    let part = c.in-Err-own_index.ensures in
+    late job old c.in-Ok-Ok.tables fit snapshot c.in-Err-own_index.fault
+    (index_refusal job snapshot (Some old) paths
+    c.in-Err-own_index.fault walked part.only (λ e. part.too_large (ap Err e)))
 
-pub returns-in-Err-index_paths-clause-prints : goal.returns-in-Err-index_paths-clause-prints
-returns-in-Err-index_paths-clause-prints g c = λ old known.
+pub returns-in-Err-own_index-clause-prints : goal.returns-in-Err-own_index-clause-prints
+returns-in-Err-own_index-clause-prints g c = λ old known.
     let job = c.args.job.now in
     let fit = subst (Opened old) c.in-Ok-Ok.field-0-is (c.in-Ok-Ok.ensures.opened old known) in
-    let walked = walked_as job old c.in-Ok-Ok.tables fit (map string_bytes c.args.given.now)
-    (map string_bytes c.deref.result.now) c.requires (ap (λ ps. map string_bytes ps) c.deref.ensures.value
-    ∙ c.in-Ok.ensures) in
-    let part = c.in-Err-index_paths.ensures in
-    prefix_over job (job_tree g.T.Tree.snapshot g.T.Tree.failed c.args.tree.now c.index_paths.new.tree)
-    (set.from_list (map string_bytes c.deref.result.now)) (Some old)
+    let paths = least (set.from_list (starts (map string_bytes c.args.given.now) c.in-Ok-Ok.tables.paths)) in
+    let walked = walked_as job old c.in-Ok-Ok.tables fit (map string_bytes c.args.given.now) c.requires in
+    let part = c.in-Err-own_index.ensures in
+    prefix_over job (job_tree g.T.Tree.snapshot g.T.Tree.failed c.args.tree.now c.own_index.new.tree)
+    paths (Some old)
     (output g.E.Sink.model g.E.Sink.failed c.args.err.now)
-    (output g.E.Sink.model g.E.Sink.failed c.index_paths.new.err) walked (base_fault job (Some old))
-    c.in-Err-index_paths.fault (good job old c.in-Ok-Ok.tables fit)
+    (output g.E.Sink.model g.E.Sink.failed c.own_index.new.err) walked (base_fault job (Some old))
+    c.in-Err-own_index.fault (good job old c.in-Ok-Ok.tables fit)
     part.only part.writes (λ e. part.whole (ap Err e)) part.prefix
-
--- the index of the walk, in memory
-in_memory : (sent before bytes given : List ℕ) → before ≡ [] → bytes ≡ before ++ sent → given ≡ bytes → sent ≡ given
-in_memory sent before bytes given none appended is = sym (is ∙ appended ∙ ap (λ first. first ++ sent) none)
 
 pub merge_old-requires-clause-newer : goal.merge_old-requires-clause-newer
 merge_old-requires-clause-newer g c =
-    let started = starts (map string_bytes c.args.given.now) c.in-Ok-Ok.tables.paths in
-    let part = c.in_default-index_paths.ensures in
-    let sent = c.in_default-index_paths.field-0.bytes in
-    subst IsReducedIndex (in_memory sent c.new-newer.result.items c.index_paths.new.new.items c.deref-2.result.now
-    c.new-newer.ensures.items part.given c.deref-2.ensures.value)
-    (reduced_index (set.from_list (map string_bytes c.deref.result.now)) (set.from_list started) sent
-    (walk_as_set (map string_bytes c.deref.result.now) started (ap (λ ps. map string_bytes ps) c.deref.ensures.value ∙ c.in-Ok.ensures))
-    part.well_formed part.short)
+    let started = set.from_list (starts (map string_bytes c.args.given.now) c.in-Ok-Ok.tables.paths) in
+    let newer = c.in-Ok.newer.items in
+    let part = c.in-Ok.ensures in
+    subst IsReducedIndex (sym c.deref.ensures.value)
+    (reduced_index (least started) started newer refl part.well_formed part.short)
 
 pub returns-clause-next : goal.returns-clause-next
 returns-clause-next g c = λ old known.
     let job = c.args.job.now in
     let snapshot = g.T.Tree.snapshot c.args.tree.now in
     let fit = subst (Opened old) c.in-Ok-Ok.field-0-is (c.in-Ok-Ok.ensures.opened old known) in
-    let walked = walked_as job old c.in-Ok-Ok.tables fit (map string_bytes c.args.given.now)
-    (map string_bytes c.deref.result.now) c.requires (ap (λ ps. map string_bytes ps) c.deref.ensures.value
-    ∙ c.in-Ok.ensures) in
-    let part = c.in_default-index_paths.ensures in
-    let sent = c.in_default-index_paths.field-0.bytes in
-    merged_next job old c.in-Ok-Ok.tables fit snapshot c.deref-2.result.now
-    (subst (IsOwnIndex job snapshot (Some old))
-    (in_memory sent c.new-newer.result.items c.index_paths.new.new.items c.deref-2.result.now
-    c.new-newer.ensures.items part.given c.deref-2.ensures.value)
-    (own_index job snapshot (Some old) (set.from_list (map string_bytes c.deref.result.now)) sent walked
-    part.well_formed part.encoding part.short))
+    let paths = least (set.from_list (starts (map string_bytes c.args.given.now) c.in-Ok-Ok.tables.paths)) in
+    let walked = walked_as job old c.in-Ok-Ok.tables fit (map string_bytes c.args.given.now) c.requires in
+    let part = c.in-Ok.ensures in
+    let newer = c.in-Ok.newer.items in
+    merged_next job old c.in-Ok-Ok.tables fit snapshot c.deref.result.now
+    (subst (IsOwnIndex job snapshot (Some old)) (sym c.deref.ensures.value)
+    (own_index job snapshot (Some old) paths newer walked part.well_formed part.encoding part.short))
     c.merge_old.result (c.merge_old.ensures.merged old (c.open_old.ensures.keeps ∙ known) fit.parts fit.are)
 
 pub returns-clause-refusal : goal.returns-clause-refusal
@@ -164,32 +150,27 @@ returns-clause-refusal g c = λ old known.
     let job = c.args.job.now in
     let snapshot = g.T.Tree.snapshot c.args.tree.now in
     let fit = subst (Opened old) c.in-Ok-Ok.field-0-is (c.in-Ok-Ok.ensures.opened old known) in
-    let walked = walked_as job old c.in-Ok-Ok.tables fit (map string_bytes c.args.given.now)
-    (map string_bytes c.deref.result.now) c.requires (ap (λ ps. map string_bytes ps) c.deref.ensures.value
-    ∙ c.in-Ok.ensures) in
-    let part = c.in_default-index_paths.ensures in
-    let sent = c.in_default-index_paths.field-0.bytes in
-    merged_answers job old c.in-Ok-Ok.tables fit snapshot c.deref-2.result.now
-    (subst (IsOwnIndex job snapshot (Some old))
-    (in_memory sent c.new-newer.result.items c.index_paths.new.new.items c.deref-2.result.now
-    c.new-newer.ensures.items part.given c.deref-2.ensures.value)
-    (own_index job snapshot (Some old) (set.from_list (map string_bytes c.deref.result.now)) sent walked
-    part.well_formed part.encoding part.short))
+    let paths = least (set.from_list (starts (map string_bytes c.args.given.now) c.in-Ok-Ok.tables.paths)) in
+    let walked = walked_as job old c.in-Ok-Ok.tables fit (map string_bytes c.args.given.now) c.requires in
+    let part = c.in-Ok.ensures in
+    let newer = c.in-Ok.newer.items in
+    merged_answers job old c.in-Ok-Ok.tables fit snapshot c.deref.result.now
+    (subst (IsOwnIndex job snapshot (Some old)) (sym c.deref.ensures.value)
+    (own_index job snapshot (Some old) paths newer walked part.well_formed part.encoding part.short))
     c.merge_old.result (c.merge_old.ensures.merged old (c.open_old.ensures.keeps ∙ known) fit.parts fit.are)
 
 pub returns-clause-prints : goal.returns-clause-prints
 returns-clause-prints g c = λ old known.
     let job = c.args.job.now in
     let fit = subst (Opened old) c.in-Ok-Ok.field-0-is (c.in-Ok-Ok.ensures.opened old known) in
-    let walked = walked_as job old c.in-Ok-Ok.tables fit (map string_bytes c.args.given.now)
-    (map string_bytes c.deref.result.now) c.requires (ap (λ ps. map string_bytes ps) c.deref.ensures.value
-    ∙ c.in-Ok.ensures) in
-    let tree = job_tree g.T.Tree.snapshot g.T.Tree.failed c.args.tree.now c.index_paths.new.tree in
+    let paths = least (set.from_list (starts (map string_bytes c.args.given.now) c.in-Ok-Ok.tables.paths)) in
+    let walked = walked_as job old c.in-Ok-Ok.tables fit (map string_bytes c.args.given.now) c.requires in
+    let tree = job_tree g.T.Tree.snapshot g.T.Tree.failed c.args.tree.now c.own_index.new.tree in
     let err = output g.E.Sink.model g.E.Sink.failed c.args.err.now in
-    let later = output g.E.Sink.model g.E.Sink.failed c.index_paths.new.err in
+    let later = output g.E.Sink.model g.E.Sink.failed c.own_index.new.err in
     merged_prints job old c.in-Ok-Ok.tables fit tree err later
-    (prints_over job tree (set.from_list (map string_bytes c.deref.result.now)) (Some old) err later walked
-    c.in_default-index_paths.ensures.prints) c.merge_old.result
+    (prints_over job tree paths (Some old) err later walked
+    c.in-Ok.ensures.prints) c.merge_old.result
 
 unread_after : (job : IndexJob) (tree : JobTree) (IsOld : Option (List ℕ) → Type 0) (err later : Output) →
     UnreadPrints job tree IsOld err later → later.failed ≡ err.failed → (r : Result (Result Sent CindexFault) IoFault) →
@@ -200,17 +181,15 @@ unread_after job tree IsOld err later prints writes (Err fault) = (prints, write
 pub returns-clause-unread : goal.returns-clause-unread
 returns-clause-unread g c =
     let job = c.args.job.now in
-    let tree = job_tree g.T.Tree.snapshot g.T.Tree.failed c.args.tree.now c.index_paths.new.tree in
+    let tree = job_tree g.T.Tree.snapshot g.T.Tree.failed c.args.tree.now c.own_index.new.tree in
     unread_after job tree (IsIndex g.S.Store.model (Some c.args.store.now))
     (output g.E.Sink.model g.E.Sink.failed c.args.err.now)
-    (output g.E.Sink.model g.E.Sink.failed c.index_paths.new.err)
-    (after (set.from_list (map string_bytes c.deref.result.now))
+    (output g.E.Sink.model g.E.Sink.failed c.own_index.new.err)
+    (after (least (set.from_list (starts (map string_bytes c.args.given.now) c.in-Ok-Ok.tables.paths)))
     (λ index is.
     let k = known_bytes (g.S.Store.model c.args.store.now) index is in
     let fit = subst (Opened k.bytes) c.in-Ok-Ok.field-0-is (c.in-Ok-Ok.ensures.opened k.bytes k.model_is) in
-    walked_as job k.bytes c.in-Ok-Ok.tables fit (map string_bytes c.args.given.now)
-    (map string_bytes c.deref.result.now) c.requires (ap (λ ps. map string_bytes ps) c.deref.ensures.value
-    ∙ c.in-Ok.ensures)
+    walked_as job k.bytes c.in-Ok-Ok.tables fit (map string_bytes c.args.given.now) c.requires
     ∙ ap (paths_of_job job) (sym k.index_is))
-    c.in_default-index_paths.ensures.prints)
-    c.in_default-index_paths.ensures.writes c.merge_old.result
+    c.in-Ok.ensures.prints)
+    c.in-Ok.ensures.writes c.merge_old.result

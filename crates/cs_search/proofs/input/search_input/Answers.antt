@@ -184,7 +184,7 @@ pieces-preserved g c =
           old piece (length c.pending-scanned.result.now) (c.pieces.steps + state_work * c.pieces.matcher.states)
           (c.search_block.new.steps + state_work * c.search_block.new.matcher.states) i.same
           (c.pending.ensures ∙ GrowsBy-split _ _ _ e.gains) (ap (λ (b : List ℕ). length b) c.pending-scanned.ensures)
-          (omega (arith, c.search_block.ensures.work, c.add.ensures))));
+          (omega (arith, c.search_block.ensures.work, c.fill.ensures.work))));
       keeps = g.met.R.Source.keeps_trans _ _ _ i.keeps e.keeps;
     }
 
@@ -221,8 +221,8 @@ returns-in-Ok-eq0-clause-work g c =
     (c.args.limit - c.pieces.left) (g.R.Source.model c.args.input.now) (g.R.Source.model c.pieces.input)
     (c.args.steps.now + state_work * c.args.matcher.now.states) (c.pieces.steps + state_work * c.pieces.matcher.states)
     i.work piece new same (Ok End) none (g.R.Source.model c.fill.new.input)
-    (c.add.new.self + state_work * c.pieces.matcher.states) (c.args.limit + 1) e.model.0 (omega (arith, size))
-    (omega (arith, c.add.ensures))
+    (c.fill.new.steps + state_work * c.pieces.matcher.states) (c.args.limit + 1) e.model.0 (omega (arith, size))
+    (omega (arith, c.fill.ensures.work))
 
 pub returns-in_err-start-clause-work : goal.returns-in_err-start-clause-work
 returns-in_err-start-clause-work g c =
@@ -242,7 +242,7 @@ returns-in_err-start-clause-work g c =
           old piece (length c.pending-scanned.result.now) (c.pieces.steps + state_work * c.pieces.matcher.states)
           (c.search_block.new.steps + state_work * c.search_block.new.matcher.states) i.same
           (c.pending.ensures ∙ GrowsBy-split _ _ _ e.gains) (ap (λ (b : List ℕ). length b) c.pending-scanned.ensures)
-          (omega (arith, c.search_block.ensures.work, c.add.ensures)));
+          (omega (arith, c.search_block.ensures.work, c.fill.ensures.work)));
       rest = unless_err _ c.from_residual.result c.from_residual.ensures.0;
     }
 
@@ -264,7 +264,7 @@ returns-in_default-clause-work g c =
           old piece (length c.pending-scanned.result.now) (c.pieces.steps + state_work * c.pieces.matcher.states)
           (c.search_block.new.steps + state_work * c.search_block.new.matcher.states) i.same
           (c.pending.ensures ∙ GrowsBy-split _ _ _ e.gains) (ap (λ (b : List ℕ). length b) c.pending-scanned.ensures)
-          (omega (arith, c.search_block.ensures.work, c.add.ensures)));
+          (omega (arith, c.search_block.ensures.work, c.fill.ensures.work)));
       rest = tt;
     }
 
@@ -277,8 +277,8 @@ returns-in_err-stop-clause-work g c =
     (c.args.steps.now + state_work * c.args.matcher.now.states) (c.pieces.steps + state_work * c.pieces.matcher.states)
     i.work p.0 (pending_bytes c.pieces.buffer) refl c.from_residual-in_err-stop.result
     (unless_err _ c.from_residual-in_err-stop.result c.from_residual-in_err-stop.ensures.0)
-    (g.R.Source.model c.probe_end.new.input) (c.add-2.new.self + state_work * c.pieces.matcher.states)
-    (c.args.limit + 1) p.1 (omega (arith, p.2)) (omega (arith, c.add-2.ensures))
+    (g.R.Source.model c.probe_end.new.input) (c.probe_end.new.steps + state_work * c.pieces.matcher.states)
+    (c.args.limit + 1) p.1 (omega (arith, p.2)) (omega (arith, c.probe_end.ensures.work))
 
 pub returns-clause-work : goal.returns-clause-work
 returns-clause-work g c =
@@ -288,5 +288,5 @@ returns-clause-work g c =
     (c.args.limit - c.pieces.left) (g.R.Source.model c.args.input.now) (g.R.Source.model c.pieces.input)
     (c.args.steps.now + state_work * c.args.matcher.now.states) (c.pieces.steps + state_work * c.pieces.matcher.states)
     i.work p.0 (pending_bytes c.pieces.buffer) refl (Ok c.in_ok-stop.stop) p.3 (g.R.Source.model c.probe_end.new.input)
-    (c.add-2.new.self + state_work * c.pieces.matcher.states) (c.args.limit + 1) p.1 (omega (arith, p.2))
-    (omega (arith, c.add-2.ensures))
+    (c.probe_end.new.steps + state_work * c.pieces.matcher.states) (c.args.limit + 1) p.1 (omega (arith, p.2))
+    (omega (arith, c.probe_end.ensures.work))

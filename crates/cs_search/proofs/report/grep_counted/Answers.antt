@@ -1,4 +1,4 @@
-use Rattle.std.proofs.Common.{◌+◌, ◌*◌, sym, subst, arith}
+use Rattle.std.proofs.Common.{◌+◌, ◌*◌, sym, subst}
 use Rattle.cs_match.specs.Work.{state_work}
 use Rattle.cs_search.specs.Buffer.{pending_bytes}
 use Rattle.cs_search.proofs.InputWorkLemmas.{ended_input, rest_input, steps_lose}
@@ -7,7 +7,7 @@ use Rattle.cs_search.specs.declared.stop.Stop.TheVariants.{End}
 use Rattle.cs_search.specs.Progress.{Stops}
 use Rattle.cs_search.proofs.InputReportLemmas.{Reports-listed, Reports-left, Reports-end}
 use Rattle.cs_index.proofs.common.ResultClauses.{any_err}
-use Rattle.cs_search.proofs.PrintedPrefixLemmas.{ReportsPrefix-read, ReportsPrefix-rest, ReportsPrefix-total}
+use Rattle.cs_search.proofs.PrintedPrefixLemmas.{ReportsPrefix-read, ReportsPrefix-ended}
 use Rattle.cs_search.proofs.report.grep_counted.Goals as goal
 
 pub returns-in-Listed-clause-report : goal.returns-in-Listed-clause-report
@@ -27,21 +27,19 @@ returns-in-Faulted-clause-report g c = λ has_match decides.
     (g.O.Sink.model c.search_input.new.out) c.args.limit (g.R.Source.model c.args.input.now) c.in-Faulted.fault _ _
     s.stops s.unlisted (s.tests has_match decides)
 
-pub returns-in_ok-print_total-in-End-clause-report : goal.returns-in_ok-print_total-in-End-clause-report
-returns-in_ok-print_total-in-End-clause-report g c = λ has_match decides.
+pub returns-in_ok-end_search-in-End-clause-report : goal.returns-in_ok-end_search-in-End-clause-report
+returns-in_ok-end_search-in-End-clause-report g c = λ has_match decides.
     let s = rw c.in-End.is at c.in_ok-search_input.ensures in
     let printer = c.args.printer.now in
     let model = g.R.Source.model c.args.input.now in
     let mid = c.search_input.new.tally in
-    Reports-end printer.style printer.name.now has_match c.new-tally.result c.search_rest.new.tally
+    let e = c.in_ok-end_search-in-End.ensures.ends has_match (subst (Decides has_match) (sym s.same) decides) in
+    Reports-end printer.style printer.name.now has_match c.new-tally.result c.end_search.new.tally
     c.new-tally.ensures.lines c.new-tally.ensures.matches (g.O.Sink.model c.args.out.now)
-    (g.O.Sink.model c.search_rest.new.out) c.args.limit model mid (g.O.Sink.model c.search_input.new.out)
-    c.pending.result.now (g.O.Sink.model c.print_total.new.out)
+    e.tested c.args.limit model mid (g.O.Sink.model c.search_input.new.out)
+    c.pending.result.now (g.O.Sink.model c.end_search.new.out)
     (subst (λ r. Stops c.args.printer.now.style c.args.limit End model r mid.lines) (sym c.pending.ensures) s.stops)
-    s.unlisted
-    (s.tests has_match decides)
-    (c.in_ok-search_rest-in-End.ensures.tests has_match (subst (Decides has_match) (sym s.same) decides))
-    c.in_ok-print_total-in-End.ensures.written
+    s.unlisted (s.tests has_match decides) e.tests e.written
 
 pub returns-in_err-search_input-clause-prefix : goal.returns-in_err-search_input-clause-prefix
 returns-in_err-search_input-clause-prefix g c =
@@ -51,35 +49,19 @@ returns-in_err-search_input-clause-prefix g c =
     c.new-tally.ensures.matches (g.O.Sink.model c.args.out.now) c.args.limit (g.R.Source.model c.args.input.now)
     (g.O.Sink.model c.search_input.new.out) (c.in_err-search_input.ensures.prefix has_match decides))
 
-pub returns-in_err-search_rest-in-End-clause-prefix : goal.returns-in_err-search_rest-in-End-clause-prefix
-returns-in_err-search_rest-in-End-clause-prefix g c =
-    any_err c.from_residual-in_err-search_rest-in-End.result (λ has_match decides.
+pub returns-in_err-end_search-in-End-clause-prefix : goal.returns-in_err-end_search-in-End-clause-prefix
+returns-in_err-end_search-in-End-clause-prefix g c =
+    any_err c.from_residual-in_err-end_search-in-End.result (λ has_match decides.
     let s = rw c.in-End.is at c.in_ok-search_input.ensures in
     let printer = c.args.printer.now in
+    let model = g.R.Source.model c.args.input.now in
     let mid = c.search_input.new.tally in
-    ReportsPrefix-rest printer.style printer.name.now has_match c.new-tally.result c.new-tally.ensures.lines
-    c.new-tally.ensures.matches (g.O.Sink.model c.args.out.now) c.args.limit (g.R.Source.model c.args.input.now) mid
-    (g.O.Sink.model c.search_input.new.out) c.pending.result.now (g.O.Sink.model c.search_rest.new.out)
-    (subst (λ r. Stops c.args.printer.now.style c.args.limit End (g.R.Source.model c.args.input.now) r mid.lines)
-    (sym c.pending.ensures) s.stops)
+    ReportsPrefix-ended printer.style printer.name.now has_match c.new-tally.result c.new-tally.ensures.lines
+    c.new-tally.ensures.matches (g.O.Sink.model c.args.out.now) c.args.limit model mid c.end_search.new.tally
+    (g.O.Sink.model c.search_input.new.out) c.pending.result.now (g.O.Sink.model c.end_search.new.out)
+    (subst (λ r. Stops c.args.printer.now.style c.args.limit End model r mid.lines) (sym c.pending.ensures) s.stops)
     s.unlisted (s.tests has_match decides)
-    (c.in_err-search_rest-in-End.ensures.prefix has_match (subst (Decides has_match) (sym s.same) decides)))
-
-pub returns-in_err-print_total-in-End-clause-prefix : goal.returns-in_err-print_total-in-End-clause-prefix
-returns-in_err-print_total-in-End-clause-prefix g c =
-    any_err c.from_residual-in_err-print_total-in-End.result (λ has_match decides.
-    let s = rw c.in-End.is at c.in_ok-search_input.ensures in
-    let printer = c.args.printer.now in
-    let mid = c.search_input.new.tally in
-    ReportsPrefix-total printer.style printer.name.now has_match c.new-tally.result c.new-tally.ensures.lines
-    c.new-tally.ensures.matches (g.O.Sink.model c.args.out.now) c.args.limit (g.R.Source.model c.args.input.now) mid
-    c.search_rest.new.tally (g.O.Sink.model c.search_input.new.out) (g.O.Sink.model c.search_rest.new.out)
-    c.pending.result.now (g.O.Sink.model c.print_total.new.out)
-    (subst (λ r. Stops c.args.printer.now.style c.args.limit End (g.R.Source.model c.args.input.now) r mid.lines)
-    (sym c.pending.ensures) s.stops)
-    s.unlisted (s.tests has_match decides)
-    (c.in_ok-search_rest-in-End.ensures.tests has_match (subst (Decides has_match) (sym s.same) decides))
-    c.in_err-print_total-in-End.ensures.written)
+    (c.in_err-end_search-in-End.ensures.prefix has_match (subst (Decides has_match) (sym s.same) decides)))
 
 pub returns-in-Listed-clause-work : goal.returns-in-Listed-clause-work
 returns-in-Listed-clause-work g c =
@@ -102,38 +84,27 @@ returns-in_err-search_input-clause-work g c =
     (c.args.steps.now + state_work * c.args.matcher.now.states)
     (c.search_input.new.steps + state_work * c.search_input.new.matcher.states) c.search_input.ensures.work.steps
 
-pub returns-in_ok-print_total-in-End-clause-work : goal.returns-in_ok-print_total-in-End-clause-work
-returns-in_ok-print_total-in-End-clause-work g c =
+pub returns-in_ok-end_search-in-End-clause-work : goal.returns-in_ok-end_search-in-End-clause-work
+returns-in_ok-end_search-in-End-clause-work g c =
     let s = rw c.in-End.is at c.in_ok-search_input.ensures in
     rest_input c.args.matcher.now.tree c.args.printer.now.name.now (c.args.limit + 1)
     (g.R.Source.model c.args.input.now) (g.R.Source.model c.search_input.new.input)
     (c.args.steps.now + state_work * c.args.matcher.now.states) (pending_bytes c.search_input.new.buffer)
     c.pending.result.now c.search_input.new.matcher.tree
     (c.search_input.new.steps + state_work * c.search_input.new.matcher.states)
-    (c.print_total.new.steps + state_work * c.search_rest.new.matcher.states) s.work s.same c.pending.ensures
-    (omega (arith, c.search_rest.ensures.work, c.print_total.ensures.work))
+    (c.end_search.new.steps + state_work * c.end_search.new.matcher.states) s.work s.same c.pending.ensures
+    c.end_search.ensures.work
 
-pub returns-in_err-search_rest-in-End-clause-work : goal.returns-in_err-search_rest-in-End-clause-work
-returns-in_err-search_rest-in-End-clause-work g c =
+pub returns-in_err-end_search-in-End-clause-work : goal.returns-in_err-end_search-in-End-clause-work
+returns-in_err-end_search-in-End-clause-work g c =
     let s = rw c.in-End.is at c.in_ok-search_input.ensures in
     rest_input c.args.matcher.now.tree c.args.printer.now.name.now (c.args.limit + 1)
     (g.R.Source.model c.args.input.now) (g.R.Source.model c.search_input.new.input)
     (c.args.steps.now + state_work * c.args.matcher.now.states) (pending_bytes c.search_input.new.buffer)
     c.pending.result.now c.search_input.new.matcher.tree
     (c.search_input.new.steps + state_work * c.search_input.new.matcher.states)
-    (c.search_rest.new.steps + state_work * c.search_rest.new.matcher.states) s.work s.same c.pending.ensures
-    (omega (arith, c.search_rest.ensures.work))
-
-pub returns-in_err-print_total-in-End-clause-work : goal.returns-in_err-print_total-in-End-clause-work
-returns-in_err-print_total-in-End-clause-work g c =
-    let s = rw c.in-End.is at c.in_ok-search_input.ensures in
-    rest_input c.args.matcher.now.tree c.args.printer.now.name.now (c.args.limit + 1)
-    (g.R.Source.model c.args.input.now) (g.R.Source.model c.search_input.new.input)
-    (c.args.steps.now + state_work * c.args.matcher.now.states) (pending_bytes c.search_input.new.buffer)
-    c.pending.result.now c.search_input.new.matcher.tree
-    (c.search_input.new.steps + state_work * c.search_input.new.matcher.states)
-    (c.print_total.new.steps + state_work * c.search_rest.new.matcher.states) s.work s.same c.pending.ensures
-    (omega (arith, c.search_rest.ensures.work, c.print_total.ensures.work))
+    (c.end_search.new.steps + state_work * c.end_search.new.matcher.states) s.work s.same c.pending.ensures
+    c.end_search.ensures.work
 
 pub returns-in-Listed-clause-loses : goal.returns-in-Listed-clause-loses
 returns-in-Listed-clause-loses g c = steps_lose c.search_input.ensures.work.steps
@@ -144,11 +115,8 @@ returns-in-Faulted-clause-loses g c = steps_lose c.search_input.ensures.work.ste
 pub returns-in_err-search_input-clause-loses : goal.returns-in_err-search_input-clause-loses
 returns-in_err-search_input-clause-loses g c = steps_lose c.search_input.ensures.work.steps
 
-pub returns-in_ok-print_total-in-End-clause-loses : goal.returns-in_ok-print_total-in-End-clause-loses
-returns-in_ok-print_total-in-End-clause-loses g c = steps_lose c.search_input.ensures.work.steps
+pub returns-in_ok-end_search-in-End-clause-loses : goal.returns-in_ok-end_search-in-End-clause-loses
+returns-in_ok-end_search-in-End-clause-loses g c = steps_lose c.search_input.ensures.work.steps
 
-pub returns-in_err-search_rest-in-End-clause-loses : goal.returns-in_err-search_rest-in-End-clause-loses
-returns-in_err-search_rest-in-End-clause-loses g c = steps_lose c.search_input.ensures.work.steps
-
-pub returns-in_err-print_total-in-End-clause-loses : goal.returns-in_err-print_total-in-End-clause-loses
-returns-in_err-print_total-in-End-clause-loses g c = steps_lose c.search_input.ensures.work.steps
+pub returns-in_err-end_search-in-End-clause-loses : goal.returns-in_err-end_search-in-End-clause-loses
+returns-in_err-end_search-in-End-clause-loses g c = steps_lose c.search_input.ensures.work.steps

@@ -1,9 +1,9 @@
-use Rattle.std.proofs.Common.{◌≡◌, ◌≤◌, ◌+◌, ◌-◌, ◌∙◌, ap, sym, subst, ℕ, Bool, List, Vec, Global, Option, Some, false, length, get_or, arith}
+use Rattle.std.proofs.Common.{◌≡◌, ◌≤◌, ◌+◌, ◌∙◌, ap, sym, subst, ℕ, Bool, List, Option, Some, false, length, arith}
 use Rattle.std.specs.Prelude.{filter, IfSome}
 use Rattle.std.specs.List.{AllByRecursion, AllZip, range_with_len}
 use Rattle.cs_index.specs.declared.reading.form.Node.{Node}
-use Rattle.cs_index.specs.Form.{IsRequired, matched, number_matches}
-use Rattle.cs_index.specs.Rows.{column, have_id, HaveWidth, IsLeft, IsReadOn, LacksId}
+use Rattle.cs_index.specs.Form.{IsRequired, number_matches}
+use Rattle.cs_index.specs.Rows.{have_id, IsLeft, IsReadOn, LacksId}
 use Rattle.cs_index.specs.StoredLists.{ListState}
 use Rattle.cs_index.proofs.candidates.WindowRows.{all_from, filter_false, have_alike, have_length, lacks_required, not_read, read_all_on, window_more, window_none}
 use Rattle.cs_index.proofs.candidates.FormValues.{nothing_matches}
@@ -46,20 +46,14 @@ windows-init g c =
       failed = c.in_ok-start.ensures.failed;
     }
 
-pub push_ids-requires-clause-width : goal.push_ids-requires-clause-width
-push_ids-requires-clause-width g c =
-    let width : ℕ = c.windows.start + c.min.result - c.windows.start in
-    c.row_at.ensures.width width (subst (HaveWidth width) (sym c.deref-in-windows.ensures.value) c.in_ok-rows.ensures.width)
-
 pub windows-preserved : goal.windows-preserved
 windows-preserved g c =
     let i = c.windows.invariant in
     let old : List ListState = c.args.lists.now in
     let lists : List ListState = c.windows.lists in
-    let after : List ListState = c.rows_of.new.lists in
+    let after : List ListState = c.meet_window.new.lists in
     let nodes : List Node = c.args.form.now.nodes.items in
     let root : ℕ = c.args.form.now.root in
-    let row : List Bool = c.row_at.result.now in
     let start : ℕ = c.windows.start in
     let end : ℕ = start + c.min.result in
     let next : ℕ = c.in_ok-start-2.start in
@@ -69,33 +63,28 @@ windows-preserved g c =
     let read : (bytes : List ℕ) → g.S.Store.model c.args.store.now ≡ Some bytes → AllByRecursion (IsLeft bytes) old →
     AllZip (IsReadOn bytes end) old after =
     λ bytes m all. read_all_on bytes start end old lists after (omega arith) (i.lists bytes m all)
-    (c.in_ok-rows.ensures.lists bytes (i.keeps ∙ m) (left bytes m all)) in
+    (c.in_ok-meet_window.ensures.lists bytes (i.keeps ∙ m) (left bytes m all)) in
     record {
       within = c.in_ok-start-2.ensures.to;
       ids = λ bytes m all. window_none (λ id. number_matches (have_id bytes old id) nodes root) end next
-          c.push_ids.new.ids.items c.in_ok-start-2.ensures.from
-          (window_more (λ id. number_matches (have_id bytes old id) nodes root) (λ id. get_or row (id - start) false)
-          start end c.windows.ids.items c.push_ids.new.ids.items (omega arith) (i.ids bytes m all)
-          c.in_ok-push_ids.ensures (λ k below.
-          let at : start + k - start ≡ k = omega arith in
+          c.meet_window.new.ids.items c.in_ok-start-2.ensures.from
+          (window_more (λ id. number_matches (have_id bytes old id) nodes root)
+          (λ id. number_matches (have_id bytes lists id) nodes root)
+          start end c.windows.ids.items c.meet_window.new.ids.items (omega arith) (i.ids bytes m all)
+          (c.in_ok-meet_window.ensures.ids bytes (i.keeps ∙ m) (left bytes m all)) (λ k below.
           let from : start ≤ start + k = omega arith in
-          ap (λ n. get_or row n false) at ∙ c.row_at.ensures.row k
-          ∙ ap (λ (rows : List (Vec Bool Global)). get_or (column k rows) root false) c.deref-in-windows.ensures.value
-          ∙ ap (λ (known : List Bool). get_or known root false)
-          (c.in_ok-rows.ensures.rows bytes (i.keeps ∙ m) (left bytes m all) k below
-          ∙ (λ j. matched (have_alike bytes start (start + k) old lists from (i.lists bytes m all) j)
-          (c.deref.ensures.value j)))))
+          ap (λ bits. number_matches bits nodes root) (have_alike bytes start (start + k) old lists from (i.lists bytes m all))))
           (λ id from below. passed bytes nodes root id old c.rarest_list-rarest.result c.rarest_list-rarest.ensures
           (subst (λ (bits : List Bool). LacksId bits c.rarest_list-rarest.result)
           (have_alike bytes end id old after from (read bytes m all))
-          (c.in_ok-start-2.ensures.lacks bytes (c.rows_of.ensures.keeps ∙ i.keeps ∙ m)
+          (c.in_ok-start-2.ensures.lacks bytes (c.meet_window.ensures.keeps ∙ i.keeps ∙ m)
           (all_from bytes end old after (read bytes m all)) id from below)));
       lists = λ bytes m all. read_all_on bytes end next old after c.next_start-in-windows.new.lists
           c.in_ok-start-2.ensures.from (read bytes m all)
-          (c.in_ok-start-2.ensures.lists bytes (c.rows_of.ensures.keeps ∙ i.keeps ∙ m) (all_from bytes end old after (read bytes m all)));
-      keeps = c.next_start-in-windows.ensures.keeps ∙ c.rows_of.ensures.keeps ∙ i.keeps;
-      size = c.next_start-in-windows.ensures.size ∙ c.rows_of.ensures.size ∙ i.size;
-      failed = c.in_ok-start-2.ensures.failed ∙ c.in_ok-rows.ensures.failed ∙ i.failed;
+          (c.in_ok-start-2.ensures.lists bytes (c.meet_window.ensures.keeps ∙ i.keeps ∙ m) (all_from bytes end old after (read bytes m all)));
+      keeps = c.next_start-in-windows.ensures.keeps ∙ c.meet_window.ensures.keeps ∙ i.keeps;
+      size = c.next_start-in-windows.ensures.size ∙ c.meet_window.ensures.size ∙ i.size;
+      failed = c.in_ok-start-2.ensures.failed ∙ c.in_ok-meet_window.ensures.failed ∙ i.failed;
     }
 
 pub returns-clause-ids : goal.returns-clause-ids

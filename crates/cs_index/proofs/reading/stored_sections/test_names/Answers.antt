@@ -9,7 +9,6 @@ use Rattle.cs_index.specs.ValidSections.{has_starts}
 use Rattle.cs_index.proofs.decoding.DecodableBytesOpen.{rise_from}
 use Rattle.cs_index.proofs.stored.SectionPieces.{AreNamesBefore, names_end, names_more, names_not, none_before, part_long, run_long, run_texts, run_valid, window_begins, window_last, window_run}
 use Rattle.cs_index.proofs.reading.stored_sections.test_names.Goals as goal
-use Rattle.cs_index.proofs.reading.stored_sections.test_names.Goals.{then-have_offsets, else-have_offsets, then-have_offsets-2, else-have_offsets-2}
 
 pub pieces-init : goal.pieces-init
 pieces-init g c =
@@ -48,20 +47,20 @@ returns-in_default-clause-names g c bytes m within =
     names_not _ _ (left_from bytes c.pieces.window c.pieces.used) _ _ _ (i.before bytes m)
     (subst IsNoSection (ap (λ p. p ++ more) c.deref.ensures.value ∙ sym begins) (c.in_default.ensures.none more))
 
-pub has_offsets-have-requires-clause-names : goal.has_offsets-have-requires-clause-names
-has_offsets-have-requires-clause-names g c =
+pub has_stored_offsets-requires-clause-names : goal.has_stored_offsets-requires-clause-names
+has_stored_offsets-requires-clause-names g c =
     let piece : List ℕ = c.read_on.new.self.piece.items in
     let run = c.in-Some.run' in
     let is : IsTextRun piece run = subst (λ (p : List ℕ). IsTextRun p run) c.deref.ensures.value c.in-Some.ensures.run in
-    ap (λ p. is_section [] (take run.len p)) c.deref-in-pieces-2.ensures.value ∙ run_valid piece run is
+    ap (λ p. is_section [] (take run.len p)) c.deref-in-pieces.ensures.value ∙ run_valid piece run is
 
-pub has_offsets-have-requires-clause-count : goal.has_offsets-have-requires-clause-count
-has_offsets-have-requires-clause-count g c =
+pub has_stored_offsets-requires-clause-count : goal.has_stored_offsets-requires-clause-count
+has_stored_offsets-requires-clause-count g c =
     let piece : List ℕ = c.read_on.new.self.piece.items in
     let run = c.in-Some.run' in
     let is : IsTextRun piece run = subst (λ (p : List ℕ). IsTextRun p run) c.deref.ensures.value c.in-Some.ensures.run in
     sym is.count ∙ ap (λ (ts : List (List ℕ)). length ts)
-    (sym (ap (λ p. texts_of (take run.len p)) c.deref-in-pieces-2.ensures.value ∙ run_texts piece run is))
+    (sym (ap (λ p. texts_of (take run.len p)) c.deref-in-pieces.ensures.value ∙ run_texts piece run is))
 
 pub pieces-preserved : goal.pieces-preserved
 pieces-preserved g c =
@@ -80,15 +79,6 @@ pieces-preserved g c =
     let order = rise_from s.paths s.names s.postings s.name_index s.list_index s.trailer c.requires.order in
     let offset : ℕ = old.start + c.pieces.used - s.names in
     let same : new.start - s.names ≡ offset = omega (arith, begin) in
-    let have : c.has_offsets-have.result ≡ has_starts c.in_ok-numbers.numbers.items 0 offset is.texts =
-    c.has_offsets-have.ensures
-    ∙ (λ j. has_starts (c.deref-in-pieces.ensures.value j) 0 (same j)
-    ((ap (λ p. texts_of (take run.len p)) c.deref-in-pieces-2.ensures.value ∙ run_texts piece run is) j)) in
-    let good : c.if-have_offsets.have_offsets ≡ (c.pieces.have_offsets && c.has_offsets-have.result) = elim c.if-have_offsets.branch [
-      | then-have_offsets w ↦ w.have_offsets-is ∙ sym (ap (λ b. b && c.has_offsets-have.result) w.if-have_offsets.true)
-      | else-have_offsets w ↦ w.have_offsets-is ∙ w.if-have_offsets.false
-          ∙ sym (ap (λ b. b && c.has_offsets-have.result) w.if-have_offsets.false)
-    ] in
     record {
       window = c.read_on.ensures.window;
       used = is.within;
@@ -101,22 +91,25 @@ pieces-preserved g c =
           let rest : List ℕ = left_from bytes new run.len in
           let strings = window_run bytes old new c.pieces.used run begin c.read_on.ensures.stop c.read_on.ensures.window
           (c.in_ok-more.ensures.piece bytes (i.keeps ∙ m)) is in
-          let numbers = c.in_ok-numbers.ensures.numbers bytes (c.read_on.ensures.keeps ∙ i.keeps ∙ m)
-          ∙ ap (λ n. part_of index (4 * c.pieces.count) (4 * (n + 1))) (sym is.count) in
+          let numbers : List ℕ = part_of index (4 * c.pieces.count) (4 * (length is.texts + 1)) in
+          let have : c.in_ok-have.have ≡ has_starts numbers 0 offset is.texts =
+          c.in_ok-have.ensures.offsets bytes (c.read_on.ensures.keeps ∙ i.keeps ∙ m)
+          ∙ (λ j. has_starts (part_of index (4 * c.pieces.count) (4 * (sym is.count j + 1))) 0 (same j)
+          ((ap (λ p. texts_of (take run.len p)) c.deref-in-pieces.ensures.value ∙ run_texts piece run is) j)) in
           subst (AreNamesBefore section index rest (c.pieces.count + run.count) (new.start + run.len - s.names))
-          (ap (λ b. c.pieces.have_offsets && b) (sym have) ∙ sym good)
-          (names_more section index (left_from bytes old c.pieces.used) rest c.in_ok-numbers.numbers.items
+          (ap (λ b. c.pieces.have_offsets && b) (sym have))
+          (names_more section index (left_from bytes old c.pieces.used) rest numbers
           c.pieces.count (c.pieces.count + run.count) offset (new.start + run.len - s.names) c.pieces.have_offsets
-          is.texts (i.before bytes m) strings numbers
+          is.texts (i.before bytes m) strings refl
           (ap (λ n. c.pieces.count + n) (sym is.count)) (omega (arith, begin, begun, long)));
       rest = λ e. is.rest;
       last = λ bytes m within e.
           window_last bytes new run.len c.read_on.ensures.window is.within
           (c.in_ok-more.ensures.end bytes (i.keeps ∙ m) (let stop = i.stop in let a = order.cd in let b = order.de in
           let d = order.ea in omega (arith, stop, within, a, b, d)) e);
-      keeps = c.read_numbers.ensures.keeps ∙ c.read_on.ensures.keeps ∙ i.keeps;
-      size = c.read_numbers.ensures.size ∙ c.read_on.ensures.size ∙ i.size;
-      failed = c.in_ok-numbers.ensures.failed ∙ c.in_ok-more.ensures.failed ∙ i.failed;
+      keeps = c.has_stored_offsets.ensures.keeps ∙ c.read_on.ensures.keeps ∙ i.keeps;
+      size = c.has_stored_offsets.ensures.size ∙ c.read_on.ensures.size ∙ i.size;
+      failed = c.in_ok-have.ensures.failed ∙ c.in_ok-more.ensures.failed ∙ i.failed;
     }
 
 pub returns-clause-names : goal.returns-clause-names
@@ -136,12 +129,6 @@ returns-clause-names g c bytes m within =
     let ending = ap (λ (p : List ℕ). bytes_eq p (0 ∷ []) || bytes_eq p []) (sym (take_rest w.piece.items c.pieces.used)
     ∙ ap (λ (p : List ℕ). take (length p - c.pieces.used) (drop c.pieces.used p)) (sym c.deref-2.ensures.value))
     ∙ sym c.is_ending.ensures ∙ c.if-not-is_ending.false in
-    let has : c.if-have_offsets-2.have_offsets
-    ≡ (c.pieces.have_offsets && eqb (length index) (4 * (c.pieces.count + 1))) = elim c.if-have_offsets-2.branch [
-      | then-have_offsets-2 v ↦ v.have_offsets-is ∙ sym (λ j. v.if-have_offsets-2.true j && eqb (long j) (4 * (c.pieces.count + 1)))
-      | else-have_offsets-2 v ↦ v.have_offsets-is ∙ v.if-have_offsets-2.false
-          ∙ sym (ap (λ b. b && eqb (length index) (4 * (c.pieces.count + 1))) v.if-have_offsets-2.false)
-    ] in
     names_end section index rest (w.start + c.pieces.used - s.names) c.pieces.have_offsets
-    (record { count = c.pieces.count; have_offsets = c.if-have_offsets-2.have_offsets }) before
-    (i.rest c.pieces-test.false) ending has
+    (record { count = c.pieces.count; have_offsets = c.pieces.have_offsets && eqb (s.list_index - s.name_index) (4 * (c.pieces.count + 1)) })
+    before (i.rest c.pieces-test.false) ending (ap (λ n. c.pieces.have_offsets && eqb n (4 * (c.pieces.count + 1))) (sym long))

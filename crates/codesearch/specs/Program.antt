@@ -1,7 +1,8 @@
 -- What the program does: the tool that its arguments call, its errors in their order, what the tool does, what becomes
 -- of the index file, and the exit status. docs/PROMISES.md, "The program".
-use Rattle.std.specs.Prelude.{◌≡◌, ℕ, Bool, true, false, ◌&&◌, not, if◌then◌else◌, List, [], ◌∷◌, ◌++◌, map, drop, find, length, slice_get, Option, Some, None, is_none, unwrap_or, option_map, option_and_then, Result, Ok, Err, IsSomeAnd, ◌⊎◌, codes, decimal, bytes_eq, string_bytes, nat_eq}
+use Rattle.std.specs.Prelude.{◌≡◌, ℕ, ◌+◌, Bool, true, false, ◌&&◌, not, if◌then◌else◌, List, [], ◌∷◌, ◌++◌, map, drop, find, length, slice_get, Option, Some, None, is_none, unwrap_or, option_map, option_and_then, Result, Ok, Err, IsSomeAnd, ◌⊎◌, codes, decimal, bytes_eq, string_bytes, nat_eq}
 use Rattle.std.specs.Option.{option_or}
+use Rattle.std.specs.Path.{path_file_name}
 use Rattle.cs_tree.specs.declared.fault.IoFault.{IoFault}
 use Rattle.cs_tree.specs.Cover.{is_absolute}
 use Rattle.cs_tree.specs.Failures.{count_if}
@@ -65,13 +66,17 @@ given_args given = map string_bytes given.args.items
 abbrev pub tool_named : List ℕ → Option Tool
 tool_named name = find (λ tool. bytes_eq (tool_name tool) name) (Cindex ∷ Csearch ∷ Cgrep ∷ [])
 
--- the tool that the first argument names
+-- the tool whose name the program is run by
+abbrev pub own_tool : Given → Option Tool
+own_tool given = option_and_then tool_named (path_file_name (string_bytes given.program))
+
+-- this tool, or if there is none the one that the first argument names
 abbrev pub tool_of : Given → Option Tool
-tool_of given = option_and_then tool_named (slice_get (given_args given) 0)
+tool_of given = option_or (own_tool given) (option_and_then tool_named (slice_get (given_args given) 0))
 
 -- the arguments of the tool
 abbrev pub tool_args : Given → List (List ℕ)
-tool_args given = drop 1 (given_args given)
+tool_args given = if is_none (own_tool given) then drop 1 (given_args given) else given_args given
 
 -- the current folder, if it begins with `/`
 abbrev pub absolute_folder : Given → Option (List ℕ)
@@ -159,13 +164,13 @@ lacks_folder given Cindex = is_none (absolute_folder given)
 lacks_folder given Csearch = false
 lacks_folder given Cgrep = false
 
--- The errors that come before the tool, in their order; the first one ends the program with its line: the first argument
--- names no tool, an argument is not UTF-8, there is no current folder, the index file is unreadable, the arguments are
+-- The errors that come before the tool, in their order; the first one ends the program with its line: no tool is named,
+-- an argument is not UTF-8, there is no current folder, the index file is unreadable, the arguments are
 -- wrong, and the index file cannot be claimed.
 abbrev pub early_line_for : Option Tool → Given → IndexFile → Option (List ℕ)
 early_line_for None given file = Some first_arg_line
 early_line_for (Some tool) given file =
-    option_or (when given.has_non_text (non_text_line tool (length given.args.items)))
+    option_or (when given.has_non_text (non_text_line tool (length (tool_args given) + 1)))
     (option_or (when (lacks_folder given tool) no_folder_line)
     (option_or (option_map (reading_line file.name) file.unreadable)
     (option_or (word_line tool (tool_args given) (meaning given tool))

@@ -25,6 +25,12 @@ pub(crate) fn read_args<E: Env>(
     Ok(false)
 }
 
+/// The path that the program is run by; empty if there is none or it is not UTF-8.
+pub(crate) fn program_path<E: Env>(alloc: Global, env: &E) -> Result<String, AllocError> {
+    let bytes = arg_at(alloc, env, 0)?.unwrap_or(Vec::new(alloc));
+    Ok(String::from_utf8(bytes).unwrap_or(String::new(alloc)))
+}
+
 /// The bytes of an argument, if it exists. The buffer doubles until the argument fits.
 fn arg_at<E: Env>(alloc: Global, env: &E, position: usize) -> Result<Option<Vec<u8>>, AllocError> {
     let mut capacity = FIRST_CAPACITY;

@@ -1,12 +1,13 @@
 // What the arguments of the program mean: a tool, and its job.
-ghost use Rattle.std.specs.Prelude.{◌≡◌, [], Some, true, false, unwrap_or, IfOk, IfErr, IfSome, IsNone, option_copied};
-ghost use Rattle.codesearch.specs.Program.{IndexFile, tool_named, absolute_folder, lacks_folder, IsCall, early_line, fault_line, is_of_lines, prints_lines, may_update};
+ghost use Rattle.std.specs.Prelude.{◌≡◌, [], Some, None, true, false, map, unwrap_or, IfOk, IfErr, IfSome, IsNone, MatchOption, option_copied, string_bytes};
+ghost use Rattle.codesearch.specs.Program.{IndexFile, tool_named, own_tool, tool_of, tool_args, absolute_folder, lacks_folder, IsCall, early_line, fault_line, is_of_lines, prints_lines, may_update};
 
 use crate::given::Given;
 use crate::outcome::ProgramFault;
-use cs_tools::{GrepJob, Job, SearchJob, Style, Tool, WordFault, read_words};
+use cs_args::{GrepJob, Job, SearchJob, Style, Tool, WordFault, read_words};
 use cs_tree::is_absolute;
 use std::alloc::Global;
+use std::path::Path;
 
 /// A call of a tool.
 #[derive(Drop)]
@@ -24,20 +25,17 @@ impl<'a> Call<'a> {
     ///
     /// # Errors
     ///
-    /// In this order: the first argument names no tool, an argument is not UTF-8, and `cindex` has no current folder.
+    /// In this order: neither the program nor the first argument has the name of a tool, an argument is not UTF-8, and `cindex` has no current folder.
     pub(crate) fn read(alloc: Global, given: &'a Given) -> Result<Call<'a>, ProgramFault<'a>>
         ensures call { IfOk result (λ call. (call.given.now ≡ given.now) × IsCall call) }
         ensures refused { IfErr result
             (λ fault. (file : IndexFile) → early_line given.now file ≡ Some (fault_line fault)) }
     {
-        let Some((first, args)) = given.args.split_first() else {
-            return Err(ProgramFault::FirstArg);
-        };
-        let Some(tool) = tool_named(first.as_str()) else {
+        let Some((tool, args)) = called(given) else {
             return Err(ProgramFault::FirstArg);
         };
         if given.has_non_text {
-            return Err(ProgramFault::NonText(tool, given.args.len()));
+            return Err(ProgramFault::NonText(tool, args.len() + 1));
         }
         let Some(folder) = folder_for(given, tool) else {
             return Err(ProgramFault::NoFolder);
@@ -71,6 +69,26 @@ impl<'a> Call<'a> {
             _ => false,
         }
     }
+}
+
+/// The tool that is called, and its arguments. If the program is run by the name of a tool, as through a link, that tool is
+/// called, otherwise the one that the first argument names.
+fn called(given: &Given) -> Option<(Tool, &[String])>
+    ensures { MatchOption result (tool_of given.now ≡ None) (λ call. (tool_of given.now ≡ Some call.0)
+        × (map string_bytes call.1.now ≡ tool_args given.now)) }
+{
+    if let Some(tool) = own_tool(given) {
+        return Some((tool, given.args.as_slice()));
+    }
+    let (first, args) = given.args.split_first()?;
+    Some((tool_named(first.as_str())?, args))
+}
+
+/// The tool whose name the program is run by.
+fn own_tool(given: &Given) -> Option<Tool>
+    ensures { result ≡ own_tool given.now }
+{
+    tool_named(Path::new(given.program.as_str()).file_name()?)
 }
 
 /// The tool with this name.

@@ -10,8 +10,8 @@ ghost use Rattle.codesearch.specs.Opened.{ExecutesOpened, Finishes};
 use crate::call::Call;
 use crate::outcome::{Outcome, ProgramFault};
 use crate::running::{World, run};
+use cs_args::Tool;
 use cs_storage::{IndexFolder, IndexUpdate, NewFile, StorageFault, begin_update, finish_update};
-use cs_tools::Tool;
 use cs_tree::{Sink, Source, Tree};
 
 /// Opens the index file, claims it if the job may update it, does what the arguments mean, and updates the file. So a second

@@ -13,12 +13,12 @@ mod given;
 mod laws;
 mod outcome;
 mod running;
-mod storage;
 mod streams;
 
-use args::read_args;
+use args::{program_path, read_args};
 use call::Call;
-use cs_tools::Tool;
+use cs_args::Tool;
+use cs_storage::{DiskFolder, DiskIndex, IndexPaths};
 use cs_tree::{BufferedSink, DiskTree, Sink, StdSink, StdSource};
 use execution::execute;
 use given::Given;
@@ -28,7 +28,6 @@ use std::alloc::AllocError;
 use std::env;
 use std::io::ErrorKind;
 use std::process::ExitCode;
-use storage::{DiskFolder, IndexPaths};
 use streams::hold_streams;
 
 /// The size of the buffer of standard output, in bytes.
@@ -52,6 +51,7 @@ fn start(rt: &HostRuntime) -> Result<u8, AllocError> {
     let mut args = Vec::new(rt.alloc());
     let has_non_text = read_args(rt.alloc(), rt, &mut args)?;
     let given = Given {
+        program: program_path(rt.alloc(), rt)?,
         args,
         has_non_text,
         folder: current_folder(rt)?,
@@ -77,26 +77,43 @@ fn current_folder(rt: &HostRuntime) -> Result<Option<String>, AllocError> {
 fn execute_on_disk(rt: &HostRuntime, call: &Call<'_>) -> Result<u8, AllocError>
     requires { IsCall call.now }
 {
-    let paths = match call.tool {
-        Tool::Cgrep => IndexPaths::none(rt)?,
-        Tool::Cindex | Tool::Csearch => IndexPaths::of_environment(rt)?,
-    };
+    let paths = paths_for(rt, call)?;
     let name = String::from_str(rt.alloc(), paths.name.as_str())?;
     let temp = String::from_str(rt.alloc(), paths.temp.as_str())?;
-    let mut folder = DiskFolder::new(rt.clone()?, paths);
+    let file = FoundFile {
+        name: name.as_str(),
+        temp: temp.as_str(),
+        index: None,
+    };
+    execute_over(rt, call, &mut DiskFolder::new(rt.clone()?, paths), file)
+}
+
+/// The paths of the index file, which `cgrep` does not use.
+fn paths_for(rt: &HostRuntime, call: &Call<'_>) -> Result<IndexPaths, AllocError> {
+    match call.tool {
+        Tool::Cgrep => IndexPaths::none(rt),
+        Tool::Cindex | Tool::Csearch => IndexPaths::of_environment(rt),
+    }
+}
+
+/// The same over this folder of the index file.
+fn execute_over(
+    rt: &HostRuntime,
+    call: &Call<'_>,
+    folder: &mut DiskFolder,
+    file: FoundFile<'_, DiskIndex>,
+) -> Result<u8, AllocError>
+    requires { IsCall call.now }
+{
     let mut world = World {
         alloc: rt.alloc(),
-        file: FoundFile {
-            name: name.as_str(),
-            temp: temp.as_str(),
-            index: None,
-        },
+        file,
         tree: tree_for(rt, call)?,
         input: StdSource::new(rt.stdin()),
         out: BufferedSink::new(rt.alloc(), OUTPUT_BYTES, StdSink::new(rt.stdout()))?,
         err: StdSink::new(rt.stderr()),
     };
-    let outcome = execute(call, &mut folder, &mut world);
+    let outcome = execute(call, folder, &mut world);
     // A search that failed has not flushed the lines that it printed before.
     let _ = world.out.flush();
     Ok(report(rt, &outcome))

@@ -3,15 +3,16 @@ ghost use Rattle.std.specs.Prelude.{◌≡◌, IfOk, string_bytes};
 ghost use Rattle.cs_tree.specs.TakesPrefix.{EndsAfter};
 ghost use Rattle.codesearch.specs.Program.{exit_status, fault_line, reading_line, writing_line, ReportsOutcome, PrintsErrorLine};
 
+use cs_args::{Refusal, Tool, message};
+use cs_search::Status;
 use cs_storage::{IndexUpdate, StorageFault};
-use cs_tools::{Refusal, Status, Tool, message};
 use cs_tree::{IoFault, Sink, write_all};
 use std::alloc::{AllocError, Global};
 
 /// An error that ends the program. Its line is printed on standard error.
 #[derive(Clone, Copy, Drop)]
 pub(crate) enum ProgramFault<'a> {
-    /// The first argument names no tool.
+    /// No tool is named.
     FirstArg,
     /// The argument with this number, counted from 1 after the name of the tool, is not UTF-8.
     NonText(Tool, usize),

@@ -9,12 +9,14 @@ ghost use Rattle.codesearch.specs.Running.{HasFolder, IsUnreadIn};
 
 use crate::call::Call;
 use crate::outcome::{Outcome, ProgramFault};
-use cs_output::Output;
-use cs_storage::IndexUpdate;
-use cs_tools::{
-    CindexFault, GrepJob, IndexJob, Job, Refusal, SearchJob, Status, StoredIndex, Tool, ToolFault,
-    WordFault, cgrep, cindex_stored, csearch, csearch_stored,
+use cs_args::{
+    CindexFault, GrepJob, IndexJob, Job, Refusal, SearchJob, Tool, ToolFault, WordFault,
 };
+use cs_cindex::cindex_stored;
+use cs_index::StoredIndex;
+use cs_output::Output;
+use cs_search::{Status, cgrep, csearch, csearch_stored};
+use cs_storage::IndexUpdate;
 use cs_tree::{IoFault, Sink, Source, Store, Tree, read_part};
 use std::alloc::Global;
 

@@ -1,44 +1,10 @@
-// Fixtures of several modules.
-use cs_fakes::{Item, MemTree, PutFault};
-use cs_index::{BuildFault, Builder};
-use cs_tree::MemSource;
-use cs_trigram::{Scan, Scanner};
+// Fixtures of several modules; those of several crates are in `cs_fakes`.
+use cs_fakes::{Files, Item, MemTree, PutFault};
 use std::alloc::{AllocError, Global};
-
-/// Names and the texts of the files.
-pub type Files<'a> = &'a [(&'a str, &'a [u8])];
-
-/// An index of the path `/a` and the file `/a/x`, which has `abcd` and a newline.
-pub const ROW: &[u8; 122] =
-    b"csearch index 1\n/a\0\0/a/x\0\0abc\x01\0bcd\x01\0cd\n\x01\0\xff\xff\xff\0\0\0\0\0\0\0\0\x05abc\0\0\0\x01\0\0\0\0bcd\0\0\0\x01\0\0\0\x05cd\n\0\0\0\x01\0\0\0\x0a\0\0\0\x10\0\0\0\x14\0\0\0\x1a\0\0\0\x2d\0\0\0\x35\ncsearch trailr\n";
-
-/// An index whose names are not sorted.
-pub const UNSORTED: &[u8; 115] =
-    b"csearch index 1\n/a\0\0/a/b/z\0/a/b-x\0\0abc\x01\x01\0\xff\xff\xff\0\0\0\0\0\0\0\0\x07\0\0\0\x0eabc\0\0\0\x02\0\0\0\0\xff\xff\xff\0\0\0\0\0\0\0\x06\0\0\0\x10\0\0\0\x14\0\0\0\x23\0\0\0\x2d\0\0\0\x39\ncsearch trailr\n";
-
-/// A copy of the bytes, changed at some offsets.
-pub fn changed<const N: usize>(bytes: &[u8; N], changes: &[(usize, u8)]) -> [u8; N] {
-    let mut bytes = *bytes;
-    for (offset, byte) in changes {
-        if let Some(changed) = bytes.get_mut(*offset) {
-            *changed = *byte;
-        }
-    }
-    bytes
-}
 
 /// The bytes of a text.
 pub fn bytes_of(alloc: Global, text: &str) -> Result<Vec<u8>, AllocError> {
     Vec::from_slice(alloc, text.as_bytes())
-}
-
-/// The texts as strings.
-pub fn strings(alloc: Global, texts: &[&str]) -> Result<Vec<String>, AllocError> {
-    let mut strings = Vec::new(alloc);
-    for text in texts {
-        strings.push(String::from_str(alloc, *text)?)?;
-    }
-    Ok(strings)
 }
 
 /// The texts, each followed by a space.
@@ -49,14 +15,6 @@ pub fn spaced(alloc: Global, texts: &[String]) -> Result<String, AllocError> {
         all.push(' ')?;
     }
     Ok(all)
-}
-
-/// The trigram of the first three bytes.
-pub fn number(text: &[u8]) -> u32 {
-    match text {
-        [a, b, c, ..] => 65536 * *a as u32 + 256 * *b as u32 + *c as u32,
-        _ => 0,
-    }
 }
 
 /// Random bytes from 0x21 to 0x7e; every eightieth byte is a newline.
@@ -83,37 +41,4 @@ pub fn tree_of(alloc: Global, folder: &str, files: Files<'_>) -> Result<MemTree,
         tree.put(*name, Item::File(Vec::from_slice(alloc, *bytes)?))?;
     }
     Ok(tree)
-}
-
-/// A builder of an index of the paths.
-pub fn builder_of(alloc: Global, paths: &[&str]) -> Result<Builder, BuildFault> {
-    Builder::new(alloc, &strings(alloc, paths)?)
-}
-
-/// The index of the paths with these files, which have to be text.
-pub fn index_of(alloc: Global, paths: &[&str], files: Files<'_>) -> Option<Vec<u8>> {
-    let mut builder = builder_of(alloc, paths).ok()?;
-    add_files(alloc, &mut builder, files)?;
-    builder.finish().ok()
-}
-
-fn add_files(alloc: Global, builder: &mut Builder, files: Files<'_>) -> Option<()> {
-    let mut scanner = Scanner::new(alloc).ok()?;
-    for (name, text) in files {
-        let _id = add_file(builder, &mut scanner, *name, *text)?;
-    }
-    Some(())
-}
-
-/// Adds a file, which has to be text.
-pub fn add_file(
-    builder: &mut Builder,
-    scanner: &mut Scanner,
-    name: &str,
-    text: &[u8],
-) -> Option<u32> {
-    match scanner.gather(&mut MemSource::new(text, 4, false)) {
-        Ok(Scan::Text { trigrams, .. }) => builder.add(name, trigrams).ok(),
-        _ => None,
-    }
 }

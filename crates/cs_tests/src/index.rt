@@ -1,7 +1,7 @@
 // The index: written, read, and queried.
 mod building;
 mod candidates;
-pub(crate) mod lists;
+mod lists;
 mod names;
 mod pieces;
 mod reading;

@@ -2,10 +2,10 @@
 // `tests/runs/library_allocations.py` checks that the three tests have the same number of
 // allocations. With an `is_match` that also copies its table, the second has 6 more than the first,
 // and the third 4,334 more.
-use crate::fixtures::{ONE_FILE, PLAIN, strings, tree_of};
+use crate::fixtures::{PLAIN, tree_of};
 use crate::searching::reports::program_of;
 use cs_args::{Style, ToolFault};
-use cs_fakes::{FuseTree, MemTree};
+use cs_fakes::{FuseTree, MemTree, ONE_FILE, strings};
 use cs_index::{Index, Postings, Sections};
 use cs_match::Matcher;
 use cs_search::{GrepFault, grep};

@@ -14,26 +14,9 @@ pub const PLAIN: Style = Style {
     bare: false,
 };
 
-/// The index of the file `/a/x` with `abcd` and a newline.
-pub const ONE_FILE: &[u8; 122] =
-    b"csearch index 1\n/a\0\0/a/x\0\0abc\x01\0bcd\x01\0cd\n\x01\0\xff\xff\xff\0\0\0\0\0\0\0\0\x05abc\0\0\0\x01\0\0\0\0bcd\0\0\0\x01\0\0\0\x05cd\n\0\0\0\x01\0\0\0\x0a\0\0\0\x10\0\0\0\x14\0\0\0\x1a\0\0\0\x2d\0\0\0\x35\ncsearch trailr\n";
-
 /// The index of the path `/v` without a file.
 pub const ONE_PATH: &[u8] =
     b"csearch index 1\n/v\0\0\0\xff\xff\xff\0\0\0\0\0\0\0\0\x10\0\0\0\x14\0\0\0\x15\0\0\0\x19\0\0\0\x1d\ncsearch trailr\n";
-
-/// An index whose names are not sorted, and with an entry for the closing list.
-pub const UNSORTED: &[u8; 115] =
-    b"csearch index 1\n/a\0\0/a/b/z\0/a/b-x\0\0abc\x01\x01\0\xff\xff\xff\0\0\0\0\0\0\0\0\x07\0\0\0\x0eabc\0\0\0\x02\0\0\0\0\xff\xff\xff\0\0\0\0\0\0\0\x06\0\0\0\x10\0\0\0\x14\0\0\0\x23\0\0\0\x2d\0\0\0\x39\ncsearch trailr\n";
-
-/// The texts as strings.
-pub fn strings(alloc: Global, texts: &[&str]) -> Result<Vec<String>, AllocError> {
-    let mut strings = Vec::new(alloc);
-    for text in texts {
-        strings.push(String::from_str(alloc, *text)?)?;
-    }
-    Ok(strings)
-}
 
 /// The parts of a text between separators.
 pub fn args_of(alloc: Global, text: &str, mark: char) -> Result<Vec<String>, AllocError> {

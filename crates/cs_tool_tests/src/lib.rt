@@ -1,7 +1,7 @@
 //! The tests of the crates of whole tools, one module for each, and of all calls with failing
-//! allocations. They call only public functions. `cs_tests` has the tests of the libraries below,
-//! and `tests/` runs the program. A test asserts a function that answers `bool`, since each assert
-//! is proved too.
+//! allocations. They call only public functions. `cs_pattern_tests`, `cs_tests` and
+//! `cs_merge_tests` have the tests of the libraries below, and `tests/` runs the program. A test
+//! asserts a function that answers `bool`, since each assert is proved too.
 #![tactic(auto)]
 
 #[cfg(test)]
@@ -24,5 +24,3 @@ mod out_of_memory;
 mod rooms;
 #[cfg(test)]
 mod searching;
-#[cfg(test)]
-mod stores;

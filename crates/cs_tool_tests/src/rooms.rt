@@ -1,12 +1,13 @@
 // Outputs with less capacity than a tool prints: the tool fails, has filled the output, and leaves
 // the index unchanged.
-use crate::fixtures::{ONE_FILE, tree_of};
+use crate::fixtures::tree_of;
 use crate::indexing::job_of;
 use crate::indexing::jobs::index_of;
 use crate::searching::indexed::{GOOGLE, search};
 use crate::searching::tools;
 use cs_args::{CindexFault, Reply, ToolFault};
 use cs_cindex::cindex;
+use cs_fakes::ONE_FILE;
 use cs_search::Status;
 use cs_tree::MemSink;
 use std::alloc::Global;

@@ -1,6 +1,6 @@
 // The writer: worked examples.
-use crate::fixtures::{Files, ROW, builder_of, index_of, strings};
 use crate::index::reading::EMPTY;
+use cs_fakes::{Files, ONE_FILE, builder_of, index_of, strings};
 use cs_index::{BuildFault, Builder};
 use cs_output::Output;
 use std::alloc::{AllocError, Global};
@@ -51,7 +51,7 @@ const DELTAS: &[u8] = b"abc\x02\x05\x01\x01\0\xff\xff\xff\0";
 
 #[test]
 fn rows_are_encoded(rt: HostRuntime) {
-    assert!(rt; writes_one(rt.alloc(), ROW) == Ok(true));
+    assert!(rt; writes_one(rt.alloc(), ONE_FILE) == Ok(true));
     assert!(rt; writes(rt.alloc(), "/a", &[], 65, 0, EMPTY));
     assert!(rt; writes(rt.alloc(), "/t", SAME, 65 + 45 + 8 + 36 + 11, 66, DELTAS));
 }

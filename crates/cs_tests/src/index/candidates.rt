@@ -1,5 +1,5 @@
 // The candidates of queries: worked examples.
-use crate::fixtures::{Files, ROW, UNSORTED, changed, index_of, number};
+use cs_fakes::{Files, ONE_FILE, UNSORTED, changed, index_of, number};
 use cs_index::{Index, IndexFault, StoredIndex};
 use cs_tree::MemStore;
 use cs_trigram::Query;
@@ -130,7 +130,7 @@ fn reports_damage(alloc: Global, index: &Index<'_>) -> Result<bool, AllocError> 
 
 #[test]
 fn damage_is_detected(rt: HostRuntime) -> Result<(), Fail> {
-    let bytes = changed(ROW, &[(59, 0x02)]);
+    let bytes = changed(ONE_FILE, &[(59, 0x02)]);
     let index = Index::open(&bytes)?;
     assert!(rt; reports_damage(rt.alloc(), &index) == Ok(true));
     Ok(())
@@ -172,8 +172,8 @@ fn agree(alloc: Global, bytes: &[u8]) -> Result<bool, Fail> {
 #[test]
 fn bytes_of_a_store_are_altered(rt: HostRuntime) -> Result<(), Fail> {
     for byte in [0, 1, 2, 5, 0x7f, 0x80, 0xff] {
-        for at in 0..ROW.len() {
-            let bytes = changed(ROW, &[(at, byte)]);
+        for at in 0..ONE_FILE.len() {
+            let bytes = changed(ONE_FILE, &[(at, byte)]);
             assert!(rt; agree(rt.alloc(), &bytes)?, "{byte} at {at}");
         }
         for at in 0..UNSORTED.len() {
@@ -187,7 +187,7 @@ fn bytes_of_a_store_are_altered(rt: HostRuntime) -> Result<(), Fail> {
 /// An entry counts 2^32 - 1 ids.
 #[test]
 fn the_largest_count(rt: HostRuntime) -> Result<(), Fail> {
-    let bytes = changed(ROW, &[(56, 0xff), (57, 0xff), (58, 0xff), (59, 0xff)]);
+    let bytes = changed(ONE_FILE, &[(56, 0xff), (57, 0xff), (58, 0xff), (59, 0xff)]);
     let index = Index::open(&bytes)?;
     let query = Query::Tri(number(b"abc"));
     assert!(rt; index.count(number(b"abc")) == u32::MAX);

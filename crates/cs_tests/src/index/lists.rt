@@ -1,7 +1,5 @@
 // The posting lists of a store, read through one buffer, and those of the same index in memory.
-ghost use Rattle.std.specs.Prelude.{◌≡◌, ◌≤◌, length};
-
-use crate::fixtures::{ROW, UNSORTED, changed, strings};
+use cs_fakes::{ChangingStore, ONE_FILE, UNSORTED, changed, one_file_until, strings};
 use cs_index::{Builder, Index, IndexFault, ListBuffer, Postings, StoredTables};
 use cs_tree::{IoFault, MemStore, Store};
 use std::alloc::Global;
@@ -96,7 +94,7 @@ const DAMAGE: &[&[(usize, u8)]] = &[
 fn damaged_lists(rt: HostRuntime) -> Result<(), Fail> {
     assert!(rt; reads_lists(rt.alloc(), UNSORTED, 5, 0)?);
     for changes in DAMAGE {
-        let bytes = changed(ROW, changes);
+        let bytes = changed(ONE_FILE, changes);
         for least in [0, 3, 1 << 18] {
             let same = reads_lists(rt.alloc(), &bytes, 4, least)?;
             assert!(rt; same, "at {changes:?}, {least}");
@@ -105,48 +103,11 @@ fn damaged_lists(rt: HostRuntime) -> Result<(), Fail> {
     Ok(())
 }
 
-/// The bytes of `ROW` for some reads; then each read fails.
-#[derive(Drop)]
-pub(crate) struct Failing {
-    pub(crate) reads: usize,
-    pub(crate) failed: u64,
-}
-
-impl Store for Failing {
-    ghost size = { λ _. 122 };
-
-    ghost failed = { λ s. s.failed };
-
-    fn len(&self) -> usize {
-        ROW.len()
-    }
-
-    fn read_at(&mut self, buf: &mut [u8], at: usize) -> Result<usize, IoFault> {
-        if self.reads == 0 {
-            self.failed = self.failed.saturating_add(1);
-            return Err(IoFault::Failed);
-        }
-        self.reads -= 1;
-        Ok(fill(buf, ROW.get(at..).unwrap_or(b"")))
-    }
-
-    fn failures(&self) -> u64 {
-        self.failed
-    }
-}
-
-/// Fills the buffer with a prefix of the bytes, and returns its length.
-fn fill(buf: &mut [u8], bytes: &[u8]) -> usize
-    ensures len { length buf.new ≡ length buf.old }
-    ensures within { result ≤ length buf.new }
-{
-    let n = buf.len().min(bytes.len());
-    buf[..n].copy_from_slice(&bytes[..n]);
-    n
-}
-
-/// Reads the first list of `ROW`. Returns whether its ids are 0 and the end.
-fn first_list(alloc: Global, store: &mut Failing) -> Result<Result<bool, IndexFault>, IoFault> {
+/// Reads the first list of `ONE_FILE`. Returns whether its ids are 0 and the end.
+fn first_list(
+    alloc: Global,
+    store: &mut ChangingStore<'_>,
+) -> Result<Result<bool, IndexFault>, IoFault> {
     let tables = match StoredTables::open(alloc, store)? {
         Ok(tables) => tables,
         Err(fault) => return Ok(Err(fault)),
@@ -163,7 +124,7 @@ const READS: usize = 14;
 #[test]
 fn reads_that_fail(rt: HostRuntime) {
     for reads in 0..READS {
-        let mut store = Failing { reads, failed: 0 };
+        let mut store = one_file_until(reads, None);
         let answer = first_list(rt.alloc(), &mut store);
         assert!(rt; answer == Err(IoFault::Failed), "after {reads}");
         assert!(rt; store.failures() == 1, "after {reads}");
@@ -172,9 +133,6 @@ fn reads_that_fail(rt: HostRuntime) {
 
 #[test]
 fn enough_reads(rt: HostRuntime) {
-    let mut store = Failing {
-        reads: READS,
-        failed: 0,
-    };
+    let mut store = one_file_until(READS, None);
     assert!(rt; first_list(rt.alloc(), &mut store) == Ok(Ok(true)));
 }

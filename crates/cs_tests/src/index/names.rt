@@ -1,5 +1,5 @@
 // The names of a stored index by their ids, in any order.
-use crate::fixtures::strings;
+use cs_fakes::strings;
 use cs_index::{Builder, StoredIndex};
 use cs_tree::MemStore;
 use std::alloc::{AllocError, Global};

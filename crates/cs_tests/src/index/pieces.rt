@@ -1,5 +1,5 @@
 // Posting lists that are longer than a piece, by an index in memory and by a store with short reads.
-use crate::fixtures::{number, strings};
+use cs_fakes::{number, strings};
 use cs_index::{Builder, Index, IndexFault, StoredIndex};
 use cs_tree::MemStore;
 use cs_trigram::Query;

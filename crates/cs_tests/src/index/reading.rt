@@ -1,5 +1,5 @@
 // The reader: worked examples.
-use crate::fixtures::{ROW, UNSORTED, changed};
+use cs_fakes::{ONE_FILE, UNSORTED, changed};
 use cs_index::{Index, IndexFault, Postings, Texts};
 
 /// An index of the path `/a` and no name.
@@ -113,7 +113,7 @@ fn opens_so(bytes: &[u8], want: &Wanted) -> bool {
     }
 }
 
-/// Changed bytes of `ROW`, and the error that they cause. Paths come before names.
+/// Changed bytes of `ONE_FILE`, and the error that they cause. Paths come before names.
 const CHANGES: &[(&[(usize, u8)], Option<IndexFault>)] = &[
     (&[(0, 0x00)], Some(IndexFault::BadMagic)),
     (&[(121, 0x00)], Some(IndexFault::BadTrailer)),
@@ -135,13 +135,13 @@ const CHANGES: &[(&[(usize, u8)], Option<IndexFault>)] = &[
 #[test]
 fn changed_bytes_are_rejected(rt: HostRuntime) {
     for (changes, want) in CHANGES {
-        let bytes = changed(ROW, changes);
+        let bytes = changed(ONE_FILE, changes);
         assert!(rt; Index::open(&bytes).err() == *want, "at {changes:?}");
     }
 }
 
-/// The answers of `ROW`.
-const ONE_FILE: Wanted<'static> = Wanted {
+/// The answers of `ONE_FILE`.
+const ANSWERS: Wanted<'static> = Wanted {
     paths: &["/a"],
     names: &["/a/x"],
     in_order: true,
@@ -153,8 +153,8 @@ const ONE_FILE: Wanted<'static> = Wanted {
 fn some_bytes_may_be_anything(rt: HostRuntime) {
     for offset in [41, 52] {
         for byte in 0..=255 {
-            let bytes = changed(ROW, &[(offset, byte)]);
-            assert!(rt; opens_so(&bytes, &ONE_FILE), "{byte} at {offset}");
+            let bytes = changed(ONE_FILE, &[(offset, byte)]);
+            assert!(rt; opens_so(&bytes, &ANSWERS), "{byte} at {offset}");
         }
     }
 }
@@ -197,9 +197,9 @@ fn first_three(ids: Postings) -> [Option<Result<u32, IndexFault>>; 3] {
     [ids.next(), ids.next(), ids.next()]
 }
 
-/// The first three answers of the list of `abc` in `ROW`, with another byte at the offset.
+/// The first three answers of the list of `abc` in `ONE_FILE`, with another byte at the offset.
 fn damaged(offset: usize, byte: u8) -> Option<[Option<Result<u32, IndexFault>>; 3]> {
-    let bytes = changed(ROW, &[(offset, byte)]);
+    let bytes = changed(ONE_FILE, &[(offset, byte)]);
     let index = Index::open(&bytes).ok()?;
     Some(first_three(index.postings(0x616263)?))
 }
@@ -222,7 +222,7 @@ fn fault_of_prefix(end: usize) -> IndexFault {
 
 #[test]
 fn prefixes_are_rejected(rt: HostRuntime) {
-    for bytes in [ROW.as_slice(), UNSORTED, EMPTY] {
+    for bytes in [ONE_FILE.as_slice(), UNSORTED, EMPTY] {
         for end in 0..bytes.len() {
             assert!(rt;
                 Index::open(&bytes[..end]).err() == Some(fault_of_prefix(end)),

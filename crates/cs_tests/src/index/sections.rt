@@ -1,5 +1,5 @@
 // Sections that are longer than a piece or damaged, opened in memory and from a store with short reads.
-use crate::fixtures::{ROW, strings};
+use cs_fakes::{ONE_FILE, strings};
 use cs_index::{Builder, Index, IndexFault, StoredIndex};
 use cs_tree::MemStore;
 use std::alloc::Global;
@@ -132,14 +132,14 @@ fn damage_in_later_pieces(rt: HostRuntime) -> Result<(), Fail> {
 /// Each prefix of an index, and each index with another byte, is answered alike.
 #[test]
 fn damaged_bytes(rt: HostRuntime) -> Result<(), Fail> {
-    for len in 0..ROW.len() {
+    for len in 0..ONE_FILE.len() {
         for step in [1, 7, 128] {
-            assert!(rt; agree(rt.alloc(), &ROW[..len], step)?, "{len}");
+            assert!(rt; agree(rt.alloc(), &ONE_FILE[..len], step)?, "{len}");
         }
     }
-    for at in 0..ROW.len() {
+    for at in 0..ONE_FILE.len() {
         for byte in [0, 1, 5, b'/', b'a', 0x80, 0xff] {
-            let mut bytes = *ROW;
+            let mut bytes = *ONE_FILE;
             bytes[at] = byte;
             assert!(rt; agree(rt.alloc(), &bytes, 7)?, "{at} {byte}");
         }

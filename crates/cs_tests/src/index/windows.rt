@@ -1,5 +1,5 @@
 // Windows of ids that begin at the ids of the rarest list.
-use crate::fixtures::{number, strings};
+use cs_fakes::{number, strings};
 use cs_index::{Builder, Index, StoredIndex};
 use cs_tree::MemStore;
 use cs_trigram::Query;

@@ -2,8 +2,8 @@
 ghost use Rattle.std.specs.Prelude.{◌≡◌, true};
 ghost use Rattle.cs_tree.specs.Cover.{is_absolute};
 
-use crate::fixtures::{spaced, strings, tree_of};
-use cs_fakes::{Item, MemTree, PutFault};
+use crate::fixtures::{spaced, tree_of};
+use cs_fakes::{Item, MemTree, PutFault, strings};
 use cs_tree::{
     DiskTree, IoFault, Kind, PathFault, Sink, Source, StdSink, StdSource, Tree, TreeFault,
     TreeReader, clean, covers, is_normalized, reduce,

@@ -1,6 +1,6 @@
 // Walks over trees in memory, and over trees that fail.
-use crate::fixtures::{bytes_of, spaced, strings, tree_of};
-use cs_fakes::{Item, MemTree, PutFault};
+use crate::fixtures::{bytes_of, spaced, tree_of};
+use cs_fakes::{Item, MemTree, PutFault, strings};
 use cs_tree::{Kind, Listing, Tree, TreeFault, WalkFault, Walked, walk};
 use std::alloc::{AllocError, Global};
 use std::test::*;

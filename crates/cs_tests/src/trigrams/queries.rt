@@ -1,5 +1,5 @@
 // The queries of patterns.
-use crate::fixtures::number;
+use cs_fakes::number;
 use cs_syntax::parse;
 use cs_trigram::{Query, query};
 use std::alloc::{AllocError, Global};

@@ -1,5 +1,6 @@
 // Scans: examples whose results are known independently, with reads of one byte or of several.
-use crate::fixtures::{by_chance, number};
+use crate::fixtures::by_chance;
+use cs_fakes::number;
 use cs_tree::MemSource;
 use cs_trigram::{Reason, Scan, ScanFault, Scanner};
 use std::alloc::{AllocError, Global};

@@ -1,8 +1,8 @@
 // Searches of an index.
 use crate::desk::Step::{Cut, Denied, File, Folder, Index, Job, Remove, Search};
 use crate::desk::{DONE, MATCHED, NO_MATCH, Step, has_reports};
-use crate::fixtures::ONE_FILE;
 use cs_args::ToolFault;
+use cs_fakes::ONE_FILE;
 use cs_search::Status;
 use cs_syntax::{PatternError, PatternFault};
 use std::test::Fail;

@@ -1,8 +1,8 @@
 // Indexes of small trees, byte for byte, and failing jobs.
 use crate::desk::Step::{Cut, File, Folder, Index, Job, Left, Other, Search};
 use crate::desk::{DONE, MATCHED, NO_MATCH, Step, has_reports};
-use crate::fixtures::{ONE_FILE, UNSORTED};
 use cs_args::{CindexFault, Reply, ToolFault};
+use cs_fakes::{ONE_FILE, UNSORTED};
 use cs_index::IndexFault;
 use std::test::Fail;
 

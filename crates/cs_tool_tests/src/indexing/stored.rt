@@ -1,8 +1,7 @@
 // The paths of a stored index, with a failing read.
 use crate::indexing::job_of;
-use crate::stores::row_until;
 use cs_cindex::cindex_stored;
-use cs_fakes::MemTree;
+use cs_fakes::{MemTree, one_file_until};
 use cs_tree::{IoFault, MemSink, Store};
 use std::alloc::Global;
 use std::test::Fail;
@@ -20,7 +19,7 @@ fn lists(
     failures: u64,
 ) -> Result<bool, Fail> {
     let job = job_of(alloc, &["-list"])?;
-    let mut store = Some(row_until(reads, None));
+    let mut store = Some(one_file_until(reads, None));
     let mut tree = MemTree::new(alloc, 1)?;
     let mut new = Vec::new(alloc);
     let mut out = MemSink::new(alloc, 1000);

@@ -1,6 +1,6 @@
 // Indexes that are written, read and merged.
-use crate::fixtures::{UNSORTED, strings};
 use crate::out_of_memory::{Outcome, at_most_one_fails};
+use cs_fakes::{UNSORTED, strings};
 use cs_index::{BuildFault, Builder, Index, IndexFault, StoredIndex};
 use cs_merge::{MergeFault, merge};
 use cs_tree::{IoFault, MemStore};

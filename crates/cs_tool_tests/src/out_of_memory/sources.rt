@@ -1,7 +1,7 @@
 // Paths, trees, sinks and stores.
-use crate::fixtures::{TreeItem, item_of, strings};
+use crate::fixtures::{TreeItem, item_of};
 use crate::out_of_memory::{Outcome, at_most_one_fails};
-use cs_fakes::{MemTree, PutFault};
+use cs_fakes::{MemTree, PutFault, strings};
 use cs_tree::{
     DiskTree, IoFault, Kind, MemSink, MemStore, PathFault, Sink, Tree, TreeFault, clean, read_part,
     reduce, walk,

@@ -1,8 +1,7 @@
 // Searches of a stored index, with a failing read, or with bytes that change during the reads.
-use crate::fixtures::{ONE_FILE, UNSORTED, args_of, tree_of};
-use crate::stores::{Changing, row_until};
+use crate::fixtures::{args_of, tree_of};
 use cs_args::{Job, SearchJob, Tool, ToolFault, read_words};
-use cs_fakes::{MemTree, PutFault};
+use cs_fakes::{ChangingStore, MemTree, ONE_FILE, PutFault, UNSORTED, one_file_until};
 use cs_index::StoredIndex;
 use cs_search::{Status, csearch_stored};
 use cs_tree::{IoFault, MemSink, Store};
@@ -29,7 +28,7 @@ fn tree(alloc: Global) -> Result<MemTree, PutFault> {
 fn run(
     alloc: Global,
     job: &SearchJob,
-    store: &mut Changing<'_>,
+    store: &mut ChangingStore<'_>,
     tree: &mut MemTree,
     out: &mut MemSink,
 ) -> Result<Answer, IoFault> {
@@ -42,7 +41,7 @@ fn run(
 fn search_stored(
     alloc: Global,
     args: &str,
-    store: &mut Changing<'_>,
+    store: &mut ChangingStore<'_>,
     out: &mut MemSink,
 ) -> Result<Result<Answer, IoFault>, Fail> {
     let job = job_of(alloc, args)?;
@@ -57,7 +56,7 @@ const READS: usize = 17;
 /// failure.
 fn fails(alloc: Global, reads: usize) -> Result<bool, Fail> {
     let mut out = MemSink::new(alloc, 1000);
-    let mut store = row_until(reads, None);
+    let mut store = one_file_until(reads, None);
     let answer = search_stored(alloc, "abc", &mut store, &mut out)?;
     Ok(answer == Err(IoFault::Failed) && out.bytes().is_empty() && store.failures() == 1)
 }
@@ -73,7 +72,7 @@ fn reads_that_fail(rt: HostRuntime) -> Result<(), Fail> {
 /// Whether a search with this number of reads prints the line of `ONE_FILE`, and counts no failure.
 fn matches_within(alloc: Global, reads: usize, args: &str) -> Result<bool, Fail> {
     let mut out = MemSink::new(alloc, 1000);
-    let mut store = row_until(reads, None);
+    let mut store = one_file_until(reads, None);
     let answer = search_stored(alloc, args, &mut store, &mut out)?;
     Ok(
         answer == Ok(Ok(Status::Matched))
@@ -95,7 +94,7 @@ fn enough_reads(rt: HostRuntime) -> Result<(), Fail> {
 /// Whether a search ends over a store that changes after this number of reads.
 fn ends(alloc: Global, reads: usize, then: &[u8]) -> Result<bool, Fail> {
     let mut out = MemSink::new(alloc, 1000);
-    let mut store = row_until(reads, Some(then));
+    let mut store = one_file_until(reads, Some(then));
     Ok(search_stored(alloc, "abc", &mut store, &mut out)?.is_ok())
 }
 

@@ -9,7 +9,7 @@ use Rattle.codesearch.proofs.call.Call.read.Goals as goal
 pub returns-clause-call : goal.returns-clause-call
 returns-clause-call c =
     let given = c.args.given.now in
-    let tool = c.in-Some-tool_named.tool in
+    let tool = c.in-Some.tool in
     let folder = c.in-Some-folder_for.folder.now in
     let args : map string_bytes c.in-Some.args.now ≡ tool_args given = search rules in
     let is : folder ≡ unwrap_or (absolute_folder given) [] = search rules in

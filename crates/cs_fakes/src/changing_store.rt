@@ -6,14 +6,14 @@ use cs_tree::{IoFault, Store};
 
 /// Bytes that change after some reads: then each read fails, or gives the bytes of `then`.
 #[derive(Drop)]
-pub struct Changing<'a> {
+pub struct ChangingStore<'a> {
     first: &'a [u8],
     then: Option<&'a [u8]>,
     reads: usize,
     failed: u64,
 }
 
-impl<'a> Store for Changing<'a> {
+impl<'a> Store for ChangingStore<'a> {
     ghost size = { λ s. length s.first.now };
 
     ghost failed = { λ s. s.failed };
@@ -51,9 +51,10 @@ fn fill(buf: &mut [u8], bytes: &[u8]) -> usize
     n
 }
 
-/// `ONE_FILE` for this number of reads.
-pub fn row_until(reads: usize, then: Option<&[u8]>) -> Changing<'_> {
-    Changing {
+/// A store with the bytes of `ONE_FILE` for this number of reads; then each read fails, or gives the
+/// bytes of `then`.
+pub fn one_file_until(reads: usize, then: Option<&[u8]>) -> ChangingStore<'_> {
+    ChangingStore {
         first: ONE_FILE,
         then,
         reads,

@@ -1,6 +1,5 @@
 // The merge of two indexes: worked examples.
-use crate::fixtures::{Files, ROW, UNSORTED, changed, index_of};
-use crate::index::lists::Failing;
+use cs_fakes::{ChangingStore, Files, ONE_FILE, UNSORTED, changed, index_of, one_file_until};
 use cs_index::{Index, IndexFault, StoredTables};
 use cs_merge::{
     MergeFault, is_replaced, is_replaced_stored, is_whole_stored, merge, merge_stored,
@@ -157,7 +156,7 @@ fn errors_are_reported(rt: HostRuntime) -> Result<(), Fail> {
     // names in any order, under no path
     let unsorted_outside = changed(UNSORTED, &[(17, b'c')]);
     // a damaged list whose ids are all dropped
-    let damaged = changed(ROW, &[(59, 2)]);
+    let damaged = changed(ONE_FILE, &[(59, 2)]);
     let bad = MergeFault::Index(IndexFault::BadList);
     for (old, newer, fault) in [
         (empty.as_slice(), outside.as_slice(), MergeFault::Uncovered),
@@ -235,7 +234,7 @@ fn damage_is_found_in_each_list(rt: HostRuntime) {
         (39, false),
         (40, false),
     ] {
-        let bytes = changed(ROW, &[(offset, if offset == 0 { b'c' } else { 2 })]);
+        let bytes = changed(ONE_FILE, &[(offset, if offset == 0 { b'c' } else { 2 })]);
         assert!(rt; is_whole(rt.alloc(), &bytes) == Some(want), "{offset}");
     }
 }
@@ -248,7 +247,7 @@ fn damage_goes_before_the_limit(rt: HostRuntime) -> Result<(), Fail> {
         (29, MergeFault::Index(IndexFault::BadList)),
         (39, MergeFault::Index(IndexFault::BadList)),
     ] {
-        let old = changed(ROW, &[(offset, if offset == 0 { b'c' } else { 2 })]);
+        let old = changed(ONE_FILE, &[(offset, if offset == 0 { b'c' } else { 2 })]);
         assert!(rt;
             merge_limited(rt.alloc(), 0, &old, &newer).err() == Some(want),
             "{offset}"
@@ -307,7 +306,7 @@ fn stored_indexes_merge_alike(rt: HostRuntime) -> Result<(), Fail> {
             }
         }
         for offset in [28, 29, 39] {
-            let old = changed(ROW, &[(offset, 2)]);
+            let old = changed(ONE_FILE, &[(offset, 2)]);
             for most in [0, u32::MAX] {
                 assert!(rt;
                     merges_alike(rt.alloc(), most, 1 << 20, &old, newer)?,
@@ -322,7 +321,7 @@ fn stored_indexes_merge_alike(rt: HostRuntime) -> Result<(), Fail> {
 /// Merges the index of the store with a newer one.
 fn merge_failing(
     alloc: Global,
-    store: &mut Failing,
+    store: &mut ChangingStore<'_>,
     newer: &[u8],
 ) -> Result<Result<Sent, MergeFault>, IoFault> {
     let tables = match StoredTables::open(alloc, store)? {
@@ -342,15 +341,12 @@ const READS: usize = 14;
 fn merges_whose_reads_fail(rt: HostRuntime) -> Result<(), Fail> {
     let newer = index_of(rt.alloc(), &["/b"], &[("/b", b"abcd\n")]).ok_or("index")?;
     for reads in 0..READS {
-        let mut store = Failing { reads, failed: 0 };
+        let mut store = one_file_until(reads, None);
         let answer = merge_failing(rt.alloc(), &mut store, &newer);
         assert!(rt; answer.err() == Some(IoFault::Failed), "after {reads}");
         assert!(rt; store.failures() == 1, "after {reads}");
     }
-    let mut store = Failing {
-        reads: READS,
-        failed: 0,
-    };
+    let mut store = one_file_until(READS, None);
     assert!(rt; merge_failing(rt.alloc(), &mut store, &newer).is_ok_and(|index| index.is_ok()));
     Ok(())
 }

@@ -1,7 +1,7 @@
 // Each byte of an index set to each other value: opening, reading, querying and merging agree with
 // a reference reader.
 use crate::altered::plain::{Plain, Reads, decoded, has_damage};
-use crate::fixtures::{ROW, changed, number};
+use cs_fakes::{ONE_FILE, changed, number};
 use cs_index::{Index, IndexFault, Postings, Texts};
 use cs_merge::{MergeFault, merge};
 use cs_trigram::Query;
@@ -177,9 +177,9 @@ fn is_decoded(alloc: Global, bytes: &[u8]) -> Result<bool, Fail> {
 
 #[test]
 fn each_byte_is_altered(rt: HostRuntime) -> Result<(), Fail> {
-    for offset in 0..ROW.len() {
+    for offset in 0..ONE_FILE.len() {
         for byte in 0..=255 {
-            let bytes = changed(ROW, &[(offset, byte)]);
+            let bytes = changed(ONE_FILE, &[(offset, byte)]);
             assert!(rt; is_decoded(rt.alloc(), &bytes)?, "{byte} at {offset}");
         }
     }

@@ -1,5 +1,5 @@
 // A reference reader of an index: docs/FORMAT.md, "The index as it is read".
-use crate::fixtures::number;
+use cs_fakes::number;
 use cs_index::IndexFault;
 use std::str::from_utf8;
 

@@ -18,18 +18,19 @@ help:
 	@echo 'make dist deb   makes an archive for each Linux on x86-64, and a Debian package, in the folder dist'
 	@echo 'make quick      the pages, names and types of all crates, and the end-to-end tests on the built program: minutes'
 	@echo 'make test       all tests, those of the libraries and those of the built program: a quarter of an hour'
-	@echo 'make check      the gate: every proof from nothing, the mutants of must-fail/, and all tests: an hour or two'
+	@echo 'make check      the gate: every proof from nothing, the mutants of must-fail/*.edit, and all tests: an hour or two'
 	@echo "make mutants    judges each mutant by itself (also make wrong): hours; CRATES='cs_tree cs_index/NAME' gives some"
 	@echo 'make trusted    what has to be read to believe the contracts of the tools'
 	@echo 'make bench      measures the tools beside their peers over a tree of files: TREE=/usr/src'
 
 check:
 	rt ci
+	scripts/stamps.py
 	@$(MAKE) --silent --no-print-directory program lib
-	@$(MAKE) --silent --no-print-directory run-tests
+	@$(MAKE) --no-print-directory run-tests
 
 # The cheap ones first.
-quick: pages names $(program)
+quick: pages names $(program) models
 	tests/shell/end_to_end.sh $(program)
 	tests/shell/manual.sh $(program)
 
@@ -40,18 +41,22 @@ pages:
 	tests/shell/docs.py
 	scripts/trusted.py -q --check
 
-# Names and types of all crates.
+# Names and types of all crates, of those that changed since they last passed.
 .PHONY: names
 names:
-	@for crate in $$(sed -n 's/[ :].*//p' crates.txt); do \
-	    (cd crates/$$crate && rt check --only= > /tmp/quick.$$$$ 2>&1) || { cat /tmp/quick.$$$$; rm -f /tmp/quick.$$$$; exit 1; }; \
-	    rm -f /tmp/quick.$$$$; \
-	done
+	scripts/names.py
+
+# Names the bodies whose models are above 4 MB. A check makes each in one piece, while all else waits for it.
+.PHONY: models
+models:
+	@find crates/*/out/incremental -name '*.Lts.oantt' -size +4096k -printf 'to split, its model has %k KB: %f\n'
 
 test: $(program) $(library)
+	cd crates/cs_pattern_tests && rt test
 	cd crates/cs_tests && rt test
+	cd crates/cs_merge_tests && rt test
 	cd crates/cs_tool_tests && rt test
-	@$(MAKE) --silent --no-print-directory run-tests
+	@$(MAKE) --no-print-directory run-tests
 
 # The tests of the pages and of the built program.
 .PHONY: run-tests
@@ -99,17 +104,25 @@ $(library): $(sources) include/codesearch.h
 bench: $(program)
 	@scripts/bench.sh $(program) "$(TREE)"
 
+# The program for newer processors, which install.sh takes if it runs here. V3= leaves it out.
+v3 = $(program)-v3
+V3 = $(shell grep -qsw avx2 /proc/cpuinfo && echo 1)
+
+$(v3): $(program) $(object)
+	@echo 'codesearch: the program for x86-64-v3 is compiled, over what is proved' >&2
+	@scripts/v3.sh
+
 # One script installs and uninstalls.
-install: $(program) $(library)
-	@PROGRAM=$(program) LIBRARY=$(dir $(library)) LIBDIR=$(LIBDIR) DESTDIR=$(DESTDIR) scripts/install.sh "$(PREFIX)"
+install: $(program) $(library) $(if $(V3),$(v3))
+	@V3=$(V3) PROGRAM=$(program) LIBRARY=$(dir $(library)) LIBDIR=$(LIBDIR) DESTDIR=$(DESTDIR) scripts/install.sh "$(PREFIX)"
 
 uninstall:
 	@LIBDIR=$(LIBDIR) DESTDIR=$(DESTDIR) scripts/install.sh -u "$(PREFIX)"
 
 # An archive and a Debian package in the folder DIST.
 DIST ?= dist
-dist: $(object) $(library)
-	@V3=1 scripts/dist.sh "$(DIST)"
+dist: $(object) $(library) $(v3)
+	@scripts/dist.sh "$(DIST)"
 
-deb: $(program) $(library)
+deb: $(program) $(library) $(v3)
 	@scripts/deb.sh "$(DIST)"

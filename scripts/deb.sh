@@ -11,7 +11,23 @@ maintainer='The codesearch authors <codesearch@example.org>'
 strip -o "$fresh/codesearch" crates/codesearch/out/codesearch
 libdir=lib/x86_64-linux-gnu
 PROGRAM=$fresh/codesearch LIBRARY=out/lib LIBDIR=$libdir DESTDIR=$root scripts/install.sh /usr
-sed -i 's|^exec "/usr/bin/codesearch"|exec /usr/bin/codesearch|' "$root/usr/bin/cindex" "$root/usr/bin/csearch" "$root/usr/bin/cgrep"
+if [ -n "$newer" ]; then
+    # /usr/bin/codesearch leads to one of both programs: postinst chooses.
+    programs=usr/libexec/codesearch
+    mkdir -p "$root/$programs" "$root/DEBIAN"
+    mv "$root/usr/bin/codesearch" "$root/$programs/codesearch"
+    strip -o "$root/$programs/codesearch-v3" crates/codesearch/out/codesearch-v3
+    ln -s "../libexec/codesearch/codesearch" "$root/usr/bin/codesearch"
+    cat > "$root/DEBIAN/postinst" <<'END'
+#!/bin/sh
+set -e
+program=/usr/libexec/codesearch/codesearch-v3
+status=0
+$program cgrep x < /dev/null > /dev/null 2>&1 || status=$?
+[ $status != 1 ] || ln -sf ../libexec/codesearch/codesearch-v3 /usr/bin/codesearch
+END
+    chmod 755 "$root/DEBIAN/postinst"
+fi
 # Debian's shells look for what packages bring in folders of their own.
 mkdir -p "$root/usr/share/zsh/vendor-completions"
 mv "$root/usr/share/zsh/site-functions/_codesearch" "$root/usr/share/zsh/vendor-completions"
@@ -52,7 +68,8 @@ $package: no-symbols-control-file *
 $package: non-dev-pkg-with-shlib-symlink *
 END
 
-mkdir "$root/DEBIAN"
+cp docs/USE.md "$doc/USE.md"
+mkdir -p "$root/DEBIAN"
 printf '/etc/emacs/site-start.d/50%s.el\n' $package > "$root/DEBIAN/conffiles"
 if [ -f "$root/usr/$libdir/libcodesearch.a" ]; then
     printf 'libcodesearch %s %s (>= %s)\n' "${version%%.*}" $package "$version" > "$root/DEBIAN/shlibs"

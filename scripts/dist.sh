@@ -2,8 +2,7 @@
 # Makes the archive of the built program: a static program for each Linux on x86-64, a faster one for newer processors
 # if the toolchain makes it, the tools, the library for C and Rust if it is built, manual, completions, editor files, and
 # install.sh. Two builds give the same bytes.
-# usage: scripts/dist.sh FOLDER    the archive is FOLDER/codesearch-VERSION-linux-x86_64.tar.xz
-# V3=1 also builds the program for newer processors (x86-64-v3), which install.sh chooses if it runs.
+# usage: scripts/dist.sh FOLDER    the archive is FOLDER/codesearch-VERSION-linux-x86_64.tar.gz
 
 . "$(dirname -- "$0")/release.sh"
 name=codesearch-$version-linux-x86_64
@@ -18,15 +17,8 @@ statically() {
 }
 
 statically crates/codesearch/out/codesearch.o "$top/bin/codesearch"
-if [ -n "$V3" ]; then
-    # rt writes this program where the other one is.
-    out_folder=crates/codesearch/out
-    mkdir "$fresh/kept"
-    cp -p $out_folder/codesearch $out_folder/codesearch.o $out_folder/codesearch.stamp "$fresh/kept"
-    trap 'cp -p "$fresh"/kept/* crates/codesearch/out; rm -rf "$fresh"' EXIT
-    (cd crates/codesearch && printf '\n' | rt run --cpu x86-64-v3 -- cgrep '^$' > /dev/null 2>&1)
-    statically $out_folder/codesearch.o "$top/bin/codesearch-v3"
-fi
+# install.sh chooses this one if it runs.
+[ -z "$newer" ] || statically crates/codesearch/out/codesearch-v3.o "$top/bin/codesearch-v3"
 cp bin/cs "$top/bin/cs"
 library=out/lib
 if [ -f "$library/libcodesearch.a" ]; then
@@ -41,9 +33,9 @@ mkdir "$top/man" "$top/completion" "$top/editors"
 cp man/*.[157] "$top/man"
 cp completion/* "$top/completion"
 cp editors/* "$top/editors"
-cp LICENSE NOTICE VERSION CHANGELOG.md README.md scripts/install.sh "$top"
+cp LICENSE NOTICE VERSION CHANGELOG.md README.md docs/USE.md scripts/install.sh "$top"
 find "$top" -type d -exec chmod 755 {} +
 find "$top" -type f -exec chmod 644 {} +
 chmod 755 "$top"/bin/* "$top/install.sh"
-tar -C "$fresh" --sort=name --owner=0 --group=0 --numeric-owner --mtime="@$SOURCE_DATE_EPOCH" --format=ustar -cf - "$name" | xz -9 -T 1 > "$out/$name.tar.xz"
-printf '%s\n' "$out/$name.tar.xz"
+tar -C "$fresh" --sort=name --owner=0 --group=0 --numeric-owner --mtime="@$SOURCE_DATE_EPOCH" --format=ustar -cf - "$name" | gzip -9n > "$out/$name.tar.gz"
+printf '%s\n' "$out/$name.tar.gz"

@@ -42,20 +42,20 @@ put() {
     mv "$3.new" "$3"
 }
 
-# The program for newer processors (x86-64-v3) says by its status whether this is one.
+# The program for newer processors (x86-64-v3) says by its status whether this is one. V3= leaves it out.
 program=${PROGRAM:-$here/bin/codesearch}
-if [ -z "$PROGRAM" ] && [ -x "$here/bin/codesearch-v3" ]; then
+if [ -n "${V3-1}" ] && [ -x "$program-v3" ] && [ ! "$program-v3" -ot "$program" ]; then
     status=0
-    "$here/bin/codesearch-v3" cgrep x < /dev/null > /dev/null 2>&1 || status=$?
-    [ $status != 1 ] || program=$here/bin/codesearch-v3
+    "$program-v3" cgrep x < /dev/null > /dev/null 2>&1 || status=$?
+    [ $status != 1 ] || program=$program-v3
 fi
 install -d "$to/bin" "$bash" "$zsh" "$fish" "$vim" "$emacs"
 put 755 "$program" "$to/bin/codesearch"
 put 755 "$here/bin/cs" "$to/bin/cs"
+# The program is the tool whose name it is run by.
 for tool in $tools; do
     rm -f "$to/bin/$tool"
-    printf '#!/bin/sh\nexec "%s/bin/codesearch" %s "$@"\n' "$prefix" "$tool" > "$to/bin/$tool"
-    chmod 755 "$to/bin/$tool"
+    ln -s codesearch "$to/bin/$tool"
 done
 for name in codesearch cs $tools; do
     put 644 "$here/completion/codesearch.bash" "$bash/$name"

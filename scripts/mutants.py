@@ -3,6 +3,9 @@
 mutants has a line `# NAME` before each, and `rt ci` counts it as refused if one of them is.
 usage: scripts/mutants.py [CRATE | CRATE/NAME]..
 
+A verdict is kept in out/mutants, under a sum of the mutant and of the sources of its crate and of those below, and printed again as
+long as these stay as they are. So a run that was interrupted goes on where it was.
+
 A check reports for each function whether it is proved, and proves it from the contracts of the functions that it calls,
 whatever their bodies are. So one check judges many mutants, each by a function that it changes. Functions of a cycle are
 proved together, so their mutants get separate checks. A mutant that changes something else, as a definition, gets a check
@@ -13,6 +16,8 @@ A mutant is refused by a goal that stays open. A written answer that no longer f
 or another type, refuses nothing: the check is made again without that answer. The open goals of each refused mutant are printed. A
 goal is false if the check has found values at which it is, or if a person has read it and the mutant has a line `false: GOAL`; a
 mutant without a false goal has to be read. So has one of a definition, which some proof refuses."""
+import hashlib
+import json
 import re
 import shutil
 import subprocess
@@ -42,6 +47,7 @@ class Mutant:
 
     def __init__(self, crate, name, text):
         self.name, self.changes, self.false, path, old = name, [], set(), "", ""
+        self.sum = hashlib.sha256(text.encode()).hexdigest()
         for line in text.splitlines():
             if line.startswith("file: "):
                 path = line[6:]
@@ -99,13 +105,9 @@ def go_together(crate, chosen):
     return all(it.functions for it in chosen) and len({*proved}) == len(proved) and changed(crate, chosen) is not None
 
 
-def rounds(crate, wanted):
-    """The mutants of a crate, or the wanted ones, grouped by checks."""
+def rounds(crate, listed):
+    """These mutants of a crate, grouped by checks."""
     found = []
-    listed = [it for it in mutants(crate) if not wanted or it.name in wanted]
-    missing = wanted - {it.name for it in listed}
-    if missing:
-        sys.exit(f"{crate.name}: no mutant {', '.join(sorted(missing))}")
     for mutant in listed:
         chosen = next((it for it in found if go_together(crate, [*it, mutant])), None)
         if chosen:
@@ -145,6 +147,9 @@ def check(crate, chosen):
             (crate / path).unlink() if text is None else (crate / path).write_text(text)
         how = {"stdout": subprocess.PIPE, "stderr": subprocess.STDOUT, "text": True, "errors": "replace"}
         said = subprocess.run(["rt", "check"], cwd=crate, **how).stdout
+        # (a change that does not compile has no verdict, but an error)
+        if "\nlogic=" not in said and not re.search(r"^(\S+: )?error", said, re.M):
+            sys.exit(f"{crate.name}: a check ended early: {said[-300:]}")
         texts = {} if any(path.startswith("specs/") for path in kept) else fitting(crate, said)
         if not texts:
             break
@@ -178,20 +183,74 @@ def reasons(mutant, said, unfit, alone):
     return found
 
 
+class Verdicts:
+    """The verdicts that earlier runs kept, a file for each crate: the sum of a mutant and of all that it was judged with, its verdict
+    and its lines."""
+
+    def __init__(self, crate):
+        self.path = top / "out/mutants" / f"{crate.name}.json"
+        self.kept = json.loads(self.path.read_text()) if self.path.exists() else {}
+        self.sources = sources_sum(crate)
+
+    def key(self, mutant):
+        return hashlib.sha256(f"{self.sources}{mutant.name}{mutant.sum}".encode()).hexdigest()
+
+    def keep(self, mutant, verdict, lines):
+        self.kept[self.key(mutant)] = [verdict, *lines]
+        self.path.parent.mkdir(parents=True, exist_ok=True)
+        written = self.path.with_suffix(".new")
+        written.write_text(json.dumps(self.kept, indent=0))
+        written.replace(self.path)
+
+
+def crates(folder):
+    """The crates of crates.txt, each with those that it uses."""
+    lines = (folder / "crates.txt").read_text().splitlines()
+    return {it.split()[0].rstrip(":"): it.partition(":")[2].split() for it in lines if ":" in it}
+
+
+def sources_sum(crate, parts=("src", "specs", "proofs")):
+    """A sum of these parts of a crate and of those below it, of this script and of the toolchain."""
+    uses, names, left = crates(crate.parent.parent), set(), [crate.name]
+    while left:
+        name = left.pop()
+        if name in uses and name not in names:
+            names.add(name)
+            left += uses[name]
+    files = [it for name in names for part in parts for it in crate.parent.glob(f"{name}/{part}/**/*") if it.is_file()]
+    total = hashlib.sha256(subprocess.run(["rt", "version"], capture_output=True, check=True).stdout)
+    for path in [Path(__file__), *sorted(files)]:
+        total.update(f"{path.name} {path.stat().st_size}\n".encode() + path.read_bytes())
+    return total.hexdigest()
+
+
 def judge(crate, wanted):
     """Prints for mutants of a crate whether each is refused, and why, and returns how many have which verdict."""
-    if "\nlogic=proved" not in check(crate, [])[0]:
+    verdicts, counts = Verdicts(crate), Counter()
+
+    def tell(mutant, verdict, lines):
+        counts[verdict] += 1
+        print(f"{crate.name}: {mutant.name}: {verdict}", *lines, sep="\n    ", flush=True)
+
+    listed = [it for it in mutants(crate) if not wanted or it.name in wanted]
+    missing = wanted - {it.name for it in listed}
+    if missing:
+        sys.exit(f"{crate.name}: no mutant {', '.join(sorted(missing))}")
+    left = []
+    for mutant in listed:
+        known = verdicts.kept.get(verdicts.key(mutant))
+        tell(mutant, known[0], known[1:]) if known else left.append(mutant)
+    if left and "\nlogic=proved" not in check(crate, [])[0]:
         sys.exit(f"{crate.name} is not proved")
-    counts = Counter()
-    for chosen in rounds(crate, wanted):
+    for chosen in rounds(crate, left):
         said, unfit = check(crate, chosen)
         for mutant in chosen:
             found = reasons(mutant, said, unfit, len(chosen) == 1)
             if not found and len(chosen) > 1:
                 found = reasons(mutant, *check(crate, [mutant]), True)
             verdict = "refused" if any(found.values()) else "refused, to be read" if found else "NOT REFUSED"
-            counts[verdict] += 1
-            print(f"{crate.name}: {mutant.name}: {verdict}", *found, sep="\n    ", flush=True)
+            verdicts.keep(mutant, verdict, found)
+            tell(mutant, verdict, found)
     return counts
 
 

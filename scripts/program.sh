@@ -20,27 +20,49 @@ order=$(awk -F: -v target="$target" '
 total=$(echo "$order" | wc -l)
 number=0
 
-# step CRATE COMMAND: runs the command in the folder of the crate, and names the crate if it takes more than a moment
+# A process in the background does not hear Ctrl-C, so it is ended here, and the proof with it.
+running=
+stop() {
+    trap - INT TERM HUP
+    [ -z "$running" ] || kill "$running" 2> /dev/null
+    wait
+    exit "$1"
+}
+trap 'stop 130' INT
+trap 'stop 143' TERM HUP
+
+# step CRATE WORD..: runs rt with these words in the folder of the crate, and names the crate if it takes more than a moment
 step() {
-    mkdir -p "crates/$1/out"
-    log=crates/$1/out/build.log
-    (cd "crates/$1" && eval "$2") > "$log" 2>&1 &
+    crate=$1
+    shift
+    mkdir -p "crates/$crate/out"
+    log=crates/$crate/out/build.log
+    # (the line is what the built program searches)
+    (cd "crates/$crate" && echo > out/line && exec rt "$@" < out/line) > "$log" 2>&1 &
+    running=$!
     for _ in 1 2 3 4 5 6 7 8 9 10; do
         sleep 0.2
-        kill -0 $! 2> /dev/null || break
+        kill -0 $running 2> /dev/null || break
     done
-    if kill -0 $! 2> /dev/null; then
-        now=$(($(date +%s) - start))
-        printf 'codesearch: proving %s, %d of %d, %d:%02d so far\n' "$1" "$number" "$total" $((now / 60)) $((now % 60)) >&2
+    if kill -0 $running 2> /dev/null; then
+        printf 'codesearch: proving %s, %d of %d, %s so far\n' "$crate" "$number" "$total" "$(passed)" >&2
     fi
-    wait $! || { cat "$log" >&2; exit 1; }
+    wait $running || { cat "$log" >&2; exit 1; }
+    running=
+}
+
+# the time since the start
+passed() {
+    seconds=$(($(date +%s) - start))
+    printf '%d:%02d' $((seconds / 60)) $((seconds % 60))
 }
 
 for crate in $order; do
     number=$((number + 1))
     # The toolchain builds a program when it runs it; this search has a match.
     case $crate in
-        codesearch) step "$crate" "printf '\\n' | rt run -- cgrep '^\$'" ;;
-        *) step "$crate" 'rt lib' ;;
+        codesearch) step "$crate" run -- cgrep '^$' ;;
+        *) step "$crate" lib ;;
     esac
 done
+[ "$target" != codesearch ] || printf 'codesearch: proved and built in %s: crates/codesearch/out/codesearch\n' "$(passed)" >&2

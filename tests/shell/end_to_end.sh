@@ -104,6 +104,20 @@ try 0 '<standard input>:A\0008\n' '' "printf 'A\0008\nA8\n' | cgrep '^\101\08\$'
 # Letters past ASCII are not folded.
 try 0 '<standard input>:\303\251A\n' '' "printf '\303\211A\n\303\251A\n' | cgrep -i 'éa'"
 
+# ---- the tool by the name of the program -----------------------------------------------------------------------------
+mkdir named
+for name in cgrep csearch cindex grep cgrep2; do ln -s "$program" named/$name; done
+try 0 '<standard input>:ab\n' '' "named/cgrep -i AB < files/lines | head -n 1"
+same "named/cgrep -n b files/lines" "cgrep -n b files/lines"
+same "PATH=named command cgrep cgrep files/lines" "cgrep cgrep files/lines"
+same "named/csearch x" "csearch x"
+same "named/cindex -list" "cindex -list"
+try 0 '<standard input>:ab\n' '' "named/grep cgrep '^ab\$' < files/lines"
+try 2 '' 'codesearch: first word must be cindex, csearch or cgrep\n' "named/cgrep2 b < files/lines"
+try 2 '' 'cgrep: no pattern\n' "named/cgrep"
+try 2 '' 'cgrep: word 2 is not text\n' "named/cgrep b '$(printf '\377')'"
+try 2 '' 'cgrep: word 2 is not text\n' "cgrep b '$(printf '\377')'"
+
 # ---- errors ---------------------------------------------------------------------------------------------------------
 first='codesearch: first word must be cindex, csearch or cgrep\n'
 try 2 '' "$first" "codesearch"

@@ -10,7 +10,7 @@
 # ---- what is installed ----------------------------------------------------------------------------------------------
 prefix=$fresh/usr
 # The program is installed as it is, even if a source is newer.
-managed() { make -s -C "$root" -o "$program" program="$program" DESTDIR="$2" PREFIX="$prefix" "$1"; }
+managed() { make -s -C "$root" -o "$program" program="$program" DESTDIR="$2" PREFIX="$prefix" V3= "$1"; }
 pages=$(cd "$root/man" && ls)
 holds 'managed install'
 for page in $pages; do
@@ -137,11 +137,11 @@ fi
 # ---- uninstalling ---------------------------------------------------------------------------------------------------------
 holds 'managed uninstall'
 silent "find '$prefix' -type f"
-# The scripts contain PREFIX, so it has to be an absolute path.
-holds "! make -s -C '$root' -o '$program' program='$program' PREFIX=usr install && [ ! -e '$root/usr' ]"
+# pkg-config's file contains PREFIX, so it has to be an absolute path.
+holds "! make -s -C '$root' -o '$program' program='$program' PREFIX=usr V3= install && [ ! -e '$root/usr' ]"
 # A packager's folder: its content is to be moved to PREFIX.
 holds "managed install '$fresh/stage' && [ ! -e '$prefix/bin/codesearch' ] && [ -x '$fresh/stage$prefix/bin/codesearch' ]"
-holds "grep -q 'exec \"$prefix/bin/codesearch\" csearch' '$fresh/stage$prefix/bin/csearch'"
+holds "[ \"\$(readlink '$fresh/stage$prefix/bin/csearch')\" = codesearch ]"
 holds "managed uninstall '$fresh/stage'"
 silent "find '$fresh/stage' -type f"
 

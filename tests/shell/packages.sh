@@ -5,7 +5,7 @@
 
 . "$(dirname -- "$0")/library.sh"
 
-needs cc strip xz dpkg-deb pkg-config
+needs cc strip dpkg-deb pkg-config
 SOURCE_DATE_EPOCH=1790000000
 export SOURCE_DATE_EPOCH
 version=$(cat "$root/VERSION")
@@ -18,7 +18,7 @@ if [ -f "$root/crates/codesearch/out/codesearch.o" ]; then has_archive=1; else s
 
 if [ -n "$has_archive" ]; then
     holds "'$root/scripts/dist.sh' '$fresh/one' && '$root/scripts/dist.sh' '$fresh/two'"
-    same "one/$archive.tar.xz" "two/$archive.tar.xz"
+    same "one/$archive.tar.gz" "two/$archive.tar.gz"
 fi
 holds "'$root/scripts/deb.sh' '$fresh/one' && '$root/scripts/deb.sh' '$fresh/two'"
 same "one/$package" "two/$package"
@@ -40,9 +40,9 @@ for name in bin/codesearch bin/cs bin/cindex bin/csearch lib/libcodesearch.a lib
 done
 ln -s "$fresh/go/folder" "$fresh/linked/bin/cgrep"
 ln -s "$fresh/go/folder" "$fresh/linked/lib/libcodesearch.so"
-holds "cd '$root' && CDPATH=.:/ PROGRAM='$program' LIBRARY='$fresh/library' scripts/install.sh '$fresh/linked'"
+holds "cd '$root' && CDPATH=.:/ V3= PROGRAM='$program' LIBRARY='$fresh/library' scripts/install.sh '$fresh/linked'"
 holds "[ \"\$(cat '$fresh/go/file')\" = another ] && [ -z \"\$(ls -A '$fresh/go/folder')\" ]"
-holds "[ -z \"\$(find '$fresh/linked' -type l ! -name 'libcodesearch.so*')\" ]"
+holds "[ -z \"\$(find '$fresh/linked' -type l ! -name 'libcodesearch.so*' ! -lname codesearch)\" ]"
 holds "printf 'a\nmarker\n' | '$fresh/linked/bin/cgrep' -n marker | grep -q ':2:marker'"
 holds "[ \"\$(cat '$fresh/linked/lib/libcodesearch.so')\" = library ] && [ -s '$fresh/linked/lib/pkgconfig/codesearch.pc' ]"
 holds "PROGRAM='$fresh/linked/bin/codesearch' '$root/scripts/install.sh' '$fresh/linked' && cmp '$program' '$fresh/linked/bin/codesearch'"
@@ -64,7 +64,7 @@ uses() {
 # ---- a folder of this machine -----------------------------------------------------------------------------------------------
 mkdir -p "$fresh/unpacked/$archive"
 if [ -n "$has_archive" ]; then
-    tar -C "$fresh/unpacked" -xJf "$fresh/one/$archive.tar.xz"
+    tar -C "$fresh/unpacked" -xzf "$fresh/one/$archive.tar.gz"
     holds "[ \"\$(cd '$fresh/unpacked/$archive' && find . -type f | sort)\" = \"\$(cd '$fresh/unpacked/$archive' && find . -type f -readable | sort)\" ]"
     holds "'$fresh/unpacked/$archive/install.sh' '$fresh/usr'"
     holds "printf 'a\nmarker\n' | '$fresh/usr/bin/cgrep' -n marker | grep -q ':2:marker'"

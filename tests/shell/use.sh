@@ -14,10 +14,7 @@ PATH=$fresh_bin:$PATH
 export HOME PATH
 unset CSEARCHINDEX
 mkdir -p "$HOME/src/lib" "$HOME/src/c++ (old)" "$fresh_bin"
-for tool in cindex csearch cgrep; do
-    printf '#!/bin/sh\nexec "%s" %s "$@"\n' "$program" $tool > "$fresh_bin/$tool"
-    chmod 755 "$fresh_bin/$tool"
-done
+for tool in cindex csearch cgrep; do ln -s "$program" "$fresh_bin/$tool"; done
 cd "$HOME" || exit 2
 printf 'one\na marker here: 7:8\nthree\n' > src/a.c
 printf '\n\n\tanother marker\nmarker: 12: 3\n' > src/lib/b.c

@@ -11,7 +11,7 @@ sources = crates.txt $(shell find crates -type d \( -name out -o -name must-fail
 .PHONY: help check quick test wrong mutants trusted program lib bench install uninstall dist deb
 
 help:
-	@echo 'make program    proves the crates and builds crates/codesearch/out/codesearch: 15 to 40 minutes the first time'
+	@echo 'make program    proves the crates and builds crates/codesearch/out/codesearch: 20 minutes or more the first time'
 	@echo 'make lib        proves and builds the library for C and Rust: out/lib'
 	@echo 'make install    installs the tools, cs, the library, manual, completions and editor files under PREFIX (now $(PREFIX))'
 	@echo 'make uninstall  removes them'
@@ -85,7 +85,7 @@ trusted:
 program: $(program)
 
 $(program): $(sources)
-	@echo 'codesearch: the program is built; it is proved before, which takes 15 to 40 minutes the first time' >&2
+	@echo 'codesearch: the program is built; it is proved before, which takes 20 minutes or more the first time' >&2
 	@scripts/program.sh
 	@touch -c $(program) $(object)
 

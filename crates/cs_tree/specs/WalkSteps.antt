@@ -6,9 +6,11 @@ use Rattle.std.specs.List.{AllByRecursion}
 use Rattle.cs_tree.specs.Cover.{covers}
 use Rattle.cs_tree.specs.Clean.{longest_path}
 use Rattle.cs_tree.specs.Snapshot.{Snapshot, item_at}
+use Rattle.cs_tree.specs.ReadCounts.{ReadCounts}
+use Rattle.cs_tree.specs.Reads.{ReadsNothing}
 use Rattle.cs_tree.specs.Trees.{listing_names}
 use Rattle.cs_tree.specs.Reachability.{elements_under, is_excluded, descends}
-use Rattle.cs_tree.specs.Walks.{FaultEntry, path_fault, is_short_file, is_among, fault_paths, names_walked, faults_walked, failures_walked, is_failed_call, AreWithinPathLimit}
+use Rattle.cs_tree.specs.Walks.{FaultEntry, path_fault, is_short_file, is_among, fault_paths, names_walked, faults_walked, failures_walked, is_failed_call, AreWithinPathLimit, RequestsWithin}
 use Rattle.cs_tree.specs.declared.walking.Walked.{Walked}
 use Rattle.cs_tree.specs.declared.walking.WalkFault.{WalkFault}
 use Rattle.cs_tree.specs.declared.walking.WalkFault.TheVariants.{Unnamed}
@@ -126,6 +128,14 @@ CountsStatus status.File old new = new ≡ old
 CountsStatus (status.Folder listing) old new = new ≡ old
 CountsStatus status.Other old new = new ≡ old
 CountsStatus (status.Unreadable fault) old new = new ≡ count_if (is_failed_call fault) old
+
+-- Paths are looked up and folders listed: the tree stays as it is, its failure count does not fall, no requested path is
+-- longer than the limit, and no file is read.
+abbrev pub LooksUp : {T : Type 0} → (T → Option Snapshot) → (T → ℕ) → (T → Option ℕ) → (T → Option ReadCounts)
+    → T → T → Type 0
+LooksUp snapshot failed longest counts old new =
+    (snapshot new ≡ snapshot old) × (failed old ≤ failed new)
+    × RequestsWithin longest_path (longest old) (longest new) × ReadsNothing (counts old) (counts new)
 
 -- ---- pending paths
 

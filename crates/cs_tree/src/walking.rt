@@ -9,7 +9,7 @@ ghost use Rattle.cs_tree.specs.PathSet as set;
 ghost use Rattle.cs_tree.specs.Reachability.{reaches, is_reachable, is_excluded as is_excluded'};
 ghost use Rattle.std.specs.List.{AllByRecursion, ends_with};
 ghost use Rattle.cs_tree.specs.Cover.{covers, is_covered};
-ghost use Rattle.cs_tree.specs.WalkSteps.{GathersIn, AreFaultsDistinct, KeepsCount, KeepsTo, AddsFewFaults, IsStatusIn, CountsStatus, IsEntered, descends_to, is_file_seen, fault_seen, names_seen, children, named_if, fault_if, is_walked as is_walked', KeepsPathLimit};
+ghost use Rattle.cs_tree.specs.WalkSteps.{GathersIn, AreFaultsDistinct, KeepsCount, KeepsTo, AddsFewFaults, IsStatusIn, CountsStatus, IsEntered, LooksUp, descends_to, is_file_seen, fault_seen, names_seen, children, named_if, fault_if, is_walked as is_walked', KeepsPathLimit};
 
 use crate::cleaning::LONGEST_PATH;
 use crate::fault::TreeFault;
@@ -102,11 +102,7 @@ fn visit_all<T: Tree>(
     ensures counted { OnOk result
         (KeepsCount (T.failed tree.old) (T.failed tree.new) walked.old walked.new) }
     ensures once { OnOk result (AddsFewFaults (map string_bytes paths.now) walked.old walked.new) }
-    ensures rises { T.failed tree.old ≤ T.failed tree.new }
-    ensures requested { RequestsWithin longest_path
-        (T.longest_requested tree.old) (T.longest_requested tree.new) }
-    ensures counts { ReadsNothing (T.read_counts tree.old) (T.read_counts tree.new) }
-    ensures keeps { T.snapshot tree.new ≡ T.snapshot tree.old }
+    ensures tree { LooksUp T.snapshot T.failed T.longest_requested T.read_counts tree.old tree.new }
 {
     'paths: for path in paths {
         visit_named(alloc, tree, path.as_str(), walked)?;
@@ -128,11 +124,7 @@ fn visit_named<T: Tree>(
     ensures counted { OnOk result
         (KeepsCount (T.failed tree.old) (T.failed tree.new) walked.old walked.new) }
     ensures once { OnOk result (AddsFewFaults (path.now ∷ []) walked.old walked.new) }
-    ensures rises { T.failed tree.old ≤ T.failed tree.new }
-    ensures requested { RequestsWithin longest_path
-        (T.longest_requested tree.old) (T.longest_requested tree.new) }
-    ensures counts { ReadsNothing (T.read_counts tree.old) (T.read_counts tree.new) }
-    ensures keeps { T.snapshot tree.new ≡ T.snapshot tree.old }
+    ensures tree { LooksUp T.snapshot T.failed T.longest_requested T.read_counts tree.old tree.new }
 {
     if is_excluded(last_element(path)) {
         return Ok(());
@@ -155,11 +147,7 @@ fn visit<T: Tree>(
     ensures counted { OnOk result
         (KeepsCount (T.failed tree.old) (T.failed tree.new) walked.old walked.new) }
     ensures once { OnOk result (AddsFewFaults (string_bytes start ∷ []) walked.old walked.new) }
-    ensures rises { T.failed tree.old ≤ T.failed tree.new }
-    ensures requested { RequestsWithin longest_path
-        (T.longest_requested tree.old) (T.longest_requested tree.new) }
-    ensures counts { ReadsNothing (T.read_counts tree.old) (T.read_counts tree.new) }
-    ensures keeps { T.snapshot tree.new ≡ T.snapshot tree.old }
+    ensures tree { LooksUp T.snapshot T.failed T.longest_requested T.read_counts tree.old tree.new }
 {
     let mut pending = Vec::new(alloc);
     pending.push(start)?;
@@ -177,11 +165,7 @@ fn stat_path<T: Tree>(alloc: Global, tree: &mut T, path: &str) -> Result<PathSta
     ensures entered { IfOk result (λ status. IsEntered path.now status) }
     ensures counted { IfOk result
         (λ status. CountsStatus status (T.failed tree.old) (T.failed tree.new)) }
-    ensures rises { T.failed tree.old ≤ T.failed tree.new }
-    ensures requested { RequestsWithin longest_path
-        (T.longest_requested tree.old) (T.longest_requested tree.new) }
-    ensures counts { ReadsNothing (T.read_counts tree.old) (T.read_counts tree.new) }
-    ensures keeps { T.snapshot tree.new ≡ T.snapshot tree.old }
+    ensures tree { LooksUp T.snapshot T.failed T.longest_requested T.read_counts tree.old tree.new }
 {
     if path.len() > LONGEST_PATH {
         return Ok(PathStatus::Unreadable(WalkFault::TooLong));

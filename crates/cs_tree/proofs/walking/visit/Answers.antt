@@ -1,9 +1,8 @@
-use Rattle.std.proofs.Common.{rules, ◌≡◌, [], ◌∷◌, ◌++◌, map, refl, arith, sym, ap, subst, ◌∙◌}
+use Rattle.std.proofs.Common.{rules, ◌≡◌, [], ◌∷◌, ◌++◌, map, arith, sym, ap, subst, ◌∙◌}
 use Rattle.std.proofs.lemmas.List.{map-append}
 use Rattle.std.specs.Prelude.{string_bytes}
-use Rattle.cs_tree.specs.Clean.{longest_path}
 use Rattle.cs_tree.specs.WalkSteps.{IsEntered, IsStatusIn, is_file_seen, names_seen}
-use Rattle.cs_tree.proofs.RequestLemmas.{requests_none, requests_on}
+use Rattle.cs_tree.proofs.RequestLemmas.{no_lookup, more_lookups}
 use Rattle.cs_tree.proofs.CoverLemmas.{covers_refl}
 use Rattle.cs_tree.proofs.GatherLemmas.{counts_one, entered_deeper, path_limit_one}
 use Rattle.cs_tree.proofs.FaultCountLemmas.{AddsFewSoFar, adds_on}
@@ -25,10 +24,7 @@ pending-init g c =
       counted = λ start so_far. so_far;
       once = subst (λ paths. AddsFewSoFar (string_bytes c.args.start) paths c.args.walked.now c.args.walked.now)
           (sym waits) (λ path. omega arith);
-      rises = omega arith;
-      requested = requests_none longest_path (g.T.Tree.longest_requested c.args.tree.now);
-      counts = refl;
-      keeps = refl;
+      tree = no_lookup g.T.Tree.snapshot g.T.Tree.failed g.T.Tree.longest_requested g.T.Tree.read_counts c.args.tree.now;
     }
 
 pub pending-smaller : goal.pending-smaller
@@ -55,7 +51,7 @@ pending-preserved g c =
           goes_on_in (g.T.Tree.snapshot c.args.tree.now) (g.T.Tree.snapshot c.pending.tree) (string_bytes c.args.start)
           (string_bytes c.in-Some.path) c.in_ok-status.status (map string_bytes c.pop.new.self.items)
           (map string_bytes c.note.new.pending.items) c.args.walked.now c.pending.walked c.note.new.self
-          c.pending.invariant.keeps
+          c.pending.invariant.tree.0
           (subst (λ path. IsStatusIn (g.T.Tree.snapshot c.pending.tree) path c.in_ok-status.status)
           c.as_str.ensures.value c.in_ok-status.ensures.shows)
           c.in_ok-note.ensures.names
@@ -86,12 +82,8 @@ pending-preserved g c =
           c.in_ok-status.ensures.names c.in_ok-note.ensures.faults c.in_ok-note.ensures.pending
           (subst (λ paths. AddsFewSoFar (string_bytes c.args.start) paths c.args.walked.now c.pending.walked) before
           c.pending.invariant.once);
-      rises = omega (arith, c.pending.invariant.rises, c.stat_path.ensures.rises);
-      requested = requests_on longest_path (g.T.Tree.longest_requested c.args.tree.now)
-          (g.T.Tree.longest_requested c.pending.tree) (g.T.Tree.longest_requested c.stat_path.new.tree)
-          c.pending.invariant.requested c.stat_path.ensures.requested;
-      counts = c.stat_path.ensures.counts ∙ c.pending.invariant.counts;
-      keeps = c.stat_path.ensures.keeps ∙ c.pending.invariant.keeps;
+      tree = more_lookups g.T.Tree.snapshot g.T.Tree.failed g.T.Tree.longest_requested g.T.Tree.read_counts
+          c.args.tree.now c.pending.tree c.stat_path.new.tree c.pending.invariant.tree c.stat_path.ensures.tree;
     }
 
 pub returns : goal.returns
@@ -110,8 +102,5 @@ returns g c =
         subst (λ paths. AddsFewSoFar (string_bytes c.args.start) paths c.args.walked.now
             c.pending.walked) waits c.pending.invariant.once path,
       );
-      rises = c.pending.invariant.rises;
-      requested = c.pending.invariant.requested;
-      counts = c.pending.invariant.counts;
-      keeps = c.pending.invariant.keeps;
+      tree = c.pending.invariant.tree;
     }

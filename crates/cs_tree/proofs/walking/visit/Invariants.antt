@@ -1,10 +1,7 @@
-use Rattle.std.proofs.Common.{◌≡◌, ◌≤◌, map}
+use Rattle.std.proofs.Common.{map}
 use Rattle.std.specs.Prelude.{string_bytes}
-use Rattle.cs_tree.specs.Clean.{longest_path}
-use Rattle.cs_tree.specs.Reads.{ReadsNothing}
-use Rattle.cs_tree.specs.Walks.{RequestsWithin}
 use Rattle.cs_tree.specs.Cover.{covers}
-use Rattle.cs_tree.specs.WalkSteps.{KeepsCount, KeepsTo, KeepsPathLimit}
+use Rattle.cs_tree.specs.WalkSteps.{KeepsCount, KeepsTo, KeepsPathLimit, LooksUp}
 use Rattle.cs_tree.proofs.FaultCountLemmas.{AddsFewSoFar}
 use Rattle.cs_tree.proofs.PendingLemmas.{UnderwayIn, weight}
 use Rattle.cs_tree.proofs.UnderLemmas.{AreBelow}
@@ -20,10 +17,7 @@ invariant-pending g l = record {
   path_limit : KeepsPathLimit l.initial.walked l.walked;
   counted : KeepsCount (g.T.Tree.failed l.initial.tree) (g.T.Tree.failed l.tree) l.initial.walked l.walked;
   once : AddsFewSoFar (string_bytes l.fn.start) (map string_bytes l.pending.items) l.initial.walked l.walked;
-  rises : g.T.Tree.failed l.initial.tree ≤ g.T.Tree.failed l.tree;
-  requested : RequestsWithin longest_path (g.T.Tree.longest_requested l.initial.tree) (g.T.Tree.longest_requested l.tree);
-  counts : ReadsNothing (g.T.Tree.read_counts l.initial.tree) (g.T.Tree.read_counts l.tree);
-  keeps : g.T.Tree.snapshot l.tree ≡ g.T.Tree.snapshot l.initial.tree;
+  tree : LooksUp g.T.Tree.snapshot g.T.Tree.failed g.T.Tree.longest_requested g.T.Tree.read_counts l.initial.tree l.tree;
 }
 
 abbrev pub decreases-pending : goal.decreases-pending

@@ -1,8 +1,7 @@
-use Rattle.std.proofs.Common.{[], ◌∷◌, map, take, refl, arith, sym, subst, ◌∙◌}
+use Rattle.std.proofs.Common.{[], ◌∷◌, map, take, arith, sym, subst}
 use Rattle.std.specs.Prelude.{string_bytes}
 use Rattle.std.proofs.lemmas.List.{take_all}
-use Rattle.cs_tree.specs.Clean.{longest_path}
-use Rattle.cs_tree.proofs.RequestLemmas.{requests_none, requests_on}
+use Rattle.cs_tree.proofs.RequestLemmas.{no_lookup, more_lookups}
 use Rattle.cs_tree.specs.Reachability.{reaches, is_reachable}
 use Rattle.cs_tree.specs.WalkSteps.{GathersIn, KeepsTo, AddsFewFaults}
 use Rattle.cs_tree.specs.Cover.{covers, is_covered}
@@ -21,10 +20,7 @@ paths-init g c = record {
   path_limit = λ all. all;
   counted = λ start so_far. so_far;
   once = λ path. omega arith;
-  rises = omega arith;
-  requested = requests_none longest_path (g.T.Tree.longest_requested c.args.tree.now);
-  counts = refl;
-  keeps = refl;
+  tree = no_lookup g.T.Tree.snapshot g.T.Tree.failed g.T.Tree.longest_requested g.T.Tree.read_counts c.args.tree.now;
 }
 
 pub paths-preserved : goal.paths-preserved
@@ -34,7 +30,7 @@ paths-preserved g c = record {
       (sym (mapped_more string_bytes c.args.paths.now c.paths.path-index c.path-item.result c.paths-test.true c.path-item.is))
       (more_in reaches (g.T.Tree.snapshot c.args.tree.now) (g.T.Tree.snapshot c.paths.tree)
       (map string_bytes (take c.paths.path-index c.args.paths.now)) (string_bytes c.path-item.result) c.args.walked.now
-      c.paths.walked c.visit_named.new.walked c.paths.invariant.keeps c.paths.invariant.gathers
+      c.paths.walked c.visit_named.new.walked c.paths.invariant.tree.0 c.paths.invariant.gathers
       (subst (λ path. GathersIn (g.T.Tree.snapshot c.paths.tree) (λ model. reaches model path) c.paths.walked
       c.visit_named.new.walked) c.as_str.ensures.value c.in_ok-visit_named.ensures.gathers));
   under =
@@ -53,12 +49,8 @@ paths-preserved g c = record {
       c.args.walked.now c.paths.walked c.visit_named.new.walked c.paths.invariant.once
       (subst (λ path. AddsFewFaults (path ∷ []) c.paths.walked c.visit_named.new.walked) c.as_str.ensures.value
       c.in_ok-visit_named.ensures.once));
-  rises = omega (arith, c.paths.invariant.rises, c.visit_named.ensures.rises);
-  requested = requests_on longest_path (g.T.Tree.longest_requested c.args.tree.now)
-      (g.T.Tree.longest_requested c.paths.tree) (g.T.Tree.longest_requested c.visit_named.new.tree)
-      c.paths.invariant.requested c.visit_named.ensures.requested;
-  counts = c.visit_named.ensures.counts ∙ c.paths.invariant.counts;
-  keeps = c.visit_named.ensures.keeps ∙ c.paths.invariant.keeps;
+  tree = more_lookups g.T.Tree.snapshot g.T.Tree.failed g.T.Tree.longest_requested g.T.Tree.read_counts c.args.tree.now
+      c.paths.tree c.visit_named.new.tree c.paths.invariant.tree c.visit_named.ensures.tree;
 }
 
 pub returns-clause-gathers : goal.returns-clause-gathers

@@ -1,9 +1,6 @@
-use Rattle.std.proofs.Common.{◌≡◌, ◌≤◌, map, take}
+use Rattle.std.proofs.Common.{map, take}
 use Rattle.std.specs.Prelude.{string_bytes}
-use Rattle.cs_tree.specs.Clean.{longest_path}
-use Rattle.cs_tree.specs.Reads.{ReadsNothing}
-use Rattle.cs_tree.specs.Walks.{RequestsWithin}
-use Rattle.cs_tree.specs.WalkSteps.{GathersIn, KeepsCount, KeepsTo, AddsFewFaults, KeepsPathLimit}
+use Rattle.cs_tree.specs.WalkSteps.{GathersIn, KeepsCount, KeepsTo, AddsFewFaults, KeepsPathLimit, LooksUp}
 use Rattle.cs_tree.specs.Cover.{is_covered}
 use Rattle.cs_tree.specs.PathSet as set
 use Rattle.cs_tree.specs.Reachability.{reaches}
@@ -19,8 +16,5 @@ invariant-paths g l = record {
   path_limit : KeepsPathLimit l.initial.walked l.walked;
   counted : KeepsCount (g.T.Tree.failed l.initial.tree) (g.T.Tree.failed l.tree) l.initial.walked l.walked;
   once : AddsFewFaults (map string_bytes (take l.path-index l.paths)) l.initial.walked l.walked;
-  rises : g.T.Tree.failed l.initial.tree ≤ g.T.Tree.failed l.tree;
-  requested : RequestsWithin longest_path (g.T.Tree.longest_requested l.initial.tree) (g.T.Tree.longest_requested l.tree);
-  counts : ReadsNothing (g.T.Tree.read_counts l.initial.tree) (g.T.Tree.read_counts l.tree);
-  keeps : g.T.Tree.snapshot l.tree ≡ g.T.Tree.snapshot l.initial.tree;
+  tree : LooksUp g.T.Tree.snapshot g.T.Tree.failed g.T.Tree.longest_requested g.T.Tree.read_counts l.initial.tree l.tree;
 }

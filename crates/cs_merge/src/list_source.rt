@@ -1,7 +1,6 @@
 // An index whose posting lists are read in their order.
 ghost use Rattle.std.specs.Prelude.{◌≡◌, ℕ, List, Option, length, option_map, slice_get, OnOk};
-ghost use Rattle.cs_tree.specs.FailureCount.{count_after};
-ghost use Rattle.cs_tree.specs.Transfers.{is_io_failure};
+ghost use Rattle.cs_tree.specs.KeepsStore.{KeepsStore};
 ghost use Rattle.cs_index.specs.Encoding.{ListEntry};
 ghost use Rattle.cs_index.specs.OpenedParts.{Parts};
 ghost use Rattle.cs_index.specs.ValidParts.{AreValidParts};
@@ -76,9 +75,7 @@ impl<'a> ListSource<'a> {
             OnOk result (IsListRead self.now buffer.new parts position) }
         ensures buffer { HasBuffer (S.model store.old) buffer.old →
             OnOk result (HasBuffer (S.model store.old) buffer.new) }
-        ensures keeps { S.model store.new ≡ S.model store.old }
-        ensures size { S.size store.new ≡ S.size store.old }
-        ensures failed { S.failed store.new ≡ count_after is_io_failure result (S.failed store.old) }
+        ensures store { KeepsStore S.model S.size S.failed store.old store.new result }
     {
         match self {
             ListSource::InMemory(_index) => Ok(()),

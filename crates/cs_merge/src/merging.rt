@@ -1,6 +1,7 @@
 // The merge of an index with a newer one.
 ghost use Rattle.std.specs.Prelude.{◌≡◌, ◌++◌, ℕ, List, [], Some, map, string_bytes, IfErr, IfOk, OnOk, MatchResult};
 ghost use Rattle.std.specs.List.{AllByRecursion};
+ghost use Rattle.cs_tree.specs.KeepsStore.{KeepsStore};
 ghost use Rattle.cs_tree.specs.Cover.{is_covered};
 ghost use Rattle.cs_tree.specs.FailureCount.{count_after};
 ghost use Rattle.cs_tree.specs.PathSet as set;
@@ -138,9 +139,7 @@ fn merge_source<'a, S: Store, O: Output>(
     ensures given { IfOk result (λ merged. IfOk merged
         (λ index. O.given out.new ≡ O.given out.old ++ index.bytes)) }
     ensures keeps_out { O.Keeps out.old out.new }
-    ensures keeps { S.model store.new ≡ S.model store.old }
-    ensures size { S.size store.new ≡ S.size store.old }
-    ensures failed { S.failed store.new ≡ count_after is_io_failure result (S.failed store.old) }
+    ensures store { KeepsStore S.model S.size S.failed store.old store.new result }
 {
     old.are_valid();
     newer.are_valid();
@@ -177,9 +176,7 @@ fn merge_begun<S: Store, O: Output>(
     ensures given { IfOk result (λ merged. IfOk merged
         (λ index. O.given out.new ≡ O.given out.old ++ index.bytes)) }
     ensures keeps_out { O.Keeps out.old out.new }
-    ensures keeps { S.model store.new ≡ S.model store.old }
-    ensures size { S.size store.new ≡ S.size store.old }
-    ensures failed { S.failed store.new ≡ count_after is_io_failure result (S.failed store.old) }
+    ensures store { KeepsStore S.model S.size S.failed store.old store.new result }
 {
     match merge_lists(alloc, store, &mut sections, sides, most, out)? {
         Ok(()) => Ok(finish(sections, most, out)),

@@ -1,8 +1,7 @@
 // The merge of the posting lists: a two-way merge by trigram, which reads the lists of each index in
 // their order.
 ghost use Rattle.std.specs.Prelude.{◌≡◌, ◌<◌, ◌^◌, ◌+◌, ◌&&◌, ℕ, [], true, false, Some, None, length, IfErr, IfOk, MatchResult, OnOk};
-ghost use Rattle.cs_tree.specs.FailureCount.{count_after};
-ghost use Rattle.cs_tree.specs.Transfers.{is_io_failure};
+ghost use Rattle.cs_tree.specs.KeepsStore.{KeepsStore};
 ghost use Rattle.cs_index.specs.OpenedParts.{Parts};
 ghost use Rattle.cs_index.specs.Postings.{IsListFault};
 ghost use Rattle.cs_index.specs.Sending.{IsSentOn};
@@ -63,9 +62,7 @@ pub(crate) fn merge_lists<S: Store, O: Output>(
         (IsSentOn sections.old.sent sections.new.sent (O.given out.old) (O.given out.new))) }
     ensures early { IfOk result (λ merged. OnOk merged (IsSentEarly sections.new)) }
     ensures keeps_out { O.Keeps out.old out.new }
-    ensures keeps { S.model store.new ≡ S.model store.old }
-    ensures size { S.size store.new ≡ S.size store.old }
-    ensures failed { S.failed store.new ≡ count_after is_io_failure result (S.failed store.old) }
+    ensures store { KeepsStore S.model S.size S.failed store.old store.new result }
 {
     sides.older.are_valid();
     sides.newer.are_valid();
@@ -116,9 +113,7 @@ fn send_next<S: Store, O: Output>(
         (before : Written) (most : ℕ) → IfOk result (λ sent. IfErr sent (IsListsFault old sides.now.newer.now
         sides.now.runs.older sides.now.runs.newer before most)) }
     ensures keeps_out { O.Keeps out.old out.new }
-    ensures keeps { S.model store.new ≡ S.model store.old }
-    ensures size { S.size store.new ≡ S.size store.old }
-    ensures failed { S.failed store.new ≡ count_after is_io_failure result (S.failed store.old) }
+    ensures store { KeepsStore S.model S.size S.failed store.old store.new result }
 {
     match merge_next(alloc, store, sections, sides, progress)? {
         Ok(true) => {}
@@ -157,9 +152,7 @@ fn merge_next<S: Store>(
         (list_trigram sides.now.newer.now progress.new.newer) ≡ None)) }
     ensures fault { (old : Parts) → IsSourceOf (S.model store.old) sides.now.older.now old →
         IfOk result (λ merged. IfErr merged (IsListFault (both_whole old sides.now.newer.now))) }
-    ensures keeps { S.model store.new ≡ S.model store.old }
-    ensures size { S.size store.new ≡ S.size store.old }
-    ensures failed { S.failed store.new ≡ count_after is_io_failure result (S.failed store.old) }
+    ensures store { KeepsStore S.model S.size S.failed store.old store.new result }
 {
     sides.older.are_valid();
     sides.newer.are_valid();
@@ -275,9 +268,7 @@ fn fault_of_rest<S: Store>(
     ensures fault { HasBuffer (S.model store.old) progress.old.buffer → (old : Parts) →
         IsSourceOf (S.model store.old) sides.now.older.now old → IfOk result (λ fault. fault ≡ rest_fault
         (are_whole_from old progress.old.older && are_whole_from sides.now.newer.now progress.old.newer)) }
-    ensures keeps { S.model store.new ≡ S.model store.old }
-    ensures size { S.size store.new ≡ S.size store.old }
-    ensures failed { S.failed store.new ≡ count_after is_io_failure result (S.failed store.old) }
+    ensures store { KeepsStore S.model S.size S.failed store.old store.new result }
 {
     let newer = ListSource::InMemory(sides.newer);
     let buffer = &mut progress.buffer;

@@ -2,6 +2,7 @@
 ghost use Rattle.std.specs.Prelude.{◌≡◌, ◌&&◌, ℕ, List, true, Some, slice_get, IfOk, OnOk};
 ghost use Rattle.std.specs.List.{list_all};
 ghost use Rattle.std.specs.Option.{option_map_or};
+ghost use Rattle.cs_tree.specs.KeepsStore.{KeepsStore};
 ghost use Rattle.cs_tree.specs.Cover.{is_covered};
 ghost use Rattle.cs_tree.specs.FailureCount.{count_after};
 ghost use Rattle.cs_tree.specs.Transfers.{is_io_failure};
@@ -100,9 +101,7 @@ pub(crate) fn is_whole_from<S: Store>(
         IfOk result (λ whole. whole ≡ are_whole_from parts start) }
     ensures buffer { HasBuffer (S.model store.old) buffer.old →
         OnOk result (HasBuffer (S.model store.old) buffer.new) }
-    ensures keeps { S.model store.new ≡ S.model store.old }
-    ensures size { S.size store.new ≡ S.size store.old }
-    ensures failed { S.failed store.new ≡ count_after is_io_failure result (S.failed store.old) }
+    ensures store { KeepsStore S.model S.size S.failed store.old store.new result }
 {
     'positions: for position in start..source.lists() {
         source.read(alloc, store, buffer, position)?;

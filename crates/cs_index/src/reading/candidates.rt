@@ -2,6 +2,7 @@
 // evaluated over windows of ids, so that each posting list is read once.
 ghost use Rattle.std.specs.Prelude.{◌≡◌, ◌<◌, ◌≤◌, ◌+◌, ◌-◌, ◌⊎◌, ◌^◌, ◌++◌, ℕ, List, Some, map, true, false, filter, length, slice_index_or, IfOk, IfErr, OnOk, IfSome};
 ghost use Rattle.std.specs.List.{AllByRecursion, AllZip, list_all, range_with_len};
+ghost use Rattle.cs_tree.specs.KeepsStore.{KeepsStore};
 ghost use Rattle.cs_tree.specs.Store.{part_of};
 ghost use Rattle.cs_tree.specs.FailureCount.{count_after};
 ghost use Rattle.cs_tree.specs.Transfers.{is_io_failure};
@@ -119,9 +120,7 @@ fn candidates_in<S: Store>(
     ensures answers { (bytes : List ℕ) → S.model store.old ≡ Some bytes → (parts : Parts) →
         HasLists bytes section.now parts → rises parts.entries ≡ true →
         AreListed query.now parts.entries listed.now → IfOk result (AreCandidates query.now parts) }
-    ensures keeps { S.model store.new ≡ S.model store.old }
-    ensures size { S.size store.new ≡ S.size store.old }
-    ensures failed { S.failed store.new ≡ count_after is_io_failure result (S.failed store.old) }
+    ensures store { KeepsStore S.model S.size S.failed store.old store.new result }
 {
     let trigrams = trigrams_of(alloc, listed)?;
     let form = form_of(alloc, &trigrams, query)?;
@@ -161,9 +160,7 @@ fn lists_of<S: Store>(
     ensures count { IfOk result (λ lists. length lists.items ≡ length entries.now) }
     ensures holds { (bytes : List ℕ) → S.model store.old ≡ Some bytes →
         IfOk result (λ lists. AllByRecursion (Holds bytes) lists.items) }
-    ensures keeps { S.model store.new ≡ S.model store.old }
-    ensures size { S.size store.new ≡ S.size store.old }
-    ensures failed { S.failed store.new ≡ count_after is_io_failure result (S.failed store.old) }
+    ensures store { KeepsStore S.model S.size S.failed store.old store.new result }
 {
     let size = piece_size(entries.len());
     let mut lists = Vec::with_capacity(alloc, entries.len())?;
@@ -197,9 +194,7 @@ fn meet<S: Store>(
     ensures lists { (bytes : List ℕ) → S.model store.old ≡ Some bytes →
         AllByRecursion (IsLeft bytes) lists.old →
         IfOk result (λ _. AllZip (IsReadOn bytes count) lists.old lists.new) }
-    ensures keeps { S.model store.new ≡ S.model store.old }
-    ensures size { S.size store.new ≡ S.size store.old }
-    ensures failed { S.failed store.new ≡ count_after is_io_failure result (S.failed store.old) }
+    ensures store { KeepsStore S.model S.size S.failed store.old store.new result }
 {
     let mut ids = Vec::new(alloc);
     if form.root == NOTHING {
@@ -241,9 +236,7 @@ fn meet_window<S: Store>(
     ensures lists { (bytes : List ℕ) → S.model store.old ≡ Some bytes →
         AllByRecursion (IsLeft bytes) lists.old →
         OnOk result (AllZip (IsReadOn bytes window.end) lists.old lists.new) }
-    ensures keeps { S.model store.new ≡ S.model store.old }
-    ensures size { S.size store.new ≡ S.size store.old }
-    ensures failed { S.failed store.new ≡ count_after is_io_failure result (S.failed store.old) }
+    ensures store { KeepsStore S.model S.size S.failed store.old store.new result }
 {
     let rows = rows_of(alloc, store, &form.nodes, lists, window)?;
     push_ids(ids, row_at(&rows, form.root), window.start, window.end)?;
@@ -284,9 +277,7 @@ fn finish_all<S: Store>(
     ensures whole { (bytes : List ℕ) → S.model store.old ≡ Some bytes →
         AllByRecursion (Holds bytes) lists.items →
         IfOk result (λ whole. whole ≡ are_whole bytes lists.items) }
-    ensures keeps { S.model store.new ≡ S.model store.old }
-    ensures size { S.size store.new ≡ S.size store.old }
-    ensures failed { S.failed store.new ≡ count_after is_io_failure result (S.failed store.old) }
+    ensures store { KeepsStore S.model S.size S.failed store.old store.new result }
 {
     'lists: while let Some(mut list) = lists.pop() {
         if !list.finish(alloc, store)? {

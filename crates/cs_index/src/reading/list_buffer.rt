@@ -1,5 +1,6 @@
 // A buffer of the posting lists of a store, which are read in the order of the list index.
 ghost use Rattle.std.specs.Prelude.{◌≡◌, ◌≤◌, ◌<◌, ◌+◌, ◌^◌, ℕ, List, Some, drop, length, slice_get, OnOk};
+ghost use Rattle.cs_tree.specs.KeepsStore.{KeepsStore};
 ghost use Rattle.cs_tree.specs.FailureCount.{count_after};
 ghost use Rattle.cs_tree.specs.Transfers.{is_io_failure};
 ghost use Rattle.cs_index.specs.AscendingIds.{max_ids};
@@ -151,9 +152,7 @@ impl ListBuffer {
             OnOk result (len ≤ length self.new.bytes) }
         ensures buffer { (bytes : List ℕ) → S.model store.old ≡ Some bytes → IsBufferOf bytes self.old →
             OnOk result (IsBufferOf bytes self.new) }
-        ensures keeps { S.model store.new ≡ S.model store.old }
-        ensures size { S.size store.new ≡ S.size store.old }
-        ensures failed { S.failed store.new ≡ count_after is_io_failure result (S.failed store.old) }
+        ensures store { KeepsStore S.model S.size S.failed store.old store.new result }
     {
         let left = self.bytes.len() - self.used;
         if left >= len {

@@ -1,8 +1,7 @@
 // Parts of a store that are read one after another into the same memory.
 ghost use Rattle.std.specs.Prelude.{◌≡◌, ◌≤◌, ◌<◌, ◌+◌, ◌⊎◌, ◌^◌, ℕ, List, [], Some, length, IfErr, OnOk};
-ghost use Rattle.cs_tree.specs.FailureCount.{count_after};
+ghost use Rattle.cs_tree.specs.KeepsStore.{KeepsStore};
 ghost use Rattle.cs_tree.specs.Store.{part_of};
-ghost use Rattle.cs_tree.specs.Transfers.{is_io_failure};
 
 use cs_tree::{IoFault, Store, fill_at};
 
@@ -19,9 +18,7 @@ pub(crate) fn read_into<S: Store>(
     ensures part { (bytes : List ℕ) → S.model store.old ≡ Some bytes →
         OnOk result (part.new.items ≡ part_of bytes at len) }
     ensures error { IfErr result (λ _. (part.new.items ≡ []) ⊎ (part.new.items ≡ part.old.items)) }
-    ensures keeps { S.model store.new ≡ S.model store.old }
-    ensures size { S.size store.new ≡ S.size store.old }
-    ensures failed { S.failed store.new ≡ count_after is_io_failure result (S.failed store.old) }
+    ensures store { KeepsStore S.model S.size S.failed store.old store.new result }
 {
     part.resize(len, 0)?;
     match fill_at(store, part, at) {

@@ -2,8 +2,7 @@
 ghost use Rattle.std.specs.Prelude.{◌≡◌, ◌≤◌, ◌<◌, ◌+◌, ◌-◌, ◌++◌, ◌^◌, ℕ, List, Some, drop, take, length, IfSome, IfNone, IfOk, OnOk};
 ghost use Rattle.std.specs.List.{AllByRecursion};
 ghost use Rattle.std.specs.Result.{IsOkAnd};
-ghost use Rattle.cs_tree.specs.FailureCount.{count_after};
-ghost use Rattle.cs_tree.specs.Transfers.{is_io_failure};
+ghost use Rattle.cs_tree.specs.KeepsStore.{KeepsStore};
 ghost use Rattle.cs_index.specs.Encoding.{with_nul};
 ghost use Rattle.cs_index.specs.Opening.{number_at};
 ghost use Rattle.cs_index.specs.Pieces.{HasText, IsPiece, StandsAt};
@@ -47,9 +46,7 @@ impl Piece {
             at + 4 ≤ length bytes → IfOk result (λ n. n ≡ number_at bytes at) }
         ensures piece { (bytes : List ℕ) → S.model store.old ≡ Some bytes → IsPiece bytes self.old →
             IfOk result (λ _. IsPiece bytes self.new) }
-        ensures keeps { S.model store.new ≡ S.model store.old }
-        ensures size { S.size store.new ≡ S.size store.old }
-        ensures failed { S.failed store.new ≡ count_after is_io_failure result (S.failed store.old) }
+        ensures store { KeepsStore S.model S.size S.failed store.old store.new result }
     {
         self.reach(alloc, store, at, 4)?;
         let part = self.part(at);
@@ -72,9 +69,7 @@ impl Piece {
             (text : List ℕ) → StandsAt bytes at end text → IfOk result (HasText self.new at text) }
         ensures piece { (bytes : List ℕ) → S.model store.old ≡ Some bytes → IsPiece bytes self.old →
             IfOk result (λ _. IsPiece bytes self.new) }
-        ensures keeps { S.model store.new ≡ S.model store.old }
-        ensures size { S.size store.new ≡ S.size store.old }
-        ensures failed { S.failed store.new ≡ count_after is_io_failure result (S.failed store.old) }
+        ensures store { KeepsStore S.model S.size S.failed store.old store.new result }
     {
         let room = end.saturating_sub(at);
         let mut searched = 0;
@@ -125,9 +120,7 @@ impl Piece {
             OnOk result (IsPiece bytes self.new) }
         ensures long { (bytes : List ℕ) → S.model store.old ≡ Some bytes → at + len ≤ length bytes →
             OnOk result (at + len ≤ self.new.start + length self.new.bytes.items) }
-        ensures keeps { S.model store.new ≡ S.model store.old }
-        ensures size { S.size store.new ≡ S.size store.old }
-        ensures failed { S.failed store.new ≡ count_after is_io_failure result (S.failed store.old) }
+        ensures store { KeepsStore S.model S.size S.failed store.old store.new result }
     {
         if self.start <= at && at - self.start + len <= self.bytes.len() {
             return Ok(());

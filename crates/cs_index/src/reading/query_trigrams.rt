@@ -1,8 +1,7 @@
 // The trigrams of a query.
 ghost use Rattle.std.specs.Prelude.{◌≡◌, ◌<◌, ◌+◌, ◌*◌, ◌^◌, ◌||◌, ℕ, List, Some, IfOk, OnOk};
 ghost use Rattle.std.specs.List.{list_any};
-ghost use Rattle.cs_tree.specs.FailureCount.{count_after};
-ghost use Rattle.cs_tree.specs.Transfers.{is_io_failure};
+ghost use Rattle.cs_tree.specs.KeepsStore.{KeepsStore};
 ghost use Rattle.cs_trigram.specs.Trigram.{has, Ascends};
 ghost use Rattle.cs_index.specs.Answerable.{mentions};
 ghost use Rattle.cs_index.specs.Opening.{entries_in};
@@ -25,9 +24,7 @@ pub(crate) fn listed_entries<S: Store>(
         HasEntries bytes entries.now list_index →
         IfOk result (λ listed. AreListed query.now (entries_in list_index) listed.items) }
     ensures ascend { IfOk result (λ listed. Ascends (trigrams_listed listed.items)) }
-    ensures keeps { S.model store.new ≡ S.model store.old }
-    ensures size { S.size store.new ≡ S.size store.old }
-    ensures failed { S.failed store.new ≡ count_after is_io_failure result (S.failed store.old) }
+    ensures store { KeepsStore S.model S.size S.failed store.old store.new result }
 {
     let trigrams = mentioned_trigrams(alloc, query)?;
     let mut listed = Vec::new(alloc);

@@ -1,8 +1,7 @@
 // The rarest list that a form requires: windows begin at its ids, so that the other lists are only tested between them.
 ghost use Rattle.std.specs.Prelude.{◌≡◌, ◌<◌, ◌≤◌, ◌⊎◌, ◌+◌, ℕ, List, Some, true, length, IfOk, IfSome};
 ghost use Rattle.std.specs.List.{AllByRecursion, AllZip};
-ghost use Rattle.cs_tree.specs.FailureCount.{count_after};
-ghost use Rattle.cs_tree.specs.Transfers.{is_io_failure};
+ghost use Rattle.cs_tree.specs.KeepsStore.{KeepsStore};
 ghost use Rattle.cs_trigram.specs.Trigram.{has};
 ghost use Rattle.cs_index.specs.Form.{IsForm, IsRequired};
 ghost use Rattle.cs_index.specs.Rows.{have_id, IsLeft, IsReadOn, LacksId};
@@ -76,9 +75,7 @@ pub(crate) fn next_start<S: Store>(
         AllByRecursion (IsLeft bytes) lists.old →
         IfOk result (λ next. (id : ℕ) → window.start ≤ id → id < next →
         LacksId (have_id bytes lists.old id) rarest) }
-    ensures keeps { S.model store.new ≡ S.model store.old }
-    ensures size { S.size store.new ≡ S.size store.old }
-    ensures failed { S.failed store.new ≡ count_after is_io_failure result (S.failed store.old) }
+    ensures store { KeepsStore S.model S.size S.failed store.old store.new result }
 {
     let Some(at) = rarest else {
         return Ok(window.start);

@@ -1,8 +1,7 @@
 // Rows: the ids of a window that match each node of a form, as a flag for each id.
 ghost use Rattle.std.specs.Prelude.{◌≡◌, ◌<◌, ◌≤◌, ◌+◌, ◌-◌, ◌⊎◌, ◌&&◌, ◌||◌, ℕ, Bool, false, true, Some, List, [], ◌∷◌, length, map, slice_index_or, IfOk, OnOk};
 ghost use Rattle.std.specs.List.{AllByRecursion, AllZip};
-ghost use Rattle.cs_tree.specs.FailureCount.{count_after};
-ghost use Rattle.cs_tree.specs.Transfers.{is_io_failure};
+ghost use Rattle.cs_tree.specs.KeepsStore.{KeepsStore};
 ghost use Rattle.cs_index.specs.Form.{matched, members_match, node_matches};
 ghost use Rattle.cs_index.specs.Rows.{column, have_id, HaveWidth, IsLeft, IsReadOn, IsRowOf};
 
@@ -35,9 +34,7 @@ pub(crate) fn rows_of<S: Store>(
     ensures lists { (bytes : List ℕ) → S.model store.old ≡ Some bytes →
         AllByRecursion (IsLeft bytes) lists.old →
         IfOk result (λ _. AllZip (IsReadOn bytes window.end) lists.old lists.new) }
-    ensures keeps { S.model store.new ≡ S.model store.old }
-    ensures size { S.size store.new ≡ S.size store.old }
-    ensures failed { S.failed store.new ≡ count_after is_io_failure result (S.failed store.old) }
+    ensures store { KeepsStore S.model S.size S.failed store.old store.new result }
 {
     let mut rows = list_rows(alloc, store, lists, window)?;
     let width = (window.end - window.start) as usize;
@@ -64,9 +61,7 @@ fn list_rows<S: Store>(
     ensures lists { (bytes : List ℕ) → S.model store.old ≡ Some bytes →
         AllByRecursion (IsLeft bytes) lists.old →
         IfOk result (λ _. AllZip (IsReadOn bytes window.end) lists.old lists.new) }
-    ensures keeps { S.model store.new ≡ S.model store.old }
-    ensures size { S.size store.new ≡ S.size store.old }
-    ensures failed { S.failed store.new ≡ count_after is_io_failure result (S.failed store.old) }
+    ensures store { KeepsStore S.model S.size S.failed store.old store.new result }
 {
     let mut rows = Vec::new(alloc);
     rows.push(Vec::new(alloc))?;
@@ -92,9 +87,7 @@ fn list_row<S: Store>(
         (length row.items ≡ 0) ⊎ (length row.items ≡ window.end - window.start)) }
     ensures list { (bytes : List ℕ) → S.model store.old ≡ Some bytes → IsLeft bytes list.old →
         IfOk result (λ _. IsReadOn bytes window.end list.old list.new) }
-    ensures keeps { S.model store.new ≡ S.model store.old }
-    ensures size { S.size store.new ≡ S.size store.old }
-    ensures failed { S.failed store.new ≡ count_after is_io_failure result (S.failed store.old) }
+    ensures store { KeepsStore S.model S.size S.failed store.old store.new result }
 {
     list.skip_below(alloc, store, window.start)?;
     let mut row = Vec::new(alloc);

@@ -1,9 +1,8 @@
 // The offsets of the sections of a stored index.
 ghost use Rattle.std.specs.Prelude.{◌≡◌, ◌+◌, ◌-◌, ◌≤◌, ◌<◌, ◌^◌, List, ℕ, length, IfOk, IfErr, IfSome, Err, IsTrue};
+ghost use Rattle.cs_tree.specs.KeepsStore.{KeepsStore};
 ghost use Rattle.cs_tree.specs.ByteList.{AreBytes};
 ghost use Rattle.cs_tree.specs.Store.{part_of};
-ghost use Rattle.cs_tree.specs.FailureCount.{count_after};
-ghost use Rattle.cs_tree.specs.Transfers.{is_io_failure};
 ghost use Rattle.cs_index.specs.Opening.{are_section_offsets};
 ghost use Rattle.cs_index.specs.StoredOpening.{AreDisorderedOffsets, AreTrailerOffsets, AreAscendingOffsets, IsSplitAt, is_tail};
 
@@ -32,9 +31,7 @@ pub(crate) fn find_offsets<S: Store>(
     ensures slices { IfSome (S.model store.old) (λ bytes. IfOk result (IsSplitAt bytes)) }
     ensures order { IfOk result (λ answer. IfOk answer AreAscendingOffsets) }
     ensures bytes { IfOk result (λ _. IfSome (S.model store.old) AreBytes) }
-    ensures keeps { S.model store.new ≡ S.model store.old }
-    ensures size { S.size store.new ≡ S.size store.old }
-    ensures failed { S.failed store.new ≡ count_after is_io_failure result (S.failed store.old) }
+    ensures store { KeepsStore S.model S.size S.failed store.old store.new result }
 {
     let header = read_part(alloc, store, 0, MAGIC.len())?;
     let len = store.len();

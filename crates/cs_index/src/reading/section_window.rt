@@ -1,8 +1,7 @@
 // A section of an index in a store, which is read from its first byte to the last.
 ghost use Rattle.std.specs.Prelude.{◌≡◌, ◌≤◌, ◌<◌, ◌^◌, ◌+◌, ◌-◌, ℕ, List, [], true, false, Some, length, IfOk};
-ghost use Rattle.cs_tree.specs.FailureCount.{count_after};
+ghost use Rattle.cs_tree.specs.KeepsStore.{KeepsStore};
 ghost use Rattle.cs_tree.specs.Store.{part_of};
-ghost use Rattle.cs_tree.specs.Transfers.{is_io_failure};
 ghost use Rattle.cs_index.specs.SectionPieces.{IsWindow};
 
 use crate::reading::part::read_into;
@@ -52,9 +51,7 @@ impl Window {
         ensures end { (bytes : List ℕ) → S.model store.old ≡ Some bytes → self.old.stop ≤ length bytes →
             IfOk result (λ more. more ≡ false →
             self.new.piece.items ≡ part_of bytes self.new.start (self.new.stop - self.new.start)) }
-        ensures keeps { S.model store.new ≡ S.model store.old }
-        ensures size { S.size store.new ≡ S.size store.old }
-        ensures failed { S.failed store.new ≡ count_after is_io_failure result (S.failed store.old) }
+        ensures store { KeepsStore S.model S.size S.failed store.old store.new result }
     {
         let left = self.piece.len() - used;
         let start = self.start + used;

@@ -1,5 +1,6 @@
 // An index in a store. It is tested in pieces when it is opened, and read by position.
 ghost use Rattle.std.specs.Prelude.{◌≡◌, ◌≤◌, ◌<◌, ◌^◌, length, Ok, IfOk, IfSome, List, ℕ};
+ghost use Rattle.cs_tree.specs.KeepsStore.{KeepsStore};
 ghost use Rattle.cs_tree.specs.ByteList.{AreBytes};
 ghost use Rattle.cs_tree.specs.FailureCount.{count_after};
 ghost use Rattle.cs_tree.specs.Transfers.{is_io_failure};
@@ -94,9 +95,7 @@ fn read_stored<S: Store>(
     ensures opens { IfSome (S.model store.old) (λ bytes. AreBytes bytes →
         starts.trailer ≤ length bytes → split_of bytes ≡ Ok (sections_at bytes starts) →
         IfOk result (OpensAs bytes)) }
-    ensures keeps { S.model store.new ≡ S.model store.old }
-    ensures size { S.size store.new ≡ S.size store.old }
-    ensures failed { S.failed store.new ≡ count_after is_io_failure result (S.failed store.old) }
+    ensures store { KeepsStore S.model S.size S.failed store.old store.new result }
 {
     let Some(paths) = read_paths(alloc, store, &starts)? else {
         return Ok(Err(IndexFault::BadPaths));

@@ -1,7 +1,6 @@
 // The entries of a list index in a store, found by their trigrams.
 ghost use Rattle.std.specs.Prelude.{◌≡◌, ◌≤◌, ◌<◌, ◌+◌, ◌*◌, ◌/◌, ◌^◌, ℕ, List, Some, true, length, option_map, slice_get, IfSome, IfOk};
-ghost use Rattle.cs_tree.specs.FailureCount.{count_after};
-ghost use Rattle.cs_tree.specs.Transfers.{is_io_failure};
+ghost use Rattle.cs_tree.specs.KeepsStore.{KeepsStore};
 ghost use Rattle.cs_index.specs.Opening.{entries_in, entry_at, rises, trigram_at};
 ghost use Rattle.cs_index.specs.Postings.{entry_of};
 ghost use Rattle.cs_index.specs.StoredEntries.{entry_read, HasEntries};
@@ -37,9 +36,7 @@ impl StoredEntries {
             HasEntries bytes self.now list_index → IfOk result (λ found.
             option_map entry_read found ≡ entry_of (entries_in list_index) trigram) }
         ensures same { IfOk result (λ found. IfSome found (λ e. e.trigram ≡ trigram)) }
-        ensures keeps { S.model store.new ≡ S.model store.old }
-        ensures size { S.size store.new ≡ S.size store.old }
-        ensures failed { S.failed store.new ≡ count_after is_io_failure result (S.failed store.old) }
+        ensures store { KeepsStore S.model S.size S.failed store.old store.new result }
     {
         let position = self.first_from(store, trigram)?;
         if position >= self.count {
@@ -63,9 +60,7 @@ impl StoredEntries {
             HasEntries bytes self.now list_index → IfOk result (λ first. (k : ℕ) → first ≤ k →
             k < self.now.count →
             trigram ≤ trigram_at list_index (ENTRY_LEN * k)) }
-        ensures keeps { S.model store.new ≡ S.model store.old }
-        ensures size { S.size store.new ≡ S.size store.old }
-        ensures failed { S.failed store.new ≡ count_after is_io_failure result (S.failed store.old) }
+        ensures store { KeepsStore S.model S.size S.failed store.old store.new result }
     {
         let mut low = 0;
         let mut high = self.count;
@@ -86,9 +81,7 @@ fn read_entry<S: Store>(store: &mut S, at: usize) -> Result<Entry, IoFault>
     requires { at + ENTRY_LEN < 2 ^ 64 }
     ensures entry { (bytes : List ℕ) → S.model store.old ≡ Some bytes → at + ENTRY_LEN ≤ length bytes →
         IfOk result (λ entry. entry_read entry ≡ entry_at bytes at) }
-    ensures keeps { S.model store.new ≡ S.model store.old }
-    ensures size { S.size store.new ≡ S.size store.old }
-    ensures failed { S.failed store.new ≡ count_after is_io_failure result (S.failed store.old) }
+    ensures store { KeepsStore S.model S.size S.failed store.old store.new result }
 {
     let mut bytes = [0u8; ENTRY_LEN];
     fill_at(store, &mut bytes, at)?;

@@ -1,8 +1,7 @@
 // Posting lists of a store, decoded id by id from pieces of its bytes (Go: `postReader` in index/read.go).
 ghost use Rattle.std.specs.Prelude.{◌≡◌, ◌≤◌, ◌<◌, ◌^◌, ◌+◌, ℕ, Bool, true, List, [], Some, length, take, IfSome, IfNone, IfOk, OnOk, bytes_eq};
+ghost use Rattle.cs_tree.specs.KeepsStore.{KeepsStore};
 ghost use Rattle.cs_tree.specs.Store.{part_of};
-ghost use Rattle.cs_tree.specs.FailureCount.{count_after};
-ghost use Rattle.cs_tree.specs.Transfers.{is_io_failure};
 ghost use Rattle.cs_index.specs.Encoding.{three_bytes};
 ghost use Rattle.cs_index.specs.PostingLists.{Ids, read_list};
 ghost use Rattle.cs_index.specs.AscendingIds.{BeginsFrom};
@@ -84,9 +83,7 @@ impl StoredList {
             IfOk result (λ list. ids_left bytes list
             ≡ read_list (part_of bytes section.now.start section.now.room) section.now.name_count
             (entry_read entry.now)) }
-        ensures keeps { S.model store.new ≡ S.model store.old }
-        ensures size { S.size store.new ≡ S.size store.old }
-        ensures failed { S.failed store.new ≡ count_after is_io_failure result (S.failed store.old) }
+        ensures store { KeepsStore S.model S.size S.failed store.old store.new result }
     {
         let offset = entry.offset as usize;
         if section.room < offset + TRIGRAM_LEN + 1 {
@@ -146,9 +143,7 @@ impl StoredList {
         ensures ended { IfOk result (λ found. IfNone found (self.old.name_count ≤ end →
             self.new.has_ended ≡ true)) }
         ensures names { self.new.name_count ≡ self.old.name_count }
-        ensures keeps { S.model store.new ≡ S.model store.old }
-        ensures size { S.size store.new ≡ S.size store.old }
-        ensures failed { S.failed store.new ≡ count_after is_io_failure result (S.failed store.old) }
+        ensures store { KeepsStore S.model S.size S.failed store.old store.new result }
     {
         if self.has_ended {
             return Ok(None);
@@ -161,9 +156,7 @@ impl StoredList {
     pub(crate) fn finish<S: Store>(&mut self, alloc: Global, store: &mut S) -> Result<bool, IoFault>
         ensures whole { (bytes : List ℕ) → S.model store.old ≡ Some bytes → Holds bytes self.old →
             IfOk result (λ whole. whole ≡ (ids_left bytes self.old).whole) }
-        ensures keeps { S.model store.new ≡ S.model store.old }
-        ensures size { S.size store.new ≡ S.size store.old }
-        ensures failed { S.failed store.new ≡ count_after is_io_failure result (S.failed store.old) }
+        ensures store { KeepsStore S.model S.size S.failed store.old store.new result }
     {
         let end = self.name_count;
         self.skip_below(alloc, store, end)?;
@@ -181,9 +174,7 @@ impl StoredList {
         ensures skips { (bytes : List ℕ) → S.model store.old ≡ Some bytes → Holds bytes self.old →
             IfOk result (λ next. SkipsBelow bytes start self.old self.new
             × BeginsFrom next (ids_left bytes self.new).ids) }
-        ensures keeps { S.model store.new ≡ S.model store.old }
-        ensures size { S.size store.new ≡ S.size store.old }
-        ensures failed { S.failed store.new ≡ count_after is_io_failure result (S.failed store.old) }
+        ensures store { KeepsStore S.model S.size S.failed store.old store.new result }
     {
         self.skip_below(alloc, store, start)?;
         self.fill(alloc, store)?;
@@ -226,9 +217,7 @@ impl StoredList {
             OnOk result (SkipsBelow bytes end self.old self.new
             × BeginsFrom end (ids_left bytes self.new).ids) }
         ensures ended { OnOk result (self.old.name_count ≤ end → self.new.has_ended ≡ true) }
-        ensures keeps { S.model store.new ≡ S.model store.old }
-        ensures size { S.size store.new ≡ S.size store.old }
-        ensures failed { S.failed store.new ≡ count_after is_io_failure result (S.failed store.old) }
+        ensures store { KeepsStore S.model S.size S.failed store.old store.new result }
     {
         'ids: while let Some(_id) = self.next_below(alloc, store, end)? {
             self.take_short(&mut [], 0, end, false);
@@ -269,9 +258,7 @@ impl StoredList {
         ensures ready { (bytes : List ℕ) → S.model store.old ≡ Some bytes → Holds bytes self.old →
             OnOk result (IsReady bytes self.new) }
         ensures same { self.new ≡ with_piece self.old self.new.piece }
-        ensures keeps { S.model store.new ≡ S.model store.old }
-        ensures size { S.size store.new ≡ S.size store.old }
-        ensures failed { S.failed store.new ≡ count_after is_io_failure result (S.failed store.old) }
+        ensures store { KeepsStore S.model S.size S.failed store.old store.new result }
     {
         let at = self.start + self.used;
         let len = self.piece.len();

@@ -1,8 +1,7 @@
 // The sections of an index in a store, which are tested piece by piece.
 ghost use Rattle.std.specs.Prelude.{◌≡◌, ◌≤◌, ◌<◌, ◌^◌, ◌+◌, ◌*◌, ◌-◌, ◌∷◌, ◌++◌, [], ℕ, List, Some, length, IfOk, IfSome, IfNone, true, false};
-ghost use Rattle.cs_tree.specs.FailureCount.{count_after};
+ghost use Rattle.cs_tree.specs.KeepsStore.{KeepsStore};
 ghost use Rattle.cs_tree.specs.Store.{part_of};
-ghost use Rattle.cs_tree.specs.Transfers.{is_io_failure};
 ghost use Rattle.cs_index.specs.Opening.{is_list_index, is_section, texts_of};
 ghost use Rattle.cs_index.specs.SectionPieces.{AreNamesTested, ArePathsRead};
 ghost use Rattle.cs_index.specs.ValidSections.{has_starts};
@@ -36,9 +35,7 @@ pub(crate) fn read_paths<S: Store>(
     ensures paths { (bytes : List ℕ) → S.model store.old ≡ Some bytes → starts.now.trailer ≤ length bytes →
         IfOk result (ArePathsRead (part_of bytes starts.now.paths (starts.now.names - starts.now.paths))) }
     ensures closed { IfOk result (λ found. IfSome found (λ paths. is_section (0 ∷ []) paths.items ≡ true)) }
-    ensures keeps { S.model store.new ≡ S.model store.old }
-    ensures size { S.size store.new ≡ S.size store.old }
-    ensures failed { S.failed store.new ≡ count_after is_io_failure result (S.failed store.old) }
+    ensures store { KeepsStore S.model S.size S.failed store.old store.new result }
 {
     let mut paths = Vec::new(alloc);
     let mut window = Window::new(alloc, starts.paths, starts.names);
@@ -78,9 +75,7 @@ pub(crate) fn test_names<S: Store>(
         (part_of bytes starts.now.name_index (starts.now.list_index - starts.now.name_index))) }
     ensures few { IfOk result (λ found. IfSome found (λ test. test.have_offsets ≡ true →
         starts.now.list_index - starts.now.name_index ≡ 4 * (test.count + 1))) }
-    ensures keeps { S.model store.new ≡ S.model store.old }
-    ensures size { S.size store.new ≡ S.size store.old }
-    ensures failed { S.failed store.new ≡ count_after is_io_failure result (S.failed store.old) }
+    ensures store { KeepsStore S.model S.size S.failed store.old store.new result }
 {
     let mut window = Window::new(alloc, starts.names, starts.postings);
     let mut used = 0;
@@ -128,9 +123,7 @@ fn has_stored_offsets<S: Store>(
         IfOk result (λ has. has ≡ has_starts (part_of
         (part_of bytes starts.now.name_index (starts.now.list_index - starts.now.name_index)) (4 * done)
         (4 * (count + 1))) 0 start (texts_of names.now)) }
-    ensures keeps { S.model store.new ≡ S.model store.old }
-    ensures size { S.size store.new ≡ S.size store.old }
-    ensures failed { S.failed store.new ≡ count_after is_io_failure result (S.failed store.old) }
+    ensures store { KeepsStore S.model S.size S.failed store.old store.new result }
 {
     let numbers = read_numbers(alloc, store, starts, done, count)?;
     Ok(has_offsets(&numbers, names, start, count))
@@ -150,9 +143,7 @@ fn read_numbers<S: Store>(
         IfOk result (λ numbers. numbers.items ≡ part_of
         (part_of bytes starts.now.name_index (starts.now.list_index - starts.now.name_index)) (4 * done)
         (4 * (count + 1))) }
-    ensures keeps { S.model store.new ≡ S.model store.old }
-    ensures size { S.size store.new ≡ S.size store.old }
-    ensures failed { S.failed store.new ≡ count_after is_io_failure result (S.failed store.old) }
+    ensures store { KeepsStore S.model S.size S.failed store.old store.new result }
 {
     let room = (starts.list_index - starts.name_index).saturating_sub(4 * done);
     read_part(
@@ -173,9 +164,7 @@ pub(crate) fn has_stored_entries<S: Store>(
     ensures entries { (bytes : List ℕ) → S.model store.old ≡ Some bytes → starts.now.trailer ≤ length bytes →
         IfOk result (λ has. has ≡ is_list_index (starts.now.name_index - starts.now.postings)
         (part_of bytes starts.now.list_index (starts.now.trailer - starts.now.list_index))) }
-    ensures keeps { S.model store.new ≡ S.model store.old }
-    ensures size { S.size store.new ≡ S.size store.old }
-    ensures failed { S.failed store.new ≡ count_after is_io_failure result (S.failed store.old) }
+    ensures store { KeepsStore S.model S.size S.failed store.old store.new result }
 {
     let room = starts.name_index - starts.postings;
     let mut piece = Vec::new(alloc);

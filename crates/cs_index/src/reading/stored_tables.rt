@@ -1,5 +1,6 @@
 // The paths, the names and the tables of an index in a store, in memory. The posting lists stay in the store.
 ghost use Rattle.std.specs.Prelude.{◌≡◌, ◌≤◌, ◌<◌, ◌+◌, ℕ, List, Ok, length, option_map, slice_get, IfOk, IfSome};
+ghost use Rattle.cs_tree.specs.KeepsStore.{KeepsStore};
 ghost use Rattle.cs_tree.specs.FailureCount.{count_after};
 ghost use Rattle.cs_tree.specs.Transfers.{is_io_failure};
 ghost use Rattle.cs_index.specs.AscendingIds.{max_ids};
@@ -157,9 +158,7 @@ fn read_tables<S: Store>(
         (paths : List (List ℕ)) (count : ℕ) (parts : Parts) →
         StandsIn bytes (record { paths = paths; name_count = count; starts = starts }) parts →
         IfOk result (OpensAsTables bytes)) }
-    ensures keeps { S.model store.new ≡ S.model store.old }
-    ensures size { S.size store.new ≡ S.size store.old }
-    ensures failed { S.failed store.new ≡ count_after is_io_failure result (S.failed store.old) }
+    ensures store { KeepsStore S.model S.size S.failed store.old store.new result }
 {
     let paths = read_part(alloc, store, starts.paths, starts.names - starts.paths)?;
     let names = read_part(alloc, store, starts.names, starts.postings - starts.names)?;

@@ -84,7 +84,7 @@ lists-preserved g c =
           inv.sent (on_ok c.in-Ok-true.is c.in_ok-send_next.ensures.given);
       early = on_ok c.in-Ok-true.is c.in_ok-send_next.ensures.early;
       keeps_out = g.met.O.Output.keeps_trans _ _ _ inv.keeps_out c.in_ok-send_next.ensures.keeps_out;
-      keeps = c.in_ok-send_next.ensures.keeps ∙ inv.keeps;
-      size = c.in_ok-send_next.ensures.size ∙ inv.size;
-      failed = c.in_ok-send_next.ensures.failed ∙ inv.failed;
+      keeps = c.in_ok-send_next.ensures.store.0 ∙ inv.keeps;
+      size = c.in_ok-send_next.ensures.store.1 ∙ inv.size;
+      failed = c.in_ok-send_next.ensures.store.2 ∙ inv.failed;
     }

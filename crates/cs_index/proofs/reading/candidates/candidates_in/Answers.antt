@@ -34,13 +34,13 @@ returns-clause-answers g c bytes m parts has' up listed =
     ∙ ap (map (read_for parts)) (sym c.in_ok-trigrams.ensures) in
     let held = subst (AllByRecursion (Holds bytes)) (sym c.deref_mut.ensures.value) (c.in_ok-lists.ensures.holds bytes m) in
     let left = all_left bytes parts up c.args.query.now trigrams are lists is (few_names bytes s parts c.requires.section has') held in
-    let modelled = c.lists_of.ensures.keeps ∙ m in
+    let modelled = c.lists_of.ensures.store.0 ∙ m in
     let read = c.in_ok-ids.ensures.lists bytes modelled left in
     let kept : take c.in_ok-lists.lists.len (after ++ drop (length after) c.in_ok-lists.lists.items) ≡ after =
     taken_back c.in_ok-lists.lists.len after (drop (length after) c.in_ok-lists.lists.items)
     (sym (c.meet.auto.lists ∙ c.deref_mut.ensures.len)) in
     let whole : c.in_ok-finish_all.field-0 ≡ are_whole bytes lists =
-    c.in_ok-finish_all.ensures.whole bytes (c.meet.ensures.keeps ∙ modelled)
+    c.in_ok-finish_all.ensures.whole bytes (c.meet.ensures.store.0 ∙ modelled)
     (subst (AllByRecursion (Holds bytes)) (sym kept) (all_held bytes s.name_count lists after read))
     ∙ ap (are_whole bytes) kept ∙ whole_alike bytes s.name_count lists after read in
     elim c.if-branch.branch [

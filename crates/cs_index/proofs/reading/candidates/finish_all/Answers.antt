@@ -34,7 +34,7 @@ lists-preserved g c =
             sym (and-true (are_whole bytes rest)) ∙ ap (λ b. are_whole bytes rest && b) (sym good)
                 ∙ sym (whole-append bytes rest list) ∙ ap (are_whole bytes) (sym items) ∙ before.1,
           );
-      keeps = c.finish.ensures.keeps ∙ i.keeps;
-      size = c.finish.ensures.size ∙ i.size;
-      failed = c.in_ok-finish.ensures.failed ∙ i.failed;
+      keeps = c.finish.ensures.store.0 ∙ i.keeps;
+      size = c.finish.ensures.store.1 ∙ i.size;
+      failed = c.in_ok-finish.ensures.store.2 ∙ i.failed;
     }

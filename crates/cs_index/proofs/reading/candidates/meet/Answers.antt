@@ -41,9 +41,9 @@ windows-init g c =
           (λ id from below. passed bytes nodes root id lists c.rarest_list-rarest.result c.rarest_list-rarest.ensures
           (c.in_ok-start.ensures.lacks bytes m all id from below));
       lists = λ bytes m all. c.in_ok-start.ensures.lists bytes m all;
-      keeps = c.next_start.ensures.keeps;
-      size = c.next_start.ensures.size;
-      failed = c.in_ok-start.ensures.failed;
+      keeps = c.next_start.ensures.store.0;
+      size = c.next_start.ensures.store.1;
+      failed = c.in_ok-start.ensures.store.2;
     }
 
 pub windows-preserved : goal.windows-preserved
@@ -77,14 +77,14 @@ windows-preserved g c =
           (λ id from below. passed bytes nodes root id old c.rarest_list-rarest.result c.rarest_list-rarest.ensures
           (subst (λ (bits : List Bool). LacksId bits c.rarest_list-rarest.result)
           (have_alike bytes end id old after from (read bytes m all))
-          (c.in_ok-start-2.ensures.lacks bytes (c.meet_window.ensures.keeps ∙ i.keeps ∙ m)
+          (c.in_ok-start-2.ensures.lacks bytes (c.meet_window.ensures.store.0 ∙ i.keeps ∙ m)
           (all_from bytes end old after (read bytes m all)) id from below)));
       lists = λ bytes m all. read_all_on bytes end next old after c.next_start-in-windows.new.lists
           c.in_ok-start-2.ensures.from (read bytes m all)
-          (c.in_ok-start-2.ensures.lists bytes (c.meet_window.ensures.keeps ∙ i.keeps ∙ m) (all_from bytes end old after (read bytes m all)));
-      keeps = c.next_start-in-windows.ensures.keeps ∙ c.meet_window.ensures.keeps ∙ i.keeps;
-      size = c.next_start-in-windows.ensures.size ∙ c.meet_window.ensures.size ∙ i.size;
-      failed = c.in_ok-start-2.ensures.failed ∙ c.in_ok-meet_window.ensures.failed ∙ i.failed;
+          (c.in_ok-start-2.ensures.lists bytes (c.meet_window.ensures.store.0 ∙ i.keeps ∙ m) (all_from bytes end old after (read bytes m all)));
+      keeps = c.next_start-in-windows.ensures.store.0 ∙ c.meet_window.ensures.store.0 ∙ i.keeps;
+      size = c.next_start-in-windows.ensures.store.1 ∙ c.meet_window.ensures.store.1 ∙ i.size;
+      failed = c.in_ok-start-2.ensures.store.2 ∙ c.in_ok-meet_window.ensures.store.2 ∙ i.failed;
     }
 
 pub returns-clause-ids : goal.returns-clause-ids

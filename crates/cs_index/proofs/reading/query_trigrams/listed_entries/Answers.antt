@@ -31,9 +31,9 @@ loop-trigram-preserved g c =
           (c.in_ok-entry.ensures.found bytes (i.keeps ∙ m) list_index has) c.in_ok-entry.ensures.same (omega arith)
           (i.all bytes m list_index has);
       ascend = still_ascend listed new found gs k is c.in_ok-entry.ensures.same (omega arith) i.ascend;
-      keeps = c.find.ensures.keeps ∙ i.keeps;
-      size = c.find.ensures.size ∙ i.size;
-      failed = c.in_ok-entry.ensures.failed ∙ i.failed;
+      keeps = c.find.ensures.store.0 ∙ i.keeps;
+      size = c.find.ensures.store.1 ∙ i.size;
+      failed = c.in_ok-entry.ensures.store.2 ∙ i.failed;
     }
 
 pub returns-clause-listed : goal.returns-clause-listed

@@ -18,9 +18,9 @@ ids-init g c = record {
             (skipped_to c.args.window.start (ids_left bytes c.args.list.now) (ids_left bytes c.skip_below.new.self)
             skips.0.1 skips.0.2 skips.0.3 left.1) skips.1,
       );
-  keeps = c.skip_below.ensures.keeps;
-  size = c.skip_below.ensures.size;
-  failed = c.in_ok-skip_below.ensures.failed;
+  keeps = c.skip_below.ensures.store.0;
+  size = c.skip_below.ensures.store.1;
+  failed = c.in_ok-skip_below.ensures.store.2;
 }
 
 pub ids-preserved : goal.ids-preserved
@@ -68,9 +68,9 @@ ids-preserved g c =
             (c.take_short.ensures.skips bytes given.0).0,
             subst (λ (r : List Bool). RowSoFar start end list r (ids_left bytes c.take_short.new.self)) (sym back) more,
           );
-      keeps = c.next_below.ensures.keeps ∙ i.keeps;
-      size = c.next_below.ensures.size ∙ i.size;
-      failed = c.in_ok-id.ensures.failed ∙ i.failed;
+      keeps = c.next_below.ensures.store.0 ∙ i.keeps;
+      size = c.next_below.ensures.store.1 ∙ i.size;
+      failed = c.in_ok-id.ensures.store.2 ∙ i.failed;
     }
 
 pub returns-clause-row : goal.returns-clause-row

@@ -42,9 +42,9 @@ loop-at-preserved g c =
           (all_zipped_more (IsReadOn bytes end) (take at old) (take at lists) list new (i.read bytes m all)
           (c.in_ok-row.ensures.list bytes (i.keeps ∙ m) (held bytes all))));
       left = drop-set-lt (at + 1) lists at new (omega arith) ∙ sym (drop-drop 1 at lists) ∙ ap (drop 1) i.left ∙ drop-drop 1 at old;
-      keeps = c.list_row.ensures.keeps ∙ i.keeps;
-      size = c.list_row.ensures.size ∙ i.size;
-      failed = c.in_ok-row.ensures.failed ∙ i.failed;
+      keeps = c.list_row.ensures.store.0 ∙ i.keeps;
+      size = c.list_row.ensures.store.1 ∙ i.size;
+      failed = c.in_ok-row.ensures.store.2 ∙ i.failed;
     }
 
 pub returns-clause-rows : goal.returns-clause-rows

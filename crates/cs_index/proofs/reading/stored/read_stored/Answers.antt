@@ -23,7 +23,7 @@ returns-in_default-2-clause-opens g c =
     (c.in_ok-paths.ensures.paths bytes m within) c.in_ok-paths.ensures.closed in
     opened bytes s _ split (bad_names s paths.1
     (subst (AreNamesTested s.names s.name_index) c.in_default-2.is
-    (c.in_ok-names.ensures.names bytes (c.read_paths.ensures.keeps ∙ m) within))))
+    (c.in_ok-names.ensures.names bytes (c.read_paths.ensures.store.0 ∙ m) within))))
 
 pub returns-then-not-names-clause-opens : goal.returns-then-not-names-clause-opens
 returns-then-not-names-clause-opens g c =
@@ -33,7 +33,7 @@ returns-then-not-names-clause-opens g c =
     let paths = closed_paths s.paths c.in_ok-paths.field-0 c.in-Some.paths c.in-Some.is
     (c.in_ok-paths.ensures.paths bytes m within) c.in_ok-paths.ensures.closed in
     let names = subst (AreNamesTested s.names s.name_index) c.in-Some-2.is
-    (c.in_ok-names.ensures.names bytes (c.read_paths.ensures.keeps ∙ m) within) in
+    (c.in_ok-names.ensures.names bytes (c.read_paths.ensures.store.0 ∙ m) within) in
     opened bytes s _ split (bad_name_index s paths.1 names.valid (sym names.offsets ∙ c.if-not-names.true)))
 
 pub returns-then-not-branch-clause-opens : goal.returns-then-not-branch-clause-opens
@@ -44,11 +44,11 @@ returns-then-not-branch-clause-opens g c =
     let paths = closed_paths s.paths c.in_ok-paths.field-0 c.in-Some.paths c.in-Some.is
     (c.in_ok-paths.ensures.paths bytes m within) c.in_ok-paths.ensures.closed in
     let names = subst (AreNamesTested s.names s.name_index) c.in-Some-2.is
-    (c.in_ok-names.ensures.names bytes (c.read_paths.ensures.keeps ∙ m) within) in
+    (c.in_ok-names.ensures.names bytes (c.read_paths.ensures.store.0 ∙ m) within) in
     let long = lists_long bytes c.args.starts c.requires within in
     opened bytes s _ split (bad_list_index s paths.1 names.valid (sym names.offsets ∙ c.if-not-names.false)
     (ap (λ n. is_list_index n s.list_index) long
-    ∙ sym (c.in_ok-has_stored_entries.ensures.entries bytes (c.test_names.ensures.keeps ∙ c.read_paths.ensures.keeps
+    ∙ sym (c.in_ok-has_stored_entries.ensures.entries bytes (c.test_names.ensures.store.0 ∙ c.read_paths.ensures.store.0
     ∙ m) within) ∙ c.if-not-branch.true)))
 
 pub returns-clause-opens : goal.returns-clause-opens
@@ -59,11 +59,11 @@ returns-clause-opens g c =
     let paths = closed_paths s.paths c.in_ok-paths.field-0 c.in-Some.paths c.in-Some.is
     (c.in_ok-paths.ensures.paths bytes m within) c.in_ok-paths.ensures.closed in
     let names = subst (AreNamesTested s.names s.name_index) c.in-Some-2.is
-    (c.in_ok-names.ensures.names bytes (c.read_paths.ensures.keeps ∙ m) within) in
+    (c.in_ok-names.ensures.names bytes (c.read_paths.ensures.store.0 ∙ m) within) in
     let long = lists_long bytes c.args.starts c.requires within in
     let room : ℕ = c.args.starts.name_index - c.args.starts.postings in
     let entries : is_list_index room s.list_index ≡ true =
-    sym (c.in_ok-has_stored_entries.ensures.entries bytes (c.test_names.ensures.keeps ∙ c.read_paths.ensures.keeps ∙ m)
+    sym (c.in_ok-has_stored_entries.ensures.entries bytes (c.test_names.ensures.store.0 ∙ c.read_paths.ensures.store.0 ∙ m)
     within) ∙ c.if-not-branch.false in
     let decodes = split_decodes bytes s (parts_of s) are split
     (tested s.paths s.names s.name_index s.list_index s.postings room long (record {

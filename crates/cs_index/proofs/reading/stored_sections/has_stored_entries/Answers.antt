@@ -73,9 +73,9 @@ pieces-preserved g c =
           ∙ ap (λ p. entries_in p ++ entries_in (part_of bytes (c.pieces.at + len) (s.trailer - (c.pieces.at + len))))
           (sym c.deref.ensures.value))
           ∙ c.in-Some.ensures.some (entries_in (part_of bytes (c.pieces.at + len) (s.trailer - (c.pieces.at + len))));
-      keeps = c.read_into.ensures.keeps ∙ i.keeps;
-      size = c.read_into.ensures.size ∙ i.size;
-      failed = c.in_ok-read_into.ensures.failed ∙ i.failed;
+      keeps = c.read_into.ensures.store.0 ∙ i.keeps;
+      size = c.read_into.ensures.store.1 ∙ i.size;
+      failed = c.in_ok-read_into.ensures.store.2 ∙ i.failed;
     }
 
 pub returns-clause-entries : goal.returns-clause-entries

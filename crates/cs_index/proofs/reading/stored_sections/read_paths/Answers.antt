@@ -43,7 +43,7 @@ pieces-preserved g c =
           (c.in_ok-read_on.ensures.piece bytes (i.keeps ∙ m)) is).1
           ∙ sym (append_assoc c.pieces.paths.items (run_bytes is.texts) (left_from bytes new run.len))
           ∙ ap (λ p. p ++ left_from bytes new run.len) (sym paths);
-      keeps = c.read_on.ensures.keeps ∙ i.keeps;
-      size = c.read_on.ensures.size ∙ i.size;
-      failed = c.in_ok-read_on.ensures.failed ∙ i.failed;
+      keeps = c.read_on.ensures.store.0 ∙ i.keeps;
+      size = c.read_on.ensures.store.1 ∙ i.size;
+      failed = c.in_ok-read_on.ensures.store.2 ∙ i.failed;
     }

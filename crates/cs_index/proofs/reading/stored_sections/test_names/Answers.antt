@@ -93,7 +93,7 @@ pieces-preserved g c =
           (c.in_ok-more.ensures.piece bytes (i.keeps ∙ m)) is in
           let numbers : List ℕ = part_of index (4 * c.pieces.count) (4 * (length is.texts + 1)) in
           let have : c.in_ok-have.have ≡ has_starts numbers 0 offset is.texts =
-          c.in_ok-have.ensures.offsets bytes (c.read_on.ensures.keeps ∙ i.keeps ∙ m)
+          c.in_ok-have.ensures.offsets bytes (c.read_on.ensures.store.0 ∙ i.keeps ∙ m)
           ∙ (λ j. has_starts (part_of index (4 * c.pieces.count) (4 * (sym is.count j + 1))) 0 (same j)
           ((ap (λ p. texts_of (take run.len p)) c.deref-in-pieces.ensures.value ∙ run_texts piece run is) j)) in
           subst (AreNamesBefore section index rest (c.pieces.count + run.count) (new.start + run.len - s.names))
@@ -107,9 +107,9 @@ pieces-preserved g c =
           window_last bytes new run.len c.read_on.ensures.window is.within
           (c.in_ok-more.ensures.end bytes (i.keeps ∙ m) (let stop = i.stop in let a = order.cd in let b = order.de in
           let d = order.ea in omega (arith, stop, within, a, b, d)) e);
-      keeps = c.has_stored_offsets.ensures.keeps ∙ c.read_on.ensures.keeps ∙ i.keeps;
-      size = c.has_stored_offsets.ensures.size ∙ c.read_on.ensures.size ∙ i.size;
-      failed = c.in_ok-have.ensures.failed ∙ c.in_ok-more.ensures.failed ∙ i.failed;
+      keeps = c.has_stored_offsets.ensures.store.0 ∙ c.read_on.ensures.store.0 ∙ i.keeps;
+      size = c.has_stored_offsets.ensures.store.1 ∙ c.read_on.ensures.store.1 ∙ i.size;
+      failed = c.in_ok-have.ensures.store.2 ∙ c.in_ok-more.ensures.store.2 ∙ i.failed;
     }
 
 pub returns-clause-names : goal.returns-clause-names

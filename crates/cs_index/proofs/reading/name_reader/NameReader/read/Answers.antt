@@ -23,7 +23,7 @@ returns-in_default-clause-name g c bytes m parts reads =
     let is = c.in_ok-offset.ensures.number bytes m reads.offset_piece within in (
       named (slice_get parts.names c.args.id) (Err BadNames) after
           (λ name found. absurd (c.in_default.not-Some (length name)
-          (c.in_ok-len.ensures.text bytes (c.number.ensures.keeps ∙ m) reads.name_piece name
+          (c.in_ok-len.ensures.text bytes (c.number.ensures.store.0 ∙ m) reads.name_piece name
           (stands_there bytes parts reader reads c.args.id c.if-id-self.false c.in_ok-offset.offset name is
           found)).len)),
       record {
@@ -33,7 +33,7 @@ returns-in_default-clause-name g c bytes m parts reads =
         count = reads.count;
         within = reads.within;
         offset_piece = c.in_ok-offset.ensures.piece bytes m reads.offset_piece;
-        name_piece = c.in_ok-len.ensures.piece bytes (c.number.ensures.keeps ∙ m) reads.name_piece;
+        name_piece = c.in_ok-len.ensures.piece bytes (c.number.ensures.store.0 ∙ m) reads.name_piece;
       },
     )
 
@@ -55,7 +55,7 @@ returns-clause-name g c bytes m parts reads =
     let is = c.in_ok-offset.ensures.number bytes m reads.offset_piece within in (
       named (slice_get parts.names c.args.id) (Ok tt) after
           (λ name found. subst (HasText c.find_text.new.self (reader.start + c.in_ok-offset.offset) name) c.in-Some.is
-          (c.in_ok-len.ensures.text bytes (c.number.ensures.keeps ∙ m) reads.name_piece name
+          (c.in_ok-len.ensures.text bytes (c.number.ensures.store.0 ∙ m) reads.name_piece name
           (stands_there bytes parts reader reads c.args.id c.if-id-self.false c.in_ok-offset.offset name is found))),
       record {
         formed = reads.formed;
@@ -64,6 +64,6 @@ returns-clause-name g c bytes m parts reads =
         count = reads.count;
         within = reads.within;
         offset_piece = c.in_ok-offset.ensures.piece bytes m reads.offset_piece;
-        name_piece = c.in_ok-len.ensures.piece bytes (c.number.ensures.keeps ∙ m) reads.name_piece;
+        name_piece = c.in_ok-len.ensures.piece bytes (c.number.ensures.store.0 ∙ m) reads.name_piece;
       },
     )

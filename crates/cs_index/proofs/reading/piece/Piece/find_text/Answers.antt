@@ -34,9 +34,9 @@ pieces-preserved g c =
           (c.before_nul.ensures.none text stands.more
           (c.reach.new.self.start + length c.reach.new.self.bytes.items - c.args.at) stands.string.1 part);
       piece = λ bytes m is. c.in_ok-reach.ensures.piece bytes (i.keeps ∙ m) (i.piece bytes m is);
-      keeps = c.reach.ensures.keeps ∙ i.keeps;
-      size = c.reach.ensures.size ∙ i.size;
-      failed = c.in_ok-reach.ensures.failed ∙ i.failed;
+      keeps = c.reach.ensures.store.0 ∙ i.keeps;
+      size = c.reach.ensures.store.1 ∙ i.size;
+      failed = c.in_ok-reach.ensures.store.2 ∙ i.failed;
     }
 
 pub returns-clause-text : goal.returns-clause-text

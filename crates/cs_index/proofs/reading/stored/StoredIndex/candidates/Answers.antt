@@ -25,7 +25,7 @@ returns-clause-answers g c bytes m parts stands' =
     let order = c.self.invariant.1 in
     let listed = c.in_ok-listed.ensures.listed bytes m (list_index bytes _ parts stands order)
     (stored_entries bytes _ parts stands order) in
-    c.candidates_in.ensures.answers bytes (c.listed_entries.ensures.keeps ∙ m) parts
+    c.candidates_in.ensures.answers bytes (c.listed_entries.ensures.store.0 ∙ m) parts
     (stored_lists bytes _ parts stands order)
     (subst (λ (es : List ListEntry). rises es ≡ true) (entries_are bytes _ parts stands order) (stored_rise bytes _ parts stands order))
     (subst (λ (ls : List Entry). AreListed c.args.query.now parts.entries ls) (sym c.deref.ensures.value)

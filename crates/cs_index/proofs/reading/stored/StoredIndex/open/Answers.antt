@@ -7,7 +7,7 @@ pub returns-in-Ok-clause-opens : goal.returns-in-Ok-clause-opens
 returns-in-Ok-clause-opens g c =
     if_some_map _ _ (g.S.Store.model c.args.store.now)
     (λ bytes both. let slices = subst (IsSplitAt bytes) c.in-Ok.is both.0.0 in both.1 both.0.1 slices.1 slices.0)
-    (if_some_both _ _ (g.S.Store.model c.args.store.now) _ c.in_ok-starts.ensures.keeps
+    (if_some_both _ _ (g.S.Store.model c.args.store.now) _ c.in_ok-starts.ensures.store.0
     (if_some_both _ _ (g.S.Store.model c.args.store.now) _ refl c.in_ok-starts.ensures.slices c.in_ok-starts.ensures.bytes)
     c.read_stored.ensures.opens)
 

@@ -18,7 +18,7 @@ returns-then-entry-trigram-clause-found g c bytes m list_index has =
     let position : ℕ = c.in_ok-position.position in
     let count = has.count in
     let is : entry_read c.in_ok-entry.entry ≡ entry_at list_index (11 * position) =
-    c.in_ok-entry.ensures.entry bytes (c.first_from.ensures.keeps ∙ m)
+    c.in_ok-entry.ensures.entry bytes (c.first_from.ensures.store.0 ∙ m)
     (entry_within bytes list_index s has position c.if-position-self.false)
     ∙ entry_there bytes list_index s has position c.if-position-self.false in
     sym (entry_none list_index c.args.trigram
@@ -33,7 +33,7 @@ returns-clause-found g c bytes m list_index has =
     let position : ℕ = c.in_ok-position.position in
     let count = has.count in
     let is : entry_read c.in_ok-entry.entry ≡ entry_at list_index (11 * position) =
-    c.in_ok-entry.ensures.entry bytes (c.first_from.ensures.keeps ∙ m)
+    c.in_ok-entry.ensures.entry bytes (c.first_from.ensures.store.0 ∙ m)
     (entry_within bytes list_index s has position c.if-position-self.false)
     ∙ entry_there bytes list_index s has position c.if-position-self.false in
     ap Some is

@@ -22,9 +22,9 @@ halves-preserved-then-branch-trigram g c =
           lower_before list_index s.count middle c.args.trigram k has.count has.rise inside
           (subst (λ n. n < c.args.trigram) is c.if-branch-trigram.true) l;
       above = i.above;
-      keeps = c.read_entry.ensures.keeps ∙ i.keeps;
-      size = c.read_entry.ensures.size ∙ i.size;
-      failed = c.in_ok-read_entry.ensures.failed ∙ i.failed;
+      keeps = c.read_entry.ensures.store.0 ∙ i.keeps;
+      size = c.read_entry.ensures.store.1 ∙ i.size;
+      failed = c.in_ok-read_entry.ensures.store.2 ∙ i.failed;
     }
 
 pub halves-preserved : goal.halves-preserved
@@ -44,7 +44,7 @@ halves-preserved g c =
           (entry_within bytes list_index s has middle inside)) ∙ trigram_there bytes list_index s has middle inside in
           higher_from list_index s.count middle c.args.trigram k has.count has.rise
           (subst (λ n. c.args.trigram ≤ n) is c.if-branch-trigram.false) l h;
-      keeps = c.read_entry.ensures.keeps ∙ i.keeps;
-      size = c.read_entry.ensures.size ∙ i.size;
-      failed = c.in_ok-read_entry.ensures.failed ∙ i.failed;
+      keeps = c.read_entry.ensures.store.0 ∙ i.keeps;
+      size = c.read_entry.ensures.store.1 ∙ i.size;
+      failed = c.in_ok-read_entry.ensures.store.2 ∙ i.failed;
     }

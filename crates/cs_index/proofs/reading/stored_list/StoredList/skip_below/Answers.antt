@@ -14,7 +14,7 @@ ids-preserved g c =
           skips_on bytes c.args.end c.in-Some._id c.args.self.now c.ids.self c.next_below.new.self c.take_short.new.self
           so_far given (c.take_short.ensures.skips bytes given.0);
       names = c.take_short.ensures.names ∙ c.next_below.ensures.names ∙ i.names;
-      keeps = c.next_below.ensures.keeps ∙ i.keeps;
-      size = c.next_below.ensures.size ∙ i.size;
-      failed = c.in_ok-_id.ensures.failed ∙ i.failed;
+      keeps = c.next_below.ensures.store.0 ∙ i.keeps;
+      size = c.next_below.ensures.store.1 ∙ i.size;
+      failed = c.in_ok-_id.ensures.store.2 ∙ i.failed;
     }

@@ -3,9 +3,7 @@ ghost use Rattle.std.specs.Prelude.{◌≡◌, ◌++◌, ℕ, List, [], Some, ma
 ghost use Rattle.std.specs.List.{AllByRecursion};
 ghost use Rattle.cs_tree.specs.KeepsStore.{KeepsStore};
 ghost use Rattle.cs_tree.specs.Cover.{is_covered};
-ghost use Rattle.cs_tree.specs.FailureCount.{count_after};
 ghost use Rattle.cs_tree.specs.PathSet as set;
-ghost use Rattle.cs_tree.specs.Transfers.{is_io_failure};
 ghost use Rattle.cs_index.specs.Encoding.{IsString, encoding_of};
 ghost use Rattle.cs_index.specs.OpenedParts.{Parts, paths_in};
 ghost use Rattle.cs_index.specs.StoredTables.{TablesIn};
@@ -90,9 +88,7 @@ pub fn merge_stored<S: Store, O: Output>(
     ensures given { IfOk result (λ merged. IfOk merged
         (λ index. O.given out.new ≡ O.given out.old ++ index.bytes)) }
     ensures keeps_out { O.Keeps out.old out.new }
-    ensures keeps { S.model store.new ≡ S.model store.old }
-    ensures size { S.size store.new ≡ S.size store.old }
-    ensures failed { S.failed store.new ≡ count_after is_io_failure result (S.failed store.old) }
+    ensures store { KeepsStore S.model S.size S.failed store.old store.new result }
 {
     merge_stored_within(alloc, store, u32::MAX, old, newer, out)
 }
@@ -115,9 +111,7 @@ pub fn merge_stored_within<S: Store, O: Output>(
     ensures given { IfOk result (λ merged. IfOk merged
         (λ index. O.given out.new ≡ O.given out.old ++ index.bytes)) }
     ensures keeps_out { O.Keeps out.old out.new }
-    ensures keeps { S.model store.new ≡ S.model store.old }
-    ensures size { S.size store.new ≡ S.size store.old }
-    ensures failed { S.failed store.new ≡ count_after is_io_failure result (S.failed store.old) }
+    ensures store { KeepsStore S.model S.size S.failed store.old store.new result }
 {
     merge_source(alloc, store, most, &ListSource::InStore(old), newer, out)
 }

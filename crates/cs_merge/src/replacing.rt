@@ -4,8 +4,6 @@ ghost use Rattle.std.specs.List.{list_all};
 ghost use Rattle.std.specs.Option.{option_map_or};
 ghost use Rattle.cs_tree.specs.KeepsStore.{KeepsStore};
 ghost use Rattle.cs_tree.specs.Cover.{is_covered};
-ghost use Rattle.cs_tree.specs.FailureCount.{count_after};
-ghost use Rattle.cs_tree.specs.Transfers.{is_io_failure};
 ghost use Rattle.cs_tree.specs.PathSet as set;
 ghost use Rattle.cs_index.specs.Encoding.{ListEntry};
 ghost use Rattle.cs_index.specs.OpenedParts.{Parts, are_whole, paths_in};
@@ -80,9 +78,7 @@ pub fn is_whole_stored<S: Store>(
 ) -> Result<bool, IoFault>
     ensures whole { (bytes : List ℕ) → S.model store.old ≡ Some bytes → (parts : Parts) →
         TablesIn bytes tables.now parts → IfOk result (λ whole. whole ≡ are_whole parts) }
-    ensures keeps { S.model store.new ≡ S.model store.old }
-    ensures size { S.size store.new ≡ S.size store.old }
-    ensures failed { S.failed store.new ≡ count_after is_io_failure result (S.failed store.old) }
+    ensures store { KeepsStore S.model S.size S.failed store.old store.new result }
 {
     let mut buffer = ListBuffer::new(alloc);
     is_whole_from(alloc, store, &ListSource::InStore(tables), &mut buffer, 0)

@@ -1,5 +1,6 @@
 // Stores: bytes that are read by offset.
 ghost use Rattle.std.specs.Prelude.{◌≡◌, ◌≤◌, ◌<◌, ◌+◌, ◌^◌, vec_len, ℕ, List, Option, None, IfOk, IfSome, length};
+ghost use Rattle.cs_tree.specs.KeepsStore.{KeepsStore};
 ghost use Rattle.cs_tree.specs.Transfers.{is_io_failure};
 ghost use Rattle.cs_tree.specs.WholeReads.{items_of, FillShows, PartShows};
 ghost use Rattle.cs_tree.specs.FailureCount.{count_after};
@@ -47,9 +48,7 @@ pub fn fill_at<S: Store>(store: &mut S, buf: &mut [u8], at: usize) -> Result<usi
     ensures len { length buf.new ≡ length buf.old }
     ensures within { IfOk result (λ n. n ≤ length buf.new) }
     ensures bytes { FillShows (S.model store.old) at result buf.new }
-    ensures keeps { S.model store.new ≡ S.model store.old }
-    ensures size { S.size store.new ≡ S.size store.old }
-    ensures failed { S.failed store.new ≡ count_after is_io_failure result (S.failed store.old) }
+    ensures store { KeepsStore S.model S.size S.failed store.old store.new result }
 {
     let mut filled = 0;
     'reads: while filled < buf.len() {
@@ -72,9 +71,7 @@ pub fn read_part<S: Store>(
     requires { at + len < 2 ^ 64 }
     ensures bound { IfOk result (λ part. vec_len part ≤ len) }
     ensures bytes { PartShows (S.model store.old) at len (items_of result) }
-    ensures keeps { S.model store.new ≡ S.model store.old }
-    ensures size { S.size store.new ≡ S.size store.old }
-    ensures failed { S.failed store.new ≡ count_after is_io_failure result (S.failed store.old) }
+    ensures store { KeepsStore S.model S.size S.failed store.old store.new result }
 {
     let mut part: Vec<u8> = Vec::new(alloc);
     part.resize(len, 0)?;

@@ -4,8 +4,6 @@ ghost use Rattle.std.specs.Prelude.{◌≡◌, ◌<◌, ◌≤◌, ◌+◌, ◌-
 ghost use Rattle.std.specs.List.{AllByRecursion, AllZip, list_all, range_with_len};
 ghost use Rattle.cs_tree.specs.KeepsStore.{KeepsStore};
 ghost use Rattle.cs_tree.specs.Store.{part_of};
-ghost use Rattle.cs_tree.specs.FailureCount.{count_after};
-ghost use Rattle.cs_tree.specs.Transfers.{is_io_failure};
 ghost use Rattle.cs_trigram.specs.Trigram.{has, Ascends};
 ghost use Rattle.cs_index.specs.Opening.{rises};
 ghost use Rattle.cs_index.specs.OpenedParts.{Parts};
@@ -87,10 +85,7 @@ impl StoredIndex {
     ) -> Result<Result<Vec<u32>, IndexFault>, IoFault>
         ensures answers { (bytes : List ℕ) → S.model store.old ≡ Some bytes → (parts : Parts) →
             StandsIn bytes self.now parts → IfOk result (AreCandidates query.now parts) }
-        ensures keeps { S.model store.new ≡ S.model store.old }
-        ensures size { S.size store.new ≡ S.size store.old }
-        ensures failed { S.failed store.new
-            ≡ count_after is_io_failure result (S.failed store.old) }
+        ensures store { KeepsStore S.model S.size S.failed store.old store.new result }
     {
         let starts = &self.starts;
         let entries = StoredEntries {

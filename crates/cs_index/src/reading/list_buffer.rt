@@ -1,8 +1,6 @@
 // A buffer of the posting lists of a store, which are read in the order of the list index.
 ghost use Rattle.std.specs.Prelude.{◌≡◌, ◌≤◌, ◌<◌, ◌+◌, ◌^◌, ℕ, List, Some, drop, length, slice_get, OnOk};
 ghost use Rattle.cs_tree.specs.KeepsStore.{KeepsStore};
-ghost use Rattle.cs_tree.specs.FailureCount.{count_after};
-ghost use Rattle.cs_tree.specs.Transfers.{is_io_failure};
 ghost use Rattle.cs_index.specs.AscendingIds.{max_ids};
 ghost use Rattle.cs_index.specs.ListBuffers.{HasList, IsBufferOf, list_in, list_of};
 ghost use Rattle.cs_index.specs.OpenedParts.{Parts};
@@ -69,9 +67,7 @@ impl ListBuffer {
             OnOk result (HasList self.new parts position) }
         ensures buffer { (bytes : List ℕ) → S.model store.old ≡ Some bytes → IsBufferOf bytes self.old →
             OnOk result (IsBufferOf bytes self.new) }
-        ensures keeps { S.model store.new ≡ S.model store.old }
-        ensures size { S.size store.new ≡ S.size store.old }
-        ensures failed { S.failed store.new ≡ count_after is_io_failure result (S.failed store.old) }
+        ensures store { KeepsStore S.model S.size S.failed store.old store.new result }
     {
         self.read_within(alloc, store, tables, position, READ_LEN)
     }
@@ -90,9 +86,7 @@ impl ListBuffer {
             OnOk result (HasList self.new parts position) }
         ensures buffer { (bytes : List ℕ) → S.model store.old ≡ Some bytes → IsBufferOf bytes self.old →
             OnOk result (IsBufferOf bytes self.new) }
-        ensures keeps { S.model store.new ≡ S.model store.old }
-        ensures size { S.size store.new ≡ S.size store.old }
-        ensures failed { S.failed store.new ≡ count_after is_io_failure result (S.failed store.old) }
+        ensures store { KeepsStore S.model S.size S.failed store.old store.new result }
     {
         let Some(entry) = tables.entry_at(position) else {
             return Ok(());

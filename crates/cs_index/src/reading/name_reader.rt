@@ -1,7 +1,6 @@
 // The names of an index in a store, by their ids.
 ghost use Rattle.std.specs.Prelude.{◌≡◌, ℕ, List, Some, IfOk, slice_get};
-ghost use Rattle.cs_tree.specs.FailureCount.{count_after};
-ghost use Rattle.cs_tree.specs.Transfers.{is_io_failure};
+ghost use Rattle.cs_tree.specs.KeepsStore.{KeepsStore};
 ghost use Rattle.cs_index.specs.OpenedParts.{Parts};
 ghost use Rattle.cs_index.specs.NameReading.{HasName, IsName, ReadsNames};
 ghost use Rattle.cs_index.specs.Stored.{StandsIn};
@@ -60,9 +59,7 @@ impl NameReader {
             ReadsNames bytes parts self.old →
             IfOk result (λ answer. IsName (slice_get parts.names id) answer self.new
             × ReadsNames bytes parts self.new) }
-        ensures keeps { S.model store.new ≡ S.model store.old }
-        ensures size { S.size store.new ≡ S.size store.old }
-        ensures failed { S.failed store.new ≡ count_after is_io_failure result (S.failed store.old) }
+        ensures store { KeepsStore S.model S.size S.failed store.old store.new result }
     {
         if id >= self.name_count {
             return Ok(Err(IndexFault::BadNames));

@@ -2,8 +2,6 @@
 ghost use Rattle.std.specs.Prelude.{◌≡◌, ◌≤◌, ◌<◌, ◌^◌, length, Ok, IfOk, IfSome, List, ℕ};
 ghost use Rattle.cs_tree.specs.KeepsStore.{KeepsStore};
 ghost use Rattle.cs_tree.specs.ByteList.{AreBytes};
-ghost use Rattle.cs_tree.specs.FailureCount.{count_after};
-ghost use Rattle.cs_tree.specs.Transfers.{is_io_failure};
 ghost use Rattle.cs_index.specs.OpenedParts.{Parts};
 ghost use Rattle.cs_index.specs.Opening.{split_of};
 ghost use Rattle.cs_index.specs.StoredOpening.{AreAscendingOffsets};
@@ -58,10 +56,7 @@ impl StoredIndex {
     ) -> Result<Result<StoredIndex, IndexFault>, IoFault>
         ensures opens { IfSome (S.model store.old) (λ bytes. IfOk result (OpensAs bytes)) }
         ensures decodes { IfSome (S.model store.old) (λ bytes. IfOk result (DecodesOrFails bytes)) }
-        ensures keeps { S.model store.new ≡ S.model store.old }
-        ensures size { S.size store.new ≡ S.size store.old }
-        ensures failed { S.failed store.new
-            ≡ count_after is_io_failure result (S.failed store.old) }
+        ensures store { KeepsStore S.model S.size S.failed store.old store.new result }
     {
         match find_offsets(alloc, store)? {
             Ok(starts) => read_stored(alloc, store, starts),

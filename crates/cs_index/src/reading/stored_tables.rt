@@ -1,8 +1,6 @@
 // The paths, the names and the tables of an index in a store, in memory. The posting lists stay in the store.
 ghost use Rattle.std.specs.Prelude.{◌≡◌, ◌≤◌, ◌<◌, ◌+◌, ℕ, List, Ok, length, option_map, slice_get, IfOk, IfSome};
 ghost use Rattle.cs_tree.specs.KeepsStore.{KeepsStore};
-ghost use Rattle.cs_tree.specs.FailureCount.{count_after};
-ghost use Rattle.cs_tree.specs.Transfers.{is_io_failure};
 ghost use Rattle.cs_index.specs.AscendingIds.{max_ids};
 ghost use Rattle.cs_index.specs.Encoding.{ListEntry};
 ghost use Rattle.cs_index.specs.OpenedParts.{Parts};
@@ -63,9 +61,7 @@ impl StoredTables {
         store: &mut S,
     ) -> Result<Result<StoredTables, IndexFault>, IoFault>
         ensures opens { IfSome (S.model store.old) (λ bytes. IfOk result (OpensAsTables bytes)) }
-        ensures keeps { S.model store.new ≡ S.model store.old }
-        ensures size { S.size store.new ≡ S.size store.old }
-        ensures failed { S.failed store.new ≡ count_after is_io_failure result (S.failed store.old) }
+        ensures store { KeepsStore S.model S.size S.failed store.old store.new result }
     {
         // The sections are tested in pieces before they are read as a whole, so a damaged index of any length is
         // refused without much memory.

@@ -12,9 +12,9 @@ returns-clause-opens g c =
     if_modelled (g.S.Store.model c.args.store.now) _
     (λ bytes m opened_paths count parts stands.
     let s = c.args.starts in
-    let m2 = c.read_part.ensures.keeps ∙ m in
-    let m3 = c.read_part-2.ensures.keeps ∙ m2 in
-    let m4 = c.read_part-3.ensures.keeps ∙ m3 in
+    let m2 = c.read_part.ensures.store.0 ∙ m in
+    let m3 = c.read_part-2.ensures.store.0 ∙ m2 in
+    let m4 = c.read_part-3.ensures.store.0 ∙ m3 in
     let p : List ℕ = c.in_ok-paths.paths.items in
     let n : List ℕ = c.in_ok-names.names.items in
     let i : List ℕ = c.in_ok-name_index.name_index.items in

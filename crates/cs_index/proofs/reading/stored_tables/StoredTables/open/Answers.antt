@@ -8,7 +8,7 @@ pub returns-in-Ok-clause-opens : goal.returns-in-Ok-clause-opens
 returns-in-Ok-clause-opens g c =
     if_some_map _ _ (g.S.Store.model c.args.store.now)
     (λ bytes both. let found = opened_parts bytes _ c.in-Ok.is c.index.view_is both.0 in both.1 _ _ found.0 found.1)
-    (if_some_both _ _ (g.S.Store.model c.args.store.now) _ c.in_ok-index.ensures.keeps c.in_ok-index.ensures.opens
+    (if_some_both _ _ (g.S.Store.model c.args.store.now) _ c.in_ok-index.ensures.store.0 c.in_ok-index.ensures.opens
     c.read_tables.ensures.opens)
 
 pub returns-in-Err-clause-opens : goal.returns-in-Err-clause-opens

@@ -1,9 +1,10 @@
 -- The result of a merge.
-use Rattle.std.specs.Prelude.{◌≡◌, ℕ, ◌-◌, ◌<◌, ◌≤◌, ◌^◌, true, false, List, length}
+use Rattle.std.specs.Prelude.{◌≡◌, ℕ, ◌-◌, ◌<◌, ◌≤◌, ◌^◌, ◌++◌, true, false, List, length, Result, IfOk, MatchResult}
 use Rattle.cs_index.specs.OpenedParts.{Parts, are_covered}
 use Rattle.cs_index.specs.declared.fault.IndexFault.TheVariants.{BadList}
 use Rattle.cs_index.specs.declared.fault.BuildFault.{BuildFault}
 use Rattle.cs_index.specs.declared.fault.BuildFault.TheVariants as build
+use Rattle.cs_output.specs.declared.sent.Sent.{Sent}
 use Rattle.cs_merge.specs.declared.fault.MergeFault.{MergeFault}
 use Rattle.cs_merge.specs.declared.fault.MergeFault.TheVariants.{Unsorted, Uncovered, Index, TooLarge, Memory}
 use Rattle.cs_merge.specs.Mergeable.{both_ascend, both_distinct, both_whole, merge_index, AreMergeable, AreTested}
@@ -40,3 +41,12 @@ pub data IsMergeFault (old newer : Parts) (most : ℕ) (fault : MergeFault) : Ty
   damaged : fault ≡ Index BadList → AreTested old newer → both_whole old newer ≡ false → IsMergeFault old newer most fault
   long : fault ≡ TooLarge → AreMergeable old newer → most < length (merge_index old newer) → IsMergeFault old newer most fault
   refused : fault ≡ Memory → (both_ascend old newer ≡ true → AreTested old newer) → IsMergeFault old newer most fault
+
+-- the answer of a merge that sends its index: the merged index, or why there is none
+abbrev pub IsMergeAnswer : Parts → Parts → ℕ → Result Sent MergeFault → Type 0
+IsMergeAnswer old newer most answer =
+    MatchResult answer (λ (index : Sent). IsMerged old newer most index.bytes) (IsMergeFault old newer most)
+
+-- the output was given the bytes of the merged index
+abbrev pub IsGivenIndex : List ℕ → List ℕ → Result Sent MergeFault → Type 0
+IsGivenIndex before after answer = IfOk answer (λ (index : Sent). after ≡ before ++ index.bytes)

@@ -14,7 +14,7 @@ ghost use Rattle.cs_merge.specs.Begun.{IsBegun};
 ghost use Rattle.cs_merge.specs.ListSources.{known_parts, IsSourceOf};
 ghost use Rattle.cs_merge.specs.Merge.{merge_paths};
 ghost use Rattle.cs_merge.specs.Mergeable.{AreTested};
-ghost use Rattle.cs_merge.specs.MergeResult.{most_bytes, IsBuildFault, IsIndexWithin, IsMerged, IsMergeFault};
+ghost use Rattle.cs_merge.specs.MergeResult.{most_bytes, IsBuildFault, IsGivenIndex, IsIndexWithin, IsMerged, IsMergeAnswer, IsMergeFault};
 ghost use Rattle.cs_merge.specs.SortedNames.{AreIndexNames, AreTestedNames};
 
 use crate::covering::{Cover, is_under};
@@ -80,13 +80,10 @@ pub fn merge_stored<S: Store, O: Output>(
     out: &mut O,
 ) -> Result<Result<Sent, MergeFault>, IoFault>
     ensures merged { (bytes : List ℕ) → S.model store.old ≡ Some bytes → (parts : Parts) →
-        TablesIn bytes old.now parts → IfOk result (λ merged. MatchResult merged
-        (λ index. IsMerged parts newer.now most_bytes index.bytes)
-        (λ fault. IsMergeFault parts newer.now most_bytes fault)) }
+        TablesIn bytes old.now parts → IfOk result (IsMergeAnswer parts newer.now most_bytes) }
     ensures tested { (bytes : List ℕ) → S.model store.old ≡ Some bytes → (parts : Parts) →
         TablesIn bytes old.now parts → IfErr result (λ _. AreTested parts newer.now) }
-    ensures given { IfOk result (λ merged. IfOk merged
-        (λ index. O.given out.new ≡ O.given out.old ++ index.bytes)) }
+    ensures given { IfOk result (IsGivenIndex (O.given out.old) (O.given out.new)) }
     ensures keeps_out { O.Keeps out.old out.new }
     ensures store { KeepsStore S.model S.size S.failed store.old store.new result }
 {
@@ -103,13 +100,10 @@ pub fn merge_stored_within<S: Store, O: Output>(
     out: &mut O,
 ) -> Result<Result<Sent, MergeFault>, IoFault>
     ensures merged { (bytes : List ℕ) → S.model store.old ≡ Some bytes → (parts : Parts) →
-        TablesIn bytes old.now parts → IfOk result (λ merged. MatchResult merged
-        (λ index. IsMerged parts newer.now most index.bytes)
-        (λ fault. IsMergeFault parts newer.now most fault)) }
+        TablesIn bytes old.now parts → IfOk result (IsMergeAnswer parts newer.now most) }
     ensures tested { (bytes : List ℕ) → S.model store.old ≡ Some bytes → (parts : Parts) →
         TablesIn bytes old.now parts → IfErr result (λ _. AreTested parts newer.now) }
-    ensures given { IfOk result (λ merged. IfOk merged
-        (λ index. O.given out.new ≡ O.given out.old ++ index.bytes)) }
+    ensures given { IfOk result (IsGivenIndex (O.given out.old) (O.given out.new)) }
     ensures keeps_out { O.Keeps out.old out.new }
     ensures store { KeepsStore S.model S.size S.failed store.old store.new result }
 {
@@ -126,12 +120,10 @@ fn merge_source<'a, S: Store, O: Output>(
     out: &mut O,
 ) -> Result<Result<Sent, MergeFault>, IoFault>
     ensures merged { (parts : Parts) → IsSourceOf (S.model store.old) old.now parts →
-        IfOk result (λ merged. MatchResult merged (λ index. IsMerged parts newer.now most index.bytes)
-        (λ fault. IsMergeFault parts newer.now most fault)) }
+        IfOk result (IsMergeAnswer parts newer.now most) }
     ensures tested { (parts : Parts) → IsSourceOf (S.model store.old) old.now parts →
         IfErr result (λ _. AreTested parts newer.now) }
-    ensures given { IfOk result (λ merged. IfOk merged
-        (λ index. O.given out.new ≡ O.given out.old ++ index.bytes)) }
+    ensures given { IfOk result (IsGivenIndex (O.given out.old) (O.given out.new)) }
     ensures keeps_out { O.Keeps out.old out.new }
     ensures store { KeepsStore S.model S.size S.failed store.old store.new result }
 {
@@ -164,11 +156,8 @@ fn merge_begun<S: Store, O: Output>(
     requires unlisted { sections.lists ≡ [] }
     requires sent { sections.sent ≡ [] }
     ensures merged { (parts : Parts) → IsSourceOf (S.model store.old) sides.now.older.now parts →
-        IfOk result (λ merged. MatchResult merged
-        (λ index. IsMerged parts sides.now.newer.now most index.bytes)
-        (λ fault. IsMergeFault parts sides.now.newer.now most fault)) }
-    ensures given { IfOk result (λ merged. IfOk merged
-        (λ index. O.given out.new ≡ O.given out.old ++ index.bytes)) }
+        IfOk result (IsMergeAnswer parts sides.now.newer.now most) }
+    ensures given { IfOk result (IsGivenIndex (O.given out.old) (O.given out.new)) }
     ensures keeps_out { O.Keeps out.old out.new }
     ensures store { KeepsStore S.model S.size S.failed store.old store.new result }
 {

@@ -1,14 +1,12 @@
-use Rattle.std.proofs.Common.{◌∙◌, ◌++◌, List, ℕ, Result, sym, ap, subst, refl, MatchResult}
-use Rattle.cs_merge.proofs.Common.{IsMerged, IsMergeFault, MergeFault}
-use Rattle.cs_output.specs.declared.sent.Sent.{Sent}
+use Rattle.std.proofs.Common.{◌∙◌, ◌++◌, List, ℕ, sym, ap, subst, refl}
+use Rattle.cs_merge.proofs.Common.{IsMerged}
+use Rattle.cs_merge.specs.MergeResult.{IsMergeAnswer}
 use Rattle.cs_merge.proofs.ListLoopLemmas.{if_ok}
 use Rattle.cs_merge.proofs.merging.merge_within.Goals as goal
 
 pub returns-in-Ok-Ok : goal.returns-in-Ok-Ok
 returns-in-Ok-Ok c =
-    let merged = subst (λ (r : Result Sent MergeFault). MatchResult r
-    (λ (index : Sent). IsMerged c.args.old.now c.args.newer.now c.args.most index.bytes)
-    (IsMergeFault c.args.old.now c.args.newer.now c.args.most)) c.in-Ok-Ok.field-0-is
+    let merged = subst (IsMergeAnswer c.args.old.now c.args.newer.now c.args.most) c.in-Ok-Ok.field-0-is
     (c.in-Ok-Ok.ensures.merged c.args.old.now refl) in
     let given = if_ok _ c.in-Ok-Ok.field-0-is c.in-Ok-Ok.ensures.given in
     subst (IsMerged c.args.old.now c.args.newer.now c.args.most)
@@ -16,7 +14,5 @@ returns-in-Ok-Ok c =
 
 pub returns-in-Ok-Err : goal.returns-in-Ok-Err
 returns-in-Ok-Err c =
-    subst (λ (r : Result Sent MergeFault). MatchResult r
-    (λ (index : Sent). IsMerged c.args.old.now c.args.newer.now c.args.most index.bytes)
-    (IsMergeFault c.args.old.now c.args.newer.now c.args.most)) c.in-Ok-Err.field-0-is
+    subst (IsMergeAnswer c.args.old.now c.args.newer.now c.args.most) c.in-Ok-Err.field-0-is
     (c.in-Ok-Err.ensures.merged c.args.old.now refl)

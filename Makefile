@@ -38,6 +38,7 @@ quick: pages names $(program) models
 .PHONY: pages
 pages:
 	tests/shell/words.sh
+	tests/shell/steps.sh
 	tests/shell/docs.py
 	scripts/trusted.py -q --check
 

@@ -1,18 +1,20 @@
--- What contracts see of a matcher: the tree, and the size of its state cache.
+-- What contracts see of a matcher: the tree, the size of its state cache, and the steps that it has taken.
 use Rattle.std.specs.Prelude.{ℕ, ◌+◌, ◌≤◌, refl}
 use Rattle.std.specs.Coded.{Coded, code_by, coded_ℕ, coded×}
 use Rattle.cs_syntax.specs.Matching.{Tree}
 use Rattle.cs_syntax.specs.TreeCode.{tree_code}
 
--- the tree that is matched, and the number of cached states
+-- the tree that is matched, the number of cached states, and the number of steps of all calls so far
 pub record Automaton : Type 0 where
   pub tree : Tree
   pub states : ℕ
+  pub steps : ℕ
 
--- an automaton is stored as the pair of its fields
+-- an automaton is stored as the tuple of its fields
 abbrev pub automaton_code : Coded Automaton
 automaton_code =
-    code_by (Tree × ℕ) (coded× tree_code coded_ℕ) (λ a. (a.tree, a.states)) (λ p. record { tree = p.0; states = p.1 }) (λ _. refl)
+    code_by (Tree × (ℕ × ℕ)) (coded× tree_code (coded× coded_ℕ coded_ℕ)) (λ a. (a.tree, (a.states, a.steps)))
+    (λ p. record { tree = p.0; states = p.1.0; steps = p.1.1 }) (λ _. refl)
 
 -- The size of the state cache. The transition table has 256 rows, and two of them are those of the match
 -- state and the unknown state.

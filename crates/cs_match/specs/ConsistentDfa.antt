@@ -3,14 +3,25 @@ use Rattle.std.specs.Prelude.{ℕ, Bool, ◌≡◌, length}
 use Rattle.cs_syntax.specs.Matching.{Tree}
 use Rattle.cs_match.specs.declared.state.State.{State}
 use Rattle.cs_match.specs.declared.dfa.LazyDfa.{LazyDfa}
+use Rattle.cs_match.specs.Automaton.{Automaton}
 use Rattle.cs_match.specs.Glushkov.{position_count, IsExpanded}
 use Rattle.cs_match.specs.Masks.{IsScratch}
 use Rattle.cs_match.specs.States.{successor, accepts_before}
+use Rattle.cs_match.specs.Work.{WorksWithin}
 use Rattle.cs_match.specs.LazyDfa as dfa
+use Rattle.cs_prefilter.specs.declared.steps.Steps.{Steps}
 
 -- the tree of the DFA
 abbrev pub tree_in : LazyDfa → Tree
 tree_in dfa = dfa.program.now
+
+-- what contracts see of the DFA with its counter
+abbrev pub automaton_of : LazyDfa → Steps → Automaton
+automaton_of dfa steps = record { tree = tree_in dfa; states = dfa.states.used; steps = steps.count }
+
+-- a call of the DFA takes at most so much work
+abbrev pub TakesWork : ℕ → LazyDfa → Steps → LazyDfa → Steps → Type 0
+TakesWork bound dfa before later after = WorksWithin bound (automaton_of dfa before) (automaton_of later after)
 
 -- the tree is expanded, the states, the transitions and the dead state are correct, and the scratch memory has the right size
 pub record IsConsistent (t : LazyDfa) : Type 0 where

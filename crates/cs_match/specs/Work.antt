@@ -2,13 +2,13 @@
 -- position tested for a mask, a cached state compared, or a transition read, computed, written or forgotten. In a block it
 -- is also a byte that is searched for a newline, or one that a lane reads, and a step of the prefilter (`OffsetWork`).
 -- docs/PROMISES.md, "Work".
-use Rattle.std.specs.Prelude.{ℕ, ◌+◌, ◌-◌, ◌*◌, ◌/◌, Option, Some, None}
+use Rattle.std.specs.Prelude.{ℕ, ◌+◌, ◌-◌, ◌*◌, ◌/◌, ◌≤◌, Option, Some, None}
 use Rattle.cs_syntax.specs.Matching.{Tree}
 use Rattle.cs_prefilter.specs.OffsetWork.{offset_work}
 use Rattle.cs_match.specs.declared.matcher.Line.{Line}
 use Rattle.cs_match.specs.Glushkov.{position_count}
 use Rattle.cs_match.specs.Size.{nodes}
-use Rattle.cs_match.specs.Automaton.{most_states}
+use Rattle.cs_match.specs.Automaton.{Automaton, most_states}
 
 -- the words of a set of so many positions
 abbrev pub words : ℕ → ℕ
@@ -21,6 +21,14 @@ step_work t = 2 * nodes t + position_count t + 2 * words (position_count t) + 1
 -- the share of a cached state in the clearing of the cache: 254 shares pay for the 65536 transitions that are forgotten
 abbrev pub state_work : ℕ
 state_work = 260
+
+-- the work of a matcher so far: the steps that it has taken, and those that its cached states have still to pay for
+abbrev pub work_of : Automaton → ℕ
+work_of m = m.steps + state_work * m.states
+
+-- A call takes at most so much work. The counter never falls, so that no step is taken back.
+abbrev pub WorksWithin : ℕ → Automaton → Automaton → Type 0
+WorksWithin bound old new = (old.steps ≤ new.steps) × (work_of new ≤ work_of old + bound)
 
 -- the most steps of the lazy DFA over a byte: the step of the automaton; the new state compared with each cached one,
 -- copied twice and hashed; the 256 transitions of its byte class, tested and written; and its share of a clearing

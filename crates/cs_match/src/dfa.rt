@@ -1,9 +1,9 @@
 // Lazy DFA (RE2): subset construction on demand over Glushkov positions (`specs/Glushkov.antt`), with a bounded cache
 // of states that is cleared when it is full.
-ghost use Rattle.std.specs.Prelude.{◌≡◌, ◌≢◌, ◌↔◌, ◌+◌, ◌<◌, ◌≤◌, ◌*◌, ◌/◌, ℕ, IfOk, IsTrue, MatchOption, EachIndex, length, vec_len, replicate, slice_index, slice_index_or, slice_set, true, false};
+ghost use Rattle.std.specs.Prelude.{◌≡◌, ◌≢◌, ◌↔◌, ◌+◌, ◌<◌, ◌≤◌, ◌*◌, ◌/◌, ◌-◌, ℕ, IfOk, IsTrue, MatchOption, EachIndex, length, vec_len, replicate, slice_index, slice_index_or, slice_set, true, false};
 ghost use Rattle.cs_syntax.specs.Matching.{HasMatch};
 ghost use Rattle.cs_match.specs.Automaton.{GrowsOver};
-ghost use Rattle.cs_match.specs.Work.{words, step_work, state_work, byte_work, line_work};
+ghost use Rattle.cs_match.specs.Work.{words, step_work, byte_work, line_work};
 ghost use Rattle.cs_match.specs.FirstMatch.{AcceptsFirst, AreScanned, HasScanned, scanned_bytes};
 ghost use Rattle.cs_match.specs.Lines.{newline};
 ghost use Rattle.cs_match.specs.Skipping.{AreWholeLines};
@@ -12,17 +12,17 @@ ghost use Rattle.cs_match.specs.Masks.{IsScratch};
 ghost use Rattle.cs_match.specs.States.{start, successor, accepts_before, IsDead};
 ghost use Rattle.cs_match.specs.LazyDfa.{blank_transition};
 ghost use Rattle.cs_match.specs.declared.state.State.{State};
-ghost use Rattle.cs_match.specs.ConsistentDfa.{IsConsistent, HasState, LeadsIn, tree_in, state_in, accepts_from, successor_in};
+ghost use Rattle.cs_match.specs.ConsistentDfa.{IsConsistent, HasState, LeadsIn, TakesWork, tree_in, state_in, accepts_from, successor_in};
+ghost use Rattle.cs_prefilter.specs.CountsAtMost.{CountsAtMost};
 
 use crate::byte_classes::class_of;
 use crate::glushkov::Scratch;
 use crate::interleaved_scan::{FIRST_SPECIAL, MATCH, line_end};
 use crate::program::Program;
 use crate::state::State;
-use crate::steps::Steps;
+use cs_prefilter::Steps;
 use memchr::memchr_iter;
 use std::alloc::{AllocError, Global};
-use std::sync::ledger::Ledger;
 
 /// The number of the unknown state: the transition is not computed yet. No cached state has this number or that of
 /// `MATCH`.
@@ -97,17 +97,17 @@ fn blank(alloc: Global) -> Result<Vec<u16>, AllocError>
 }
 
 /// The index of a cached state that equals this one and has its hash, if there is one.
-fn find<L: Ledger>(
+fn find(
     cached: &[State],
     hashes: &[u8],
     hash: u8,
     state: &State,
-    steps: &mut Steps<L>,
+    steps: &mut Steps,
 ) -> Option<usize>
     requires { length hashes.now ≤ length cached.now }
     ensures found { MatchOption result (Unit {0})
         (λ slot. (slot < length hashes.now) × (slice_index_or cached.now slot state.now ≡ state.now)) }
-    ensures cost { steps.new ≤ steps.old + length hashes.now * (words (length state.now.positions) + 1) }
+    ensures cost { CountsAtMost (length hashes.now * (words (length state.now.positions) + 1)) steps.old steps.new }
 {
     steps.add(hashes.len());
     for slot in memchr_iter(hash, hashes) {
@@ -134,24 +134,24 @@ fn put_range(transitions: &mut [u16], from: u16, low: usize, high: usize, next: 
 }
 
 /// Copies a state into the cache.
-fn put_state<L: Ledger>(cached: &mut [State], slot: usize, state: &State, steps: &mut Steps<L>)
+fn put_state(cached: &mut [State], slot: usize, state: &State, steps: &mut Steps)
     requires within { slot < length cached.old }
     requires positions { length (slice_index_or cached.old slot state.now).positions
         ≡ length state.now.positions }
     ensures put { cached.new ≡ slice_set cached.old slot state.now }
-    ensures cost { steps.new ≡ steps.old + words (length state.now.positions) }
+    ensures cost { steps.new.count ≡ steps.old.count + words (length state.now.positions) }
 {
     cached[slot].copy_from(state, steps);
 }
 
 /// Computes the successor of a state over a byte, and returns whether the state accepts before the byte.
-fn step_from<L: Ledger>(
+fn step_from(
     program: &Program,
     from: &State,
     next: &mut State,
     memory: &mut Scratch,
     byte: u8,
-    steps: &mut Steps<L>,
+    steps: &mut Steps,
 ) -> bool
     requires positions { length from.now.positions ≡ position_count program.now }
     requires room { length next.old.positions ≡ position_count program.now }
@@ -159,7 +159,7 @@ fn step_from<L: Ledger>(
     ensures accepting { result ≡ accepts_before program.now from.now byte }
     ensures moved { next.new ≡ successor program.now from.now byte }
     ensures memory { IsScratch program.now memory.new }
-    ensures cost { steps.new ≤ steps.old + (words (position_count program.now) + step_work program.now) }
+    ensures cost { CountsAtMost (words (position_count program.now) + step_work program.now) steps.old steps.new }
 {
     next.copy_from(from, steps);
     next.step_over(program, memory, byte, steps)
@@ -191,15 +191,14 @@ impl<'a> LazyDfa<'a> {
 
     /// The transition of a state over a byte, computed first if it is unknown. A newline is the end of the line.
     #[inline(always)]
-    fn next<L: Ledger>(&mut self, from: u16, byte: u8, steps: &mut Steps<L>) -> u16
+    fn next(&mut self, from: u16, byte: u8, steps: &mut Steps) -> u16
         requires right { IsConsistent self.old }
         requires number { HasState self.old from (state_in self.old from) }
         ensures leads { LeadsIn self.new (state_in self.old from) byte result }
         ensures right { IsConsistent self.new }
         ensures same { tree_in self.new ≡ tree_in self.old }
         ensures states { GrowsOver 1 self.old.states.used self.new.states.used }
-        ensures work { steps.new + state_work * self.new.states.used
-            ≤ steps.old + state_work * self.old.states.used + byte_work (tree_in self.old) }
+        ensures work { TakesWork (byte_work (tree_in self.old)) self.old steps.old self.new steps.new }
     {
         steps.add(1);
         let next = self.states.transitions[(from | u16::from(byte)) as usize];
@@ -211,14 +210,14 @@ impl<'a> LazyDfa<'a> {
     }
 
     /// Whether the line has a match. If the scan reaches a newline within the line, the whole line is simulated.
-    pub(crate) fn is_match<L: Ledger>(&mut self, line: &[u8], steps: &mut Steps<L>) -> bool
+    pub(crate) fn is_match(&mut self, line: &[u8], steps: &mut Steps) -> bool
         requires right { IsConsistent self.old }
         ensures found { IsTrue result ↔ HasMatch (tree_in self.old) line.now }
         ensures right { IsConsistent self.new }
         ensures same { tree_in self.new ≡ tree_in self.old }
         ensures states { GrowsOver (length line.now + 1) self.old.states.used self.new.states.used }
-        ensures work { steps.new + state_work * self.new.states.used
-            ≤ steps.old + state_work * self.old.states.used + line_work (tree_in self.old) (length line.now) }
+        ensures work { TakesWork (line_work (tree_in self.old) (length line.now))
+            self.old steps.old self.new steps.new }
     {
         let mut number = 0;
         for b in line {
@@ -238,10 +237,10 @@ impl<'a> LazyDfa<'a> {
     }
 
     /// The offset of the byte before which the automaton accepts first, in a scan over the lines of a text.
-    pub(crate) fn first_accepted<L: Ledger>(
+    pub(crate) fn first_accepted(
         &mut self,
         text: &[u8],
-        steps: &mut Steps<L>,
+        steps: &mut Steps,
     ) -> Option<usize>
         requires right { IsConsistent self.old }
         requires whole { AreWholeLines text.now }
@@ -251,9 +250,8 @@ impl<'a> LazyDfa<'a> {
         ensures right { IsConsistent self.new }
         ensures same { tree_in self.new ≡ tree_in self.old }
         ensures states { GrowsOver (length text.now) self.old.states.used self.new.states.used }
-        ensures work { steps.new + state_work * self.new.states.used
-            ≤ steps.old + state_work * self.old.states.used
-            + scanned_bytes (length text.now) result * byte_work (tree_in self.old) }
+        ensures work { TakesWork (scanned_bytes (length text.now) result * byte_work (tree_in self.old))
+            self.old steps.old self.new steps.new }
     {
         let mut to = 0;
         let mut number = 0;
@@ -312,15 +310,14 @@ impl<'a> LazyDfa<'a> {
     /// Computes an unknown transition and stores it.
     #[cold]
     #[inline(never)]
-    fn fill<L: Ledger>(&mut self, from: u16, byte: u8, steps: &mut Steps<L>) -> u16
+    fn fill(&mut self, from: u16, byte: u8, steps: &mut Steps) -> u16
         requires right { IsConsistent self.old }
         requires number { HasState self.old from (state_in self.old from) }
         ensures leads { LeadsIn self.new (state_in self.old from) byte result }
         ensures right { IsConsistent self.new }
         ensures same { tree_in self.new ≡ tree_in self.old }
         ensures states { GrowsOver 1 self.old.states.used self.new.states.used }
-        ensures work { steps.new + state_work * self.new.states.used + 1
-            ≤ steps.old + state_work * self.old.states.used + byte_work (tree_in self.old) }
+        ensures work { TakesWork (byte_work (tree_in self.old) - 1) self.old steps.old self.new steps.new }
     {
         if step_from(
             self.program,
@@ -342,7 +339,7 @@ impl<'a> LazyDfa<'a> {
 
     /// The number of the state under construction, which is cached if it is new. It is the successor of `from` over a
     /// byte of the line, and `from` does not accept before the byte.
-    fn next_number<L: Ledger>(&mut self, from: u16, byte: u8, steps: &mut Steps<L>) -> u16
+    fn next_number(&mut self, from: u16, byte: u8, steps: &mut Steps) -> u16
         requires right { IsConsistent self.old }
         requires number { HasState self.old from (state_in self.old from) }
         requires within { byte ≢ newline }
@@ -352,9 +349,8 @@ impl<'a> LazyDfa<'a> {
         ensures right { IsConsistent self.new }
         ensures same { tree_in self.new ≡ tree_in self.old }
         ensures states { GrowsOver 1 self.old.states.used self.new.states.used }
-        ensures work { steps.new + state_work * self.new.states.used
-            ≤ steps.old + state_work * self.old.states.used
-            + (256 * words (position_count (tree_in self.old)) + 1026) }
+        ensures work { TakesWork (256 * words (position_count (tree_in self.old)) + 1026)
+            self.old steps.old self.new steps.new }
     {
         let hash = self.states.scratch.hash();
         steps.add(self.states.scratch.positions.len().div_ceil(64));
@@ -382,17 +378,17 @@ impl<'a> LazyDfa<'a> {
 
     /// Whether the state under construction is known to be dead: each match begins at the start of the line, and no
     /// position is in the set.
-    fn is_dead<L: Ledger>(&self, steps: &mut Steps<L>) -> bool
+    fn is_dead(&self, steps: &mut Steps) -> bool
         requires right { IsConsistent self.now }
         requires later { self.now.states.scratch.first ≡ false }
         ensures dead { result ≡ true → IsDead (tree_in self.now) self.now.states.scratch }
-        ensures work { steps.new ≤ steps.old + words (position_count (tree_in self.now)) }
+        ensures work { CountsAtMost (words (position_count (tree_in self.now))) steps.old steps.new }
     {
         self.program.is_anchored() && self.states.scratch.is_empty(steps)
     }
 
     /// Stores a transition for all bytes of the class.
-    fn put<L: Ledger>(&mut self, from: u16, byte: u8, next: u16, steps: &mut Steps<L>)
+    fn put(&mut self, from: u16, byte: u8, next: u16, steps: &mut Steps)
         requires right { IsConsistent self.old }
         requires number { HasState self.old from (state_in self.old from) }
         requires leads { LeadsIn self.old (state_in self.old from) byte next }
@@ -400,7 +396,7 @@ impl<'a> LazyDfa<'a> {
         ensures right { IsConsistent self.new }
         ensures same { tree_in self.new ≡ tree_in self.old }
         ensures states { self.new.states.used ≡ self.old.states.used }
-        ensures work { steps.new ≤ steps.old + 512 }
+        ensures work { CountsAtMost 512 steps.old steps.new }
     {
         let unfinished = self.states.cached[(from >> 8) as usize].unfinished;
         let class = class_of(self.program, unfinished, byte);
@@ -409,7 +405,7 @@ impl<'a> LazyDfa<'a> {
     }
 
     /// Caches the state under construction, and returns its number.
-    fn add<L: Ledger>(&mut self, hash: u8, is_dead: bool, steps: &mut Steps<L>) -> u16
+    fn add(&mut self, hash: u8, is_dead: bool, steps: &mut Steps) -> u16
         requires right { IsConsistent self.old }
         requires room { self.old.states.used < 254 }
         requires dead { is_dead ≡ true → IsDead (tree_in self.old) self.old.states.scratch }
@@ -419,7 +415,7 @@ impl<'a> LazyDfa<'a> {
         ensures right { IsConsistent self.new }
         ensures same { tree_in self.new ≡ tree_in self.old }
         ensures states { self.new.states.used ≡ self.old.states.used + 1 }
-        ensures work { steps.new ≡ steps.old + words (position_count (tree_in self.old)) }
+        ensures work { steps.new.count ≡ steps.old.count + words (position_count (tree_in self.old)) }
     {
         let slot = self.states.used;
         put_state(&mut self.states.cached, slot, &self.states.scratch, steps);
@@ -433,13 +429,13 @@ impl<'a> LazyDfa<'a> {
     }
 
     /// Clears the cache except for the start state.
-    fn empty<L: Ledger>(&mut self, steps: &mut Steps<L>)
+    fn empty(&mut self, steps: &mut Steps)
         requires right { IsConsistent self.old }
         ensures one { self.new.states.used ≡ 1 }
         ensures scratch { self.new.states.scratch ≡ self.old.states.scratch }
         ensures right { IsConsistent self.new }
         ensures same { tree_in self.new ≡ tree_in self.old }
-        ensures work { steps.new ≡ steps.old + 65536 }
+        ensures work { steps.new.count ≡ steps.old.count + 65536 }
     {
         steps.add(self.states.transitions.len());
         reset(&mut self.states.transitions);

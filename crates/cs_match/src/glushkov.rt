@@ -15,6 +15,7 @@ ghost use Rattle.cs_match.specs.Size.{nodes};
 ghost use Rattle.cs_match.specs.Work.{words, step_work};
 ghost use Rattle.cs_match.specs.Masks.{IsScratch};
 ghost use Rattle.cs_match.specs.declared.look_around.LookAround.{LookAround};
+ghost use Rattle.cs_prefilter.specs.CountsAtMost.{CountsAtMost};
 
 use crate::input::Input;
 use crate::look_around::LookAround;
@@ -23,10 +24,9 @@ use crate::parts::Part;
 use crate::position_set::PositionSet;
 use crate::program::Program;
 use crate::sequences::Sequences;
-use crate::steps::Steps;
+use cs_prefilter::Steps;
 use cs_syntax::Node;
 use std::alloc::{AllocError, Global};
-use std::sync::ledger::Ledger;
 
 /// The number of repeats of the tree.
 #[cycle(count_repeats)]
@@ -143,15 +143,15 @@ struct Configuration<'a> {
 }
 
 /// Whether the position set accepts here.
-pub(crate) fn is_accepting<L: Ledger>(
+pub(crate) fn is_accepting(
     program: &Program,
     positions: &PositionSet,
     here: LookAround,
-    steps: &mut Steps<L>,
+    steps: &mut Steps,
 ) -> bool
     requires { length positions.now ≡ position_count program.now }
     ensures accepting { result ≡ accepts program.now true positions.now here }
-    ensures cost { steps.new ≤ steps.old + nodes program.now }
+    ensures cost { CountsAtMost (nodes program.now) steps.old steps.new }
 {
     let mut cursor = START;
     let ends = find_ends(program.part(), positions, &mut [], here, &mut cursor, steps);
@@ -159,20 +159,20 @@ pub(crate) fn is_accepting<L: Ledger>(
 }
 
 /// Moves the position set over a byte, and returns whether it accepts before the byte.
-pub(crate) fn step_over<L: Ledger>(
+pub(crate) fn step_over(
     program: &Program,
     positions: &mut PositionSet,
     scratch: &mut Scratch,
     here: LookAround,
     input: Input,
-    steps: &mut Steps<L>,
+    steps: &mut Steps,
 ) -> bool
     requires one_each { length positions.old ≡ position_count program.now }
     requires scratch { IsScratch program.now scratch.old }
     ensures accepting { result ≡ accepts program.now true positions.old here }
     ensures positions { positions.new ≡ step program.now true positions.old here input }
     ensures scratch { IsScratch program.now scratch.new }
-    ensures cost { steps.new ≤ steps.old + step_work program.now }
+    ensures cost { CountsAtMost (step_work program.now) steps.old steps.new }
 {
     let accepting = enter(program, positions, scratch, here, steps);
     let slot = scratch.masks.find(program.positions(), input, steps);
@@ -181,12 +181,12 @@ pub(crate) fn step_over<L: Ledger>(
 }
 
 /// Finds which positions are entered, and returns whether the position set accepts.
-fn enter<L: Ledger>(
+fn enter(
     program: &Program,
     positions: &PositionSet,
     scratch: &mut Scratch,
     here: LookAround,
-    steps: &mut Steps<L>,
+    steps: &mut Steps,
 ) -> bool
     requires one_each { length positions.now ≡ position_count program.now }
     requires scratch { IsScratch program.now scratch.old }
@@ -194,7 +194,7 @@ fn enter<L: Ledger>(
     ensures entries { take (position_count program.now) scratch.new.entries
         ≡ entered program.now true positions.now here }
     ensures scratch { IsScratch program.now scratch.new }
-    ensures cost { steps.new ≤ steps.old + (2 * nodes program.now + words (position_count program.now + 1)) }
+    ensures cost { CountsAtMost (2 * nodes program.now + words (position_count program.now + 1)) steps.old steps.new }
 {
     let part = program.part();
     note_loops(part, positions, &mut scratch.loops, here, steps);
@@ -209,17 +209,17 @@ fn enter<L: Ledger>(
 }
 
 /// Stores for each repeat whether its body is final here.
-fn note_loops<L: Ledger>(
+fn note_loops(
     root: &Part,
     positions: &PositionSet,
     loops: &mut [bool],
     here: LookAround,
-    steps: &mut Steps<L>,
+    steps: &mut Steps,
 )
     requires one_each { length positions.now ≡ position_count (shape_of root.now) }
     requires loops { length loops.old ≡ repeats (shape_of root.now) }
     ensures noted { loops.new ≡ loop_ends (shape_of root.now) positions.now here }
-    ensures cost { steps.new ≤ steps.old + size_of root.now }
+    ensures cost { CountsAtMost (size_of root.now) steps.old steps.new }
 {
     if !loops.is_empty() {
         let mut cursor = START;
@@ -230,13 +230,13 @@ fn note_loops<L: Ledger>(
 /// The ends of the tree at the current offset. For each repeat it also stores whether the body is final, as far as
 /// `loops` has entries.
 #[cycle(find_ends)]
-fn find_ends<L: Ledger>(
+fn find_ends(
     part: &Part,
     positions: &PositionSet,
     loops: &mut [bool],
     here: LookAround,
     cursor: &mut Cursor,
-    steps: &mut Steps<L>,
+    steps: &mut Steps,
 ) -> Ends
     requires room { cursor.old.position + position_count (shape_of part.now) ≤ length positions.now }
     requires within { cursor.old.repeat ≤ length loops.old }
@@ -249,7 +249,7 @@ fn find_ends<L: Ledger>(
         ≡ cursor.old.position + position_count (shape_of part.now) }
     ensures repeat { cursor.new.repeat
         ≡ min (length loops.old) (cursor.old.repeat + repeats (shape_of part.now)) }
-    ensures cost { steps.new ≡ steps.old + size_of part.now }
+    ensures cost { steps.new.count ≡ steps.old.count + size_of part.now }
 {
     steps.add(1);
     match part {
@@ -437,11 +437,11 @@ fn option_bits(n: usize, at: usize) -> u64
 }
 
 /// The ends of an alternation of sequences: their last positions.
-fn end_sequences<L: Ledger>(
+fn end_sequences(
     sequences: &Sequences,
     positions: &PositionSet,
     cursor: &mut Cursor,
-    steps: &mut Steps<L>,
+    steps: &mut Steps,
 ) -> Ends
     requires { cursor.old.position + position_count_of (runs sequences.now) ≤ length positions.now }
     ensures accepting { (here : LookAround) → result.accepting
@@ -450,7 +450,7 @@ fn end_sequences<L: Ledger>(
     ensures position { cursor.new.position
         ≡ cursor.old.position + position_count_of (runs sequences.now) }
     ensures repeat { cursor.new.repeat ≡ cursor.old.repeat }
-    ensures cost { steps.new ≡ steps.old + words (position_count_of (runs sequences.now)) }
+    ensures cost { steps.new.count ≡ steps.old.count + words (position_count_of (runs sequences.now)) }
 {
     let from = cursor.position;
     let n = sequences.lasts().len();
@@ -464,13 +464,13 @@ fn end_sequences<L: Ledger>(
 }
 
 /// Sets or clears the first position of each sequence, and returns whether one of them accepts.
-fn enter_sequences<L: Ledger>(
+fn enter_sequences(
     sequences: &Sequences,
     enter: bool,
     positions: &PositionSet,
     entries: &mut PositionSet,
     cursor: &mut Cursor,
-    steps: &mut Steps<L>,
+    steps: &mut Steps,
 ) -> bool
     requires room { cursor.old.position + position_count_of (runs sequences.now) ≤ length positions.now }
     requires shifted { AreShifted cursor.old.position positions.now entries.old }
@@ -482,7 +482,7 @@ fn enter_sequences<L: Ledger>(
     ensures position { cursor.new.position
         ≡ cursor.old.position + position_count_of (runs sequences.now) }
     ensures repeat { cursor.new.repeat ≡ cursor.old.repeat }
-    ensures cost { steps.new ≡ steps.old + words (position_count_of (runs sequences.now)) }
+    ensures cost { steps.new.count ≡ steps.old.count + words (position_count_of (runs sequences.now)) }
 {
     let from = cursor.position;
     let n = sequences.lasts().len();
@@ -517,13 +517,13 @@ fn note_loop(loops: &mut [bool], index: usize, accepting: bool)
 }
 
 #[cycle(find_ends)]
-fn find_ends_all<L: Ledger>(
+fn find_ends_all(
     parts: &[Part],
     positions: &PositionSet,
     loops: &mut [bool],
     here: LookAround,
     cursor: &mut Cursor,
-    steps: &mut Steps<L>,
+    steps: &mut Steps,
 ) -> Ends
     requires room { cursor.old.position + position_count_of (shapes_of parts.now)
         ≤ length positions.now }
@@ -537,7 +537,7 @@ fn find_ends_all<L: Ledger>(
         ≡ cursor.old.position + position_count_of (shapes_of parts.now) }
     ensures repeat { cursor.new.repeat
         ≡ min (length loops.old) (cursor.old.repeat + repeats_of (shapes_of parts.now)) }
-    ensures cost { steps.new ≡ steps.old + sizes_of parts.now }
+    ensures cost { steps.new.count ≡ steps.old.count + sizes_of parts.now }
 {
     let mut all = Ends::within(true);
     for part in parts {
@@ -548,13 +548,13 @@ fn find_ends_all<L: Ledger>(
 }
 
 #[cycle(find_ends)]
-fn find_ends_some<L: Ledger>(
+fn find_ends_some(
     parts: &[Part],
     positions: &PositionSet,
     loops: &mut [bool],
     here: LookAround,
     cursor: &mut Cursor,
-    steps: &mut Steps<L>,
+    steps: &mut Steps,
 ) -> Ends
     requires room { cursor.old.position + position_count_of (shapes_of parts.now)
         ≤ length positions.now }
@@ -568,7 +568,7 @@ fn find_ends_some<L: Ledger>(
         ≡ cursor.old.position + position_count_of (shapes_of parts.now) }
     ensures repeat { cursor.new.repeat
         ≡ min (length loops.old) (cursor.old.repeat + repeats_of (shapes_of parts.now)) }
-    ensures cost { steps.new ≡ steps.old + sizes_of parts.now }
+    ensures cost { steps.new.count ≡ steps.old.count + sizes_of parts.now }
 {
     let mut some = Ends::within(false);
     for part in parts {
@@ -582,13 +582,13 @@ fn find_ends_some<L: Ledger>(
 /// can begin here.
 #[cycle(advance)]
 #[tactic(auto, using(crate::proofs::PartLemmas::part_rules))]
-fn advance<L: Ledger>(
+fn advance(
     part: &Part,
     enter: bool,
     at: &Configuration<'_>,
     entries: &mut PositionSet,
     cursor: &mut Cursor,
-    steps: &mut Steps<L>,
+    steps: &mut Steps,
 ) -> bool
     requires room { cursor.old.position + position_count (shape_of part.now) ≤ length at.now.positions.now }
     requires shifted { AreShifted cursor.old.position at.now.positions.now entries.old }
@@ -602,7 +602,7 @@ fn advance<L: Ledger>(
     ensures position { cursor.new.position
         ≡ cursor.old.position + position_count (shape_of part.now) }
     ensures repeat { cursor.new.repeat ≡ cursor.old.repeat + repeats (shape_of part.now) }
-    ensures cost { steps.new ≡ steps.old + size_of part.now }
+    ensures cost { steps.new.count ≡ steps.old.count + size_of part.now }
 {
     steps.add(1);
     match part {
@@ -631,13 +631,13 @@ fn advance<L: Ledger>(
 }
 
 #[cycle(advance)]
-fn advance_all<L: Ledger>(
+fn advance_all(
     parts: &[Part],
     enter: bool,
     at: &Configuration<'_>,
     entries: &mut PositionSet,
     cursor: &mut Cursor,
-    steps: &mut Steps<L>,
+    steps: &mut Steps,
 ) -> bool
     requires room { cursor.old.position + position_count_of (shapes_of parts.now)
         ≤ length at.now.positions.now }
@@ -653,7 +653,7 @@ fn advance_all<L: Ledger>(
     ensures position { cursor.new.position
         ≡ cursor.old.position + position_count_of (shapes_of parts.now) }
     ensures repeat { cursor.new.repeat ≡ cursor.old.repeat + repeats_of (shapes_of parts.now) }
-    ensures cost { steps.new ≡ steps.old + sizes_of parts.now }
+    ensures cost { steps.new.count ≡ steps.old.count + sizes_of parts.now }
 {
     let mut accepting = enter;
     for part in parts {
@@ -663,13 +663,13 @@ fn advance_all<L: Ledger>(
 }
 
 #[cycle(advance)]
-fn advance_each<L: Ledger>(
+fn advance_each(
     parts: &[Part],
     enter: bool,
     at: &Configuration<'_>,
     entries: &mut PositionSet,
     cursor: &mut Cursor,
-    steps: &mut Steps<L>,
+    steps: &mut Steps,
 ) -> bool
     requires room { cursor.old.position + position_count_of (shapes_of parts.now)
         ≤ length at.now.positions.now }
@@ -685,7 +685,7 @@ fn advance_each<L: Ledger>(
     ensures position { cursor.new.position
         ≡ cursor.old.position + position_count_of (shapes_of parts.now) }
     ensures repeat { cursor.new.repeat ≡ cursor.old.repeat + repeats_of (shapes_of parts.now) }
-    ensures cost { steps.new ≡ steps.old + sizes_of parts.now }
+    ensures cost { steps.new.count ≡ steps.old.count + sizes_of parts.now }
 {
     let mut out = false;
     for part in parts {

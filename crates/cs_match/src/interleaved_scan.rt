@@ -8,10 +8,10 @@ ghost use Rattle.cs_match.specs.Skipped.{AreSkipped};
 ghost use Rattle.cs_match.specs.Skipping.{AreWholeLines};
 ghost use Rattle.cs_match.specs.Scan.{state_after, first_special, RulesOutLines};
 ghost use Rattle.cs_match.specs.Work.{most_batch};
+ghost use Rattle.cs_prefilter.specs.CountsAtMost.{CountsAtMost};
 
-use crate::steps::Steps;
+use cs_prefilter::Steps;
 use memchr::memchr;
-use std::sync::ledger::Ledger;
 
 /// The match state: the line has a match, whatever follows in it.
 pub(crate) const MATCH: u16 = 0xFE00;
@@ -54,14 +54,14 @@ fn scan(transitions: &[u16], from: u16, text: &[u8]) -> u16
 }
 
 /// The offset of the first newline at or after `from`.
-pub(crate) fn line_end<L: Ledger>(block: &[u8], from: usize, steps: &mut Steps<L>) -> usize
+pub(crate) fn line_end(block: &[u8], from: usize, steps: &mut Steps) -> usize
     requires within { from < length block.now }
     requires whole { AreWholeLines (drop from block.now) }
     ensures low { from ≤ result }
     ensures high { result < length block.now }
     ensures part { HasNoNewline (slice_range block.now from result) }
     ensures newline { drop result block.now ≡ newline ∷ drop (result + 1) block.now }
-    ensures work { steps.new ≡ steps.old + (result + 1 - from) }
+    ensures work { steps.new.count ≡ steps.old.count + (result + 1 - from) }
 {
     match memchr(b'\n', &block[from..]) {
         Some(offset) => {
@@ -74,7 +74,7 @@ pub(crate) fn line_end<L: Ledger>(block: &[u8], from: usize, steps: &mut Steps<L
 
 /// The end of the chunk that begins at `from`: after the first newline at least 512 bytes on, or the end of the
 /// block if there is none within 16384 bytes.
-pub(crate) fn cut<L: Ledger>(block: &[u8], from: usize, steps: &mut Steps<L>) -> usize
+pub(crate) fn cut(block: &[u8], from: usize, steps: &mut Steps) -> usize
     requires within { from ≤ length block.now }
     requires whole { AreWholeLines (drop from block.now) }
     ensures low { from ≤ result }
@@ -83,8 +83,8 @@ pub(crate) fn cut<L: Ledger>(block: &[u8], from: usize, steps: &mut Steps<L>) ->
     ensures whole { AreWholeLines (slice_range block.now from result) }
     ensures rest { AreWholeLines (drop result block.now) }
     ensures long { min (from + CHUNK) (length block.now) ≤ result }
-    ensures work { steps.new ≤ steps.old + (result - from) }
-    ensures near { steps.new ≤ steps.old + MOST_CHUNK }
+    ensures work { CountsAtMost (result - from) steps.old steps.new }
+    ensures near { steps.new.count ≤ steps.old.count + MOST_CHUNK }
 {
     let most = MOST_CHUNK.min(block.len() - from);
     if most <= CHUNK {
@@ -172,11 +172,11 @@ struct Skipped {
 }
 
 /// Skips the leading chunks of a batch whose scans end in ordinary states, and no chunks of a batch that is too long.
-fn skip_batch<L: Ledger>(
+fn skip_batch(
     transitions: &[u16],
     block: &[u8],
     from: usize,
-    steps: &mut Steps<L>,
+    steps: &mut Steps,
 ) -> Skipped
     requires full { length transitions.now ≡ 65536 }
     requires within { from ≤ length block.now }
@@ -184,9 +184,9 @@ fn skip_batch<L: Ledger>(
     ensures skipped { AreSkipped (λ has_match. RulesOutLines has_match transitions.now)
         block.now from result.to }
     ensures moves { result.all ≡ true → from < length block.now → from < result.to }
-    ensures all { result.all ≡ true → steps.new ≤ steps.old + 2 * (result.to - from) }
-    ensures most { steps.new ≤ steps.old + 2 * most_batch }
-    ensures rest { steps.new ≤ steps.old + 2 * (length block.now - from) }
+    ensures all { result.all ≡ true → steps.new.count ≤ steps.old.count + 2 * (result.to - from) }
+    ensures most { CountsAtMost (2 * most_batch) steps.old steps.new }
+    ensures rest { steps.new.count ≤ steps.old.count + 2 * (length block.now - from) }
 {
     let a = cut(block, from, steps);
     let b = cut(block, a, steps);
@@ -222,11 +222,11 @@ fn skip_batch<L: Ledger>(
 
 /// Skips batches while all their chunks are ordinary, then the leading ordinary chunks of the next batch. The
 /// returned offset is the start of a line or the end of the block.
-pub(crate) fn skip_interleaved<L: Ledger>(
+pub(crate) fn skip_interleaved(
     transitions: &[u16],
     block: &[u8],
     from: usize,
-    steps: &mut Steps<L>,
+    steps: &mut Steps,
 ) -> usize
     requires full { length transitions.now ≡ 65536 }
     requires within { from ≤ length block.now }
@@ -234,8 +234,8 @@ pub(crate) fn skip_interleaved<L: Ledger>(
     ensures skipped { AreSkipped (λ has_match. RulesOutLines has_match transitions.now)
         block.now from result }
     ensures rest { AreWholeLines (drop result block.now) }
-    ensures most { steps.new ≤ steps.old + 2 * (result - from) + 2 * most_batch }
-    ensures all { steps.new ≤ steps.old + 2 * (length block.now - from) }
+    ensures most { CountsAtMost (2 * (result - from) + 2 * most_batch) steps.old steps.new }
+    ensures all { steps.new.count ≤ steps.old.count + 2 * (length block.now - from) }
 {
     let mut offset = from;
     'batches: while offset < block.len() {

@@ -23,9 +23,7 @@ mod program;
 mod sequences;
 mod skipping;
 mod state;
-mod steps;
 
 pub use matcher::{Cache, Line, Matcher};
 pub use program::Program;
 pub use skipping::whole_lines_len;
-pub use steps::Steps;

@@ -3,14 +3,14 @@ ghost use Rattle.std.specs.Prelude.{◌≡◌, ℕ, ◌+◌, ◌<◌, ◌≤◌,
 ghost use Rattle.cs_match.specs.Masks.{IsMask, IsOneMask, HasRoom, AreMasks};
 ghost use Rattle.cs_match.specs.PositionSet.{is_moved};
 ghost use Rattle.cs_match.specs.Work.{words};
+ghost use Rattle.cs_prefilter.specs.CountsAtMost.{CountsAtMost};
 
 use crate::input::Input;
 use crate::position::Position;
 use crate::position_set::PositionSet;
-use crate::steps::Steps;
+use cs_prefilter::Steps;
 use cs_syntax::CharStep;
 use std::alloc::{AllocError, Global};
-use std::sync::ledger::Ledger;
 
 /// The number of masks: one for each byte, and 64 for the last bytes of characters.
 const MOST: usize = 320;
@@ -60,12 +60,12 @@ impl Mask {
     }
 
     /// Computes the mask of the input.
-    fn fill<L: Ledger>(&mut self, positions: &[Position], input: Input, steps: &mut Steps<L>)
+    fn fill(&mut self, positions: &[Position], input: Input, steps: &mut Steps)
         requires { HasRoom (length positions.now) self.old }
         ensures room { HasRoom (length positions.now) self.new }
         ensures mask { IsMask positions.now self.new }
         ensures input { self.new.input ≡ input }
-        ensures cost { steps.new ≡ steps.old + length positions.now }
+        ensures cost { steps.new.count ≡ steps.old.count + length positions.now }
     {
         self.input = input;
         self.is_known = true;
@@ -82,11 +82,11 @@ impl Mask {
     }
 
     /// Moves a position set over the input of the mask.
-    pub(crate) fn move_over<L: Ledger>(
+    pub(crate) fn move_over(
         &self,
         entries: &PositionSet,
         positions: &mut PositionSet,
-        steps: &mut Steps<L>,
+        steps: &mut Steps,
     )
         requires entries { length entries.now ≡ length positions.old + 1 }
         requires room { HasRoom (length positions.old) self.now }
@@ -94,7 +94,7 @@ impl Mask {
         ensures length { length positions.new ≡ length positions.old }
         ensures each { (k : ℕ) → k < length positions.old → slice_index_or positions.new k false
             ≡ is_moved entries.now self.now.entered self.now.previous self.now.kept positions.old k }
-        ensures cost { steps.new ≡ steps.old + words (length positions.old) }
+        ensures cost { steps.new.count ≡ steps.old.count + words (length positions.old) }
     {
         if self.is_one_mask {
             positions.move_entered(entries, &self.entered, steps);
@@ -124,18 +124,18 @@ impl Masks {
     }
 
     /// The index of the mask of an input, computed first if it is not there.
-    pub(crate) fn find<L: Ledger>(
+    pub(crate) fn find(
         &mut self,
         positions: &[Position],
         input: Input,
-        steps: &mut Steps<L>,
+        steps: &mut Steps,
     ) -> usize
         requires { AreMasks positions.now self.old }
         ensures masks { AreMasks positions.now self.new }
         ensures within { result < 320 }
         ensures mask { (other : Mask) → IsMask positions.now (slice_index_or self.new.slots.items result other) }
         ensures input { (other : Mask) → (slice_index_or self.new.slots.items result other).input ≡ input }
-        ensures cost { steps.new ≤ steps.old + length positions.now }
+        ensures cost { CountsAtMost (length positions.now) steps.old steps.new }
     {
         let slot = slot_of(input);
         if !self.slots[slot].is_of(input) {

@@ -3,11 +3,11 @@ ghost use Rattle.std.specs.Prelude.{◌≡◌, ◌≤◌, ◌<◌, ◌+◌, ◌*
 ghost use Rattle.cs_syntax.specs.Matching.{HasMatch};
 ghost use Rattle.cs_match.specs.Automaton.{GrowsOver, most_states};
 ghost use Rattle.cs_match.specs.Deciding.{Decides};
-ghost use Rattle.cs_match.specs.FirstMatch.{IsFirstMatch, IsSearched};
+ghost use Rattle.cs_match.specs.FirstMatch.{IsFirstMatch};
 ghost use Rattle.cs_match.specs.Lines.{terminated_lines};
 ghost use Rattle.cs_match.specs.Skipped.{AreSkipped};
-ghost use Rattle.cs_match.specs.Work.{state_work, byte_work, line_work, search_work, count_work, searched_bytes};
-ghost use Rattle.cs_match.specs.PartWork.{part_work};
+ghost use Rattle.cs_match.specs.Work.{WorksWithin, byte_work, line_work, search_work, count_work, searched_bytes};
+ghost use Rattle.cs_match.specs.SearchesPart.{SearchesPart};
 ghost use Rattle.cs_match.specs.Skipping.{AreWholeLines, IsLineAfter, NoneMatch};
 
 mod cache;
@@ -17,12 +17,10 @@ use crate::interleaved_scan::{cut, line_end, skip_interleaved};
 use crate::pacing::{Method, Pacing};
 use crate::program::Program;
 use crate::skipping::{next_candidate, whole_lines_len};
-use crate::steps::Steps;
 pub use cache::Cache;
-use cs_prefilter::Prefilter;
+use cs_prefilter::{Prefilter, Steps};
 use std::alloc::{AllocError, Global};
-use std::marker::{Brand, Model};
-use std::sync::ledger::{Blank, Ledger};
+use std::marker::Model;
 
 /// A line of a block. Its bytes, without the newline, are those from `start` to `end`.
 #[derive(Clone, Copy, Drop)]
@@ -31,13 +29,14 @@ pub struct Line {
     pub end: usize,
 }
 
-/// A program with its lazy DFA. Contracts see the program's tree and the number of cached states.
+/// A program with its lazy DFA. Contracts see the program's tree, the number of cached states and the steps taken.
 #[derive(Drop)]
 pub struct Matcher<'a> {
     pub(crate) dfa: LazyDfa<'a>,
     /// The prefilter of the program, if it has one.
     pub(crate) prefilter: Option<&'a Prefilter>,
     pacing: Pacing,
+    steps: Steps,
 }
 
 /// The end of some searched lines, and the first of them that matches.
@@ -57,10 +56,10 @@ impl<'a> Model for Matcher<'a> {
     ghost coded = { automaton_code };
 
     ghost use Rattle.std.specs.Prelude.{IfSome};
-    ghost use Rattle.cs_match.specs.ConsistentDfa.{IsConsistent, tree_in};
+    ghost use Rattle.cs_match.specs.ConsistentDfa.{IsConsistent, automaton_of, tree_in};
     ghost use Rattle.cs_prefilter.specs.WordAt.{IsPrefilterOf};
 
-    ghost view = { λ matcher. record { tree = tree_in matcher.dfa; states = matcher.dfa.states.used } };
+    ghost view = { λ matcher. automaton_of matcher.dfa matcher.steps };
 
     ghost invariant = { λ matcher. IsConsistent matcher.dfa
         × IfSome matcher.prefilter (λ prefilter. IsPrefilterOf (tree_in matcher.dfa) prefilter.now) };
@@ -71,6 +70,7 @@ impl<'a> Matcher<'a> {
     pub fn new(alloc: Global, program: &'a Program) -> Result<Matcher<'a>, AllocError>
         ensures tree { IfOk result (λ matcher. matcher.tree ≡ program.now) }
         ensures states { IfOk result (λ matcher. matcher.states ≡ 1) }
+        ensures steps { IfOk result (λ matcher. matcher.steps ≡ 0) }
     {
         let dfa = LazyDfa::new(alloc, program)?;
         let prefilter = program.prefilter();
@@ -78,6 +78,7 @@ impl<'a> Matcher<'a> {
             dfa,
             prefilter,
             pacing: Pacing::new(prefilter.is_some()),
+            steps: Steps::new(),
         })
     }
 
@@ -90,38 +91,28 @@ impl<'a> Matcher<'a> {
         self.dfa.states.used
     }
 
-    /// Whether the line has a match, whatever was asked before. It allocates nothing.
+    /// Counts so many steps more, which a caller took for its search of the text. Does nothing when it runs.
+    pub fn add_steps(&mut self, count: usize)
+        ensures { self.new ≡ record { tree = self.old.tree; states = self.old.states;
+            steps = self.old.steps + count } }
+    {
+        self.steps.add(count);
+    }
+
+    /// Whether the line has a match, whatever was asked before. It allocates nothing. Lines of so many bytes together take
+    /// at most `line_work` for each, and at most `state_work` for each state that was cached before the first.
     pub fn is_match(&mut self, line: &[u8]) -> bool
         ensures found { IsTrue result ↔ HasMatch self.old.tree line.now }
         ensures same { self.new.tree ≡ self.old.tree }
         ensures states { GrowsOver (length line.now + 1) self.old.states self.new.states }
+        ensures work { WorksWithin (line_work self.old.tree (length line.now)) self.old self.new }
     {
-        self.is_match_from_blank::<Brand>(line, Blank::new(1))
+        self.dfa.is_match(line, &mut self.steps)
     }
 
-    fn is_match_from_blank<L: Ledger>(&mut self, line: &[u8], blank: Blank) -> bool
-        requires blank { (blank.name ≡ L.name) × (blank.parts ≡ L.parts) × (0 < blank.parts) }
-        ensures found { IsTrue result ↔ HasMatch self.old.tree line.now }
-        ensures same { self.new.tree ≡ self.old.tree }
-        ensures states { GrowsOver (length line.now + 1) self.old.states self.new.states }
-    {
-        let mut steps = Steps::<L>::new(blank);
-        self.is_match_counted(line, &mut steps)
-    }
-
-    /// The same, with the steps counted. Lines of so many bytes together take at most `line_work` for each, and at
-    /// most `state_work` for each state that was cached before the first.
-    pub fn is_match_counted<L: Ledger>(&mut self, line: &[u8], steps: &mut Steps<L>) -> bool
-        ensures found { IsTrue result ↔ HasMatch self.old.tree line.now }
-        ensures same { self.new.tree ≡ self.old.tree }
-        ensures states { GrowsOver (length line.now + 1) self.old.states self.new.states }
-        ensures work { steps.new + state_work * self.new.states
-            ≤ steps.old + state_work * self.old.states + line_work self.old.tree (length line.now) }
-    {
-        self.dfa.is_match(line, steps)
-    }
-
-    /// The first line at or after `from` that has a match. The block is whole lines from there on.
+    /// The first line at or after `from` that has a match. The block is whole lines from there on. The steps are at most
+    /// `search_work` of the bytes up to the end of the line, or of the block if no line matches. The states that were
+    /// cached before pay for some of them, as in `is_match`.
     pub fn next_match(&mut self, block: &[u8], from: usize) -> Option<Line>
         requires within { from ≤ length block.now }
         requires whole { AreWholeLines (drop from block.now) }
@@ -134,59 +125,12 @@ impl<'a> Matcher<'a> {
             (terminated_lines (slice_range block.now from line.start))) }
         ensures same { self.new.tree ≡ self.old.tree }
         ensures states { GrowsOver (length block.now - from) self.old.states self.new.states }
-    {
-        self.next_match_from_blank::<Brand>(block, from, Blank::new(1))
-    }
-
-    fn next_match_from_blank<L: Ledger>(
-        &mut self,
-        block: &[u8],
-        from: usize,
-        blank: Blank,
-    ) -> Option<Line>
-        requires within { from ≤ length block.now }
-        requires whole { AreWholeLines (drop from block.now) }
-        requires blank { (blank.name ≡ L.name) × (blank.parts ≡ L.parts) × (0 < blank.parts) }
-        ensures line { IfSome result (λ line. IsLineAfter block.now from line.start line.end) }
-        ensures found { IfSome result (λ line. HasMatch self.old.tree
-            (slice_range block.now line.start line.end)) }
-        ensures none { (has_match : List ℕ → Bool) → Decides has_match self.old.tree →
-            MatchOption result (NoneMatch has_match (terminated_lines (drop from block.now)))
-            (λ line. NoneMatch has_match
-            (terminated_lines (slice_range block.now from line.start))) }
-        ensures same { self.new.tree ≡ self.old.tree }
-        ensures states { GrowsOver (length block.now - from) self.old.states self.new.states }
-    {
-        let mut steps = Steps::<L>::new(blank);
-        self.next_match_counted(block, from, &mut steps)
-    }
-
-    /// The same, with the steps counted: at most `search_work` of the bytes up to the end of the line, or of the block if
-    /// no line matches. They are paid for from the states that were cached before, as those of `is_match_counted`.
-    pub fn next_match_counted<L: Ledger>(
-        &mut self,
-        block: &[u8],
-        from: usize,
-        steps: &mut Steps<L>,
-    ) -> Option<Line>
-        requires within { from ≤ length block.now }
-        requires whole { AreWholeLines (drop from block.now) }
-        ensures line { IfSome result (λ line. IsLineAfter block.now from line.start line.end) }
-        ensures found { IfSome result (λ line. HasMatch self.old.tree
-            (slice_range block.now line.start line.end)) }
-        ensures none { (has_match : List ℕ → Bool) → Decides has_match self.old.tree →
-            MatchOption result (NoneMatch has_match (terminated_lines (drop from block.now)))
-            (λ line. NoneMatch has_match
-            (terminated_lines (slice_range block.now from line.start))) }
-        ensures same { self.new.tree ≡ self.old.tree }
-        ensures states { GrowsOver (length block.now - from) self.old.states self.new.states }
-        ensures work { steps.new + state_work * self.new.states
-            ≤ steps.old + state_work * self.old.states
-            + search_work self.old.tree (searched_bytes from (length block.now) result) }
+        ensures work { WorksWithin (search_work self.old.tree (searched_bytes from (length block.now) result))
+            self.old self.new }
     {
         let mut offset = from;
         'parts: while offset < block.len() {
-            let searched = self.search_part(block, offset, steps);
+            let searched = self.search_part(block, offset);
             self.note_part(offset, searched);
             match searched.line {
                 Some(line) => return Some(line),
@@ -196,43 +140,18 @@ impl<'a> Matcher<'a> {
         None
     }
 
-    /// The number of matching lines in a block of whole lines.
+    /// The number of matching lines in a block of whole lines. The steps are at most `count_work`.
     pub fn count(&mut self, block: &[u8]) -> u64
         requires whole { AreWholeLines block.now }
         ensures found { (has_match : List ℕ → Bool) → Decides has_match self.old.tree →
             result ≡ count_by has_match (terminated_lines block.now) }
         ensures bound { result ≤ length (terminated_lines block.now) }
         ensures same { self.new.tree ≡ self.old.tree }
-    {
-        self.count_from_blank::<Brand>(block, Blank::new(1))
-    }
-
-    fn count_from_blank<L: Ledger>(&mut self, block: &[u8], blank: Blank) -> u64
-        requires whole { AreWholeLines block.now }
-        requires blank { (blank.name ≡ L.name) × (blank.parts ≡ L.parts) × (0 < blank.parts) }
-        ensures found { (has_match : List ℕ → Bool) → Decides has_match self.old.tree →
-            result ≡ count_by has_match (terminated_lines block.now) }
-        ensures bound { result ≤ length (terminated_lines block.now) }
-        ensures same { self.new.tree ≡ self.old.tree }
-    {
-        let mut steps = Steps::<L>::new(blank);
-        self.count_counted(block, &mut steps)
-    }
-
-    /// The same, with the steps counted: at most `count_work`.
-    pub fn count_counted<L: Ledger>(&mut self, block: &[u8], steps: &mut Steps<L>) -> u64
-        requires whole { AreWholeLines block.now }
-        ensures found { (has_match : List ℕ → Bool) → Decides has_match self.old.tree →
-            result ≡ count_by has_match (terminated_lines block.now) }
-        ensures bound { result ≤ length (terminated_lines block.now) }
-        ensures same { self.new.tree ≡ self.old.tree }
-        ensures work { steps.new + state_work * self.new.states
-            ≤ steps.old + state_work * self.old.states
-            + count_work self.old.tree (length block.now) result }
+        ensures work { WorksWithin (count_work self.old.tree (length block.now) result) self.old self.new }
     {
         let mut offset = 0;
         let mut matching_lines = 0u64;
-        'lines: while let Some(line) = self.next_match_counted(block, offset, steps) {
+        'lines: while let Some(line) = self.next_match(block, offset) {
             offset = line.end + 1;
             matching_lines += 1;
         }
@@ -241,30 +160,18 @@ impl<'a> Matcher<'a> {
 
     /// Searches some lines, at least one, by the method that suits the text: the lines up to a candidate, some chunks, one
     /// line or the whole rest of the block.
-    fn search_part<L: Ledger>(
-        &mut self,
-        block: &[u8],
-        from: usize,
-        steps: &mut Steps<L>,
-    ) -> Searched
+    fn search_part(&mut self, block: &[u8], from: usize) -> Searched
         requires within { from < length block.now }
         requires whole { AreWholeLines (drop from block.now) }
-        ensures moves { from < result.to }
-        ensures found { IsSearched self.old.tree block.now from result.to result.line }
-        ensures high { result.to ≤ length block.now }
-        ensures same { self.new.tree ≡ self.old.tree }
-        ensures states { GrowsOver (result.to - from) self.old.states self.new.states }
-        ensures work { steps.new + state_work * self.new.states
-            ≤ steps.old + state_work * self.old.states
-            + part_work self.old.tree from result.to result.line }
+        ensures { SearchesPart block.now from self.old self.new result }
     {
         match self.method() {
-            Method::Prefilter => self.search_candidate(block, from, steps),
-            Method::Interleaved => self.search_chunks(block, from, steps),
-            Method::Line => self.search_line(block, from, steps),
+            Method::Prefilter => self.search_candidate(block, from),
+            Method::Interleaved => self.search_chunks(block, from),
+            Method::Line => self.search_line(block, from),
             Method::Single => {
                 let to = block.len();
-                let line = self.first_match(block, from, to, steps);
+                let line = self.first_match(block, from, to);
                 Searched {
                     to,
                     line,
@@ -275,25 +182,13 @@ impl<'a> Matcher<'a> {
     }
 
     /// Searches the next line.
-    fn search_line<L: Ledger>(
-        &mut self,
-        block: &[u8],
-        from: usize,
-        steps: &mut Steps<L>,
-    ) -> Searched
+    fn search_line(&mut self, block: &[u8], from: usize) -> Searched
         requires within { from < length block.now }
         requires whole { AreWholeLines (drop from block.now) }
-        ensures moves { from < result.to }
-        ensures found { IsSearched self.old.tree block.now from result.to result.line }
-        ensures high { result.to ≤ length block.now }
-        ensures same { self.new.tree ≡ self.old.tree }
-        ensures states { GrowsOver (result.to - from) self.old.states self.new.states }
-        ensures work { steps.new + state_work * self.new.states
-            ≤ steps.old + state_work * self.old.states
-            + part_work self.old.tree from result.to result.line }
+        ensures { SearchesPart block.now from self.old self.new result }
     {
-        let end = line_end(block, from, steps);
-        let line = self.first_match(block, from, end + 1, steps);
+        let end = line_end(block, from, &mut self.steps);
+        let line = self.first_match(block, from, end + 1);
         Searched {
             to: end + 1,
             line,
@@ -303,27 +198,15 @@ impl<'a> Matcher<'a> {
 
     /// Skips to the first line with a word of the prefilter, or where its search is given up, and tests the line unless it
     /// has a word and the words are the pattern.
-    fn search_candidate<L: Ledger>(
-        &mut self,
-        block: &[u8],
-        from: usize,
-        steps: &mut Steps<L>,
-    ) -> Searched
+    fn search_candidate(&mut self, block: &[u8], from: usize) -> Searched
         requires within { from < length block.now }
         requires whole { AreWholeLines (drop from block.now) }
-        ensures moves { from < result.to }
-        ensures found { IsSearched self.old.tree block.now from result.to result.line }
-        ensures high { result.to ≤ length block.now }
-        ensures same { self.new.tree ≡ self.old.tree }
-        ensures states { GrowsOver (result.to - from) self.old.states self.new.states }
-        ensures work { steps.new + state_work * self.new.states
-            ≤ steps.old + state_work * self.old.states
-            + part_work self.old.tree from result.to result.line }
+        ensures { SearchesPart block.now from self.old self.new result }
     {
         let Some(prefilter) = self.prefilter else {
-            return self.search_chunks(block, from, steps);
+            return self.search_chunks(block, from);
         };
-        let candidate = next_candidate(prefilter, block, from, steps);
+        let candidate = next_candidate(prefilter, block, from, &mut self.steps);
         let wasted = candidate.wasted;
         let Some(line) = candidate.line else {
             return Searched {
@@ -340,7 +223,7 @@ impl<'a> Matcher<'a> {
                 wasted,
             };
         }
-        let found = self.first_match(block, line.start, to, steps);
+        let found = self.first_match(block, line.start, to);
         Searched {
             to,
             line: found,
@@ -350,26 +233,14 @@ impl<'a> Matcher<'a> {
 
     /// Skips chunks by the interleaved scan, and searches the next one by one scan.
     #[inline(always)]
-    fn search_chunks<L: Ledger>(
-        &mut self,
-        block: &[u8],
-        from: usize,
-        steps: &mut Steps<L>,
-    ) -> Searched
+    fn search_chunks(&mut self, block: &[u8], from: usize) -> Searched
         requires within { from < length block.now }
         requires whole { AreWholeLines (drop from block.now) }
-        ensures moves { from < result.to }
-        ensures found { IsSearched self.old.tree block.now from result.to result.line }
-        ensures high { result.to ≤ length block.now }
-        ensures same { self.new.tree ≡ self.old.tree }
-        ensures states { GrowsOver (result.to - from) self.old.states self.new.states }
-        ensures work { steps.new + state_work * self.new.states
-            ≤ steps.old + state_work * self.old.states
-            + part_work self.old.tree from result.to result.line }
+        ensures { SearchesPart block.now from self.old self.new result }
     {
-        let start = skip_interleaved(&self.dfa.states.transitions, block, from, steps);
-        let to = cut(block, start, steps);
-        let line = self.first_match(block, start, to, steps);
+        let start = skip_interleaved(&self.dfa.states.transitions, block, from, &mut self.steps);
+        let to = cut(block, start, &mut self.steps);
+        let line = self.first_match(block, start, to);
         Searched {
             to,
             line,
@@ -378,13 +249,7 @@ impl<'a> Matcher<'a> {
     }
 
     /// The first matching line of those between two offsets, by one scan.
-    fn first_match<L: Ledger>(
-        &mut self,
-        block: &[u8],
-        from: usize,
-        to: usize,
-        steps: &mut Steps<L>,
-    ) -> Option<Line>
+    fn first_match(&mut self, block: &[u8], from: usize, to: usize) -> Option<Line>
         requires low { from ≤ to }
         requires high { to ≤ length block.now }
         requires whole { AreWholeLines (slice_range block.now from to) }
@@ -394,20 +259,18 @@ impl<'a> Matcher<'a> {
             (λ line. IsFirstMatch self.old.tree block.now from line.start line.end) }
         ensures same { self.new.tree ≡ self.old.tree }
         ensures states { GrowsOver (to - from) self.old.states self.new.states }
-        ensures work { steps.new + state_work * self.new.states
-            ≤ steps.old + state_work * self.old.states
-            + searched_bytes from to result * (byte_work self.old.tree + 2) }
+        ensures work { WorksWithin (searched_bytes from to result * (byte_work self.old.tree + 2)) self.old self.new }
     {
-        let Some(accepted) = self.dfa.first_accepted(&block[from..to], steps) else {
+        let Some(accepted) = self.dfa.first_accepted(&block[from..to], &mut self.steps) else {
             return None;
         };
         let offset = from + accepted;
         let len = whole_lines_len(&block[from..offset]);
         // The bytes of the line before the offset are read, and the newline before them.
-        steps.add(accepted - len + 1);
+        self.steps.add(accepted - len + 1);
         Some(Line {
             start: from + len,
-            end: line_end(block, offset, steps),
+            end: line_end(block, offset, &mut self.steps),
         })
     }
 

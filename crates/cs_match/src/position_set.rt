@@ -4,10 +4,9 @@ ghost use Rattle.std.specs.Int.{bit_at};
 ghost use Rattle.cs_match.specs.PositionSet.{has_from, has_bit_from, intersect, is_moved, is_selected};
 ghost use Rattle.cs_match.specs.Work.{words};
 
-use crate::steps::Steps;
+use cs_prefilter::Steps;
 use std::alloc::{AllocError, Global};
 use std::marker::Model;
-use std::sync::ledger::Ledger;
 
 /// A set of positions, one bit each. Contracts see a list of truth values.
 #[derive(Drop)]
@@ -156,10 +155,10 @@ impl PositionSet {
     }
 
     /// Makes this the set in which each position is moved to the next one. It has room for one position more.
-    pub(crate) fn shift_from<L: Ledger>(&mut self, from: &PositionSet, steps: &mut Steps<L>)
+    pub(crate) fn shift_from(&mut self, from: &PositionSet, steps: &mut Steps)
         requires { length self.old ≡ length from.now + 1 }
         ensures shifted { self.new ≡ false ∷ from.now }
-        ensures cost { steps.new ≡ steps.old + words (length self.old) }
+        ensures cost { steps.new.count ≡ steps.old.count + words (length self.old) }
     {
         let mut carried = 0;
         for index in 0..self.words.len() {
@@ -172,13 +171,13 @@ impl PositionSet {
 
     /// Moves the set over an input: a position is in it afterwards by one of three masks, if it was entered, if the one
     /// before it was entered, or if it was in the set.
-    pub(crate) fn move_over<L: Ledger>(
+    pub(crate) fn move_over(
         &mut self,
         entries: &PositionSet,
         if_entered: &PositionSet,
         if_previous: &PositionSet,
         if_kept: &PositionSet,
-        steps: &mut Steps<L>,
+        steps: &mut Steps,
     )
         requires entries { length entries.now ≡ length self.old + 1 }
         requires if_entered { length if_entered.now ≡ length self.old }
@@ -187,7 +186,7 @@ impl PositionSet {
         ensures length { length self.new ≡ length self.old }
         ensures each { (k : ℕ) → k < length self.old → slice_index_or self.new k false
             ≡ is_moved entries.now if_entered.now if_previous.now if_kept.now self.old k }
-        ensures cost { steps.new ≡ steps.old + words (length self.old) }
+        ensures cost { steps.new.count ≡ steps.old.count + words (length self.old) }
     {
         let mut carried = 0;
         for index in 0..self.words.len() {
@@ -202,18 +201,18 @@ impl PositionSet {
     }
 
     /// Moves the set over an input after which only those of the entered positions are in it that the mask has.
-    pub(crate) fn move_entered<L: Ledger>(
+    pub(crate) fn move_entered(
         &mut self,
         entries: &PositionSet,
         if_entered: &PositionSet,
-        steps: &mut Steps<L>,
+        steps: &mut Steps,
     )
         requires entries { length entries.now ≡ length self.old + 1 }
         requires if_entered { length if_entered.now ≡ length self.old }
         ensures length { length self.new ≡ length self.old }
         ensures each { (k : ℕ) → k < length self.old → slice_index_or self.new k false
             ≡ (slice_index_or entries.now k false && slice_index_or if_entered.now k false) }
-        ensures cost { steps.new ≡ steps.old + words (length self.old) }
+        ensures cost { steps.new.count ≡ steps.old.count + words (length self.old) }
     {
         for index in 0..self.words.len() {
             steps.add(1);

@@ -5,13 +5,12 @@ ghost use Rattle.cs_match.specs.Skipping.{AreWholeLines};
 ghost use Rattle.cs_match.specs.Candidates.{IsCandidate};
 ghost use Rattle.cs_match.specs.Work.{searched_bytes};
 ghost use Rattle.cs_prefilter.specs.OffsetWork.{offset_work};
+ghost use Rattle.cs_prefilter.specs.CountsAtMost.{CountsAtMost};
 
 use crate::interleaved_scan::line_end;
 use crate::matcher::Line;
-use crate::steps::Steps;
-use cs_prefilter::Prefilter;
+use cs_prefilter::{Prefilter, Steps};
 use memchr::memrchr;
-use std::sync::ledger::Ledger;
 
 /// A line that may contain a word of a prefilter, such that no line before it does, or none if no line contains one.
 #[derive(Clone, Copy)]
@@ -23,17 +22,16 @@ pub(crate) struct Candidate {
 }
 
 /// The first line at or after `from` that contains a word of the prefilter, unless its search is given up before.
-pub(crate) fn next_candidate<L: Ledger>(
+pub(crate) fn next_candidate(
     prefilter: &Prefilter,
     block: &[u8],
     from: usize,
-    steps: &mut Steps<L>,
+    steps: &mut Steps,
 ) -> Candidate
     requires within { from < length block.now }
     requires whole { AreWholeLines (drop from block.now) }
     ensures candidate { IsCandidate prefilter.now.0 block.now from result.line result.has_word }
-    ensures work { steps.new
-        ≤ steps.old + 2 * offset_work * searched_bytes from (length block.now) result.line }
+    ensures work { CountsAtMost (2 * offset_work * searched_bytes from (length block.now) result.line) steps.old steps.new }
 {
     let rest = &block[from..];
     let stop = prefilter.skip(rest, 0, steps);

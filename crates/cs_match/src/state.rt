@@ -6,16 +6,16 @@ ghost use Rattle.cs_match.specs.Masks.{IsScratch};
 ghost use Rattle.cs_match.specs.Size.{nodes};
 ghost use Rattle.cs_match.specs.Work.{words, step_work};
 ghost use Rattle.cs_match.specs.States.{start, ahead, look_at_end, next_state, successor, accepts_before};
+ghost use Rattle.cs_prefilter.specs.CountsAtMost.{CountsAtMost};
 
 use crate::glushkov::{Scratch, is_accepting, step_over};
 use crate::input::Input;
 use crate::look_around::LookAround;
 use crate::position_set::PositionSet;
 use crate::program::Program;
-use crate::steps::Steps;
+use cs_prefilter::Steps;
 use cs_syntax::Unfinished;
 use std::alloc::{AllocError, Global};
-use std::sync::ledger::Ledger;
 
 /// A DFA state is a set of positions, two look-behind bits and the unfinished character.
 #[derive(Drop)]
@@ -45,10 +45,10 @@ impl State {
     }
 
     /// Makes this the start state.
-    fn begin<L: Ledger>(&mut self, program: &Program, steps: &mut Steps<L>)
+    fn begin(&mut self, program: &Program, steps: &mut Steps)
         requires { length self.old.positions ≡ position_count program.now }
         ensures start { self.new ≡ start program.now }
-        ensures cost { steps.new ≡ steps.old + words (position_count program.now) }
+        ensures cost { steps.new.count ≡ steps.old.count + words (position_count program.now) }
     {
         steps.add(self.positions.len().div_ceil(64));
         self.positions.clear();
@@ -58,10 +58,10 @@ impl State {
     }
 
     /// Copies a state of the same tree.
-    pub(crate) fn copy_from<L: Ledger>(&mut self, from: &State, steps: &mut Steps<L>)
+    pub(crate) fn copy_from(&mut self, from: &State, steps: &mut Steps)
         requires { length from.now.positions ≡ length self.old.positions }
         ensures same { self.new ≡ from.now }
-        ensures cost { steps.new ≡ steps.old + words (length from.now.positions) }
+        ensures cost { steps.new.count ≡ steps.old.count + words (length from.now.positions) }
     {
         steps.add(from.positions.len().div_ceil(64));
         self.positions.copy_from(&from.positions);
@@ -71,9 +71,9 @@ impl State {
     }
 
     /// Whether both states are equal.
-    pub(crate) fn is_same<L: Ledger>(&self, other: &State, steps: &mut Steps<L>) -> bool
+    pub(crate) fn is_same(&self, other: &State, steps: &mut Steps) -> bool
         ensures same { IsTrue result ↔ self.now ≡ other.now }
-        ensures cost { steps.new ≡ steps.old + words (length other.now.positions) }
+        ensures cost { steps.new.count ≡ steps.old.count + words (length other.now.positions) }
     {
         steps.add(other.positions.len().div_ceil(64));
         self.first == other.first
@@ -83,10 +83,10 @@ impl State {
     }
 
     /// Whether the state has no positions, and no character is unfinished.
-    pub(crate) fn is_empty<L: Ledger>(&self, steps: &mut Steps<L>) -> bool
+    pub(crate) fn is_empty(&self, steps: &mut Steps) -> bool
         ensures none { result ≡ true
             → self.now.positions ≡ replicate (length self.now.positions) false }
-        ensures cost { steps.new ≡ steps.old + words (length self.now.positions) }
+        ensures cost { steps.new.count ≡ steps.old.count + words (length self.now.positions) }
     {
         steps.add(self.positions.len().div_ceil(64));
         self.unfinished == Unfinished::none() && !self.positions.meets(0, &self.positions)
@@ -102,12 +102,12 @@ impl State {
     /// Whether the line has a match, simulated byte by byte.
     #[cold]
     #[inline(never)]
-    pub(crate) fn search<L: Ledger>(
+    pub(crate) fn search(
         &mut self,
         program: &Program,
         scratch: &mut Scratch,
         line: &[u8],
-        steps: &mut Steps<L>,
+        steps: &mut Steps,
     ) -> bool
         requires one_each { length self.old.positions ≡ position_count program.now }
         requires scratch { IsScratch program.now scratch.old }
@@ -115,7 +115,7 @@ impl State {
         ensures found { IsTrue result ↔ HasMatch program.now line.now }
         ensures one_each { length self.new.positions ≡ position_count program.now }
         ensures scratch { IsScratch program.now scratch.new }
-        ensures cost { steps.new ≤ steps.old + (length line.now + 1) * step_work program.now }
+        ensures cost { CountsAtMost ((length line.now + 1) * step_work program.now) steps.old steps.new }
     {
         self.begin(program, steps);
         for b in line {
@@ -127,19 +127,19 @@ impl State {
     }
 
     /// Moves over a byte, and returns whether the state accepts before it. A newline is the end of the line.
-    pub(crate) fn step_over<L: Ledger>(
+    pub(crate) fn step_over(
         &mut self,
         program: &Program,
         scratch: &mut Scratch,
         byte: u8,
-        steps: &mut Steps<L>,
+        steps: &mut Steps,
     ) -> bool
         requires one_each { length self.old.positions ≡ position_count program.now }
         requires scratch { IsScratch program.now scratch.old }
         ensures accepting { result ≡ accepts_before program.now self.old byte }
         ensures moved { self.new ≡ successor program.now self.old byte }
         ensures scratch { IsScratch program.now scratch.new }
-        ensures cost { steps.new ≤ steps.old + step_work program.now }
+        ensures cost { CountsAtMost (step_work program.now) steps.old steps.new }
     {
         if byte == b'\n' {
             self.end(program, steps)
@@ -149,12 +149,12 @@ impl State {
     }
 
     /// Moves over a byte of the line, and returns whether the state accepts before it.
-    fn step_in_line<L: Ledger>(
+    fn step_in_line(
         &mut self,
         program: &Program,
         scratch: &mut Scratch,
         byte: u8,
-        steps: &mut Steps<L>,
+        steps: &mut Steps,
     ) -> bool
         requires one_each { length self.old.positions ≡ position_count program.now }
         requires scratch { IsScratch program.now scratch.old }
@@ -162,7 +162,7 @@ impl State {
             ≡ accepts program.now true self.old.positions (ahead program.now self.old byte) }
         ensures moved { self.new ≡ next_state program.now self.old byte }
         ensures scratch { IsScratch program.now scratch.new }
-        ensures cost { steps.new ≤ steps.old + step_work program.now }
+        ensures cost { CountsAtMost (step_work program.now) steps.old steps.new }
     {
         let bits = program.look_behind();
         let is_word = bits.is_word(byte);
@@ -181,12 +181,12 @@ impl State {
     }
 
     /// Moves over the end of the line to the start state, and returns whether the state accepts before it.
-    fn end<L: Ledger>(&mut self, program: &Program, steps: &mut Steps<L>) -> bool
+    fn end(&mut self, program: &Program, steps: &mut Steps) -> bool
         requires one_each { length self.old.positions ≡ position_count program.now }
         ensures accepting { result
             ≡ accepts program.now true self.old.positions (look_at_end self.old) }
         ensures moved { self.new ≡ start program.now }
-        ensures cost { steps.new ≤ steps.old + (nodes program.now + words (position_count program.now)) }
+        ensures cost { CountsAtMost (nodes program.now + words (position_count program.now)) steps.old steps.new }
     {
         let here = LookAround {
             first: self.first,

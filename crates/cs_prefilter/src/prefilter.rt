@@ -3,6 +3,7 @@ ghost use Rattle.std.specs.Prelude.{◌≡◌, ◌≤◌, ◌<◌, ◌↔◌, �
 ghost use Rattle.cs_syntax.specs.Node.{tree_of};
 ghost use Rattle.cs_prefilter.specs.WordAt.{AreSufficient, HasWord, IsPrefilterOf, NoWordFrom, WordAt};
 ghost use Rattle.cs_prefilter.specs.OffsetWork.{most_words, word_work, offset_work};
+ghost use Rattle.cs_prefilter.specs.CountsAtMost.{CountsAtMost};
 ghost use Rattle.cs_prefilter.specs.Words.{HasWordOf};
 
 use crate::required::best;
@@ -14,7 +15,6 @@ use crate::words::{Words, share_of};
 use cs_syntax::Node;
 use std::alloc::{AllocError, Global};
 use std::marker::Model;
-use std::sync::ledger::Ledger;
 
 /// Below this share of offsets, in units of 10^-12, words are searched for by pairs whatever the trigrams are.
 const RARE: u64 = 1_000_000_000;
@@ -109,13 +109,13 @@ impl Prefilter {
     }
 
     /// Skips to the first word at or after `from`, or to the end of the text, unless too many candidates are no words.
-    pub fn skip<L: Ledger>(&self, text: &[u8], from: usize, steps: &mut Steps<L>) -> Stop
+    pub fn skip(&self, text: &[u8], from: usize, steps: &mut Steps) -> Stop
         requires { from ≤ length text.now }
         ensures low { from ≤ result.offset }
         ensures high { result.offset ≤ length text.now }
         ensures none { NoWordFrom self.now.0 text.now from result.offset }
         ensures stops { IsTrue result.has_word → Any (WordAt text.now result.offset) self.now.0 }
-        ensures work { steps.new ≤ steps.old + (result.offset - from + 1) * offset_work }
+        ensures work { CountsAtMost ((result.offset - from + 1) * offset_work) steps.old steps.new }
     {
         let mut wasted = 0usize;
         let mut offset = self.next(text, from, steps);
@@ -150,12 +150,12 @@ impl Prefilter {
 
     /// An offset at or after `from` such that no word occurs from `from` up to it. Near the end of the text it is `from`
     /// itself.
-    fn next<L: Ledger>(&self, text: &[u8], from: usize, steps: &mut Steps<L>) -> usize
+    fn next(&self, text: &[u8], from: usize, steps: &mut Steps) -> usize
         requires { from ≤ length text.now }
         ensures low { from ≤ result }
         ensures high { result ≤ length text.now }
         ensures none { NoWordFrom self.now.0 text.now from result }
-        ensures work { steps.new ≡ steps.old + (result - from + 1) }
+        ensures work { steps.new.count ≡ steps.old.count + (result - from + 1) }
     {
         let offset = self.search.skip(text, from);
         // The search moves by strides of 30 or 64 offsets, each of constant work, from `from` to the offset.
@@ -166,10 +166,10 @@ impl Prefilter {
 
 impl Word {
     /// Whether the word occurs at the offset.
-    pub(crate) fn occurs<L: Ledger>(&self, text: &[u8], offset: usize, steps: &mut Steps<L>) -> bool
+    pub(crate) fn occurs(&self, text: &[u8], offset: usize, steps: &mut Steps) -> bool
         requires { offset ≤ length text.now }
         ensures found { IsTrue result ↔ WordAt text.now offset self.now }
-        ensures work { steps.new ≤ steps.old + word_work }
+        ensures work { CountsAtMost word_work steps.old steps.new }
     {
         steps.add(1);
         if text.len() - offset < self.sets.len() {
@@ -186,10 +186,10 @@ impl Word {
 }
 
 /// Whether one of the words occurs at the offset.
-fn occurs<L: Ledger>(words: &[Word], text: &[u8], offset: usize, steps: &mut Steps<L>) -> bool
+fn occurs(words: &[Word], text: &[u8], offset: usize, steps: &mut Steps) -> bool
     requires { offset ≤ length text.now }
     ensures found { IsTrue result ↔ Any (WordAt text.now offset) words.now }
-    ensures work { steps.new ≤ steps.old + length words.now * word_work }
+    ensures work { CountsAtMost (length words.now * word_work) steps.old steps.new }
 {
     for word in words {
         if word.occurs(text, offset, steps) {

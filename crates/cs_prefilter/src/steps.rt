@@ -1,43 +1,31 @@
-// Steps of a search, counted at no cost: the tokens of a ledger take no bytes, and their functions have no code.
-ghost use Rattle.std.specs.Prelude.{◌≡◌, ◌+◌, ◌<◌};
+// Steps of a search, counted at no cost: a number that only contracts read.
+ghost use Rattle.std.specs.Prelude.{◌≡◌, ◌+◌, ℕ};
+ghost use Rattle.std.specs.Borrow.{ftrue};
 
 use std::marker::Model;
-use std::sync::ledger::{Blank, Book, Ledger, Share};
 
-/// How many steps were taken. `specs/OffsetWork.antt` says what a step of a prefilter is. Only `add` changes the
-/// number.
+/// How many steps were taken. `specs/OffsetWork.antt` says what a step of a prefilter is. The type has no size at run
+/// time. Only `add` changes the number.
 #[derive(Drop)]
-pub struct Steps<L: Ledger> {
-    book: Book<L>,
-    share: Share<L>,
+pub struct Steps {
+    pub ghost count: { ℕ },
 }
 
-impl<L: Ledger> Model for Steps<L> {
-    ghost use Rattle.std.specs.Prelude.{ℕ, ◌<◌};
-
-    ghost Value = { ℕ };
-
-    ghost view = { λ steps. steps.book.total };
-
-    ghost invariant = { λ steps. 0 < steps.share.parts };
+// A ghost field holds data only in a type that says what memory it owns: none.
+impl Model for Steps {
+    ghost also_owns = { λ _. ftrue };
 }
 
-impl<L: Ledger> Steps<L> {
-    /// No steps yet. A caller that counts nothing passes `Blank::new(1)`.
-    pub fn new(blank: Blank) -> Steps<L>
-        requires name { blank.name ≡ L.name }
-        requires parts { blank.parts ≡ L.parts }
-        requires some { 0 < blank.parts }
-        ensures { result ≡ 0 }
+impl Steps {
+    /// No steps yet.
+    pub fn new() -> Steps
+        ensures { result.count ≡ 0 }
     {
-        let (book, share) = blank.open::<L>();
-        Steps { book, share }
+        Steps {}
     }
 
-    /// So many steps more.
-    pub fn add(&mut self, count: usize)
-        ensures { self.new ≡ self.old + count }
-    {
-        self.book.add(&mut self.share, count as u64);
-    }
+    /// So many steps more. Does nothing when it runs.
+    pub fn add(&mut self, _count: usize)
+        ensures { self.new.count ≡ self.old.count + _count }
+    {}
 }

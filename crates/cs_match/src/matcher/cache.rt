@@ -7,13 +7,15 @@ use super::Matcher;
 use crate::dfa::{LazyDfa, StateCache};
 use crate::pacing::Pacing;
 use crate::program::Program;
+use cs_prefilter::Steps;
 use std::alloc::{AllocError, Global};
 
-/// The cached states of a matcher, and its counters.
+/// The cached states of a matcher, its counters and the steps that it has taken.
 #[derive(Drop)]
 pub struct Cache {
     pub(crate) states: StateCache,
     pacing: Pacing,
+    steps: Steps,
 }
 
 impl Cache {
@@ -31,11 +33,16 @@ impl<'a> Matcher<'a> {
         requires cache { IsCacheOf program.now cache }
         ensures tree { result.tree ≡ program.now }
     {
-        let Cache { states, pacing } = cache;
+        let Cache {
+            states,
+            pacing,
+            steps,
+        } = cache;
         Matcher {
             dfa: LazyDfa { program, states },
             prefilter: program.prefilter(),
             pacing,
+            steps,
         }
     }
 
@@ -47,8 +54,13 @@ impl<'a> Matcher<'a> {
             dfa,
             prefilter: _,
             pacing,
+            steps,
         } = self;
         let LazyDfa { program: _, states } = dfa;
-        Cache { states, pacing }
+        Cache {
+            states,
+            pacing,
+            steps,
+        }
     }
 }

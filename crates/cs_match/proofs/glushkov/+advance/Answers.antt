@@ -9,7 +9,7 @@ use Rattle.cs_match.proofs.TraversalLemmas.{repeats_options, accepted_all, accep
 use Rattle.cs_match.proofs.glushkov.+advance.Goals as goal
 
 pub advance_all-loop-part-preserved : goal.advance_all-loop-part-preserved
-advance_all-loop-part-preserved g t c =
+advance_all-loop-part-preserved t c =
     let more = shapes_from c.args.parts.now c.loop-part.part-index c.part-item.result c.loop-part-test.true c.part-item.is in
     let larger = sizes_from c.args.parts.now c.loop-part.part-index c.part-item.result c.loop-part-test.true c.part-item.is in
     let t = shape_of c.part-item.result in
@@ -47,7 +47,7 @@ advance_all-loop-part-preserved g t c =
     }
 
 pub advance_all-loop-part-init : goal.advance_all-loop-part-init
-advance_all-loop-part-init g t c =
+advance_all-loop-part-init t c =
     record {
       cost = refl;
       position = refl;
@@ -62,7 +62,7 @@ advance_all-loop-part-init g t c =
     }
 
 pub advance_each-loop-part-preserved : goal.advance_each-loop-part-preserved
-advance_each-loop-part-preserved g t c =
+advance_each-loop-part-preserved t c =
     let more = shapes_from c.args.parts.now c.loop-part.part-index c.part-item.result c.loop-part-test.true c.part-item.is in
     let larger = sizes_from c.args.parts.now c.loop-part.part-index c.part-item.result c.loop-part-test.true c.part-item.is in
     let t = shape_of c.part-item.result in
@@ -99,7 +99,7 @@ advance_each-loop-part-preserved g t c =
     }
 
 pub advance_each-loop-part-init : goal.advance_each-loop-part-init
-advance_each-loop-part-init g t c =
+advance_each-loop-part-init t c =
     record {
       cost = refl;
       position = refl;
@@ -114,73 +114,73 @@ advance_each-loop-part-init g t c =
     }
 
 pub advance-returns-in-LineStart-clause-entries : goal.advance-returns-in-LineStart-clause-entries
-advance-returns-in-LineStart-clause-entries g t c = rw (ap shape_of c.in-LineStart.is ∙ shape_of-LineStart)
+advance-returns-in-LineStart-clause-entries t c = rw (ap shape_of c.in-LineStart.is ∙ shape_of-LineStart)
     (no_run_entered c.args.cursor.now.position c.args.entries.now)
 
 pub advance-returns-in-LineEnd-clause-entries : goal.advance-returns-in-LineEnd-clause-entries
-advance-returns-in-LineEnd-clause-entries g t c = rw (ap shape_of c.in-LineEnd.is ∙ shape_of-LineEnd)
+advance-returns-in-LineEnd-clause-entries t c = rw (ap shape_of c.in-LineEnd.is ∙ shape_of-LineEnd)
     (no_run_entered c.args.cursor.now.position c.args.entries.now)
 
 pub advance-returns-in-WordEdge-clause-entries : goal.advance-returns-in-WordEdge-clause-entries
-advance-returns-in-WordEdge-clause-entries g t c = rw (ap shape_of c.in-WordEdge.is ∙ shape_of-WordEdge)
+advance-returns-in-WordEdge-clause-entries t c = rw (ap shape_of c.in-WordEdge.is ∙ shape_of-WordEdge)
     (no_run_entered c.args.cursor.now.position c.args.entries.now)
 
 pub advance-returns-in-NotWordEdge-clause-entries : goal.advance-returns-in-NotWordEdge-clause-entries
-advance-returns-in-NotWordEdge-clause-entries g t c = rw (ap shape_of c.in-NotWordEdge.is ∙ shape_of-NotWordEdge)
+advance-returns-in-NotWordEdge-clause-entries t c = rw (ap shape_of c.in-NotWordEdge.is ∙ shape_of-NotWordEdge)
     (no_run_entered c.args.cursor.now.position c.args.entries.now)
 
 pub advance-enter_run-requires-clause-room : goal.advance-enter_run-requires-clause-room
-advance-enter_run-requires-clause-room g t c =
+advance-enter_run-requires-clause-room t c =
     let e : shape_of c.args.part.now ≡ run c.in-Run.n = ap shape_of c.in-Run.is ∙ shape_of-Run c.in-Run.n in
     rw (e, position_count_run c.in-Run.n) at c.requires.room
 
 pub advance-returns-in-Run-clause-entries : goal.advance-returns-in-Run-clause-entries
-advance-returns-in-Run-clause-entries g t c =
+advance-returns-in-Run-clause-entries t c =
     let e : shape_of c.args.part.now ≡ run c.in-Run.n = ap shape_of c.in-Run.is ∙ shape_of-Run c.in-Run.n in
     rw (e, position_count_run c.in-Run.n) (c.enter_run.ensures.entries c.args.at.now.here)
 
 pub advance-returns-in-Run-clause-position : goal.advance-returns-in-Run-clause-position
-advance-returns-in-Run-clause-position g t c =
+advance-returns-in-Run-clause-position t c =
     let e : shape_of c.args.part.now ≡ run c.in-Run.n = ap shape_of c.in-Run.is ∙ shape_of-Run c.in-Run.n in
     rw (e, position_count_run c.in-Run.n) c.enter_run.ensures.position
 
 pub advance-returns-in-Run-clause-repeat : goal.advance-returns-in-Run-clause-repeat
-advance-returns-in-Run-clause-repeat g t c =
+advance-returns-in-Run-clause-repeat t c =
     let e : shape_of c.args.part.now ≡ run c.in-Run.n = ap shape_of c.in-Run.is ∙ shape_of-Run c.in-Run.n in
     rw (e, repeats_run c.in-Run.n) (omega (arith, c.enter_run.ensures.repeat))
 
 pub advance-enter_sequences-requires-clause-room : goal.advance-enter_sequences-requires-clause-room
-advance-enter_sequences-requires-clause-room g t c =
+advance-enter_sequences-requires-clause-room t c =
     let ns = c.in-Alternation.sequences in
     let e : shape_of c.args.part.now ≡ alt (runs ns) = ap shape_of c.in-Alternation.is ∙ shape_of-Alternation ns in
     rw e at c.requires.room
 
 pub advance-returns-in-Alternation-clause-accepting : goal.advance-returns-in-Alternation-clause-accepting
-advance-returns-in-Alternation-clause-accepting g t c =
+advance-returns-in-Alternation-clause-accepting t c =
     let ns = c.in-Alternation.sequences in
     let e : shape_of c.args.part.now ≡ alt (runs ns) = ap shape_of c.in-Alternation.is ∙ shape_of-Alternation ns in
     rw e (c.enter_sequences.ensures.accepting c.args.at.now.here)
 
 pub advance-returns-in-Alternation-clause-entries : goal.advance-returns-in-Alternation-clause-entries
-advance-returns-in-Alternation-clause-entries g t c =
+advance-returns-in-Alternation-clause-entries t c =
     let ns = c.in-Alternation.sequences in
     let e : shape_of c.args.part.now ≡ alt (runs ns) = ap shape_of c.in-Alternation.is ∙ shape_of-Alternation ns in
     rw e (c.enter_sequences.ensures.entries c.args.at.now.here)
 
 pub advance-returns-in-Alternation-clause-position : goal.advance-returns-in-Alternation-clause-position
-advance-returns-in-Alternation-clause-position g t c =
+advance-returns-in-Alternation-clause-position t c =
     let ns = c.in-Alternation.sequences in
     let e : shape_of c.args.part.now ≡ alt (runs ns) = ap shape_of c.in-Alternation.is ∙ shape_of-Alternation ns in
     rw e c.enter_sequences.ensures.position
 
 pub advance-returns-in-Alternation-clause-repeat : goal.advance-returns-in-Alternation-clause-repeat
-advance-returns-in-Alternation-clause-repeat g t c =
+advance-returns-in-Alternation-clause-repeat t c =
     let ns = c.in-Alternation.sequences in
     let e : shape_of c.args.part.now ≡ alt (runs ns) = ap shape_of c.in-Alternation.is ∙ shape_of-Alternation ns in
     rw (e, repeats_runs ns) (omega (arith, c.enter_sequences.ensures.repeat))
 
 pub advance-returns-in-Options-clause-repeat : goal.advance-returns-in-Options-clause-repeat
-advance-returns-in-Options-clause-repeat g t c =
+advance-returns-in-Options-clause-repeat t c =
     let n = c.in-Options.n in
     let count = c.in-Options.count in
     let e : shape_of c.args.part.now ≡ options n count = ap shape_of c.in-Options.is ∙ shape_of-Options n count in

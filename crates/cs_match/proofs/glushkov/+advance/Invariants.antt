@@ -7,13 +7,13 @@ use Rattle.cs_match.proofs.TraversalLemmas.{first_repeats, first_loop_ends}
 use Rattle.cs_match.proofs.glushkov.+advance.Given as goal
 
 abbrev pub invariant-advance_all-loop-part : goal.invariant-advance_all-loop-part
-invariant-advance_all-loop-part g l =
+invariant-advance_all-loop-part l =
     let parts = shapes_of l.parts in
     let rest = shapes_of (drop l.part-index l.parts) in
     let here = drop l.cursor.position l.at.positions.now in
     let first = drop l.fn.cursor.position l.at.positions.now in
     record {
-      cost : l.steps + sizes_of (drop l.part-index l.parts) ≡ l.fn.steps + sizes_of l.parts;
+      cost : l.steps.count + sizes_of (drop l.part-index l.parts) ≡ l.fn.steps.count + sizes_of l.parts;
       position : l.cursor.position + position_count_of rest ≡ l.fn.cursor.position + position_count_of parts;
       repeat : l.cursor.repeat + repeats_of rest ≡ l.fn.cursor.repeat + repeats_of parts;
       noted : take (repeats_of rest) (drop l.cursor.repeat l.at.loops.now) ≡ loop_ends_of rest here l.at.here;
@@ -29,13 +29,13 @@ invariant-advance_all-loop-part g l =
     }
 
 abbrev pub invariant-advance_each-loop-part : goal.invariant-advance_each-loop-part
-invariant-advance_each-loop-part g l =
+invariant-advance_each-loop-part l =
     let parts = shapes_of l.parts in
     let rest = shapes_of (drop l.part-index l.parts) in
     let here = drop l.cursor.position l.at.positions.now in
     let first = drop l.fn.cursor.position l.at.positions.now in
     record {
-      cost : l.steps + sizes_of (drop l.part-index l.parts) ≡ l.fn.steps + sizes_of l.parts;
+      cost : l.steps.count + sizes_of (drop l.part-index l.parts) ≡ l.fn.steps.count + sizes_of l.parts;
       position : l.cursor.position + position_count_of rest ≡ l.fn.cursor.position + position_count_of parts;
       repeat : l.cursor.repeat + repeats_of rest ≡ l.fn.cursor.repeat + repeats_of parts;
       noted : take (repeats_of rest) (drop l.cursor.repeat l.at.loops.now) ≡ loop_ends_of rest here l.at.here;

@@ -11,7 +11,7 @@ use Rattle.cs_match.proofs.TraversalLemmas.{repeats_options, loop_ends_options, 
 use Rattle.cs_match.proofs.glushkov.+find_ends.Goals as goal
 
 pub find_ends-returns-in-Rep-clause-noted : goal.find_ends-returns-in-Rep-clause-noted
-find_ends-returns-in-Rep-clause-noted g t c =
+find_ends-returns-in-Rep-clause-noted t c =
     let x = shape_of c.deref-in-Rep.result.now in
     let e : shape_of c.args.part.now ≡ rep x c.in-Rep.least None =
     ap shape_of c.in-Rep.is ∙ shape_of-Rep _ _ ∙ ap (λ n. rep (shape_of n) c.in-Rep.least None) (sym c.deref-in-Rep.ensures) in
@@ -22,7 +22,7 @@ find_ends-returns-in-Rep-clause-noted g t c =
     c.next_repeat-own.ensures.repeat c.find_ends-ends.ensures.noted)
 
 pub find_ends_all-loop-part-preserved : goal.find_ends_all-loop-part-preserved
-find_ends_all-loop-part-preserved g t c =
+find_ends_all-loop-part-preserved t c =
     let more = shapes_from c.args.parts.now c.loop-part.part-index c.part-item.result c.loop-part-test.true c.part-item.is in
     let larger = sizes_from c.args.parts.now c.loop-part.part-index c.part-item.result c.loop-part-test.true c.part-item.is in
     let i = c.loop-part.invariant in
@@ -47,7 +47,7 @@ find_ends_all-loop-part-preserved g t c =
     }
 
 pub find_ends_some-loop-part-preserved : goal.find_ends_some-loop-part-preserved
-find_ends_some-loop-part-preserved g t c =
+find_ends_some-loop-part-preserved t c =
     let more = shapes_from c.args.parts.now c.loop-part.part-index c.part-item.result c.loop-part-test.true c.part-item.is in
     let larger = sizes_from c.args.parts.now c.loop-part.part-index c.part-item.result c.loop-part-test.true c.part-item.is in
     let i = c.loop-part.invariant in
@@ -72,46 +72,46 @@ find_ends_some-loop-part-preserved g t c =
     }
 
 pub find_ends-end_run-requires : goal.find_ends-end_run-requires
-find_ends-end_run-requires g t c =
+find_ends-end_run-requires t c =
     let e : shape_of c.args.part.now ≡ run c.in-Run.n = ap shape_of c.in-Run.is ∙ shape_of-Run c.in-Run.n in
     rw (e, position_count_run c.in-Run.n) at c.requires.room
 
 pub find_ends-returns-in-Run-clause-noted : goal.find_ends-returns-in-Run-clause-noted
-find_ends-returns-in-Run-clause-noted g t c =
+find_ends-returns-in-Run-clause-noted t c =
     let e : shape_of c.args.part.now ≡ run c.in-Run.n = ap shape_of c.in-Run.is ∙ shape_of-Run c.in-Run.n in
     rw (e, loop_ends_run c.in-Run.n (drop c.args.cursor.now.position c.args.positions.now) c.args.here) refl
 
 pub find_ends-returns-in-Run-clause-position : goal.find_ends-returns-in-Run-clause-position
-find_ends-returns-in-Run-clause-position g t c =
+find_ends-returns-in-Run-clause-position t c =
     let e : shape_of c.args.part.now ≡ run c.in-Run.n = ap shape_of c.in-Run.is ∙ shape_of-Run c.in-Run.n in
     rw (e, position_count_run c.in-Run.n) c.end_run.ensures.position
 
 pub find_ends-returns-in-Run-clause-repeat : goal.find_ends-returns-in-Run-clause-repeat
-find_ends-returns-in-Run-clause-repeat g t c =
+find_ends-returns-in-Run-clause-repeat t c =
     let e : shape_of c.args.part.now ≡ run c.in-Run.n = ap shape_of c.in-Run.is ∙ shape_of-Run c.in-Run.n in
     rw (e, repeats_run c.in-Run.n) (omega (arith, c.end_run.ensures.repeat, c.requires.within))
 
 pub find_ends-returns-in-Alternation-clause-noted : goal.find_ends-returns-in-Alternation-clause-noted
-find_ends-returns-in-Alternation-clause-noted g t c =
+find_ends-returns-in-Alternation-clause-noted t c =
     let ns = c.in-Alternation.sequences in
     let e : shape_of c.args.part.now ≡ alt (runs ns) = ap shape_of c.in-Alternation.is ∙ shape_of-Alternation ns in
     rw (e, loop_ends_runs ns (drop c.args.cursor.now.position c.args.positions.now) c.args.here) refl
 
 pub find_ends-returns-in-Alternation-clause-repeat : goal.find_ends-returns-in-Alternation-clause-repeat
-find_ends-returns-in-Alternation-clause-repeat g t c =
+find_ends-returns-in-Alternation-clause-repeat t c =
     let ns = c.in-Alternation.sequences in
     let e : shape_of c.args.part.now ≡ alt (runs ns) = ap shape_of c.in-Alternation.is ∙ shape_of-Alternation ns in
     rw (e, repeats_runs ns) (omega (arith, c.end_sequences.ensures.repeat, c.requires.within))
 
 pub find_ends-returns-in-Options-clause-noted : goal.find_ends-returns-in-Options-clause-noted
-find_ends-returns-in-Options-clause-noted g t c =
+find_ends-returns-in-Options-clause-noted t c =
     let n = c.in-Options.n in
     let count = c.in-Options.count in
     let e : shape_of c.args.part.now ≡ options n count = ap shape_of c.in-Options.is ∙ shape_of-Options n count in
     rw (e, loop_ends_options n count (drop c.args.cursor.now.position c.args.positions.now) c.args.here) refl
 
 pub find_ends-returns-in-Options-clause-repeat : goal.find_ends-returns-in-Options-clause-repeat
-find_ends-returns-in-Options-clause-repeat g t c =
+find_ends-returns-in-Options-clause-repeat t c =
     let n = c.in-Options.n in
     let count = c.in-Options.count in
     let e : shape_of c.args.part.now ≡ options n count = ap shape_of c.in-Options.is ∙ shape_of-Options n count in

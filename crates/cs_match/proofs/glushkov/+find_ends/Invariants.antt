@@ -6,11 +6,11 @@ use Rattle.cs_match.specs.Glushkov.{position_count_of, repeats_of, nullable_all,
 use Rattle.cs_match.proofs.glushkov.+find_ends.Given as goal
 
 abbrev pub invariant-find_ends_all-loop-part : goal.invariant-find_ends_all-loop-part
-invariant-find_ends_all-loop-part g l =
+invariant-find_ends_all-loop-part l =
     let parts = shapes_of l.parts in
     let rest = shapes_of (drop l.part-index l.parts) in
     record {
-      cost : l.steps + sizes_of (drop l.part-index l.parts) ≡ l.fn.steps + sizes_of l.parts;
+      cost : l.steps.count + sizes_of (drop l.part-index l.parts) ≡ l.fn.steps.count + sizes_of l.parts;
       position : l.cursor.position + position_count_of rest ≡ l.fn.cursor.position + position_count_of parts;
       within : l.cursor.repeat ≤ length l.fn.loops;
       repeat : min (length l.fn.loops) (l.cursor.repeat + repeats_of rest)
@@ -23,11 +23,11 @@ invariant-find_ends_all-loop-part g l =
     }
 
 abbrev pub invariant-find_ends_some-loop-part : goal.invariant-find_ends_some-loop-part
-invariant-find_ends_some-loop-part g l =
+invariant-find_ends_some-loop-part l =
     let parts = shapes_of l.parts in
     let rest = shapes_of (drop l.part-index l.parts) in
     record {
-      cost : l.steps + sizes_of (drop l.part-index l.parts) ≡ l.fn.steps + sizes_of l.parts;
+      cost : l.steps.count + sizes_of (drop l.part-index l.parts) ≡ l.fn.steps.count + sizes_of l.parts;
       position : l.cursor.position + position_count_of rest ≡ l.fn.cursor.position + position_count_of parts;
       within : l.cursor.repeat ≤ length l.fn.loops;
       repeat : min (length l.fn.loops) (l.cursor.repeat + repeats_of rest)

@@ -4,7 +4,7 @@ use Rattle.cs_match.proofs.AlternationLemmas.{length-lasts, nullable_runs, is_fi
 use Rattle.cs_match.proofs.glushkov.end_sequences.Goals as goal
 
 pub prove-unreachable-requires : goal.prove-unreachable-requires
-prove-unreachable-requires g c = omega (
+prove-unreachable-requires c = omega (
   arith,
   c.if-prove.true,
   c.len.ensures,
@@ -15,21 +15,21 @@ prove-unreachable-requires g c = omega (
 )
 
 pub meets-requires : goal.meets-requires
-meets-requires g c = omega (arith, c.requires, ap length c.lasts-2.ensures, length-lasts c.args.sequences.now)
+meets-requires c = omega (arith, c.requires, ap length c.lasts-2.ensures, length-lasts c.args.sequences.now)
 
 pub returns-clause-accepting : goal.returns-clause-accepting
-returns-clause-accepting g c = λ here.
+returns-clause-accepting c = λ here.
     let ms = drop c.args.cursor.now.position c.args.positions.now in
     c.meets.ensures ∙ ap (intersect ms) c.lasts-2.ensures ∙ sym (is_final_runs c.args.sequences.now ms here)
 
 pub returns-clause-nullable : goal.returns-clause-nullable
-returns-clause-nullable g c = λ here. sym (nullable_runs c.args.sequences.now here)
+returns-clause-nullable c = λ here. sym (nullable_runs c.args.sequences.now here)
 
 pub returns-clause-position : goal.returns-clause-position
-returns-clause-position g c = omega (arith, c.len-n.ensures, ap length c.lasts.ensures, length-lasts c.args.sequences.now)
+returns-clause-position c = omega (arith, c.len-n.ensures, ap length c.lasts.ensures, length-lasts c.args.sequences.now)
 
 pub returns-clause-cost : goal.returns-clause-cost
-returns-clause-cost g c = omega (
+returns-clause-cost c = omega (
   arith,
   c.add.ensures,
   c.div_ceil.ensures,

@@ -8,7 +8,7 @@ use Rattle.cs_match.proofs.TraversalLemmas.{mid_long}
 use Rattle.cs_match.proofs.glushkov.enter.Goals as goal
 
 pub returns-clause-entries : goal.returns-clause-entries
-returns-clause-entries g c =
+returns-clause-entries c =
     let t = c.args.program.now in
     let s = shape_of c.part-part.result.now in
     let ms = c.args.positions.now in
@@ -19,7 +19,7 @@ returns-clause-entries g c =
     ∙ sym (same.entered true ms c.args.here)
 
 pub returns-clause-scratch : goal.returns-clause-scratch
-returns-clause-scratch g c =
+returns-clause-scratch c =
     let s = shape_of c.part-part.result.now in
     let ms = c.args.positions.now in
     let old = c.shift_from.new.self in
@@ -35,12 +35,15 @@ returns-clause-scratch g c =
     }
 
 pub returns-clause-cost : goal.returns-clause-cost
-returns-clause-cost g c =
-    omega (
-      arith,
-      c.advance.ensures.cost,
-      c.note_loops.ensures.cost,
-      c.part-part.ensures.size,
-      c.shift_from.ensures.cost,
-      c.requires.scratch.entries,
+returns-clause-cost c =
+    (
+      omega (arith, c.advance.ensures.cost, c.note_loops.ensures.cost.0, c.shift_from.ensures.cost),
+      omega (
+        arith,
+        c.advance.ensures.cost,
+        c.note_loops.ensures.cost.1,
+        c.part-part.ensures.size,
+        c.shift_from.ensures.cost,
+        c.requires.scratch.entries,
+      ),
     )

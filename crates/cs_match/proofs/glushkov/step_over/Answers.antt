@@ -5,7 +5,7 @@ use Rattle.cs_match.proofs.MaskLemmas.{found, found_input, mask_entered, mask_pr
 use Rattle.cs_match.proofs.glushkov.step_over.Goals as goal
 
 pub move_over-requires-clause-room : goal.move_over-requires-clause-room
-move_over-requires-clause-room g c =
+move_over-requires-clause-room c =
     let t = c.args.program.now in
     record {
       entered = length-mask t (if_entered c.args.input) _
@@ -29,12 +29,12 @@ move_over-requires-clause-room g c =
     }
 
 pub move_over-requires-clause-one_mask : goal.move_over-requires-clause-one_mask
-move_over-requires-clause-one_mask g c =
+move_over-requires-clause-one_mask c =
     (found c.positions.result.now c.find-slot.new.self.slots.items c.find-slot.result c.index.result.now c.index.ensures
     c.find-slot.ensures.mask).one_mask
 
 pub returns-clause-positions : goal.returns-clause-positions
-returns-clause-positions g c =
+returns-clause-positions c =
     let t = c.args.program.now in
     is_step t true c.args.positions.now c.args.here c.args.input c.enter-accepting.new.scratch.entries
     c.move_over.new.positions _ _ _ c.requires.one_each c.enter-accepting.ensures.entries
@@ -53,12 +53,15 @@ returns-clause-positions g c =
     c.move_over.ensures.length c.move_over.ensures.each
 
 pub returns-clause-cost : goal.returns-clause-cost
-returns-clause-cost g c =
-    omega (
-      arith,
-      c.enter-accepting.ensures.cost,
-      c.find-slot.ensures.cost,
-      c.move_over.ensures.cost,
-      c.requires.one_each,
-      c.positions.ensures.count,
+returns-clause-cost c =
+    (
+      omega (arith, c.enter-accepting.ensures.cost.0, c.find-slot.ensures.cost.0, c.move_over.ensures.cost),
+      omega (
+        arith,
+        c.enter-accepting.ensures.cost.1,
+        c.find-slot.ensures.cost.1,
+        c.move_over.ensures.cost,
+        c.requires.one_each,
+        c.positions.ensures.count,
+      ),
     )

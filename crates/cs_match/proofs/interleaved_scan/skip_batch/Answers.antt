@@ -4,7 +4,7 @@ use Rattle.cs_match.proofs.ScanLemmas.{skipped_none, skipped_parts}
 use Rattle.cs_match.proofs.interleaved_scan.skip_batch.Goals as goal
 
 pub returns-clause-skipped : goal.returns-clause-skipped
-returns-clause-skipped g c =
+returns-clause-skipped c =
     let a = c.cut-a in
     let b = c.cut-b in
     let d = c.cut-c in
@@ -30,6 +30,6 @@ returns-clause-skipped g c =
     (c.ordinary_prefix-ordinary.ensures.ordinary k low))
 
 pub returns-then-f-from-gt-MOST_BATCH-clause-skipped : goal.returns-then-f-from-gt-MOST_BATCH-clause-skipped
-returns-then-f-from-gt-MOST_BATCH-clause-skipped g c =
+returns-then-f-from-gt-MOST_BATCH-clause-skipped c =
     skipped_none (λ has_match. RulesOutLines has_match c.args.transitions.now) c.args.block.now c.args.from
     c.requires.within

@@ -4,10 +4,11 @@ use Rattle.cs_match.specs.Scan.{RulesOutLines}
 use Rattle.cs_match.proofs.interleaved_scan.skip_interleaved.Given as goal
 
 abbrev pub invariant-batches : goal.invariant-batches
-invariant-batches g l = record {
+invariant-batches l = record {
   skipped : AreSkipped (λ has_match. RulesOutLines has_match l.transitions) l.block l.from l.offset;
-  work : l.steps ≤ l.fn.steps + 2 * (l.offset - l.from);
+  rises : l.fn.steps.count ≤ l.steps.count;
+  work : l.steps.count ≤ l.fn.steps.count + 2 * (l.offset - l.from);
 }
 
 abbrev pub decreases-batches : goal.decreases-batches
-decreases-batches g l = length l.block - l.offset
+decreases-batches l = length l.block - l.offset

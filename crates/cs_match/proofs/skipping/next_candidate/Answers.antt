@@ -12,7 +12,7 @@ use Rattle.cs_match.proofs.WholeLineLemmas.{whole_from}
 use Rattle.cs_match.proofs.skipping.next_candidate.Goals as goal
 
 pub returns-then-stop-rest-clause-candidate : goal.returns-then-stop-rest-clause-candidate
-returns-then-stop-rest-clause-candidate g c =
+returns-then-stop-rest-clause-candidate c =
     let words = c.args.prefilter.now.0 in
     let block = c.args.block.now in
     let text = take (length block - c.args.from) (drop c.args.from block) in
@@ -22,7 +22,7 @@ returns-then-stop-rest-clause-candidate g c =
     (λ k low h. c.skip-stop.ensures.none k (omega arith) (omega (arith, all)) h.0 h.1 h.2 (subst (WordAt text k) (sym h.3) h.4)))
 
 pub line_end-requires-clause-within : goal.line_end-requires-clause-within
-line_end-requires-clause-within g c = omega (
+line_end-requires-clause-within c = omega (
   arith,
   c.skip-stop.ensures.high,
   c.if-stop-rest.false,
@@ -30,10 +30,10 @@ line_end-requires-clause-within g c = omega (
 )
 
 pub line_end-requires-clause-whole : goal.line_end-requires-clause-whole
-line_end-requires-clause-whole g c = whole_from c.args.block.now c.args.from _ (omega arith) c.requires.whole
+line_end-requires-clause-whole c = whole_from c.args.block.now c.args.from _ (omega arith) c.requires.whole
 
 pub returns-clause-candidate : goal.returns-clause-candidate
-returns-clause-candidate g c =
+returns-clause-candidate c =
     let words = c.args.prefilter.now.0 in
     let block = c.args.block.now in
     let from = c.args.from in

@@ -2,7 +2,7 @@ use Rattle.std.proofs.Common.{refl, sym}
 use Rattle.cs_prefilter.proofs.prefilter.occurs.Goals as goal
 
 pub returns-then-occurs-clause-found : goal.returns-then-occurs-clause-found
-returns-then-occurs-clause-found g c = (
+returns-then-occurs-clause-found c = (
   λ _. (
     c.loop-word.word-index,
     c.word-item.result,

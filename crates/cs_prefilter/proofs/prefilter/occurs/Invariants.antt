@@ -5,7 +5,8 @@ use Rattle.cs_prefilter.specs.WordAt.{WordAt}
 use Rattle.cs_prefilter.proofs.prefilter.occurs.Given as goal
 
 abbrev pub invariant-loop-word : goal.invariant-loop-word
-invariant-loop-word g l = record {
+invariant-loop-word l = record {
   none : (k : ℕ) (d : Word) → k < l.word-index → ¬ WordAt l.text l.offset (get_or l.words k d);
-  work : l.steps ≤ l.fn.steps + l.word-index * word_work;
+  rises : l.fn.steps.count ≤ l.steps.count;
+  work : l.steps.count ≤ l.fn.steps.count + l.word-index * word_work;
 }

@@ -25,7 +25,7 @@ module _ (s : LazyDfa) (given : IsConsistent s) (room : s.states.used < 254) (ca
   new_dead number e dead = subst (λ (xs : List State). IsDeadNumber (tree_in s) xs (s.states.used + 1) number) (sym is) (present s.states.scratch (added_number (tree_in s) s.states.cached.items s.states.used s.states.scratch room given.cached number e) dead)
 
 pub returns-then-is_dead-clause-right : goal.returns-then-is_dead-clause-right
-returns-then-is_dead-clause-right g c =
+returns-then-is_dead-clause-right c =
     let s = c.args.self.now in
     let given = c.requires.right in
     let put : c.put_state.new.cached ≡ set s.states.cached.items s.states.used s.states.scratch = c.put_state.ensures.put ∙ ap (λ xs. set xs s.states.used s.states.scratch) c.deref_mut.ensures.value in
@@ -41,7 +41,7 @@ returns-then-is_dead-clause-right g c =
     }
 
 pub returns-else-is_dead-clause-right : goal.returns-else-is_dead-clause-right
-returns-else-is_dead-clause-right g c =
+returns-else-is_dead-clause-right c =
     let s = c.args.self.now in
     let given = c.requires.right in
     let put : c.put_state.new.cached ≡ set s.states.cached.items s.states.used s.states.scratch = c.put_state.ensures.put ∙ ap (λ xs. set xs s.states.used s.states.scratch) c.deref_mut.ensures.value in
@@ -57,7 +57,7 @@ returns-else-is_dead-clause-right g c =
     }
 
 pub returns-then-is_dead-clause-work : goal.returns-then-is_dead-clause-work
-returns-then-is_dead-clause-work g c = c.put_state.ensures.cost ∙ ap (λ n. c.args.steps.now + words n) c.requires.right.room
+returns-then-is_dead-clause-work c = c.put_state.ensures.cost ∙ ap (λ n. c.args.steps.now.count + words n) c.requires.right.room
 
 pub returns-else-is_dead-clause-work : goal.returns-else-is_dead-clause-work
-returns-else-is_dead-clause-work g c = c.put_state.ensures.cost ∙ ap (λ n. c.args.steps.now + words n) c.requires.right.room
+returns-else-is_dead-clause-work c = c.put_state.ensures.cost ∙ ap (λ n. c.args.steps.now.count + words n) c.requires.right.room

@@ -6,7 +6,7 @@ use Rattle.cs_match.proofs.TransitionLemmas.{blank_transitions}
 use Rattle.cs_match.proofs.dfa.LazyDfa.empty.Goals as goal
 
 pub returns-clause-right : goal.returns-clause-right
-returns-clause-right g c =
+returns-clause-right c =
     let s = c.args.self.now in
     let given = c.requires.right in
     let blank = c.reset.new.transitions in
@@ -29,4 +29,4 @@ returns-clause-right g c =
     }
 
 pub returns-clause-work : goal.returns-clause-work
-returns-clause-work g c = omega (arith, c.add.ensures, c.requires.right.transitions.all)
+returns-clause-work c = omega (arith, c.add.ensures, c.requires.right.transitions.all)

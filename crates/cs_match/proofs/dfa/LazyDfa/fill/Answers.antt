@@ -5,7 +5,7 @@ use Rattle.cs_match.specs.ConsistentDfa.{tree_in}
 use Rattle.cs_match.proofs.dfa.LazyDfa.fill.Goals as goal
 
 pub put-requires-clause-right : goal.put-requires-clause-right
-put-requires-clause-right g c =
+put-requires-clause-right c =
     let s = c.args.self.now in
     record {
       expanded = c.requires.right.expanded;
@@ -17,7 +17,7 @@ put-requires-clause-right g c =
     }
 
 pub put-requires-then-byte-eq10-clause-right : goal.put-requires-then-byte-eq10-clause-right
-put-requires-then-byte-eq10-clause-right g c =
+put-requires-then-byte-eq10-clause-right c =
     let s = c.args.self.now in
     record {
       expanded = c.requires.right.expanded;
@@ -29,7 +29,7 @@ put-requires-then-byte-eq10-clause-right g c =
     }
 
 pub next_number-requires-clause-right : goal.next_number-requires-clause-right
-next_number-requires-clause-right g c =
+next_number-requires-clause-right c =
     let s = c.args.self.now in
     record {
       expanded = c.requires.right.expanded;

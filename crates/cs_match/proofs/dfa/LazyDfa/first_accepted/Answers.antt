@@ -20,9 +20,10 @@ use Rattle.cs_match.proofs.dfa.LazyDfa.first_accepted.Goals as goal
 
 pub scan-init : goal.scan-init
 unfolding last_part
-scan-init g c =
+scan-init c =
     let right = c.requires.right in
     record {
+      rises = omega arith;
       work = omega arith;
       right = right;
       same = refl;
@@ -43,7 +44,7 @@ before_end i n within other =
     ]
 
 pub scan-preserved : goal.scan-preserved
-scan-preserved g c =
+scan-preserved c =
     let s = c.scan.self in
     let t = tree_in s in
     let text = c.args.text.now in
@@ -63,7 +64,8 @@ scan-preserved g c =
     sym (ap (λ (u : Tree). accepts_before u n b) same ∙ ap (λ x. accepts_before t x b) is) ∙ next.0 in
     let walk = walked c.scan.to i (byte_work (tree_in c.args.self.now)) c.scan_known-known.ensures.low (omega arith) in
     record {
-      work = omega (arith, given.work, c.add.ensures, c.next-number.ensures.work, ap byte_work given.same, walk);
+      rises = omega (arith, given.rises, c.add.ensures, c.next-number.ensures.work.0);
+      work = omega (arith, given.work, c.add.ensures, c.next-number.ensures.work.1, ap byte_work given.same, walk);
       right = c.next-number.ensures.right;
       same = same ∙ given.same;
       states = grows_on c.scan.to 1 (i + 1) _ _ _ given.states c.next-number.ensures.states (omega (arith, c.scan_known-known.ensures.low));
@@ -78,12 +80,12 @@ scan-preserved g c =
     }
 
 pub line_end-to-requires-clause-within : goal.line_end-to-requires-clause-within
-line_end-to-requires-clause-within g c =
+line_end-to-requires-clause-within c =
     let i = c.scan_known-known.result.to in
     before_end i (length c.args.text.now) c.scan_known-known.ensures.scanned.within c.if-known-text.false
 
 pub line_end-to-requires-clause-whole : goal.line_end-to-requires-clause-whole
-line_end-to-requires-clause-whole g c = whole_drop c.scan_known-known.result.to c.args.text.now c.requires.whole
+line_end-to-requires-clause-whole c = whole_drop c.scan_known-known.result.to c.args.text.now c.requires.whole
 
 -- the newline at the end of a line is not its first byte, if that is another
 later_end : (text : List ℕ) (i end : ℕ) → i ≤ end → drop end text ≡ 10 ∷ drop (end + 1) text → get_or text i 0 ≢ 10 → i < end
@@ -104,7 +106,7 @@ skipped i end w less some =
     omega (arith, rest, whole, ap (λ n. n * w) count, less)
 
 pub scan-preserved-then-byte-ne10 : goal.scan-preserved-then-byte-ne10
-scan-preserved-then-byte-ne10 g c =
+scan-preserved-then-byte-ne10 c =
     let s = c.scan.self in
     let t = tree_in s in
     let text = c.args.text.now in
@@ -123,7 +125,8 @@ scan-preserved-then-byte-ne10 g c =
     let less = later_end text i end line.low line.newline c.if-byte-ne10.true in
     let before : c.scan.to * w + (i - c.scan.to) ≤ i * w = walked c.scan.to i w known.low (omega arith) in
     record {
-      work = omega (arith, given.work, c.add.ensures, step.work, line.work, before, skipped i end w less (omega arith), ap byte_work given.same);
+      rises = omega (arith, given.rises, c.add.ensures, step.work.0, line.work);
+      work = omega (arith, given.work, c.add.ensures, step.work.1, line.work, before, skipped i end w less (omega arith), ap byte_work given.same);
       right = step.right;
       same = step.same ∙ given.same;
       states = grows_on c.scan.to 1 (end + 1) _ _ _ given.states step.states (omega (arith, known.low, less));
@@ -140,37 +143,45 @@ scan-preserved-then-byte-ne10 g c =
     }
 
 pub returns-then-known-text-clause-work : goal.returns-then-known-text-clause-work
-returns-then-known-text-clause-work g c =
+returns-then-known-text-clause-work c =
     let t = tree_in c.args.self.now in
     let known = c.scan_known-known in
     let all : known.result.to ≡ length c.args.text.now = c.if-known-text.true in
-    omega (
-      arith,
-      c.scan.invariant.work,
-      c.add.ensures,
-      walked c.scan.to known.result.to (byte_work t) known.ensures.low
-          (omega arith),
-      ap (λ n. n * byte_work t) all,
+    (
+      omega (arith, c.scan.invariant.rises, c.add.ensures),
+      omega (
+        arith,
+        c.scan.invariant.work,
+        c.add.ensures,
+        walked c.scan.to known.result.to (byte_work t) known.ensures.low
+            (omega arith),
+        ap (λ n. n * byte_work t) all,
+      ),
     )
 
 pub returns-then-number-clause-work : goal.returns-then-number-clause-work
-returns-then-number-clause-work g c =
+returns-then-number-clause-work c =
     let t = tree_in c.args.self.now in
     let known = c.scan_known-known in
-    omega (
-      arith,
-      c.scan.invariant.work,
-      c.add.ensures,
-      c.next-number.ensures.work,
-      ap byte_work c.scan.invariant.same,
-      walked c.scan.to known.result.to (byte_work t) known.ensures.low (omega arith),
+    (
+      omega (arith, c.scan.invariant.rises, c.add.ensures, c.next-number.ensures.work.0),
+      omega (
+        arith,
+        c.scan.invariant.work,
+        c.add.ensures,
+        c.next-number.ensures.work.1,
+        ap byte_work c.scan.invariant.same,
+        walked c.scan.to known.result.to (byte_work t) known.ensures.low (omega arith),
+      ),
     )
 
 pub returns-clause-work : goal.returns-clause-work
-returns-clause-work g c =
-    omega (
-      arith,
-      c.scan.invariant.work,
-      scaled c.scan.to (length c.args.text.now) (byte_work (tree_in c.args.self.now))
-          c.scan.invariant.scanned.within,
-    )
+returns-clause-work c = (
+  c.scan.invariant.rises,
+  omega (
+    arith,
+    c.scan.invariant.work,
+    scaled c.scan.to (length c.args.text.now) (byte_work (tree_in c.args.self.now))
+        c.scan.invariant.scanned.within,
+  ),
+)

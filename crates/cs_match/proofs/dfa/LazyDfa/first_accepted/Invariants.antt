@@ -6,8 +6,9 @@ use Rattle.cs_match.specs.FirstMatch.{HasScanned}
 use Rattle.cs_match.proofs.dfa.LazyDfa.first_accepted.Given as goal
 
 abbrev pub invariant-scan : goal.invariant-scan
-invariant-scan g l = record {
-  work : l.steps + state_work * l.self.states.used ≤ l.fn.steps + state_work * l.fn.self.states.used + l.to * byte_work (tree_in l.fn.self);
+invariant-scan l = record {
+  rises : l.fn.steps.count ≤ l.steps.count;
+  work : l.steps.count + state_work * l.self.states.used ≤ l.fn.steps.count + state_work * l.fn.self.states.used + l.to * byte_work (tree_in l.fn.self);
   right : IsConsistent l.self;
   same : tree_in l.self ≡ tree_in l.fn.self;
   states : GrowsOver l.to l.fn.self.states.used l.self.states.used;
@@ -15,4 +16,4 @@ invariant-scan g l = record {
 }
 
 abbrev pub decreases-scan : goal.decreases-scan
-decreases-scan g l = length l.text - l.to
+decreases-scan l = length l.text - l.to

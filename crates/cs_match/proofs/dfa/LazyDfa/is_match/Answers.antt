@@ -8,13 +8,13 @@ use Rattle.cs_match.proofs.DfaSearchLemmas.{scan_found, scan_stays, scan_next, s
 use Rattle.cs_match.proofs.dfa.LazyDfa.is_match.Goals as goal
 
 pub returns-then-b-eq10-clause-states : goal.returns-then-b-eq10-clause-states
-returns-then-b-eq10-clause-states g c = grows_on _ 0 _ _ _ _ c.loop-b.invariant.states (grows_none 0 _ _ refl) (omega arith)
+returns-then-b-eq10-clause-states c = grows_on _ 0 _ _ _ _ c.loop-b.invariant.states (grows_none 0 _ _ refl) (omega arith)
 
 pub returns-then-number-clause-states : goal.returns-then-number-clause-states
-returns-then-number-clause-states g c = grows_on _ 1 _ _ _ _ c.loop-b.invariant.states c.next-number.ensures.states (omega arith)
+returns-then-number-clause-states c = grows_on _ 1 _ _ _ _ c.loop-b.invariant.states c.next-number.ensures.states (omega arith)
 
 pub returns-then-number-clause-found : goal.returns-then-number-clause-found
-returns-then-number-clause-found g c =
+returns-then-number-clause-found c =
     let t = tree_in c.args.self.now in
     let line = c.args.line.now in
     let i = c.loop-b.b-index in
@@ -29,7 +29,7 @@ returns-then-number-clause-found g c =
     (λ _. f, λ _. refl)
 
 pub loop-b-preserved : goal.loop-b-preserved
-loop-b-preserved g c =
+loop-b-preserved c =
     let t = tree_in c.args.self.now in
     let line = c.args.line.now in
     let i = c.loop-b.b-index in
@@ -39,7 +39,8 @@ loop-b-preserved g c =
     let same = c.next-number.ensures.same ∙ given.same in
     let n = state_in c.loop-b.self c.loop-b.number in
     record {
-      work = omega (arith, given.work, c.next-number.ensures.work, ap byte_work given.same);
+      rises = omega (arith, given.rises, c.next-number.ensures.work.0);
+      work = omega (arith, given.work, c.next-number.ensures.work.1, ap byte_work given.same);
       right = c.next-number.ensures.right;
       same = same;
       states = grows_on i 1 (i + 1) _ _ _ given.states c.next-number.ensures.states (omega arith);
@@ -51,7 +52,7 @@ loop-b-preserved g c =
     }
 
 pub returns-clause-found : goal.returns-clause-found
-returns-clause-found g c =
+returns-clause-found c =
     let t = tree_in c.args.self.now in
     let line = c.args.line.now in
     let i = c.loop-b.b-index in
@@ -63,47 +64,56 @@ returns-clause-found g c =
     found_last t line c.requires.right.expanded _ ends (λ k lt. given.none k (omega arith))
 
 pub returns-clause-states : goal.returns-clause-states
-returns-clause-states g c = grows_on _ 1 _ _ _ _ c.loop-b.invariant.states c.next.ensures.states (omega arith)
+returns-clause-states c = grows_on _ 1 _ _ _ _ c.loop-b.invariant.states c.next.ensures.states (omega arith)
 
 pub returns-then-b-eq10-clause-work : goal.returns-then-b-eq10-clause-work
-returns-then-b-eq10-clause-work g c =
+returns-then-b-eq10-clause-work c =
     let t = tree_in c.args.self.now in
     let i = c.loop-b.b-index in
     let n = length c.args.line.now in
     let given = c.loop-b.invariant in
     let lighter : step_work t ≤ byte_work t = omega arith in
-    omega (
-      arith,
-      given.work,
-      c.search.ensures.cost,
-      ap step_work given.same,
-      scaled i (n + 1) (byte_work t) (omega arith),
-      mul_both (n + 1) (step_work t) (n + 1) (byte_work t) (omega arith) lighter,
-      ap (λ k. (n + 1) * k) (ap step_work given.same),
+    (
+      omega (arith, given.rises, c.search.ensures.cost.0),
+      omega (
+        arith,
+        given.work,
+        c.search.ensures.cost.1,
+        ap step_work given.same,
+        scaled i (n + 1) (byte_work t) (omega arith),
+        mul_both (n + 1) (step_work t) (n + 1) (byte_work t) (omega arith) lighter,
+        ap (λ k. (n + 1) * k) (ap step_work given.same),
+      ),
     )
 
 pub returns-then-number-clause-work : goal.returns-then-number-clause-work
-returns-then-number-clause-work g c =
+returns-then-number-clause-work c =
     let t = tree_in c.args.self.now in
     let i = c.loop-b.b-index in
     let n = length c.args.line.now in
-    omega (
-      arith,
-      c.loop-b.invariant.work,
-      c.next-number.ensures.work,
-      ap byte_work c.loop-b.invariant.same,
-      scaled (i + 1) (n + 1) (byte_work t) (omega arith),
+    (
+      omega (arith, c.loop-b.invariant.rises, c.next-number.ensures.work.0),
+      omega (
+        arith,
+        c.loop-b.invariant.work,
+        c.next-number.ensures.work.1,
+        ap byte_work c.loop-b.invariant.same,
+        scaled (i + 1) (n + 1) (byte_work t) (omega arith),
+      ),
     )
 
 pub returns-clause-work : goal.returns-clause-work
-returns-clause-work g c =
+returns-clause-work c =
     let t = tree_in c.args.self.now in
     let i = c.loop-b.b-index in
     let n = length c.args.line.now in
-    omega (
-      arith,
-      c.loop-b.invariant.work,
-      c.next.ensures.work,
-      ap byte_work c.loop-b.invariant.same,
-      scaled (i + 1) (n + 1) (byte_work t) (omega arith),
+    (
+      omega (arith, c.loop-b.invariant.rises, c.next.ensures.work.0),
+      omega (
+        arith,
+        c.loop-b.invariant.work,
+        c.next.ensures.work.1,
+        ap byte_work c.loop-b.invariant.same,
+        scaled (i + 1) (n + 1) (byte_work t) (omega arith),
+      ),
     )

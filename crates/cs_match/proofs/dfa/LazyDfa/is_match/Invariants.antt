@@ -7,8 +7,9 @@ use Rattle.cs_match.specs.ConsistentDfa.{IsConsistent, HasState, tree_in}
 use Rattle.cs_match.proofs.dfa.LazyDfa.is_match.Given as goal
 
 abbrev pub invariant-loop-b : goal.invariant-loop-b
-invariant-loop-b g l = record {
-  work : l.steps + state_work * l.self.states.used ≤ l.fn.steps + state_work * l.fn.self.states.used
+invariant-loop-b l = record {
+  rises : l.fn.steps.count ≤ l.steps.count;
+  work : l.steps.count + state_work * l.self.states.used ≤ l.fn.steps.count + state_work * l.fn.self.states.used
       + l.b-index * byte_work (tree_in l.fn.self);
   right : IsConsistent l.self;
   same : tree_in l.self ≡ tree_in l.fn.self;

@@ -7,7 +7,7 @@ use Rattle.cs_match.specs.ConsistentDfa.{tree_in}
 use Rattle.cs_match.proofs.dfa.LazyDfa.next.Goals as goal
 
 pub returns-else-next-clause-leads : goal.returns-else-next-clause-leads
-returns-else-next-clause-leads g c =
+returns-else-next-clause-leads c =
     let s = c.args.self.now in
     let slot = c.args.from / 256 in
     let index : bit_or c.args.from c.from.result ≡ 256 * slot + c.args.byte =
@@ -24,4 +24,7 @@ returns-else-next-clause-leads g c =
     (subst P (sym here) entry) c.if-next.false
 
 pub returns-then-next-clause-work : goal.returns-then-next-clause-work
-returns-then-next-clause-work g c = omega (arith, c.fill.ensures.work, c.add.ensures)
+returns-then-next-clause-work c = (
+  omega (arith, c.fill.ensures.work.0, c.add.ensures),
+  omega (arith, c.fill.ensures.work.1, c.add.ensures),
+)

@@ -11,7 +11,7 @@ use Rattle.cs_match.proofs.TransitionLemmas.{leads_alike, put_transition}
 use Rattle.cs_match.proofs.dfa.LazyDfa.put.Goals as goal
 
 pub returns-clause-right : goal.returns-clause-right
-returns-clause-right g c =
+returns-clause-right c =
     let s = c.args.self.now in
     let t = tree_in s in
     let class = c.class_of-class.ensures in
@@ -50,4 +50,7 @@ returns-clause-right g c =
     }
 
 pub returns-clause-work : goal.returns-clause-work
-returns-clause-work g c = omega (arith, c.add.ensures, c.class_of-class.ensures.bytes)
+returns-clause-work c = (
+  omega (arith, c.add.ensures),
+  omega (arith, c.add.ensures, c.class_of-class.ensures.bytes),
+)

@@ -6,7 +6,7 @@ use Rattle.cs_match.proofs.MaskLemmas.{all_put}
 use Rattle.cs_match.proofs.masks.Mask.fill.Goals as goal
 
 pub returns-clause-mask : goal.returns-clause-mask
-returns-clause-mask g c =
+returns-clause-mask c =
     let ps = c.args.positions.now in
     let i = c.loop-index.invariant in
     let all : length ps ≤ c.loop-index.index = omega arith in

@@ -3,8 +3,8 @@ use Rattle.cs_match.specs.Entered.{if_entered, if_previous, if_kept}
 use Rattle.cs_match.proofs.masks.Mask.fill.Given as goal
 
 abbrev pub invariant-loop-index : goal.invariant-loop-index
-invariant-loop-index g l = record {
-  cost : l.steps ≡ l.fn.steps + l.index;
+invariant-loop-index l = record {
+  cost : l.steps.count ≡ l.fn.steps.count + l.index;
   input : l.self.input ≡ l.input;
   known : l.self.is_known ≡ true;
   entered_room : length l.self.entered ≡ length l.positions;

@@ -3,7 +3,7 @@ use Rattle.std.proofs.Math.Bool.{and-false, or-false}
 use Rattle.cs_match.proofs.masks.Mask.move_over.Goals as goal
 
 pub returns-then-self-clause-each : goal.returns-then-self-clause-each
-returns-then-self-clause-each g c = λ k h.
+returns-then-self-clause-each c = λ k h.
     let others = c.requires.one_mask c.if-self.true k in
     c.move_entered.ensures.each k h
     ∙ sym (rw (

@@ -5,7 +5,7 @@ use Rattle.cs_match.specs.Masks.{HasRoom, IsMask}
 use Rattle.cs_match.proofs.masks.Masks.find.Goals as goal
 
 pub returns-then-not-is_of-clause-masks : goal.returns-then-not-is_of-clause-masks
-returns-then-not-is_of-clause-masks g c =
+returns-then-not-is_of-clause-masks c =
     let ps = c.args.positions.now in
     let old = c.args.self.now.slots.items in
     let at = c.slot_of-slot.result in

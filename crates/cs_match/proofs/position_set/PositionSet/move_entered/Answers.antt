@@ -5,10 +5,9 @@ use Rattle.cs_match.proofs.PositionSetLemmas.{length-positions_of, same_count, s
 use Rattle.cs_match.proofs.MoveLemmas.{one_more, IsPositionSet-entered, get_or-entered_words}
 use Rattle.cs_match.proofs.position_set.PositionSet.move_entered.Goals as goal
 use Rattle.cs_match.proofs.position_set.PositionSet.move_entered.Goals.{After-loop-index}
-use Rattle.cs_match.proofs.position_set.PositionSet.move_entered.Given.{Over}
 
 pub index-requires : goal.index-requires
-index-requires g c =
+index-requires c =
     let more = one_more c.entries.inside.words.items c.self.inside.words.items _ _ _ _ c.entries.view_is c.self.view_is
     c.requires.entries in
     omega (
@@ -22,13 +21,13 @@ index-requires g c =
     )
 
 pub index-requires-in-loop-index : goal.index-requires-in-loop-index
-index-requires-in-loop-index g c =
+index-requires-in-loop-index c =
     let as_many = same_length _ _ _ _ _ _ c.if_entered.invariant c.self.invariant c.if_entered.view_is c.self.view_is
     c.requires.if_entered in
     omega (arith, c.len-index-end.ensures, c.self.inside.words.ok.0, c.if_entered.inside.words.ok.0)
 
 pub loop-index-preserved : goal.loop-index-preserved
-loop-index-preserved g c =
+loop-index-preserved c =
     let now = c.loop-index.self-inside.words.items in
     let old = c.self.inside.words.items in
     let entries = c.entries.inside.words.items in
@@ -57,36 +56,36 @@ loop-index-preserved g c =
     }
 
 -- the entries have one position more than the mask
-entries-are : (g : Over) (c : After-loop-index g) → IsPositionSet c.entries.inside.words.items (c.self.inside.count + 1)
-entries-are g c = rw (one_more c.entries.inside.words.items c.self.inside.words.items _ _ _ _ c.entries.view_is
+entries-are : (c : After-loop-index) → IsPositionSet c.entries.inside.words.items (c.self.inside.count + 1)
+entries-are c = rw (one_more c.entries.inside.words.items c.self.inside.words.items _ _ _ _ c.entries.view_is
     c.self.view_is c.requires.entries) at c.entries.invariant
 
-ins-are : (g : Over) (c : After-loop-index g) → IsPositionSet c.if_entered.inside.words.items c.self.inside.count
-ins-are g c = rw (same_count c.if_entered.inside.words.items c.self.inside.words.items _ _ _ _ c.if_entered.view_is
+ins-are : (c : After-loop-index) → IsPositionSet c.if_entered.inside.words.items c.self.inside.count
+ins-are c = rw (same_count c.if_entered.inside.words.items c.self.inside.words.items _ _ _ _ c.if_entered.view_is
     c.self.view_is c.requires.if_entered) at c.if_entered.invariant
 
-as_many : (g : Over) (c : After-loop-index g) → length c.self.inside.words.items ≡ length c.if_entered.inside.words.items
-as_many g c = c.self.invariant.enough ∙ sym (ins-are g c).enough
+as_many : (c : After-loop-index) → length c.self.inside.words.items ≡ length c.if_entered.inside.words.items
+as_many c = c.self.invariant.enough ∙ sym (ins-are c).enough
 
 -- every word is moved
-all-done : (g : Over) (c : After-loop-index g) (k : ℕ) → k < length c.if_entered.inside.words.items →
+all-done : (c : After-loop-index) (k : ℕ) → k < length c.if_entered.inside.words.items →
     get_or c.loop-index.self-inside.words.items k 0
     ≡ bit_and (get_or c.entries.inside.words.items k 0) (get_or c.if_entered.inside.words.items k 0)
-all-done g c k h = c.loop-index.invariant.done k (omega (arith, h, as_many g c, c.len-index-end.ensures, c.self.inside.words.ok.0))
+all-done c k h = c.loop-index.invariant.done k (omega (arith, h, as_many c, c.len-index-end.ensures, c.self.inside.words.ok.0))
 
 pub invariant_of-self : goal.invariant_of-self
-invariant_of-self g c =
+invariant_of-self c =
     rw c.loop-index.invariant.position_count
     (IsPositionSet-entered _ c.entries.inside.words.items c.if_entered.inside.words.items c.self.inside.count
-    (entries-are g c) (ins-are g c) (c.loop-index.invariant.as_many ∙ as_many g c) (all-done g c))
+    (entries-are c) (ins-are c) (c.loop-index.invariant.as_many ∙ as_many c) (all-done c))
 
 pub returns-clause-length : goal.returns-clause-length
-returns-clause-length g c =
+returns-clause-length c =
     length-positions_of c.loop-index.self-inside.words.items c.loop-index.self-inside.count ∙ c.loop-index.invariant.position_count
     ∙ sym (length-positions_of c.self.inside.words.items c.self.inside.count) ∙ ap length c.self.view_is
 
 pub returns-clause-each : goal.returns-clause-each
-returns-clause-each g c = λ k h.
+returns-clause-each c = λ k h.
     let count = c.self.inside.count in
     let within : k < count = omega (arith, h, length-positions_of c.self.inside.words.items count, ap length c.self.view_is) in
     let es = rw (one_more c.entries.inside.words.items c.self.inside.words.items _ _ _ _ c.entries.view_is
@@ -94,12 +93,12 @@ returns-clause-each g c = λ k h.
     let ins = rw (same_count c.if_entered.inside.words.items c.self.inside.words.items _ _ _ _ c.if_entered.view_is
     c.self.view_is c.requires.if_entered) at c.if_entered.view_is in
     ap (λ n. get_or (positions_of c.loop-index.self-inside.words.items n) k false) c.loop-index.invariant.position_count
-    ∙ get_or-entered_words _ c.entries.inside.words.items c.if_entered.inside.words.items count (entries-are g c)
-    (ins-are g c) (c.loop-index.invariant.as_many ∙ as_many g c) (all-done g c) k within
+    ∙ get_or-entered_words _ c.entries.inside.words.items c.if_entered.inside.words.items count (entries-are c)
+    (ins-are c) (c.loop-index.invariant.as_many ∙ as_many c) (all-done c) k within
     ∙ ap₂ (λ xs ys. get_or xs k false && get_or ys k false) es ins
 
 pub returns-clause-cost : goal.returns-clause-cost
-returns-clause-cost g c = omega (
+returns-clause-cost c = omega (
   arith,
   c.loop-index.invariant.cost,
   c.len-index-end.ensures,

@@ -6,10 +6,9 @@ use Rattle.cs_match.proofs.BitwiseLemmas.{carry, shifted}
 use Rattle.cs_match.proofs.MoveLemmas.{moved_word, one_more, IsPositionSet-moved, get_or-moved_words}
 use Rattle.cs_match.proofs.position_set.PositionSet.move_over.Goals as goal
 use Rattle.cs_match.proofs.position_set.PositionSet.move_over.Goals.{After-loop-index}
-use Rattle.cs_match.proofs.position_set.PositionSet.move_over.Given.{Over}
 
 pub index-entry-requires : goal.index-entry-requires
-index-entry-requires g c =
+index-entry-requires c =
     let more = one_more c.entries.inside.words.items c.self.inside.words.items _ _ _ _ c.entries.view_is c.self.view_is
     c.requires.entries in
     omega (
@@ -23,24 +22,24 @@ index-entry-requires g c =
     )
 
 pub index-requires : goal.index-requires
-index-requires g c =
+index-requires c =
     let as_many = same_length _ _ _ _ _ _ c.if_entered.invariant c.self.invariant c.if_entered.view_is c.self.view_is
     c.requires.if_entered in
     omega (arith, c.len-index-end.ensures, c.self.inside.words.ok.0, c.if_entered.inside.words.ok.0)
 
 pub index-requires-in-loop-index : goal.index-requires-in-loop-index
-index-requires-in-loop-index g c =
+index-requires-in-loop-index c =
     let as_many = same_length _ _ _ _ _ _ c.if_previous.invariant c.self.invariant c.if_previous.view_is c.self.view_is
     c.requires.if_previous in
     omega (arith, c.len-index-end.ensures, c.self.inside.words.ok.0, c.if_previous.inside.words.ok.0)
 
 pub index-requires-in-loop-index-3 : goal.index-requires-in-loop-index-3
-index-requires-in-loop-index-3 g c =
+index-requires-in-loop-index-3 c =
     let as_many = same_length _ _ _ _ _ _ c.if_kept.invariant c.self.invariant c.if_kept.view_is c.self.view_is c.requires.if_kept in
     omega (arith, c.len-index-end.ensures, c.self.inside.words.ok.0, c.if_kept.inside.words.ok.0)
 
 pub loop-index-preserved : goal.loop-index-preserved
-loop-index-preserved g c =
+loop-index-preserved c =
     let now = c.loop-index.self-inside.words.items in
     let old = c.self.inside.words.items in
     let entries = c.entries.inside.words.items in
@@ -103,44 +102,44 @@ loop-index-preserved g c =
     }
 
 -- the other sets have as many positions, and the entries one more
-entries-are : (g : Over) (c : After-loop-index g) → IsPositionSet c.entries.inside.words.items (c.self.inside.count + 1)
-entries-are g c = rw (one_more c.entries.inside.words.items c.self.inside.words.items _ _ _ _ c.entries.view_is
+entries-are : (c : After-loop-index) → IsPositionSet c.entries.inside.words.items (c.self.inside.count + 1)
+entries-are c = rw (one_more c.entries.inside.words.items c.self.inside.words.items _ _ _ _ c.entries.view_is
     c.self.view_is c.requires.entries) at c.entries.invariant
 
-ins-are : (g : Over) (c : After-loop-index g) → IsPositionSet c.if_entered.inside.words.items c.self.inside.count
-ins-are g c = rw (same_count c.if_entered.inside.words.items c.self.inside.words.items _ _ _ _ c.if_entered.view_is
+ins-are : (c : After-loop-index) → IsPositionSet c.if_entered.inside.words.items c.self.inside.count
+ins-are c = rw (same_count c.if_entered.inside.words.items c.self.inside.words.items _ _ _ _ c.if_entered.view_is
     c.self.view_is c.requires.if_entered) at c.if_entered.invariant
 
-befores-are : (g : Over) (c : After-loop-index g) → IsPositionSet c.if_previous.inside.words.items c.self.inside.count
-befores-are g c = rw (same_count c.if_previous.inside.words.items c.self.inside.words.items _ _ _ _
+befores-are : (c : After-loop-index) → IsPositionSet c.if_previous.inside.words.items c.self.inside.count
+befores-are c = rw (same_count c.if_previous.inside.words.items c.self.inside.words.items _ _ _ _
     c.if_previous.view_is c.self.view_is c.requires.if_previous) at c.if_previous.invariant
 
-keeps-are : (g : Over) (c : After-loop-index g) → IsPositionSet c.if_kept.inside.words.items c.self.inside.count
-keeps-are g c = rw (same_count c.if_kept.inside.words.items c.self.inside.words.items _ _ _ _ c.if_kept.view_is
+keeps-are : (c : After-loop-index) → IsPositionSet c.if_kept.inside.words.items c.self.inside.count
+keeps-are c = rw (same_count c.if_kept.inside.words.items c.self.inside.words.items _ _ _ _ c.if_kept.view_is
     c.self.view_is c.requires.if_kept) at c.if_kept.invariant
 
 -- every word is moved
-all-done : (g : Over) (c : After-loop-index g) (k : ℕ) → k < length c.self.inside.words.items →
+all-done : (c : After-loop-index) (k : ℕ) → k < length c.self.inside.words.items →
     get_or c.loop-index.self-inside.words.items k 0
     ≡ moved_word (get_or c.entries.inside.words.items k 0) (get_or c.if_entered.inside.words.items k 0)
     (shifted c.entries.inside.words.items k) (get_or c.if_previous.inside.words.items k 0)
     (get_or c.self.inside.words.items k 0) (get_or c.if_kept.inside.words.items k 0)
-all-done g c k h = c.loop-index.invariant.done k (omega (arith, h, c.len-index-end.ensures, c.self.inside.words.ok.0))
+all-done c k h = c.loop-index.invariant.done k (omega (arith, h, c.len-index-end.ensures, c.self.inside.words.ok.0))
 
 pub invariant_of-self : goal.invariant_of-self
-invariant_of-self g c =
+invariant_of-self c =
     rw c.loop-index.invariant.position_count
     (IsPositionSet-moved _ c.self.inside.words.items c.entries.inside.words.items c.if_entered.inside.words.items
     c.if_previous.inside.words.items c.if_kept.inside.words.items c.self.inside.count
-    c.self.invariant (entries-are g c) (ins-are g c) (befores-are g c) (keeps-are g c) c.loop-index.invariant.as_many (all-done g c))
+    c.self.invariant (entries-are c) (ins-are c) (befores-are c) (keeps-are c) c.loop-index.invariant.as_many (all-done c))
 
 pub returns-clause-length : goal.returns-clause-length
-returns-clause-length g c =
+returns-clause-length c =
     length-positions_of c.loop-index.self-inside.words.items c.loop-index.self-inside.count ∙ c.loop-index.invariant.position_count
     ∙ sym (length-positions_of c.self.inside.words.items c.self.inside.count) ∙ ap length c.self.view_is
 
 pub returns-clause-each : goal.returns-clause-each
-returns-clause-each g c = λ k h.
+returns-clause-each c = λ k h.
     let count = c.self.inside.count in
     let within : k < count = omega (arith, h, length-positions_of c.self.inside.words.items count, ap length c.self.view_is) in
     let es = rw (one_more c.entries.inside.words.items c.self.inside.words.items _ _ _ _ c.entries.view_is
@@ -154,8 +153,8 @@ returns-clause-each g c = λ k h.
     ap (λ n. get_or (positions_of c.loop-index.self-inside.words.items n) k false) c.loop-index.invariant.position_count
     ∙ get_or-moved_words _ c.self.inside.words.items c.entries.inside.words.items c.if_entered.inside.words.items
     c.if_previous.inside.words.items c.if_kept.inside.words.items count
-    c.self.invariant (entries-are g c) (ins-are g c) (befores-are g c) (keeps-are g c) c.loop-index.invariant.as_many
-    (all-done g c) k within
+    c.self.invariant (entries-are c) (ins-are c) (befores-are c) (keeps-are c) c.loop-index.invariant.as_many
+    (all-done c) k within
     ∙ ap (λ xs. is_moved xs (positions_of c.if_entered.inside.words.items count)
     (positions_of c.if_previous.inside.words.items count) (positions_of c.if_kept.inside.words.items count)
     (positions_of c.self.inside.words.items count) k) es
@@ -168,7 +167,7 @@ returns-clause-each g c = λ k h.
     ∙ ap (λ xs. is_moved c.args.entries.now c.args.if_entered.now c.args.if_previous.now c.args.if_kept.now xs k) c.self.view_is
 
 pub returns-clause-cost : goal.returns-clause-cost
-returns-clause-cost g c = omega (
+returns-clause-cost c = omega (
   arith,
   c.loop-index.invariant.cost,
   c.len-index-end.ensures,

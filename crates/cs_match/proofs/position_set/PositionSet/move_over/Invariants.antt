@@ -4,11 +4,11 @@ use Rattle.cs_match.proofs.MoveLemmas.{moved_word}
 use Rattle.cs_match.proofs.position_set.PositionSet.move_over.Given as goal
 
 abbrev pub invariant-loop-index : goal.invariant-loop-index
-invariant-loop-index g l =
+invariant-loop-index l =
     let old = l.initial.self-inside.words.items in
     let entries = l.entries-inside.words.items in
     record {
-      cost : l.steps ≡ l.fn.steps + l.index;
+      cost : l.steps.count ≡ l.fn.steps.count + l.index;
       position_count : l.self-inside.count ≡ l.initial.self-inside.count;
       as_many : length l.self-inside.words.items ≡ length old;
       carries : l.carried ≡ carry entries l.index;

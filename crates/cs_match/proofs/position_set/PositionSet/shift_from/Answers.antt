@@ -5,10 +5,9 @@ use Rattle.cs_match.proofs.BitwiseLemmas.{shifted}
 use Rattle.cs_match.proofs.MoveLemmas.{one_more, IsPositionSet-shifted, positions_of-shifted}
 use Rattle.cs_match.proofs.position_set.PositionSet.shift_from.Goals as goal
 use Rattle.cs_match.proofs.position_set.PositionSet.shift_from.Goals.{After-loop-index}
-use Rattle.cs_match.proofs.position_set.PositionSet.shift_from.Given.{Over}
 
 pub loop-index-preserved : goal.loop-index-preserved
-loop-index-preserved g c =
+loop-index-preserved c =
     let now = c.loop-index.self-inside.words.items in
     let from = c.from.inside.words.items in
     let at = c.loop-index.index in
@@ -28,30 +27,30 @@ loop-index-preserved g c =
           ∙ ap (λ x. bit_or (get_or from at 0 * 2 % 18446744073709551616) x) c.loop-index.invariant.carries);
     }
 
-more : (g : Over) (c : After-loop-index g) → c.self.inside.count ≡ c.from.inside.count + 1
-more g c = one_more c.self.inside.words.items c.from.inside.words.items _ _ _ _ c.self.view_is c.from.view_is c.requires
+more : (c : After-loop-index) → c.self.inside.count ≡ c.from.inside.count + 1
+more c = one_more c.self.inside.words.items c.from.inside.words.items _ _ _ _ c.self.view_is c.from.view_is c.requires
 
-size : (g : Over) (c : After-loop-index g) → length c.loop-index.self-inside.words.items ≡ (c.from.inside.count + 1 + 63) / 64
-size g c = omega (arith, c.loop-index.invariant.as_many, c.self.invariant.enough, more g c)
+size : (c : After-loop-index) → length c.loop-index.self-inside.words.items ≡ (c.from.inside.count + 1 + 63) / 64
+size c = omega (arith, c.loop-index.invariant.as_many, c.self.invariant.enough, more c)
 
-all-done : (g : Over) (c : After-loop-index g) (k : ℕ) → k < length c.loop-index.self-inside.words.items →
+all-done : (c : After-loop-index) (k : ℕ) → k < length c.loop-index.self-inside.words.items →
     get_or c.loop-index.self-inside.words.items k 0 ≡ shifted c.from.inside.words.items k
-all-done g c k h = c.loop-index.invariant.done k
+all-done c k h = c.loop-index.invariant.done k
     (omega (arith, h, c.loop-index.invariant.as_many, c.len-index-end.ensures, c.self.inside.words.ok.0))
 
 pub invariant_of-self : goal.invariant_of-self
-invariant_of-self g c =
-    rw (c.loop-index.invariant.position_count, more g c)
-    (IsPositionSet-shifted _ c.from.inside.words.items c.from.inside.count c.from.invariant (size g c) (all-done g c))
+invariant_of-self c =
+    rw (c.loop-index.invariant.position_count, more c)
+    (IsPositionSet-shifted _ c.from.inside.words.items c.from.inside.count c.from.invariant (size c) (all-done c))
 
 pub returns-clause-shifted : goal.returns-clause-shifted
-returns-clause-shifted g c =
-    ap (positions_of c.loop-index.self-inside.words.items) (c.loop-index.invariant.position_count ∙ more g c)
-    ∙ positions_of-shifted _ c.from.inside.words.items c.from.inside.count c.from.invariant (size g c) (all-done g c)
+returns-clause-shifted c =
+    ap (positions_of c.loop-index.self-inside.words.items) (c.loop-index.invariant.position_count ∙ more c)
+    ∙ positions_of-shifted _ c.from.inside.words.items c.from.inside.count c.from.invariant (size c) (all-done c)
     ∙ ap (λ xs. false ∷ xs) c.from.view_is
 
 pub returns-clause-cost : goal.returns-clause-cost
-returns-clause-cost g c = omega (
+returns-clause-cost c = omega (
   arith,
   c.loop-index.invariant.cost,
   c.len-index-end.ensures,

@@ -3,8 +3,8 @@ use Rattle.cs_match.proofs.BitwiseLemmas.{carry, shifted}
 use Rattle.cs_match.proofs.position_set.PositionSet.shift_from.Given as goal
 
 abbrev pub invariant-loop-index : goal.invariant-loop-index
-invariant-loop-index g l = record {
-  cost : l.steps ≡ l.fn.steps + l.index;
+invariant-loop-index l = record {
+  cost : l.steps.count ≡ l.fn.steps.count + l.index;
   position_count : l.self-inside.count ≡ l.initial.self-inside.count;
   as_many : length l.self-inside.words.items ≡ length l.initial.self-inside.words.items;
   carries : l.carried ≡ carry l.from-inside.words.items l.index;

@@ -2,4 +2,4 @@ use Rattle.std.proofs.Common.{rules}
 use Rattle.cs_match.proofs.state.State.begin.Goals as goal
 
 pub returns-clause-start : goal.returns-clause-start
-returns-clause-start g c = search rules
+returns-clause-start c = search rules

@@ -2,4 +2,4 @@ use Rattle.std.proofs.Common.{rules}
 use Rattle.cs_match.proofs.state.State.end.Goals as goal
 
 pub returns-clause-accepting : goal.returns-clause-accepting
-returns-clause-accepting g c = search rules
+returns-clause-accepting c = search rules

@@ -4,4 +4,4 @@ use Rattle.cs_match.proofs.DeadLemmas.{intersect_self}
 use Rattle.cs_match.proofs.state.State.is_empty.Goals as goal
 
 pub returns-then-eq-clause-none : goal.returns-then-eq-clause-none
-returns-then-eq-clause-none g c = λ h. intersect_self c.args.self.now.positions (sym c.meets.ensures ∙ not-true c.meets.result h)
+returns-then-eq-clause-none c = λ h. intersect_self c.args.self.now.positions (sym c.meets.ensures ∙ not-true c.meets.result h)

@@ -10,18 +10,18 @@ use Rattle.cs_match.proofs.StateLemmas.{length-state, next_more, accepts_ahead, 
 use Rattle.cs_match.proofs.state.State.search.Goals as goal
 
 pub step_in_line-requires-clause-one_each : goal.step_in_line-requires-clause-one_each
-step_in_line-requires-clause-one_each g c =
+step_in_line-requires-clause-one_each c =
     ap (λ (n : State). length n.positions) c.loop-b.invariant.here ∙ length-state c.args.program.now c.args.line.now
     c.loop-b.b-index (omega arith)
 
 pub end-requires : goal.end-requires
-end-requires g c = record {
+end-requires c = record {
   one_each = ap (λ (n : State). length n.positions) c.loop-b.invariant.here
       ∙ length-state c.args.program.now c.args.line.now c.loop-b.b-index (omega arith);
 }
 
 pub returns-then-step_in_line-clause-found : goal.returns-then-step_in_line-clause-found
-returns-then-step_in_line-clause-found g c =
+returns-then-step_in_line-clause-found c =
     let t = c.args.program.now in
     let line = c.args.line.now in
     let i = c.loop-b.b-index in
@@ -33,7 +33,7 @@ returns-then-step_in_line-clause-found g c =
     (λ _. f, λ _. refl)
 
 pub returns-then-step_in_line-clause-one_each : goal.returns-then-step_in_line-clause-one_each
-returns-then-step_in_line-clause-one_each g c =
+returns-then-step_in_line-clause-one_each c =
     let t = c.args.program.now in
     let line = c.args.line.now in
     let i = c.loop-b.b-index in
@@ -42,7 +42,7 @@ returns-then-step_in_line-clause-one_each g c =
     ∙ length-state t line (i + 1) (omega arith)
 
 pub loop-b-preserved : goal.loop-b-preserved
-loop-b-preserved g c =
+loop-b-preserved c =
     let t = c.args.program.now in
     let line = c.args.line.now in
     let i = c.loop-b.b-index in
@@ -52,14 +52,15 @@ loop-b-preserved g c =
     ∙ ap (λ (n : State). accepts t true n.positions (ahead t n byte)) (sym given.here)
     ∙ sym c.step_in_line.ensures.accepting ∙ c.if-step_in_line.false in
     record {
-      cost = omega (arith, given.cost, c.step_in_line.ensures.cost);
+      rises = omega (arith, given.rises, c.step_in_line.ensures.cost.0);
+      cost = omega (arith, given.cost, c.step_in_line.ensures.cost.1);
       here = c.step_in_line.ensures.moved ∙ ap (λ (n : State). next_state t n byte) given.here ∙ next_more t line i (omega arith);
       scratch = c.step_in_line.ensures.scratch;
       none = below_more _ _ given.none stays;
     }
 
 pub returns-clause-found : goal.returns-clause-found
-returns-clause-found g c =
+returns-clause-found c =
     let t = c.args.program.now in
     let line = c.args.line.now in
     let i = c.loop-b.b-index in
@@ -69,13 +70,19 @@ returns-clause-found g c =
     found_last t line c.requires.expanded _ ends (λ k lt. given.none k (omega arith))
 
 pub returns-then-step_in_line-clause-cost : goal.returns-then-step_in_line-clause-cost
-returns-then-step_in_line-clause-cost g c =
+returns-then-step_in_line-clause-cost c =
     let i = c.loop-b.b-index in
     let n = length c.args.line.now in
-    omega (arith, c.loop-b.invariant.cost, c.step_in_line.ensures.cost, scaled (i + 1) n (step_work c.args.program.now) (omega arith))
+    (
+      omega (arith, c.loop-b.invariant.rises, c.step_in_line.ensures.cost.0),
+      omega (arith, c.loop-b.invariant.cost, c.step_in_line.ensures.cost.1, scaled (i + 1) n (step_work c.args.program.now) (omega arith)),
+    )
 
 pub returns-clause-cost : goal.returns-clause-cost
-returns-clause-cost g c =
+returns-clause-cost c =
     let i = c.loop-b.b-index in
     let n = length c.args.line.now in
-    omega (arith, c.loop-b.invariant.cost, c.end.ensures.cost, scaled i n (step_work c.args.program.now) (omega arith))
+    (
+      omega (arith, c.loop-b.invariant.rises, c.end.ensures.cost.0),
+      omega (arith, c.loop-b.invariant.cost, c.end.ensures.cost.1, scaled i n (step_work c.args.program.now) (omega arith)),
+    )

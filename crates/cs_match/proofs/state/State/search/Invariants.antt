@@ -6,8 +6,9 @@ use Rattle.cs_match.specs.States.{state}
 use Rattle.cs_match.proofs.state.State.search.Given as goal
 
 abbrev pub invariant-loop-b : goal.invariant-loop-b
-invariant-loop-b g l = record {
-  cost : l.steps ≤ l.fn.steps + (words (position_count l.program) + l.b-index * step_work l.program);
+invariant-loop-b l = record {
+  rises : l.fn.steps.count ≤ l.steps.count;
+  cost : l.steps.count ≤ l.fn.steps.count + (words (position_count l.program) + l.b-index * step_work l.program);
   here : l.self ≡ state l.program (take l.b-index l.line);
   scratch : IsScratch l.program l.scratch;
   none : (k : ℕ) → k < l.b-index → accepts_in l.line l.program k ≡ false;

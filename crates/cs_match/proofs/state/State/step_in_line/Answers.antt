@@ -6,7 +6,7 @@ use Rattle.cs_match.proofs.StateLemmas.{xor-is, moves_to, accepts_here}
 use Rattle.cs_match.proofs.state.State.step_in_line.Goals as goal
 
 pub returns-clause-accepting : goal.returns-clause-accepting
-returns-clause-accepting g c =
+returns-clause-accepting c =
     let word : c.is_word-is_word.result ≡ is_word_for c.args.program.now c.args.byte = c.is_word-is_word.ensures
     ∙ ap (λ (bits : LookBehind). is_word c.args.byte && bits.word) c.look_behind-bits.ensures in
     c.step_over-accepting.ensures.accepting
@@ -14,7 +14,7 @@ returns-clause-accepting g c =
     word (xor-is c.args.self.now.word c.is_word-is_word.result)
 
 pub returns-clause-moved : goal.returns-clause-moved
-returns-clause-moved g c =
+returns-clause-moved c =
     let word : c.is_word-is_word.result ≡ is_word_for c.args.program.now c.args.byte = c.is_word-is_word.ensures
     ∙ ap (λ (bits : LookBehind). is_word c.args.byte && bits.word) c.look_behind-bits.ensures in
     moves_to c.args.program.now c.args.program.now c.args.self.now c.args.byte _ c.is_word-is_word.result refl word

@@ -7,7 +7,7 @@ use Rattle.cs_prefilter.specs.WordAt.{WordAt}
 use Rattle.cs_prefilter.proofs.prefilter.Prefilter.skip.Goals as goal
 
 pub scan-preserved : goal.scan-preserved
-scan-preserved g c =
+scan-preserved c =
     let words = c.args.self.now.0 in
     let text = c.args.text.now in
     let at = c.scan.offset in
@@ -28,14 +28,15 @@ scan-preserved g c =
           | inr past ↦ next.none k (omega arith) high
         ]
       ];
-      work = omega (arith, c.scan.invariant.work, c.scan.invariant.low, few, c.occurs-has_word.ensures.work, next.work, next.low);
+      rises = omega (arith, c.scan.invariant.rises, c.occurs-has_word.ensures.work.0, next.work);
+      work = omega (arith, c.scan.invariant.work, c.scan.invariant.low, few, c.occurs-has_word.ensures.work.1, next.work, next.low);
     }
 
 pub returns-then-has_word-clause-stops : goal.returns-then-has_word-clause-stops
-returns-then-has_word-clause-stops g c = λ has_word.
+returns-then-has_word-clause-stops c = λ has_word.
     subst (λ (ws : List Word). Any (WordAt c.args.text.now c.scan.offset) ws)
     (c.deref.ensures.value ∙ ap (λ (p : List Word × Bool). p.0) c.self.view_is)
     (c.occurs-has_word.ensures.found.0 has_word)
 
 pub returns-clause-none : goal.returns-clause-none
-returns-clause-none g c k low high = c.scan.invariant.none k low (omega (arith, c.scan-test.false))
+returns-clause-none c k low high = c.scan.invariant.none k low (omega (arith, c.scan-test.false))

@@ -9,24 +9,24 @@ use Rattle.cs_match.proofs.ScanLemmas.{lines_append, one_line, skipped_none}
 use Rattle.cs_match.proofs.CountingLemmas.{count_none, count_match, count_rest}
 use Rattle.cs_match.proofs.DecidabilityLemmas.{matching_is_decidable}
 use Rattle.cs_match.proofs.WholeLineLemmas.{whole_from}
-use Rattle.cs_match.proofs.matcher.Matcher.count_counted.Goals as goal
+use Rattle.cs_match.proofs.matcher.Matcher.count.Goals as goal
 
 pub lines-init : goal.lines-init
-lines-init g c =
+lines-init c =
     let block = c.args.block.now in
     record {
       lines = (skipped_none (λ has_match. Decides has_match c.args.self.now.tree) block 0 (omega arith)).lines;
       bound = omega arith;
       count = λ has_match decides. count_none has_match block;
       same = refl;
-      work = omega arith;
+      work = (omega arith, omega arith);
     }
 
-pub next_match_counted-requires-clause-whole : goal.next_match_counted-requires-clause-whole
-next_match_counted-requires-clause-whole g c = whole_from c.args.block.now 0 c.lines.offset (omega arith) c.requires.whole
+pub next_match-requires-clause-whole : goal.next_match-requires-clause-whole
+next_match-requires-clause-whole c = whole_from c.args.block.now 0 c.lines.offset (omega arith) c.requires.whole
 
 pub lines-preserved : goal.lines-preserved
-lines-preserved g c =
+lines-preserved c =
     let block = c.args.block.now in
     let i = c.lines.invariant in
     let e = c.in-Some.ensures in
@@ -50,38 +50,44 @@ lines-preserved g c =
       same = e.same ∙ i.same;
       work =
           let w = searched_byte_work c.args.self.now.tree in
-          omega (
-            arith,
-            i.work,
-            e.work,
-            ap (λ t. (line.end + 1 - c.lines.offset + search_overhead) * searched_byte_work
-                t) i.same,
-            counted_on c.lines.offset c.lines.matching_lines line.end w
-                (omega (arith, e.line.low, e.line.order)),
+          (
+            omega (arith, i.work.0, e.work.0),
+            omega (
+              arith,
+              i.work.1,
+              e.work.1,
+              ap (λ t. (line.end + 1 - c.lines.offset + search_overhead) * searched_byte_work
+                  t) i.same,
+              counted_on c.lines.offset c.lines.matching_lines line.end w
+                  (omega (arith, e.line.low, e.line.order)),
+            ),
           );
     }
 
 pub returns-clause-found : goal.returns-clause-found
-returns-clause-found g c = λ has_match decides.
+returns-clause-found c = λ has_match decides.
     let i = c.lines.invariant in
     i.count has_match decides ∙ count_rest has_match c.args.block.now c.lines.offset i.lines.high i.lines.whole
     (c.in_default.ensures.none has_match (subst (Decides has_match) (sym i.same) decides))
 
 pub returns-clause-bound : goal.returns-clause-bound
-returns-clause-bound g c =
+returns-clause-bound c =
     let decided = matching_is_decidable c.args.self.now.tree in
-    omega (arith, returns-clause-found g c decided.0 decided.1, count_by-le-length decided.0 (terminated_lines c.args.block.now))
+    omega (arith, returns-clause-found c decided.0 decided.1, count_by-le-length decided.0 (terminated_lines c.args.block.now))
 
 pub returns-clause-work : goal.returns-clause-work
-returns-clause-work g c =
+returns-clause-work c =
     let i = c.lines.invariant in
     let n = length c.args.block.now in
     let w = searched_byte_work c.args.self.now.tree in
-    omega (
-      arith,
-      i.work,
-      c.in_default.ensures.work,
-      ap (λ t. (n - c.lines.offset + search_overhead) * searched_byte_work t) i.same,
-      counted_end c.lines.offset
-          c.lines.matching_lines n w i.lines.high,
+    (
+      omega (arith, i.work.0, c.in_default.ensures.work.0),
+      omega (
+        arith,
+        i.work.1,
+        c.in_default.ensures.work.1,
+        ap (λ t. (n - c.lines.offset + search_overhead) * searched_byte_work t) i.same,
+        counted_end c.lines.offset
+            c.lines.matching_lines n w i.lines.high,
+      ),
     )

@@ -9,14 +9,14 @@ use Rattle.cs_match.specs.Lines.{terminated_lines}
 use Rattle.cs_match.specs.Skipped.{AreSkipped}
 use Rattle.cs_match.specs.Skipping.{NoneMatch}
 use Rattle.cs_match.specs.PartWork.{part_work}
-use Rattle.cs_match.specs.Work.{state_work, searched_byte_work}
+use Rattle.cs_match.specs.Work.{WorksWithin, work_of, search_overhead, searched_byte_work}
 use Rattle.cs_match.proofs.PositionCountLemmas.{scaled}
 use Rattle.cs_match.proofs.SearchWorkLemmas.{parts_on, parts_found, with_overhead}
 use Rattle.cs_match.proofs.StateCountLemmas.{grows_none, grows_on}
 use Rattle.cs_match.proofs.WholeLineLemmas.{whole_from}
 use Rattle.cs_match.proofs.ScanLemmas.{skipped_none}
 use Rattle.cs_match.proofs.FirstMatchLemmas.{searched_after}
-use Rattle.cs_match.proofs.matcher.Matcher.next_match_counted.Goals as goal
+use Rattle.cs_match.proofs.matcher.Matcher.next_match.Goals as goal
 
 -- a search after skipped lines, by an equal tree
 behind : (tree now : Tree) (block : List ℕ) (from offset to : ℕ) (found other : Option Line) → now ≡ tree → found
@@ -27,45 +27,45 @@ behind tree now block from offset to found other same is skipped searched =
     (subst (IsSearched tree block offset to) is (subst (λ t. IsSearched t block offset to found) same searched))
 
 pub parts-init : goal.parts-init
-parts-init g c = record {
+parts-init c = record {
   skipped = skipped_none (λ has_match. Decides has_match c.args.self.now.tree) c.args.block.now
       c.args.from c.requires.within;
   same = refl;
   states = grows_none _ _ _ refl;
-  work = omega arith;
+  work = (omega arith, omega arith);
 }
 
 pub search_part-searched-requires-clause-whole : goal.search_part-searched-requires-clause-whole
-search_part-searched-requires-clause-whole g c = whole_from c.args.block.now c.args.from c.parts.offset
+search_part-searched-requires-clause-whole c = whole_from c.args.block.now c.args.from c.parts.offset
     c.parts.invariant.skipped.lines.low c.requires.whole
 
 pub returns-in-Some-clause-line : goal.returns-in-Some-clause-line
-returns-in-Some-clause-line g c =
+returns-in-Some-clause-line c =
     let i = c.parts.invariant in
     let searched = c.search_part-searched.result in
     (behind c.args.self.now.tree c.parts.self.tree c.args.block.now c.args.from c.parts.offset searched.to searched.line
     (Some c.in-Some.line) i.same c.in-Some.is i.skipped c.search_part-searched.ensures.found).line
 
 pub returns-in-Some-clause-found : goal.returns-in-Some-clause-found
-returns-in-Some-clause-found g c =
+returns-in-Some-clause-found c =
     let i = c.parts.invariant in
     let searched = c.search_part-searched.result in
     (behind c.args.self.now.tree c.parts.self.tree c.args.block.now c.args.from c.parts.offset searched.to searched.line
     (Some c.in-Some.line) i.same c.in-Some.is i.skipped c.search_part-searched.ensures.found).found
 
 pub returns-in-Some-clause-none : goal.returns-in-Some-clause-none
-returns-in-Some-clause-none g c =
+returns-in-Some-clause-none c =
     let i = c.parts.invariant in
     let searched = c.search_part-searched.result in
     (behind c.args.self.now.tree c.parts.self.tree c.args.block.now c.args.from c.parts.offset searched.to searched.line
     (Some c.in-Some.line) i.same c.in-Some.is i.skipped c.search_part-searched.ensures.found).skipped.none
 
 pub returns-in-Some-clause-same : goal.returns-in-Some-clause-same
-returns-in-Some-clause-same g c = ap (λ (a : Automaton). a.tree) c.note_part.ensures
+returns-in-Some-clause-same c = ap (λ (a : Automaton). a.tree) c.note_part.ensures
     ∙ c.search_part-searched.ensures.same ∙ c.parts.invariant.same
 
 pub returns-in-Some-clause-states : goal.returns-in-Some-clause-states
-returns-in-Some-clause-states g c =
+returns-in-Some-clause-states c =
     let i = c.parts.invariant in
     let e = c.search_part-searched.ensures in
     let searched = c.search_part-searched.result in
@@ -75,7 +75,7 @@ returns-in-Some-clause-states g c =
     (omega (arith, i.skipped.lines.low, e.moves, e.high)))
 
 pub parts-preserved : goal.parts-preserved
-parts-preserved g c =
+parts-preserved c =
     let i = c.parts.invariant in
     let e = c.search_part-searched.ensures in
     let searched = c.search_part-searched.result in
@@ -88,23 +88,24 @@ parts-preserved g c =
           i.states e.states (omega (arith, i.skipped.lines.low, e.moves)));
       work =
           let w = searched_byte_work c.args.self.now.tree in
-          let part = subst (λ (found : Option Line). c.search_part-searched.new.steps
-          + state_work * c.search_part-searched.new.self.states ≤ c.parts.steps + state_work * c.parts.self.states
-          + part_work c.args.self.now.tree c.parts.offset searched.to found) c.in-None.is
-          (subst (λ (t : Tree). c.search_part-searched.new.steps + state_work * c.search_part-searched.new.self.states
-          ≤ c.parts.steps + state_work * c.parts.self.states + part_work t c.parts.offset searched.to searched.line)
-          i.same e.work) in
-          omega (
-            arith,
-            i.work,
-            part,
-            ap (λ (a : Automaton). a.states) c.note_part.ensures,
-            parts_on c.args.from c.parts.offset searched.to w i.skipped.lines.low (omega (arith, e.moves)),
+          let new = c.search_part-searched.new.self in
+          let part = subst (λ (found : Option Line). work_of new
+          ≤ work_of c.parts.self + part_work c.args.self.now.tree c.parts.offset searched.to found) c.in-None.is
+          (subst (λ (t : Tree). work_of new ≤ work_of c.parts.self + part_work t c.parts.offset searched.to searched.line)
+          i.same e.work.1) in
+          subst (λ (a : Automaton). WorksWithin ((searched.to - c.args.from) * w) c.args.self.now a) (sym c.note_part.ensures) (
+            omega (arith, i.work.0, e.work.0),
+            omega (
+              arith,
+              i.work.1,
+              part,
+              parts_on c.args.from c.parts.offset searched.to w i.skipped.lines.low (omega (arith, e.moves)),
+            ),
           );
     }
 
 pub returns-clause-none : goal.returns-clause-none
-returns-clause-none g c = λ has_match decides.
+returns-clause-none c = λ has_match decides.
     let i = c.parts.invariant in
     let block = c.args.block.now in
     let all : c.parts.offset ≡ length block = omega (arith, i.skipped.lines.high, c.parts-test.false) in
@@ -113,32 +114,37 @@ returns-clause-none g c = λ has_match decides.
     (i.skipped.none has_match decides))
 
 pub returns-in-Some-clause-work : goal.returns-in-Some-clause-work
-returns-in-Some-clause-work g c =
+returns-in-Some-clause-work c =
     let i = c.parts.invariant in
     let e = c.search_part-searched.ensures in
     let searched = c.search_part-searched.result in
     let line = c.in-Some.line in
     let found = subst (λ (f : Option Line). IsSearched c.parts.self.tree c.args.block.now c.parts.offset searched.to f)
     c.in-Some.is e.found in
-    let part = subst (λ (f : Option Line). c.search_part-searched.new.steps
-    + state_work * c.search_part-searched.new.self.states ≤ c.parts.steps + state_work * c.parts.self.states
-    + part_work c.args.self.now.tree c.parts.offset searched.to f) c.in-Some.is
-    (subst (λ (t : Tree). c.search_part-searched.new.steps + state_work * c.search_part-searched.new.self.states
-    ≤ c.parts.steps + state_work * c.parts.self.states + part_work t c.parts.offset searched.to searched.line) i.same
-    e.work) in
-    omega (
-      arith,
-      i.work,
-      part,
-      ap (λ (a : Automaton). a.states) c.note_part.ensures,
-      parts_found c.args.from
-          c.parts.offset line.end (searched_byte_work c.args.self.now.tree) i.skipped.lines.low
-          (omega (arith, found.line.low, found.line.order)),
+    let w = searched_byte_work c.args.self.now.tree in
+    let new = c.search_part-searched.new.self in
+    let part = subst (λ (f : Option Line). work_of new
+    ≤ work_of c.parts.self + part_work c.args.self.now.tree c.parts.offset searched.to f) c.in-Some.is
+    (subst (λ (t : Tree). work_of new ≤ work_of c.parts.self + part_work t c.parts.offset searched.to searched.line)
+    i.same e.work.1) in
+    subst (λ (a : Automaton). WorksWithin ((line.end + 1 - c.args.from + search_overhead) * w) c.args.self.now a)
+    (sym c.note_part.ensures) (
+      omega (arith, i.work.0, e.work.0),
+      omega (
+        arith,
+        i.work.1,
+        part,
+        parts_found c.args.from c.parts.offset line.end w i.skipped.lines.low
+            (omega (arith, found.line.low, found.line.order)),
+      ),
     )
 
 pub returns-clause-work : goal.returns-clause-work
-returns-clause-work g c =
+returns-clause-work c =
     let i = c.parts.invariant in
     let n = length c.args.block.now - c.args.from in
     let w = searched_byte_work c.args.self.now.tree in
-    omega (arith, i.work, scaled (c.parts.offset - c.args.from) n w (omega (arith, i.skipped.lines.high)), with_overhead n w)
+    (
+      i.work.0,
+      omega (arith, i.work.1, scaled (c.parts.offset - c.args.from) n w (omega (arith, i.skipped.lines.high)), with_overhead n w),
+    )

@@ -5,7 +5,7 @@ use Rattle.std.proofs.lemmas.Bool.{cases_lt, lt-ltb, ne_eqb, false_from_ne_true}
 use Rattle.std.proofs.lemmas.List.{get_or-drop}
 use Rattle.std.proofs.Math.Seq.{get_or-take}
 use Rattle.memchr.specs.Find.{Passes, is_byte}
-use Rattle.cs_syntax.specs.Matching.{Tree, Trees, empty, one_of, one_char, cat, alt, rep, line_start, line_end, word_edge, not_word_edge, none, more, is_word}
+use Rattle.cs_syntax.specs.Matching.{Tree, Trees, one_of, one_char, cat, alt, rep, none, more, is_word}
 use Rattle.cs_syntax.specs.CharSteps.{unfinished_after}
 use Rattle.cs_syntax.specs.declared.char_step.CharStep.TheVariants.{Single}
 use Rattle.cs_syntax.specs.declared.char_step.Unfinished.{Unfinished}

@@ -1,7 +1,7 @@
 -- An expansion has at most two positions and three nodes for each unit of weight, and at most as many repeats as the weight.
 use Rattle.std.proofs.Common.{◌≡◌, ℕ, zero, suc, ◌+◌, ◌-◌, ◌*◌, ◌≤◌, Bool, true, false, refl, ◌∙◌, ap, arith}
 use Rattle.std.specs.Prelude.{Option, Some, None, nat_le, if◌then◌else◌}
-use Rattle.cs_syntax.specs.Matching.{Tree, Trees, empty, one_of, one_char, cat, alt, rep, line_start, line_end, word_edge, not_word_edge, none, more}
+use Rattle.cs_syntax.specs.Matching.{Tree, Trees, cat, alt, rep, none, more}
 use Rattle.cs_syntax.specs.Weight.{weight, weights, times}
 use Rattle.cs_match.specs.Glushkov.{position_count, position_count_of, repeats, repeats_of}
 use Rattle.cs_match.specs.Size.{nodes, nodes_of, FitsWeight}

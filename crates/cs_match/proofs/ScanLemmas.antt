@@ -11,7 +11,7 @@ use Rattle.cs_match.specs.Skipped.{AreLinesBetween, AreSkipped}
 use Rattle.cs_match.specs.Skipping.{AreWholeLines, NoneMatch}
 use Rattle.cs_match.specs.Scan.{state_after, first_special, IsOrdinary, IsAbsorbing, RulesOutLines}
 use Rattle.cs_match.proofs.LinesLemmas.{terminated_lines-part, terminated_lines-line, HasNoNewline-append}
-use Rattle.cs_match.proofs.WholeLineLemmas.{whole_between, none_between, whole_line, terminated_line}
+use Rattle.cs_match.proofs.WholeLineLemmas.{whole_between, none_between, whole_line}
 
 abbrev pub IsByte : ℕ → Type 0
 IsByte b = b < 256

@@ -237,11 +237,7 @@ impl<'a> LazyDfa<'a> {
     }
 
     /// The offset of the byte before which the automaton accepts first, in a scan over the lines of a text.
-    pub(crate) fn first_accepted(
-        &mut self,
-        text: &[u8],
-        steps: &mut Steps,
-    ) -> Option<usize>
+    pub(crate) fn first_accepted(&mut self, text: &[u8], steps: &mut Steps) -> Option<usize>
         requires right { IsConsistent self.old }
         requires whole { AreWholeLines text.now }
         ensures found { MatchOption result

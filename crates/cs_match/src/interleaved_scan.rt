@@ -172,12 +172,7 @@ struct Skipped {
 }
 
 /// Skips the leading chunks of a batch whose scans end in ordinary states, and no chunks of a batch that is too long.
-fn skip_batch(
-    transitions: &[u16],
-    block: &[u8],
-    from: usize,
-    steps: &mut Steps,
-) -> Skipped
+fn skip_batch(transitions: &[u16], block: &[u8], from: usize, steps: &mut Steps) -> Skipped
     requires full { length transitions.now ≡ 65536 }
     requires within { from ≤ length block.now }
     requires whole { AreWholeLines (drop from block.now) }

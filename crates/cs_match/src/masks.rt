@@ -124,12 +124,7 @@ impl Masks {
     }
 
     /// The index of the mask of an input, computed first if it is not there.
-    pub(crate) fn find(
-        &mut self,
-        positions: &[Position],
-        input: Input,
-        steps: &mut Steps,
-    ) -> usize
+    pub(crate) fn find(&mut self, positions: &[Position], input: Input, steps: &mut Steps) -> usize
         requires { AreMasks positions.now self.old }
         ensures masks { AreMasks positions.now self.new }
         ensures within { result < 320 }

@@ -93,8 +93,11 @@ impl<'a> Matcher<'a> {
 
     /// Counts so many steps more, which a caller took for its search of the text. Does nothing when it runs.
     pub fn add_steps(&mut self, count: usize)
-        ensures { self.new ≡ record { tree = self.old.tree; states = self.old.states;
-            steps = self.old.steps + count } }
+        ensures { self.new ≡ record {
+          tree = self.old.tree;
+          states = self.old.states;
+          steps = self.old.steps + count;
+        } }
     {
         self.steps.add(count);
     }

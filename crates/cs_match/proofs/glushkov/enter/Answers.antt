@@ -35,15 +35,14 @@ returns-clause-scratch c =
     }
 
 pub returns-clause-cost : goal.returns-clause-cost
-returns-clause-cost c =
-    (
-      omega (arith, c.advance.ensures.cost, c.note_loops.ensures.cost.0, c.shift_from.ensures.cost),
-      omega (
-        arith,
-        c.advance.ensures.cost,
-        c.note_loops.ensures.cost.1,
-        c.part-part.ensures.size,
-        c.shift_from.ensures.cost,
-        c.requires.scratch.entries,
-      ),
-    )
+returns-clause-cost c = (
+  omega (arith, c.advance.ensures.cost, c.note_loops.ensures.cost.0, c.shift_from.ensures.cost),
+  omega (
+    arith,
+    c.advance.ensures.cost,
+    c.note_loops.ensures.cost.1,
+    c.part-part.ensures.size,
+    c.shift_from.ensures.cost,
+    c.requires.scratch.entries,
+  ),
+)

@@ -53,15 +53,14 @@ returns-clause-positions c =
     c.move_over.ensures.length c.move_over.ensures.each
 
 pub returns-clause-cost : goal.returns-clause-cost
-returns-clause-cost c =
-    (
-      omega (arith, c.enter-accepting.ensures.cost.0, c.find-slot.ensures.cost.0, c.move_over.ensures.cost),
-      omega (
-        arith,
-        c.enter-accepting.ensures.cost.1,
-        c.find-slot.ensures.cost.1,
-        c.move_over.ensures.cost,
-        c.requires.one_each,
-        c.positions.ensures.count,
-      ),
-    )
+returns-clause-cost c = (
+  omega (arith, c.enter-accepting.ensures.cost.0, c.find-slot.ensures.cost.0, c.move_over.ensures.cost),
+  omega (
+    arith,
+    c.enter-accepting.ensures.cost.1,
+    c.find-slot.ensures.cost.1,
+    c.move_over.ensures.cost,
+    c.requires.one_each,
+    c.positions.ensures.count,
+  ),
+)

@@ -146,8 +146,7 @@ pub returns-then-known-text-clause-work : goal.returns-then-known-text-clause-wo
 returns-then-known-text-clause-work c =
     let t = tree_in c.args.self.now in
     let known = c.scan_known-known in
-    let all : known.result.to ≡ length c.args.text.now = c.if-known-text.true in
-    (
+    let all : known.result.to ≡ length c.args.text.now = c.if-known-text.true in (
       omega (arith, c.scan.invariant.rises, c.add.ensures),
       omega (
         arith,
@@ -162,8 +161,7 @@ returns-then-known-text-clause-work c =
 pub returns-then-number-clause-work : goal.returns-then-number-clause-work
 returns-then-number-clause-work c =
     let t = tree_in c.args.self.now in
-    let known = c.scan_known-known in
-    (
+    let known = c.scan_known-known in (
       omega (arith, c.scan.invariant.rises, c.add.ensures, c.next-number.ensures.work.0),
       omega (
         arith,

@@ -72,8 +72,7 @@ returns-then-b-eq10-clause-work c =
     let i = c.loop-b.b-index in
     let n = length c.args.line.now in
     let given = c.loop-b.invariant in
-    let lighter : step_work t ≤ byte_work t = omega arith in
-    (
+    let lighter : step_work t ≤ byte_work t = omega arith in (
       omega (arith, given.rises, c.search.ensures.cost.0),
       omega (
         arith,
@@ -90,8 +89,7 @@ pub returns-then-number-clause-work : goal.returns-then-number-clause-work
 returns-then-number-clause-work c =
     let t = tree_in c.args.self.now in
     let i = c.loop-b.b-index in
-    let n = length c.args.line.now in
-    (
+    let n = length c.args.line.now in (
       omega (arith, c.loop-b.invariant.rises, c.next-number.ensures.work.0),
       omega (
         arith,
@@ -106,8 +104,7 @@ pub returns-clause-work : goal.returns-clause-work
 returns-clause-work c =
     let t = tree_in c.args.self.now in
     let i = c.loop-b.b-index in
-    let n = length c.args.line.now in
-    (
+    let n = length c.args.line.now in (
       omega (arith, c.loop-b.invariant.rises, c.next.ensures.work.0),
       omega (
         arith,

@@ -49,8 +49,7 @@ lines-preserved c =
           );
       same = e.same ∙ i.same;
       work =
-          let w = searched_byte_work c.args.self.now.tree in
-          (
+          let w = searched_byte_work c.args.self.now.tree in (
             omega (arith, i.work.0, e.work.0),
             omega (
               arith,
@@ -79,8 +78,7 @@ pub returns-clause-work : goal.returns-clause-work
 returns-clause-work c =
     let i = c.lines.invariant in
     let n = length c.args.block.now in
-    let w = searched_byte_work c.args.self.now.tree in
-    (
+    let w = searched_byte_work c.args.self.now.tree in (
       omega (arith, i.work.0, c.in_default.ensures.work.0),
       omega (
         arith,

@@ -1,4 +1,4 @@
-use Rattle.std.proofs.Common.{◌≡◌, ◌≤◌, ◌+◌, ◌-◌, ◌*◌, length, take, drop, subst, ap, arith, length-drop, length-take-le}
+use Rattle.std.proofs.Common.{◌≡◌, ◌+◌, ◌-◌, ◌*◌, length, take, drop, subst, ap, arith, length-drop, length-take-le}
 use Rattle.cs_match.specs.Automaton.{Automaton}
 use Rattle.cs_match.specs.ConsistentDfa.{automaton_of, tree_in}
 use Rattle.cs_match.specs.Deciding.{Decides}

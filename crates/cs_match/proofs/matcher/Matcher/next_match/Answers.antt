@@ -143,8 +143,7 @@ pub returns-clause-work : goal.returns-clause-work
 returns-clause-work c =
     let i = c.parts.invariant in
     let n = length c.args.block.now - c.args.from in
-    let w = searched_byte_work c.args.self.now.tree in
-    (
+    let w = searched_byte_work c.args.self.now.tree in (
       i.work.0,
       omega (arith, i.work.1, scaled (c.parts.offset - c.args.from) n w (omega (arith, i.skipped.lines.high)), with_overhead n w),
     )

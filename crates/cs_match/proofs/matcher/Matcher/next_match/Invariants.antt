@@ -1,4 +1,4 @@
-use Rattle.std.proofs.Common.{◌≤◌, ◌+◌, ◌*◌, ◌-◌, ◌≡◌, length}
+use Rattle.std.proofs.Common.{◌*◌, ◌-◌, ◌≡◌, length}
 use Rattle.cs_match.specs.Automaton.{GrowsOver}
 use Rattle.cs_match.specs.Deciding.{Decides}
 use Rattle.cs_match.specs.Work.{WorksWithin, searched_byte_work}

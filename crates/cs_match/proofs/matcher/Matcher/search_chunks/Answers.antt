@@ -1,4 +1,4 @@
-use Rattle.std.proofs.Common.{ℕ, List, ◌≤◌, ◌+◌, ◌-◌, ◌*◌, length, inl, inr, refl, sym, subst, arith}
+use Rattle.std.proofs.Common.{ℕ, List, ◌≤◌, ◌-◌, length, inl, inr, refl, sym, subst, arith}
 use Rattle.std.specs.Prelude.{Option, Some, None, MatchOption}
 use Rattle.std.proofs.lemmas.Bool.{cases_lt}
 use Rattle.cs_syntax.specs.Matching.{Tree}

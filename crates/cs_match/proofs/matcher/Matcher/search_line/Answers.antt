@@ -1,4 +1,4 @@
-use Rattle.std.proofs.Common.{◌≤◌, ◌+◌, ◌*◌, length, arith}
+use Rattle.std.proofs.Common.{arith}
 use Rattle.cs_match.specs.ConsistentDfa.{tree_in}
 use Rattle.cs_match.proofs.SearchWorkLemmas.{candidate_cost}
 use Rattle.cs_match.proofs.WholeLineLemmas.{whole_line}

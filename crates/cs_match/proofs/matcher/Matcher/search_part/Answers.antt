@@ -1,4 +1,4 @@
-use Rattle.std.proofs.Common.{◌≤◌, ◌+◌, ◌*◌, length, arith}
+use Rattle.std.proofs.Common.{length, arith}
 use Rattle.cs_match.proofs.SearchWorkLemmas.{single_cost}
 use Rattle.cs_match.proofs.matcher.Matcher.search_part.Goals as goal
 

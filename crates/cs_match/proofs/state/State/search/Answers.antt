@@ -72,8 +72,7 @@ returns-clause-found c =
 pub returns-then-step_in_line-clause-cost : goal.returns-then-step_in_line-clause-cost
 returns-then-step_in_line-clause-cost c =
     let i = c.loop-b.b-index in
-    let n = length c.args.line.now in
-    (
+    let n = length c.args.line.now in (
       omega (arith, c.loop-b.invariant.rises, c.step_in_line.ensures.cost.0),
       omega (arith, c.loop-b.invariant.cost, c.step_in_line.ensures.cost.1, scaled (i + 1) n (step_work c.args.program.now) (omega arith)),
     )
@@ -81,8 +80,7 @@ returns-then-step_in_line-clause-cost c =
 pub returns-clause-cost : goal.returns-clause-cost
 returns-clause-cost c =
     let i = c.loop-b.b-index in
-    let n = length c.args.line.now in
-    (
+    let n = length c.args.line.now in (
       omega (arith, c.loop-b.invariant.rises, c.end.ensures.cost.0),
       omega (arith, c.loop-b.invariant.cost, c.end.ensures.cost.1, scaled i n (step_work c.args.program.now) (omega arith)),
     )

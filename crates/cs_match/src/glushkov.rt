@@ -11,6 +11,7 @@ ghost use Rattle.cs_syntax.specs.Matching.{cat, alt};
 ghost use Rattle.cs_match.specs.Glushkov.{position_count, position_count_of, repeats, repeats_of, nullable, nullable_all, nullable_some, is_final, is_final_all, is_final_some, accepts, loop_ends, loop_ends_of, step, IsExpanded};
 ghost use Rattle.cs_match.specs.Entered.{entered, entered_all, entered_each, AreShifted};
 ghost use Rattle.cs_match.specs.Parts.{run, runs, options, shape_of, shapes_of, size_of, sizes_of};
+ghost use Rattle.cs_match.specs.Traversal.{IsNoted, accepted_from, entries_after, final_from, loops_after, position_after, repeat_after};
 ghost use Rattle.cs_match.specs.Size.{nodes};
 ghost use Rattle.cs_match.specs.Work.{words, step_work};
 ghost use Rattle.cs_match.specs.Masks.{IsScratch};
@@ -238,17 +239,13 @@ fn find_ends(
     cursor: &mut Cursor,
     steps: &mut Steps,
 ) -> Ends
-    requires room { cursor.old.position + position_count (shape_of part.now) ≤ length positions.now }
+    requires room { position_after (shape_of part.now) cursor.old ≤ length positions.now }
     requires within { cursor.old.repeat ≤ length loops.old }
-    ensures accepting { result.accepting ≡ is_final (shape_of part.now)
-        (drop cursor.old.position positions.now) here }
+    ensures accepting { result.accepting ≡ final_from (shape_of part.now) cursor.old positions.now here }
     ensures nullable { result.nullable ≡ nullable (shape_of part.now) here }
-    ensures noted { loops.new ≡ sets loops.old cursor.old.repeat
-        (loop_ends (shape_of part.now) (drop cursor.old.position positions.now) here) }
-    ensures position { cursor.new.position
-        ≡ cursor.old.position + position_count (shape_of part.now) }
-    ensures repeat { cursor.new.repeat
-        ≡ min (length loops.old) (cursor.old.repeat + repeats (shape_of part.now)) }
+    ensures noted { loops.new ≡ loops_after (shape_of part.now) cursor.old positions.now here loops.old }
+    ensures position { cursor.new.position ≡ position_after (shape_of part.now) cursor.old }
+    ensures repeat { cursor.new.repeat ≡ min (length loops.old) (repeat_after (shape_of part.now) cursor.old) }
     ensures cost { steps.new.count ≡ steps.old.count + size_of part.now }
 {
     steps.add(1);
@@ -277,8 +274,7 @@ fn find_ends(
 /// The ends of a run: its last position, or the empty span if it has none.
 fn end_run(n: usize, positions: &PositionSet, cursor: &mut Cursor) -> Ends
     requires { cursor.old.position + n ≤ length positions.now }
-    ensures accepting { (here : LookAround) → result.accepting
-        ≡ is_final (run n) (drop cursor.old.position positions.now) here }
+    ensures accepting { (here : LookAround) → result.accepting ≡ final_from (run n) cursor.old positions.now here }
     ensures nullable { (here : LookAround) → result.nullable ≡ nullable (run n) here }
     ensures position { cursor.new.position ≡ cursor.old.position + n }
     ensures repeat { cursor.new.repeat ≡ cursor.old.repeat }
@@ -306,8 +302,7 @@ fn enter_run(
 ) -> bool
     requires room { cursor.old.position + n ≤ length positions.now }
     requires shifted { AreShifted cursor.old.position positions.now entries.old }
-    ensures accepting { (here : LookAround) → result
-        ≡ accepts (run n) enter (drop cursor.old.position positions.now) here }
+    ensures accepting { (here : LookAround) → result ≡ accepted_from (run n) enter cursor.old positions.now here }
     ensures entries { (here : LookAround) → entries.new ≡ take cursor.old.position entries.old
         ++ (entered (run n) enter (drop cursor.old.position positions.now) here
         ++ drop (cursor.old.position + n) entries.old) }
@@ -326,8 +321,8 @@ fn enter_run(
 /// The ends of options: the last position of each, or the empty span.
 fn end_options(n: usize, count: usize, positions: &PositionSet, cursor: &mut Cursor) -> Ends
     requires { cursor.old.position + position_count (options n count) ≤ length positions.now }
-    ensures accepting { (here : LookAround) → result.accepting
-        ≡ is_final (options n count) (drop cursor.old.position positions.now) here }
+    ensures accepting { (here : LookAround) →
+        result.accepting ≡ final_from (options n count) cursor.old positions.now here }
     ensures nullable { (here : LookAround) → result.nullable ≡ nullable (options n count) here }
     ensures position { cursor.new.position ≡ cursor.old.position + position_count (options n count) }
     ensures repeat { cursor.new.repeat ≡ cursor.old.repeat }
@@ -362,11 +357,10 @@ fn enter_options(
 ) -> bool
     requires room { cursor.old.position + position_count (options n count) ≤ length positions.now }
     requires shifted { AreShifted cursor.old.position positions.now entries.old }
-    ensures accepting { (here : LookAround) → result
-        ≡ accepts (options n count) enter (drop cursor.old.position positions.now) here }
-    ensures entries { (here : LookAround) → entries.new ≡ take cursor.old.position entries.old
-        ++ (entered (options n count) enter (drop cursor.old.position positions.now) here
-        ++ drop (cursor.old.position + position_count (options n count)) entries.old) }
+    ensures accepting { (here : LookAround) →
+        result ≡ accepted_from (options n count) enter cursor.old positions.now here }
+    ensures entries { (here : LookAround) →
+        entries.new ≡ entries_after (options n count) enter cursor.old positions.now here entries.old }
     ensures position { cursor.new.position ≡ cursor.old.position + position_count (options n count) }
     ensures repeat { cursor.new.repeat ≡ cursor.old.repeat }
 {
@@ -394,11 +388,10 @@ fn enter_many(
     requires many { 0 < count }
     requires room { cursor.old.position + position_count (options n count) ≤ length positions.now }
     requires shifted { AreShifted cursor.old.position positions.now entries.old }
-    ensures accepting { (here : LookAround) → result
-        ≡ accepts (options n count) enter (drop cursor.old.position positions.now) here }
-    ensures entries { (here : LookAround) → entries.new ≡ take cursor.old.position entries.old
-        ++ (entered (options n count) enter (drop cursor.old.position positions.now) here
-        ++ drop (cursor.old.position + position_count (options n count)) entries.old) }
+    ensures accepting { (here : LookAround) →
+        result ≡ accepted_from (options n count) enter cursor.old positions.now here }
+    ensures entries { (here : LookAround) →
+        entries.new ≡ entries_after (options n count) enter cursor.old positions.now here entries.old }
     ensures position { cursor.new.position ≡ cursor.old.position + position_count (options n count) }
     ensures repeat { cursor.new.repeat ≡ cursor.old.repeat }
 {
@@ -444,11 +437,10 @@ fn end_sequences(
     steps: &mut Steps,
 ) -> Ends
     requires { cursor.old.position + position_count_of (runs sequences.now) ≤ length positions.now }
-    ensures accepting { (here : LookAround) → result.accepting
-        ≡ is_final_some (runs sequences.now) (drop cursor.old.position positions.now) here }
-    ensures nullable { (here : LookAround) → result.nullable ≡ nullable_some (runs sequences.now) here }
-    ensures position { cursor.new.position
-        ≡ cursor.old.position + position_count_of (runs sequences.now) }
+    ensures accepting { (here : LookAround) →
+        result.accepting ≡ final_from (alt (runs sequences.now)) cursor.old positions.now here }
+    ensures nullable { (here : LookAround) → result.nullable ≡ nullable (alt (runs sequences.now)) here }
+    ensures position { cursor.new.position ≡ position_after (alt (runs sequences.now)) cursor.old }
     ensures repeat { cursor.new.repeat ≡ cursor.old.repeat }
     ensures cost { steps.new.count ≡ steps.old.count + words (position_count_of (runs sequences.now)) }
 {
@@ -474,13 +466,11 @@ fn enter_sequences(
 ) -> bool
     requires room { cursor.old.position + position_count_of (runs sequences.now) ≤ length positions.now }
     requires shifted { AreShifted cursor.old.position positions.now entries.old }
-    ensures accepting { (here : LookAround) → result
-        ≡ accepts (alt (runs sequences.now)) enter (drop cursor.old.position positions.now) here }
-    ensures entries { (here : LookAround) → entries.new ≡ take cursor.old.position entries.old
-        ++ (entered_each (runs sequences.now) enter (drop cursor.old.position positions.now) here
-        ++ drop (cursor.old.position + position_count_of (runs sequences.now)) entries.old) }
-    ensures position { cursor.new.position
-        ≡ cursor.old.position + position_count_of (runs sequences.now) }
+    ensures accepting { (here : LookAround) →
+        result ≡ accepted_from (alt (runs sequences.now)) enter cursor.old positions.now here }
+    ensures entries { (here : LookAround) →
+        entries.new ≡ entries_after (alt (runs sequences.now)) enter cursor.old positions.now here entries.old }
+    ensures position { cursor.new.position ≡ position_after (alt (runs sequences.now)) cursor.old }
     ensures repeat { cursor.new.repeat ≡ cursor.old.repeat }
     ensures cost { steps.new.count ≡ steps.old.count + words (position_count_of (runs sequences.now)) }
 {
@@ -525,18 +515,13 @@ fn find_ends_all(
     cursor: &mut Cursor,
     steps: &mut Steps,
 ) -> Ends
-    requires room { cursor.old.position + position_count_of (shapes_of parts.now)
-        ≤ length positions.now }
+    requires room { position_after (cat (shapes_of parts.now)) cursor.old ≤ length positions.now }
     requires within { cursor.old.repeat ≤ length loops.old }
-    ensures accepting { result.accepting
-        ≡ is_final_all (shapes_of parts.now) (drop cursor.old.position positions.now) here }
-    ensures nullable { result.nullable ≡ nullable_all (shapes_of parts.now) here }
-    ensures noted { loops.new ≡ sets loops.old cursor.old.repeat
-        (loop_ends_of (shapes_of parts.now) (drop cursor.old.position positions.now) here) }
-    ensures position { cursor.new.position
-        ≡ cursor.old.position + position_count_of (shapes_of parts.now) }
-    ensures repeat { cursor.new.repeat
-        ≡ min (length loops.old) (cursor.old.repeat + repeats_of (shapes_of parts.now)) }
+    ensures accepting { result.accepting ≡ final_from (cat (shapes_of parts.now)) cursor.old positions.now here }
+    ensures nullable { result.nullable ≡ nullable (cat (shapes_of parts.now)) here }
+    ensures noted { loops.new ≡ loops_after (cat (shapes_of parts.now)) cursor.old positions.now here loops.old }
+    ensures position { cursor.new.position ≡ position_after (cat (shapes_of parts.now)) cursor.old }
+    ensures repeat { cursor.new.repeat ≡ min (length loops.old) (repeat_after (cat (shapes_of parts.now)) cursor.old) }
     ensures cost { steps.new.count ≡ steps.old.count + sizes_of parts.now }
 {
     let mut all = Ends::within(true);
@@ -556,18 +541,13 @@ fn find_ends_some(
     cursor: &mut Cursor,
     steps: &mut Steps,
 ) -> Ends
-    requires room { cursor.old.position + position_count_of (shapes_of parts.now)
-        ≤ length positions.now }
+    requires room { position_after (alt (shapes_of parts.now)) cursor.old ≤ length positions.now }
     requires within { cursor.old.repeat ≤ length loops.old }
-    ensures accepting { result.accepting
-        ≡ is_final_some (shapes_of parts.now) (drop cursor.old.position positions.now) here }
-    ensures nullable { result.nullable ≡ nullable_some (shapes_of parts.now) here }
-    ensures noted { loops.new ≡ sets loops.old cursor.old.repeat
-        (loop_ends_of (shapes_of parts.now) (drop cursor.old.position positions.now) here) }
-    ensures position { cursor.new.position
-        ≡ cursor.old.position + position_count_of (shapes_of parts.now) }
-    ensures repeat { cursor.new.repeat
-        ≡ min (length loops.old) (cursor.old.repeat + repeats_of (shapes_of parts.now)) }
+    ensures accepting { result.accepting ≡ final_from (alt (shapes_of parts.now)) cursor.old positions.now here }
+    ensures nullable { result.nullable ≡ nullable (alt (shapes_of parts.now)) here }
+    ensures noted { loops.new ≡ loops_after (alt (shapes_of parts.now)) cursor.old positions.now here loops.old }
+    ensures position { cursor.new.position ≡ position_after (alt (shapes_of parts.now)) cursor.old }
+    ensures repeat { cursor.new.repeat ≡ min (length loops.old) (repeat_after (alt (shapes_of parts.now)) cursor.old) }
     ensures cost { steps.new.count ≡ steps.old.count + sizes_of parts.now }
 {
     let mut some = Ends::within(false);
@@ -590,18 +570,14 @@ fn advance(
     cursor: &mut Cursor,
     steps: &mut Steps,
 ) -> bool
-    requires room { cursor.old.position + position_count (shape_of part.now) ≤ length at.now.positions.now }
+    requires room { position_after (shape_of part.now) cursor.old ≤ length at.now.positions.now }
     requires shifted { AreShifted cursor.old.position at.now.positions.now entries.old }
-    requires noted { take (repeats (shape_of part.now)) (drop cursor.old.repeat at.now.loops.now)
-        ≡ loop_ends (shape_of part.now) (drop cursor.old.position at.now.positions.now) at.now.here }
-    ensures accepting { result ≡ accepts (shape_of part.now) enter
-        (drop cursor.old.position at.now.positions.now) at.now.here }
-    ensures entries { entries.new ≡ take cursor.old.position entries.old
-        ++ (entered (shape_of part.now) enter (drop cursor.old.position at.now.positions.now) at.now.here
-        ++ drop (cursor.old.position + position_count (shape_of part.now)) entries.old) }
-    ensures position { cursor.new.position
-        ≡ cursor.old.position + position_count (shape_of part.now) }
-    ensures repeat { cursor.new.repeat ≡ cursor.old.repeat + repeats (shape_of part.now) }
+    requires noted { IsNoted (shape_of part.now) cursor.old at.now }
+    ensures accepting { result ≡ accepted_from (shape_of part.now) enter cursor.old at.now.positions.now at.now.here }
+    ensures entries { entries.new
+        ≡ entries_after (shape_of part.now) enter cursor.old at.now.positions.now at.now.here entries.old }
+    ensures position { cursor.new.position ≡ position_after (shape_of part.now) cursor.old }
+    ensures repeat { cursor.new.repeat ≡ repeat_after (shape_of part.now) cursor.old }
     ensures cost { steps.new.count ≡ steps.old.count + size_of part.now }
 {
     steps.add(1);
@@ -639,20 +615,14 @@ fn advance_all(
     cursor: &mut Cursor,
     steps: &mut Steps,
 ) -> bool
-    requires room { cursor.old.position + position_count_of (shapes_of parts.now)
-        ≤ length at.now.positions.now }
+    requires room { position_after (cat (shapes_of parts.now)) cursor.old ≤ length at.now.positions.now }
     requires shifted { AreShifted cursor.old.position at.now.positions.now entries.old }
-    requires noted { take (repeats_of (shapes_of parts.now)) (drop cursor.old.repeat at.now.loops.now)
-        ≡ loop_ends_of (shapes_of parts.now) (drop cursor.old.position at.now.positions.now) at.now.here }
-    ensures accepting { result ≡ accepts (cat (shapes_of parts.now)) enter
-        (drop cursor.old.position at.now.positions.now) at.now.here }
-    ensures entries { entries.new ≡ take cursor.old.position entries.old
-        ++ (entered_all (shapes_of parts.now) enter
-        (drop cursor.old.position at.now.positions.now) at.now.here
-        ++ drop (cursor.old.position + position_count_of (shapes_of parts.now)) entries.old) }
-    ensures position { cursor.new.position
-        ≡ cursor.old.position + position_count_of (shapes_of parts.now) }
-    ensures repeat { cursor.new.repeat ≡ cursor.old.repeat + repeats_of (shapes_of parts.now) }
+    requires noted { IsNoted (cat (shapes_of parts.now)) cursor.old at.now }
+    ensures accepting { result ≡ accepted_from (cat (shapes_of parts.now)) enter cursor.old at.now.positions.now at.now.here }
+    ensures entries { entries.new
+        ≡ entries_after (cat (shapes_of parts.now)) enter cursor.old at.now.positions.now at.now.here entries.old }
+    ensures position { cursor.new.position ≡ position_after (cat (shapes_of parts.now)) cursor.old }
+    ensures repeat { cursor.new.repeat ≡ repeat_after (cat (shapes_of parts.now)) cursor.old }
     ensures cost { steps.new.count ≡ steps.old.count + sizes_of parts.now }
 {
     let mut accepting = enter;
@@ -671,20 +641,14 @@ fn advance_each(
     cursor: &mut Cursor,
     steps: &mut Steps,
 ) -> bool
-    requires room { cursor.old.position + position_count_of (shapes_of parts.now)
-        ≤ length at.now.positions.now }
+    requires room { position_after (alt (shapes_of parts.now)) cursor.old ≤ length at.now.positions.now }
     requires shifted { AreShifted cursor.old.position at.now.positions.now entries.old }
-    requires noted { take (repeats_of (shapes_of parts.now)) (drop cursor.old.repeat at.now.loops.now)
-        ≡ loop_ends_of (shapes_of parts.now) (drop cursor.old.position at.now.positions.now) at.now.here }
-    ensures accepting { result ≡ accepts (alt (shapes_of parts.now)) enter
-        (drop cursor.old.position at.now.positions.now) at.now.here }
-    ensures entries { entries.new ≡ take cursor.old.position entries.old
-        ++ (entered_each (shapes_of parts.now) enter
-        (drop cursor.old.position at.now.positions.now) at.now.here
-        ++ drop (cursor.old.position + position_count_of (shapes_of parts.now)) entries.old) }
-    ensures position { cursor.new.position
-        ≡ cursor.old.position + position_count_of (shapes_of parts.now) }
-    ensures repeat { cursor.new.repeat ≡ cursor.old.repeat + repeats_of (shapes_of parts.now) }
+    requires noted { IsNoted (alt (shapes_of parts.now)) cursor.old at.now }
+    ensures accepting { result ≡ accepted_from (alt (shapes_of parts.now)) enter cursor.old at.now.positions.now at.now.here }
+    ensures entries { entries.new
+        ≡ entries_after (alt (shapes_of parts.now)) enter cursor.old at.now.positions.now at.now.here entries.old }
+    ensures position { cursor.new.position ≡ position_after (alt (shapes_of parts.now)) cursor.old }
+    ensures repeat { cursor.new.repeat ≡ repeat_after (alt (shapes_of parts.now)) cursor.old }
     ensures cost { steps.new.count ≡ steps.old.count + sizes_of parts.now }
 {
     let mut out = false;

@@ -1,13 +1,13 @@
 #!/bin/sh
-# Fails if the source makes a second counter of steps, or puts one in the place of another: what is counted in a counter that is
-# thrown away is counted nowhere. `*steps = Steps::new()` is refused by a clause too, since the count of a counter never falls
-# (`CountsAtMost`, `WorksWithin`). No clause refuses a call that is handed a counter of its own, or one that is put back
-# afterwards; this does. Only `Matcher::new` makes a counter. Before, it tries its test on wrong lines.
+# Fails if the source makes a second counter of steps, or puts one, or the matcher that has it, in the place of another: what is
+# counted in a counter that is thrown away is counted nowhere. `*steps = Steps::new()` is refused by a clause too, since the
+# count never falls (`CountsAtMost`, `WorksWithin`). No clause refuses a call that is handed a counter of its own, or one that is
+# put back afterwards; this does. Only `Matcher::new` makes a counter. Before, it tries its test on wrong lines.
 # usage: tests/shell/steps.sh [FOLDER]
 
 cd "${1:-$(dirname -- "$0")/../..}" || exit 2
 
-wrong='Steps::new|\bSteps *\{|\bSteps as\b|= Steps;|\bmem::|\b(replace|swap)\(|\btake\((&mut|\))|\bsteps =( .*;)?$'
+wrong='Steps::new|\bSteps *\{|\bSteps as\b|= Steps;|\bmem::|\b(replace|swap)\(|\btake\((&mut|\))|(^ *|[*.])(steps|matcher) =( .*;)?$'
 while read -r line; do
     echo "$line" | grep -qE "$wrong" || { echo "steps.sh: it does not refuse: $line"; exit 1; }
 done <<'LINES'
@@ -19,11 +19,12 @@ let before = std::mem::take(steps);
 swap(steps, own);
 let before = self.own.take();
 self.steps = own;
+*matcher = other;
 use cs_prefilter::Steps as Counter;
 LINES
 
 # (not in the definition, nor the counter of a new matcher)
-found=$(find crates/cs_prefilter/src crates/cs_match/src -name '*.rt' ! -path crates/cs_prefilter/src/steps.rt -exec grep -nHE "$wrong" {} + |
+found=$(find crates/cs_prefilter/src crates/cs_match/src crates/cs_search/src -name '*.rt' ! -path crates/cs_prefilter/src/steps.rt -exec grep -nHE "$wrong" {} + |
     grep -vE '^crates/cs_match/src/matcher.rt:[0-9]+: +steps: Steps::new\(\),$')
 # (no other crate names the counter)
 found=$found$(grep -rnE 'cs_prefilter::|\bSteps::' crates/*/src | grep -vE '^crates/cs_(prefilter|match)/')

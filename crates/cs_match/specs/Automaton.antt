@@ -10,6 +10,10 @@ pub record Automaton : Type 0 where
   pub states : ℕ
   pub steps : ℕ
 
+-- the automaton after so many steps more
+abbrev pub after_steps : ℕ → Automaton → Automaton
+after_steps count m = record { tree = m.tree; states = m.states; steps = m.steps + count }
+
 -- an automaton is stored as the tuple of its fields
 abbrev pub automaton_code : Coded Automaton
 automaton_code =

@@ -1,7 +1,7 @@
 // Matchers: a lazy DFA (RE2) with the prefilters of its program, and the counters that choose between them.
 ghost use Rattle.std.specs.Prelude.{◌≡◌, ◌≤◌, ◌<◌, ◌+◌, ◌*◌, ◌-◌, ◌↔◌, ℕ, Bool, List, IsTrue, IfOk, IfSome, MatchOption, length, slice_range, drop, count_by};
 ghost use Rattle.cs_syntax.specs.Matching.{HasMatch};
-ghost use Rattle.cs_match.specs.Automaton.{GrowsOver, most_states};
+ghost use Rattle.cs_match.specs.Automaton.{GrowsOver, after_steps, most_states};
 ghost use Rattle.cs_match.specs.Deciding.{Decides};
 ghost use Rattle.cs_match.specs.FirstMatch.{IsFirstMatch};
 ghost use Rattle.cs_match.specs.Lines.{terminated_lines};
@@ -93,11 +93,7 @@ impl<'a> Matcher<'a> {
 
     /// Counts so many steps more, which a caller took for its search of the text. Does nothing when it runs.
     pub fn add_steps(&mut self, count: usize)
-        ensures { self.new ≡ record {
-          tree = self.old.tree;
-          states = self.old.states;
-          steps = self.old.steps + count;
-        } }
+        ensures { self.new ≡ after_steps count self.old }
     {
         self.steps.add(count);
     }

@@ -1,10 +1,11 @@
 -- Whole posting lists that are written, and the invariant of `Written`.
-use Rattle.std.specs.Prelude.{◌≡◌, ℕ, ◌<◌, ◌≤◌, List, [], ◌∷◌, ◌++◌, length, Option, None, Some}
+use Rattle.std.specs.Prelude.{◌≡◌, ◌≢◌, ℕ, ◌<◌, ◌≤◌, List, [], ◌∷◌, ◌++◌, length, Option, None, Some}
 use Rattle.std.specs.List.{AllByRecursion}
 use Rattle.cs_trigram.specs.Trigram.{closing_trigram}
 use Rattle.cs_index.specs.Encoding.{PostingList, IsString}
 use Rattle.cs_index.specs.Written.{Written}
 use Rattle.cs_index.specs.AscendingIds.{ArePostingLists, max_ids}
+use Rattle.cs_index.specs.IdStream.{IsStream}
 
 -- with a whole posting list
 abbrev pub with_posting : Written → PostingList → Written
@@ -20,6 +21,13 @@ with_posting output (trigram, ids) = record {
 abbrev pub with_postings : Written → List PostingList → Written
 with_postings output [] = output
 with_postings output (p ∷ ps) = with_postings (with_posting output p) ps
+
+-- The bytes are the ids that the list of a trigram begins with.
+pub record AreFirstIds (name_count trigram count next : ℕ) (bytes : List ℕ) : Type 0 where
+  pub below : trigram < closing_trigram
+  pub stream : IsStream bytes count next
+  pub some : count ≢ 0
+  pub named : next ≤ name_count
 
 -- the list that was begun last comes after all others
 abbrev pub IsLastList : List PostingList → Option ℕ → Type 0

@@ -15,7 +15,7 @@ use Rattle.cs_index.specs.AscendingIds.{ids_onward, max_ids, next_after, IsPosti
 use Rattle.cs_index.specs.Gathering.{trigrams_in}
 use Rattle.cs_index.specs.Written.{ids_of, with_id, Written, bytes_written, entries_written, last_ids, prefix_of, with_written_id, with_last_id, with_last_ids, AllBelow, IsSentEarly}
 use Rattle.cs_index.specs.Sending.{Outgoing, all_sent, bytes_in, with_bytes}
-use Rattle.cs_index.specs.WrittenLists.{IsWritten, with_posting}
+use Rattle.cs_index.specs.WrittenLists.{AreFirstIds, IsWritten, with_posting}
 use Rattle.cs_index.specs.SectionsInvariant.{ids_at, first_of, lists_at, IsFresh, IsOpen, IsSections, current_list, bytes_at_close, lists_of_fields, last_trigram_of, written_of}
 use Rattle.cs_index.proofs.postings.StreamPush.{decoded-stream_of, stream_from, next_append, rise_length, rise_append}
 use Rattle.cs_index.proofs.postings.EncodedRuns.{onward_from, onward_last, onward_stream}
@@ -478,20 +478,13 @@ abbrev pub after_list : Inside → Outgoing → Vec ListEntry Global → ℕ →
 after_list s out entries trigram count start next =
     record s { out = out; entries = entries; pending = None; trigram = trigram; count = count; start = start; next = next }
 
--- encoded ids at the start of a list
-pub record AreFirst (name_count trigram count next : ℕ) (bytes : List ℕ) : Type 0 where
-  pub below : trigram < 16777215
-  pub stream : IsStream bytes count next
-  pub some : count ≢ 0
-  pub named : next ≤ name_count
-
 pub record Begun (s : Inside) (now : Written) (p : PostingList) : Type 0 where
   pub are_sections : IsSections s
   pub is : written_of s ≡ with_posting now p
 
 begun : (s : Inside) (now : Written) (out : Outgoing) (entries : Vec ListEntry Global) (trigram count start next : ℕ)
     (bytes : List ℕ) (closed : List PostingList) → written_of s ≡ now → IsSections s → AllBelow now.lists trigram →
-    AreFirst (length now.names) trigram count next bytes → lists_of_fields s ≡ closed →
+    AreFirstIds (length now.names) trigram count next bytes → lists_of_fields s ≡ closed →
     bytes_in out ≡ prefix_of s.paths s.names ++ (concat (map posting_list_bytes closed) ++ (three_bytes trigram ++ bytes)) →
     out.sent ≡ s.out.sent →
     entries.items ≡ list_entries (length (prefix_of s.paths s.names)) closed →
@@ -551,7 +544,7 @@ begun s now out entries trigram count start next bytes closed view is above firs
     )
 
 pub begun_first : (s : Inside) (now : Written) (out : Outgoing) (trigram count start next : ℕ) (bytes : List ℕ) →
-    written_of s ≡ now → IsSections s → now.lists ≡ [] → AreFirst (length now.names) trigram count next bytes →
+    written_of s ≡ now → IsSections s → now.lists ≡ [] → AreFirstIds (length now.names) trigram count next bytes →
     out ≡ record { sent = []; unsent = prefix_of s.paths s.names ++ (three_bytes trigram ++ bytes) } →
     start ≡ length (prefix_of s.paths s.names) →
     Begun (after_list s out s.entries trigram count start next) now (trigram, ids_in bytes count)
@@ -564,7 +557,7 @@ begun_first s now out trigram count start next bytes view is none first written 
 
 pub begun_next : (s : Inside) (now : Written) (out : Outgoing) (entries : Vec ListEntry Global)
     (trigram count start next : ℕ) (bytes : List ℕ) → written_of s ≡ now → IsSections s → now.lists ≢ [] →
-    AllBelow now.lists trigram → AreFirst (length now.names) trigram count next bytes →
+    AllBelow now.lists trigram → AreFirstIds (length now.names) trigram count next bytes →
     out ≡ with_bytes s.out (four_bytes trigram ++ bytes) → entries.items ≡ s.entries.items ++ current_list s ∷ [] →
     start ≡ length (bytes_in s.out) + 1 →
     Begun (after_list s out entries trigram count start next) now (trigram, ids_in bytes count)

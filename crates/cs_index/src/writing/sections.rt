@@ -10,7 +10,7 @@ ghost use Rattle.cs_index.specs.Built.{are_paths, is_above, is_storable};
 ghost use Rattle.cs_index.specs.Written.{entries_written, last_ids, with_written_name, with_last_id, with_last_ids, with_list, with_sent, prefix_of, AllBelow, IsSentEarly};
 ghost use Rattle.cs_index.specs.Sending.{bytes_in, with_bytes, IsSentOn};
 ghost use Rattle.cs_index.specs.SectionsInvariant.{first_of};
-ghost use Rattle.cs_index.specs.WrittenLists.{with_posting, IsWritten};
+ghost use Rattle.cs_index.specs.WrittenLists.{with_posting, AreFirstIds, IsWritten};
 
 use crate::encoded_run::EncodedRun;
 use crate::fault::BuildFault;
@@ -207,10 +207,7 @@ impl Sections {
         next: u32,
     ) -> Result<(), AllocError>
         requires first { self.old.lists ≡ [] }
-        requires below { trigram < closing_trigram }
-        requires stream { IsStream ids.now count next }
-        requires some { count ≢ 0 }
-        requires named { next ≤ length self.old.names }
+        requires ids { AreFirstIds (length self.old.names) trigram count next ids.now }
         ensures ok { OnOk result
             (self.new ≡ with_posting self.old (trigram, ids_in ids.now count)) }
         ensures err { OnErr result (self.new ≡ self.old) }
@@ -237,11 +234,8 @@ impl Sections {
         next: u32,
     ) -> Result<(), AllocError>
         requires later { self.old.lists ≢ [] }
-        requires below { trigram < closing_trigram }
         requires above { AllBelow self.old.lists trigram }
-        requires stream { IsStream ids.now count next }
-        requires some { count ≢ 0 }
-        requires named { next ≤ length self.old.names }
+        requires ids { AreFirstIds (length self.old.names) trigram count next ids.now }
         ensures ok { OnOk result
             (self.new ≡ with_posting self.old (trigram, ids_in ids.now count)) }
         ensures err { OnErr result (self.new ≡ self.old) }

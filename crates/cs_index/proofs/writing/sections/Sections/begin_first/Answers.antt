@@ -8,8 +8,7 @@ invariant_of-self c =
     let prefix = c.in_ok-write_prefix.ensures in
     let out = c.new-out.ensures ∙ ap (λ bs. let out : Outgoing = record { sent = []; unsent = bs } in out) prefix in
     (begun_first c.self.inside c.args.self.now c.append_both.new.self c.args.trigram c.args.count c.len-start.result
-    c.args.next c.args.ids.now c.self.view_is c.self.invariant c.requires.first
-    (record { below = c.requires.below; stream = c.requires.stream; some = c.requires.some; named = c.requires.named })
+    c.args.next c.args.ids.now c.self.view_is c.self.invariant c.requires.first c.requires.ids
     (c.in_ok-append_both.ensures.ok ∙ (λ i. with_bytes (out i) (take 3 (drop 1 (c.to_be_bytes.ensures i)) ++ c.args.ids.now)))
     (c.len-start.ensures.value ∙ ap (λ (o : Outgoing). length (bytes_in o)) out)).are_sections
 
@@ -18,7 +17,6 @@ returns-clause-ok c =
     let prefix = c.in_ok-write_prefix.ensures in
     let out = c.new-out.ensures ∙ ap (λ bs. let out : Outgoing = record { sent = []; unsent = bs } in out) prefix in
     (begun_first c.self.inside c.args.self.now c.append_both.new.self c.args.trigram c.args.count c.len-start.result
-    c.args.next c.args.ids.now c.self.view_is c.self.invariant c.requires.first
-    (record { below = c.requires.below; stream = c.requires.stream; some = c.requires.some; named = c.requires.named })
+    c.args.next c.args.ids.now c.self.view_is c.self.invariant c.requires.first c.requires.ids
     (c.in_ok-append_both.ensures.ok ∙ (λ i. with_bytes (out i) (take 3 (drop 1 (c.to_be_bytes.ensures i)) ++ c.args.ids.now)))
     (c.len-start.ensures.value ∙ ap (λ (o : Outgoing). length (bytes_in o)) out)).is

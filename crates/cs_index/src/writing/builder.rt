@@ -1,10 +1,8 @@
 // The index builder: postings are distributed to buckets, and the lists are written at the end.
 ghost use Rattle.std.specs.Prelude.{◌≡◌, ◌≢◌, ◌<◌, ◌≤◌, ◌^◌, ◌++◌, ◌⊎◌, ◌↔◌, [], true, false, length, map, string_bytes, Err, IfOk, IfErr, OnOk, OnErr};
-ghost use Rattle.cs_trigram.specs.Trigram.{set_of_numbers, closing_trigram};
+ghost use Rattle.cs_trigram.specs.Trigram.{set_of_numbers};
 ghost use Rattle.cs_trigram.specs.Scans.{AreDistinctTrigrams};
-ghost use Rattle.std.specs.List.{AllByRecursion};
 ghost use Rattle.cs_index.specs.Encoding.{encoding, encoding_of, names_of};
-ghost use Rattle.cs_trigram.specs.TrigramSets.{AreDistinct};
 ghost use Rattle.cs_index.specs.Indexable.{IsIndexable};
 ghost use Rattle.cs_index.specs.Built.{with_entry, are_paths, file_map, is_above, is_storable, IsBuilt, IsFull, IsOutOfOrder, max_names, path_set};
 
@@ -15,7 +13,7 @@ use crate::writing::sections::Sections;
 use crate::writing::storable_texts::{are_index_paths, is_text};
 use crate::writing::strings::{Strings, strings_of};
 use cs_output::{Output, Sent};
-use std::alloc::{AllocError, Global};
+use std::alloc::Global;
 use std::marker::Model;
 
 /// The maximum number of names.
@@ -155,10 +153,16 @@ impl Builder {
         if !self.names_are_below(name) {
             return Err(BuildFault::OutOfOrder);
         }
-        if self.len() >= limit {
+        let id = self.len();
+        if id >= limit {
             return Err(BuildFault::TooLarge);
         }
-        Ok(self.add_above(name, trigrams)?)
+        push_file(&mut self.buckets, trigrams, id)?;
+        if self.names.push(name).is_err() {
+            pop_file(&mut self.buckets, trigrams);
+            return Err(BuildFault::Memory);
+        }
+        Ok(id)
     }
 
     /// The number of names.
@@ -173,26 +177,5 @@ impl Builder {
         ensures { result ≡ is_above (names_of self.now.entries) name.now }
     {
         self.names.is_below(name)
-    }
-
-    /// Adds a valid name that is greater than the last one.
-    fn add_above(&mut self, name: &str, trigrams: &[u32]) -> Result<u32, AllocError>
-        requires distinct { AreDistinct trigrams.now }
-        requires below { AllByRecursion (λ g. g < closing_trigram) trigrams.now }
-        requires storable { is_storable name.now ≡ true }
-        requires above { is_above (names_of self.old.entries) name.now ≡ true }
-        requires bound { length self.old.entries < max_names }
-        ensures ok { OnOk result
-            (self.new ≡ with_entry self.old name.now (set_of_numbers trigrams.now)) }
-        ensures id { IfOk result (λ id. id ≡ length self.old.entries) }
-        ensures err { OnErr result (self.new ≡ self.old) }
-    {
-        let id = self.names.len() as u32;
-        push_file(&mut self.buckets, trigrams, id)?;
-        if self.names.push(name).is_err() {
-            pop_file(&mut self.buckets, trigrams);
-            return Err(AllocError);
-        }
-        Ok(id)
     }
 }

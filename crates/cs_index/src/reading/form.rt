@@ -71,7 +71,8 @@ fn number_of(
 ) -> Result<usize, AllocError>
     requires ascend { Ascends trigrams.now }
     requires form { IsForm (length trigrams.now) folding.old.nodes.items }
-    ensures grows { OnOk result (Grows (length trigrams.now) folding.old.nodes.items folding.new.nodes.items) }
+    ensures grows { OnOk result
+        (Grows (length trigrams.now) folding.old.nodes.items folding.new.nodes.items) }
     ensures exists { IfOk result (λ n. n < numbers (length trigrams.now) folding.new.nodes.items) }
     ensures number { IfOk result (IsNumberOf trigrams.now folding.new.nodes.items query.now) }
 {
@@ -95,7 +96,8 @@ fn joined_number(
 ) -> Result<usize, AllocError>
     requires ascend { Ascends trigrams.now }
     requires form { IsForm (length trigrams.now) folding.old.nodes.items }
-    ensures grows { OnOk result (Grows (length trigrams.now) folding.old.nodes.items folding.new.nodes.items) }
+    ensures grows { OnOk result
+        (Grows (length trigrams.now) folding.old.nodes.items folding.new.nodes.items) }
     ensures exists { IfOk result (λ n. n < numbers (length trigrams.now) folding.new.nodes.items) }
     ensures number { IfOk result (λ n. (set : ℕ → Bool) → IsWithin trigrams.now set →
         number_matches (map set trigrams.now) folding.new.nodes.items n

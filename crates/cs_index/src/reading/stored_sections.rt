@@ -2,9 +2,8 @@
 ghost use Rattle.std.specs.Prelude.{◌≡◌, ◌≤◌, ◌<◌, ◌^◌, ◌+◌, ◌*◌, ◌-◌, ◌∷◌, ◌++◌, [], ℕ, List, Some, length, IfOk, IfSome, IfNone, true, false};
 ghost use Rattle.cs_tree.specs.KeepsStore.{KeepsStore};
 ghost use Rattle.cs_tree.specs.Store.{part_of};
-ghost use Rattle.cs_index.specs.Opening.{is_list_index, is_section, texts_of};
+ghost use Rattle.cs_index.specs.Opening.{is_list_index, is_section};
 ghost use Rattle.cs_index.specs.SectionPieces.{AreNamesTested, ArePathsRead};
-ghost use Rattle.cs_index.specs.ValidSections.{has_starts};
 ghost use Rattle.cs_index.specs.StoredOpening.{AreAscendingOffsets};
 
 use crate::reading::bytes::{first_texts, is_closed, is_ending};
@@ -87,10 +86,9 @@ pub(crate) fn test_names<S: Store>(
         let Some(run) = first_texts(&window.piece) else {
             return Ok(None);
         };
-        let names = &window.piece[..run.len];
+        let numbers = read_numbers(alloc, store, starts, count, run.count)?;
         let start = window.start - starts.names;
-        let have = has_stored_offsets(alloc, store, starts, names, start, count, run.count)?;
-        have_offsets &= have;
+        have_offsets &= has_offsets(&numbers, &window.piece[..run.len], start, run.count);
         count += run.count;
         used = run.len;
     }
@@ -102,31 +100,6 @@ pub(crate) fn test_names<S: Store>(
         count,
         have_offsets,
     }))
-}
-
-/// Whether the name index has the offsets of `count` names after the first `done`. The first of them begins at `start`.
-fn has_stored_offsets<S: Store>(
-    alloc: Global,
-    store: &mut S,
-    starts: &SectionOffsets,
-    names: &[u8],
-    start: usize,
-    done: usize,
-    count: usize,
-) -> Result<bool, IoFault>
-    requires order { AreAscendingOffsets starts.now }
-    requires names { is_section [] names.now ≡ true }
-    requires count { count ≡ length (texts_of names.now) }
-    requires few { done + count < 2 ^ 33 }
-    requires fits { start + length names.now < 2 ^ 64 }
-    ensures offsets { (bytes : List ℕ) → S.model store.old ≡ Some bytes →
-        IfOk result (λ has. has ≡ has_starts (part_of
-        (part_of bytes starts.now.name_index (starts.now.list_index - starts.now.name_index)) (4 * done)
-        (4 * (count + 1))) 0 start (texts_of names.now)) }
-    ensures store { KeepsStore S.model S.size S.failed store.old store.new result }
-{
-    let numbers = read_numbers(alloc, store, starts, done, count)?;
-    Ok(has_offsets(&numbers, names, start, count))
 }
 
 /// The offsets of `count` names after the first `done`, and one more number, as far as the name index has them.

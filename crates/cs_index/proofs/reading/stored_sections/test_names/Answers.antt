@@ -47,20 +47,20 @@ returns-in_default-clause-names g c bytes m within =
     names_not _ _ (left_from bytes c.pieces.window c.pieces.used) _ _ _ (i.before bytes m)
     (subst IsNoSection (ap (λ p. p ++ more) c.deref.ensures.value ∙ sym begins) (c.in_default.ensures.none more))
 
-pub has_stored_offsets-requires-clause-names : goal.has_stored_offsets-requires-clause-names
-has_stored_offsets-requires-clause-names g c =
+pub has_offsets-have_offsets-requires-clause-names : goal.has_offsets-have_offsets-requires-clause-names
+has_offsets-have_offsets-requires-clause-names g c =
     let piece : List ℕ = c.read_on.new.self.piece.items in
     let run = c.in-Some.run' in
     let is : IsTextRun piece run = subst (λ (p : List ℕ). IsTextRun p run) c.deref.ensures.value c.in-Some.ensures.run in
-    ap (λ p. is_section [] (take run.len p)) c.deref-in-pieces.ensures.value ∙ run_valid piece run is
+    ap (λ p. is_section [] (take run.len p)) c.deref-in-pieces-2.ensures.value ∙ run_valid piece run is
 
-pub has_stored_offsets-requires-clause-count : goal.has_stored_offsets-requires-clause-count
-has_stored_offsets-requires-clause-count g c =
+pub has_offsets-have_offsets-requires-clause-count : goal.has_offsets-have_offsets-requires-clause-count
+has_offsets-have_offsets-requires-clause-count g c =
     let piece : List ℕ = c.read_on.new.self.piece.items in
     let run = c.in-Some.run' in
     let is : IsTextRun piece run = subst (λ (p : List ℕ). IsTextRun p run) c.deref.ensures.value c.in-Some.ensures.run in
     sym is.count ∙ ap (λ (ts : List (List ℕ)). length ts)
-    (sym (ap (λ p. texts_of (take run.len p)) c.deref-in-pieces.ensures.value ∙ run_texts piece run is))
+    (sym (ap (λ p. texts_of (take run.len p)) c.deref-in-pieces-2.ensures.value ∙ run_texts piece run is))
 
 pub pieces-preserved : goal.pieces-preserved
 pieces-preserved g c =
@@ -92,10 +92,12 @@ pieces-preserved g c =
           let strings = window_run bytes old new c.pieces.used run begin c.read_on.ensures.stop c.read_on.ensures.window
           (c.in_ok-more.ensures.piece bytes (i.keeps ∙ m)) is in
           let numbers : List ℕ = part_of index (4 * c.pieces.count) (4 * (length is.texts + 1)) in
-          let have : c.in_ok-have.have ≡ has_starts numbers 0 offset is.texts =
-          c.in_ok-have.ensures.offsets bytes (c.read_on.ensures.store.0 ∙ i.keeps ∙ m)
-          ∙ (λ j. has_starts (part_of index (4 * c.pieces.count) (4 * (sym is.count j + 1))) 0 (same j)
-          ((ap (λ p. texts_of (take run.len p)) c.deref-in-pieces.ensures.value ∙ run_texts piece run is) j)) in
+          let read : c.deref-in-pieces.result.now ≡ numbers =
+          c.deref-in-pieces.ensures.value ∙ c.in_ok-numbers.ensures.numbers bytes (c.read_on.ensures.store.0 ∙ i.keeps ∙ m)
+          ∙ ap (λ n. part_of index (4 * c.pieces.count) (4 * (n + 1))) (sym is.count) in
+          let have : c.has_offsets-have_offsets.result ≡ has_starts numbers 0 offset is.texts =
+          c.has_offsets-have_offsets.ensures ∙ (λ j. has_starts (read j) 0 (same j)
+          ((ap (λ p. texts_of (take run.len p)) c.deref-in-pieces-2.ensures.value ∙ run_texts piece run is) j)) in
           subst (AreNamesBefore section index rest (c.pieces.count + run.count) (new.start + run.len - s.names))
           (ap (λ b. c.pieces.have_offsets && b) (sym have))
           (names_more section index (left_from bytes old c.pieces.used) rest numbers
@@ -107,9 +109,9 @@ pieces-preserved g c =
           window_last bytes new run.len c.read_on.ensures.window is.within
           (c.in_ok-more.ensures.end bytes (i.keeps ∙ m) (let stop = i.stop in let a = order.cd in let b = order.de in
           let d = order.ea in omega (arith, stop, within, a, b, d)) e);
-      keeps = c.has_stored_offsets.ensures.store.0 ∙ c.read_on.ensures.store.0 ∙ i.keeps;
-      size = c.has_stored_offsets.ensures.store.1 ∙ c.read_on.ensures.store.1 ∙ i.size;
-      failed = c.in_ok-have.ensures.store.2 ∙ c.in_ok-more.ensures.store.2 ∙ i.failed;
+      keeps = c.read_numbers.ensures.store.0 ∙ c.read_on.ensures.store.0 ∙ i.keeps;
+      size = c.read_numbers.ensures.store.1 ∙ c.read_on.ensures.store.1 ∙ i.size;
+      failed = c.in_ok-numbers.ensures.store.2 ∙ c.in_ok-more.ensures.store.2 ∙ i.failed;
     }
 
 pub returns-clause-names : goal.returns-clause-names

@@ -1,8 +1,12 @@
 -- What jobs print.
-use Rattle.std.proofs.Common.{◌≡◌, ◌≢◌, ◌⊎◌, ℕ, false, cond, List, [], ◌∷◌, ◌++◌, length, refl, sym, ap, subst, ◌∙◌, inl, inr, arith, append_assoc, append-nil, Option, Some, None, Result, Ok, Err, codes, IfErr, string_bytes, option_map}
-use Rattle.cs_cindex.proofs.Common.{Paths, option_or, true≢false, ne_eqb, eq-eqb, least, count_if, Snapshot, Grows, SinkModel, OpensAs, StoredParts, Parts, IndexFault, IndexJob, Done, Refused, CindexFault, given_paths, given_texts, TakesPrefix, PrintsLines, PrintsLinesPrefix, IsIndexingFault, JobKind, lists, clears, walks, AnswersFor, base, early_fault_of, early_walk_fault, base_fault, list_fault, opening_fault, EarlyOr, IsOutputFault, AreCleanFault, AreCleaned, starts, opening_paths, base_paths, paths_of_job, TooLarge, BadPath, Write, Memory, JobTree, Output, index_lines, path_lines, paths_lines, AreTooMany, IsMidway, WalkPrints, WalkPrintsPrefix, WalkPrintsSome, JobPrintsBy, is_failed_write, prefix_left, prefix_right, Grows-same, none-some}
+use Rattle.std.proofs.Common.{◌≡◌, ◌≢◌, ◌⊎◌, ℕ, Bool, true, false, cond, not, List, [], ◌∷◌, ◌++◌, length, refl, sym, ap, subst, ◌∙◌, inl, inr, arith, append_assoc, append-nil, Option, Some, None, Result, Ok, Err, codes, IfErr, string_bytes, option_map}
+use Rattle.cs_cindex.proofs.Common.{Paths, option_or, true≢false, ne_eqb, eq-eqb, least, count_if, Snapshot, Grows, SinkModel, OpensAs, StoredParts, Parts, IndexFault, IndexJob, Done, Refused, CindexFault, given_paths, given_texts, TakesPrefix, PrintsLines, PrintsLinesPrefix, IsIndexingFault, JobKind, lists, clears, walks, AnswersFor, base, early_fault_of, early_walk_fault, base_fault, list_fault, opening_fault, EarlyOr, IsOutputFault, AreCleanFault, AreCleaned, starts, opening_paths, base_paths, paths_of_job, TooLarge, BadPath, Write, Memory, JobTree, Output, index_lines, path_lines, paths_lines, AreTooMany, IsMidway, WalkPrints, WalkPrintsPrefix, WalkPrintsSome, JobPrintsBy, is_failed_write, prefix_left, prefix_right, Grows-same, none-some, NoIndex, BadIndex, Unsorted, unfit_parts_fault, IsWalkFault, first_bad, has_no_path, list_all, is_normalized, are_distinct, cases_Bool, eqb-true, length-map}
 use Rattle.cs_tree.specs.PathSet as set
 use Rattle.cs_index.specs.Opening.{opening}
+use Rattle.cs_index.specs.declared.fault.IndexFault.TheVariants.{BadPaths}
+use Rattle.cs_index.specs.declared.fault.IndexFault.TheVariants as index
+use Rattle.cs_args.specs.Faults.{index_refusal}
+use Rattle.std.proofs.lemmas.List.{nil_from_length}
 use Rattle.cs_cindex.proofs.StoredIndexLemmas.{stands_open}
 use Rattle.cs_cindex.proofs.WalkedPathLemmas.{walk_as_set, count_texts}
 use Rattle.cs_cindex.proofs.DiagnosticLemmas.{Prefix-none}
@@ -40,6 +44,50 @@ unclean_printed job snapshot old fault n err w h = by_early (early_walk_fault jo
         WalkPrintsSome early fault job (record { snapshot = snapshot; failed = n; failed_then = n }) old err err
     by_early None midway = nothing_printed None fault job snapshot old n err w (midway refl)
     by_early (Some early) midway = (Grows-same err.model, refl)
+
+-- such a job does not want an index
+tests_there : (normalized distinct : Bool) → cond (not normalized) (Some (BadIndex BadPaths))
+    (cond (not distinct) (Some Unsorted) None) ≡ Some NoIndex → ⊥
+tests_there true true e = cc
+tests_there true false e = cc
+tests_there false distinct e = cc
+
+refusal_there : (fault : IndexFault) → index_refusal fault ≡ NoIndex → ⊥
+refusal_there index.Memory e = cc
+refusal_there _ e = cc
+
+base_there : (o : Result Parts IndexFault) → opening_fault unfit_parts_fault o ≡ Some NoIndex → ⊥
+base_there (Ok parts) e = tests_there (list_all is_normalized parts.paths) (are_distinct parts.names) e
+base_there (Err fault) e = refusal_there fault (some_fault e)
+  where
+    some_fault : {a b : CindexFault} → Some a ≡ Some b → a ≡ b
+    some_fault e = cc
+
+index_there : (job : IndexJob) (old : Option (List ℕ)) → given_texts job ≢ [] → (bad : Option ℕ) →
+    option_or (option_map (λ path_index. BadPath path_index) bad) (base_fault job old) ≡ Some NoIndex → ⊥
+index_there job old some (Some path_index) e = cc
+index_there job None some None e =
+    elim (cases_Bool (has_no_path job)) [
+      | inl none ↦ some (nil_from_length (given_texts job) (length-map job.paths.items string_bytes
+          ∙ eqb-true (length job.paths.items) 0 none))
+      | inr more ↦ none-some NoIndex (sym (ap (λ b. cond b (Some NoIndex) None) more) ∙ e)
+    ]
+index_there job (Some bytes) some None e = base_there (opening bytes) e
+
+pub unclean_answers : (job : IndexJob) (snapshot : Option Snapshot) (old : Option (List ℕ)) (fault : CindexFault) →
+    AreCleanFault (string_bytes job.cwd) (given_texts job) fault →
+    EarlyOr (early_walk_fault job old) (IsWalkFault job snapshot old fault) fault
+unclean_answers job snapshot old (BadPath path_index) h =
+    subst (λ bad. EarlyOr (option_or (option_map (λ at. BadPath at) bad) (base_fault job old))
+    (IsWalkFault job snapshot old (BadPath path_index)) (BadPath path_index)) (sym h) (inl refl)
+unclean_answers job snapshot old Memory h =
+    by_early (early_walk_fault job old) (index_there job old h (first_bad (string_bytes job.cwd) (given_texts job)))
+  where
+    by_early : (early : Option CindexFault) → (early ≡ Some NoIndex → ⊥) → EarlyOr early (IsWalkFault job snapshot old Memory) Memory
+    by_early None there = tt
+    by_early (Some NoIndex) there = absurd (there refl)
+    by_early (Some _) there = inr refl
+unclean_answers job snapshot old _ h = absurd h
 
 -- ---- the walked paths
 

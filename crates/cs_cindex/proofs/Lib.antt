@@ -6,6 +6,7 @@ mod WalkIndexLemmas
 mod WalkNameLemmas
 mod WalkedPathLemmas
 mod WalkOutputLemmas
+mod WalkAnswerLemmas
 mod StoredIndexLemmas
 mod JobOutputLemmas
 mod JobPathLemmas

@@ -1,5 +1,5 @@
 -- Bounds on the bytes that are read, over a sequence of calls.
-use Rattle.std.proofs.Common.{◌≡◌, ◌∙◌, ℕ, List, ap, subst, Option, Some, None, Ok, arith}
+use Rattle.std.proofs.Common.{◌≡◌, ◌≤◌, ◌+◌, ◌∙◌, ℕ, List, length, refl, ap, subst, Option, Some, None, Ok, arith}
 use Rattle.std.proofs.lemmas.Option.{none-some, same_Some}
 use Rattle.std.specs.Prelude.{IsSome, option_map}
 use Rattle.cs_tree.specs.ConsumesAtMost.{ConsumesAtMost}
@@ -10,6 +10,10 @@ use Rattle.cs_tree.specs.StreamModels.{SourceModel}
 use Rattle.cs_tree.specs.TreeReaders.{HasRead, open_model}
 use Rattle.cs_tree.specs.Trees.{OpensFile}
 use Rattle.cs_tree.proofs.ReadCountLemmas.{reads_open}
+use Rattle.cs_trigram.specs.Text.{limits}
+use Rattle.cs_cindex.proofs.Common.{longest_path, RequestsWithin, reads_nothing, reads_on, requests_none, requests_on, requests_one}
+use Rattle.cs_cindex.specs.KeepsTree.{KeepsTree}
+use Rattle.cs_cindex.specs.ReadsFiles.{ReadsFile, ReadsFiles}
 
 pub bytes_none : (limit : ℕ) (a : Option ReadCounts) → BytesWithin limit a a
 bytes_none limit None = tt
@@ -33,6 +37,39 @@ pub reads_bytes : (limit : ℕ) (a b : Option ReadCounts) → ReadsWithin limit 
 reads_bytes limit None b reads = tt
 reads_bytes limit (Some a) None reads = absurd reads
 reads_bytes limit (Some a) (Some b) reads = reads.0
+
+-- ---- what a tree keeps
+
+module _ {T : Type 0} (snapshot : T → Option Snapshot) (longest : T → Option ℕ) (counts : T → Option ReadCounts) where
+  pub tree_kept : (a : T) → KeepsTree snapshot longest counts a a
+  tree_kept a = (requests_none longest_path (longest a), bytes_none (limits.bytes + 1) (counts a), refl)
+
+  -- a walk, and then files
+  pub tree_walked : (a b : T) → RequestsWithin longest_path (longest a) (longest b) → ReadsNothing (counts a) (counts b) →
+      snapshot b ≡ snapshot a → KeepsTree snapshot longest counts a b
+  tree_walked a b requested walked kept = (requested, walked_bytes (limits.bytes + 1) (counts a) (counts b) walked, kept)
+
+  pub tree_read : (a b c : T) → KeepsTree snapshot longest counts a b → ReadsFiles snapshot longest counts b c →
+      KeepsTree snapshot longest counts a c
+  tree_read a b c first next = (
+    requests_on longest_path (longest a) (longest b) (longest c) first.0 next.0,
+    bytes_on (limits.bytes + 1) (counts a) (counts b) (counts c) first.1
+        (reads_bytes (limits.bytes + 1) (counts b) (counts c) next.1),
+    next.2 ∙ first.2,
+  )
+
+  -- one more file
+  pub files_read : (path : List ℕ) (a b c : T) → length path ≤ longest_path → ReadsFiles snapshot longest counts a b →
+      ReadsFile snapshot longest counts path b c → ReadsFiles snapshot longest counts a c
+  files_read path a b c short first next = (
+    requests_on longest_path (longest a) (longest b) (longest c) first.0
+        (requests_one longest_path (longest b) (longest c) path short next.0),
+    reads_on (limits.bytes + 1) (counts a) (counts b) (counts c) first.1 next.1,
+    next.2 ∙ first.2,
+  )
+
+  pub files_unread : (a : T) → ReadsFiles snapshot longest counts a a
+  files_unread a = (requests_none longest_path (longest a), reads_nothing (limits.bytes + 1) (counts a), refl)
 
 -- The file at the path is opened and read by a reader of the tree. The tree is `was` before, `now` when the file is
 -- open, which is the reader's at the `start`, and `after` the reads.

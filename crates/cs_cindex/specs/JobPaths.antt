@@ -2,6 +2,9 @@
 use Rattle.std.specs.Prelude.{◌≡◌, ◌≢◌, ℕ, true, List, [], ◌∷◌, map, Some, None, is_some, string_bytes}
 use Rattle.cs_tree.specs.Clean.{clean_path}
 use Rattle.cs_tree.specs.Cleaning.{clean_fault}
+use Rattle.cs_tree.specs.Cover.{least}
+use Rattle.cs_tree.specs.PathSet as set
+use Rattle.cs_tree.specs.PathSet.{Paths}
 use Rattle.cs_args.specs.declared.jobs.IndexJob.{IndexJob}
 use Rattle.cs_args.specs.declared.fault.CindexFault.{CindexFault}
 use Rattle.cs_args.specs.declared.fault.CindexFault.TheVariants.{BadPath, Memory}
@@ -31,3 +34,7 @@ pub record AreCleaned (job : IndexJob) (given : List (List ℕ)) : Type 0 where
 abbrev pub starts : List (List ℕ) → List (List ℕ) → List (List ℕ)
 starts [] recorded = recorded
 starts (path ∷ given) recorded = path ∷ given
+
+-- the paths that a job walks
+abbrev pub walk_starts : List (List ℕ) → List (List ℕ) → Paths
+walk_starts given recorded = least (set.from_list (starts given recorded))

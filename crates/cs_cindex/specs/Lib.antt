@@ -11,9 +11,19 @@ pub mod Refusals
 pub mod Output
 pub mod Steps
 pub mod OldIndex
+pub mod KeepsTree
+pub mod KeepsOldIndex
+pub mod Sends
+pub mod RunsJob
 -- Definitions that private contracts cite.
 pub mod Verdicts
 pub mod Files
 pub mod JobPaths
 pub mod Merges
 pub mod Outcomes
+pub mod Effects
+pub mod IndexedFiles
+pub mod WalkAnswers
+pub mod Listed
+pub mod BaseReads
+pub mod ReadsFiles

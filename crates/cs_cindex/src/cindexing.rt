@@ -1,13 +1,9 @@
 // Lists of jobs.
-ghost use Rattle.std.specs.Prelude.{◌+◌, ◌≡◌, map, length, option_map, vec_items, All, zip};
-ghost use Rattle.std.specs.List.{AllZip};
-ghost use Rattle.cs_tree.specs.Clean.{longest_path};
-ghost use Rattle.cs_tree.specs.Walks.{RequestsWithin};
-ghost use Rattle.cs_trigram.specs.Text.{limits};
+ghost use Rattle.std.specs.Prelude.{◌≡◌, map, length, option_map, vec_items, All, zip};
 ghost use Rattle.cs_history.specs.Headline.{Indexes};
 ghost use Rattle.cs_history.specs.Jobs.{HasAbsoluteFolder};
+ghost use Rattle.cs_cindex.specs.KeepsTree.{KeepsTrees};
 ghost use Rattle.cs_cindex.specs.Steps.{RightAll, Steps, job_trees, state};
-ghost use Rattle.cs_tree.specs.Reads.{BytesWithin};
 
 use crate::job::do_job;
 use cs_args::{IndexJob, Reply};
@@ -37,11 +33,7 @@ pub fn cindex<T: Tree, O: Sink, E: Sink>(
     ensures steps { Steps (zip jobs.now (zip (job_trees T.snapshot T.failed trees.old trees.new) replies.new))
         (state O.model O.failed E.model E.failed (option_map vec_items old) out.old err.old)
         (state O.model O.failed E.model E.failed (option_map vec_items result) out.new err.new) }
-    ensures requested { AllZip (RequestsWithin longest_path)
-        (map T.longest_requested trees.old) (map T.longest_requested trees.new) }
-    ensures reads { AllZip (BytesWithin (limits.bytes + 1))
-        (map T.read_counts trees.old) (map T.read_counts trees.new) }
-    ensures keeps { map T.snapshot trees.new ≡ map T.snapshot trees.old }
+    ensures trees { KeepsTrees T.snapshot T.longest_requested T.read_counts trees.old trees.new }
 {
     let mut index = old;
     'jobs: for i in 0..jobs.len() {

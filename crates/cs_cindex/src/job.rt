@@ -1,15 +1,14 @@
 // One job.
-ghost use Rattle.std.specs.Prelude.{◌+◌, ◌≡◌, ℕ, List, Option, true, option_map, vec_items, IfOk, IfErr, option_copied};
-ghost use Rattle.cs_tree.specs.Clean.{longest_path};
-ghost use Rattle.cs_tree.specs.Walks.{RequestsWithin};
-ghost use Rattle.cs_storage.specs.FileAfter.{IsGiven};
-ghost use Rattle.cs_cindex.specs.OldIndex.{IsIndex, IsUnreadable, has_failed};
+ghost use Rattle.std.specs.Prelude.{ℕ, List, Option, option_map, vec_items, IfOk, option_copied};
+ghost use Rattle.cs_cindex.specs.KeepsOldIndex.{KeepsOldIndex};
+ghost use Rattle.cs_cindex.specs.KeepsTree.{KeepsTree};
+ghost use Rattle.cs_cindex.specs.OldIndex.{IsIndex};
 ghost use Rattle.cs_cindex.specs.Outcomes.{IsStepTo, IsWholeStepTo, RightAfter, reply_of};
 ghost use Rattle.cs_cindex.specs.Output.{job_tree};
-ghost use Rattle.cs_cindex.specs.Steps.{IsUnread, IsWholeStep, LeavesFlushed, outputs, state};
-ghost use Rattle.cs_trigram.specs.Text.{limits};
+ghost use Rattle.cs_cindex.specs.RunsJob.{RunsJob};
+ghost use Rattle.cs_cindex.specs.Sends.{SendsUpdate};
+ghost use Rattle.cs_cindex.specs.Steps.{IsWholeStep, LeavesFlushed, outputs, state};
 ghost use Rattle.cs_history.specs.Jobs.{HasAbsoluteFolder};
-ghost use Rattle.cs_tree.specs.Reads.{BytesWithin};
 
 use crate::listing::list_old;
 use crate::walked::walked_index;
@@ -33,11 +32,7 @@ pub(crate) fn do_job<T: Tree, O: Sink, E: Sink>(
     ensures step { IsWholeStep job.now (job_tree T.snapshot T.failed tree.old tree.new) result.1
         (state O.model O.failed E.model E.failed (option_map vec_items old) out.old err.old)
         (state O.model O.failed E.model E.failed (option_map vec_items result.0) out.new err.new) }
-    ensures requested { RequestsWithin longest_path (T.longest_requested tree.old)
-        (T.longest_requested tree.new) }
-    ensures reads { BytesWithin (limits.bytes + 1)
-        (T.read_counts tree.old) (T.read_counts tree.new) }
-    ensures tree_keeps { T.snapshot tree.new ≡ T.snapshot tree.old }
+    ensures tree { KeepsTree T.snapshot T.longest_requested T.read_counts tree.old tree.new }
 {
     let mut store = stored(old.as_deref());
     let mut new = Vec::new(alloc);
@@ -82,29 +77,14 @@ pub fn cindex_stored<S: Store, T: Tree, W: Output, O: Sink, E: Sink>(
     requires { HasAbsoluteFolder job.now }
     ensures replies { (index : Option (List ℕ)) → IsIndex S.model old.old index →
         IfOk result (λ update. RightAfter (T.snapshot tree.old) index job.now (reply_of update)) }
-    ensures step { (index : Option (List ℕ)) → IsIndex S.model old.old index → IfOk result (λ update.
-        IsWholeStepTo job.now (job_tree T.snapshot T.failed tree.old tree.new) update
-        (state O.model O.failed E.model E.failed index out.old err.old)
-        (outputs O.model O.failed E.model E.failed out.new err.new)) }
+    ensures runs { RunsJob IsWholeStepTo job.now (job_tree T.snapshot T.failed tree.old tree.new)
+        (IsIndex S.model old.old) (outputs O.model O.failed E.model E.failed out.old err.old)
+        (outputs O.model O.failed E.model E.failed out.new err.new) result }
     ensures flushed { IfOk result (λ update. LeavesFlushed (reply_of update)
         (outputs O.model O.failed E.model E.failed out.new err.new)) }
-    ensures given { IfOk result (λ update. IfOk update
-        (λ update. IsGiven update (W.given new.old) (W.given new.new))) }
-    ensures keeps_new { W.Keeps new.old new.new }
-    ensures lists { job.now.list ≡ true →
-        IfOk result (λ update. IfOk update (λ kept. kept ≡ IndexUpdate.Keep)) }
-    ensures unread { IfErr result (λ _. IsUnread job.now (job_tree T.snapshot T.failed tree.old tree.new)
-        (IsIndex S.model old.old) (outputs O.model O.failed E.model E.failed out.old err.old)
-        (outputs O.model O.failed E.model E.failed out.new err.new)) }
-    ensures failure { IfErr result (λ fault. fault ≡ IoFault.Failed) }
-    ensures failed { IsUnreadable S.failed old.old old.new (has_failed result) }
-    ensures keeps { option_map S.model old.new ≡ option_map S.model old.old }
-    ensures size { option_map S.size old.new ≡ option_map S.size old.old }
-    ensures requested { RequestsWithin longest_path (T.longest_requested tree.old)
-        (T.longest_requested tree.new) }
-    ensures reads { BytesWithin (limits.bytes + 1)
-        (T.read_counts tree.old) (T.read_counts tree.new) }
-    ensures tree_keeps { T.snapshot tree.new ≡ T.snapshot tree.old }
+    ensures sends { SendsUpdate W.given W.Keeps new.old new.new result }
+    ensures store { KeepsOldIndex S.model S.size S.failed old.old old.new result }
+    ensures tree { KeepsTree T.snapshot T.longest_requested T.read_counts tree.old tree.new }
 {
     let update = match update_of(alloc, old, job, tree, new, out, err) {
         Ok(Ok(update)) => update,
@@ -132,27 +112,12 @@ fn update_of<S: Store, T: Tree, W: Output, O: Sink, E: Sink>(
     err: &mut E,
 ) -> Result<Result<IndexUpdate, CindexFault>, IoFault>
     requires { HasAbsoluteFolder job.now }
-    ensures step { (index : Option (List ℕ)) → IsIndex S.model old.old index → IfOk result (λ update.
-        IsStepTo job.now (job_tree T.snapshot T.failed tree.old tree.new) update
-        (state O.model O.failed E.model E.failed index out.old err.old)
-        (outputs O.model O.failed E.model E.failed out.new err.new)) }
-    ensures given { IfOk result (λ update. IfOk update
-        (λ update. IsGiven update (W.given new.old) (W.given new.new))) }
-    ensures keeps_new { W.Keeps new.old new.new }
-    ensures lists { job.now.list ≡ true →
-        IfOk result (λ update. IfOk update (λ kept. kept ≡ IndexUpdate.Keep)) }
-    ensures unread { IfErr result (λ _. IsUnread job.now (job_tree T.snapshot T.failed tree.old tree.new)
+    ensures runs { RunsJob IsStepTo job.now (job_tree T.snapshot T.failed tree.old tree.new)
         (IsIndex S.model old.old) (outputs O.model O.failed E.model E.failed out.old err.old)
-        (outputs O.model O.failed E.model E.failed out.new err.new)) }
-    ensures failure { IfErr result (λ fault. fault ≡ IoFault.Failed) }
-    ensures failed { IsUnreadable S.failed old.old old.new (has_failed result) }
-    ensures keeps { option_map S.model old.new ≡ option_map S.model old.old }
-    ensures size { option_map S.size old.new ≡ option_map S.size old.old }
-    ensures requested { RequestsWithin longest_path (T.longest_requested tree.old)
-        (T.longest_requested tree.new) }
-    ensures reads { BytesWithin (limits.bytes + 1)
-        (T.read_counts tree.old) (T.read_counts tree.new) }
-    ensures tree_keeps { T.snapshot tree.new ≡ T.snapshot tree.old }
+        (outputs O.model O.failed E.model E.failed out.new err.new) result }
+    ensures sends { SendsUpdate W.given W.Keeps new.old new.new result }
+    ensures store { KeepsOldIndex S.model S.size S.failed old.old old.new result }
+    ensures tree { KeepsTree T.snapshot T.longest_requested T.read_counts tree.old tree.new }
 {
     if job.list {
         return match list_old(alloc, old, out) {

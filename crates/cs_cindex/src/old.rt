@@ -1,16 +1,14 @@
 // The base index: the index that a job updates.
-ghost use Rattle.std.specs.Prelude.{◌≡◌, ℕ, List, Some, true, false, map, string_bytes, IfErr, IfOk, MatchResult, None};
+ghost use Rattle.std.specs.Prelude.{◌≡◌, ℕ, List, Some, false, map, string_bytes, IfErr, IfOk};
 ghost use Rattle.std.specs.List.{list_all};
-ghost use Rattle.cs_index.specs.Opening.{opening};
-ghost use Rattle.cs_index.specs.StoredTables.{OpensAsTables, TablesIn};
+ghost use Rattle.cs_index.specs.StoredTables.{OpensAsTables};
 ghost use Rattle.cs_merge.specs.SortedNames.{AreIndexNames};
-ghost use Rattle.cs_tree.specs.FailureCount.{count_after};
 ghost use Rattle.cs_tree.specs.Folders.{are_distinct};
 ghost use Rattle.cs_tree.specs.Cleaning.{is_normalized as is_normalized'};
-ghost use Rattle.cs_tree.specs.Transfers.{is_io_failure};
-ghost use Rattle.cs_cindex.specs.OldIndex.{IsFit, IsFitFor};
+ghost use Rattle.cs_tree.specs.KeepsStore.{KeepsStore};
+ghost use Rattle.cs_cindex.specs.BaseReads.{OnlyReads, OpensBase};
+ghost use Rattle.cs_cindex.specs.OldIndex.{IsFit};
 ghost use Rattle.cs_cindex.specs.Output.{is_failed_write};
-ghost use Rattle.cs_cindex.specs.Refusals.{opening_fault, unfit_parts_fault, EarlyOr, IsOutputFault};
 
 use cs_args::CindexFault;
 use cs_index::{IndexFault, NameTable, StoredTables, Texts};
@@ -22,15 +20,10 @@ pub(crate) fn open_old<S: Store>(
     alloc: Global,
     store: &mut S,
 ) -> Result<Result<StoredTables, CindexFault>, IoFault>
-    ensures opened { (bytes : List ℕ) → S.model store.old ≡ Some bytes →
-        IfOk result (λ opened. MatchResult opened (IsFitFor bytes)
-        (λ fault. EarlyOr (opening_fault unfit_parts_fault (opening bytes)) (IsOutputFault fault) fault)) }
+    ensures opened { (bytes : List ℕ) → S.model store.old ≡ Some bytes → IfOk result (OpensBase bytes) }
     ensures fit { IfOk result (λ opened. IfOk opened IsFit) }
-    ensures writes { IfOk result (λ opened. IfErr opened (λ fault. is_failed_write fault ≡ false)) }
-    ensures failure { IfErr result (λ fault. fault ≡ IoFault.Failed) }
-    ensures keeps { S.model store.new ≡ S.model store.old }
-    ensures size { S.size store.new ≡ S.size store.old }
-    ensures failed { S.failed store.new ≡ count_after is_io_failure result (S.failed store.old) }
+    ensures reads { OnlyReads result }
+    ensures store { KeepsStore S.model S.size S.failed store.old store.new result }
 {
     match StoredTables::open(alloc, store) {
         Ok(opened) => Ok(tested(alloc, opened)),
@@ -45,8 +38,7 @@ fn tested(
     alloc: Global,
     opened: Result<StoredTables, IndexFault>,
 ) -> Result<StoredTables, CindexFault>
-    ensures opened { (bytes : List ℕ) → OpensAsTables bytes opened → MatchResult result (IsFitFor bytes)
-        (λ fault. EarlyOr (opening_fault unfit_parts_fault (opening bytes)) (IsOutputFault fault) fault) }
+    ensures opened { (bytes : List ℕ) → OpensAsTables bytes opened → OpensBase bytes result }
     ensures fit { IfOk result IsFit }
     ensures writes { IfErr result (λ fault. is_failed_write fault ≡ false) }
 {

@@ -1,11 +1,8 @@
 // Diagnostics of paths and files that are skipped.
-ghost use Rattle.std.specs.Prelude.{◌≡◌, [], ◌∷◌, map, IfErr};
-ghost use Rattle.cs_tree.specs.FailureCount.{count_after};
+ghost use Rattle.std.specs.Prelude.{◌≡◌, [], ◌∷◌, map};
 ghost use Rattle.cs_tree.specs.Walks.{fault_entry};
-ghost use Rattle.cs_cindex.specs.Output.{is_failed_write};
-ghost use Rattle.cs_cindex.specs.Diagnostics.{fault_entry_line, faulted, skipped, walk_fault as walk_fault'};
-ghost use Rattle.cs_cindex.specs.Refusals.{IsOutputFault};
-ghost use Rattle.cs_cindex.specs.Verdicts.{PrintsAll};
+ghost use Rattle.cs_cindex.specs.Diagnostics.{fault_entry_line, faulted, skipped, text_of, walk_fault as walk_fault'};
+ghost use Rattle.cs_cindex.specs.Effects.{WritesOut};
 
 use cs_args::{CindexFault, FileFault, Tool, fault_line, skip_line};
 use cs_tree::{Sink, WalkFault, write_all};
@@ -18,10 +15,8 @@ pub(crate) fn print_walk_faults<E: Sink>(
     faults: &[(String, WalkFault)],
     err: &mut E,
 ) -> Result<(), CindexFault>
-    ensures prints { PrintsAll (map fault_entry_line (map fault_entry faults.now))
-        (E.model err.old) (E.model err.new) result }
-    ensures writes { E.failed err.new ≡ count_after is_failed_write result (E.failed err.old) }
-    ensures only { IfErr result IsOutputFault }
+    ensures prints { WritesOut E.model E.failed err.old err.new
+        (text_of (map fault_entry_line (map fault_entry faults.now))) result }
 {
     for (path, fault) in faults {
         print_fault(alloc, path.as_str(), walk_fault(*fault), err)?;
@@ -36,9 +31,8 @@ pub(crate) fn print_fault<E: Sink>(
     fault: FileFault,
     err: &mut E,
 ) -> Result<(), CindexFault>
-    ensures prints { PrintsAll (faulted name.now fault ∷ []) (E.model err.old) (E.model err.new) result }
-    ensures writes { E.failed err.new ≡ count_after is_failed_write result (E.failed err.old) }
-    ensures only { IfErr result IsOutputFault }
+    ensures prints { WritesOut E.model E.failed err.old err.new
+        (text_of (faulted name.now fault ∷ [])) result }
 {
     let line = fault_line(alloc, Tool::Cindex, name, fault)?;
     write_all(err, line.as_bytes())?;
@@ -52,9 +46,8 @@ pub(crate) fn print_skipped<E: Sink>(
     reason: Reason,
     err: &mut E,
 ) -> Result<(), CindexFault>
-    ensures prints { PrintsAll (skipped name.now reason ∷ []) (E.model err.old) (E.model err.new) result }
-    ensures writes { E.failed err.new ≡ count_after is_failed_write result (E.failed err.old) }
-    ensures only { IfErr result IsOutputFault }
+    ensures prints { WritesOut E.model E.failed err.old err.new
+        (text_of (skipped name.now reason ∷ [])) result }
 {
     let line = skip_line(alloc, name, reason)?;
     write_all(err, line.as_bytes())?;

@@ -1,8 +1,6 @@
 // Reads a file that a walk finds.
-ghost use Rattle.std.specs.Prelude.{◌+◌, ◌≡◌, IfOk};
-ghost use Rattle.cs_tree.specs.Reads.{ReadsWithin};
-ghost use Rattle.cs_tree.specs.Trees.{RequestsPath};
-ghost use Rattle.cs_trigram.specs.Text.{limits};
+ghost use Rattle.std.specs.Prelude.{◌≡◌, IfOk};
+ghost use Rattle.cs_cindex.specs.ReadsFiles.{ReadsFile};
 ghost use Rattle.cs_cindex.specs.Verdicts.{IsVerdictIn, HasTrigramsOnce, count_read};
 
 use cs_args::FileFault;
@@ -22,10 +20,7 @@ pub(crate) fn read_file<'a, T: Tree>(
     ensures model { IfOk result (λ verdict. IsVerdictIn (T.snapshot tree.old) name.now verdict) }
     ensures once { IfOk result HasTrigramsOnce }
     ensures counted { T.failed tree.new ≡ count_read result (T.failed tree.old) }
-    ensures requested { RequestsPath (T.longest_requested tree.old) (T.longest_requested tree.new) name.now }
-    ensures reads { ReadsWithin (limits.bytes + 1)
-        (T.read_counts tree.old) (T.read_counts tree.new) }
-    ensures keeps { T.snapshot tree.new ≡ T.snapshot tree.old }
+    ensures tree { ReadsFile T.snapshot T.longest_requested T.read_counts name.now tree.old tree.new }
 {
     if let Err(fault) = tree.open(name) {
         let fault = FileFault::of_tree(fault)?;

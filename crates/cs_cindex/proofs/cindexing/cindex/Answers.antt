@@ -31,7 +31,7 @@ jobs-preserved g c =
     c.index-trees-i.result tree in_trees in
     record {
       keeps = map-set_same snapshot c.jobs.trees c.jobs.i c.do_job-next.new.tree c.index-trees-i.result
-          c.do_job-next.ensures.tree_keeps ∙ inv.keeps;
+          c.do_job-next.ensures.tree.2 ∙ inv.keeps;
       rest = λ k d h. let other : k ≢ c.jobs.i = omega arith in rw get_or-set_other (inv.rest k d (omega arith));
       index = indexes_more snapshot c.args.jobs.now c.args.trees.now c.jobs.replies c.jobs.i c.index-jobs-i.result tree
           c.do_job-next.result.1 _ _ _
@@ -43,10 +43,10 @@ jobs-preserved g c =
           c.index-jobs-i.is again inv.steps c.do_job-next.ensures.step;
       requested = all_more g.T.Tree.longest_requested (RequestsWithin longest_path) (requests_on longest_path)
           c.args.trees.now c.jobs.trees c.jobs.i c.index-trees-i.result c.do_job-next.new.tree
-          (omega (arith, in_trees, c.jobs.auto.trees)) inv.requested c.do_job-next.ensures.requested;
+          (omega (arith, in_trees, c.jobs.auto.trees)) inv.requested c.do_job-next.ensures.tree.0;
       reads = all_more g.T.Tree.read_counts (BytesWithin (limits.bytes + 1)) (bytes_on (limits.bytes + 1))
           c.args.trees.now c.jobs.trees c.jobs.i c.index-trees-i.result c.do_job-next.new.tree
-          (omega (arith, in_trees, c.jobs.auto.trees)) inv.reads c.do_job-next.ensures.reads;
+          (omega (arith, in_trees, c.jobs.auto.trees)) inv.reads c.do_job-next.ensures.tree.1;
       right = right_all_more snapshot c.args.jobs.now c.args.trees.now c.jobs.replies c.jobs.i c.index-jobs-i.result
           tree c.do_job-next.result.1 _ _
           c.requires.trees (c.jobs.auto.replies ∙ c.requires.replies) within c.index-jobs-i.is again inv.index inv.right

@@ -12,25 +12,33 @@ stepped job tree old later r s e step = subst (λ r. IsStepTo job tree r old lat
 
 pub returns-in-Ok-Err-clause-replies : goal.returns-in-Ok-Err-clause-replies
 returns-in-Ok-Err-clause-replies g c = λ index is.
-    let step = stepped _ _ _ _ _ _ c.in-Ok-Err.field-0-is (c.in-Ok-Err.ensures.step index is) in
+    let step = stepped _ _ _ _ _ _ c.in-Ok-Err.field-0-is (c.in-Ok-Err.ensures.runs.0 index is) in
     right_after c.args.job.now (g.T.Tree.snapshot c.args.tree.now) index index (Refused c.in-Ok-Err.fault) step.cause step.walked
 
-pub returns-in-Err-flush-clause-step : goal.returns-in-Err-flush-clause-step
-returns-in-Err-flush-clause-step g c = λ index is.
-    let step = stepped _ _ _ _ _ _ c.in-Ok-Ok.field-0-is (c.in-Ok-Ok.ensures.step index is) in
-    out_unflushed _ _ _ _ _ _ step c.from.result _ c.from.ensures c.in-Err-flush.ensures.failed refl
-    c.in-Err-flush.ensures.bytes (Grows-same _)
+pub returns-in-Err-flush-clause-runs : goal.returns-in-Err-flush-clause-runs
+returns-in-Err-flush-clause-runs g c = (
+  (λ index is.
+      let step = stepped _ _ _ _ _ _ c.in-Ok-Ok.field-0-is (c.in-Ok-Ok.ensures.runs.0 index is) in
+      out_unflushed _ _ _ _ _ _ step c.from.result _ c.from.ensures c.in-Err-flush.ensures.failed refl
+      c.in-Err-flush.ensures.bytes (Grows-same _)),
+  tt,
+  (λ _. tt),
+)
 
-pub returns-in-Err-flush-2-clause-step : goal.returns-in-Err-flush-2-clause-step
-returns-in-Err-flush-2-clause-step g c = λ index is.
-    let step = stepped _ _ _ _ _ _ c.in-Ok-Ok.field-0-is (c.in-Ok-Ok.ensures.step index is) in
-    err_unflushed _ _ _ _ _ _ step c.from-in-Err-flush-2.result _ c.from-in-Err-flush-2.ensures
-    c.in_default.ensures.failed c.in-Err-flush-2.ensures.failed c.in_default.ensures.bytes
-    c.in-Err-flush-2.ensures.bytes
+pub returns-in-Err-flush-2-clause-runs : goal.returns-in-Err-flush-2-clause-runs
+returns-in-Err-flush-2-clause-runs g c = (
+  (λ index is.
+      let step = stepped _ _ _ _ _ _ c.in-Ok-Ok.field-0-is (c.in-Ok-Ok.ensures.runs.0 index is) in
+      err_unflushed _ _ _ _ _ _ step c.from-in-Err-flush-2.result _ c.from-in-Err-flush-2.ensures
+      c.in_default.ensures.failed c.in-Err-flush-2.ensures.failed c.in_default.ensures.bytes
+      c.in-Err-flush-2.ensures.bytes),
+  tt,
+  (λ _. tt),
+)
 
 pub returns-clause-replies : goal.returns-clause-replies
 returns-clause-replies g c = λ index is.
-    let step = stepped _ _ _ _ _ _ c.in-Ok-Ok.field-0-is (c.in-Ok-Ok.ensures.step index is) in
+    let step = stepped _ _ _ _ _ _ c.in-Ok-Ok.field-0-is (c.in-Ok-Ok.ensures.runs.0 index is) in
     right_after c.args.job.now (g.T.Tree.snapshot c.args.tree.now) index (file_after c.in-Ok-Ok.update index) Done step.cause step.walked
 
 pub returns-clause-flushed : goal.returns-clause-flushed

@@ -4,15 +4,11 @@ use Rattle.cs_cindex.proofs.Common.{OpensAs, path_lines}
 use Rattle.cs_cindex.proofs.JobOutputLemmas.{stored_answers, stored_lines}
 use Rattle.cs_cindex.proofs.listing.print_opened.Goals as goal
 
-pub returns-clause-refusal : goal.returns-clause-refusal
-returns-clause-refusal g c = λ bytes opens.
-    stored_answers bytes c.in_ok-index.index (subst (OpensAs bytes) c.in_ok-index.was opens) c.print_paths.result
-    c.print_paths.ensures.refusal
-
-pub returns-clause-out : goal.returns-clause-out
-returns-clause-out g c = λ bytes opens.
+pub returns-clause-lists : goal.returns-clause-lists
+returns-clause-lists g c = λ bytes opens.
     let index = c.in_ok-index.index in
-    subst (λ (lines : List ℕ). WritesBytes lines (g.O.Sink.model c.args.out.now) (g.O.Sink.model c.print_paths.new.out)
-    c.print_paths.result)
-    (ap path_lines c.paths.ensures ∙ sym (stored_lines bytes index (subst (OpensAs bytes) c.in_ok-index.was opens)))
-    c.print_paths.ensures.out
+    let opened = subst (OpensAs bytes) c.in_ok-index.was opens in (
+      stored_answers bytes index opened c.print_paths.result c.print_paths.ensures.out.2,
+      subst (λ (lines : List ℕ). WritesBytes lines (g.O.Sink.model c.args.out.now) (g.O.Sink.model c.print_paths.new.out)
+          c.print_paths.result) (ap path_lines c.paths.ensures ∙ sym (stored_lines bytes index opened)) c.print_paths.ensures.out.0,
+    )

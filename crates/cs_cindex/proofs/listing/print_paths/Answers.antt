@@ -12,19 +12,31 @@ pub paths-preserved : goal.paths-preserved
 paths-preserved g c = record {
   done = c.paths.invariant.done ++ (c.in-Some.path.now ++ codes "\n");
   grows = Grows-chain _ _ _ c.paths.invariant.done (c.in-Some.path.now ++ codes "\n") c.paths.invariant.grows
-      c.in_ok-print_line.ensures.out;
+      c.in_ok-print_line.ensures.out.0;
   whole = lines_more c.paths.invariant.done c.in-Some.path.now (path_lines c.args.paths) c.paths.path-iterator
       c.next.new.self c.in-Some.ensures.steps c.paths.invariant.whole;
-  failures = c.in_ok-print_line.ensures.writes ∙ c.paths.invariant.failures;
+  failures = c.in_ok-print_line.ensures.out.1 ∙ c.paths.invariant.failures;
 }
 
-pub returns-in_err-print_line-clause-out : goal.returns-in_err-print_line-clause-out
-returns-in_err-print_line-clause-out g c =
+pub returns-in_err-print_line : goal.returns-in_err-print_line
+returns-in_err-print_line g c =
     let p = err_from_is_err_and c.from_residual.result c.from_residual.ensures.1 in
-    rw p.1 (lines_cut c.paths.invariant.done c.in-Some.path.now (path_lines c.args.paths) c.paths.path-iterator
-    c.next.new.self _ _ _ c.in-Some.ensures.steps c.paths.invariant.whole c.paths.invariant.grows
-    c.in_err-print_line.ensures.out)
+    record {
+      out = (
+        rw p.1 (lines_cut c.paths.invariant.done c.in-Some.path.now (path_lines c.args.paths) c.paths.path-iterator
+            c.next.new.self _ _ _ c.in-Some.ensures.steps c.paths.invariant.whole c.paths.invariant.grows
+            c.in_err-print_line.ensures.out.0),
+        search rules,
+        search rules,
+      );
+    }
 
-pub returns-clause-out : goal.returns-clause-out
-returns-clause-out g c = lines_end c.paths.invariant.done (path_lines c.args.paths) c.paths.path-iterator _ _
-    c.in-None.ensures.steps.0 c.paths.invariant.whole c.paths.invariant.grows
+pub returns : goal.returns
+returns g c = record {
+  out = (
+    lines_end c.paths.invariant.done (path_lines c.args.paths) c.paths.path-iterator _ _ c.in-None.ensures.steps.0
+        c.paths.invariant.whole c.paths.invariant.grows,
+    search rules,
+    search rules,
+  );
+}

@@ -1,6 +1,6 @@
-use Rattle.std.proofs.Common.{◌≡◌, ◌+◌, true, map, string_bytes, take, drop}
-use Rattle.cs_cindex.proofs.Common.{longest_path, RequestsWithin, ReadsWithin, AreWithinPathLimit, are_ascending, AreTextsIn, AreAbove, HaveNamesOf, PrintsFiles}
-use Rattle.cs_trigram.specs.Text.{limits}
+use Rattle.std.proofs.Common.{◌≡◌, true, map, string_bytes, take, drop}
+use Rattle.cs_cindex.proofs.Common.{AreWithinPathLimit, are_ascending, AreTextsIn, AreAbove, HaveNamesOf, PrintsFiles}
+use Rattle.cs_cindex.specs.ReadsFiles.{ReadsFiles}
 use Rattle.cs_cindex.proofs.indexer.Indexer.index_files.Given as goal
 
 abbrev pub invariant-loop-name : goal.invariant-loop-name
@@ -16,7 +16,5 @@ invariant-loop-name g l = record {
   log_skip : l.self.log_skip ≡ l.initial.self.log_skip;
   writes : g.E.Sink.failed l.err ≡ g.E.Sink.failed l.initial.err;
   path_limit : AreWithinPathLimit (map string_bytes (drop l.name-index l.names));
-  requested : RequestsWithin longest_path (g.T.Tree.longest_requested l.initial.tree) (g.T.Tree.longest_requested l.tree);
-  reads : ReadsWithin (limits.bytes + 1) (g.T.Tree.read_counts l.initial.tree) (g.T.Tree.read_counts l.tree);
-  keeps : g.T.Tree.snapshot l.tree ≡ g.T.Tree.snapshot l.initial.tree;
+  tree : ReadsFiles g.T.Tree.snapshot g.T.Tree.longest_requested g.T.Tree.read_counts l.initial.tree l.tree;
 }

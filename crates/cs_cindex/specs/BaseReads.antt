@@ -1,0 +1,29 @@
+-- What reading the base index answers.
+use Rattle.std.specs.Prelude.{◌≡◌, ℕ, false, List, IfErr, MatchResult, Result}
+use Rattle.cs_tree.specs.declared.fault.IoFault.{IoFault}
+use Rattle.cs_tree.specs.declared.fault.IoFault.TheVariants.{Failed}
+use Rattle.cs_index.specs.Opening.{opening}
+use Rattle.cs_index.specs.OpenedParts.{Parts}
+use Rattle.cs_index.specs.StoredTables.{TableParts}
+use Rattle.cs_index.specs.declared.fault.IndexFault.{IndexFault}
+use Rattle.cs_args.specs.declared.fault.CindexFault.{CindexFault}
+use Rattle.cs_output.specs.declared.sent.Sent.{Sent}
+use Rattle.cs_cindex.specs.Merges.{IsMergeRefusal, MergesShort}
+use Rattle.cs_cindex.specs.OldIndex.{IsFitFor}
+use Rattle.cs_cindex.specs.Output.{is_failed_write}
+use Rattle.cs_cindex.specs.Refusals.{EarlyOr, IsOutputFault, opening_fault, unfit_parts_fault}
+
+-- the tables of an index that can be a base, or why it cannot
+abbrev pub OpensBase : List ℕ → Result TableParts CindexFault → Type 0
+OpensBase bytes opened =
+    MatchResult opened (IsFitFor bytes)
+    (λ fault. EarlyOr (opening_fault unfit_parts_fault (opening bytes)) (IsOutputFault fault) fault)
+
+-- the merged index, which has fewer than 2^32 bytes, or why there is none
+abbrev pub AnswersMerge : Parts → Result Parts IndexFault → Result Sent CindexFault → Type 0
+AnswersMerge old newer result = MatchResult result (λ index. MergesShort old newer index.bytes) (IsMergeRefusal old newer)
+
+-- no error is a failed write, and a store that cannot be read has failed
+abbrev pub OnlyReads : {A : Type 0} → Result (Result A CindexFault) IoFault → Type 0
+OnlyReads result =
+    MatchResult result (λ answer. IfErr answer (λ fault. is_failed_write fault ≡ false)) (λ fault. fault ≡ Failed)

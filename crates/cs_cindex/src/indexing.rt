@@ -11,8 +11,20 @@ use crate::indexer::Indexer;
 use crate::printing::print_walk_faults;
 use cs_args::CindexFault;
 use cs_output::{Output, Sent};
-use cs_tree::{Sink, Tree, walk};
+use cs_tree::{Sink, Tree, Walked, walk};
 use std::alloc::Global;
+
+/// What a walk found.
+struct Found {
+    walked: Walked,
+}
+
+// A body that owns it drops it by a call. A derived `drop` would stand there with the loops over both lists.
+impl Drop for Found {
+    fn drop(self) {
+        let Found { walked: _walked } = self;
+    }
+}
 
 /// Sends an index of the paths and of the text files that a walk from them finds to `new`.
 ///
@@ -40,8 +52,9 @@ pub(crate) fn index_paths<T: Tree, W: Output, E: Sink>(
 {
     let mut indexer = Indexer::new(alloc, paths, log_skip)?;
     let walked = walk(alloc, tree, paths)?;
-    print_walk_faults(alloc, &walked.faults, err)?;
-    indexer.index_files(tree, &walked.names, err)?;
+    let found = Found { walked };
+    print_walk_faults(alloc, &found.walked.faults, err)?;
+    indexer.index_files(tree, &found.walked.names, err)?;
     let index = indexer.finish_into(new)?;
     Ok(index)
 }

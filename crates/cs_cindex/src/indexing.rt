@@ -55,6 +55,5 @@ pub(crate) fn index_paths<T: Tree, W: Output, E: Sink>(
     let found = Found { walked };
     print_walk_faults(alloc, &found.walked.faults, err)?;
     indexer.index_files(tree, &found.walked.names, err)?;
-    let index = indexer.finish_into(new)?;
-    Ok(index)
+    indexer.finish_into(new)
 }

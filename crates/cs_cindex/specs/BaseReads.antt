@@ -23,7 +23,7 @@ OpensBase bytes opened =
 abbrev pub AnswersMerge : Parts → Result Parts IndexFault → Result Sent CindexFault → Type 0
 AnswersMerge old newer result = MatchResult result (λ index. MergesShort old newer index.bytes) (IsMergeRefusal old newer)
 
--- no error is a failed write, and a store that cannot be read has failed
+-- No error of the job is a failed write, and one of the store is a failed read.
 abbrev pub OnlyReads : {A : Type 0} → Result (Result A CindexFault) IoFault → Type 0
 OnlyReads result =
     MatchResult result (λ answer. IfErr answer (λ fault. is_failed_write fault ≡ false)) (λ fault. fault ≡ Failed)

@@ -38,7 +38,7 @@ IndexesFiles log_skip names entries to result =
     (IsFileFailure log_skip names to)
     × (to.later.failed ≡ count_after is_failed_write result to.err.failed)
 
--- The index has the paths and the entries of the builder, and fewer than 2^32 bytes. It is too large if it would have more.
+-- The index has the paths and the entries of the builder, and fewer than 2^32 bytes. After `TooLarge` it would have more.
 abbrev pub Finishes : Built → Result Sent CindexFault → Type 0
 Finishes built result =
     IsBuilt built

@@ -35,6 +35,6 @@ abbrev pub starts : List (List ℕ) → List (List ℕ) → List (List ℕ)
 starts [] recorded = recorded
 starts (path ∷ given) recorded = path ∷ given
 
--- the paths that a job walks
+-- the same, without those that another one covers
 abbrev pub walk_starts : List (List ℕ) → List (List ℕ) → Paths
 walk_starts given recorded = least (set.from_list (starts given recorded))

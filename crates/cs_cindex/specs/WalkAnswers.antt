@@ -49,7 +49,8 @@ AnswersWalk job old early to result =
     × AnswersFor result early (IsWalkFault job to.tree.snapshot old)
     × WalkPrintsFor result early job to.tree old to.err to.later
 
--- The same over an old index in a store, of which the base index is made, unless a read of it fails.
+-- The same over an old index in a store, unless a read of it fails. The functions give the base index for the old one,
+-- and the early error for the base index.
 abbrev pub WalksOver :
     IndexJob → (Option (List ℕ) → Type 0) → (Option (List ℕ) → Option (List ℕ)) →
     (Option (List ℕ) → Option CindexFault) → Effects → Result (Result Sent CindexFault) IoFault → Type 0

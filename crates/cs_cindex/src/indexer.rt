@@ -91,7 +91,8 @@ impl Indexer {
         requires ascend { are_ascending (map string_bytes names.now) ≡ true }
         requires path_limit { AreWithinPathLimit (map string_bytes names.now) }
         requires empty { self.old.builder.entries ≡ [] }
-        ensures indexes { IndexesFiles self.old.log_skip (map string_bytes names.now) self.new.builder.entries
+        ensures indexes { IndexesFiles self.old.log_skip
+            (map string_bytes names.now) self.new.builder.entries
             (effects T.snapshot T.failed E.model E.failed tree.old tree.new err.old err.new) result }
         ensures paths { self.new.builder.paths ≡ self.old.builder.paths }
         ensures tree { ReadsFiles T.snapshot T.longest_requested T.read_counts tree.old tree.new }

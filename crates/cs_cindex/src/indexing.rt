@@ -45,7 +45,8 @@ pub(crate) fn index_paths<T: Tree, W: Output, E: Sink>(
     err: &mut E,
 ) -> Result<Sent, CindexFault>
     requires { are_paths (map string_bytes paths.now) ≡ true }
-    ensures walk { IndexesWalk result (λ index. index.bytes) log_skip (set.from_list (map string_bytes paths.now))
+    ensures walk { IndexesWalk result (λ index. index.bytes) log_skip
+        (set.from_list (map string_bytes paths.now))
         (effects T.snapshot T.failed E.model E.failed tree.old tree.new err.old err.new) }
     ensures sends { Sends W.given W.Keeps new.old new.new result }
     ensures tree { KeepsTree T.snapshot T.longest_requested T.read_counts tree.old tree.new }

@@ -18,6 +18,13 @@ use cs_storage::IndexUpdate;
 use cs_tree::{IoFault, MemStore, Sink, Store, Tree};
 use std::alloc::Global;
 
+/// A job to run, and the allocator for its work.
+#[derive(Clone, Copy, Drop)]
+pub struct JobCall<'a> {
+    pub alloc: Global,
+    pub job: &'a IndexJob,
+}
+
 /// Runs a job over the bytes of the old index, and returns the index after it and its reply.
 pub(crate) fn do_job<T: Tree, O: Sink, E: Sink>(
     alloc: Global,
@@ -36,7 +43,7 @@ pub(crate) fn do_job<T: Tree, O: Sink, E: Sink>(
 {
     let mut store = stored(old.as_deref());
     let mut new = Vec::new(alloc);
-    match cindex_stored(alloc, &mut store, job, tree, &mut new, out, err) {
+    match cindex_stored(JobCall { alloc, job }, &mut store, tree, &mut new, out, err) {
         Ok(Ok(IndexUpdate::Keep)) => (old, Reply::Done),
         Ok(Ok(IndexUpdate::Remove)) => (None, Reply::Done),
         Ok(Ok(IndexUpdate::Write(_))) => (Some(new), Reply::Done),
@@ -66,19 +73,20 @@ fn stored<'a>(old: Option<&'a [u8]>) -> Option<MemStore<'a>>
 /// The outer result is that of the store. If a read of it fails, nothing was printed, or all diagnostics of the walk; the
 /// outputs are not flushed then.
 pub fn cindex_stored<S: Store, T: Tree, W: Output, O: Sink, E: Sink>(
-    alloc: Global,
+    call: JobCall<'_>,
     old: &mut Option<S>,
-    job: &IndexJob,
     tree: &mut T,
     new: &mut W,
     out: &mut O,
     err: &mut E,
 ) -> Result<Result<IndexUpdate, CindexFault>, IoFault>
-    requires { HasAbsoluteFolder job.now }
+    requires { HasAbsoluteFolder call.job.now }
     ensures replies { (index : Option (List ℕ)) → IsIndex S.model old.old index →
-        IfOk result (λ update. RightAfter (T.snapshot tree.old) index job.now (reply_of update)) }
-    ensures runs { RunsJob IsWholeStepTo job.now (job_tree T.snapshot T.failed tree.old tree.new)
-        (IsIndex S.model old.old) (outputs O.model O.failed E.model E.failed out.old err.old)
+        IfOk result (λ update.
+        RightAfter (T.snapshot tree.old) index call.entry.job.now (reply_of update)) }
+    ensures runs { RunsJob IsWholeStepTo call.entry.job.now
+        (job_tree T.snapshot T.failed tree.old tree.new) (IsIndex S.model old.old)
+        (outputs O.model O.failed E.model E.failed out.old err.old)
         (outputs O.model O.failed E.model E.failed out.new err.new) result }
     ensures flushed { IfOk result (λ update. LeavesFlushed (reply_of update)
         (outputs O.model O.failed E.model E.failed out.new err.new)) }
@@ -86,7 +94,7 @@ pub fn cindex_stored<S: Store, T: Tree, W: Output, O: Sink, E: Sink>(
     ensures store { KeepsOldIndex S.model S.size S.failed old.old old.new result }
     ensures tree { KeepsTree T.snapshot T.longest_requested T.read_counts tree.old tree.new }
 {
-    let update = match update_of(alloc, old, job, tree, new, out, err) {
+    let update = match update_of(call, old, tree, new, out, err) {
         Ok(Ok(update)) => update,
         Ok(Err(fault)) => return Ok(Err(fault)),
         Err(fault) => return Err(fault),
@@ -103,22 +111,23 @@ pub fn cindex_stored<S: Store, T: Tree, W: Output, O: Sink, E: Sink>(
 
 /// The change of the index by a job, before the outputs are flushed.
 fn update_of<S: Store, T: Tree, W: Output, O: Sink, E: Sink>(
-    alloc: Global,
+    call: JobCall<'_>,
     old: &mut Option<S>,
-    job: &IndexJob,
     tree: &mut T,
     new: &mut W,
     out: &mut O,
     err: &mut E,
 ) -> Result<Result<IndexUpdate, CindexFault>, IoFault>
-    requires { HasAbsoluteFolder job.now }
-    ensures runs { RunsJob IsStepTo job.now (job_tree T.snapshot T.failed tree.old tree.new)
-        (IsIndex S.model old.old) (outputs O.model O.failed E.model E.failed out.old err.old)
+    requires { HasAbsoluteFolder call.job.now }
+    ensures runs { RunsJob IsStepTo call.entry.job.now
+        (job_tree T.snapshot T.failed tree.old tree.new) (IsIndex S.model old.old)
+        (outputs O.model O.failed E.model E.failed out.old err.old)
         (outputs O.model O.failed E.model E.failed out.new err.new) result }
     ensures sends { SendsUpdate W.given W.Keeps new.old new.new result }
     ensures store { KeepsOldIndex S.model S.size S.failed old.old old.new result }
     ensures tree { KeepsTree T.snapshot T.longest_requested T.read_counts tree.old tree.new }
 {
+    let JobCall { alloc, job } = call;
     if job.list {
         return match list_old(alloc, old, out) {
             Ok(Ok(())) => Ok(Ok(IndexUpdate::Keep)),
@@ -129,7 +138,7 @@ fn update_of<S: Store, T: Tree, W: Output, O: Sink, E: Sink>(
     if job.reset && job.paths.is_empty() {
         return Ok(Ok(IndexUpdate::Remove));
     }
-    match walked_index(alloc, old, job, tree, new, err) {
+    match walked_index(call, old, tree, new, err) {
         Ok(Ok(index)) => Ok(Ok(IndexUpdate::Write(index))),
         Ok(Err(fault)) => Ok(Err(fault)),
         Err(fault) => Err(fault),

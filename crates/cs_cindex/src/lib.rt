@@ -16,4 +16,4 @@ mod verdicts;
 mod walked;
 
 pub use cindexing::cindex;
-pub use job::cindex_stored;
+pub use job::{JobCall, cindex_stored};

@@ -20,7 +20,8 @@ pub(crate) fn open_old<S: Store>(
     alloc: Global,
     store: &mut S,
 ) -> Result<Result<StoredTables, CindexFault>, IoFault>
-    ensures opened { (bytes : List ℕ) → S.model store.old ≡ Some bytes → IfOk result (OpensBase bytes) }
+    ensures opened { (bytes : List ℕ) → S.model store.old ≡ Some bytes →
+        IfOk result (OpensBase bytes) }
     ensures fit { IfOk result (λ opened. IfOk opened IsFit) }
     ensures reads { OnlyReads result }
     ensures store { KeepsStore S.model S.size S.failed store.old store.new result }

@@ -20,7 +20,8 @@ pub(crate) fn read_file<'a, T: Tree>(
     ensures model { IfOk result (λ verdict. IsVerdictIn (T.snapshot tree.old) name.now verdict) }
     ensures once { IfOk result HasTrigramsOnce }
     ensures counted { T.failed tree.new ≡ count_read result (T.failed tree.old) }
-    ensures tree { ReadsFile T.snapshot T.longest_requested T.read_counts name.now tree.old tree.new }
+    ensures tree { ReadsFile T.snapshot T.longest_requested T.read_counts name.now
+        tree.old tree.new }
 {
     if let Err(fault) = tree.open(name) {
         let fault = FileFault::of_tree(fault)?;

@@ -22,6 +22,7 @@ ghost use Rattle.cs_cindex.specs.WalkAnswers.{AnswersWalk, IndexesWalk, WalksOve
 
 use crate::cleaning::clean_all;
 use crate::indexing::index_paths;
+use crate::job::JobCall;
 use crate::old::{copied, open_old};
 use cs_args::{CindexFault, IndexJob};
 use cs_index::{Index, IndexFault, StoredTables};
@@ -32,27 +33,28 @@ use std::alloc::{AllocError, Global};
 
 /// Sends the index after a job that walks, over the old index, or over none with `-reset`.
 pub(crate) fn walked_index<S: Store, T: Tree, W: Output, E: Sink>(
-    alloc: Global,
+    call: JobCall<'_>,
     old: &mut Option<S>,
-    job: &IndexJob,
     tree: &mut T,
     new: &mut W,
     err: &mut E,
 ) -> Result<Result<Sent, CindexFault>, IoFault>
-    requires { HasAbsoluteFolder job.now }
-    ensures walk { WalksOver job.now (IsIndex S.model old.old) (base job.now) (early_walk_fault job.now)
+    requires { HasAbsoluteFolder call.job.now }
+    ensures walk { WalksOver call.entry.job.now (IsIndex S.model old.old)
+        (base call.entry.job.now) (early_walk_fault call.entry.job.now)
         (effects T.snapshot T.failed E.model E.failed tree.old tree.new err.old err.new) result }
-    ensures unread { IfErr result (λ _. job.now.reset ≡ false) }
+    ensures unread { IfErr result (λ _. call.entry.job.now.reset ≡ false) }
     ensures sends { SendsOver W.given W.Keeps new.old new.new result }
     ensures store { KeepsOldIndex S.model S.size S.failed old.old old.new result }
     ensures tree { KeepsTree T.snapshot T.longest_requested T.read_counts tree.old tree.new }
 {
+    let JobCall { alloc, job } = call;
     let given = match clean_all(alloc, &job.cwd, &job.paths) {
         Ok(given) => given,
         Err(fault) => return Ok(Err(fault)),
     };
     match old {
-        Some(store) if !job.reset => extended_index(alloc, store, &given, job, tree, new, err),
+        Some(store) if !job.reset => extended_index(call, store, &given, tree, new, err),
         _ => Ok(new_index(alloc, &given, job, tree, new, err)),
     }
 }
@@ -85,21 +87,22 @@ fn new_index<T: Tree, W: Output, E: Sink>(
 /// Sends the base index, merged with what the job finds below its cleaned paths, or, if it has none, below those of the
 /// base index.
 fn extended_index<S: Store, T: Tree, W: Output, E: Sink>(
-    alloc: Global,
+    call: JobCall<'_>,
     store: &mut S,
     given: &[String],
-    job: &IndexJob,
     tree: &mut T,
     new: &mut W,
     err: &mut E,
 ) -> Result<Result<Sent, CindexFault>, IoFault>
-    requires { AreCleaned job.now (map string_bytes given.now) }
-    ensures walk { WalksOver job.now (IsIndex S.model (Some store.old)) (λ index. index) (base_fault job.now)
+    requires { AreCleaned call.job.now (map string_bytes given.now) }
+    ensures walk { WalksOver call.entry.job.now (IsIndex S.model (Some store.old))
+        (λ index. index) (base_fault call.entry.job.now)
         (effects T.snapshot T.failed E.model E.failed tree.old tree.new err.old err.new) result }
     ensures sends { SendsOver W.given W.Keeps new.old new.new result }
     ensures store { KeepsStore S.model S.size S.failed store.old store.new result }
     ensures tree { KeepsTree T.snapshot T.longest_requested T.read_counts tree.old tree.new }
 {
+    let JobCall { alloc, job } = call;
     let tables = match open_old(alloc, store) {
         Ok(Ok(tables)) => tables,
         Ok(Err(fault)) => return Ok(Err(fault)),

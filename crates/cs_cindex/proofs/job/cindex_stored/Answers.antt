@@ -13,7 +13,7 @@ stepped job tree old later r s e step = subst (λ r. IsStepTo job tree r old lat
 pub returns-in-Ok-Err-clause-replies : goal.returns-in-Ok-Err-clause-replies
 returns-in-Ok-Err-clause-replies g c = λ index is.
     let step = stepped _ _ _ _ _ _ c.in-Ok-Err.field-0-is (c.in-Ok-Err.ensures.runs.0 index is) in
-    right_after c.args.job.now (g.T.Tree.snapshot c.args.tree.now) index index (Refused c.in-Ok-Err.fault) step.cause step.walked
+    right_after c.args.call.job.now (g.T.Tree.snapshot c.args.tree.now) index index (Refused c.in-Ok-Err.fault) step.cause step.walked
 
 pub returns-in-Err-flush-clause-runs : goal.returns-in-Err-flush-clause-runs
 returns-in-Err-flush-clause-runs g c = (
@@ -39,7 +39,7 @@ returns-in-Err-flush-2-clause-runs g c = (
 pub returns-clause-replies : goal.returns-clause-replies
 returns-clause-replies g c = λ index is.
     let step = stepped _ _ _ _ _ _ c.in-Ok-Ok.field-0-is (c.in-Ok-Ok.ensures.runs.0 index is) in
-    right_after c.args.job.now (g.T.Tree.snapshot c.args.tree.now) index (file_after c.in-Ok-Ok.update index) Done step.cause step.walked
+    right_after c.args.call.job.now (g.T.Tree.snapshot c.args.tree.now) index (file_after c.in-Ok-Ok.update index) Done step.cause step.walked
 
 pub returns-clause-flushed : goal.returns-clause-flushed
 returns-clause-flushed g c = (leaves_flushed _ _ _ c.in_default.ensures.bytes, leaves_flushed _ _ _ c.in_default-flush.ensures.bytes)

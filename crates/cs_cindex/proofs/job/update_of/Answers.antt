@@ -27,7 +27,7 @@ returns-in-Err-clause-runs g c =
 
 pub returns-in-Ok-Ok-walked_index-clause-runs : goal.returns-in-Ok-Ok-walked_index-clause-runs
 returns-in-Ok-Ok-walked_index-clause-runs g c =
-    let job = c.args.job.now in
+    let job = c.args.call.job.now in
     let part = c.in-Ok-Ok-walked_index.ensures.walk in
     let to = effects g.T.Tree.snapshot g.T.Tree.failed g.E.Sink.model g.E.Sink.failed c.args.tree.now
     c.walked_index.new.tree c.args.err.now c.walked_index.new.err in

@@ -78,7 +78,7 @@ refused job tree old (Some early) fault is = is
 
 pub returns-in-Ok-Err-clause-walk : goal.returns-in-Ok-Err-clause-walk
 returns-in-Ok-Err-clause-walk g c =
-    let job = c.args.job.now in
+    let job = c.args.call.job.now in
     let fault = c.in-Ok-Err.fault in
     let to = effects g.T.Tree.snapshot g.T.Tree.failed g.E.Sink.model g.E.Sink.failed c.args.tree.now c.args.tree.now
     c.args.err.now c.args.err.now in
@@ -104,7 +104,7 @@ own_index-requires-clause-fit g c =
 
 pub returns-in-Err-own_index-clause-walk : goal.returns-in-Err-own_index-clause-walk
 returns-in-Err-own_index-clause-walk g c =
-    let job = c.args.job.now in
+    let job = c.args.call.job.now in
     let fault = c.in-Err-own_index.fault in
     let tables = c.in-Ok-Ok.tables in
     let to = effects g.T.Tree.snapshot g.T.Tree.failed g.E.Sink.model g.E.Sink.failed c.args.tree.now
@@ -143,7 +143,7 @@ ends job to IsOld prints writes (Err fault) reads = (reads, prints, writes)
 
 pub returns-clause-walk : goal.returns-clause-walk
 returns-clause-walk g c =
-    let job = c.args.job.now in
+    let job = c.args.call.job.now in
     let tables = c.in-Ok-Ok.tables in
     let given = map string_bytes c.args.given.now in
     let to = effects g.T.Tree.snapshot g.T.Tree.failed g.E.Sink.model g.E.Sink.failed c.args.tree.now

@@ -18,7 +18,7 @@ no_write folder texts _ h = refl
 
 pub returns-in-Err-clause-walk : goal.returns-in-Err-clause-walk
 returns-in-Err-clause-walk g c =
-    let job = c.args.job.now in
+    let job = c.args.call.job.now in
     let fault = c.in-Err.fault in
     let texts = subst (λ paths. AreCleanFault c.deref.result.now (map string_bytes paths) fault) c.deref-2.ensures.value
     c.in-Err.ensures.fault in
@@ -54,7 +54,7 @@ module _ (job : IndexJob) (index : Option (List ℕ)) (bytes : List ℕ) (kept :
 
 pub returns-in-Some-clause-walk : goal.returns-in-Some-clause-walk
 returns-in-Some-clause-walk g c =
-    let job = c.args.job.now in
+    let job = c.args.call.job.now in
     let part = c.extended_index.ensures.walk in
     let to = effects g.T.Tree.snapshot g.T.Tree.failed g.E.Sink.model g.E.Sink.failed c.args.tree.now
     c.extended_index.new.tree c.args.err.now c.extended_index.new.err in (

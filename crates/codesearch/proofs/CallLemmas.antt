@@ -1,32 +1,42 @@
 -- What the arguments mean, which error comes first, and the index that is known.
-use Rattle.std.proofs.Common.{◌≡◌, ◌≢◌, ◌↔◌, ℕ, Bool, true, false, List, length, map, [], ◌∷◌, Option, Some, None, Result, Ok, Err, refl, sym, ap, subst, ◌∙◌, ◌⊎◌, inl, inr}
+use Rattle.std.proofs.Common.{◌≡◌, ◌≢◌, ◌↔◌, ℕ, Bool, true, false, not, List, length, [], ◌∷◌, Option, Some, None, Result, Ok, Err, refl, sym, ap, subst, ◌∙◌, ◌⊎◌, inl, inr}
 use Rattle.std.specs.Prelude.{IfOk, IfSome, IsSomeAnd, if◌then◌else◌, is_none, unwrap_or, option_map, option_and_then, string_bytes}
 use Rattle.std.specs.Option.{option_or}
 use Rattle.cs_tree.specs.Sinks.{SinkModel, Flushes}
 use Rattle.cs_tree.specs.TakesPrefix.{EndsAfter}
 use Rattle.cs_tree.specs.Cover.{is_absolute}
+use Rattle.cs_tree.specs.declared.fault.IoFault.{IoFault}
+use Rattle.cs_tree.specs.declared.fault.IoFault.TheVariants.{Failed as IoFailed, Memory as IoMemory}
+use Rattle.cs_tree.proofs.GrowsLemmas.{Grows-same}
 use Rattle.cs_tree.proofs.PrefixLemmas.{prefix_written}
 use Rattle.cs_args.specs.Args.{OptionItem, option_items, first_fault, fault_or, search_job, grep_job, parse_args}
 use Rattle.cs_args.specs.JobView.{JobView, job_view}
 use Rattle.cs_args.specs.Messages.{line_of}
 use Rattle.cs_args.specs.Settings.{GivesJob}
 use Rattle.cs_args.specs.declared.fault.Refusal.TheVariants.{Word as A_word}
+use Rattle.cs_args.specs.declared.fault.ToolFault.{ToolFault}
 use Rattle.cs_args.specs.declared.fault.WordFault.{WordFault}
-use Rattle.cs_args.specs.declared.fault.WordFault.TheVariants.{UnknownOption, NoValue, BadTruth, NoPattern, ExtraWord, Memory}
+use Rattle.cs_args.specs.declared.fault.WordFault.TheVariants.{Memory}
 use Rattle.cs_args.specs.declared.jobs.IndexJob.{IndexJob}
 use Rattle.cs_args.specs.declared.jobs.Job.{Job}
 use Rattle.cs_args.specs.declared.jobs.Job.TheVariants.{Index, Search, Grep}
 use Rattle.cs_args.specs.declared.jobs.Tool.{Tool}
 use Rattle.cs_args.specs.declared.jobs.Tool.TheVariants.{Cindex, Csearch, Cgrep}
+use Rattle.cs_history.specs.Jobs.{HasAbsoluteFolder}
+use Rattle.cs_search.specs.declared.status.Status.{Status}
+use Rattle.cs_cindex.specs.OldIndex.{IsUnreadable, has_failed}
 use Rattle.cs_cindex.specs.Output.{UnreadPrints, before, after}
-use Rattle.codesearch.specs.Running.{IsUnreadIn}
-use Rattle.cs_storage.specs.declared.fault.StorageFault.TheVariants.{Failed}
-use Rattle.codesearch.specs.Program.{tree_of, EndsUnread, IsUnreadBy, tool_of, tool_args, meaning, lacks_folder, word_line, reading_line, writing_line, IndexFile, early_line, arg_at, Surroundings, IsUntouched, Refuses, DoesJob, RunsAfter, Runs, IsCall, may_update}
+use Rattle.cs_storage.specs.FileAfter.{IsGiven}
 use Rattle.cs_storage.specs.declared.fault.StorageFault.{StorageFault}
-use Rattle.codesearch.specs.Running.{HasFolder}
+use Rattle.cs_storage.specs.declared.fault.StorageFault.TheVariants.{Failed}
+use Rattle.cs_storage.specs.declared.update.IndexUpdate.TheVariants.{Keep}
+use Rattle.codesearch.specs.Program.{tree_of, EndsSearch, EndsUnread, IsUnreadBy, tool_of, tool_args, meaning, lacks_folder, word_line, reading_line, writing_line, IndexFile, early_line, arg_at, opened_file, Surroundings, IsUntouched, Refuses, DoesJob, RunsAfter, Runs, IsCall, may_update, update_of}
+use Rattle.codesearch.specs.Running.{Answers, EndsRead, RefusesArgs}
 use Rattle.codesearch.specs.declared.call.Call.{Call}
 use Rattle.codesearch.specs.declared.given.Given.{Given}
 use Rattle.codesearch.specs.declared.outcome.Outcome.{Outcome}
+use Rattle.codesearch.specs.declared.outcome.Outcome.TheVariants.{Done, Searched, Refused}
+use Rattle.codesearch.specs.declared.running.FoundFile.{FoundFile}
 
 -- a flush writes nothing
 pub ends_flushed : {A E : Type 0} (a b : Option SinkModel) (r : Result A E) → Flushes a b r → EndsAfter [] a b r
@@ -117,17 +127,15 @@ words_line fault (Ok view) gives = inl gives
 words_line fault (Err found) gives = let same : found ≡ fault = (let e = gives in cc) in inr (ap Err same)
 
 -- an error of the arguments ends the program with its line
-pub refuses_words : (call : Call) (fault : WordFault) (arg : List ℕ) (file : IndexFile)
-    (IsIndex : Option (List ℕ) → Type 0) (old new : Surroundings) (outcome : Outcome) → IsCall call → call.job
-    ≡ Err fault → file.unreadable ≡ None → arg ≡ arg_at fault (map string_bytes call.args.now) →
-    Refuses outcome (line_of call.tool (A_word fault) arg) → IsUntouched old new → Runs call.given.now file IsIndex old
-    new outcome
-refuses_words call fault arg file IsIndex old new outcome is job-is readable arg-is refuses untouched =
+pub refuses_words : (call : Call) (fault : WordFault) (file : IndexFile) (IsIndex : Option (List ℕ) → Type 0)
+    (old new : Surroundings) (outcome : Outcome) → IsCall call → call.job ≡ Err fault → file.unreadable ≡ None →
+    RefusesArgs call fault outcome → IsUntouched old new → Runs call.given.now file IsIndex old new outcome
+refuses_words call fault file IsIndex old new outcome is job-is readable refuses untouched =
     let given = call.given.now in
     let parsed = meaning given call.tool in
     let line = line_of call.tool (A_word fault) (arg_at fault (tool_args given)) in
-    let ends : Refuses outcome line = subst (λ text. Refuses outcome (line_of call.tool (A_word fault) text))
-    (arg-is ∙ ap (arg_at fault) is.args) refuses in
+    let ends : Refuses outcome line = subst (λ args. Refuses outcome (line_of call.tool (A_word fault) (arg_at fault args)))
+    is.args refuses in
     elim (words_line fault parsed (subst (GivesJob parsed) job-is is.job)) [
       | inl memory ↦ inr (
         inr (
@@ -144,26 +152,100 @@ refuses_words call fault arg file IsIndex old new outcome is job-is readable arg
     ]
 
 -- a read of the index file that fails in the job ends the program with its line
-pub refuses_unread : (call : Call) (file : IndexFile) (IsIndex : Option (List ℕ) → Type 0) (old new : Surroundings)
-    (outcome : Outcome) → IsCall call → file.unreadable ≡ Some Failed → Refuses outcome (reading_line file.name Failed)
-    → IsUnreadIn call.job IsIndex old new → Runs call.given.now file IsIndex old new outcome
-refuses_unread call file IsIndex old new outcome is unreadable ends unread =
+refuses_unread : (call : Call) (job : Job) (file : IndexFile) (IsIndex : Option (List ℕ) → Type 0)
+    (old new : Surroundings) (outcome : Outcome) → IsCall call → call.job ≡ Ok job → file.unreadable ≡ Some Failed →
+    Refuses outcome (reading_line file.name Failed) → IsUnreadBy job IsIndex old new →
+    Runs call.given.now file IsIndex old new outcome
+refuses_unread call job file IsIndex old new outcome is job-is unreadable ends unread =
     let given = call.given.now in
     let some : early_line given file ≡ Some (reading_line file.name Failed) = early_line_at given call.tool file is.tool
     is.text is.folder ∙ rw (unreadable) refl in
-    inl (subst (λ line. RunsAfter line given file IsIndex old new outcome) (sym some) (ends, by_job call.job refl unread))
-  where
-    by_job : (parsed : Result Job WordFault) → call.job ≡ parsed → IsUnreadIn parsed IsIndex old new →
-        IsUntouched old new ⊎ EndsUnread call.given.now file IsIndex old new
-    by_job (Err fault) job-is untouched = inl untouched
-    by_job (Ok job) job-is unread = inr (record {
+    let reads : EndsUnread given file IsIndex old new = record {
       failed = unreadable;
       tool = call.tool;
       is_tool = is.tool;
       job = job;
       means = call_means call job is job-is;
       unread = unread;
-    })
+    } in
+    inl (subst (λ line. RunsAfter line given file IsIndex old new outcome) (sym some) (ends, inr reads))
+
+-- ---- how a run ends
+
+pub untouched : (around : Surroundings) → IsUntouched around around
+untouched around = record {
+  tree = refl;
+  input = (refl, refl);
+  printed = (Grows-same around.outputs.out.model, Grows-same around.outputs.err.model);
+  counted = (refl, refl);
+}
+
+-- no read fails where nothing is read
+pub no_read_fails : {S : Type 0} (failed : S → ℕ) (index : Option S) → IsUnreadable failed index index false
+no_read_fails failed None = refl
+no_read_fails failed (Some store) = refl
+
+-- what the job answers is what the program does
+pub runs_answered : {S : Type 0} (call : Call) (job : Job) (file : FoundFile S) (IsIndex : Option (List ℕ) → Type 0)
+    (old new : Surroundings) (answer : Result Outcome IoFault) (outcome : Outcome) → IsCall call → call.job ≡ Ok job →
+    Answers IsIndex job answer old new → EndsRead file.name.now answer outcome →
+    Runs call.given.now (opened_file file (has_failed answer)) IsIndex old new outcome
+runs_answered call job file IsIndex old new (Ok done) outcome is job-is answers ends =
+    runs_job call job (opened_file file false) IsIndex old new outcome is job-is refl refl
+    (λ index known. subst (DoesJob job index old new) (sym ends) (answers index known))
+runs_answered call job file IsIndex old new (Err IoFailed) outcome is job-is answers ends =
+    refuses_unread call job (opened_file file true) IsIndex old new outcome is job-is refl ends answers.0
+runs_answered call job file IsIndex old new (Err IoMemory) outcome is job-is answers ends = inr (inl ends, answers.1 refl)
+
+-- an error of the arguments comes after a read of the index file
+pub runs_refused : {S : Type 0} (call : Call) (fault : WordFault) (file : FoundFile S) (IsIndex : Option (List ℕ) → Type 0)
+    (around : Surroundings) (answer : Result Outcome IoFault) (outcome : Outcome) → IsCall call → call.job ≡ Err fault →
+    IfOk answer (RefusesArgs call fault) → EndsRead file.name.now answer outcome →
+    Runs call.given.now (opened_file file (has_failed answer)) IsIndex around around outcome
+runs_refused call fault file IsIndex around (Ok refused) outcome is job-is refuses ends =
+    refuses_words call fault (opened_file file false) IsIndex around around outcome is job-is refl
+    (subst (RefusesArgs call fault) (sym ends) refuses) (untouched around)
+runs_refused call fault file IsIndex around (Err IoFailed) outcome is job-is refuses ends =
+    refuses_reading call (opened_file file true) Failed IsIndex around around outcome is refl ends (untouched around)
+runs_refused call fault file IsIndex around (Err IoMemory) outcome is job-is refuses ends = inr (inl ends, untouched around)
+
+-- an error leaves the index file alone
+refuses_keeps : (outcome : Outcome) (line : List ℕ) → Refuses outcome line → update_of outcome ≡ Keep
+refuses_keeps (Done update) line refuses = absurd refuses
+refuses_keeps (Searched status) line refuses = refl
+refuses_keeps (Refused fault) line refuses = refl
+
+pub searched_keeps : (tool : Tool) (answer : Result Status ToolFault) (outcome : Outcome) → EndsSearch tool answer outcome →
+    update_of outcome ≡ Keep
+searched_keeps tool (Ok status) outcome ends = ap update_of ends
+searched_keeps tool (Err fault) outcome ends = refuses_keeps outcome _ ends
+
+pub refused_keeps : (call : Call) (fault : WordFault) (outcome : Outcome) → RefusesArgs call fault outcome →
+    update_of outcome ≡ Keep
+refused_keeps call fault outcome refuses = refuses_keeps outcome _ refuses
+
+pub ended_keeps : (name : List ℕ) (answer : Result Outcome IoFault) (outcome : Outcome) → EndsRead name answer outcome →
+    IfOk answer (λ job. update_of job ≡ Keep) → update_of outcome ≡ Keep
+ended_keeps name (Ok job) outcome ends keeps = ap update_of ends ∙ keeps
+ended_keeps name (Err IoFailed) outcome ends keeps = refuses_keeps outcome _ ends
+ended_keeps name (Err IoMemory) outcome ends keeps = refuses_keeps outcome _ ends
+
+pub kept_given : (outcome : Outcome) (old new : List ℕ) → update_of outcome ≡ Keep → IsGiven (update_of outcome) old new
+kept_given outcome old new keeps = subst (λ update. IsGiven update old new) (sym keeps) tt
+
+pub ended_given : (name : List ℕ) (answer : Result Outcome IoFault) (outcome : Outcome) (old new : List ℕ) →
+    EndsRead name answer outcome → IfOk answer (λ job. IsGiven (update_of job) old new) → IsGiven (update_of outcome) old new
+ended_given name (Ok job) outcome old new ends given = subst (λ job. IsGiven (update_of job) old new) (sym ends) given
+ended_given name (Err IoFailed) outcome old new ends given = kept_given outcome old new (refuses_keeps outcome _ ends)
+ended_given name (Err IoMemory) outcome old new ends given = kept_given outcome old new (refuses_keeps outcome _ ends)
+
+-- a job of cindex that may not update the file is one of `-list`
+pub lists : (parsed : Result Job WordFault) (job : IndexJob) → parsed ≡ Ok (Index job) → may_update parsed ≡ false → job.list ≡ true
+lists parsed job job-is never = of_not job.list (sym (ap may_update job-is) ∙ never)
+  where
+    of_not : (b : Bool) → not b ≡ false → b ≡ true
+    of_not true is = refl
+    of_not false is = absurd (let e = is in cc)
 
 -- what holds of each index of a set holds of those of a part of it
 unread_over : (job : Job) (P Q : Option (List ℕ) → Type 0) (old new : Surroundings) →
@@ -248,25 +330,37 @@ absolute_at : (folder : Option (List ℕ)) →
 absolute_at None some = absurd (let e = some in cc)
 absolute_at (Some folder) some = absolute_if (is_absolute folder) folder refl some
 
-pub has_folder : (call : Call) (job : Job) → IsCall call → call.job ≡ Ok job → HasFolder job
-has_folder call (Index job) is job-is =
+pub has_folder : (call : Call) (job : IndexJob) → IsCall call → call.job ≡ Ok (Index job) → HasAbsoluteFolder job
+has_folder call job is job-is =
     let given = call.given.now in
     let is-meant = meant (meaning given call.tool) (Index job) (subst (GivesJob (meaning given call.tool)) job-is is.job) in
     let at = index_folder call.tool _ _ job is-meant in
     let some = subst (λ tool. lacks_folder given tool ≡ false) at.0 is.folder in
     subst (λ folder. is_absolute folder ≡ true) (sym at.1) (absolute_at (option_map string_bytes given.folder) some)
-has_folder call job is job-is = tt
 
--- `cgrep` updates no index file
-keeps_at : (tool : Tool) (cwd : List ℕ) (args : List (List ℕ)) (job : Result Job WordFault) →
-    GivesJob (parse_args tool cwd args) job → tool ≡ Cgrep → may_update job ≡ false
-keeps_at tool cwd args (Ok (Index job)) gives grep =
-    absurd (let e = sym (index_folder tool cwd args job (meant (parse_args tool cwd args) (Index job) gives)).0
-    ∙ grep in cc)
-keeps_at tool cwd args answer gives grep = refl
+-- ---- the jobs of cgrep
 
-pub grep_keeps : (call : Call) → IsCall call → call.tool ≡ Cgrep → may_update call.job ≡ false
-grep_keeps call is grep = keeps_at call.tool _ _ call.job is.job grep
+abbrev pub IsGrepJob : Job → Type 0
+IsGrepJob (Index job) = ⊥
+IsGrepJob (Search job) = ⊥
+IsGrepJob (Grep job) = Unit {0}
+
+is_grep : (items : List OptionItem) (rest : List (List ℕ)) (job : Job) → grep_job items rest ≡ Ok (job_view job) → IsGrepJob job
+is_grep items [] job is = absurd (let e = is in cc)
+is_grep items (pattern ∷ files) (Index job) is = let e = is in cc
+is_grep items (pattern ∷ files) (Search job) is = let e = is in cc
+is_grep items (pattern ∷ files) (Grep job) is = tt
+
+means_grep : (tool : Tool) (cwd : List ℕ) (args : List (List ℕ)) (job : Job) → tool ≡ Cgrep → parse_args tool cwd args
+    ≡ Ok (job_view job) → IsGrepJob job
+unfolding parse_args
+means_grep Cgrep cwd args job grep is =
+    is_grep (option_items Cgrep args) _ job (fault_or_ok (first_fault Cgrep (option_items Cgrep args)) _ _ is)
+means_grep Cindex cwd args job grep is = absurd (let e = grep in cc)
+means_grep Csearch cwd args job grep is = absurd (let e = grep in cc)
+
+pub has_grep_job : (call : Call) (job : Job) → IsCall call → call.tool ≡ Cgrep → call.job ≡ Ok job → IsGrepJob job
+has_grep_job call job is grep job-is = means_grep call.tool _ _ job grep (call_means call job is job-is)
 
 -- ---- the index file
 

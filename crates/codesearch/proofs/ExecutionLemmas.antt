@@ -1,13 +1,14 @@
 -- The index file before, while and after the job is done.
-use Rattle.std.proofs.Common.{◌≡◌, ◌≢◌, ℕ, List, Option, Some, None, Result, Ok, Err, refl, sym, ap, subst, ◌∙◌, ◌⊎◌, inl, inr}
+use Rattle.std.proofs.Common.{◌≡◌, ◌≢◌, ℕ, List, Option, Some, None, Result, Ok, Err, refl, sym, ap, subst, ◌∙◌, inl, inr}
 use Rattle.std.specs.Prelude.{Bool, true, false, nat_lt, IsSomeAnd, IfSome, if◌then◌else◌}
 use Rattle.cs_tree.specs.Failures.{next_count, count_if}
-use Rattle.cs_tree.proofs.GrowsLemmas.{Grows-same}
 use Rattle.cs_args.specs.declared.jobs.Tool.{Tool}
 use Rattle.cs_args.specs.declared.jobs.Tool.TheVariants.{Cindex, Csearch, Cgrep}
 use Rattle.cs_storage.specs.FileAfter.{file_after, IsChange}
-use Rattle.cs_storage.specs.Storing.{Folder, Left, Moves, LeavesFiles, HasBytesOf, Looks, IsFree, Fills, IsRefusedBy, Begins, Updates, left_after, replaced_after}
-use Rattle.cs_storage.proofs.FillLemmas.{fills_keeps}
+use Rattle.cs_storage.specs.Storing.{Folder, Left, Moves, LeavesFiles, HasBytesOf, Looks, IsFree, Fills, IsHeld, IsRefusedBy, Begins, Updates, left_after, replaced_after}
+use Rattle.cs_storage.specs.NewFiles.{folder_filled, FillsOn}
+use Rattle.cs_storage.specs.declared.new_file.NewFile.{NewFile}
+use Rattle.cs_storage.proofs.FillLemmas.{fills, fills_keeps, stays_held}
 use Rattle.cs_storage.specs.declared.fault.StorageFault.{StorageFault}
 use Rattle.cs_storage.specs.declared.update.IndexUpdate.{IndexUpdate}
 use Rattle.cs_storage.specs.declared.update.IndexUpdate.TheVariants.{Keep, Write, Remove}
@@ -67,9 +68,11 @@ pub filled_opened : (old new : Option Folder) {update : IndexUpdate} → update 
 filled_opened old new is filled = subst (λ update. Moves (StoresOpened update) old new) (sym is)
     (moves_on Fills (StoresOpened Keep) old new filled_at filled)
 
-pub filled_stores : (old new : Option Folder) {update : IndexUpdate} → update ≡ Keep → Moves Fills old new → Moves (Stores update) old new
-filled_stores old new is filled = subst (λ update. Moves (Stores update) old new) (sym is)
-    (moves_on Fills (Stores Keep) old new (λ f g fills. (filled_at f g fills).stores) filled)
+-- an output over FILE~ of a folder that it leaves so
+pub filled_by : {F : Type 0} (model : F → Option Folder) (before : F) (made left : NewFile F) → folder_filled made ≡ before →
+    FillsOn (model (folder_filled made)) (model (folder_filled left)) → Moves Fills (model before) (model (folder_filled left))
+filled_by model before made left same on = fills (model before) (model (folder_filled left))
+    (subst (λ folder. FillsOn (model folder) (model (folder_filled left))) same on)
 
 pub filled_leaves : (old new : Option Folder) → Moves Fills old new → Moves LeavesFile old new
 filled_leaves old new filled = moves_on Fills LeavesFile old new (λ f g fills. (filled_at f g fills).stores.file) filled
@@ -118,6 +121,26 @@ pub claimed_stores : (update : IndexUpdate) (old mid filled new : Option Folder)
     Moves Fills mid filled → Moves (Finishes update) filled new → Moves (StoresOpened update) old new
 claimed_stores update old mid filled new begins fills ends = moves_twice (Begins (Ok tt)) (Ends update) (StoresOpened update) old
     mid new (claimed_at update) begins (moves_twice Fills (Finishes update) (Ends update) mid filled new (ends_at update) fills ends)
+
+-- FILE~ stays held
+begun : (old mid : Option Folder) → Moves (Begins (Ok tt)) old mid → IsHeld mid
+begun None mid begins = subst IsHeld (sym begins) tt
+begun (Some f) None begins = absurd begins
+begun (Some f) (Some g) begins = begins.0
+
+pub claimed_held : (old mid filled : Option Folder) → Moves (Begins (Ok tt)) old mid → Moves Fills mid filled → IsHeld filled
+claimed_held old mid filled begins fills = stays_held mid filled (begun old mid begins) fills
+
+-- after an error FILE is as it was
+failed_keeps : (outcome : Outcome) → exit_status outcome ≢ 0 → update_of outcome ≡ Keep
+failed_keeps (Done update) failed = absurd (failed refl)
+failed_keeps (Searched status) failed = refl
+failed_keeps (Refused fault) failed = refl
+
+pub failed_leaves : (outcome : Outcome) (old new : Option Folder) → exit_status outcome ≢ 0 →
+    Moves (StoresOpened (update_of outcome)) old new → Moves LeavesFile old new
+failed_leaves outcome old new failed stores = moves_on (StoresOpened Keep) LeavesFile old new (λ f g stores. stores.stores.file)
+    (subst (λ update. Moves (StoresOpened update) old new) (failed_keeps outcome failed) stores)
 
 -- why FILE~ could not be made
 refused_claim : (fault : StorageFault) (old new : Option Folder) → Moves (Begins (Err fault)) old new → IsRefusedBy fault new
@@ -283,37 +306,32 @@ module _ {I : Type 0} (model : I → Option (List ℕ)) where
   }
 
 -- `cgrep` opens no index file
-pub executes_grep : {S : Type 0} (model : S → Option (List ℕ)) (call : Call) (file : FoundFile S) (unreadable : Bool)
-    (before after : Option Folder) (failed : ℕ) (old new : Surroundings) (outcome : Outcome) → call.tool ≡ Cgrep →
-    file.index ≡ None → unreadable ≡ false → update_of outcome ≡ Keep → Moves Fills before after →
-    Runs call.given.now (opened_file file unreadable) (IsIndex model file.index) old new outcome →
-    Executes call file.name.now file.temp.now before after failed old new outcome
-executes_grep model call file unreadable before after failed old new outcome grep none readable keeps filled runs = record {
-  file = opened_file file unreadable;
+keeps_stores : (folder : Option Folder) {update : IndexUpdate} → update ≡ Keep → Moves (Stores update) folder folder
+keeps_stores folder is = subst (λ update. Moves (Stores update) folder folder) (sym is) (stays folder)
+  where
+    stays : (folder : Option Folder) → Moves (Stores Keep) folder folder
+    stays None = refl
+    stays (Some f) = stores_nothing f f (record { own = refl; stuck = refl; replaced = refl; added = refl; refused = refl })
+
+abbrev pub grep_file : List ℕ → List ℕ → IndexFile
+grep_file name temp = record { name = name; temp = temp; unreadable = None; unclaimed = None }
+
+pub executes_cgrep : (call : Call) (name temp : List ℕ) (folder : Option Folder) (failed : ℕ) (old new : Surroundings)
+    (outcome : Outcome) → call.tool ≡ Cgrep → update_of outcome ≡ Keep →
+    Runs call.given.now (grep_file name temp) (IsReadIndex call.tool folder) old new outcome →
+    Executes call name temp folder folder failed old new outcome
+executes_cgrep call name temp folder failed old new outcome grep keeps runs = record {
+  file = grep_file name temp;
   names = (refl, refl);
-  opened = subst (λ tool. IsOpening tool after failed (why_unread unreadable)) (sym grep) (ap why_unread readable);
+  opened = subst (λ tool. IsOpening tool folder failed None) (sym grep) refl;
   claimed = tt;
   job = outcome;
-  runs = runs_over call.given.now (opened_file file unreadable) (IsIndex model file.index) (IsReadIndex call.tool after) old new outcome
-      (λ index read. subst (λ found. IsIndex model found index) (sym none) (subst (λ tool. IsReadIndex tool after index) grep read)) runs;
+  runs = runs;
   ends = inl refl;
-  stores = filled_stores before after keeps filled;
+  stores = keeps_stores folder keeps;
 }
 
 -- ---- over the opened file
-
-pub untouched : (around : Surroundings) → IsUntouched around around
-untouched around = record {
-  tree = refl;
-  input = (refl, refl);
-  printed = (Grows-same around.outputs.out.model, Grows-same around.outputs.err.model);
-  counted = (refl, refl);
-}
-
--- no read fails where nothing is read
-pub no_read_fails : {S : Type 0} (failed : S → ℕ) (index : Option S) → IsUnreadable failed index index false
-no_read_fails failed None = refl
-no_read_fails failed (Some store) = refl
 
 -- the job runs, and then the file is updated
 pub executes_opened : {S : Type 0} (IsOne : Option (List ℕ) → Type 0) (HasFailed : Bool → Type 0) (call : Call)

@@ -1,25 +1,16 @@
 -- The main promise for one run of cindex.
-use Rattle.std.proofs.Common.{◌≡◌, ◌≢◌, ℕ, Bool, true, false, ◌&&◌, List, [], ◌∷◌, Option, None, refl, sym, ap, subst, ◌∙◌}
+use Rattle.std.proofs.Common.{◌≡◌, ℕ, List, Option}
 use Rattle.std.specs.Prelude.{if◌then◌else◌, nat_eq}
 use Rattle.cs_tree.specs.Snapshot.{Snapshot}
 use Rattle.cs_args.specs.declared.jobs.IndexJob.{IndexJob}
 use Rattle.cs_args.specs.declared.jobs.Reply.{Reply}
 use Rattle.cs_args.specs.declared.jobs.Reply.TheVariants as reply
-use Rattle.cs_history.specs.History.{History, nothing, index_of, ◌⊳◌}
-use Rattle.cs_history.specs.Headline.{Indexes}
-use Rattle.cs_history.specs.Jobs.{has_no_path, update_of as update_of', reset_history, after, after_done}
-use Rattle.cs_history.specs.JobKinds.{JobKind, lists, clears, walks, job_kind, Walks}
+use Rattle.cs_history.specs.History.{History, index_of}
+use Rattle.cs_history.specs.Jobs.{after, after_done}
 use Rattle.cs_history.specs.Premises.{modelled_snapshot}
-use Rattle.cs_cindex.specs.Next.{IsNext}
-use Rattle.cs_cindex.specs.Output.{JobTree, Output, WalkPrintsBy, JobPrintsBy, WritesBy, list_lines}
-use Rattle.cs_cindex.specs.Refusals.{base, early_walk_fault, early_fault_of, IsWalkFault, IsLateFault, EarlyOr, HasCause}
-use Rattle.cs_cindex.specs.Steps.{Outputs, KeepsIndex, IsWholeStep}
-use Rattle.cs_storage.specs.FileAfter.{file_after}
-use Rattle.codesearch.specs.Program.{update_of, exit_status, IsReplied}
+use Rattle.codesearch.specs.Program.{exit_status, IsReplied}
 use Rattle.codesearch.specs.declared.outcome.Outcome.{Outcome}
-use Rattle.codesearch.specs.declared.outcome.Outcome.TheVariants.{Done, Searched, Refused}
-use Rattle.cs_storage.specs.declared.update.IndexUpdate.{IndexUpdate}
-use Rattle.cs_storage.specs.declared.update.IndexUpdate.TheVariants.{Keep}
+use Rattle.codesearch.specs.declared.outcome.Outcome.TheVariants.{Done, Refused}
 
 pub keeps_history : (job : IndexJob) (tree : Option Snapshot) (answer : Reply) (outcome : Outcome)
     (earlier : History) {next : Option (List ℕ)} → IsReplied job answer outcome →

@@ -1,11 +1,10 @@
 -- What the program does: the tool that its arguments call, its errors in their order, what the tool does, what becomes
 -- of the index file, and the exit status. docs/PROMISES.md, "The program".
-use Rattle.std.specs.Prelude.{◌≡◌, ℕ, ◌+◌, Bool, true, false, ◌&&◌, not, if◌then◌else◌, List, [], ◌∷◌, ◌++◌, map, drop, find, length, slice_get, Option, Some, None, is_none, unwrap_or, option_map, option_and_then, Result, Ok, Err, IsSomeAnd, ◌⊎◌, codes, decimal, bytes_eq, string_bytes, nat_eq}
+use Rattle.std.specs.Prelude.{◌≡◌, ℕ, ◌+◌, Bool, true, false, ◌&&◌, not, if◌then◌else◌, List, [], ◌∷◌, ◌++◌, map, drop, find, length, slice_get, Option, Some, None, is_none, unwrap_or, option_map, option_and_then, Result, Ok, Err, ◌⊎◌, codes, decimal, bytes_eq, string_bytes, nat_eq}
 use Rattle.std.specs.Option.{option_or}
 use Rattle.std.specs.Path.{path_file_name}
 use Rattle.cs_tree.specs.declared.fault.IoFault.{IoFault}
 use Rattle.cs_tree.specs.Cover.{is_absolute}
-use Rattle.cs_tree.specs.Failures.{count_if}
 use Rattle.cs_tree.specs.Sinks.{SinkModel, CountsOne}
 use Rattle.cs_tree.specs.Snapshot.{Snapshot}
 use Rattle.cs_tree.specs.StreamModels.{SourceModel}
@@ -242,10 +241,10 @@ pub record Surroundings : Type 0 where
   pub input_failed : ℕ
   pub outputs : Outputs
 
-module _ {S T R O E : Type 0} (snapshot : T → Option Snapshot) (tree_failed : T → ℕ) (source : R → Option SourceModel)
+module _ {T R O E : Type 0} (snapshot : T → Option Snapshot) (tree_failed : T → ℕ) (source : R → Option SourceModel)
     (input_failed : R → ℕ) (out_model : O → Option SinkModel) (out_failed : O → ℕ) (err_model : E → Option SinkModel)
     (err_failed : E → ℕ) where
-  abbrev pub surroundings : World S T R O E → Surroundings
+  abbrev pub surroundings : World T R O E → Surroundings
   surroundings world = record {
     tree = snapshot world.tree;
     tree_failed = tree_failed world.tree;
@@ -255,7 +254,7 @@ module _ {S T R O E : Type 0} (snapshot : T → Option Snapshot) (tree_failed : 
   }
 
   -- `Claim` holds of what they are before and after
-  abbrev pub Between : World S T R O E → World S T R O E → (Surroundings → Surroundings → Type 0) → Type 0
+  abbrev pub Between : World T R O E → World T R O E → (Surroundings → Surroundings → Type 0) → Type 0
   Between old new Claim = Claim (surroundings old) (surroundings new)
 
 abbrev pub KeepsInput : Surroundings → Surroundings → Type 0

@@ -1,18 +1,27 @@
 -- What the functions behind the program promise each other.
-use Rattle.std.specs.Prelude.{ℕ, List, Option, Result, Ok, Err}
+use Rattle.std.specs.Prelude.{◌≡◌, ℕ, List, map, Option, Result, Ok, Err, string_bytes}
+use Rattle.cs_tree.specs.declared.fault.IoFault.{IoFault}
+use Rattle.cs_tree.specs.declared.fault.IoFault.TheVariants.{Failed, Memory}
+use Rattle.cs_args.specs.Messages.{line_of}
+use Rattle.cs_args.specs.declared.fault.Refusal.TheVariants.{Word}
 use Rattle.cs_args.specs.declared.fault.WordFault.{WordFault}
 use Rattle.cs_args.specs.declared.jobs.Job.{Job}
-use Rattle.cs_args.specs.declared.jobs.Job.TheVariants.{Index, Search, Grep}
-use Rattle.cs_history.specs.Jobs.{HasAbsoluteFolder}
-use Rattle.codesearch.specs.Program.{Surroundings, IsUnreadBy, IsUntouched}
+use Rattle.codesearch.specs.Program.{Surroundings, DoesJob, IsUnreadBy, IsUntouched, Refuses, arg_at, unreadable_line, memory_line}
+use Rattle.codesearch.specs.declared.call.Call.{Call}
+use Rattle.codesearch.specs.declared.outcome.Outcome.{Outcome}
 
--- a read of the index file failed in the job, or before wrong arguments were reported
-abbrev pub IsUnreadIn : Result Job WordFault → (Option (List ℕ) → Type 0) → Surroundings → Surroundings → Type 0
-IsUnreadIn (Ok job) IsIndex old new = IsUnreadBy job IsIndex old new
-IsUnreadIn (Err fault) IsIndex old new = IsUntouched old new
+-- The job is done over the index, or a read of the index failed in it. If memory for a read is missing, nothing was done.
+abbrev pub Answers : (Option (List ℕ) → Type 0) → Job → Result Outcome IoFault → Surroundings → Surroundings → Type 0
+Answers IsIndex job (Ok outcome) old new = (index : Option (List ℕ)) → IsIndex index → DoesJob job index old new outcome
+Answers IsIndex job (Err fault) old new = IsUnreadBy job IsIndex old new × (fault ≡ Memory → IsUntouched old new)
 
--- the current folder of a job of cindex is absolute
-abbrev pub HasFolder : Job → Type 0
-HasFolder (Index job) = HasAbsoluteFolder job
-HasFolder (Search job) = Unit {0}
-HasFolder (Grep job) = Unit {0}
+-- a run over the index file with this name ends as its job does, or because the file cannot be read
+abbrev pub EndsRead : List ℕ → Result Outcome IoFault → Outcome → Type 0
+EndsRead name (Ok job) outcome = outcome ≡ job
+EndsRead name (Err Failed) outcome = Refuses outcome (unreadable_line name)
+EndsRead name (Err Memory) outcome = Refuses outcome memory_line
+
+-- it ends with the line of an error of the arguments
+abbrev pub RefusesArgs : Call → WordFault → Outcome → Type 0
+RefusesArgs call fault outcome =
+    Refuses outcome (line_of call.tool (Word fault) (arg_at fault (map string_bytes call.args.now)))

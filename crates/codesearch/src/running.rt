@@ -1,11 +1,11 @@
 // The program over any tree, input and outputs, and any store of the index file.
-ghost use Rattle.std.specs.Prelude.{◌≡◌, ◌≢◌, ℕ, List, [], map, slice_get, unwrap_or, string_bytes, Bool, Option, Ok, Err, true, false, IfOk, IfErr, OnErr};
+ghost use Rattle.std.specs.Prelude.{◌≡◌, ◌≢◌, ℕ, List, [], map, slice_get, unwrap_or, string_bytes, Bool, Option, true, false, IfOk};
 ghost use Rattle.cs_tree.specs.Failures.{count_if};
 ghost use Rattle.cs_storage.specs.FileAfter.{IsGiven};
 ghost use Rattle.cs_history.specs.Jobs.{HasAbsoluteFolder};
 ghost use Rattle.cs_cindex.specs.OldIndex.{IsIndex, IsUnreadable, has_failed};
-ghost use Rattle.codesearch.specs.Program.{Between, IsUntouched, IsUnreadBy, IsCall, opened_file, Runs, DoesGrep, DoesJob, DoesSearch, DoesIndexing, EndsSearch, may_update, update_of, exit_status, arg_at, path_at};
-ghost use Rattle.codesearch.specs.Running.{HasFolder, IsUnreadIn};
+ghost use Rattle.codesearch.specs.Program.{Between, IsCall, opened_file, Runs, DoesGrep, EndsSearch, may_update, update_of, exit_status, arg_at, path_at};
+ghost use Rattle.codesearch.specs.Running.{Answers, EndsRead, RefusesArgs};
 
 use crate::call::Call;
 use crate::outcome::{Outcome, ProgramFault};
@@ -27,96 +27,100 @@ pub(crate) struct FoundFile<'a, S> {
     pub(crate) name: &'a str,
     /// The name of FILE~, for an error line.
     pub(crate) temp: &'a str,
-    /// The opened file, if there is one. `cgrep` opens none.
+    /// The opened file, if there is one.
     pub(crate) index: Option<S>,
 }
 
-/// What surrounds the program.
-#[derive(Drop)]
-pub(crate) struct World<'a, S, T, R, O, E> {
+/// What surrounds the program, except the index file.
+pub(crate) struct World<T, R, O, E> {
     pub(crate) alloc: Global,
-    pub(crate) file: FoundFile<'a, S>,
     pub(crate) tree: T,
     pub(crate) input: R,
     pub(crate) out: O,
     pub(crate) err: E,
 }
 
+// A body that owns a world drops it by a call.
+impl<T: Drop, R: Drop, O: Drop, E: Drop> Drop for World<T, R, O, E> {
+    fn drop(self) {
+        let World {
+            alloc: _alloc,
+            tree: _tree,
+            input: _input,
+            out: _out,
+            err: _err,
+        } = self;
+    }
+}
+
 /// Does what the arguments mean. Nothing but the job of the tool is printed; the line of an error is still to be
 /// printed, and the index file to be updated. A new index goes to `new`.
 pub(crate) fn run<'a, S: Store, T: Tree, R: Source, O: Sink, E: Sink, W: Output>(
     call: &'a Call<'a>,
-    world: &mut World<'a, S, T, R, O, E>,
+    file: &mut FoundFile<'a, S>,
+    world: &mut World<T, R, O, E>,
     new: &mut W,
 ) -> Outcome<'a>
     requires call { IsCall call.now }
     ensures runs { (unreadable : Bool)
-        × IsUnreadable S.failed world.old.file.index world.new.file.index unreadable
+        × IsUnreadable S.failed file.old.index file.new.index unreadable
         × Between T.snapshot T.failed R.model R.failed O.model O.failed E.model E.failed
         world.old world.new (λ old new.
-        Runs call.now.given.now (opened_file world.old.file unreadable)
-        (IsIndex S.model world.old.file.index) old new result) }
+        Runs call.now.given.now (opened_file file.old unreadable)
+        (IsIndex S.model file.old.index) old new result) }
     ensures unclaimed { may_update call.now.job ≡ false → update_of result ≡ IndexUpdate.Keep }
     ensures kept { exit_status result ≢ 0 → update_of result ≡ IndexUpdate.Keep }
     ensures given { IsGiven (update_of result) (W.given new.old) (W.given new.new) }
     ensures keeps_new { W.Keeps new.old new.new }
 {
-    let name = world.file.name;
-    match run_call(call, world, new) {
+    let name = file.name;
+    match &call.job {
+        Ok(Job::Index(job)) => ended(run_index(job, &mut file.index, world, new), name),
+        Ok(Job::Search(job)) => ended(search_index(job, &mut file.index, world), name),
+        Ok(Job::Grep(job)) => search_files(job, world),
+        Err(fault) => ended(refuse(call, *fault, world.alloc, &mut file.index), name),
+    }
+}
+
+/// How a run over the index file with this name ends, where reads of the file may fail.
+fn ended<'a>(answer: Result<Outcome<'a>, IoFault>, name: &'a str) -> Outcome<'a>
+    ensures { EndsRead name.now answer.entry result }
+{
+    match answer {
         Ok(outcome) => outcome,
         Err(IoFault::Failed) => Outcome::Refused(ProgramFault::Unreadable(name)),
         Err(IoFault::Memory) => Outcome::Refused(ProgramFault::Memory),
     }
 }
 
-/// The same, if the index file can be read.
-fn run_call<'a, S: Store, T: Tree, R: Source, O: Sink, E: Sink, W: Output>(
+/// An error of the arguments. The index file is read first, whatever the other arguments are.
+fn refuse<'a, S: Store>(
     call: &'a Call<'a>,
-    world: &mut World<'a, S, T, R, O, E>,
-    new: &mut W,
+    fault: WordFault,
+    alloc: Global,
+    index: &mut Option<S>,
 ) -> Result<Outcome<'a>, IoFault>
-    requires call { IsCall call.now }
-    ensures runs { IfOk result (λ outcome.
-        Between T.snapshot T.failed R.model R.failed O.model O.failed E.model E.failed
-        world.old world.new (λ old new.
-        Runs call.now.given.now (opened_file world.old.file false)
-        (IsIndex S.model world.old.file.index) old new outcome)) }
-    ensures unclaimed { IfOk result
-        (λ outcome. may_update call.now.job ≡ false → update_of outcome ≡ IndexUpdate.Keep) }
-    ensures counted { IsUnreadable S.failed world.old.file.index world.new.file.index (has_failed result) }
-    ensures unread { OnErr result (
-        Between T.snapshot T.failed R.model R.failed O.model O.failed E.model E.failed
-        world.old world.new (IsUnreadIn call.now.job (IsIndex S.model world.old.file.index))) }
-    ensures memory { result ≡ Err IoFault.Memory →
-        Between T.snapshot T.failed R.model R.failed O.model O.failed E.model E.failed
-        world.old world.new IsUntouched }
-    ensures given { IfOk result
-        (λ outcome. IsGiven (update_of outcome) (W.given new.old) (W.given new.new)) }
-    ensures keeps_new { W.Keeps new.old new.new }
+    ensures refused { IfOk result (RefusesArgs call.now fault) }
+    ensures counted { IsUnreadable S.failed index.old index.new (has_failed result) }
 {
-    match &call.job {
-        Ok(job) => run_job(job, world, new),
-        Err(fault) => {
-            // The index file is read first, whatever the other arguments are.
-            read_index(call.tool, world)?;
-            let refusal = Refusal::Word(*fault);
-            let arg = arg_at(*fault, call.args);
-            Ok(Outcome::Refused(ProgramFault::Refusal(call.tool, refusal, arg)))
-        }
-    }
+    read_index(alloc, call.tool, index)?;
+    Ok(refused(call, fault))
+}
+
+/// An error of the arguments.
+pub(crate) fn refused<'a>(call: &'a Call<'a>, fault: WordFault) -> Outcome<'a>
+    ensures { RefusesArgs call.now fault result }
+{
+    let arg = arg_at(fault, call.args);
+    Outcome::Refused(ProgramFault::Refusal(call.tool, Refusal::Word(fault), arg))
 }
 
 /// Reads the index file as the tool does, if it is there.
-fn read_index<S: Store, T: Tree, R: Source, O: Sink, E: Sink>(
-    tool: Tool,
-    world: &mut World<'_, S, T, R, O, E>,
-) -> Result<(), IoFault>
-    ensures counted { IsUnreadable S.failed world.old.file.index world.new.file.index (has_failed result) }
-    ensures untouched { Between T.snapshot T.failed R.model R.failed O.model O.failed E.model E.failed
-        world.old world.new IsUntouched }
+fn read_index<S: Store>(alloc: Global, tool: Tool, index: &mut Option<S>) -> Result<(), IoFault>
+    ensures { IsUnreadable S.failed index.old index.new (has_failed result) }
 {
-    match &mut world.file.index {
-        Some(store) => read_store(world.alloc, tool, store),
+    match index {
+        Some(store) => read_store(alloc, tool, store),
         None => Ok(()),
     }
 }
@@ -134,47 +138,13 @@ fn read_store<S: Store>(alloc: Global, tool: Tool, store: &mut S) -> Result<(), 
     Ok(())
 }
 
-/// Does the job of the tool.
-fn run_job<'a, S: Store, T: Tree, R: Source, O: Sink, E: Sink, W: Output>(
-    job: &'a Job,
-    world: &mut World<'a, S, T, R, O, E>,
-    new: &mut W,
-) -> Result<Outcome<'a>, IoFault>
-    requires folder { HasFolder job.now }
-    ensures does { IfOk result (λ outcome.
-        Between T.snapshot T.failed R.model R.failed O.model O.failed E.model E.failed
-        world.old world.new (λ old new.
-        (index : Option (List ℕ)) → IsIndex S.model world.old.file.index index →
-        DoesJob job.now index old new outcome)) }
-    ensures unclaimed { IfOk result
-        (λ outcome. may_update (Ok job.now) ≡ false → update_of outcome ≡ IndexUpdate.Keep) }
-    ensures counted { IsUnreadable S.failed world.old.file.index world.new.file.index (has_failed result) }
-    ensures unread { OnErr result (
-        Between T.snapshot T.failed R.model R.failed O.model O.failed E.model E.failed
-        world.old world.new (IsUnreadBy job.now (IsIndex S.model world.old.file.index))) }
-    ensures memory { result ≡ Err IoFault.Memory →
-        Between T.snapshot T.failed R.model R.failed O.model O.failed E.model E.failed
-        world.old world.new IsUntouched }
-    ensures given { IfOk result
-        (λ outcome. IsGiven (update_of outcome) (W.given new.old) (W.given new.new)) }
-    ensures keeps_new { W.Keeps new.old new.new }
-{
-    match job {
-        Job::Index(job) => run_index(job, world, new),
-        Job::Search(job) => search_index(job, world),
-        Job::Grep(job) => Ok(search_files(job, world)),
-    }
-}
-
 /// A job of `cgrep`.
-fn search_files<'a, S: Store, T: Tree, R: Source, O: Sink, E: Sink>(
+pub(crate) fn search_files<'a, T: Tree, R: Source, O: Sink, E: Sink>(
     job: &GrepJob,
-    world: &mut World<'a, S, T, R, O, E>,
+    world: &mut World<T, R, O, E>,
 ) -> Outcome<'a>
-    ensures does { Between T.snapshot T.failed R.model R.failed O.model O.failed E.model E.failed
-        world.old world.new (λ old new.
-        DoesGrep job.now old new result) }
-    ensures file { world.new.file ≡ world.old.file }
+    ensures { Between T.snapshot T.failed R.model R.failed O.model O.failed E.model E.failed
+        world.old world.new (λ old new. DoesGrep job.now old new result) }
 {
     let alloc = world.alloc;
     let answer = cgrep(
@@ -191,20 +161,15 @@ fn search_files<'a, S: Store, T: Tree, R: Source, O: Sink, E: Sink>(
 /// A job of `csearch`. Of an index in a store only the posting lists that it needs are read.
 fn search_index<'a, S: Store, T: Tree, R: Source, O: Sink, E: Sink>(
     job: &SearchJob,
-    world: &mut World<'a, S, T, R, O, E>,
+    index: &mut Option<S>,
+    world: &mut World<T, R, O, E>,
 ) -> Result<Outcome<'a>, IoFault>
-    ensures does { IfOk result (λ outcome.
-        Between T.snapshot T.failed R.model R.failed O.model O.failed E.model E.failed
-        world.old world.new (λ old new.
-        (index : Option (List ℕ)) → IsIndex S.model world.old.file.index index →
-        DoesSearch job.now index old new outcome)) }
+    ensures answers { Between T.snapshot T.failed R.model R.failed O.model O.failed E.model E.failed
+        world.old world.new (Answers (IsIndex S.model index.old) (Job.Search job.now) result) }
     ensures kept { IfOk result (λ outcome. update_of outcome ≡ IndexUpdate.Keep) }
-    ensures counted { IsUnreadable S.failed world.old.file.index world.new.file.index (has_failed result) }
-    ensures unread { OnErr result (
-        Between T.snapshot T.failed R.model R.failed O.model O.failed E.model E.failed
-        world.old world.new IsUntouched) }
+    ensures counted { IsUnreadable S.failed index.old index.new (has_failed result) }
 {
-    match &mut world.file.index {
+    match index {
         Some(store) => {
             let alloc = world.alloc;
             let opened = StoredIndex::open(alloc, store)?;
@@ -234,28 +199,21 @@ fn searched<'a>(tool: Tool, answer: Result<Status, ToolFault>) -> Outcome<'a>
 /// A new index goes to `new`.
 fn run_index<'a, S: Store, T: Tree, R: Source, O: Sink, E: Sink, W: Output>(
     job: &'a IndexJob,
-    world: &mut World<'a, S, T, R, O, E>,
+    index: &mut Option<S>,
+    world: &mut World<T, R, O, E>,
     new: &mut W,
 ) -> Result<Outcome<'a>, IoFault>
     requires folder { HasAbsoluteFolder job.now }
-    ensures does { IfOk result (λ outcome.
-        Between T.snapshot T.failed R.model R.failed O.model O.failed E.model E.failed
-        world.old world.new (λ old new.
-        (index : Option (List ℕ)) → IsIndex S.model world.old.file.index index →
-        DoesIndexing job.now index old new outcome)) }
+    ensures answers { Between T.snapshot T.failed R.model R.failed O.model O.failed E.model E.failed
+        world.old world.new (Answers (IsIndex S.model index.old) (Job.Index job.now) result) }
     ensures unclaimed { IfOk result
         (λ outcome. job.now.list ≡ true → update_of outcome ≡ IndexUpdate.Keep) }
-    ensures counted { IsUnreadable S.failed world.old.file.index world.new.file.index (has_failed result) }
-    ensures failure { IfErr result (λ fault. fault ≡ IoFault.Failed) }
-    ensures unread { OnErr result (
-        Between T.snapshot T.failed R.model R.failed O.model O.failed E.model E.failed
-        world.old world.new (IsUnreadBy (Job.Index job.now) (IsIndex S.model world.old.file.index))) }
+    ensures counted { IsUnreadable S.failed index.old index.new (has_failed result) }
     ensures given { IfOk result
         (λ outcome. IsGiven (update_of outcome) (W.given new.old) (W.given new.new)) }
     ensures keeps_new { W.Keeps new.old new.new }
 {
     let alloc = world.alloc;
-    let index = &mut world.file.index;
     let (tree, out, err) = (&mut world.tree, &mut world.out, &mut world.err);
     match cindex_stored(alloc, index, job, tree, new, out, err) {
         Ok(Ok(update)) => Ok(Outcome::Done(update)),

@@ -7,12 +7,12 @@ use Rattle.cs_cindex.specs.OldIndex.{IsIndex}
 use Rattle.codesearch.proofs.CallLemmas.{of_known}
 use Rattle.codesearch.proofs.running.search_index.Goals as goal
 
-pub returns-in_ok-answer-in-Some-clause-does : goal.returns-in_ok-answer-in-Some-clause-does
-returns-in_ok-answer-in-Some-clause-does g c = λ index is.
+pub returns-in_ok-answer-in-Some-clause-answers : goal.returns-in_ok-answer-in-Some-clause-answers
+returns-in_ok-answer-in-Some-clause-answers g c = λ index is.
     let world = c.args.world.now in
     let ran = c.in_ok-answer-in-Some.ensures in
     let answer = c.in_ok-answer-in-Some.answer in
-    let found : world.file.index ≡ Some c.in-Some.store = search rules in
+    let found : c.args.index.now ≡ Some c.in-Some.store = search rules in
     let known = subst (λ o. IsIndex g.S.Store.model o index) found is in
     let same = subst (λ model. IsSomeAnd model (λ bytes. index ≡ Some bytes)) (sym c.open.ensures.keeps) known in
     let outputs = search_outputs g.O.Sink.model g.E.Sink.model world.out c.csearch_stored.new.out world.err c.csearch_stored.new.err in

@@ -122,6 +122,10 @@ pub claimed_stores : (update : IndexUpdate) (old mid filled new : Option Folder)
 claimed_stores update old mid filled new begins fills ends = moves_twice (Begins (Ok tt)) (Ends update) (StoresOpened update) old
     mid new (claimed_at update) begins (moves_twice Fills (Finishes update) (Ends update) mid filled new (ends_at update) fills ends)
 
+pub claims : {result : Result (Unit {0}) StorageFault} (old mid : Option Folder) → result ≡ Ok tt → Moves (Begins result) old mid →
+    Moves (Begins (Ok tt)) old mid
+claims old mid is begins = subst (λ result. Moves (Begins result) old mid) is begins
+
 -- FILE~ stays held
 begun : (old mid : Option Folder) → Moves (Begins (Ok tt)) old mid → IsHeld mid
 begun None mid begins = subst IsHeld (sym begins) tt

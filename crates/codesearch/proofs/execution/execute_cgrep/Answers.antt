@@ -1,5 +1,4 @@
 use Rattle.std.proofs.Common.{◌≡◌, Ok, refl, rules}
-use Rattle.codesearch.specs.Program.{surroundings}
 use Rattle.codesearch.specs.Execution.{IsReadIndex}
 use Rattle.cs_args.specs.declared.jobs.Job.TheVariants.{Grep}
 use Rattle.cs_args.specs.declared.jobs.Tool.TheVariants.{Cgrep}
@@ -11,26 +10,20 @@ pub returns-in-Ok-Grep : goal.returns-in-Ok-Grep
 returns-in-Ok-Grep g c = λ name temp folder failed.
     let call = c.args.call.now in
     let is : call.job ≡ Ok (Grep c.in-Ok-Grep.job) = search rules in
-    let old = surroundings g.T.Tree.snapshot g.T.Tree.failed g.R.Source.model g.R.Source.failed g.O.Sink.model
-    g.O.Sink.failed g.E.Sink.model g.E.Sink.failed c.args.world.now in
-    let new = surroundings g.T.Tree.snapshot g.T.Tree.failed g.R.Source.model g.R.Source.failed g.O.Sink.model
-    g.O.Sink.failed g.E.Sink.model g.E.Sink.failed c.search_files.new.world in
     let does = c.search_files.ensures in
-    executes_cgrep call name temp folder failed old new c.search_files.result c.requires.tool
+    executes_cgrep call name temp folder failed _ _ c.search_files.result c.requires.tool
     (searched_keeps Cgrep does.0 c.search_files.result does.1)
-    (runs_job call (Grep c.in-Ok-Grep.job) (grep_file name temp) (IsReadIndex call.tool folder) old new
+    (runs_job call (Grep c.in-Ok-Grep.job) (grep_file name temp) (IsReadIndex call.tool folder) _ _
     c.search_files.result c.requires.call is refl refl (λ index known. does))
 
 pub returns-in-Err : goal.returns-in-Err
 returns-in-Err g c = λ name temp folder failed.
     let call = c.args.call.now in
     let fault = c.in-Err.fault in
-    let around = surroundings g.T.Tree.snapshot g.T.Tree.failed g.R.Source.model g.R.Source.failed g.O.Sink.model
-    g.O.Sink.failed g.E.Sink.model g.E.Sink.failed c.args.world.now in
-    executes_cgrep call name temp folder failed around around c.refused.result c.requires.tool
+    executes_cgrep call name temp folder failed _ _ c.refused.result c.requires.tool
     (refused_keeps call fault c.refused.result c.refused.ensures)
-    (refuses_words call fault (grep_file name temp) (IsReadIndex call.tool folder) around around c.refused.result
-    c.requires.call c.in-Err.is refl c.refused.ensures (untouched around))
+    (refuses_words call fault (grep_file name temp) (IsReadIndex call.tool folder) _ _ c.refused.result
+    c.requires.call c.in-Err.is refl c.refused.ensures (untouched _))
 
 pub unreachable-requires : goal.unreachable-requires
 unreachable-requires g c =

@@ -12,7 +12,7 @@ use crate::outcome::{Outcome, ProgramFault};
 use cs_args::{
     CindexFault, GrepJob, IndexJob, Job, Refusal, SearchJob, Tool, ToolFault, WordFault,
 };
-use cs_cindex::cindex_stored;
+use cs_cindex::{JobCall, cindex_stored};
 use cs_index::StoredIndex;
 use cs_output::Output;
 use cs_search::{Status, cgrep, csearch, csearch_stored};
@@ -215,7 +215,7 @@ fn run_index<'a, S: Store, T: Tree, R: Source, O: Sink, E: Sink, W: Output>(
 {
     let alloc = world.alloc;
     let (tree, out, err) = (&mut world.tree, &mut world.out, &mut world.err);
-    match cindex_stored(alloc, index, job, tree, new, out, err) {
+    match cindex_stored(JobCall { alloc, job }, index, tree, new, out, err) {
         Ok(Ok(update)) => Ok(Outcome::Done(update)),
         Ok(Err(fault)) => {
             let refusal = Refusal::Index(fault);

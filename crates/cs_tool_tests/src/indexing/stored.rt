@@ -1,6 +1,6 @@
 // The paths of a stored index, with a failing read.
 use crate::indexing::job_of;
-use cs_cindex::cindex_stored;
+use cs_cindex::{JobCall, cindex_stored};
 use cs_fakes::{MemTree, one_file_until};
 use cs_tree::{IoFault, MemSink, Store};
 use std::alloc::Global;
@@ -24,8 +24,9 @@ fn lists(
     let mut new = Vec::new(alloc);
     let mut out = MemSink::new(alloc, 1000);
     let mut err = MemSink::new(alloc, 1000);
+    let call = JobCall { alloc, job: &job };
     let listed = cindex_stored(
-        alloc, &mut store, &job, &mut tree, &mut new, &mut out, &mut err,
+        call, &mut store, &mut tree, &mut new, &mut out, &mut err,
     );
     let is_done = match listed {
         Ok(update) => Ok(update.is_ok()),

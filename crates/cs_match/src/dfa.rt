@@ -107,7 +107,8 @@ fn find(
     requires { length hashes.now ≤ length cached.now }
     ensures found { MatchOption result (Unit {0})
         (λ slot. (slot < length hashes.now) × (slice_index_or cached.now slot state.now ≡ state.now)) }
-    ensures cost { CountsAtMost (length hashes.now * (words (length state.now.positions) + 1)) steps.old steps.new }
+    ensures cost { CountsAtMost (length hashes.now * (words (length state.now.positions) + 1))
+        steps.old steps.new }
 {
     steps.add(hashes.len());
     for slot in memchr_iter(hash, hashes) {
@@ -159,7 +160,8 @@ fn step_from(
     ensures accepting { result ≡ accepts_before program.now from.now byte }
     ensures moved { next.new ≡ successor program.now from.now byte }
     ensures memory { IsScratch program.now memory.new }
-    ensures cost { CountsAtMost (words (position_count program.now) + step_work program.now) steps.old steps.new }
+    ensures cost { CountsAtMost (words (position_count program.now) + step_work program.now)
+        steps.old steps.new }
 {
     next.copy_from(from, steps);
     next.step_over(program, memory, byte, steps)

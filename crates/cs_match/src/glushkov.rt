@@ -4,14 +4,13 @@
 // that were visited.
 ghost use Rattle.std.specs.Prelude.{◌≡◌, ℕ, ◌+◌, ◌*◌, ◌<◌, ◌≤◌, ◌^◌, ◌%◌, ◌==◌, ◌&&◌, ◌||◌, IfOk, length, take, drop, min, true, false, ◌++◌, slice_set};
 ghost use Rattle.std.specs.Int.{bit_at};
-ghost use Rattle.std.proofs.Math.Seq.{sets};
 ghost use Rattle.cs_syntax.specs.Node.{tree_of};
 ghost use Rattle.cs_syntax.specs.NodeList.{trees_of};
-ghost use Rattle.cs_syntax.specs.Matching.{cat, alt};
-ghost use Rattle.cs_match.specs.Glushkov.{position_count, position_count_of, repeats, repeats_of, nullable, nullable_all, nullable_some, is_final, is_final_all, is_final_some, accepts, loop_ends, loop_ends_of, step, IsExpanded};
-ghost use Rattle.cs_match.specs.Entered.{entered, entered_all, entered_each, AreShifted};
-ghost use Rattle.cs_match.specs.Parts.{run, runs, options, shape_of, shapes_of, size_of, sizes_of};
-ghost use Rattle.cs_match.specs.Traversal.{IsNoted, accepted_from, entries_after, final_from, loops_after, position_after, repeat_after};
+ghost use Rattle.cs_syntax.specs.Matching.{alt};
+ghost use Rattle.cs_match.specs.Glushkov.{position_count, position_count_of, repeats, repeats_of, nullable, accepts, loop_ends, step, IsExpanded};
+ghost use Rattle.cs_match.specs.Entered.{entered, AreShifted};
+ghost use Rattle.cs_match.specs.Parts.{run, runs, options, shape_of, size_of, sizes_of};
+ghost use Rattle.cs_match.specs.Traversal.{IsNoted, accepted_from, accepted_in, all_of, any_of, entries_after, entries_in, final_from, loops_after, position_past, repeat_past};
 ghost use Rattle.cs_match.specs.Size.{nodes};
 ghost use Rattle.cs_match.specs.Work.{words, step_work};
 ghost use Rattle.cs_match.specs.Masks.{IsScratch};
@@ -195,7 +194,8 @@ fn enter(
     ensures entries { take (position_count program.now) scratch.new.entries
         ≡ entered program.now true positions.now here }
     ensures scratch { IsScratch program.now scratch.new }
-    ensures cost { CountsAtMost (2 * nodes program.now + words (position_count program.now + 1)) steps.old steps.new }
+    ensures cost { CountsAtMost (2 * nodes program.now + words (position_count program.now + 1))
+        steps.old steps.new }
 {
     let part = program.part();
     note_loops(part, positions, &mut scratch.loops, here, steps);
@@ -239,13 +239,13 @@ fn find_ends(
     cursor: &mut Cursor,
     steps: &mut Steps,
 ) -> Ends
-    requires room { position_after (shape_of part.now) cursor.old ≤ length positions.now }
+    requires room { position_past (shape_of part.now) cursor.old ≤ length positions.now }
     requires within { cursor.old.repeat ≤ length loops.old }
     ensures accepting { result.accepting ≡ final_from (shape_of part.now) cursor.old positions.now here }
     ensures nullable { result.nullable ≡ nullable (shape_of part.now) here }
     ensures noted { loops.new ≡ loops_after (shape_of part.now) cursor.old positions.now here loops.old }
-    ensures position { cursor.new.position ≡ position_after (shape_of part.now) cursor.old }
-    ensures repeat { cursor.new.repeat ≡ min (length loops.old) (repeat_after (shape_of part.now) cursor.old) }
+    ensures position { cursor.new.position ≡ position_past (shape_of part.now) cursor.old }
+    ensures repeat { cursor.new.repeat ≡ min (length loops.old) (repeat_past (shape_of part.now) cursor.old) }
     ensures cost { steps.new.count ≡ steps.old.count + size_of part.now }
 {
     steps.add(1);
@@ -274,7 +274,8 @@ fn find_ends(
 /// The ends of a run: its last position, or the empty span if it has none.
 fn end_run(n: usize, positions: &PositionSet, cursor: &mut Cursor) -> Ends
     requires { cursor.old.position + n ≤ length positions.now }
-    ensures accepting { (here : LookAround) → result.accepting ≡ final_from (run n) cursor.old positions.now here }
+    ensures accepting { (here : LookAround) →
+        result.accepting ≡ final_from (run n) cursor.old positions.now here }
     ensures nullable { (here : LookAround) → result.nullable ≡ nullable (run n) here }
     ensures position { cursor.new.position ≡ cursor.old.position + n }
     ensures repeat { cursor.new.repeat ≡ cursor.old.repeat }
@@ -302,7 +303,8 @@ fn enter_run(
 ) -> bool
     requires room { cursor.old.position + n ≤ length positions.now }
     requires shifted { AreShifted cursor.old.position positions.now entries.old }
-    ensures accepting { (here : LookAround) → result ≡ accepted_from (run n) enter cursor.old positions.now here }
+    ensures accepting { (here : LookAround) →
+        result ≡ accepted_from (run n) enter cursor.old positions.now here }
     ensures entries { (here : LookAround) → entries.new ≡ take cursor.old.position entries.old
         ++ (entered (run n) enter (drop cursor.old.position positions.now) here
         ++ drop (cursor.old.position + n) entries.old) }
@@ -440,7 +442,7 @@ fn end_sequences(
     ensures accepting { (here : LookAround) →
         result.accepting ≡ final_from (alt (runs sequences.now)) cursor.old positions.now here }
     ensures nullable { (here : LookAround) → result.nullable ≡ nullable (alt (runs sequences.now)) here }
-    ensures position { cursor.new.position ≡ position_after (alt (runs sequences.now)) cursor.old }
+    ensures position { cursor.new.position ≡ position_past (alt (runs sequences.now)) cursor.old }
     ensures repeat { cursor.new.repeat ≡ cursor.old.repeat }
     ensures cost { steps.new.count ≡ steps.old.count + words (position_count_of (runs sequences.now)) }
 {
@@ -469,8 +471,9 @@ fn enter_sequences(
     ensures accepting { (here : LookAround) →
         result ≡ accepted_from (alt (runs sequences.now)) enter cursor.old positions.now here }
     ensures entries { (here : LookAround) →
-        entries.new ≡ entries_after (alt (runs sequences.now)) enter cursor.old positions.now here entries.old }
-    ensures position { cursor.new.position ≡ position_after (alt (runs sequences.now)) cursor.old }
+        entries.new ≡ entries_after (alt (runs sequences.now)) enter cursor.old positions.now here
+        entries.old }
+    ensures position { cursor.new.position ≡ position_past (alt (runs sequences.now)) cursor.old }
     ensures repeat { cursor.new.repeat ≡ cursor.old.repeat }
     ensures cost { steps.new.count ≡ steps.old.count + words (position_count_of (runs sequences.now)) }
 {
@@ -515,13 +518,13 @@ fn find_ends_all(
     cursor: &mut Cursor,
     steps: &mut Steps,
 ) -> Ends
-    requires room { position_after (cat (shapes_of parts.now)) cursor.old ≤ length positions.now }
+    requires room { position_past (all_of parts.now) cursor.old ≤ length positions.now }
     requires within { cursor.old.repeat ≤ length loops.old }
-    ensures accepting { result.accepting ≡ final_from (cat (shapes_of parts.now)) cursor.old positions.now here }
-    ensures nullable { result.nullable ≡ nullable (cat (shapes_of parts.now)) here }
-    ensures noted { loops.new ≡ loops_after (cat (shapes_of parts.now)) cursor.old positions.now here loops.old }
-    ensures position { cursor.new.position ≡ position_after (cat (shapes_of parts.now)) cursor.old }
-    ensures repeat { cursor.new.repeat ≡ min (length loops.old) (repeat_after (cat (shapes_of parts.now)) cursor.old) }
+    ensures accepting { result.accepting ≡ final_from (all_of parts.now) cursor.old positions.now here }
+    ensures nullable { result.nullable ≡ nullable (all_of parts.now) here }
+    ensures noted { loops.new ≡ loops_after (all_of parts.now) cursor.old positions.now here loops.old }
+    ensures position { cursor.new.position ≡ position_past (all_of parts.now) cursor.old }
+    ensures repeat { cursor.new.repeat ≡ min (length loops.old) (repeat_past (all_of parts.now) cursor.old) }
     ensures cost { steps.new.count ≡ steps.old.count + sizes_of parts.now }
 {
     let mut all = Ends::within(true);
@@ -541,13 +544,13 @@ fn find_ends_some(
     cursor: &mut Cursor,
     steps: &mut Steps,
 ) -> Ends
-    requires room { position_after (alt (shapes_of parts.now)) cursor.old ≤ length positions.now }
+    requires room { position_past (any_of parts.now) cursor.old ≤ length positions.now }
     requires within { cursor.old.repeat ≤ length loops.old }
-    ensures accepting { result.accepting ≡ final_from (alt (shapes_of parts.now)) cursor.old positions.now here }
-    ensures nullable { result.nullable ≡ nullable (alt (shapes_of parts.now)) here }
-    ensures noted { loops.new ≡ loops_after (alt (shapes_of parts.now)) cursor.old positions.now here loops.old }
-    ensures position { cursor.new.position ≡ position_after (alt (shapes_of parts.now)) cursor.old }
-    ensures repeat { cursor.new.repeat ≡ min (length loops.old) (repeat_after (alt (shapes_of parts.now)) cursor.old) }
+    ensures accepting { result.accepting ≡ final_from (any_of parts.now) cursor.old positions.now here }
+    ensures nullable { result.nullable ≡ nullable (any_of parts.now) here }
+    ensures noted { loops.new ≡ loops_after (any_of parts.now) cursor.old positions.now here loops.old }
+    ensures position { cursor.new.position ≡ position_past (any_of parts.now) cursor.old }
+    ensures repeat { cursor.new.repeat ≡ min (length loops.old) (repeat_past (any_of parts.now) cursor.old) }
     ensures cost { steps.new.count ≡ steps.old.count + sizes_of parts.now }
 {
     let mut some = Ends::within(false);
@@ -570,14 +573,13 @@ fn advance(
     cursor: &mut Cursor,
     steps: &mut Steps,
 ) -> bool
-    requires room { position_after (shape_of part.now) cursor.old ≤ length at.now.positions.now }
+    requires room { position_past (shape_of part.now) cursor.old ≤ length at.now.positions.now }
     requires shifted { AreShifted cursor.old.position at.now.positions.now entries.old }
     requires noted { IsNoted (shape_of part.now) cursor.old at.now }
-    ensures accepting { result ≡ accepted_from (shape_of part.now) enter cursor.old at.now.positions.now at.now.here }
-    ensures entries { entries.new
-        ≡ entries_after (shape_of part.now) enter cursor.old at.now.positions.now at.now.here entries.old }
-    ensures position { cursor.new.position ≡ position_after (shape_of part.now) cursor.old }
-    ensures repeat { cursor.new.repeat ≡ repeat_after (shape_of part.now) cursor.old }
+    ensures accepting { result ≡ accepted_in (shape_of part.now) enter cursor.old at.now }
+    ensures entries { entries.new ≡ entries_in (shape_of part.now) enter cursor.old at.now entries.old }
+    ensures position { cursor.new.position ≡ position_past (shape_of part.now) cursor.old }
+    ensures repeat { cursor.new.repeat ≡ repeat_past (shape_of part.now) cursor.old }
     ensures cost { steps.new.count ≡ steps.old.count + size_of part.now }
 {
     steps.add(1);
@@ -615,14 +617,13 @@ fn advance_all(
     cursor: &mut Cursor,
     steps: &mut Steps,
 ) -> bool
-    requires room { position_after (cat (shapes_of parts.now)) cursor.old ≤ length at.now.positions.now }
+    requires room { position_past (all_of parts.now) cursor.old ≤ length at.now.positions.now }
     requires shifted { AreShifted cursor.old.position at.now.positions.now entries.old }
-    requires noted { IsNoted (cat (shapes_of parts.now)) cursor.old at.now }
-    ensures accepting { result ≡ accepted_from (cat (shapes_of parts.now)) enter cursor.old at.now.positions.now at.now.here }
-    ensures entries { entries.new
-        ≡ entries_after (cat (shapes_of parts.now)) enter cursor.old at.now.positions.now at.now.here entries.old }
-    ensures position { cursor.new.position ≡ position_after (cat (shapes_of parts.now)) cursor.old }
-    ensures repeat { cursor.new.repeat ≡ repeat_after (cat (shapes_of parts.now)) cursor.old }
+    requires noted { IsNoted (all_of parts.now) cursor.old at.now }
+    ensures accepting { result ≡ accepted_in (all_of parts.now) enter cursor.old at.now }
+    ensures entries { entries.new ≡ entries_in (all_of parts.now) enter cursor.old at.now entries.old }
+    ensures position { cursor.new.position ≡ position_past (all_of parts.now) cursor.old }
+    ensures repeat { cursor.new.repeat ≡ repeat_past (all_of parts.now) cursor.old }
     ensures cost { steps.new.count ≡ steps.old.count + sizes_of parts.now }
 {
     let mut accepting = enter;
@@ -641,14 +642,13 @@ fn advance_each(
     cursor: &mut Cursor,
     steps: &mut Steps,
 ) -> bool
-    requires room { position_after (alt (shapes_of parts.now)) cursor.old ≤ length at.now.positions.now }
+    requires room { position_past (any_of parts.now) cursor.old ≤ length at.now.positions.now }
     requires shifted { AreShifted cursor.old.position at.now.positions.now entries.old }
-    requires noted { IsNoted (alt (shapes_of parts.now)) cursor.old at.now }
-    ensures accepting { result ≡ accepted_from (alt (shapes_of parts.now)) enter cursor.old at.now.positions.now at.now.here }
-    ensures entries { entries.new
-        ≡ entries_after (alt (shapes_of parts.now)) enter cursor.old at.now.positions.now at.now.here entries.old }
-    ensures position { cursor.new.position ≡ position_after (alt (shapes_of parts.now)) cursor.old }
-    ensures repeat { cursor.new.repeat ≡ repeat_after (alt (shapes_of parts.now)) cursor.old }
+    requires noted { IsNoted (any_of parts.now) cursor.old at.now }
+    ensures accepting { result ≡ accepted_in (any_of parts.now) enter cursor.old at.now }
+    ensures entries { entries.new ≡ entries_in (any_of parts.now) enter cursor.old at.now entries.old }
+    ensures position { cursor.new.position ≡ position_past (any_of parts.now) cursor.old }
+    ensures repeat { cursor.new.repeat ≡ repeat_past (any_of parts.now) cursor.old }
     ensures cost { steps.new.count ≡ steps.old.count + sizes_of parts.now }
 {
     let mut out = false;

@@ -258,7 +258,8 @@ impl<'a> Matcher<'a> {
             (λ line. IsFirstMatch self.old.tree block.now from line.start line.end) }
         ensures same { self.new.tree ≡ self.old.tree }
         ensures states { GrowsOver (to - from) self.old.states self.new.states }
-        ensures work { WorksWithin (searched_bytes from to result * (byte_work self.old.tree + 2)) self.old self.new }
+        ensures work { WorksWithin (searched_bytes from to result * (byte_work self.old.tree + 2))
+            self.old self.new }
     {
         let Some(accepted) = self.dfa.first_accepted(&block[from..to], &mut self.steps) else {
             return None;

@@ -31,7 +31,8 @@ pub(crate) fn next_candidate(
     requires within { from < length block.now }
     requires whole { AreWholeLines (drop from block.now) }
     ensures candidate { IsCandidate prefilter.now.0 block.now from result.line result.has_word }
-    ensures work { CountsAtMost (2 * offset_work * searched_bytes from (length block.now) result.line) steps.old steps.new }
+    ensures work { CountsAtMost (2 * offset_work * searched_bytes from (length block.now) result.line)
+        steps.old steps.new }
 {
     let rest = &block[from..];
     let stop = prefilter.skip(rest, 0, steps);

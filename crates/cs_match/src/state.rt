@@ -186,7 +186,8 @@ impl State {
         ensures accepting { result
             ≡ accepts program.now true self.old.positions (look_at_end self.old) }
         ensures moved { self.new ≡ start program.now }
-        ensures cost { CountsAtMost (nodes program.now + words (position_count program.now)) steps.old steps.new }
+        ensures cost { CountsAtMost (nodes program.now + words (position_count program.now))
+            steps.old steps.new }
     {
         let here = LookAround {
             first: self.first,

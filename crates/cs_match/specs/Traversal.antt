@@ -10,11 +10,11 @@ use Rattle.cs_match.specs.Entered.{entered}
 use Rattle.cs_match.specs.Glushkov.{position_count, repeats, is_final, accepts, loop_ends}
 use Rattle.cs_match.specs.Parts.{shapes_of}
 
--- the tree of some parts one after another
+-- the concatenation of some parts
 abbrev pub all_of : List Part → Tree
 all_of parts = cat (shapes_of parts)
 
--- the tree of some parts of which one is taken
+-- the alternation of some parts
 abbrev pub any_of : List Part → Tree
 any_of parts = alt (shapes_of parts)
 

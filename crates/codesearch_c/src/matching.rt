@@ -7,12 +7,10 @@ ghost use Rattle.codesearch_c.specs.Codes.{done};
 ghost use Rattle.codesearch_c.specs.Slots.{is_filled, OnPattern};
 ghost use Rattle.codesearch_c.specs.Patterns.{IsRefusal, IsCompiled, IsMisuse, IsMatchCode, IsNextCode, IsLinesCode, IsCountCode, IsCandidatesCode, Keeps};
 
-use crate::codes::{MEMORY, MISUSE, NOT_UTF8, OK, ROOM, index_code, pattern_code};
-use crate::copying::copy_items;
+use crate::codes::{MEMORY, MISUSE, NOT_UTF8, OK, pattern_code};
 use crate::held::{Held, HeldPattern};
 use crate::lines::Line;
 use crate::slot::Slot;
-use cs_index::Index;
 use cs_match::Program;
 use cs_syntax::{Pattern, parse};
 use cs_trigram::query;
@@ -117,21 +115,11 @@ pub extern "C" fn cs_pattern_is_match(alloc: Global, slot: &mut Slot, line: &[u8
         return MISUSE;
     };
     let code = match &mut *held {
-        Held::Pattern(pattern) => match_code(pattern, alloc, line),
+        Held::Pattern(pattern) => pattern.match_code(alloc, line),
         _ => MISUSE,
     };
     slot.fill(held);
     code
-}
-
-fn match_code(pattern: &mut HeldPattern, alloc: Global, line: &[u8]) -> i32
-    ensures code { IsMatchCode pattern.old.pattern line.now result }
-    ensures same { pattern.new ≡ pattern.old }
-{
-    match pattern.is_match(alloc, line) {
-        Ok(found) => i32::from(found),
-        Err(AllocError) => MEMORY,
-    }
 }
 
 /// The first matching line from an offset on: 1, 0 if there is none, or a code.
@@ -152,31 +140,11 @@ pub extern "C" fn cs_pattern_next(
         return MISUSE;
     };
     let code = match &mut *held {
-        Held::Pattern(pattern) => next_code(pattern, alloc, block, from, line),
+        Held::Pattern(pattern) => pattern.next_code(alloc, block, from, line),
         _ => MISUSE,
     };
     slot.fill(held);
     code
-}
-
-fn next_code(
-    pattern: &mut HeldPattern,
-    alloc: Global,
-    block: &[u8],
-    from: usize,
-    line: &mut Line,
-) -> i32
-    ensures code { IsNextCode pattern.old.pattern block.now from line.old line.new result }
-    ensures same { pattern.new ≡ pattern.old }
-{
-    match pattern.next_line(alloc, block, from) {
-        Ok(Some(found)) => {
-            *line = found;
-            1
-        }
-        Ok(None) => 0,
-        Err(AllocError) => MEMORY,
-    }
 }
 
 /// The matching lines of a block, and how many they are.
@@ -198,31 +166,11 @@ pub extern "C" fn cs_pattern_lines(
         return MISUSE;
     };
     let code = match &mut *held {
-        Held::Pattern(pattern) => lines_code(pattern, alloc, block, lines, count),
+        Held::Pattern(pattern) => pattern.lines_code(alloc, block, lines, count),
         _ => MISUSE,
     };
     slot.fill(held);
     code
-}
-
-fn lines_code(
-    pattern: &mut HeldPattern,
-    alloc: Global,
-    block: &[u8],
-    lines: &mut [Line],
-    count: &mut usize,
-) -> i32
-    ensures code { IsLinesCode pattern.old.pattern block.now lines.old lines.new count.old count.new
-        result }
-    ensures same { pattern.new ≡ pattern.old }
-{
-    match pattern.matching_lines(alloc, block, lines) {
-        Ok(found) => {
-            *count = found;
-            if found > lines.len() { ROOM } else { OK }
-        }
-        Err(AllocError) => MEMORY,
-    }
 }
 
 /// The number of matching lines of a block.
@@ -270,29 +218,9 @@ pub extern "C" fn cs_pattern_candidates(
         return MISUSE;
     };
     let code = match &*held {
-        Held::Pattern(pattern) => candidates_code(pattern, alloc, index, ids, count),
+        Held::Pattern(pattern) => pattern.candidates_code(alloc, index, ids, count),
         _ => MISUSE,
     };
     slot.fill(held);
     code
-}
-
-fn candidates_code(
-    pattern: &HeldPattern,
-    alloc: Global,
-    index: &[u8],
-    ids: &mut [u32],
-    count: &mut usize,
-) -> i32
-    requires opened { IsOk (opening index.now) }
-    ensures { IfOk (opening index.now) (λ parts.
-        IsCandidatesCode parts pattern.now.query ids.old ids.new count.old count.new result) }
-{
-    match Index::reopen(index) {
-        Ok(index) => match index.candidates(alloc, &pattern.query) {
-            Ok(found) => copy_items(&found, ids, count),
-            Err(fault) => index_code(fault),
-        },
-        Err(fault) => index_code(fault),
-    }
 }

@@ -4,14 +4,11 @@ ghost use Rattle.codesearch_c.specs.Patterns.{IsMisuse, Keeps};
 ghost use Rattle.codesearch_c.specs.Reports.{style_of, IsReportCode};
 ghost use Rattle.codesearch_c.specs.Slots.{OnPattern};
 
-use crate::codes::{MEMORY, MISUSE, NOT_UTF8};
-use crate::copying::copy_items;
-use crate::held::{Held, HeldPattern};
+use crate::codes::MISUSE;
+use crate::held::Held;
 use crate::slot::Slot;
 use cs_args::Style;
-use cs_search::Printer;
 use std::alloc::Global;
-use std::str::from_utf8;
 
 /// What cgrep prints for an input with this name and text.
 #[unsafe(no_mangle)]
@@ -34,13 +31,9 @@ pub extern "C" fn cs_grep(
         return MISUSE;
     };
     let code = match &mut *held {
-        Held::Pattern(pattern) => report_code(
-            pattern,
-            alloc,
-            &Input { name, text, style },
-            out,
-            len,
-        ),
+        Held::Pattern(pattern) => {
+            pattern.report_code(alloc, &Input { name, text, style }, out, len)
+        }
         _ => MISUSE,
     };
     slot.fill(held);
@@ -49,38 +42,14 @@ pub extern "C" fn cs_grep(
 
 /// An input, and the options of cgrep.
 #[derive(Drop)]
-struct Input<'a> {
-    name: &'a [u8],
-    text: &'a [u8],
-    style: u32,
-}
-
-fn report_code(
-    pattern: &mut HeldPattern,
-    alloc: Global,
-    input: &Input<'_>,
-    out: &mut [u8],
-    len: &mut usize,
-) -> i32
-    ensures code { IsReportCode pattern.old.pattern input.now.name.now input.now.text.now input.now.style
-        out.old out.new len.old len.new result }
-    ensures same { pattern.new ≡ pattern.old }
-{
-    let Ok(name) = from_utf8(input.name) else {
-        return NOT_UTF8;
-    };
-    let printer = Printer {
-        name,
-        style: style_of(input.style),
-    };
-    match pattern.report(alloc, &printer, input.text) {
-        Ok(report) => copy_items(report.bytes(), out, len),
-        Err(_) => MEMORY,
-    }
+pub(crate) struct Input<'a> {
+    pub(crate) name: &'a [u8],
+    pub(crate) text: &'a [u8],
+    pub(crate) style: u32,
 }
 
 /// The options of cgrep: 1 for `-c`, 2 for `-l`, 4 for `-n` and 8 for `-h`.
-fn style_of(flags: u32) -> Style
+pub(crate) fn style_of(flags: u32) -> Style
     ensures { result ≡ style_of flags }
 {
     Style {

@@ -8,14 +8,14 @@ invariant_of-self-2 c = (
   c.self.invariant.0,
   c.self.invariant.1,
   λ program same. c.into_cache.ensures program
-      (same ∙ sym (c.count_lines.ensures.same ∙ c.resume-matcher.ensures.tree)),
+      (same ∙ sym (c.count_lines.ensures.same ∙ c.in-Ok.ensures.tree)),
 )
 
 pub returns-clause-code : goal.returns-clause-code
 returns-clause-code c = record {
   counted = λ _. (
     (λ has_match decides. c.count_lines.ensures.found has_match
-        (decides_program has_match _ _ _ _ c.resume-matcher.ensures.tree c.self.invariant.0
+        (decides_program has_match _ _ _ _ c.in-Ok.ensures.tree c.self.invariant.0
         (ap (λ (p : Compiled). p.pattern) c.self.view_is) decides)),
     refl,
   );

@@ -1,0 +1,21 @@
+use Rattle.std.proofs.Common.{rules, sym, ap, ◌∙◌}
+use Rattle.codesearch_c.specs.Compiled.{Compiled}
+use Rattle.codesearch_c.specs.MatchingLines.{IsListing}
+use Rattle.codesearch_c.proofs.MatchingLineLemmas.{decides_program}
+use Rattle.codesearch_c.proofs.held.HeldPattern.lines_code.Goals as goal
+
+pub invariant_of-self-2 : goal.invariant_of-self-2
+invariant_of-self-2 c = (
+  c.self.invariant.0,
+  c.self.invariant.1,
+  λ program same. c.into_cache.ensures program (same ∙ sym (c.list_lines-found.ensures.same ∙ c.in-Ok.ensures.tree)),
+)
+
+pub returns-clause-code : goal.returns-clause-code
+returns-clause-code c =
+    let listed : IsListing c.args.self.now.pattern c.args.block.now c.args.lines.now c.list_lines-found.new.lines c.list_lines-found.result =
+    λ has_match decides.
+    c.list_lines-found.ensures.listed has_match
+    (decides_program has_match _ _ _ _ c.in-Ok.ensures.tree c.self.invariant.0
+    (ap (λ (p : Compiled). p.pattern) c.self.view_is) decides) in
+    search rules

@@ -1,0 +1,20 @@
+use Rattle.std.proofs.Common.{rules, sym, ap, ◌∙◌}
+use Rattle.codesearch_c.specs.Compiled.{Compiled}
+use Rattle.codesearch_c.specs.MatchingLines.{IsFirstLine}
+use Rattle.codesearch_c.proofs.MatchingLineLemmas.{decides_program}
+use Rattle.codesearch_c.proofs.held.HeldPattern.next_code.Goals as goal
+
+pub invariant_of-self-2 : goal.invariant_of-self-2
+invariant_of-self-2 c = (
+  c.self.invariant.0,
+  c.self.invariant.1,
+  λ program same. c.into_cache.ensures program (same ∙ sym (c.first_line-found.ensures.same ∙ c.in-Ok.ensures.tree)),
+)
+
+pub returns-clause-code : goal.returns-clause-code
+returns-clause-code c =
+    let first : IsFirstLine c.args.self.now.pattern c.args.block.now c.args.from c.first_line-found.result = λ has_match decides.
+    c.first_line-found.ensures.found has_match
+    (decides_program has_match _ _ _ _ c.in-Ok.ensures.tree c.self.invariant.0
+    (ap (λ (p : Compiled). p.pattern) c.self.view_is) decides) in
+    search rules

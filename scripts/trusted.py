@@ -12,7 +12,7 @@ crates = Path(__file__).resolve().parent.parent / "crates"
 IMPORT = re.compile(r"^\s*(?:pub )?(?:ghost )?use Rattle\.(cs_\w+|codesearch)\.specs\.([A-Za-z_.]+?)(?:\.\{([^}]*)\}| as (\S+?))?;?$", re.M)
 
 # the clauses of csearch_stored except `selective`, which says how few files its query selects
-STORED = "searches unopened silent unread reads flushed writes keeps modelled size failed".split()
+STORED = "searches unopened silent unread tree outputs store".split()
 
 # the function, its file, the clauses that count besides its requirements (none: all), and the maximum number of lines
 # of definitions

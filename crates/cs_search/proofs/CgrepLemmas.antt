@@ -11,7 +11,7 @@ use Rattle.cs_match.specs.Deciding.{Decides}
 use Rattle.cs_tree.specs.TakesPrefix.{EndsAfter, MayEnd}
 use Rattle.cs_tree.specs.ConsumesAtMost.{ConsumesAtMost}
 use Rattle.cs_tree.specs.StreamModels.{SourceModel}
-use Rattle.cs_tree.specs.Sinks.{SinkModel, GrowsFlushed, HasFlushed}
+use Rattle.cs_tree.specs.Sinks.{SinkModel, GrowsFlushed, HasFlushed, CountsOne}
 use Rattle.cs_tree.specs.Snapshot.{Snapshot}
 use Rattle.cs_tree.proofs.GrowsLemmas.{Grows-same, GrowsFlushed-chain, leaves_flushed}
 use Rattle.cs_tree.proofs.ConsumesLemmas.{Consumes_few}
@@ -26,7 +26,8 @@ use Rattle.cs_search.specs.Searcher.{Prints}
 use Rattle.cs_search.specs.InputReport.{max_searched}
 use Rattle.cs_search.specs.Cgrep.{cgrep_printed, standard_name, PatternFirst, PrintsFaultsOf, IsGrep}
 use Rattle.cs_search.specs.Programs.{IsProgramOf, RefusesPattern}
-use Rattle.cs_search.specs.Refusals.{IsAccepted, DecidesText, SilentOnError}
+use Rattle.cs_search.specs.Refusals.{IsAccepted, DecidesText, SilentOnError, has_write_failed}
+use Rattle.cs_search.specs.SearchEffects.{EndsOutputs}
 use Rattle.cs_search.specs.GrepFaults.{IsSearchFault}
 use Rattle.cs_args.specs.declared.fault.ToolFault.{ToolFault}
 use Rattle.cs_args.specs.declared.fault.ToolFault.TheVariants.{Pattern, FilePattern, NoIndex, BadIndex, Write, Memory}
@@ -70,6 +71,12 @@ begun_silent Silent (Err Write) only = λ unwritten forced. absurd (unwritten re
 begun_silent Silent (Err Memory) only = λ unwritten forced. absurd (forced refl)
 begun_silent Silent (Err fault) only = absurd only
 
+-- A fault of the search of some inputs is one of the whole search.
+pub same_fault : (fault : ToolFault) → IsSearchFault {A = Bool} (Err fault) → IsSearchFault {A = Status} (Err fault)
+same_fault Write only = tt
+same_fault Memory only = tt
+same_fault fault only = absurd only
+
 -- nothing was printed
 pub all_silent : {A : Type 0} (Silent : Type 0) (answer : Result A ToolFault) → Silent → SilentOnError answer Silent
 all_silent Silent (Ok status) silent = tt
@@ -99,11 +106,26 @@ module _ (out now later err err-now err-later : Option SinkModel) where
   PrintsAnswer-ended printed matched (Err fault) p ends ends-err is =
       PrintsAnswer-all printed fault out now later err err-now err-later matched p ends ends-err
 
-  pub ended_flushed : (answer : Result Status ToolFault) →
+  ended_flushed : (answer : Result Status ToolFault) →
       MatchResult answer (λ _. GrowsFlushed now later []) (λ _. MayEnd [] now later) → EndsAfter [] err-now err-later answer →
       OnOk answer (HasFlushed later × HasFlushed err-later)
   ended_flushed (Ok status) ends ends-err = (leaves_flushed now later [] ends, leaves_flushed err-now err-later [] ends-err)
   ended_flushed (Err fault) ends ends-err = tt
+
+-- A search without an error, and then a flush of both outputs.
+pub ended_outputs : {O E : Type 0} (out_model : O → Option SinkModel) (out_failed : O → ℕ) (err_model : E → Option SinkModel)
+    (err_failed : E → ℕ) (out now later : O) (err err-now err-later : E) (answer : Result Status ToolFault) →
+    CountsOne false (out_failed out) (out_failed now) (err_failed err) (err_failed err-now) →
+    MatchResult answer (λ _. GrowsFlushed (out_model now) (out_model later) []) (λ _. MayEnd [] (out_model now) (out_model later)) →
+    EndsAfter [] (err_model err-now) (err_model err-later) answer →
+    CountsOne (has_write_failed answer) (out_failed now) (out_failed later) (err_failed err-now) (err_failed err-later) →
+    EndsOutputs out_model out_failed err_model err_failed out later err err-later answer
+ended_outputs out_model out_failed err_model err_failed out now later err err-now err-later answer same ends ends-err counts = (
+  ended_flushed (out_model out) (out_model now) (out_model later) (err_model err) (err_model err-now) (err_model err-later) answer
+      ends ends-err,
+  subst (λ n. CountsOne (has_write_failed answer) n (out_failed later) (err_failed err) (err_failed err-later)) same.0
+      (subst (λ n. CountsOne (has_write_failed answer) (out_failed now) (out_failed later) n (err_failed err-later)) same.1 counts),
+)
 
 -- ---- the printed faults
 

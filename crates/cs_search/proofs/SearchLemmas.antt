@@ -1,7 +1,10 @@
 -- The clauses of a search by an index, for each way in which it ends.
 use Rattle.std.proofs.Common.{◌≡◌, ℕ, Bool, true, false, List, ap, subst, Option, Some, None, Result, Ok, Err, refl, inl, inr, ◌⊎◌}
-use Rattle.std.specs.Prelude.{filter, IfErr, IfSome}
+use Rattle.std.specs.Prelude.{filter, map, option_map, IfErr, IfSome, String, string_bytes}
+use Rattle.std.specs.declared.alloc.Global.{Global}
 use Rattle.cs_syntax.specs.Matching.{Tree}
+use Rattle.cs_match.specs.Decidability.{MatchingIsDecidable}
+use Rattle.cs_match.specs.Deciding.{Decides}
 use Rattle.cs_tree.specs.TakesPrefix.{EndsAfter}
 use Rattle.cs_tree.specs.Snapshot.{Snapshot}
 use Rattle.cs_trigram.specs.declared.queries.Query.{Query}
@@ -9,6 +12,8 @@ use Rattle.cs_trigram.specs.declared.queries.Query.TheVariants.{All}
 use Rattle.cs_index.specs.OpenedParts.{Parts}
 use Rattle.cs_index.specs.Stored.{StoredParts}
 use Rattle.cs_index.specs.declared.fault.IndexFault.{IndexFault}
+use Rattle.cs_args.specs.declared.jobs.Style.{Style}
+use Rattle.cs_args.specs.declared.jobs.Tool.{Tool}
 use Rattle.cs_args.specs.declared.jobs.Tool.TheVariants.{Csearch}
 use Rattle.cs_args.specs.declared.jobs.SearchJob.{SearchJob}
 use Rattle.cs_args.specs.declared.fault.ToolFault.{ToolFault}
@@ -16,18 +21,19 @@ use Rattle.cs_args.specs.declared.fault.ToolFault.TheVariants.{Pattern, FilePatt
 use Rattle.cs_search.specs.declared.status.Status.{Status}
 use Rattle.cs_trigram.specs.QueryOf.{IsQueryOf}
 use Rattle.cs_search.specs.Csearch.{OpensWith, csearch_printed, IsSound, OpensWhole, IsReady, IsBad, RefusedInOrder}
-use Rattle.cs_search.specs.Plans.{RefusesPlan}
+use Rattle.cs_search.specs.declared.plan.Plan.{Plan}
+use Rattle.cs_search.specs.Plans.{IsPlan, AreSelected, RefusesPlan}
 use Rattle.cs_search.specs.InputReport.{max_searched}
-use Rattle.cs_search.specs.Printed.{Printed, SearchOutputs, PrintsAnswer, PrintsNothing, PrintsFaults, searched_by_cgrep}
+use Rattle.cs_search.specs.Printed.{Printed, SearchOutputs, PrintsAnswer, PrintsNothing, PrintsFaults, all_printed, file_printed, searched_by_cgrep}
 use Rattle.cs_search.specs.SameSearch.{PrintsLikeCgrep}
 use Rattle.cs_search.specs.Searched.{IsSearch}
 use Rattle.cs_history.specs.HistoryIndex.{indexed_names}
 use Rattle.cs_history.specs.Premises.{modelled_snapshot}
 use Rattle.cs_search.specs.StoredSearch.{IsUnopened}
 use Rattle.cs_search.specs.GrepFaults.{IsSearchFault}
-use Rattle.cs_search.proofs.CsearchLemmas.{search_last}
+use Rattle.cs_search.proofs.CsearchLemmas.{by_csearch, search_last}
 use Rattle.cs_search.proofs.PrintedInputLemmas.{PrintsFaults-no, PrintsAnswer-nothing}
-use Rattle.cs_search.proofs.MainPromiseLemmas.{PrintsCandidates, like_cgrep, as_promised}
+use Rattle.cs_search.proofs.MainPromiseLemmas.{PrintsCandidates, faults_chosen, like_cgrep, as_promised, ready, searched}
 
 -- ---- a query that is selective is sound
 
@@ -115,6 +121,26 @@ module _ (job : SearchJob) (index : Option (List ℕ)) (tree : Option Snapshot) 
       refused = search_last job index query answer ready is;
       faults = faults;
     }
+
+-- a search of the selected names that began
+pub searches_selected : (job : SearchJob) (plan : Plan) → IsPlan job plan → (bytes : Option (List ℕ)) (texts : List (String Global)) →
+    AreSelected plan bytes texts → (tree : Option Snapshot) (before after : ℕ) (outputs : SearchOutputs) (answer : Result Status ToolFault) →
+    MatchingIsDecidable → (tool : Tool) (style : Style) (matcher : Tree) → tool ≡ Csearch → style ≡ job.style →
+    matcher ≡ plan.program → IsSearchFault answer →
+    ((has_match : List ℕ → Bool) → Decides has_match matcher → PrintsAnswer (option_map (λ (tree : Snapshot). all_printed
+    (file_printed max_searched tool style has_match tree) (map string_bytes texts)) tree) outputs answer) →
+    PrintsFaults tool (map string_bytes texts) before after (λ lines. EndsAfter lines outputs.err outputs.err_then answer) →
+    IsSearch IsQueryOf job bytes tree before after outputs answer
+searches_selected job plan is bytes texts selected tree before after outputs answer decidable tool style matcher tool-is style-is matcher-is only
+    printed faulty =
+    let Claim = λ (printed : Option Printed). PrintsAnswer printed outputs answer in
+    let Writes = λ (lines : List ℕ). EndsAfter lines outputs.err outputs.err_then answer in
+    let prints = by_csearch Claim tree (map string_bytes texts) tool style job.style matcher plan.program tool-is style-is matcher-is
+    printed in
+    let faults = subst (λ (t : Tool). PrintsFaults t (map string_bytes texts) before after Writes) tool-is faulty in
+    begun job bytes tree before after outputs plan.query (ready job bytes plan is texts selected) answer only
+    (searched job bytes plan is texts selected tree Claim prints)
+    (λ opened opens. faults_chosen job bytes plan is texts selected decidable Writes opened before after opens faults)
 
 -- ---- a store that has a model
 

@@ -37,12 +37,14 @@ pub mod GrepFaults
 pub mod Printed
 pub mod Work
 pub mod Refusals
+pub mod SearchEffects
 pub mod Cgrep
 pub mod Csearch
 pub mod SearchHeadline
 pub mod Searched
 pub mod StoredSearch
 pub mod SameSearch
+pub mod SearchLaws
 -- Definitions that private contracts cite.
 pub mod TestedLines
 pub mod Progress

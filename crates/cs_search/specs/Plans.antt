@@ -1,5 +1,5 @@
 -- The plan of a search by an index: its contents, its errors, and the index that answers its query.
-use Rattle.std.specs.Prelude.{ℕ, ◌≡◌, true, false, List, Option, String, string_bytes, Err}
+use Rattle.std.specs.Prelude.{ℕ, ◌≡◌, true, false, List, Option, String, Vec, string_bytes, Result, Err, MatchResult}
 use Rattle.std.specs.declared.alloc.Global.{Global}
 use Rattle.cs_syntax.specs.Matching.{Tree}
 use Rattle.cs_syntax.specs.Parsing.{ParsesAs}
@@ -37,3 +37,7 @@ pub record AreSelected (plan : Plan) (index : Option (List ℕ)) (texts : List (
   pub opens : OpensWith index parts
   pub whole : is_answerable parts plan.query ≡ true
   pub kept : AreKept plan.file parts.names (candidates_of parts plan.query) texts
+
+-- the names that the plan selects, or an error that is right for the job
+abbrev pub SelectsOrRefuses : SearchJob → Plan → Option (List ℕ) → Result (Vec (String Global) Global) ToolFault → Type 0
+SelectsOrRefuses job plan index answer = MatchResult answer (λ names. AreSelected plan index names.items) (RefusesPlan job index)

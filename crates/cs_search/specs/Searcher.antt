@@ -1,17 +1,25 @@
 -- The contracts inside a searcher: what its functions leave unchanged, what they print, and their errors.
-use Rattle.std.specs.Prelude.{ℕ, ◌≡◌, Bool, List, Option, Some, None, option_map, Result}
+use Rattle.std.specs.Prelude.{ℕ, ◌≡◌, Bool, List, Option, Some, None, option_map, Result, MatchResult}
+use Rattle.cs_syntax.specs.Matching.{Tree}
 use Rattle.cs_match.specs.Deciding.{Decides}
 use Rattle.cs_tree.specs.StreamModels.{SourceModel}
 use Rattle.cs_tree.specs.Snapshot.{Snapshot}
-use Rattle.cs_tree.specs.Sinks.{SinkModel, Grows}
+use Rattle.cs_tree.specs.Sinks.{SinkModel, Grows, CountsOne}
 use Rattle.cs_tree.specs.TakesPrefix.{TakesPrefix}
 use Rattle.cs_tree.specs.WritesBytes.{WritesBytes}
 use Rattle.cs_search.specs.declared.searcher.Searcher.{Searcher}
+use Rattle.cs_args.specs.declared.jobs.Style.{Style}
 use Rattle.cs_args.specs.declared.jobs.Tool.{Tool}
 use Rattle.cs_search.specs.InputReport.{max_searched}
 use Rattle.cs_args.specs.declared.fault.ToolFault.{ToolFault}
-use Rattle.cs_search.specs.declared.status.Status.{Status}
-use Rattle.cs_search.specs.Printed.{Printed, input_printed, file_printed, all_printed, PrintsFaults, SearchOutputs, PrintsAnswer}
+use Rattle.cs_search.specs.GrepFaults.{IsSearchFault}
+use Rattle.cs_search.specs.Refusals.{has_write_failed}
+use Rattle.cs_search.specs.Printed.{Printed, input_printed, file_printed, all_printed, PrintsFaults, SearchOutputs}
+
+-- It is of this tool, style and program.
+abbrev pub IsSearcherOf : Tool → Style → Tree → Searcher → Type 0
+IsSearcherOf tool style program searcher =
+    (searcher.tool ≡ tool) × (searcher.style ≡ style) × (searcher.matcher.tree ≡ program)
 
 pub record IsKept (old new : Searcher) : Type 0 where
   pub tool : new.tool ≡ old.tool
@@ -47,24 +55,22 @@ module _ (searcher : Searcher) where
   files_shown names tree has_match =
       option_map (λ (tree : Snapshot). all_printed (file_printed max_searched searcher.tool searcher.style has_match tree) names) tree
 
-  -- this was printed, or a prefix of it, by each test that decides what the searcher's matcher matches
-  abbrev pub PrintsBy : ((List ℕ → Bool) → Option Printed) → Option SinkModel → Option SinkModel → Option SinkModel →
-      Option SinkModel → Bool → Type 0
-  PrintsBy printed out out' err err' matched =
-      (has_match : List ℕ → Bool) → Decides has_match searcher.matcher.tree → Prints (printed has_match) out out' err err' matched
-
-  abbrev pub PrintsPrefixBy : ((List ℕ → Bool) → Option Printed) → Option SinkModel → Option SinkModel →
-      Option SinkModel → Option SinkModel → Type 0
-  PrintsPrefixBy printed out out' err err' =
-      (has_match : List ℕ → Bool) → Decides has_match searcher.matcher.tree → PrintsPrefix (printed has_match) out out' err err'
-
-  -- the same, and then both outputs were flushed
-  abbrev pub AnswersBy : ((List ℕ → Bool) → Option Printed) → SearchOutputs → Result Status ToolFault → Type 0
-  AnswersBy printed outputs answer =
-      (has_match : List ℕ → Bool) → Decides has_match searcher.matcher.tree → PrintsAnswer (printed has_match) outputs answer
+  -- Without an error this was printed, and the answer says whether some line matched; else a prefix of it. It is so by each
+  -- test that decides what the searcher's matcher matches.
+  abbrev pub PrintsResult : ((List ℕ → Bool) → Option Printed) → SearchOutputs → Result Bool ToolFault → Type 0
+  PrintsResult printed outputs answer = MatchResult answer
+      (λ matched. (has_match : List ℕ → Bool) → Decides has_match searcher.matcher.tree →
+      Prints (printed has_match) outputs.out outputs.out_then outputs.err outputs.err_then matched)
+      (λ _. (has_match : List ℕ → Bool) → Decides has_match searcher.matcher.tree →
+      PrintsPrefix (printed has_match) outputs.out outputs.out_then outputs.err outputs.err_then)
 
 -- Fault lines of some of the names were printed, or a prefix of them if the call failed.
 abbrev pub PrintsAllFaults : {A E : Type 0} → Tool → List (List ℕ) → ℕ → ℕ → Option SinkModel → Option SinkModel →
     Result A E → Type 0
 PrintsAllFaults tool names failed failed' err err' result =
     PrintsFaults tool names failed failed' (λ lines. WritesBytes lines err err' result)
+
+-- A search fails only for a failed write, which one of the outputs counts, or out of memory.
+abbrev pub CountsSearchFault : {O E A : Type 0} → (O → ℕ) → (E → ℕ) → O → O → E → E → Result A ToolFault → Type 0
+CountsSearchFault out_failed err_failed out out' err err' answer =
+    CountsOne (has_write_failed answer) (out_failed out) (out_failed out') (err_failed err) (err_failed err') × IsSearchFault answer

@@ -1,5 +1,5 @@
 -- The promise about a search by an index in a store. docs/PROMISES.md, "Searches of an index".
-use Rattle.std.specs.Prelude.{ℕ, ◌≡◌, ◌≢◌, ◌⊎◌, Bool, false, List, Option, Some, Result, Ok, Err, IfSome, IfOk}
+use Rattle.std.specs.Prelude.{ℕ, ◌≡◌, ◌≢◌, ◌⊎◌, List, Option, Some, Result, Ok, Err, IfSome, IfOk}
 use Rattle.std.specs.Result.{IsOkAnd}
 use Rattle.cs_tree.specs.declared.fault.IoFault.{IoFault}
 use Rattle.cs_trigram.specs.declared.queries.Query.{Query}
@@ -10,7 +10,6 @@ use Rattle.cs_args.specs.declared.fault.ToolFault.{ToolFault}
 use Rattle.cs_args.specs.declared.fault.ToolFault.TheVariants.{BadIndex}
 use Rattle.cs_args.specs.declared.jobs.SearchJob.{SearchJob}
 use Rattle.cs_search.specs.Csearch.{IsSound, AreAccepted, RefusedInOrder}
-use Rattle.cs_search.specs.Refusals.{has_write_failed}
 
 -- the bytes of the store's model decode as that index, or have that error
 abbrev pub IsOpened : Option (List ℕ) → Result StoredParts IndexFault → Type 0
@@ -26,7 +25,3 @@ abbrev pub IsUnopened : {A : Type 0} → SearchJob → IndexFault → Result (Re
 IsUnopened job fault result = IsOkAnd result (λ answer.
     ((index : Option (List ℕ)) → (query : Query) × RefusedInOrder IsSound job index query answer)
     ⊎ (AreAccepted job × (answer ≡ Err (BadIndex fault)) × (fault ≢ index.Memory)))
-
--- a write to one of the outputs failed
-abbrev pub has_output_failed : {A : Type 0} → Result (Result A ToolFault) IoFault → Bool
-has_output_failed result = elim result [ Ok answer ↦ has_write_failed answer | Err fault ↦ false ]

@@ -1,13 +1,11 @@
 // Search by a trigram index (Cox): a query of the pattern selects candidates, which are searched line by line.
-ghost use Rattle.std.specs.Prelude.{◌≡◌, ◌+◌, None, OnOk, option_copied};
-ghost use Rattle.cs_tree.specs.Sinks.{CountsOne, HasFlushed};
-ghost use Rattle.cs_tree.specs.Reads.{ReadsWithin};
-ghost use Rattle.cs_search.specs.InputReport.{max_searched};
-ghost use Rattle.cs_search.specs.Refusals.{has_write_failed, SilentOnError};
+ghost use Rattle.std.specs.Prelude.{None, option_copied};
+ghost use Rattle.cs_search.specs.Refusals.{SilentOnError};
+ghost use Rattle.cs_search.specs.SearchEffects.{SearchesTree, HasNotBegun, EndsOutputs};
 ghost use Rattle.cs_search.specs.Plans.{RefusesPlan};
 ghost use Rattle.cs_search.specs.Csearch.{IsSound};
 ghost use Rattle.cs_trigram.specs.QueryOf.{IsQueryOf};
-ghost use Rattle.cs_search.specs.Printed.{search_outputs, PrintsNothing};
+ghost use Rattle.cs_search.specs.Printed.{search_outputs};
 ghost use Rattle.cs_search.specs.Searched.{IsSearch};
 
 use crate::plan::Plan;
@@ -35,22 +33,14 @@ pub fn csearch<T: Tree, O: Sink, E: Sink>(
     out: &mut O,
     err: &mut E,
 ) -> Result<Status, ToolFault>
-    ensures searches { IsSearch IsSound job.now (option_copied index.entry)
-        (T.snapshot tree.old) (T.failed tree.old) (T.failed tree.new)
-        (search_outputs O.model E.model out.old out.new err.old err.new) result }
-    ensures selective { IsSearch IsQueryOf job.now (option_copied index.entry)
-        (T.snapshot tree.old) (T.failed tree.old) (T.failed tree.new)
-        (search_outputs O.model E.model out.old out.new err.old err.new) result }
-    ensures silent { SilentOnError result
-        (PrintsNothing (search_outputs O.model E.model out.old out.new err.old err.new)
-        × (T.failed tree.new ≡ T.failed tree.old)
-        × (T.longest_requested tree.new ≡ T.longest_requested tree.old)) }
-    ensures reads { ReadsWithin (max_searched + 1)
-        (T.read_counts tree.old) (T.read_counts tree.new) }
-    ensures flushed { OnOk result (HasFlushed (O.model out.new) × HasFlushed (E.model err.new)) }
-    ensures writes { CountsOne (has_write_failed result)
-        (O.failed out.old) (O.failed out.new) (E.failed err.old) (E.failed err.new) }
-    ensures keeps { T.snapshot tree.new ≡ T.snapshot tree.old }
+    ensures searches { IsSearch IsSound job.now (option_copied index.entry) (T.snapshot tree.old) (T.failed tree.old)
+        (T.failed tree.new) (search_outputs O.model E.model out.old out.new err.old err.new) result }
+    ensures selective { IsSearch IsQueryOf job.now (option_copied index.entry) (T.snapshot tree.old) (T.failed tree.old)
+        (T.failed tree.new) (search_outputs O.model E.model out.old out.new err.old err.new) result }
+    ensures silent { SilentOnError result (HasNotBegun O.model E.model T.failed T.longest_requested
+        out.old out.new err.old err.new tree.old tree.new) }
+    ensures tree { SearchesTree T.snapshot T.read_counts tree.old tree.new }
+    ensures outputs { EndsOutputs O.model O.failed E.model E.failed out.old out.new err.old err.new result }
 {
     let Some(bytes) = index else {
         return Err(without_index(alloc, job));

@@ -46,8 +46,7 @@ impl<'p> NameFilter<'p> {
         alloc: Global,
         program: Option<&'p Program>,
     ) -> Result<NameFilter<'p>, AllocError>
-        ensures { IfOk result (λ filter.
-            matcher_tree filter.matcher ≡ option_copied program.entry) }
+        ensures { IfOk result (λ filter. matcher_tree filter.matcher ≡ option_copied program.entry) }
     {
         let Some(program) = program else {
             return Ok(NameFilter { matcher: None });
@@ -59,8 +58,7 @@ impl<'p> NameFilter<'p> {
     }
 
     pub(crate) fn keeps(&mut self, name: &str) -> bool
-        ensures tested { (keeps : List ℕ → Bool) →
-            DecidesNames keeps (matcher_tree self.old.matcher) →
+        ensures tested { (keeps : List ℕ → Bool) → DecidesNames keeps (matcher_tree self.old.matcher) →
             result ≡ keeps name.now }
         ensures same { matcher_tree self.new.matcher ≡ matcher_tree self.old.matcher }
     {

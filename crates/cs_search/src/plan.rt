@@ -1,18 +1,13 @@
 // The plan of a csearch job, compiled before the index or a file is read.
-ghost use Rattle.std.specs.Prelude.{◌≡◌, ◌≤◌, ◌+◌, ℕ, List, Option, IfOk, IfErr, OnOk, map, string_bytes};
+ghost use Rattle.std.specs.Prelude.{◌≤◌, ℕ, List, Option, IfOk, IfErr, string_bytes};
 ghost use Rattle.cs_syntax.specs.Parsing.{ParsesAs};
 ghost use Rattle.cs_syntax.specs.Weight.{weight, max_weight};
-ghost use Rattle.cs_tree.specs.Sinks.{CountsOne, HasFlushed};
-ghost use Rattle.cs_tree.specs.Reads.{ReadsWithin};
-ghost use Rattle.cs_tree.specs.TakesPrefix.{EndsAfter};
-ghost use Rattle.cs_search.specs.InputReport.{max_searched};
 ghost use Rattle.cs_trigram.specs.QueryOf.{IsQueryOf};
 ghost use Rattle.cs_search.specs.Plans.{IsPlan, AreSelected, RefusesPlan};
-ghost use Rattle.cs_search.specs.Printed.{search_outputs, PrintsNothing, PrintsFaults};
-ghost use Rattle.cs_search.specs.Refusals.{has_write_failed, SilentOnError};
-ghost use Rattle.cs_search.specs.GrepFaults.{IsSearchFault};
+ghost use Rattle.cs_search.specs.Printed.{search_outputs};
+ghost use Rattle.cs_search.specs.Refusals.{SilentOnError};
+ghost use Rattle.cs_search.specs.SearchEffects.{SearchesTree, HasNotBegun, EndsOutputs};
 ghost use Rattle.cs_search.specs.Searched.{IsSearch};
-ghost use Rattle.cs_search.specs.Searcher.{AnswersBy, files_shown};
 
 use crate::name_filter::compile_file;
 use crate::searcher::Searcher;
@@ -48,8 +43,7 @@ impl Plan {
     /// Compiles the job. An error of the pattern comes before one of the `-f` pattern.
     pub(crate) fn new(alloc: Global, job: &SearchJob) -> Result<Plan, ToolFault>
         ensures plan { IfOk result (IsPlan job.now) }
-        ensures refused { IfErr result
-            (λ fault. (index : Option (List ℕ)) → RefusesPlan job.now index fault) }
+        ensures refused { IfErr result (λ fault. (index : Option (List ℕ)) → RefusesPlan job.now index fault) }
     {
         let pattern = parse(alloc, job.pattern.as_str(), job.fold)?;
         Plan::of_pattern(alloc, job, &pattern)
@@ -60,8 +54,7 @@ impl Plan {
         requires reads { ParsesAs (string_bytes job.now.pattern) job.now.fold pattern.now }
         requires light { weight pattern.now ≤ max_weight }
         ensures plan { IfOk result (IsPlan job.now) }
-        ensures refused { IfErr result
-            (λ fault. (index : Option (List ℕ)) → RefusesPlan job.now index fault) }
+        ensures refused { IfErr result (λ fault. (index : Option (List ℕ)) → RefusesPlan job.now index fault) }
     {
         let query = query_of(alloc, job.brute, pattern)?;
         let program = Program::compile(alloc, pattern)?;
@@ -95,16 +88,10 @@ impl PlannedJob<'_> {
         ensures searches { (bytes : Option (List ℕ)) → AreSelected self.now.plan.now bytes names.now →
             IsSearch IsQueryOf self.now.job.now bytes (T.snapshot tree.old) (T.failed tree.old) (T.failed tree.new)
             (search_outputs O.model E.model out.old out.new err.old err.new) result }
-        ensures silent { SilentOnError result
-            (PrintsNothing (search_outputs O.model E.model out.old out.new err.old err.new)
-            × (T.failed tree.new ≡ T.failed tree.old)
-            × (T.longest_requested tree.new ≡ T.longest_requested tree.old)) }
-        ensures reads { ReadsWithin (max_searched + 1)
-            (T.read_counts tree.old) (T.read_counts tree.new) }
-        ensures flushed { OnOk result (HasFlushed (O.model out.new) × HasFlushed (E.model err.new)) }
-        ensures writes { CountsOne (has_write_failed result)
-            (O.failed out.old) (O.failed out.new) (E.failed err.old) (E.failed err.new) }
-        ensures keeps { T.snapshot tree.new ≡ T.snapshot tree.old }
+        ensures silent { SilentOnError result (HasNotBegun O.model E.model T.failed T.longest_requested
+            out.old out.new err.old err.new tree.old tree.new) }
+        ensures tree { SearchesTree T.snapshot T.read_counts tree.old tree.new }
+        ensures outputs { EndsOutputs O.model O.failed E.model E.failed out.old out.new err.old err.new result }
     {
         // The names are those that some test keeps.
         matching_is_decidable();
@@ -114,34 +101,9 @@ impl PlannedJob<'_> {
             self.job.style,
             &self.plan.program,
         )?;
-        search_names(&mut searcher, names, tree, out, err)
+        let matched = searcher.search_files(tree, names, out, err)?;
+        finish(matched, out, err)
     }
-}
-
-/// Searches the files with these names, and flushes both outputs.
-fn search_names<T: Tree, O: Sink, E: Sink>(
-    searcher: &mut Searcher<'_>,
-    names: &[String],
-    tree: &mut T,
-    out: &mut O,
-    err: &mut E,
-) -> Result<Status, ToolFault>
-    ensures prints { AnswersBy searcher.old
-        (files_shown searcher.old (map string_bytes names.now) (T.snapshot tree.old))
-        (search_outputs O.model E.model out.old out.new err.old err.new) result }
-    ensures reads { ReadsWithin (max_searched + 1)
-        (T.read_counts tree.old) (T.read_counts tree.new) }
-    ensures faults { PrintsFaults searcher.old.tool (map string_bytes names.now)
-        (T.failed tree.old) (T.failed tree.new)
-        (λ lines. EndsAfter lines (E.model err.old) (E.model err.new) result) }
-    ensures flushed { OnOk result (HasFlushed (O.model out.new) × HasFlushed (E.model err.new)) }
-    ensures writes { CountsOne (has_write_failed result)
-        (O.failed out.old) (O.failed out.new) (E.failed err.old) (E.failed err.new) }
-    ensures only { IsSearchFault result }
-    ensures keeps { T.snapshot tree.new ≡ T.snapshot tree.old }
-{
-    let matched = searcher.search_files(tree, names, out, err)?;
-    finish(matched, out, err)
 }
 
 /// The query of a pattern; with `-brute` the query that every file matches.

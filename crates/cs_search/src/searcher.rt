@@ -1,14 +1,14 @@
 // The state that a tool searches its inputs with.
-ghost use Rattle.std.specs.Prelude.{◌≡◌, ◌+◌, [], ◌∷◌, IfOk, OnErr, map, string_bytes};
+ghost use Rattle.std.specs.Prelude.{◌≡◌, ◌+◌, [], ◌∷◌, IfOk, map, string_bytes};
 ghost use Rattle.cs_args.specs.FileFaults.{fault_line_of};
 ghost use Rattle.cs_tree.specs.Failures.{count_if};
-ghost use Rattle.cs_tree.specs.Sinks.{CountsOne};
 ghost use Rattle.cs_tree.specs.ConsumesAtMost.{ConsumesAtMost};
-ghost use Rattle.cs_tree.specs.Reads.{ReadsWithin};
 ghost use Rattle.cs_tree.specs.WritesBytes.{WritesBytes};
 ghost use Rattle.cs_search.specs.InputReport.{max_searched};
-ghost use Rattle.cs_search.specs.Searcher.{input_shown, file_shown, files_shown, PrintsBy, PrintsPrefixBy, PrintsAllFaults};
+ghost use Rattle.cs_search.specs.Printed.{search_outputs};
 ghost use Rattle.cs_search.specs.Refusals.{has_write_failed};
+ghost use Rattle.cs_search.specs.SearchEffects.{SearchesTree};
+ghost use Rattle.cs_search.specs.Searcher.{input_shown, file_shown, files_shown, PrintsResult, PrintsAllFaults, CountsSearchFault};
 ghost use Rattle.cs_search.specs.GrepFaults.{IsSearchFault};
 
 use crate::buffer::LineBuffer;
@@ -21,7 +21,6 @@ use cs_tree::{Sink, Source, Tree, TreeReader, write_all};
 use std::alloc::{AllocError, Global};
 
 /// A tool's matcher and read buffer, reused for one input after another.
-#[derive(Drop)]
 pub(crate) struct Searcher<'p> {
     alloc: Global,
     tool: Tool,
@@ -30,8 +29,21 @@ pub(crate) struct Searcher<'p> {
     buffer: LineBuffer,
 }
 
+// A body that owns a searcher drops it by a call, as it does a `Plan`.
+impl Drop for Searcher<'_> {
+    fn drop(self) {
+        let Searcher {
+            alloc: _alloc,
+            tool: _tool,
+            style: _style,
+            matcher: _matcher,
+            buffer: _buffer,
+        } = self;
+    }
+}
+
 impl<'p> Searcher<'p> {
-    ghost use Rattle.cs_search.specs.Searcher.{IsKept};
+    ghost use Rattle.cs_search.specs.Searcher.{IsKept, IsSearcherOf};
 
     pub(crate) fn new(
         alloc: Global,
@@ -39,9 +51,7 @@ impl<'p> Searcher<'p> {
         style: Style,
         program: &'p Program,
     ) -> Result<Searcher<'p>, AllocError>
-        ensures tool { IfOk result (λ searcher. searcher.tool ≡ tool) }
-        ensures style { IfOk result (λ searcher. searcher.style ≡ style) }
-        ensures matcher { IfOk result (λ searcher. searcher.matcher.tree ≡ program.now) }
+        ensures { IfOk result (IsSearcherOf tool style program.now) }
     {
         let matcher = Matcher::new(alloc, program)?;
         let buffer = LineBuffer::new(alloc)?;
@@ -62,17 +72,12 @@ impl<'p> Searcher<'p> {
         out: &mut O,
         err: &mut E,
     ) -> Result<bool, ToolFault>
-        ensures prints { IfOk result (PrintsBy self.old (input_shown self.old name.now (R.model input.old))
-            (O.model out.old) (O.model out.new) (E.model err.old) (E.model err.new)) }
-        ensures prefix { OnErr result (PrintsPrefixBy self.old
-            (input_shown self.old name.now (R.model input.old))
-            (O.model out.old) (O.model out.new) (E.model err.old) (E.model err.new)) }
-        ensures loses { ConsumesAtMost (max_searched + 1) (R.model input.old) (R.model input.new) }
+        ensures prints { PrintsResult self.old (input_shown self.old name.now (R.model input.old))
+            (search_outputs O.model E.model out.old out.new err.old err.new) result }
         ensures faults { PrintsAllFaults self.old.tool (name.now ∷ [])
             (R.failed input.old) (R.failed input.new) (E.model err.old) (E.model err.new) result }
-        ensures writes { CountsOne (has_write_failed result)
-            (O.failed out.old) (O.failed out.new) (E.failed err.old) (E.failed err.new) }
-        ensures only { IsSearchFault result }
+        ensures counts { CountsSearchFault O.failed E.failed out.old out.new err.old err.new result }
+        ensures loses { ConsumesAtMost (max_searched + 1) (R.model input.old) (R.model input.new) }
         ensures kept { IsKept self.old self.new }
         ensures keeps { R.Keeps input.old input.new }
     {
@@ -102,20 +107,13 @@ impl<'p> Searcher<'p> {
         out: &mut O,
         err: &mut E,
     ) -> Result<bool, ToolFault>
-        ensures prints { IfOk result (PrintsBy self.old (file_shown self.old name.now (T.snapshot tree.old))
-            (O.model out.old) (O.model out.new) (E.model err.old) (E.model err.new)) }
-        ensures prefix { OnErr result (PrintsPrefixBy self.old
-            (file_shown self.old name.now (T.snapshot tree.old))
-            (O.model out.old) (O.model out.new) (E.model err.old) (E.model err.new)) }
-        ensures reads { ReadsWithin (max_searched + 1)
-            (T.read_counts tree.old) (T.read_counts tree.new) }
+        ensures prints { PrintsResult self.old (file_shown self.old name.now (T.snapshot tree.old))
+            (search_outputs O.model E.model out.old out.new err.old err.new) result }
         ensures faults { PrintsAllFaults self.old.tool (name.now ∷ [])
             (T.failed tree.old) (T.failed tree.new) (E.model err.old) (E.model err.new) result }
-        ensures writes { CountsOne (has_write_failed result)
-            (O.failed out.old) (O.failed out.new) (E.failed err.old) (E.failed err.new) }
-        ensures only { IsSearchFault result }
+        ensures counts { CountsSearchFault O.failed E.failed out.old out.new err.old err.new result }
+        ensures tree { SearchesTree T.snapshot T.read_counts tree.old tree.new }
         ensures kept { IsKept self.old self.new }
-        ensures keeps { T.snapshot tree.new ≡ T.snapshot tree.old }
     {
         if let Err(fault) = tree.open(name) {
             let fault = FileFault::of_tree(fault)?;
@@ -135,21 +133,14 @@ impl<'p> Searcher<'p> {
         out: &mut O,
         err: &mut E,
     ) -> Result<bool, ToolFault>
-        ensures prints { IfOk result (PrintsBy self.old
+        ensures prints { PrintsResult self.old
             (files_shown self.old (map string_bytes names.now) (T.snapshot tree.old))
-            (O.model out.old) (O.model out.new) (E.model err.old) (E.model err.new)) }
-        ensures prefix { OnErr result (PrintsPrefixBy self.old
-            (files_shown self.old (map string_bytes names.now) (T.snapshot tree.old))
-            (O.model out.old) (O.model out.new) (E.model err.old) (E.model err.new)) }
-        ensures reads { ReadsWithin (max_searched + 1)
-            (T.read_counts tree.old) (T.read_counts tree.new) }
+            (search_outputs O.model E.model out.old out.new err.old err.new) result }
         ensures faults { PrintsAllFaults self.old.tool (map string_bytes names.now)
             (T.failed tree.old) (T.failed tree.new) (E.model err.old) (E.model err.new) result }
-        ensures writes { CountsOne (has_write_failed result)
-            (O.failed out.old) (O.failed out.new) (E.failed err.old) (E.failed err.new) }
-        ensures only { IsSearchFault result }
+        ensures counts { CountsSearchFault O.failed E.failed out.old out.new err.old err.new result }
+        ensures tree { SearchesTree T.snapshot T.read_counts tree.old tree.new }
         ensures kept { IsKept self.old self.new }
-        ensures keeps { T.snapshot tree.new ≡ T.snapshot tree.old }
     {
         let mut matched = false;
         for name in names {
@@ -178,10 +169,7 @@ impl<'p> Searcher<'p> {
 
 /// The fault of an input, as that of a file.
 fn of_input(fault: ReadFault) -> FileFault
-    ensures { result ≡ elim fault [
-      | ReadFault.Read ↦ FileFault.Failed
-      | ReadFault.TooLong ↦ FileFault.InputTooLong
-    ] }
+    ensures { result ≡ elim fault [ ReadFault.Read ↦ FileFault.Failed | ReadFault.TooLong ↦ FileFault.InputTooLong ] }
 {
     match fault {
         ReadFault::Read => FileFault::Failed,

@@ -1,17 +1,16 @@
 // The tool `cgrep`.
-ghost use Rattle.std.specs.Prelude.{◌≡◌, ◌+◌, [], IfOk, IfErr, OnOk, OnErr, MatchResult, string_bytes, if◌then◌else◌};
-ghost use Rattle.cs_tree.specs.Sinks.{CountsOne, GrowsFlushed, HasFlushed};
+ghost use Rattle.std.specs.Prelude.{◌≡◌, ◌+◌, [], IfOk, IfErr, MatchResult, string_bytes, if◌then◌else◌};
+ghost use Rattle.cs_tree.specs.Sinks.{GrowsFlushed};
 ghost use Rattle.cs_tree.specs.ConsumesAtMost.{ConsumesAtMost};
-ghost use Rattle.cs_tree.specs.Reads.{ReadsWithin};
 ghost use Rattle.cs_tree.specs.TakesPrefix.{EndsAfter, MayEnd};
 ghost use Rattle.cs_tree.specs.WritesBytes.{WritesBytes};
 ghost use Rattle.cs_search.specs.InputReport.{max_searched};
 ghost use Rattle.cs_search.specs.Cgrep.{cgrep_printed, PrintsFaultsOf, IsGrep};
-ghost use Rattle.cs_search.specs.Refusals.{SilentOnError, has_write_failed};
-ghost use Rattle.cs_search.specs.GrepFaults.{IsSearchFault};
+ghost use Rattle.cs_search.specs.Refusals.{SilentOnError};
+ghost use Rattle.cs_search.specs.SearchEffects.{SearchesTree, HasNotBegun, EndsOutputs};
 ghost use Rattle.cs_search.specs.Programs.{IsProgramOf, RefusesPattern};
-ghost use Rattle.cs_search.specs.Searcher.{PrintsBy, PrintsPrefixBy, AnswersBy};
-ghost use Rattle.cs_search.specs.Printed.{search_outputs, PrintsNothing};
+ghost use Rattle.cs_search.specs.Searcher.{PrintsResult, CountsSearchFault};
+ghost use Rattle.cs_search.specs.Printed.{search_outputs};
 
 use crate::searcher::Searcher;
 use crate::status::Status;
@@ -40,71 +39,29 @@ pub fn cgrep<T: Tree, R: Source, O: Sink, E: Sink>(
     ensures searches { IsGrep job.now (T.snapshot tree.old) (T.failed tree.old) (T.failed tree.new)
         (R.model input.old) (R.model input.new) (R.failed input.old) (R.failed input.new)
         (search_outputs O.model E.model out.old out.new err.old err.new) result }
-    ensures silent { SilentOnError result
-        (PrintsNothing (search_outputs O.model E.model out.old out.new err.old err.new)
-        × (T.failed tree.new ≡ T.failed tree.old)
-        × (T.longest_requested tree.new ≡ T.longest_requested tree.old)
-        × (R.failed input.new ≡ R.failed input.old)
-        × (R.model input.new ≡ R.model input.old)) }
-    ensures reads { ReadsWithin (max_searched + 1)
-        (T.read_counts tree.old) (T.read_counts tree.new) }
-    ensures flushed { OnOk result (HasFlushed (O.model out.new) × HasFlushed (E.model err.new)) }
-    ensures writes { CountsOne (has_write_failed result)
-        (O.failed out.old) (O.failed out.new) (E.failed err.old) (E.failed err.new) }
-    ensures tree_keeps { T.snapshot tree.new ≡ T.snapshot tree.old }
+    ensures silent { SilentOnError result (HasNotBegun O.model E.model T.failed T.longest_requested
+        out.old out.new err.old err.new tree.old tree.new
+        × (R.failed input.new ≡ R.failed input.old) × (R.model input.new ≡ R.model input.old)) }
+    ensures tree { SearchesTree T.snapshot T.read_counts tree.old tree.new }
+    ensures outputs { EndsOutputs O.model O.failed E.model E.failed out.old out.new err.old err.new result }
     ensures input_keeps { R.Keeps input.old input.new }
 {
     let program = compile(alloc, job)?;
-    let compiled = CompiledJob {
-        alloc,
-        job,
-        program,
-    };
-    compiled.run(tree, input, out, err)
+    let compiled = Compiled { program };
+    let mut searcher = Searcher::new(alloc, Tool::Cgrep, job.style, &compiled.program)?;
+    let matched = search_inputs(&mut searcher, job, tree, input, out, err)?;
+    finish(matched, out, err)
 }
 
-/// A job of `cgrep` with the program of its pattern.
-struct CompiledJob<'a> {
-    alloc: Global,
-    job: &'a GrepJob,
+/// The program of a job's pattern.
+struct Compiled {
     program: Program,
 }
 
-// A body that owns a compiled job drops it by a call, as it does a `Plan`.
-impl Drop for CompiledJob<'_> {
+// A body that owns a program drops it by a call, as it does a `Plan`.
+impl Drop for Compiled {
     fn drop(self) {
-        let CompiledJob {
-            alloc: _alloc,
-            job: _job,
-            program: _program,
-        } = self;
-    }
-}
-
-impl CompiledJob<'_> {
-    /// `cgrep` after the pattern is compiled.
-    fn run<T: Tree, R: Source, O: Sink, E: Sink>(
-        &self,
-        tree: &mut T,
-        input: &mut R,
-        out: &mut O,
-        err: &mut E,
-    ) -> Result<Status, ToolFault>
-        requires { IsProgramOf (string_bytes self.now.job.now.pattern) self.now.job.now.fold self.now.program }
-        ensures searches { IsGrep self.now.job.now (T.snapshot tree.old) (T.failed tree.old) (T.failed tree.new)
-            (R.model input.old) (R.model input.new) (R.failed input.old) (R.failed input.new)
-            (search_outputs O.model E.model out.old out.new err.old err.new) result }
-        ensures only { IsSearchFault result }
-        ensures reads { ReadsWithin (max_searched + 1)
-            (T.read_counts tree.old) (T.read_counts tree.new) }
-        ensures flushed { OnOk result (HasFlushed (O.model out.new) × HasFlushed (E.model err.new)) }
-        ensures writes { CountsOne (has_write_failed result)
-            (O.failed out.old) (O.failed out.new) (E.failed err.old) (E.failed err.new) }
-        ensures tree_keeps { T.snapshot tree.new ≡ T.snapshot tree.old }
-        ensures input_keeps { R.Keeps input.old input.new }
-    {
-        let mut searcher = Searcher::new(self.alloc, Tool::Cgrep, self.job.style, &self.program)?;
-        search_job(&mut searcher, self.job, tree, input, out, err)
+        let Compiled { program: _program } = self;
     }
 }
 
@@ -125,48 +82,14 @@ pub(crate) fn finish<O: Sink, E: Sink>(
     err: &mut E,
 ) -> Result<Status, ToolFault>
     ensures status { IfOk result (λ status. status ≡ (if matched then Status.Matched else Status.NoMatch)) }
-    ensures out { MatchResult result
-        (λ _. GrowsFlushed (O.model out.old) (O.model out.new) [])
+    ensures out { MatchResult result (λ _. GrowsFlushed (O.model out.old) (O.model out.new) [])
         (λ _. MayEnd [] (O.model out.old) (O.model out.new)) }
     ensures err { EndsAfter [] (E.model err.old) (E.model err.new) result }
-    ensures writes { CountsOne (has_write_failed result)
-        (O.failed out.old) (O.failed out.new) (E.failed err.old) (E.failed err.new) }
-    ensures only { IsSearchFault result }
+    ensures counts { CountsSearchFault O.failed E.failed out.old out.new err.old err.new result }
 {
     out.flush()?;
     err.flush()?;
     Ok(Status::of(matched))
-}
-
-/// Searches standard input, or the files of the job, and flushes both outputs.
-fn search_job<T: Tree, R: Source, O: Sink, E: Sink>(
-    searcher: &mut Searcher<'_>,
-    job: &GrepJob,
-    tree: &mut T,
-    input: &mut R,
-    out: &mut O,
-    err: &mut E,
-) -> Result<Status, ToolFault>
-    requires tool { searcher.old.tool ≡ Tool.Cgrep }
-    requires style { searcher.old.style ≡ job.now.style }
-    ensures prints { AnswersBy searcher.old (λ has_match.
-        cgrep_printed max_searched job.now has_match (T.snapshot tree.old) (R.model input.old))
-        (search_outputs O.model E.model out.old out.new err.old err.new) result }
-    ensures loses { ConsumesAtMost (max_searched + 1) (R.model input.old) (R.model input.new) }
-    ensures reads { ReadsWithin (max_searched + 1)
-        (T.read_counts tree.old) (T.read_counts tree.new) }
-    ensures faults { PrintsFaultsOf job.now
-        (T.failed tree.old) (T.failed tree.new) (R.failed input.old) (R.failed input.new)
-        (λ lines. EndsAfter lines (E.model err.old) (E.model err.new) result) }
-    ensures flushed { OnOk result (HasFlushed (O.model out.new) × HasFlushed (E.model err.new)) }
-    ensures writes { CountsOne (has_write_failed result)
-        (O.failed out.old) (O.failed out.new) (E.failed err.old) (E.failed err.new) }
-    ensures only { IsSearchFault result }
-    ensures tree_keeps { T.snapshot tree.new ≡ T.snapshot tree.old }
-    ensures input_keeps { R.Keeps input.old input.new }
-{
-    let matched = search_inputs(searcher, job, tree, input, out, err)?;
-    finish(matched, out, err)
 }
 
 /// Searches standard input, or the files of the job.
@@ -178,24 +101,16 @@ fn search_inputs<T: Tree, R: Source, O: Sink, E: Sink>(
     out: &mut O,
     err: &mut E,
 ) -> Result<bool, ToolFault>
-    requires tool { searcher.old.tool ≡ Tool.Cgrep }
-    requires style { searcher.old.style ≡ job.now.style }
-    ensures prints { IfOk result (PrintsBy searcher.old (λ has_match.
+    requires { (searcher.old.tool ≡ Tool.Cgrep) × (searcher.old.style ≡ job.now.style) }
+    ensures prints { PrintsResult searcher.old (λ has_match.
         cgrep_printed max_searched job.now has_match (T.snapshot tree.old) (R.model input.old))
-        (O.model out.old) (O.model out.new) (E.model err.old) (E.model err.new)) }
-    ensures prefix { OnErr result (PrintsPrefixBy searcher.old (λ has_match.
-        cgrep_printed max_searched job.now has_match (T.snapshot tree.old) (R.model input.old))
-        (O.model out.old) (O.model out.new) (E.model err.old) (E.model err.new)) }
-    ensures loses { ConsumesAtMost (max_searched + 1) (R.model input.old) (R.model input.new) }
-    ensures reads { ReadsWithin (max_searched + 1)
-        (T.read_counts tree.old) (T.read_counts tree.new) }
+        (search_outputs O.model E.model out.old out.new err.old err.new) result }
     ensures faults { PrintsFaultsOf job.now
         (T.failed tree.old) (T.failed tree.new) (R.failed input.old) (R.failed input.new)
         (λ lines. WritesBytes lines (E.model err.old) (E.model err.new) result) }
-    ensures writes { CountsOne (has_write_failed result)
-        (O.failed out.old) (O.failed out.new) (E.failed err.old) (E.failed err.new) }
-    ensures only { IsSearchFault result }
-    ensures tree_keeps { T.snapshot tree.new ≡ T.snapshot tree.old }
+    ensures counts { CountsSearchFault O.failed E.failed out.old out.new err.old err.new result }
+    ensures loses { ConsumesAtMost (max_searched + 1) (R.model input.old) (R.model input.new) }
+    ensures tree { SearchesTree T.snapshot T.read_counts tree.old tree.new }
     ensures input_keeps { R.Keeps input.old input.new }
 {
     if job.standard {

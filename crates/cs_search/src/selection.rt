@@ -2,8 +2,7 @@
 ghost use Rattle.std.specs.Prelude.{◌≡◌, ◌<◌, ◌++◌, ◌∷◌, [], ℕ, List, Some, All, IfOk, length};
 ghost use Rattle.std.specs.Option.{option_copied};
 ghost use Rattle.std.specs.Result.{IsOkAnd};
-ghost use Rattle.cs_tree.specs.FailureCount.{count_after};
-ghost use Rattle.cs_tree.specs.Transfers.{is_io_failure};
+ghost use Rattle.cs_tree.specs.KeepsStore.{KeepsStore};
 ghost use Rattle.cs_index.specs.OpenedParts.{Parts};
 ghost use Rattle.cs_index.specs.Stored.{StandsIn};
 ghost use Rattle.cs_search.specs.IndexSearch.{AreKept};
@@ -43,9 +42,7 @@ pub(crate) fn selected_names<S: Store>(
 ) -> Result<Result<Vec<String>, IndexFault>, IoFault>
     ensures answers { (bytes : List ℕ) (parts : Parts) → S.model store.old ≡ Some bytes →
         StandsIn bytes index.now parts → IfOk result (Selects plan.now parts) }
-    ensures keeps { S.model store.new ≡ S.model store.old }
-    ensures size { S.size store.new ≡ S.size store.old }
-    ensures failed { S.failed store.new ≡ count_after is_io_failure result (S.failed store.old) }
+    ensures store { KeepsStore S.model S.size S.failed store.old store.new result }
 {
     match index.candidates(alloc, store, &plan.query)? {
         Ok(ids) => kept_names(alloc, plan.file.as_ref(), index, &ids, store),
@@ -65,9 +62,7 @@ fn kept_names<S: Store>(
         StandsIn bytes index.now parts → All (λ id. id < length parts.names) ids.now →
         IfOk result (λ answer. IsOkAnd answer
         (λ names. AreKept (option_copied file.entry) parts.names ids.now names.items)) }
-    ensures keeps { S.model store.new ≡ S.model store.old }
-    ensures size { S.size store.new ≡ S.size store.old }
-    ensures failed { S.failed store.new ≡ count_after is_io_failure result (S.failed store.old) }
+    ensures store { KeepsStore S.model S.size S.failed store.old store.new result }
 {
     let mut selection = Selection::new(alloc, index, file)?;
     match selection.read_all(alloc, store, ids)? {
@@ -87,8 +82,7 @@ impl<'p> Selection<'p> {
     ) -> Result<Selection<'p>, AllocError>
         ensures selected { IfOk result (λ selection. (bytes : List ℕ) (parts : Parts) →
             StandsIn bytes index.now parts → HasSelected bytes parts [] selection) }
-        ensures file { IfOk result (λ selection.
-            matcher_tree selection.filter.matcher ≡ option_copied file.entry) }
+        ensures file { IfOk result (λ selection. matcher_tree selection.filter.matcher ≡ option_copied file.entry) }
     {
         let filter = NameFilter::new(alloc, file)?;
         Ok(Selection {
@@ -109,9 +103,7 @@ impl<'p> Selection<'p> {
             HasSelected bytes parts [] self.old → All (λ id. id < length parts.names) ids.now →
             IfOk result (λ answer. IsOkAnd answer (λ _. HasSelected bytes parts ids.now self.new)) }
         ensures same { matcher_tree self.new.filter.matcher ≡ matcher_tree self.old.filter.matcher }
-        ensures keeps { S.model store.new ≡ S.model store.old }
-        ensures size { S.size store.new ≡ S.size store.old }
-        ensures failed { S.failed store.new ≡ count_after is_io_failure result (S.failed store.old) }
+        ensures store { KeepsStore S.model S.size S.failed store.old store.new result }
     {
         'ids: for id in ids {
             if let Err(fault) = self.read(alloc, store, *id)? {
@@ -132,9 +124,7 @@ impl<'p> Selection<'p> {
             HasSelected bytes parts ids self.old → id < length parts.names →
             IfOk result (λ answer. IsOkAnd answer (λ _. HasSelected bytes parts (ids ++ id ∷ []) self.new)) }
         ensures same { matcher_tree self.new.filter.matcher ≡ matcher_tree self.old.filter.matcher }
-        ensures keeps { S.model store.new ≡ S.model store.old }
-        ensures size { S.size store.new ≡ S.size store.old }
-        ensures failed { S.failed store.new ≡ count_after is_io_failure result (S.failed store.old) }
+        ensures store { KeepsStore S.model S.size S.failed store.old store.new result }
     {
         if let Err(fault) = self.reader.read(alloc, store, id)? {
             return Ok(Err(fault));

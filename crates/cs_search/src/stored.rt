@@ -1,17 +1,14 @@
 // Search by an index in a store.
-ghost use Rattle.std.specs.Prelude.{◌≡◌, ◌+◌, IfOk, IfErr, OnOk, false};
-ghost use Rattle.cs_tree.specs.Sinks.{CountsOne, HasFlushed};
-ghost use Rattle.cs_tree.specs.Reads.{ReadsWithin};
-ghost use Rattle.cs_tree.specs.FailureCount.{count_after};
-ghost use Rattle.cs_tree.specs.Transfers.{is_io_failure};
+ghost use Rattle.std.specs.Prelude.{◌≡◌, IfOk, IfErr, false};
+ghost use Rattle.cs_tree.specs.KeepsStore.{KeepsStore};
 ghost use Rattle.cs_search.specs.Refusals.{has_write_failed, SilentOnError};
 ghost use Rattle.cs_search.specs.Csearch.{IsSound, AreAccepted};
 ghost use Rattle.cs_trigram.specs.QueryOf.{IsQueryOf};
-ghost use Rattle.cs_search.specs.Plans.{IsPlan, AreSelected, RefusesPlan};
-ghost use Rattle.cs_search.specs.Printed.{search_outputs, PrintsNothing};
+ghost use Rattle.cs_search.specs.Plans.{IsPlan, SelectsOrRefuses};
+ghost use Rattle.cs_search.specs.Printed.{search_outputs};
+ghost use Rattle.cs_search.specs.SearchEffects.{SearchesTree, HasNotBegun, LeavesTree, LeavesOutputs, EndsOutputs};
 ghost use Rattle.cs_search.specs.Searched.{IsSearch};
-ghost use Rattle.cs_search.specs.InputReport.{max_searched};
-ghost use Rattle.cs_search.specs.StoredSearch.{IsOpened, IfRead, IsUnopened, has_output_failed};
+ghost use Rattle.cs_search.specs.StoredSearch.{IsOpened, IfRead, IsUnopened};
 
 use crate::plan::{Plan, PlannedJob};
 use crate::selection::selected_names;
@@ -45,24 +42,13 @@ pub fn csearch_stored<S: Store, T: Tree, O: Sink, E: Sink>(
         IsSearch IsQueryOf job.now index (T.snapshot tree.old) (T.failed tree.old) (T.failed tree.new)
         (search_outputs O.model E.model out.old out.new err.old err.new) answer) }
     ensures unopened { IfErr opened (λ fault. IsUnopened job.now fault result) }
-    ensures silent { IfOk result (λ answer. SilentOnError answer
-        (PrintsNothing (search_outputs O.model E.model out.old out.new err.old err.new)
-        × (T.failed tree.new ≡ T.failed tree.old)
-        × (T.longest_requested tree.new ≡ T.longest_requested tree.old))) }
-    ensures unread { IfErr result (λ _. AreAccepted job.now
-        × (T.failed tree.new ≡ T.failed tree.old)
-        × (T.longest_requested tree.new ≡ T.longest_requested tree.old)
-        × PrintsNothing (search_outputs O.model E.model out.old out.new err.old err.new)) }
-    ensures reads { ReadsWithin (max_searched + 1)
-        (T.read_counts tree.old) (T.read_counts tree.new) }
-    ensures flushed { IfOk result (λ answer. OnOk answer
-        (HasFlushed (O.model out.new) × HasFlushed (E.model err.new))) }
-    ensures writes { CountsOne (has_output_failed result)
-        (O.failed out.old) (O.failed out.new) (E.failed err.old) (E.failed err.new) }
-    ensures keeps { T.snapshot tree.new ≡ T.snapshot tree.old }
-    ensures modelled { S.model store.new ≡ S.model store.old }
-    ensures size { S.size store.new ≡ S.size store.old }
-    ensures failed { S.failed store.new ≡ count_after is_io_failure result (S.failed store.old) }
+    ensures silent { IfOk result (λ answer. SilentOnError answer (HasNotBegun O.model E.model T.failed T.longest_requested
+        out.old out.new err.old err.new tree.old tree.new)) }
+    ensures unread { IfErr result (λ _. AreAccepted job.now × LeavesTree T.failed T.longest_requested tree.old tree.new
+        × LeavesOutputs O.model O.failed E.model E.failed out.old out.new err.old err.new) }
+    ensures tree { SearchesTree T.snapshot T.read_counts tree.old tree.new }
+    ensures outputs { IfOk result (EndsOutputs O.model O.failed E.model E.failed out.old out.new err.old err.new) }
+    ensures store { KeepsStore S.model S.size S.failed store.old store.new result }
 {
     let plan = match Plan::new(alloc, job) {
         Ok(plan) => plan,
@@ -90,15 +76,10 @@ fn select<S: Store>(
 ) -> Result<Result<Vec<String>, ToolFault>, IoFault>
     requires plan { IsPlan planned.now.job.now planned.now.plan.now }
     requires opened { IsOpened (S.model store.old) opened }
-    ensures selected { IfRead (S.model store.old) result (λ index answer.
-        IfOk answer (λ names. AreSelected planned.now.plan.now index names.items)) }
-    ensures refused { IfRead (S.model store.old) result (λ index answer.
-        IfErr answer (RefusesPlan planned.now.job.now index)) }
+    ensures answers { IfRead (S.model store.old) result (SelectsOrRefuses planned.now.job.now planned.now.plan.now) }
     ensures unopened { IfErr opened (λ fault. IsUnopened planned.now.job.now fault result) }
     ensures unwritten { IfOk result (λ answer. has_write_failed answer ≡ false) }
-    ensures modelled { S.model store.new ≡ S.model store.old }
-    ensures size { S.size store.new ≡ S.size store.old }
-    ensures failed { S.failed store.new ≡ count_after is_io_failure result (S.failed store.old) }
+    ensures store { KeepsStore S.model S.size S.failed store.old store.new result }
 {
     let index = match opened {
         Ok(index) => index,

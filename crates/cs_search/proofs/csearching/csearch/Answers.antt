@@ -24,7 +24,7 @@ returns-in-Err-clause-selective g c =
     out_of_memory c.args.job.now (option_copied c.args.index) (g.T.Tree.snapshot c.args.tree.now)
     (g.T.Tree.failed c.args.tree.now) (g.T.Tree.failed c.csearch_stored.new.tree)
     (search_outputs g.O.Sink.model g.E.Sink.model c.args.out.now c.csearch_stored.new.out c.args.err.now c.csearch_stored.new.err)
-    unread.3 unread.1
+    unread.2.0 unread.1.0
 
 pub returns-in-Err-clause-searches : goal.returns-in-Err-clause-searches
 returns-in-Err-clause-searches g c = sound_search c.args.job.now (option_copied c.args.index) _ _ _ _ _

@@ -9,7 +9,6 @@ use Rattle.cs_args.specs.declared.jobs.Tool.TheVariants.{Cgrep}
 use Rattle.cs_search.specs.Cgrep.{standard_name}
 use Rattle.cs_search.specs.Printed.{Printed, input_printed, file_printed, all_printed}
 use Rattle.cs_search.specs.Searcher.{Prints, PrintsAllFaults, PrintsPrefix}
-use Rattle.cs_index.proofs.common.ResultClauses.{any_err}
 use Rattle.cs_search.proofs.PrintedInputLemmas.{done, undone, PrintsAllFaults-refused}
 use Rattle.cs_search.proofs.CgrepLemmas.{cgrep_standard, cgrep_files, PrintsFaultsOf-standard, PrintsFaultsOf-files}
 use Rattle.cs_search.proofs.searching.search_inputs.Goals as goal
@@ -23,9 +22,9 @@ returns-then-job-clause-prints g c = λ has_match decides.
     c.in_ok-matched.matched in
     let p = c.in_ok-matched.ensures.prints has_match decides in
     let q = subst (λ tool. Claim (option_map
-    (input_printed max_searched tool c.args.searcher.now.style has_match standard_name) model)) c.requires.tool p in
+    (input_printed max_searched tool c.args.searcher.now.style has_match standard_name) model)) c.requires.0 p in
     subst Claim (sym (cgrep_standard max_searched job has_match (g.T.Tree.snapshot c.args.tree.now) model c.if-job.true))
-    (subst (λ style. Claim (option_map (input_printed max_searched Cgrep style has_match standard_name) model)) c.requires.style q)
+    (subst (λ style. Claim (option_map (input_printed max_searched Cgrep style has_match standard_name) model)) c.requires.1 q)
 
 pub returns-clause-prints : goal.returns-clause-prints
 returns-clause-prints g c = λ has_match decides.
@@ -37,42 +36,44 @@ returns-clause-prints g c = λ has_match decides.
     let p = c.in_ok-matched-2.ensures.prints has_match decides in
     let q = subst (λ tool. Claim (option_map
     (λ (s : Snapshot). all_printed (file_printed max_searched tool c.args.searcher.now.style has_match s)
-    (map string_bytes c.deref.result.now)) snapshot)) c.requires.tool p in
+    (map string_bytes c.deref.result.now)) snapshot)) c.requires.0 p in
     let r = subst (λ style. Claim (option_map
     (λ (s : Snapshot). all_printed (file_printed max_searched Cgrep style has_match s)
-    (map string_bytes c.deref.result.now)) snapshot)) c.requires.style q in
+    (map string_bytes c.deref.result.now)) snapshot)) c.requires.1 q in
     subst Claim (sym (cgrep_files max_searched job has_match snapshot (g.R.Source.model c.args.input.now) c.if-job.false))
     (subst (λ names. Claim (option_map (λ (s : Snapshot). all_printed
     (file_printed max_searched Cgrep job.style has_match s) (map string_bytes names)) snapshot)) c.deref.ensures.value
     r)
 
-pub returns-in_err-matched-clause-prefix : goal.returns-in_err-matched-clause-prefix
-returns-in_err-matched-clause-prefix g c =
-    any_err c.from_residual.result (λ has_match decides.
+pub returns-in_err-matched-clause-prints : goal.returns-in_err-matched-clause-prints
+returns-in_err-matched-clause-prints g c =
+    let p = err_from_is_err_and c.from_residual.result c.from_residual.ensures.1 in
+    rw p.1 (λ has_match decides.
     let job = c.args.job.now in
     let model = g.R.Source.model c.args.input.now in
     let Claim = λ (printed : Option Printed). PrintsPrefix printed (g.O.Sink.model c.args.out.now)
     (g.O.Sink.model c.search.new.out) (g.E.Sink.model c.args.err.now) (g.E.Sink.model c.search.new.err) in
-    let p = c.in_err-matched.ensures.prefix has_match decides in
+    let printed = c.in_err-matched.ensures.prints has_match decides in
     let q = subst (λ tool. Claim (option_map
-    (input_printed max_searched tool c.args.searcher.now.style has_match standard_name) model)) c.requires.tool p in
+    (input_printed max_searched tool c.args.searcher.now.style has_match standard_name) model)) c.requires.0 printed in
     subst Claim (sym (cgrep_standard max_searched job has_match (g.T.Tree.snapshot c.args.tree.now) model c.if-job.true))
-    (subst (λ style. Claim (option_map (input_printed max_searched Cgrep style has_match standard_name) model)) c.requires.style q))
+    (subst (λ style. Claim (option_map (input_printed max_searched Cgrep style has_match standard_name) model)) c.requires.1 q))
 
-pub returns-in_err-matched-2-clause-prefix : goal.returns-in_err-matched-2-clause-prefix
-returns-in_err-matched-2-clause-prefix g c =
-    any_err c.from_residual-in_err-matched-2.result (λ has_match decides.
+pub returns-in_err-matched-2-clause-prints : goal.returns-in_err-matched-2-clause-prints
+returns-in_err-matched-2-clause-prints g c =
+    let p = err_from_is_err_and c.from_residual-in_err-matched-2.result c.from_residual-in_err-matched-2.ensures.1 in
+    rw p.1 (λ has_match decides.
     let job = c.args.job.now in
     let snapshot = g.T.Tree.snapshot c.args.tree.now in
     let Claim = λ (printed : Option Printed). PrintsPrefix printed (g.O.Sink.model c.args.out.now)
     (g.O.Sink.model c.search_files.new.out) (g.E.Sink.model c.args.err.now) (g.E.Sink.model c.search_files.new.err) in
-    let p = c.in_err-matched-2.ensures.prefix has_match decides in
+    let printed = c.in_err-matched-2.ensures.prints has_match decides in
     let q = subst (λ tool. Claim (option_map
     (λ (s : Snapshot). all_printed (file_printed max_searched tool c.args.searcher.now.style has_match s)
-    (map string_bytes c.deref.result.now)) snapshot)) c.requires.tool p in
+    (map string_bytes c.deref.result.now)) snapshot)) c.requires.0 printed in
     let r = subst (λ style. Claim (option_map
     (λ (s : Snapshot). all_printed (file_printed max_searched Cgrep style has_match s)
-    (map string_bytes c.deref.result.now)) snapshot)) c.requires.style q in
+    (map string_bytes c.deref.result.now)) snapshot)) c.requires.1 q in
     subst Claim (sym (cgrep_files max_searched job has_match snapshot (g.R.Source.model c.args.input.now) c.if-job.false))
     (subst (λ names. Claim (option_map (λ (s : Snapshot). all_printed
     (file_printed max_searched Cgrep job.style has_match s) (map string_bytes names)) snapshot)) c.deref.ensures.value
@@ -85,7 +86,7 @@ returns-then-job-clause-faults g c =
     refl
     (subst (λ tool. PrintsAllFaults tool (standard_name ∷ []) (g.R.Source.failed c.args.input.now)
     (g.R.Source.failed c.search.new.input) (g.E.Sink.model c.args.err.now) (g.E.Sink.model c.search.new.err) done)
-    c.requires.tool c.in_ok-matched.ensures.faults)
+    c.requires.0 c.in_ok-matched.ensures.faults)
 
 pub returns-in_err-matched-clause-faults : goal.returns-in_err-matched-clause-faults
 returns-in_err-matched-clause-faults g c =
@@ -97,7 +98,7 @@ returns-in_err-matched-clause-faults g c =
     (g.R.Source.failed c.search.new.input) (g.E.Sink.model c.args.err.now) (g.E.Sink.model c.search.new.err) p.1
     (subst (λ tool. PrintsAllFaults tool (standard_name ∷ []) (g.R.Source.failed c.args.input.now)
     (g.R.Source.failed c.search.new.input) (g.E.Sink.model c.args.err.now) (g.E.Sink.model c.search.new.err) undone)
-    c.requires.tool c.in_err-matched.ensures.faults))
+    c.requires.0 c.in_err-matched.ensures.faults))
 
 pub returns-clause-faults : goal.returns-clause-faults
 returns-clause-faults g c =
@@ -108,7 +109,7 @@ returns-clause-faults g c =
     (λ lines. WritesBytes lines (g.E.Sink.model c.args.err.now) (g.E.Sink.model c.search_files.new.err) done)
     c.if-job.false refl
     (subst (IsModelled Cgrep) c.deref.ensures.value
-    (subst (λ tool. IsModelled tool c.deref.result.now) c.requires.tool c.in_ok-matched-2.ensures.faults))
+    (subst (λ tool. IsModelled tool c.deref.result.now) c.requires.0 c.in_ok-matched-2.ensures.faults))
 
 pub returns-in_err-matched-2-clause-faults : goal.returns-in_err-matched-2-clause-faults
 returns-in_err-matched-2-clause-faults g c =
@@ -121,4 +122,4 @@ returns-in_err-matched-2-clause-faults g c =
     c.from_residual-in_err-matched-2.result) c.if-job.false refl
     (PrintsAllFaults-refused Cgrep c.from_residual-in_err-matched-2.result p.0 (map string_bytes c.args.job.now.files.items) _ _ _ _ p.1
     (subst (IsModelled Cgrep) c.deref.ensures.value
-    (subst (λ tool. IsModelled tool c.deref.result.now) c.requires.tool c.in_err-matched-2.ensures.faults)))
+    (subst (λ tool. IsModelled tool c.deref.result.now) c.requires.0 c.in_err-matched-2.ensures.faults)))

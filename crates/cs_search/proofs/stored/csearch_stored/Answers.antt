@@ -23,8 +23,8 @@ pub returns-in-Err-clause-searches : goal.returns-in-Err-clause-searches
 returns-in-Err-clause-searches g c = sound_if_read c.args.job.now (g.S.Store.model c.args.store.now) _ _ _ _ _
     (returns-in-Err-clause-selective g c)
 
-pub returns-in-Err-clause-writes : goal.returns-in-Err-clause-writes
-returns-in-Err-clause-writes g c = rw (c.in-Err.ensures.refused None).2 (refl, refl)
+pub returns-in-Err-clause-outputs : goal.returns-in-Err-clause-outputs
+returns-in-Err-clause-outputs g c = (tt, rw (c.in-Err.ensures.refused None).2 (refl, refl))
 
 pub returns-in-Err-clause-unopened : goal.returns-in-Err-clause-unopened
 returns-in-Err-clause-unopened g c = unopened_first Status Status c.args.job.now c.args.opened c.in-Err.fault
@@ -33,7 +33,7 @@ returns-in-Err-clause-unopened g c = unopened_first Status Status c.args.job.now
 -- a failed read
 pub returns-in_err-names-clause-unread : goal.returns-in_err-names-clause-unread
 returns-in_err-names-clause-unread g c = any_err c.from_residual.result
-    (accepted_plan c.args.job.now c.in-Ok.plan c.in-Ok.ensures.plan, refl, refl, (Grows-same _, Grows-same _))
+    (accepted_plan c.args.job.now c.in-Ok.plan c.in-Ok.ensures.plan, (refl, refl), ((Grows-same _, Grows-same _), (refl, refl)))
 
 -- ---- a search of the selected names
 
@@ -43,7 +43,7 @@ returns-in-Ok-2-clause-selective g c =
     if_modelled model _ (λ bytes is. c.run-answer.ensures.searches (Some bytes)
     (subst (AreSelected c.in-Ok.plan (Some bytes)) (sym c.deref.ensures.value)
     (of_model model (λ bytes. AreSelected c.in-Ok.plan (Some bytes) c.in-Ok-2.names.items) bytes is
-    (rw c.in-Ok-2.is at c.in_ok-names.ensures.selected))))
+    (rw c.in-Ok-2.is at c.in_ok-names.ensures.answers))))
 
 pub returns-in-Ok-2-clause-searches : goal.returns-in-Ok-2-clause-searches
 returns-in-Ok-2-clause-searches g c = sound_if_read c.args.job.now (g.S.Store.model c.args.store.now) _ _ _ _ _
@@ -64,7 +64,7 @@ returns-clause-selective g c =
     if_modelled model _ (λ bytes is. refused_first c.args.job.now (Some bytes) (g.T.Tree.snapshot c.args.tree.now)
     failed failed (outputs_of out out err err) c.in-Err-2.fault (Grows-same out, Grows-same err) refl
     (of_model model (λ bytes. RefusesPlan c.args.job.now (Some bytes) c.in-Err-2.fault) bytes is
-    (rw c.in-Err-2.is at c.in_ok-names.ensures.refused)))
+    (rw c.in-Err-2.is at c.in_ok-names.ensures.answers)))
 
 pub returns-clause-searches : goal.returns-clause-searches
 returns-clause-searches g c = sound_if_read c.args.job.now (g.S.Store.model c.args.store.now) _ _ _ _ _

@@ -15,11 +15,8 @@ returns-in-Err-clause-unopened g c =
     rw c.in-Err.is (rw c.from.ensures
     (unopened_late _ planned.job.now c.in-Err.fault (accepted_plan planned.job.now planned.plan.now c.requires.plan)))
 
-pub returns-in-Err-clause-selected : goal.returns-in-Err-clause-selected
-returns-in-Err-clause-selected g c = if_modelled (g.S.Store.model c.args.store.now) _ (λ bytes is. tt)
-
-pub returns-in-Err-clause-refused : goal.returns-in-Err-clause-refused
-returns-in-Err-clause-refused g c =
+pub returns-in-Err-clause-answers : goal.returns-in-Err-clause-answers
+returns-in-Err-clause-answers g c =
     let model : Option (List ℕ) = g.S.Store.model c.args.store.now in
     let planned = c.args.planned.now in
     let accepted = accepted_plan planned.job.now planned.plan.now c.requires.plan in
@@ -32,11 +29,8 @@ returns-in-Err-clause-unwritten g c = rw c.from.ensures (list_unwritten c.in-Err
 
 -- ---- a damaged list
 
-pub returns-clause-selected : goal.returns-clause-selected
-returns-clause-selected g c = if_modelled (g.S.Store.model c.args.store.now) _ (λ bytes is. tt)
-
-pub returns-clause-refused : goal.returns-clause-refused
-returns-clause-refused g c =
+pub returns-clause-answers : goal.returns-clause-answers
+returns-clause-answers g c =
     let model : Option (List ℕ) = g.S.Store.model c.args.store.now in
     let job = c.args.planned.now.job.now in
     let plan = c.args.planned.now.plan.now in
@@ -51,8 +45,8 @@ pub returns-clause-unwritten : goal.returns-clause-unwritten
 returns-clause-unwritten g c = rw c.from-in-Err-2.ensures (list_unwritten c.in-Err-2.fault)
 
 -- the selected names
-pub returns-in-Ok-2-clause-selected : goal.returns-in-Ok-2-clause-selected
-returns-in-Ok-2-clause-selected g c =
+pub returns-in-Ok-2-clause-answers : goal.returns-in-Ok-2-clause-answers
+returns-in-Ok-2-clause-answers g c =
     let model : Option (List ℕ) = g.S.Store.model c.args.store.now in
     let plan = c.args.planned.now.plan.now in
     let index : StoredParts = c.in-Ok.index in

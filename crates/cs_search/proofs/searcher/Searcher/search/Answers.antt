@@ -6,7 +6,6 @@ use Rattle.cs_search.specs.GrepFaults.{is_failed_read}
 use Rattle.cs_tree.specs.Failures.{count_if}
 use Rattle.cs_tree.specs.Sinks.{Grows}
 use Rattle.cs_tree.specs.TakesPrefix.{TakesPrefix}
-use Rattle.cs_index.proofs.common.ResultClauses.{any_err}
 use Rattle.cs_search.proofs.PrintedInputLemmas.{fault_text, Prints-input, PrintsPrefix-input, PrintsPrefix-fault, done, undone, PrintsAllFaults-none, PrintsAllFaults-left, PrintsAllFaults-refused}
 use Rattle.cs_search.proofs.searcher.Searcher.search.Goals as goal
 
@@ -43,16 +42,18 @@ returns-in_ok-print_fault-clause-faults g c =
     (subst (λ fault. g.R.Source.failed c.grep_within.new.input ≡ count_if (is_failed_read fault)
     (g.R.Source.failed c.args.input.now)) c.in-Some.is failed) written
 
-pub returns-in_err-answer-clause-prefix : goal.returns-in_err-answer-clause-prefix
-returns-in_err-answer-clause-prefix g c =
-    any_err c.from_residual.result (λ has_match decides.
+pub returns-in_err-answer-clause-prints : goal.returns-in_err-answer-clause-prints
+returns-in_err-answer-clause-prints g c =
+    let p = err_from_is_err_and c.from_residual.result c.from_residual.ensures.1 in
+    rw p.1 (λ has_match decides.
     PrintsPrefix-input _ c.args.self.now.tool c.args.self.now.style has_match c.args.name.now
     (g.R.Source.model c.args.input.now) (g.O.Sink.model c.args.out.now) (g.O.Sink.model c.grep_within.new.out)
     (g.E.Sink.model c.args.err.now) (c.in_err-answer.ensures.prefix has_match decides))
 
-pub returns-in_err-print_fault-clause-prefix : goal.returns-in_err-print_fault-clause-prefix
-returns-in_err-print_fault-clause-prefix g c =
-    any_err c.from_residual-in_err-print_fault.result (λ has_match decides.
+pub returns-in_err-print_fault-clause-prints : goal.returns-in_err-print_fault-clause-prints
+returns-in_err-print_fault-clause-prints g c =
+    let p = err_from_is_err_and c.from_residual-in_err-print_fault.result c.from_residual-in_err-print_fault.ensures.1 in
+    rw p.1 (λ has_match decides.
     let tool = c.args.self.now.tool in
     let name = c.args.name.now in
     let err = g.E.Sink.model c.args.err.now in

@@ -13,7 +13,6 @@ use Rattle.cs_search.specs.InputReport.{max_searched}
 use Rattle.cs_search.specs.Searcher.{Prints, PrintsPrefix}
 use Rattle.cs_tree.specs.TakesPrefix.{TakesPrefix}
 use Rattle.cs_search.specs.Printed.{input_printed}
-use Rattle.cs_index.proofs.common.ResultClauses.{any_err}
 use Rattle.cs_search.proofs.PrintedInputLemmas.{Prints-opened, Prints-refused, PrintsPrefix-none, PrintsPrefix-opened, PrintsPrefix-refused, done, undone, PrintsAllFaults-none, PrintsAllFaults-open, PrintsAllFaults-refused}
 use Rattle.cs_search.proofs.searcher.Searcher.search_file.Goals as goal
 
@@ -54,12 +53,15 @@ returns-in-Err-clause-faults g c =
     (subst (λ fault. Grows (g.E.Sink.model c.args.err.now) (g.E.Sink.model c.print_fault.new.err)
     (fault_line_of tool name fault)) file.0 c.in_ok-print_fault.ensures.written)
 
-pub returns-in_err-fault-clause-prefix : goal.returns-in_err-fault-clause-prefix
-returns-in_err-fault-clause-prefix g c = any_err c.from_residual.result (λ has_match decides. PrintsPrefix-none _ _ _)
+pub returns-in_err-fault-clause-prints : goal.returns-in_err-fault-clause-prints
+returns-in_err-fault-clause-prints g c =
+    let p = err_from_is_err_and c.from_residual.result c.from_residual.ensures.1 in
+    rw p.1 (λ has_match decides. PrintsPrefix-none _ _ _)
 
-pub returns-in_err-print_fault-clause-prefix : goal.returns-in_err-print_fault-clause-prefix
-returns-in_err-print_fault-clause-prefix g c =
-    any_err c.from_residual-in_err-print_fault.result (λ has_match decides.
+pub returns-in_err-print_fault-clause-prints : goal.returns-in_err-print_fault-clause-prints
+returns-in_err-print_fault-clause-prints g c =
+    let p = err_from_is_err_and c.from_residual-in_err-print_fault.result c.from_residual-in_err-print_fault.ensures.1 in
+    rw p.1 (λ has_match decides.
     let tool = c.args.self.now.tool in
     let name = c.args.name.now in
     let file = c.in_ok-fault.ensures.file in
@@ -69,9 +71,10 @@ returns-in_err-print_fault-clause-prefix g c =
     (subst (λ fault. TakesPrefix (fault_line_of tool name fault) (g.E.Sink.model c.args.err.now)
     (g.E.Sink.model c.print_fault.new.err)) file.0 c.in_err-print_fault.ensures.written))
 
-pub returns-in_err-matched-clause-prefix : goal.returns-in_err-matched-clause-prefix
-returns-in_err-matched-clause-prefix g c =
-    any_err c.from_residual-in_err-matched.result (λ has_match decides.
+pub returns-in_err-matched-clause-prints : goal.returns-in_err-matched-clause-prints
+returns-in_err-matched-clause-prints g c =
+    let p = err_from_is_err_and c.from_residual-in_err-matched.result c.from_residual-in_err-matched.ensures.1 in
+    rw p.1 (λ has_match decides.
     let tool = c.args.self.now.tool in
     let style = c.args.self.now.style in
     let name = c.args.name.now in
@@ -82,7 +85,7 @@ returns-in_err-matched-clause-prefix g c =
     (g.E.Sink.model c.args.err.now) (g.E.Sink.model c.search.new.err) c.in_default.ensures.answer
     (subst (λ input. PrintsPrefix (option_map (input_printed max_searched tool style has_match name) input)
     (g.O.Sink.model c.args.out.now) (g.O.Sink.model c.search.new.out) (g.E.Sink.model c.args.err.now)
-    (g.E.Sink.model c.search.new.err)) same (c.in_err-matched.ensures.prefix has_match decides)))
+    (g.E.Sink.model c.search.new.err)) same (c.in_err-matched.ensures.prints has_match decides)))
 
 pub returns-in_err-fault-clause-faults : goal.returns-in_err-fault-clause-faults
 returns-in_err-fault-clause-faults g c =
@@ -109,8 +112,8 @@ returns-in_err-print_fault-clause-faults g c =
 
 -- ---- how many bytes of the file are read
 
-pub returns-clause-reads : goal.returns-clause-reads
-returns-clause-reads g c =
+pub returns-clause-tree : goal.returns-clause-tree
+returns-clause-tree g c =
     let opened = c.open.new.self in
     let same = c.new-reader.ensures.same_tree in
     let after = tree_read c.search.new.input in
@@ -126,8 +129,8 @@ returns-clause-reads g c =
     HasRead before count (g.T.Tree.opened after) (g.T.Tree.read_counts after)) same c.search.ensures.keeps.2) in
     search rules
 
-pub returns-in_err-matched-clause-reads : goal.returns-in_err-matched-clause-reads
-returns-in_err-matched-clause-reads g c =
+pub returns-in_err-matched-clause-tree : goal.returns-in_err-matched-clause-tree
+returns-in_err-matched-clause-tree g c =
     let opened = c.open.new.self in
     let same = c.new-reader.ensures.same_tree in
     let after = tree_read c.search.new.input in

@@ -10,7 +10,6 @@ use Rattle.cs_search.specs.InputReport.{max_searched}
 use Rattle.cs_search.specs.Searcher.{Prints, PrintsAllFaults, PrintsPrefix}
 use Rattle.cs_search.specs.Printed.{Printed, file_printed, all_printed}
 use Rattle.cs_tree.proofs.NameLemmas.{mapped_more}
-use Rattle.cs_index.proofs.common.ResultClauses.{any_err}
 use Rattle.cs_search.proofs.PrintedInputLemmas.{Prints-none, Prints-both, PrintsPrefix-both, all_mapped, all_more, mapped_rest, done, undone, PrintsAllFaults-none, PrintsAllFaults-more, PrintsAllFaults-rest, PrintsAllFaults-refused}
 use Rattle.cs_search.proofs.searcher.Searcher.search_files.Goals as goal
 
@@ -76,12 +75,12 @@ loop-name-preserved g c =
           (sym (mapped_more string_bytes names at item c.loop-name-test.true c.name-item.is))
           (PrintsAllFaults-more tool done (map string_bytes (take at names)) (string_bytes item ∷ []) _
           (g.T.Tree.failed c.loop-name.tree) _ _ (g.E.Sink.model c.loop-name.err) _ i.faults last);
-      out_failed = s.writes.0 ∙ i.out_failed;
-      err_failed = s.writes.1 ∙ i.err_failed;
+      out_failed = s.counts.0.0 ∙ i.out_failed;
+      err_failed = s.counts.0.1 ∙ i.err_failed;
       kept = record { tool = s.kept.tool ∙ i.kept.tool; style = s.kept.style ∙ i.kept.style; matcher = s.kept.matcher ∙ i.kept.matcher };
       reads = reads_on (max_searched + 1) (g.T.Tree.read_counts c.args.tree.now) (g.T.Tree.read_counts c.loop-name.tree)
-          (g.T.Tree.read_counts c.search_file.new.tree) i.reads s.reads;
-      keeps = s.keeps ∙ i.keeps;
+          (g.T.Tree.read_counts c.search_file.new.tree) i.reads s.tree.1;
+      keeps = s.tree.0 ∙ i.keeps;
     }
 
 pub returns-clause-prints : goal.returns-clause-prints
@@ -95,9 +94,10 @@ returns-clause-prints g c = λ has_match decides.
     c.loop-name.matched)
     (take_all c.loop-name.name-index names c.loop-name-test.false) (i.prints has_match decides)
 
-pub returns-in_err-matched-clause-prefix : goal.returns-in_err-matched-clause-prefix
-returns-in_err-matched-clause-prefix g c =
-    any_err c.from_residual.result (λ has_match decides.
+pub returns-in_err-matched-clause-prints : goal.returns-in_err-matched-clause-prints
+returns-in_err-matched-clause-prints g c =
+    let p = err_from_is_err_and c.from_residual.result c.from_residual.ensures.1 in
+    rw p.1 (λ has_match decides.
     let i = c.loop-name.invariant in
     let self = c.args.self.now in
     let names = c.args.names.now in
@@ -106,7 +106,7 @@ returns-in_err-matched-clause-prefix g c =
     let file = λ (s : Snapshot) (name : List ℕ). file_printed max_searched self.tool self.style has_match s name in
     let Claim = λ (printed : Option Printed). PrintsPrefix printed (g.O.Sink.model c.loop-name.out)
     (g.O.Sink.model c.search_file.new.out) (g.E.Sink.model c.loop-name.err) (g.E.Sink.model c.search_file.new.err) in
-    let one = c.in_err-matched.ensures.prefix has_match (subst (Decides has_match) (sym i.kept.matcher) decides) in
+    let one = c.in_err-matched.ensures.prints has_match (subst (Decides has_match) (sym i.kept.matcher) decides) in
     let tools = subst (λ t. Claim (option_map
     (λ (s : Snapshot). file_printed max_searched t c.loop-name.self.style has_match s c.as_str.result.now)
     (g.T.Tree.snapshot c.loop-name.tree))) i.kept.tool one in
@@ -152,7 +152,9 @@ returns-in_err-matched-clause-faults g c =
     (sym (mapped_rest string_bytes names at item c.loop-name-test.true c.name-item.is))
     (PrintsAllFaults-rest tool undone _ (map string_bytes (drop (at + 1) names)) _ _ _ _ faults))
 
-pub returns-in_err-matched-clause-reads : goal.returns-in_err-matched-clause-reads
-returns-in_err-matched-clause-reads g c = reads_on (max_searched + 1) (g.T.Tree.read_counts c.args.tree.now)
-    (g.T.Tree.read_counts c.loop-name.tree) (g.T.Tree.read_counts c.search_file.new.tree) c.loop-name.invariant.reads
-    c.in_err-matched.ensures.reads
+pub returns-in_err-matched-clause-tree : goal.returns-in_err-matched-clause-tree
+returns-in_err-matched-clause-tree g c = (
+  c.in_err-matched.ensures.tree.0 ∙ c.loop-name.invariant.keeps,
+  reads_on (max_searched + 1) (g.T.Tree.read_counts c.args.tree.now) (g.T.Tree.read_counts c.loop-name.tree)
+      (g.T.Tree.read_counts c.search_file.new.tree) c.loop-name.invariant.reads c.in_err-matched.ensures.tree.1,
+)

@@ -29,9 +29,9 @@ ids-preserved g c =
           (subst (λ (answer : Result (Unit {0}) IndexFault). IsOkAnd answer
           (λ _. HasSelected bytes parts (take at ids ++ get_or ids at 0 ∷ []) c.read.new.self)) c.in_default.is read);
       same = e.same ∙ i.same;
-      keeps = e.keeps ∙ i.keeps;
-      size = e.size ∙ i.size;
-      failed = e.failed ∙ i.failed;
+      keeps = e.store.0 ∙ i.keeps;
+      size = e.store.1 ∙ i.size;
+      failed = e.store.2 ∙ i.failed;
     }
 
 -- each id is read

@@ -74,7 +74,7 @@ no_name_has_two_faults (inr (why, rest, is, may, none)) = cc
 -- ---- work
 
 -- five bytes, two lines, and the second has no newline
-work_of_two_lines : (t : Tree) → input_work t (codes "t") (codes "ab\ncd") ≡
-    5 * (searched_byte_work t + 2) + 5 * (search_overhead * searched_byte_work t + 24) + line_work t 2 + 10 + 1
+work_of_two_lines : (t : Tree) → input_work t (codes "ab\ncd") ≡
+    5 * (searched_byte_work t + 1) + 4 * (search_overhead * searched_byte_work t) + line_work t 2 + 10 + 1
 unfolding searched_work lines last_part
 work_of_two_lines t = refl

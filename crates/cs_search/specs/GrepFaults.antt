@@ -1,5 +1,7 @@
 -- The errors of a search of one input: their sources, their conversions, and which of them count as failures.
-use Rattle.std.specs.Prelude.{Bool, true, false, Option, Some, None, Result, Ok, Err}
+use Rattle.std.specs.Prelude.{ℕ, ◌≡◌, Bool, true, false, Option, Some, None, Result, Ok, Err}
+use Rattle.cs_tree.specs.Failures.{count_if}
+use Rattle.cs_tree.specs.FailureCount.{count_after}
 use Rattle.cs_tree.specs.declared.fault.IoFault.{IoFault}
 use Rattle.cs_tree.specs.declared.fault.IoFault.TheVariants as io
 use Rattle.cs_args.specs.declared.fault.ToolFault.{ToolFault}
@@ -34,6 +36,12 @@ has_read_failed (Err fault) = false
 abbrev pub is_grep_failure : GrepFault → Bool
 is_grep_failure Write = true
 is_grep_failure Memory = false
+
+-- The input counts a failed read, and the output a failed write.
+abbrev pub CountsFailures : {R O A : Type 0} → (R → ℕ) → (O → ℕ) → Bool → R → R → O → O → Result A GrepFault → Type 0
+CountsFailures read_failed write_failed failed input input' out out' result =
+    (read_failed input' ≡ count_if failed (read_failed input))
+    × (write_failed out' ≡ count_after is_grep_failure result (write_failed out))
 
 -- A search that has begun fails only for a failed write or out of memory.
 abbrev pub IsSearchFault : {A : Type 0} → Result A ToolFault → Type 0

@@ -1,9 +1,10 @@
 -- What a search of one input prints and returns. docs/PROMISES.md, "What is printed".
-use Rattle.std.specs.Prelude.{ℕ, Bool, List, ◌≡◌, Option, Some, None}
+use Rattle.std.specs.Prelude.{ℕ, Bool, List, ◌≡◌, Option, Some, None, Result, MatchResult}
 use Rattle.cs_syntax.specs.Matching.{Tree}
 use Rattle.cs_match.specs.Deciding.{Decides}
 use Rattle.cs_tree.specs.StreamModels.{SourceModel}
 use Rattle.cs_tree.specs.Sinks.{Grows, SinkModel}
+use Rattle.cs_search.specs.declared.grep_fault.GrepFault.{GrepFault}
 use Rattle.cs_search.specs.declared.grep_fault.ReadFault.{ReadFault}
 use Rattle.cs_search.specs.declared.grepped.Grepped.{Grepped}
 use Rattle.cs_tree.specs.TakesPrefix.{TakesPrefix}
@@ -25,26 +26,20 @@ abbrev pub ReportsPrefix : Option SourceModel → (SourceModel → Report ReadFa
 ReportsPrefix None report before after = Unit {0}
 ReportsPrefix (Some model) report before after = TakesPrefix (report model).output before after
 
--- the same, by each test that decides whether a line has a match
+-- Both, by each test that decides whether a line has a match.
 abbrev pub ReportsBy : Tree → Option SourceModel → ((List ℕ → Bool) → SourceModel → Report ReadFault) →
-    Option SinkModel → Option SinkModel → Grepped → Type 0
-ReportsBy tree model report before after answer =
-    (has_match : List ℕ → Bool) → Decides has_match tree → Reports model (report has_match) before after answer
-
-abbrev pub ReportsPrefixBy : Tree → Option SourceModel → ((List ℕ → Bool) → SourceModel → Report ReadFault) →
-    Option SinkModel → Option SinkModel → Type 0
-ReportsPrefixBy tree model report before after =
-    (has_match : List ℕ → Bool) → Decides has_match tree → ReportsPrefix model (report has_match) before after
+    Option SinkModel → Option SinkModel → Result Grepped GrepFault → Type 0
+ReportsBy tree model report before after result = MatchResult result
+    (λ answer. (has_match : List ℕ → Bool) → Decides has_match tree → Reports model (report has_match) before after answer)
+    (λ _. (has_match : List ℕ → Bool) → Decides has_match tree → ReportsPrefix model (report has_match) before after)
 
 -- the report of a text in memory, which is searched to its end
 abbrev pub text_report : Style → List ℕ → (List ℕ → Bool) → List ℕ → Report ReadFault
 text_report style name has_match text = report_of style name has_match text None
 
--- of a text in memory
-abbrev pub IsReportedBy : Tree → ((List ℕ → Bool) → Report ReadFault) → Option SinkModel → Option SinkModel → Grepped → Type 0
-IsReportedBy tree report before after answer =
-    (has_match : List ℕ → Bool) → Decides has_match tree → IsReported (report has_match) before after answer
-
-abbrev pub TakesPrefixBy : Tree → ((List ℕ → Bool) → Report ReadFault) → Option SinkModel → Option SinkModel → Type 0
-TakesPrefixBy tree report before after =
-    (has_match : List ℕ → Bool) → Decides has_match tree → TakesPrefix (report has_match).output before after
+-- The same for a text in memory.
+abbrev pub IsReportedBy : Tree → ((List ℕ → Bool) → Report ReadFault) → Option SinkModel → Option SinkModel →
+    Result Grepped GrepFault → Type 0
+IsReportedBy tree report before after result = MatchResult result
+    (λ answer. (has_match : List ℕ → Bool) → Decides has_match tree → IsReported (report has_match) before after answer)
+    (λ _. (has_match : List ℕ → Bool) → Decides has_match tree → TakesPrefix (report has_match).output before after)

@@ -1,5 +1,5 @@
 -- How far an input was read, and where the reading stops.
-use Rattle.std.specs.Prelude.{ℕ, ◌+◌, ◌<◌, ◌≤◌, ◌≡◌, Bool, List, length, take, Option, Some, None, Result, Ok, Err, false}
+use Rattle.std.specs.Prelude.{ℕ, ◌+◌, ◌<◌, ◌≤◌, ◌≡◌, Bool, List, length, take, Option, Some, None, Result, MatchResult, Ok, Err, false}
 use Rattle.cs_tree.specs.StreamModels.{SourceModel, ends, fails}
 use Rattle.cs_tree.specs.Sinks.{SinkModel}
 use Rattle.cs_tree.specs.Transfers.{Consumes, IsAt}
@@ -10,6 +10,8 @@ use Rattle.cs_search.specs.declared.grep_fault.ReadFault.TheVariants.{Read, TooL
 use Rattle.cs_search.specs.declared.grep_fault.GrepFault.{GrepFault}
 use Rattle.cs_search.specs.declared.stop.Stop.{Stop}
 use Rattle.cs_search.specs.declared.stop.Stop.TheVariants.{Listed, End, Faulted}
+use Rattle.cs_syntax.specs.Matching.{Tree}
+use Rattle.cs_match.specs.Deciding.{Decides}
 use Rattle.cs_match.specs.Lines.{terminated_lines}
 use Rattle.cs_match.specs.LastPart.{last_part}
 use Rattle.cs_search.specs.InputReport.{fault_within}
@@ -73,6 +75,15 @@ abbrev pub TestsInputPrefix : Style → List ℕ → (List ℕ → Bool) → ℕ
 TestsInputPrefix style name has_match first sink later limit None = Unit {0}
 TestsInputPrefix style name has_match first sink later limit (Some model) =
     TestsPrefix style name has_match (terminated_lines (take limit model.bytes)) first sink later
+
+-- by each test that decides which lines match; on error a prefix of what is printed
+abbrev pub TestsInputBy : Tree → Style → List ℕ → Tally → Tally → Option SinkModel → Option SinkModel → ℕ → Option SourceModel →
+    Result Stop GrepFault → Type 0
+TestsInputBy tree style name before after sink later limit model result = MatchResult result
+    (λ stop. (has_match : List ℕ → Bool) → Decides has_match tree →
+    TestsInput style name has_match before after sink later limit stop model)
+    (λ _. (has_match : List ℕ → Bool) → Decides has_match tree →
+    TestsInputPrefix style name has_match (before.lines + 1) sink later limit model)
 
 -- the search stopped because a read of the input failed
 abbrev pub has_stop_failed : Result Stop GrepFault → Bool

@@ -1,36 +1,40 @@
 -- Inside a search: the steps of what was searched so far.
-use Rattle.std.specs.Prelude.{ℕ, ◌≡◌, ◌≤◌, ◌+◌, ◌*◌, ◌-◌, List, [], ◌∷◌, length, Option, Result, IfOk}
+use Rattle.std.specs.Prelude.{ℕ, ◌≡◌, ◌≤◌, ◌+◌, ◌*◌, ◌-◌, List, [], length, Option, Result, IfOk}
 use Rattle.cs_syntax.specs.Matching.{Tree}
+use Rattle.cs_match.specs.Automaton.{Automaton}
 use Rattle.cs_match.specs.Lines.{terminated_lines}
 use Rattle.cs_match.specs.LastPart.{last_part}
-use Rattle.cs_match.specs.Work.{line_work}
+use Rattle.cs_match.specs.Work.{WorksWithin}
 use Rattle.cs_tree.specs.StreamModels.{SourceModel}
 use Rattle.cs_tree.specs.Transfers.{Consumes}
 use Rattle.cs_search.specs.declared.grep_fault.GrepFault.{GrepFault}
 use Rattle.cs_search.specs.declared.stop.Stop.{Stop}
 use Rattle.cs_search.specs.declared.stop.Stop.TheVariants.{End}
-use Rattle.cs_search.specs.Work.{printed_work, searched_work, TakesSteps}
+use Rattle.cs_search.specs.Work.{searched_work, TakesSteps}
+
+-- The matcher keeps its tree, and takes at most so many steps.
+abbrev pub StepsWithin : ℕ → Automaton → Automaton → Type 0
+StepsWithin bound old new = (new.tree ≡ old.tree) × WorksWithin bound old new
+
+-- a matcher after so many steps more
+abbrev pub after_steps : ℕ → Automaton → Automaton
+after_steps count matcher = record { tree = matcher.tree; states = matcher.states; steps = matcher.steps + count }
 
 -- the most steps of the lines of a text that have ended
-abbrev pub ended_work : Tree → List ℕ → List ℕ → ℕ
-ended_work t name text = searched_work t name (length text - length (last_part text)) (2 * length (terminated_lines text))
+abbrev pub ended_work : Tree → List ℕ → ℕ
+ended_work t text = searched_work t (length text - length (last_part text)) (2 * length (terminated_lines text))
 
 -- and of the reads, and the line ends that were looked for
-abbrev pub read_work : Tree → List ℕ → List ℕ → ℕ
-read_work t name text = ended_work t name text + 2 * length text + 1
-
--- the most steps of an unfinished line
-abbrev pub rest_work : Tree → List ℕ → List ℕ → ℕ
-rest_work t name [] = 0
-rest_work t name (b ∷ rest) = line_work t (length (b ∷ rest)) + length (b ∷ rest) + printed_work name
+abbrev pub read_work : Tree → List ℕ → ℕ
+read_work t text = ended_work t text + 2 * length text + 1
 
 -- The lines that have ended in the first `n` bytes were searched; `pending` is the unfinished line at their end.
-pub record HasSearched (t : Tree) (name pending : List ℕ) (n : ℕ) (model later : Option SourceModel) (before after : ℕ) : Type 0 where
+pub record HasSearched (pending : List ℕ) (n : ℕ) (model later : Option SourceModel) (old new : Automaton) : Type 0 where
   pub text : List ℕ
   pub read : Consumes model later text
   pub size : length text ≡ n
   pub rest : pending ≡ last_part text
-  pub bound : after ≤ before + ended_work t name text + 2 * length text
+  pub bound : WorksWithin (ended_work old.tree text + 2 * length text) old new
 
 -- `P` holds, if the search came to the end of its input.
 abbrev pub IfEnded : Stop → Type 0 → Type 0
@@ -38,9 +42,9 @@ IfEnded End P = P
 IfEnded stop P = Unit {0}
 
 -- The lines that have ended were searched. At the end of the input `pending` is the unfinished line.
-pub record SearchesLines (t : Tree) (name pending : List ℕ) (stop : Result Stop GrepFault) (most : ℕ) (model later : Option SourceModel)
-    (before after : ℕ) : Type 0 where
-  pub steps : TakesSteps most (read_work t name) model later before after
+pub record SearchesLines (pending : List ℕ) (stop : Result Stop GrepFault) (most : ℕ) (model later : Option SourceModel)
+    (old new : Automaton) : Type 0 where
+  pub steps : TakesSteps most (read_work old.tree) model later old new
   pub rest : IfOk stop (λ stop. IfEnded stop (pending ≡ last_part steps.text))
 
 -- one read more, of a byte at most

@@ -1,12 +1,13 @@
 -- Inside a search: which lines were tested, and what was printed for them.
-use Rattle.std.specs.Prelude.{ℕ, ◌+◌, ◌<◌, ◌≤◌, ◌≡◌, ◌⊎◌, nat_lt, true, false, if◌then◌else◌, Bool, List, [], ◌∷◌, ◌++◌, length, Option}
+use Rattle.std.specs.Prelude.{ℕ, ◌+◌, ◌<◌, ◌≤◌, ◌≡◌, ◌⊎◌, nat_lt, true, false, if◌then◌else◌, Bool, List, [], ◌∷◌, ◌++◌, length, Option, Result, MatchBool, MatchResult}
 use Rattle.std.specs.List.{flat_map}
 use Rattle.cs_tree.specs.Sinks.{Grows, SinkModel}
 use Rattle.cs_args.specs.declared.jobs.Style.{Style}
+use Rattle.cs_search.specs.declared.grep_fault.GrepFault.{GrepFault}
 use Rattle.cs_search.specs.declared.tally.Tally.{Tally}
 use Rattle.cs_syntax.specs.Matching.{Tree}
 use Rattle.cs_match.specs.Deciding.{Decides}
-use Rattle.cs_match.specs.Lines.{newline}
+use Rattle.cs_match.specs.Lines.{newline, terminated_lines}
 use Rattle.cs_tree.specs.TakesPrefix.{TakesPrefix}
 use Rattle.cs_search.specs.Report.{MatchingLine, matches_from, match_line, count_line, any_match, matches_output}
 
@@ -24,6 +25,14 @@ pub record CountsLines (style : Style) (before after count : ℕ) : Type 0 where
   pub exact : SameNumber style after (before + count)
   pub bound : after ≤ before + count
 
+-- the lines of a block that have ended were counted
+abbrev pub CountsBlock : Style → Tally → Tally → List ℕ → Type 0
+CountsBlock style before after block = CountsLines style before.lines after.lines (length (terminated_lines block))
+
+-- no line has matched, if names are listed
+abbrev pub IsUnlisted : Style → Tally → Type 0
+IsUnlisted style tally = style.list ≡ true → tally.matches ≡ 0
+
 -- These lines were tested after those that `before` counts: the matching ones are counted, and their output was written.
 pub record Tests (style : Style) (name : List ℕ) (has_match : List ℕ → Bool) (lines : List (List ℕ))
     (before after : Tally) (sink later : Option SinkModel) : Type 0 where
@@ -36,16 +45,6 @@ abbrev pub TestsPrefix : Style → List ℕ → (List ℕ → Bool) → List (Li
     Option SinkModel → Type 0
 TestsPrefix style name has_match lines first sink later =
     TakesPrefix (matches_output style name false (matches_from first has_match lines)) sink later
-
--- both, by each test that decides which lines match
-module _ (tree : Tree) (style : Style) (name : List ℕ) (lines : List (List ℕ)) where
-  abbrev pub TestsBy : Tally → Tally → Option SinkModel → Option SinkModel → Type 0
-  TestsBy before after sink later =
-      (has_match : List ℕ → Bool) → Decides has_match tree → Tests style name has_match lines before after sink later
-
-  abbrev pub TestsPrefixBy : ℕ → Option SinkModel → Option SinkModel → Type 0
-  TestsPrefixBy first sink later =
-      (has_match : List ℕ → Bool) → Decides has_match tree → TestsPrefix style name has_match lines first sink later
 
 -- With `-l` one of these lines matches, and the name was written.
 pub record IsListed (style : Style) (name : List ℕ) (has_match : List ℕ → Bool) (lines : List (List ℕ))
@@ -76,10 +75,27 @@ EndsPrefix style name has_match lines before after sink later =
     ⊎ ((tested : Option SinkModel) × Tests style name has_match lines before after sink tested
     × TakesPrefix (total style name after.matches) tested later)
 
--- both, by each test that decides which lines match
+-- by each test that decides which lines match
 module _ (tree : Tree) (style : Style) (name : List ℕ) (lines : List (List ℕ)) (before after : Tally) (sink later : Option SinkModel) where
-  abbrev pub EndsBy : Type 0
-  EndsBy = (has_match : List ℕ → Bool) → Decides has_match tree → Ends style name has_match lines before after sink later
+  abbrev pub TestsPrefixBy : Type 0
+  TestsPrefixBy = (has_match : List ℕ → Bool) → Decides has_match tree → TestsPrefix style name has_match lines (before.lines + 1) sink later
 
-  abbrev pub EndsPrefixBy : Type 0
-  EndsPrefixBy = (has_match : List ℕ → Bool) → Decides has_match tree → EndsPrefix style name has_match lines before after sink later
+  -- The lines were tested. On error a prefix of their output was written.
+  abbrev pub TestsBy : {A : Type 0} → Result A GrepFault → Type 0
+  TestsBy result = MatchResult result
+      (λ _. (has_match : List ℕ → Bool) → Decides has_match tree → Tests style name has_match lines before after sink later)
+      (λ _. TestsPrefixBy)
+
+  -- the same, unless a line was listed, which is_listed of the answer says
+  abbrev pub TestsUnlessListed : {A : Type 0} → (A → Bool) → Result A GrepFault → Type 0
+  TestsUnlessListed is_listed result = MatchResult result
+      (λ answer. (has_match : List ℕ → Bool) → Decides has_match tree → MatchBool (is_listed answer)
+      (IsListed style name has_match lines (before.lines + 1) after sink later)
+      (Tests style name has_match lines before after sink later))
+      (λ _. TestsPrefixBy)
+
+  -- The lines were tested at the end of an input. On error a prefix of the output was written.
+  abbrev pub EndsBy : {A : Type 0} → Result A GrepFault → Type 0
+  EndsBy result = MatchResult result
+      (λ _. (has_match : List ℕ → Bool) → Decides has_match tree → Ends style name has_match lines before after sink later)
+      (λ _. (has_match : List ℕ → Bool) → Decides has_match tree → EndsPrefix style name has_match lines before after sink later)

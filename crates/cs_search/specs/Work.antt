@@ -1,33 +1,28 @@
 -- The work of a search of one input: the steps of `cs_match`, and a step for each read, and for each byte that is looked
--- at for a line end, counted if it is a newline, or printed. docs/PROMISES.md, "Work".
+-- at for a line end, or counted if it is a newline. docs/PROMISES.md, "Work".
 use Rattle.std.specs.Prelude.{ℕ, ◌≤◌, ◌+◌, ◌*◌, List, length, Option}
 use Rattle.cs_syntax.specs.Matching.{Tree}
+use Rattle.cs_match.specs.Automaton.{Automaton}
 use Rattle.cs_match.specs.Lines.{lines}
 use Rattle.cs_match.specs.LastPart.{last_part}
-use Rattle.cs_match.specs.Work.{search_overhead, searched_byte_work, line_work}
+use Rattle.cs_match.specs.Work.{search_overhead, searched_byte_work, line_work, WorksWithin}
 use Rattle.cs_tree.specs.StreamModels.{SourceModel}
 use Rattle.cs_tree.specs.Transfers.{Consumes}
 
--- the most bytes that are printed beside a line, or as a count: the name, a number of 20 digits, and 3 more
-abbrev pub printed_work : List ℕ → ℕ
-printed_work name = length name + 23
+-- The most steps of so many searches for a line, over so many bytes of whole lines together. Each byte is searched, and
+-- counted if it is a newline.
+unfoldable pub searched_work : Tree → ℕ → ℕ → ℕ
+searched_work t bytes searches = bytes * (searched_byte_work t + 1) + searches * (search_overhead * searched_byte_work t)
 
--- The most steps of so many searches for a line, over so many bytes of whole lines together. Each byte is searched,
--- counted if it is a newline, and printed.
-unfoldable pub searched_work : Tree → List ℕ → ℕ → ℕ → ℕ
-searched_work t name bytes searches =
-    bytes * (searched_byte_work t + 2) + searches * (search_overhead * searched_byte_work t + printed_work name)
-
--- The most steps of an input with this name, if `text` was read of it. Each line costs at most two searches: one if it
--- matches, and one for the block that it ends. The unfinished line is tested alone. Each byte is one read at most, and
--- is looked at once for a line end.
-abbrev pub input_work : Tree → List ℕ → List ℕ → ℕ
-input_work t name text =
-    searched_work t name (length text) (2 * length (lines text) + 1) + line_work t (length (last_part text)) + 2 * length text + 1
+-- The most steps of an input, if `text` was read of it. Each line costs at most two searches: one if it matches, and one
+-- for the block that it ends. The unfinished line is tested alone. Each byte is one read at most, and is looked at once
+-- for a line end.
+abbrev pub input_work : Tree → List ℕ → ℕ
+input_work t text = searched_work t (length text) (2 * length (lines text)) + line_work t (length (last_part text)) + 2 * length text + 1
 
 -- Some text was read, of at most so many bytes, and its work bounds the steps. The model of a source determines the text.
-pub record TakesSteps (most : ℕ) (work : List ℕ → ℕ) (model later : Option SourceModel) (before after : ℕ) : Type 0 where
+pub record TakesSteps (most : ℕ) (work : List ℕ → ℕ) (model later : Option SourceModel) (old new : Automaton) : Type 0 where
   pub text : List ℕ
   pub read : Consumes model later text
   pub size : length text ≤ most
-  pub bound : after ≤ before + work text
+  pub bound : WorksWithin (work text) old new

@@ -3,10 +3,8 @@ ghost use Rattle.std.specs.Prelude.{◌≡◌, ◌≤◌, ◌<◌, ◌+◌, vec_
 ghost use Rattle.cs_tree.specs.Transfers.{ReadGives, is_io_failure};
 ghost use Rattle.cs_tree.specs.FailureCount.{count_after};
 
-use cs_match::Steps;
 use cs_tree::{IoFault, Source};
 use std::alloc::{AllocError, Global};
-use std::sync::ledger::Ledger;
 
 /// The initial size in bytes.
 const FIRST_SIZE: usize = 65536;
@@ -17,6 +15,8 @@ pub struct LineBuffer {
     bytes: Vec<u8>,
     start: usize,
     end: usize,
+    /// How many bytes of the input may still be read.
+    pub(crate) left: usize,
     ghost ordered: { start ≤ end },
     ghost within: { end ≤ vec_len bytes },
     ghost some: { 0 < vec_len bytes },
@@ -46,6 +46,7 @@ impl LineBuffer {
             bytes,
             start: 0,
             end: 0,
+            left: 0,
         })
     }
 
@@ -70,7 +71,8 @@ impl LineBuffer {
     #[tactic(auto, unfolding(crate::specs::Buffer::pending_bytes))]
     pub(crate) fn skip(&mut self, n: usize)
         requires { n ≤ length (pending_bytes self.old) }
-        ensures { pending_bytes self.new ≡ drop n (pending_bytes self.old) }
+        ensures pending { pending_bytes self.new ≡ drop n (pending_bytes self.old) }
+        ensures left { self.new.left ≡ self.old.left }
     {
         self.start += n;
     }
@@ -81,6 +83,7 @@ impl LineBuffer {
         ensures same { pending_bytes self.new ≡ pending_bytes self.old }
         ensures size { vec_len self.new.bytes ≡ vec_len self.old.bytes }
         ensures end { self.new.end + self.old.start ≡ self.old.end }
+        ensures left { self.new.left ≡ self.old.left }
     {
         let start = self.start;
         let end = self.end;
@@ -94,6 +97,7 @@ impl LineBuffer {
     fn make_room(&mut self) -> Result<(), AllocError>
         requires { length (pending_bytes self.old) < 2 ^ 32 }
         ensures room { OnOk result (self.new.end < vec_len self.new.bytes) }
+        ensures left { self.new.left ≡ self.old.left }
         ensures same { pending_bytes self.new ≡ pending_bytes self.old }
         ensures size { GrowsIfFull self.old self.new }
     {
@@ -109,33 +113,25 @@ impl LineBuffer {
         Ok(())
     }
 
-    /// Reads up to `limit` bytes after the pending ones and returns their number, which is 0 at the end of the input.
-    /// The read is a step.
+    /// Reads some of the bytes that may still be read, after the pending ones, and returns their number, which is 0 at the
+    /// end of the input.
     #[tactic(auto, unfolding(crate::specs::Buffer::pending_bytes))]
-    pub(crate) fn fill<R: Source, L: Ledger>(
-        &mut self,
-        input: &mut R,
-        limit: usize,
-        steps: &mut Steps<L>,
-    ) -> Result<usize, IoFault>
-        requires some { 0 < limit }
+    pub(crate) fn fill<R: Source>(&mut self, input: &mut R) -> Result<usize, IoFault>
+        requires some { 0 < self.old.left }
         requires bound { length (pending_bytes self.old) < 2 ^ 32 }
-        ensures within { IfOk result (λ n. n ≤ limit) }
-        ensures gains { IfOk result
-            (λ n. GrowsBy (pending_bytes self.old) (pending_bytes self.new) n) }
+        ensures left { IfOk result (λ n. self.new.left + n ≡ self.old.left) }
+        ensures gains { IfOk result (λ n. GrowsBy (pending_bytes self.old) (pending_bytes self.new) n) }
         ensures model { AppendsRead (R.model input.old) (R.model input.new) result
             (drop (length (pending_bytes self.old)) (pending_bytes self.new)) }
         ensures same { OnErr result (pending_bytes self.new ≡ pending_bytes self.old) }
         ensures size { GrowsIfFull self.old self.new }
-        ensures failed { R.failed input.new ≡
-            count_after is_io_failure result (R.failed input.old) }
+        ensures failed { R.failed input.new ≡ count_after is_io_failure result (R.failed input.old) }
         ensures keeps { R.Keeps input.old input.new }
-        ensures work { steps.new ≡ steps.old + 1 }
     {
-        steps.add(1);
         self.make_room()?;
-        let n = read_behind(input, &mut self.bytes, self.end, limit)?;
+        let n = read_behind(input, &mut self.bytes, self.end, self.left)?;
         self.end += n;
+        self.left -= n;
         Ok(n)
     }
 }

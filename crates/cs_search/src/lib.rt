@@ -1,7 +1,6 @@
 //! Searches inputs line by line and prints the matching lines (`grep`, `cgrep`, `csearch`). Read `specs/Report.antt`
 //! first, which says what a search of one input prints, then `specs/Printed.antt`. `grep_within` takes a limit and a
-//! buffer from the caller, and `grep_text` searches a text in memory; `grep_counted` and `grep_text_counted` count their
-//! steps (`specs/Work.antt`).
+//! buffer from the caller, and `grep_text` searches a text in memory. Their steps are bounded (`specs/Work.antt`).
 #![tactic(auto)]
 
 mod buffer;
@@ -29,8 +28,8 @@ pub use csearching::csearch;
 pub use grep_fault::{GrepFault, ReadFault};
 pub use grepped::Grepped;
 pub use printer::Printer;
-pub use report::{MAX_SEARCHED, grep, grep_counted, grep_within};
+pub use report::{MAX_SEARCHED, grep, grep_within};
 pub use searching::cgrep;
 pub use status::Status;
 pub use stored::csearch_stored;
-pub use texts::{grep_text, grep_text_counted};
+pub use texts::grep_text;

@@ -1,20 +1,16 @@
 // How matching lines are printed.
-ghost use Rattle.std.specs.Prelude.{◌≡◌, ◌≤◌, ◌+◌, ◌++◌, ◌∷◌, [], true, false, IsTrue, codes, decimal, if◌then◌else◌, length};
-ghost use Rattle.cs_search.specs.GrepFaults.{is_grep_failure};
-ghost use Rattle.cs_tree.specs.FailureCount.{count_after};
-ghost use Rattle.cs_tree.specs.Transfers.{is_io_failure};
+ghost use Rattle.std.specs.Prelude.{◌≡◌, ◌++◌, ◌∷◌, [], true, false, IsTrue, codes, decimal, if◌then◌else◌};
 ghost use Rattle.cs_match.specs.Lines.{newline};
+ghost use Rattle.cs_tree.specs.FailureCount.{count_after};
 ghost use Rattle.cs_tree.specs.WritesBytes.{WritesBytes};
+ghost use Rattle.cs_search.specs.GrepFaults.{is_grep_failure};
 ghost use Rattle.cs_search.specs.Report.{count_line, match_line};
 ghost use Rattle.cs_search.specs.TestedLines.{match_output, total};
-ghost use Rattle.cs_search.specs.Work.{printed_work};
 
 use crate::grep_fault::GrepFault;
 use cs_args::Style;
-use cs_match::Steps;
-use cs_tree::{IoFault, Sink, write_all};
+use cs_tree::{Sink, write_all};
 use itoa::Buffer;
-use std::sync::ledger::Ledger;
 
 /// The name of an input, and the style of its output.
 #[derive(Clone, Copy, Drop)]
@@ -34,188 +30,127 @@ impl Printer<'_> {
 
     /// Prints a matching line: under `-l` the name, under `-c` nothing.
     #[tactic(auto, using(crate::proofs::Printing::printing), unfolding(crate::specs::TestedLines::match_output))]
-    pub(crate) fn print_match<O: Sink, L: Ledger>(
+    pub(crate) fn print_match<O: Sink>(
         &self,
         number: u64,
         line: &[u8],
         out: &mut O,
-        steps: &mut Steps<L>,
     ) -> Result<(), GrepFault>
-        ensures written { WritesBytes
-            (match_output self.now.style self.now.name.now (number, line.now))
+        ensures written { WritesBytes (match_output self.now.style self.now.name.now (number, line.now))
             (O.model out.old) (O.model out.new) result }
         ensures failed { O.failed out.new ≡ count_after is_grep_failure result (O.failed out.old) }
-        ensures work { steps.new ≤ steps.old + length line.now + printed_work self.now.name.now }
     {
         if self.style.list {
-            self.print_name(out, steps)?;
+            self.print_name(out)?;
             return Ok(());
         }
         if self.style.count {
             return Ok(());
         }
-        self.print_line(number, line, out, steps)?;
+        self.print_line(number, line, out)?;
         Ok(())
     }
 
     /// The name on a line.
     #[tactic(auto, using(crate::proofs::Printing::printing))]
-    fn print_name<O: Sink, L: Ledger>(
-        &self,
-        out: &mut O,
-        steps: &mut Steps<L>,
-    ) -> Result<(), GrepFault>
+    fn print_name<O: Sink>(&self, out: &mut O) -> Result<(), GrepFault>
         ensures written { WritesBytes (self.now.name.now ++ newline ∷ [])
             (O.model out.old) (O.model out.new) result }
         ensures failed { O.failed out.new ≡ count_after is_grep_failure result (O.failed out.old) }
-        ensures work { steps.new ≤ steps.old + length self.now.name.now + 1 }
     {
-        write_bytes(out, self.name.as_bytes(), steps)?;
-        end_line(out, steps)?;
+        write_all(out, self.name.as_bytes())?;
+        end_line(out)?;
         Ok(())
     }
 
     /// The line, after the name and number that the style prints.
     #[tactic(auto, using(crate::proofs::Printing::printing), unfolding(crate::specs::Report::match_line))]
-    fn print_line<O: Sink, L: Ledger>(
-        &self,
-        number: u64,
-        line: &[u8],
-        out: &mut O,
-        steps: &mut Steps<L>,
-    ) -> Result<(), GrepFault>
-        ensures written { WritesBytes (match_line self.now.style self.now.name.now
-            (number, line.now))
+    fn print_line<O: Sink>(&self, number: u64, line: &[u8], out: &mut O) -> Result<(), GrepFault>
+        ensures written { WritesBytes (match_line self.now.style self.now.name.now (number, line.now))
             (O.model out.old) (O.model out.new) result }
         ensures failed { O.failed out.new ≡ count_after is_grep_failure result (O.failed out.old) }
-        ensures work { steps.new ≤ steps.old + length line.now + printed_work self.now.name.now }
     {
-        self.print_prefix(out, steps)?;
-        self.print_number(number, out, steps)?;
-        write_bytes(out, line, steps)?;
-        end_line(out, steps)?;
+        self.print_prefix(out)?;
+        self.print_number(number, out)?;
+        write_all(out, line)?;
+        end_line(out)?;
         Ok(())
     }
 
     /// `NAME:`, and nothing under `-h`.
     #[tactic(auto, using(crate::proofs::Printing::printing))]
-    fn print_prefix<O: Sink, L: Ledger>(
-        &self,
-        out: &mut O,
-        steps: &mut Steps<L>,
-    ) -> Result<(), GrepFault>
-        ensures written { WritesBytes
-            (if self.now.style.bare then [] else self.now.name.now ++ codes ":")
+    fn print_prefix<O: Sink>(&self, out: &mut O) -> Result<(), GrepFault>
+        ensures written { WritesBytes (if self.now.style.bare then [] else self.now.name.now ++ codes ":")
             (O.model out.old) (O.model out.new) result }
         ensures failed { O.failed out.new ≡ count_after is_grep_failure result (O.failed out.old) }
-        ensures work { steps.new ≤ steps.old + length self.now.name.now + 1 }
     {
         if self.style.bare {
             return Ok(());
         }
-        write_bytes(out, self.name.as_bytes(), steps)?;
-        write_bytes(out, b":", steps)?;
+        write_all(out, self.name.as_bytes())?;
+        write_all(out, b":")?;
         Ok(())
     }
 
     /// `NUMBER:` under `-n`, else nothing.
     #[tactic(auto, using(crate::proofs::Printing::printing))]
-    fn print_number<O: Sink, L: Ledger>(
-        &self,
-        number: u64,
-        out: &mut O,
-        steps: &mut Steps<L>,
-    ) -> Result<(), GrepFault>
-        ensures written { WritesBytes
-            (if self.now.style.number then decimal number ++ codes ":" else [])
+    fn print_number<O: Sink>(&self, number: u64, out: &mut O) -> Result<(), GrepFault>
+        ensures written { WritesBytes (if self.now.style.number then decimal number ++ codes ":" else [])
             (O.model out.old) (O.model out.new) result }
         ensures failed { O.failed out.new ≡ count_after is_grep_failure result (O.failed out.old) }
-        ensures work { steps.new ≤ steps.old + 21 }
     {
         if !self.style.number {
             return Ok(());
         }
-        write_number(number, out, steps)?;
-        write_bytes(out, b":", steps)?;
+        write_number(number, out)?;
+        write_all(out, b":")?;
         Ok(())
     }
 
     /// Prints the number of matching lines at the end of an input, under `-c` without `-l`.
     #[tactic(auto, using(crate::proofs::Printing::printing), unfolding(crate::specs::TestedLines::total))]
-    pub(crate) fn print_total<O: Sink, L: Ledger>(
-        &self,
-        count: u64,
-        out: &mut O,
-        steps: &mut Steps<L>,
-    ) -> Result<(), GrepFault>
+    pub(crate) fn print_total<O: Sink>(&self, count: u64, out: &mut O) -> Result<(), GrepFault>
         ensures written { WritesBytes (total self.now.style self.now.name.now count)
             (O.model out.old) (O.model out.new) result }
         ensures failed { O.failed out.new ≡ count_after is_grep_failure result (O.failed out.old) }
-        ensures work { steps.new ≤ steps.old + printed_work self.now.name.now }
     {
         if self.style.list || !self.style.count || count == 0 {
             return Ok(());
         }
-        self.print_count(count, out, steps)?;
+        self.print_count(count, out)?;
         Ok(())
     }
 
     /// `NAME: COUNT` on a line.
     #[tactic(auto, using(crate::proofs::Printing::printing), unfolding(crate::specs::Report::count_line))]
-    fn print_count<O: Sink, L: Ledger>(
-        &self,
-        count: u64,
-        out: &mut O,
-        steps: &mut Steps<L>,
-    ) -> Result<(), GrepFault>
-        ensures written { WritesBytes
-            (count_line self.now.name.now count) (O.model out.old) (O.model out.new) result }
+    fn print_count<O: Sink>(&self, count: u64, out: &mut O) -> Result<(), GrepFault>
+        ensures written { WritesBytes (count_line self.now.name.now count)
+            (O.model out.old) (O.model out.new) result }
         ensures failed { O.failed out.new ≡ count_after is_grep_failure result (O.failed out.old) }
-        ensures work { steps.new ≤ steps.old + printed_work self.now.name.now }
     {
-        write_bytes(out, self.name.as_bytes(), steps)?;
-        write_bytes(out, b": ", steps)?;
-        write_number(count, out, steps)?;
-        end_line(out, steps)?;
+        write_all(out, self.name.as_bytes())?;
+        write_all(out, b": ")?;
+        write_number(count, out)?;
+        end_line(out)?;
         Ok(())
     }
 }
 
 /// The number in decimal.
-fn write_number<O: Sink, L: Ledger>(
-    number: u64,
-    out: &mut O,
-    steps: &mut Steps<L>,
-) -> Result<(), GrepFault>
+fn write_number<O: Sink>(number: u64, out: &mut O) -> Result<(), GrepFault>
     ensures written { WritesBytes (decimal number) (O.model out.old) (O.model out.new) result }
     ensures failed { O.failed out.new ≡ count_after is_grep_failure result (O.failed out.old) }
-    ensures work { steps.new ≤ steps.old + 20 }
 {
     let mut digits = Buffer::new();
-    write_bytes(out, digits.format(number).as_bytes(), steps)?;
+    write_all(out, digits.format(number).as_bytes())?;
     Ok(())
 }
 
 /// A newline.
-fn end_line<O: Sink, L: Ledger>(out: &mut O, steps: &mut Steps<L>) -> Result<(), GrepFault>
+fn end_line<O: Sink>(out: &mut O) -> Result<(), GrepFault>
     ensures written { WritesBytes (newline ∷ []) (O.model out.old) (O.model out.new) result }
     ensures failed { O.failed out.new ≡ count_after is_grep_failure result (O.failed out.old) }
-    ensures work { steps.new ≡ steps.old + 1 }
 {
-    write_bytes(out, b"\n", steps)?;
+    write_all(out, b"\n")?;
     Ok(())
-}
-
-/// The bytes. Each is a step.
-fn write_bytes<O: Sink, L: Ledger>(
-    out: &mut O,
-    bytes: &[u8],
-    steps: &mut Steps<L>,
-) -> Result<(), IoFault>
-    ensures model { WritesBytes bytes.now (O.model out.old) (O.model out.new) result }
-    ensures failed { O.failed out.new ≡ count_after is_io_failure result (O.failed out.old) }
-    ensures work { steps.new ≡ steps.old + length bytes.now }
-{
-    steps.add(bytes.len());
-    write_all(out, bytes)
 }

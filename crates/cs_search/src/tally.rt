@@ -1,9 +1,9 @@
 // The counts of a search.
-ghost use Rattle.std.specs.Prelude.{◌≤◌, ◌≡◌, ◌+◌, length};
+ghost use Rattle.std.specs.Prelude.{◌≤◌, ◌<◌, ◌≡◌, ◌+◌, ◌^◌, length};
 ghost use Rattle.cs_match.specs.Lines.{terminated_lines};
+ghost use Rattle.cs_search.specs.SearchedWork.{after_steps};
 
-use cs_match::Steps;
-use std::sync::ledger::Ledger;
+use cs_match::Matcher;
 
 /// The number of tested lines, and of the matching ones. If no number is printed, lines without a match are not counted.
 #[derive(Drop)]
@@ -23,33 +23,42 @@ impl Tally {
             matches: 0,
         }
     }
+
+    /// Counts the next line, which matches.
+    pub(crate) fn add_match(&mut self)
+        requires { self.old.lines + 1 < 2 ^ 64 }
+        ensures lines { self.new.lines ≡ self.old.lines + 1 }
+        ensures matches { self.new.matches ≡ self.old.matches + 1 }
+    {
+        self.lines += 1;
+        self.matches += 1;
+    }
 }
 
 // The number of newlines in this many bytes fits in one byte, so the count vectorizes with lanes of one byte.
 const PART: usize = 240;
 
-/// The number of newlines in the block; each ends a line.
-pub(crate) fn newlines<L: Ledger>(block: &[u8], steps: &mut Steps<L>) -> u64
+/// The number of newlines in the block; each ends a line. Each byte is a step.
+pub(crate) fn newlines(block: &[u8], matcher: &mut Matcher<'_>) -> u64
     ensures exact { result ≡ length (terminated_lines block.now) }
-    ensures work { steps.new ≡ steps.old + length block.now }
+    ensures work { matcher.new ≡ after_steps (length block.now) matcher.old }
 {
+    matcher.add_steps(block.len());
     let mut count = 0u64;
     let mut rest = block;
     'parts: while rest.len() > PART {
         let (part, more) = rest.split_at(PART);
-        count += u64::from(count_newlines(part, steps));
+        count += u64::from(count_newlines(part));
         rest = more;
     }
-    count + u64::from(count_newlines(rest, steps))
+    count + u64::from(count_newlines(rest))
 }
 
-/// The number of newlines in a part. Each byte is a step.
-fn count_newlines<L: Ledger>(part: &[u8], steps: &mut Steps<L>) -> u8
+/// The number of newlines in a part.
+fn count_newlines(part: &[u8]) -> u8
     requires { length part.now ≤ PART }
-    ensures exact { result ≡ length (terminated_lines part.now) }
-    ensures work { steps.new ≡ steps.old + length part.now }
+    ensures { result ≡ length (terminated_lines part.now) }
 {
-    steps.add(part.len());
     let mut count = 0u8;
     for b in part {
         count += u8::from(*b == b'\n');

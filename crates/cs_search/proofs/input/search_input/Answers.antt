@@ -12,13 +12,13 @@ use Rattle.cs_search.specs.Buffer.{pending_bytes}
 use Rattle.cs_search.specs.TestedLines.{Tests, TestsPrefix, IsListed}
 use Rattle.cs_search.specs.Progress.{HasReadInput, HasTested}
 use Rattle.cs_match.proofs.LinesLemmas.{HasNoNewline-last_part, lines_within}
-use Rattle.cs_match.specs.Work.{state_work}
 use Rattle.cs_search.specs.SearchedWork.{HasSearched}
 use Rattle.cs_search.proofs.InputWorkLemmas.{Consumes-none, block_bound, unless_err, searched_on, searched_last, stops_at}
+use Rattle.cs_search.proofs.WorkLemmas.{tree_of}
 use Rattle.cs_search.proofs.BufferLemmas.{GrowsBy-split, GrowsBy-size}
 use Rattle.cs_search.proofs.LineTestLemmas.{Tests-none, Tests-more}
 use Rattle.cs_search.proofs.ProgressLemmas.{HasReadInput-none, HasTested-none, HasReadInput-more, HasTested-more, TestsInput-empty, TestsInput-listed, TestsInput-past, Stops-past}
-use Rattle.cs_index.proofs.common.ResultClauses.{any_err}
+use Rattle.std.proofs.lemmas.Result.{err_from_is_err_and}
 use Rattle.cs_search.proofs.PrintedPrefixLemmas.{TestsInputPrefix-tested, TestsInputPrefix-piece}
 use Rattle.cs_search.proofs.input.search_input.Goals as goal
 
@@ -26,12 +26,12 @@ pub pieces-init : goal.pieces-init
 unfolding last_part
 pieces-init g c =
     let r = c.requires in
-    let none : c.args.limit - c.args.limit ≡ 0 = omega arith in
+    let none : c.args.buffer.now.left - c.args.buffer.now.left ≡ 0 = omega arith in
     record {
       bound = omega (arith, r.lines, ap (λ (l : List ℕ). length l) r.empty);
       part = subst HasNoNewline (sym r.empty) tt;
       read = HasReadInput-none c.args.printer.now.style (g.R.Source.model c.args.input.now) _ _ _ none r.empty r.lines;
-      tested = λ has_match decides. HasTested-none (g.R.Source.model c.args.input.now) (c.args.limit - c.args.limit)
+      tested = λ has_match decides. HasTested-none (g.R.Source.model c.args.input.now) (c.args.buffer.now.left - c.args.buffer.now.left)
           (λ lines. Tests c.args.printer.now.style c.args.printer.now.name.now has_match lines c.args.tally.now
           c.args.tally.now (g.O.Sink.model c.args.out.now) (g.O.Sink.model c.args.out.now)) none
           (Tests-none c.args.printer.now.style c.args.printer.now.name.now has_match c.args.tally.now
@@ -45,7 +45,7 @@ pieces-init g c =
         read = Consumes-none (g.R.Source.model c.args.input.now);
         size = omega arith;
         rest = r.empty;
-        bound = omega arith;
+        bound = (omega arith, omega arith);
       };
       keeps = g.met.R.Source.keeps_refl c.args.input.now;
     }
@@ -56,7 +56,7 @@ returns-in-Ok-eq0-clause-tests g c = λ has_match decides.
     let e = c.in-Ok-eq0.ensures in
     let none = GrowsBy-size _ _ _ e.gains ∙ c.in-Ok-eq0.field-0-test in
     TestsInput-empty _ _ has_match _ _ _ _ _ End (g.R.Source.model c.args.input.now) (g.R.Source.model c.pieces.input)
-    (g.R.Source.model c.fill.new.input) (c.args.limit - c.pieces.left) (pending_bytes c.pieces.buffer) _
+    (g.R.Source.model c.fill.new.input) (c.args.buffer.now.left - c.pieces.buffer.left) (pending_bytes c.pieces.buffer) _
     c.pieces.tally.lines ends (inl refl) (omega arith) i.read e.model.0 (e.model.1 c.in-Ok-eq0.field-0-test)
     (nil_from_length _ none) (i.tested has_match decides)
 
@@ -65,39 +65,41 @@ returns-in-Err-Failed-clause-tests g c = λ has_match decides.
     let i = c.pieces.invariant in
     let e = c.in-Err-Failed.ensures in
     TestsInput-empty _ _ has_match _ _ _ _ _ (Faulted Read) (g.R.Source.model c.args.input.now)
-    (g.R.Source.model c.pieces.input) (g.R.Source.model c.fill.new.input) (c.args.limit - c.pieces.left)
+    (g.R.Source.model c.pieces.input) (g.R.Source.model c.fill.new.input) (c.args.buffer.now.left - c.pieces.buffer.left)
     (pending_bytes c.pieces.buffer) [] c.pieces.tally.lines fails (inr refl) (omega arith) i.read e.model.0
     (e.model.1 c.in-Err-Failed.field-0-is) refl (i.tested has_match decides)
 
-pub returns-in-Err-Memory-clause-prefix : goal.returns-in-Err-Memory-clause-prefix
-returns-in-Err-Memory-clause-prefix g c = λ has_match decides.
+pub returns-in-Err-Memory-clause-tests : goal.returns-in-Err-Memory-clause-tests
+returns-in-Err-Memory-clause-tests g c = λ has_match decides.
     let i = c.pieces.invariant in
     TestsInputPrefix-tested _ _ has_match _ c.pieces.tally _ _ _ (g.R.Source.model c.args.input.now)
-    (c.args.limit - c.pieces.left) (omega arith) i.unlisted (i.tested has_match decides)
+    (c.args.buffer.now.left - c.pieces.buffer.left) (omega arith) i.unlisted (i.tested has_match decides)
 
-pub returns-in_err-start-clause-prefix : goal.returns-in_err-start-clause-prefix
-returns-in_err-start-clause-prefix g c =
-    any_err c.from_residual.result (λ has_match decides.
+pub returns-in_err-start-clause-tests : goal.returns-in_err-start-clause-tests
+returns-in_err-start-clause-tests g c =
+    let p = err_from_is_err_and c.from_residual.result c.from_residual.ensures.1 in
+    rw p.1 (λ has_match decides.
     let i = c.pieces.invariant in
     let e = c.in-Ok.ensures in
     let old = pending_bytes c.pieces.buffer in
     let piece = drop (length old) (pending_bytes c.fill.new.self) in
     let block : c.pending.result.now ≡ old ++ piece = c.pending.ensures ∙ GrowsBy-split _ _ _ e.gains in
-    let size : length piece ≡ c.in-Ok.n = GrowsBy-size _ _ _ e.gains in
+    let size : length piece ≡ c.in-Ok.field-0 = GrowsBy-size _ _ _ e.gains in
     TestsInputPrefix-piece _ _ has_match _ c.pieces.tally _ (g.O.Sink.model c.pieces.out) _
     (g.R.Source.model c.args.input.now) (g.R.Source.model c.pieces.input) (g.R.Source.model c.fill.new.input)
-    (c.args.limit - c.pieces.left) old piece c.pieces.tally.lines _ (omega (arith, e.within, i.bound, size)) i.read
+    (c.args.buffer.now.left - c.pieces.buffer.left) old piece c.pieces.tally.lines _ (omega (arith, e.left, i.bound, size)) i.read
     e.model.0 i.unlisted (omega (arith, c.requires.lines)) (i.tested has_match decides)
     (subst (λ b. TestsPrefix c.args.printer.now.style c.args.printer.now.name.now has_match (terminated_lines b)
     (c.pieces.tally.lines + 1) (g.O.Sink.model c.pieces.out) (g.O.Sink.model c.search_block.new.out)) block
-    (c.in_err-start.ensures.prefix has_match (subst (Decides has_match) (sym i.same) decides))))
+    (c.in_err-start.ensures.tests has_match (subst (Decides has_match) (sym (tree_of _ c.pieces.matcher c.add_steps.new.self c.add_steps.ensures ∙ i.same)) decides))))
 
-pub returns-in_err-stop-clause-prefix : goal.returns-in_err-stop-clause-prefix
-returns-in_err-stop-clause-prefix g c =
-    any_err c.from_residual-in_err-stop.result (λ has_match decides.
+pub returns-in_err-stop-clause-tests : goal.returns-in_err-stop-clause-tests
+returns-in_err-stop-clause-tests g c =
+    let p = err_from_is_err_and c.from_residual-in_err-stop.result c.from_residual-in_err-stop.ensures.1 in
+    rw p.1 (λ has_match decides.
     let i = c.pieces.invariant in
     TestsInputPrefix-tested _ _ has_match _ c.pieces.tally _ _ _ (g.R.Source.model c.args.input.now)
-    (c.args.limit - c.pieces.left) (omega arith) i.unlisted (i.tested has_match decides))
+    (c.args.buffer.now.left - c.pieces.buffer.left) (omega arith) i.unlisted (i.tested has_match decides))
 
 pub returns-in_default-clause-tests : goal.returns-in_default-clause-tests
 returns-in_default-clause-tests g c = λ has_match decides.
@@ -107,11 +109,11 @@ returns-in_default-clause-tests g c = λ has_match decides.
     let old = pending_bytes c.pieces.buffer in
     let piece = drop (length old) (pending_bytes c.fill.new.self) in
     let block : c.pending.result.now ≡ old ++ piece = c.pending.ensures ∙ GrowsBy-split _ _ _ e.gains in
-    let size : length piece ≡ c.in-Ok.n = GrowsBy-size _ _ _ e.gains in
-    let is_listed = rw c.in_default.is at (s.tests has_match (subst (Decides has_match) (sym i.same) decides)) in
+    let size : length piece ≡ c.in-Ok.field-0 = GrowsBy-size _ _ _ e.gains in
+    let is_listed = rw c.in_default.is at (s.tests has_match (subst (Decides has_match) (sym (tree_of _ c.pieces.matcher c.add_steps.new.self c.add_steps.ensures ∙ i.same)) decides)) in
     TestsInput-listed _ _ has_match _ _ _ _ _ (g.R.Source.model c.args.input.now) (g.R.Source.model c.pieces.input)
-    (g.R.Source.model c.fill.new.input) (c.args.limit - c.pieces.left) old piece c.pieces.tally.lines c.pieces.tally
-    (g.O.Sink.model c.pieces.out) (omega (arith, e.within, i.bound, size)) i.read e.model.0
+    (g.R.Source.model c.fill.new.input) (c.args.buffer.now.left - c.pieces.buffer.left) old piece c.pieces.tally.lines c.pieces.tally
+    (g.O.Sink.model c.pieces.out) (omega (arith, e.left, i.bound, size)) i.read e.model.0
     (i.unlisted is_listed.listed) (i.tested has_match decides)
     (subst (λ b. IsListed c.args.printer.now.style c.args.printer.now.name.now has_match (terminated_lines b)
     (c.pieces.tally.lines + 1) c.search_block.new.tally (g.O.Sink.model c.pieces.out)
@@ -125,11 +127,11 @@ pieces-preserved g c =
     let old = pending_bytes c.pieces.buffer in
     let piece = drop (length old) (pending_bytes c.fill.new.self) in
     let block : c.pending.result.now ≡ old ++ piece = c.pending.ensures ∙ GrowsBy-split _ _ _ e.gains in
-    let size : length piece ≡ c.in-Ok.n = GrowsBy-size _ _ _ e.gains in
-    let rest : pending_bytes c.skip.new.self ≡ last_part c.pending.result.now = c.skip.ensures
+    let size : length piece ≡ c.in-Ok.field-0 = GrowsBy-size _ _ _ e.gains in
+    let rest : pending_bytes c.skip.new.self ≡ last_part c.pending.result.now = c.skip.ensures.pending
     ∙ ap (λ b. drop c.in-Some.start b) (sym c.pending.ensures) ∙ s.rest.1 in
-    let n : c.args.limit - c.pieces.left + length piece ≡ c.args.limit - (c.pieces.left - c.in-Ok.n) =
-    omega (arith, e.within, i.bound, size) in
+    let n : c.args.buffer.now.left - c.pieces.buffer.left + length piece ≡ c.args.buffer.now.left - c.skip.new.self.left =
+    omega (arith, e.left, c.skip.ensures.left, i.bound, size) in
     let model = g.R.Source.model c.args.input.now in
     let later = g.R.Source.model c.fill.new.input in
     let left = g.R.Source.model c.pieces.input in
@@ -144,7 +146,8 @@ pieces-preserved g c =
     record {
       bound = omega (
         arith,
-        e.within,
+        e.left,
+        c.skip.ensures.left,
         i.bound,
         s.lines.bound,
         ap (λ (l : List ℕ). length l) rest,
@@ -155,36 +158,30 @@ pieces-preserved g c =
       part = subst HasNoNewline (sym rest) (HasNoNewline-last_part c.pending.result.now);
       read = subst (λ k. HasReadInput c.args.printer.now.style model later k (pending_bytes c.skip.new.self)
           c.search_block.new.tally.lines) n
-          (HasReadInput-more c.args.printer.now.style (c.args.limit - c.pieces.left) old piece c.pieces.tally.lines
+          (HasReadInput-more c.args.printer.now.style (c.args.buffer.now.left - c.pieces.buffer.left) old piece c.pieces.tally.lines
           model left later _ _ i.read e.model.0 (rest ∙ ap last_part block) counted);
       tested = λ has_match decides.
           let found = subst (λ b. Tests c.args.printer.now.style c.args.printer.now.name.now has_match
           (terminated_lines b) c.pieces.tally c.search_block.new.tally (g.O.Sink.model c.pieces.out)
           (g.O.Sink.model c.search_block.new.out)) block
-          (s.tests has_match (subst (Decides has_match) (sym i.same) decides)) in
+          (s.tests has_match (subst (Decides has_match) (sym (tree_of _ c.pieces.matcher c.add_steps.new.self c.add_steps.ensures ∙ i.same)) decides)) in
           subst (λ k. HasTested model k (After has_match)) n
-          (HasTested-more c.args.printer.now.style (c.args.limit - c.pieces.left) old piece c.pieces.tally.lines model
+          (HasTested-more c.args.printer.now.style (c.args.buffer.now.left - c.pieces.buffer.left) old piece c.pieces.tally.lines model
           left later (Mid has_match) (After has_match) i.read e.model.0
           (λ ls is tests. Tests-more _ _ has_match ls (terminated_lines (old ++ piece)) _ _ _ _ _ _
           (λ shown. omega (arith, is shown, c.requires.lines)) tests found) (i.tested has_match decides));
       unlisted = s.unlisted;
-      same = s.same ∙ i.same;
+      same = s.work.0 ∙ tree_of _ c.pieces.matcher c.add_steps.new.self c.add_steps.ensures ∙ i.same;
       read_failed = e.failed ∙ i.read_failed;
       write_failed = s.failed ∙ i.write_failed;
-      work = subst (λ k. HasSearched c.args.matcher.now.tree c.args.printer.now.name.now (pending_bytes c.skip.new.self)
-          k model later (c.args.steps.now + state_work * c.args.matcher.now.states)
-          (c.search_block.new.steps + state_work * c.search_block.new.matcher.states)) n
-          (searched_on c.args.matcher.now.tree c.args.printer.now.name.now (pending_bytes c.pieces.buffer)
-          (c.args.limit - c.pieces.left) (g.R.Source.model c.args.input.now) (g.R.Source.model c.pieces.input)
-          (c.args.steps.now + state_work * c.args.matcher.now.states)
-          (c.pieces.steps + state_work * c.pieces.matcher.states) i.work later piece
-          (c.search_block.new.steps + state_work * c.search_block.new.matcher.states) e.model.0
-          (pending_bytes c.skip.new.self) (rest ∙ ap last_part block) (omega (arith, size, c.in-Ok.n-test))
-          (block_bound c.args.matcher.now.tree c.pieces.matcher.tree c.args.printer.now.name.now c.pending.result.now
-          old piece (length c.pending-scanned.result.now) (c.pieces.steps + state_work * c.pieces.matcher.states)
-          (c.search_block.new.steps + state_work * c.search_block.new.matcher.states) i.same
-          (c.pending.ensures ∙ GrowsBy-split _ _ _ e.gains) (ap (λ (b : List ℕ). length b) c.pending-scanned.ensures)
-          (omega (arith, c.search_block.ensures.work, c.fill.ensures.work))));
+      work = subst (λ k. HasSearched (pending_bytes c.skip.new.self) k model later c.args.matcher.now c.search_block.new.matcher) n
+          (searched_on (pending_bytes c.pieces.buffer) (c.args.buffer.now.left - c.pieces.buffer.left)
+          (g.R.Source.model c.args.input.now) (g.R.Source.model c.pieces.input) c.args.matcher.now c.pieces.matcher i.work i.same
+          later piece c.search_block.new.matcher e.model.0 (pending_bytes c.skip.new.self) (rest ∙ ap last_part block)
+          (omega (arith, size, c.in-Ok.field-0-test))
+          (block_bound c.pending.result.now old piece (length c.pending-scanned.result.now) c.pieces.matcher c.add_steps.new.self
+          c.search_block.new.matcher c.add_steps.ensures block (ap (λ (b : List ℕ). length b) c.pending-scanned.ensures)
+          c.search_block.ensures.work));
       keeps = g.met.R.Source.keeps_trans _ _ _ i.keeps e.keeps;
     }
 
@@ -192,20 +189,17 @@ pub returns-clause-stops : goal.returns-clause-stops
 returns-clause-stops g c =
     let i = c.pieces.invariant in
     Stops-past c.args.printer.now.style c.in_ok-stop.stop _ (g.R.Source.model c.pieces.input)
-    (c.args.limit - c.pieces.left) _ _ _ (omega (arith, c.pieces-test.false)) i.read c.in_ok-stop.ensures.stop
+    (c.args.buffer.now.left - c.pieces.buffer.left) _ _ _ (omega (arith, c.pieces-test.false)) i.read c.in_ok-stop.ensures.stop
 
 pub returns-clause-tests : goal.returns-clause-tests
 returns-clause-tests g c = λ has_match decides.
     let i = c.pieces.invariant in
     TestsInput-past _ _ has_match _ _ _ _ _ c.in_ok-stop.stop _ (g.R.Source.model c.pieces.input)
-    (c.args.limit - c.pieces.left) _ _ (omega (arith, c.pieces-test.false)) i.read c.in_ok-stop.ensures.stop
+    (c.args.buffer.now.left - c.pieces.buffer.left) _ _ (omega (arith, c.pieces-test.false)) i.read c.in_ok-stop.ensures.stop
     (i.tested has_match decides)
 
 pub returns-in-Err-Failed-clause-stops : goal.returns-in-Err-Failed-clause-stops
 returns-in-Err-Failed-clause-stops g c = grind (arith, common_steps)
-
-pub returns-in-Err-Failed-clause-read_failed : goal.returns-in-Err-Failed-clause-read_failed
-returns-in-Err-Failed-clause-read_failed g c = search rules
 
 pub returns-in-Ok-eq0-clause-work : goal.returns-in-Ok-eq0-clause-work
 returns-in-Ok-eq0-clause-work g c =
@@ -217,12 +211,10 @@ returns-in-Ok-eq0-clause-work g c =
     let size : length piece ≡ 0 = GrowsBy-size _ _ _ e.gains ∙ c.in-Ok-eq0.field-0-test in
     let none : piece ≡ [] = nil_from_length piece size in
     let same : new ≡ old = GrowsBy-split _ _ _ e.gains ∙ ap (λ p. old ++ p) none ∙ append-nil old in
-    stops_at c.args.matcher.now.tree c.args.printer.now.name.now (pending_bytes c.pieces.buffer)
-    (c.args.limit - c.pieces.left) (g.R.Source.model c.args.input.now) (g.R.Source.model c.pieces.input)
-    (c.args.steps.now + state_work * c.args.matcher.now.states) (c.pieces.steps + state_work * c.pieces.matcher.states)
-    i.work piece new same (Ok End) none (g.R.Source.model c.fill.new.input)
-    (c.fill.new.steps + state_work * c.pieces.matcher.states) (c.args.limit + 1) e.model.0 (omega (arith, size))
-    (omega (arith, c.fill.ensures.work))
+    stops_at (pending_bytes c.pieces.buffer) (c.args.buffer.now.left - c.pieces.buffer.left) (g.R.Source.model c.args.input.now)
+    (g.R.Source.model c.pieces.input) c.args.matcher.now c.pieces.matcher i.work i.same piece new same (Ok End) none
+    (g.R.Source.model c.fill.new.input) c.add_steps.new.self (c.args.buffer.now.left + 1) e.model.0 (omega (arith, size))
+    c.add_steps.ensures
 
 pub returns-in_err-start-clause-work : goal.returns-in_err-start-clause-work
 returns-in_err-start-clause-work g c =
@@ -230,19 +222,15 @@ returns-in_err-start-clause-work g c =
     let e = c.in-Ok.ensures in
     let old = pending_bytes c.pieces.buffer in
     let piece = drop (length old) (pending_bytes c.fill.new.self) in
-    let size : length piece ≡ c.in-Ok.n = GrowsBy-size _ _ _ e.gains in
+    let size : length piece ≡ c.in-Ok.field-0 = GrowsBy-size _ _ _ e.gains in
     record {
-      steps = searched_last c.args.matcher.now.tree c.args.printer.now.name.now (pending_bytes c.pieces.buffer)
-          (c.args.limit - c.pieces.left) (g.R.Source.model c.args.input.now) (g.R.Source.model c.pieces.input)
-          (c.args.steps.now + state_work * c.args.matcher.now.states)
-          (c.pieces.steps + state_work * c.pieces.matcher.states) i.work (g.R.Source.model c.fill.new.input) piece
-          (c.search_block.new.steps + state_work * c.search_block.new.matcher.states) e.model.0 (c.args.limit + 1)
-          (omega (arith, e.within, i.bound, size)) (omega (arith, size, c.in-Ok.n-test))
-          (block_bound c.args.matcher.now.tree c.pieces.matcher.tree c.args.printer.now.name.now c.pending.result.now
-          old piece (length c.pending-scanned.result.now) (c.pieces.steps + state_work * c.pieces.matcher.states)
-          (c.search_block.new.steps + state_work * c.search_block.new.matcher.states) i.same
-          (c.pending.ensures ∙ GrowsBy-split _ _ _ e.gains) (ap (λ (b : List ℕ). length b) c.pending-scanned.ensures)
-          (omega (arith, c.search_block.ensures.work, c.fill.ensures.work)));
+      steps = searched_last (pending_bytes c.pieces.buffer) (c.args.buffer.now.left - c.pieces.buffer.left)
+          (g.R.Source.model c.args.input.now) (g.R.Source.model c.pieces.input) c.args.matcher.now c.pieces.matcher i.work i.same
+          (g.R.Source.model c.fill.new.input) piece c.search_block.new.matcher e.model.0 (c.args.buffer.now.left + 1)
+          (omega (arith, e.left, i.bound, size)) (omega (arith, size, c.in-Ok.field-0-test))
+          (block_bound c.pending.result.now old piece (length c.pending-scanned.result.now) c.pieces.matcher c.add_steps.new.self
+          c.search_block.new.matcher c.add_steps.ensures (c.pending.ensures ∙ GrowsBy-split _ _ _ e.gains)
+          (ap (λ (b : List ℕ). length b) c.pending-scanned.ensures) c.search_block.ensures.work);
       rest = unless_err _ c.from_residual.result c.from_residual.ensures.0;
     }
 
@@ -252,19 +240,15 @@ returns-in_default-clause-work g c =
     let e = c.in-Ok.ensures in
     let old = pending_bytes c.pieces.buffer in
     let piece = drop (length old) (pending_bytes c.fill.new.self) in
-    let size : length piece ≡ c.in-Ok.n = GrowsBy-size _ _ _ e.gains in
+    let size : length piece ≡ c.in-Ok.field-0 = GrowsBy-size _ _ _ e.gains in
     record {
-      steps = searched_last c.args.matcher.now.tree c.args.printer.now.name.now (pending_bytes c.pieces.buffer)
-          (c.args.limit - c.pieces.left) (g.R.Source.model c.args.input.now) (g.R.Source.model c.pieces.input)
-          (c.args.steps.now + state_work * c.args.matcher.now.states)
-          (c.pieces.steps + state_work * c.pieces.matcher.states) i.work (g.R.Source.model c.fill.new.input) piece
-          (c.search_block.new.steps + state_work * c.search_block.new.matcher.states) e.model.0 (c.args.limit + 1)
-          (omega (arith, e.within, i.bound, size)) (omega (arith, size, c.in-Ok.n-test))
-          (block_bound c.args.matcher.now.tree c.pieces.matcher.tree c.args.printer.now.name.now c.pending.result.now
-          old piece (length c.pending-scanned.result.now) (c.pieces.steps + state_work * c.pieces.matcher.states)
-          (c.search_block.new.steps + state_work * c.search_block.new.matcher.states) i.same
-          (c.pending.ensures ∙ GrowsBy-split _ _ _ e.gains) (ap (λ (b : List ℕ). length b) c.pending-scanned.ensures)
-          (omega (arith, c.search_block.ensures.work, c.fill.ensures.work)));
+      steps = searched_last (pending_bytes c.pieces.buffer) (c.args.buffer.now.left - c.pieces.buffer.left)
+          (g.R.Source.model c.args.input.now) (g.R.Source.model c.pieces.input) c.args.matcher.now c.pieces.matcher i.work i.same
+          (g.R.Source.model c.fill.new.input) piece c.search_block.new.matcher e.model.0 (c.args.buffer.now.left + 1)
+          (omega (arith, e.left, i.bound, size)) (omega (arith, size, c.in-Ok.field-0-test))
+          (block_bound c.pending.result.now old piece (length c.pending-scanned.result.now) c.pieces.matcher c.add_steps.new.self
+          c.search_block.new.matcher c.add_steps.ensures (c.pending.ensures ∙ GrowsBy-split _ _ _ e.gains)
+          (ap (λ (b : List ℕ). length b) c.pending-scanned.ensures) c.search_block.ensures.work);
       rest = tt;
     }
 
@@ -272,21 +256,17 @@ pub returns-in_err-stop-clause-work : goal.returns-in_err-stop-clause-work
 returns-in_err-stop-clause-work g c =
     let i = c.pieces.invariant in
     let p = c.probe_end.ensures.read in
-    stops_at c.args.matcher.now.tree c.args.printer.now.name.now (pending_bytes c.pieces.buffer)
-    (c.args.limit - c.pieces.left) (g.R.Source.model c.args.input.now) (g.R.Source.model c.pieces.input)
-    (c.args.steps.now + state_work * c.args.matcher.now.states) (c.pieces.steps + state_work * c.pieces.matcher.states)
-    i.work p.0 (pending_bytes c.pieces.buffer) refl c.from_residual-in_err-stop.result
-    (unless_err _ c.from_residual-in_err-stop.result c.from_residual-in_err-stop.ensures.0)
-    (g.R.Source.model c.probe_end.new.input) (c.probe_end.new.steps + state_work * c.pieces.matcher.states)
-    (c.args.limit + 1) p.1 (omega (arith, p.2)) (omega (arith, c.probe_end.ensures.work))
+    stops_at (pending_bytes c.pieces.buffer) (c.args.buffer.now.left - c.pieces.buffer.left) (g.R.Source.model c.args.input.now)
+    (g.R.Source.model c.pieces.input) c.args.matcher.now c.pieces.matcher i.work i.same p.0 (pending_bytes c.pieces.buffer) refl
+    c.from_residual-in_err-stop.result (unless_err _ c.from_residual-in_err-stop.result c.from_residual-in_err-stop.ensures.0)
+    (g.R.Source.model c.probe_end.new.input) c.add_steps-2.new.self (c.args.buffer.now.left + 1) p.1 (omega (arith, p.2))
+    c.add_steps-2.ensures
 
 pub returns-clause-work : goal.returns-clause-work
 returns-clause-work g c =
     let i = c.pieces.invariant in
     let p = c.in_ok-stop.ensures.read in
-    stops_at c.args.matcher.now.tree c.args.printer.now.name.now (pending_bytes c.pieces.buffer)
-    (c.args.limit - c.pieces.left) (g.R.Source.model c.args.input.now) (g.R.Source.model c.pieces.input)
-    (c.args.steps.now + state_work * c.args.matcher.now.states) (c.pieces.steps + state_work * c.pieces.matcher.states)
-    i.work p.0 (pending_bytes c.pieces.buffer) refl (Ok c.in_ok-stop.stop) p.3 (g.R.Source.model c.probe_end.new.input)
-    (c.probe_end.new.steps + state_work * c.pieces.matcher.states) (c.args.limit + 1) p.1 (omega (arith, p.2))
-    (omega (arith, c.probe_end.ensures.work))
+    stops_at (pending_bytes c.pieces.buffer) (c.args.buffer.now.left - c.pieces.buffer.left) (g.R.Source.model c.args.input.now)
+    (g.R.Source.model c.pieces.input) c.args.matcher.now c.pieces.matcher i.work i.same p.0 (pending_bytes c.pieces.buffer) refl
+    (Ok c.in_ok-stop.stop) p.3 (g.R.Source.model c.probe_end.new.input) c.add_steps-2.new.self (c.args.buffer.now.left + 1) p.1
+    (omega (arith, p.2)) c.add_steps-2.ensures

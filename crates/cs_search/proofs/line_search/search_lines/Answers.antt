@@ -1,23 +1,30 @@
 use Rattle.std.proofs.Common.{◌≡◌, ◌≤◌, ◌+◌, ◌*◌, ◌-◌, ◌∷◌, ◌++◌, [], false, nat_eq, Bool, List, ℕ, Option, length, take, drop, refl, sym, ap, subst, ◌∙◌, arith, length-append, length-take}
 use Rattle.std.proofs.lemmas.Bool.{false≢true, eqb-true}
 use Rattle.std.proofs.lemmas.List.{take_rest, take_all, nil_from_length}
-use Rattle.cs_tree.specs.Sinks.{SinkModel}
+use Rattle.std.proofs.lemmas.Result.{err_from_is_err_and}
+use Rattle.cs_tree.specs.Sinks.{Grows, SinkModel}
+use Rattle.cs_tree.specs.TakesPrefix.{TakesPrefix}
 use Rattle.cs_args.specs.declared.jobs.Style.{Style}
 use Rattle.cs_match.specs.Deciding.{Decides}
 use Rattle.cs_match.specs.Lines.{terminated_lines}
 use Rattle.cs_match.specs.Skipping.{AreWholeLines, IsLineAfter, NoneMatch}
 use Rattle.cs_match.proofs.WholeLineLemmas.{whole_drop, whole_line, terminated_line, ended_prefix}
 use Rattle.cs_syntax.specs.Matching.{Tree}
-use Rattle.cs_match.specs.Work.{state_work, search_work}
-use Rattle.cs_search.specs.Work.{printed_work, searched_work}
-use Rattle.cs_search.proofs.WorkLemmas.{searched_fewer, some_lines, once_more, line_more, rest_more}
+use Rattle.cs_match.specs.Automaton.{Automaton}
+use Rattle.cs_match.specs.Work.{search_work, work_of, WorksWithin}
+use Rattle.cs_search.specs.Work.{searched_work}
+use Rattle.cs_search.specs.SearchedWork.{StepsWithin}
+use Rattle.cs_search.proofs.WorkLemmas.{searched_fewer, some_lines, once_more, line_more, rest_more, works_fewer, works_none}
 use Rattle.cs_search.specs.declared.tally.Tally.{Tally}
-use Rattle.cs_search.specs.TestedLines.{SameNumber, CountsLines, Tests, TestsPrefix, IsListed}
+use Rattle.cs_search.specs.TestedLines.{SameNumber, CountsLines, match_output, Tests, TestsPrefix, IsListed}
 use Rattle.cs_search.proofs.BlockLemmas.{lines_on, whole_on, counted_within}
-use Rattle.cs_search.proofs.LineTestLemmas.{Tests-none, Tests-more, Tests-skipped, Tests-counted, IsListed-first, IsListed-more}
-use Rattle.cs_index.proofs.common.ResultClauses.{any_err}
-use Rattle.cs_search.proofs.PrintedPrefixLemmas.{TestsPrefix-more, TestsPrefix-after}
+use Rattle.cs_search.proofs.LineTestLemmas.{Tests-none, Tests-matching, Tests-more, Tests-skipped, Tests-counted, IsListed-first, IsListed-more}
+use Rattle.cs_search.proofs.PrintedPrefixLemmas.{TestsPrefix-matching, TestsPrefix-more, TestsPrefix-after}
 use Rattle.cs_search.proofs.line_search.search_lines.Goals as goal
+
+-- the block is not empty
+some : (block : List ℕ) → AreWholeLines block → nat_eq (length block) 0 ≡ false → 1 ≤ length (terminated_lines block)
+some block whole filled = some_lines block whole (λ none. false≢true (sym filled ∙ ap (λ (b : List ℕ). nat_eq (length b) 0) none))
 
 -- the lines up to one offset, and on to the next
 module _ (block : List ℕ) (from to : ℕ) (rising : from ≤ to) (whole : AreWholeLines (take from block)) where
@@ -81,36 +88,38 @@ module _ (block : List ℕ) (offset start end : ℕ) (line : IsLineAfter block o
             ∙ length-append (terminated_lines (take start block)) _,
       )
 
-  -- the steps before the search for this line, after it, after the skipped lines, and after this line
-  module _ (name : List ℕ) (t u : Tree) (same : u ≡ t) (first before searched skipped after : ℕ) where
-    steps_to_line : before ≤ first + searched_work t name offset (length (terminated_lines (take offset block))) →
-        searched ≤ before + search_work u (end + 1 - offset) → skipped ≤ searched
-        + length (take (start - offset) (drop offset block)) →
-        after ≤ skipped + length (take (end - start) (drop start block)) + printed_work name →
-        after ≤ first + searched_work t name (end + 1) (length (terminated_lines (take (end + 1) block)))
-    steps_to_line b s k a =
-        omega (
-          arith,
-          b,
-          line_more t name before searched skipped after offset start end _ _ line.low line.order
-              one_more (subst (λ (v : Tree). searched ≤ before + search_work v (end + 1 - offset)) same s)
-              (omega (arith, k, length-take (start - offset) (drop offset block)))
-              (omega (arith, a, length-take (end - start) (drop start block))),
-        )
+  -- the steps before the search for this line, after it, and after the skipped lines are counted
+  module _ (old before searched after : Automaton) (same : before.tree ≡ old.tree)
+      (b : WorksWithin (searched_work old.tree offset (length (terminated_lines (take offset block)))) old before)
+      (s : WorksWithin (search_work before.tree (end + 1 - offset)) before searched)
+      (a : WorksWithin (length (take (start - offset) (drop offset block))) searched after) where
+    steps_to_line : WorksWithin (searched_work old.tree (end + 1) (length (terminated_lines (take (end + 1) block)))) old after
+    steps_to_line = (
+      omega (arith, b.0, s.0, a.0),
+      omega (
+        arith,
+        b.1,
+        line_more old.tree (work_of before) (work_of searched) (work_of after) offset start end _ _ line.low line.order one_more
+            (omega (arith, s.1, ap (λ t. search_work t (end + 1 - offset)) same))
+            (omega (arith, a.1, length-take (start - offset) (drop offset block))),
+      ),
+    )
 
-    steps_of_block : before ≤ first + searched_work t name offset (length (terminated_lines (take offset block))) →
-        searched ≤ before + search_work u (end + 1 - offset) → skipped ≤ searched
-        + length (take (start - offset) (drop offset block)) →
-        after ≤ skipped + length (take (end - start) (drop start block)) + printed_work name →
-        after ≤ first + searched_work t name (length block) (length (terminated_lines block) + 1)
-    steps_of_block b s k a =
+    steps_of_block : AreWholeLines block → nat_eq (length block) 0 ≡ false →
+        WorksWithin (searched_work old.tree (length block) (2 * length (terminated_lines block))) old after
+    steps_of_block all filled =
         let fewer : length (terminated_lines (take (end + 1) block)) ≤ length (terminated_lines block) + 1 =
         omega (
           arith,
           ap (λ (ls : List (List ℕ)). length ls) (ended_prefix block (end + 1) up_to_next)
               ∙ length-append (terminated_lines (take (end + 1) block)) _,
         ) in
-        omega (arith, steps_to_line b s k a, searched_fewer t name (end + 1) (length block) _ _ (omega (arith, line.high)) fewer)
+        works_fewer _ _ old after
+        (omega (
+          arith,
+          searched_fewer old.tree (end + 1) (length block) _ _ (omega (arith, line.high)) fewer,
+          once_more old.tree (length block) _ (some block all filled),
+        )) steps_to_line
 
   -- lines that were tested, and the skipped ones up to this line
   module _ (style : Style) (name : List ℕ) (has_match : List ℕ → Bool) (before mid after : Tally) (sink now : Option SinkModel) where
@@ -121,10 +130,6 @@ module _ (block : List ℕ) (offset start end : ℕ) (line : IsLineAfter block o
     tests_to_line counted tests none same =
         tests_on block offset start line.low whole style name has_match before mid after sink now now counted tests
         (Tests-skipped style name has_match (terminated_lines (take (start - offset) (drop offset block))) mid after now none same)
-
--- the block is not empty
-some : (block : List ℕ) → AreWholeLines block → nat_eq (length block) 0 ≡ false → 1 ≤ length (terminated_lines block)
-some block whole filled = some_lines block whole (λ none. false≢true (sym filled ∙ ap (λ (b : List ℕ). nat_eq (length b) 0) none))
 
 pub returns-then-is_empty-clause-lines : goal.returns-then-is_empty-clause-lines
 unfolding terminated_lines
@@ -142,13 +147,17 @@ returns-then-is_empty-clause-tests g c = λ has_match decides.
     c.args.tally.now c.args.tally.now (g.O.Sink.model c.args.out.now) (g.O.Sink.model c.args.out.now)) (sym none)
     (Tests-none c.args.printer.now.style c.args.printer.now.name.now has_match c.args.tally.now (g.O.Sink.model c.args.out.now))
 
+pub returns-then-is_empty-clause-work : goal.returns-then-is_empty-clause-work
+returns-then-is_empty-clause-work g c = (refl, (omega arith, omega arith))
+
 pub returns-then-counts-clause-work : goal.returns-then-counts-clause-work
 returns-then-counts-clause-work g c =
-    omega (
-      arith,
-      c.count_lines.ensures.work,
-      once_more c.args.matcher.now.tree c.args.printer.now.name.now
-          (length c.args.block.now) _ (some c.args.block.now c.requires.whole (sym c.is_empty.ensures ∙ c.if-is_empty.false)),
+    let old = c.args.matcher.now in
+    let steps = c.count_lines.ensures.work in (
+      steps.0,
+      works_fewer _ _ old c.count_lines.new.matcher
+          (once_more old.tree (length c.args.block.now) _
+          (some c.args.block.now c.requires.whole (sym c.is_empty.ensures ∙ c.if-is_empty.false))) steps.1,
     )
 
 pub returns-then-counts-clause-tests : goal.returns-then-counts-clause-tests
@@ -168,12 +177,12 @@ lines-init g c = record {
       c.args.tally.now (g.O.Sink.model c.args.out.now);
   unlisted = c.requires.unlisted;
   same = refl;
-  work = omega arith;
+  work = (omega arith, omega arith);
   failed = refl;
 }
 
-pub next_match_counted-requires-clause-whole : goal.next_match_counted-requires-clause-whole
-next_match_counted-requires-clause-whole g c = whole_drop c.lines.offset c.args.block.now c.requires.whole
+pub next_match-requires-clause-whole : goal.next_match-requires-clause-whole
+next_match-requires-clause-whole g c = whole_drop c.lines.offset c.args.block.now c.requires.whole
 
 pub count_skipped-requires : goal.count_skipped-requires
 count_skipped-requires g c =
@@ -190,8 +199,8 @@ count_skipped-requires g c =
       length-take (c.in-Some.line.start - c.lines.offset) (drop c.lines.offset c.args.block.now),
     )
 
-pub report_match-requires : goal.report_match-requires
-report_match-requires g c =
+pub add_match-requires : goal.add_match-requires
+add_match-requires g c =
     let i = c.lines.invariant in
     let l = c.in-Some.ensures.line in
     let counted = counted_on c.args.block.now c.lines.offset c.in-Some.line.start l.low i.whole c.args.printer.now.style
@@ -199,9 +208,10 @@ report_match-requires g c =
     c.count_skipped.ensures.lines in
     omega (arith, counted_within c.args.block.now c.in-Some.line.start, c.requires.room, counted.bound, l.order, l.high)
 
-pub returns-in_err-report_match-clause-prefix : goal.returns-in_err-report_match-clause-prefix
-returns-in_err-report_match-clause-prefix g c =
-    any_err c.from_residual.result (λ has_match decides.
+pub returns-in_err-print_match-clause-tests : goal.returns-in_err-print_match-clause-tests
+returns-in_err-print_match-clause-tests g c =
+    let p = err_from_is_err_and c.from_residual.result c.from_residual.ensures.1 in
+    rw p.1 (λ has_match decides.
     let i = c.lines.invariant in
     let e = c.in-Some.ensures in
     let block = c.args.block.now in
@@ -220,10 +230,13 @@ returns-in_err-report_match-clause-prefix g c =
     (e.none has_match there) c.count_skipped.ensures.matches in
     let prefix = TestsPrefix-after style name has_match (terminated_lines (take start block)) (line ∷ [])
     c.args.tally.now mid (g.O.Sink.model c.args.out.now) (g.O.Sink.model c.lines.out)
-    (g.O.Sink.model c.report_match.new.out) (λ listed. c.count_skipped.ensures.matches ∙ i.unlisted listed)
-    counted.exact tests (c.in_err-report_match.ensures.prefix has_match ((there line).1 e.found)) in
+    (g.O.Sink.model c.print_match.new.out) (λ listed. c.count_skipped.ensures.matches ∙ i.unlisted listed)
+    counted.exact tests (TestsPrefix-matching style name has_match line (mid.lines + 1) (g.O.Sink.model c.lines.out)
+    (g.O.Sink.model c.print_match.new.out) ((there line).1 e.found)
+    (subst (λ n. TakesPrefix (match_output style name (n, line)) (g.O.Sink.model c.lines.out) (g.O.Sink.model c.print_match.new.out))
+    c.add_match.ensures.lines c.in_err-print_match.ensures.written)) in
     subst (λ (ls : List (List ℕ)). TestsPrefix style name has_match ls (c.args.tally.now.lines + 1)
-    (g.O.Sink.model c.args.out.now) (g.O.Sink.model c.report_match.new.out))
+    (g.O.Sink.model c.args.out.now) (g.O.Sink.model c.print_match.new.out))
     (around block offset start end e.line i.whole)
     (TestsPrefix-more _ _ has_match _ (terminated_lines (drop (end + 1) block)) _ _ _ prefix))
 
@@ -246,13 +259,16 @@ returns-then-printer-clause-tests g c = λ has_match decides.
     mid (g.O.Sink.model c.args.out.now) (g.O.Sink.model c.lines.out) i.counted.exact (i.tests has_match decides)
     (e.none has_match there) c.count_skipped.ensures.matches in
     let first = IsListed-first style name has_match (terminated_lines (take start block)) line c.args.tally.now mid
-    c.report_match.new.tally (g.O.Sink.model c.args.out.now) (g.O.Sink.model c.lines.out)
-    (g.O.Sink.model c.report_match.new.out) c.if-printer.true (c.count_skipped.ensures.matches
+    c.add_match.new.self (g.O.Sink.model c.args.out.now) (g.O.Sink.model c.lines.out)
+    (g.O.Sink.model c.print_match.new.out) c.if-printer.true (c.count_skipped.ensures.matches
     ∙ i.unlisted c.if-printer.true) counted.exact tests
-    (c.in_ok-report_match.ensures.tests has_match ((there line).1 e.found))
-    (omega (arith, c.in_ok-report_match.ensures.matches)) in
+    (Tests-matching style name has_match line mid c.add_match.new.self (g.O.Sink.model c.lines.out)
+    (g.O.Sink.model c.print_match.new.out) ((there line).1 e.found) c.add_match.ensures.matches
+    (subst (λ n. Grows (g.O.Sink.model c.lines.out) (g.O.Sink.model c.print_match.new.out) (match_output style name (n, line)))
+    c.add_match.ensures.lines c.in_ok-print_match.ensures.written))
+    (omega (arith, c.add_match.ensures.matches)) in
     subst (λ (ls : List (List ℕ)). IsListed style name has_match ls (c.args.tally.now.lines + 1)
-    c.report_match.new.tally (g.O.Sink.model c.args.out.now) (g.O.Sink.model c.report_match.new.out))
+    c.add_match.new.self (g.O.Sink.model c.args.out.now) (g.O.Sink.model c.print_match.new.out))
     (around block offset start end e.line i.whole)
     (IsListed-more _ _ has_match _ (terminated_lines (drop (end + 1) block)) _ _ _ _ first)
 
@@ -260,34 +276,22 @@ pub returns-then-printer-clause-work : goal.returns-then-printer-clause-work
 returns-then-printer-clause-work g c =
     let i = c.lines.invariant in
     let e = c.in-Some.ensures in
-    omega (
-      arith,
-      once_more c.args.matcher.now.tree c.args.printer.now.name.now (length c.args.block.now) _
-          (some c.args.block.now c.requires.whole (sym c.is_empty.ensures ∙ c.if-is_empty.false)),
-      steps_of_block c.args.block.now c.lines.offset c.in-Some.line.start c.in-Some.line.end e.line i.whole
-          c.args.printer.now.name.now c.args.matcher.now.tree c.lines.matcher.tree i.same
-          (c.args.steps.now + state_work * c.args.matcher.now.states) (c.lines.steps + state_work * c.lines.matcher.states)
-          (c.next_match_counted.new.steps + state_work * c.next_match_counted.new.self.states)
-          (c.count_skipped.new.steps + state_work * c.next_match_counted.new.self.states)
-          (c.report_match.new.steps + state_work * c.next_match_counted.new.self.states)
-          i.work e.work (omega (arith, c.count_skipped.ensures.work)) (omega (arith, c.report_match.ensures.work)),
+    let k = c.count_skipped.ensures.work in (
+      k.0 ∙ e.same ∙ i.same,
+      steps_of_block c.args.block.now c.lines.offset c.in-Some.line.start c.in-Some.line.end e.line i.whole c.args.matcher.now
+          c.lines.matcher c.next_match.new.self c.count_skipped.new.matcher i.same i.work e.work k.1 c.requires.whole
+          (sym c.is_empty.ensures ∙ c.if-is_empty.false),
     )
 
-pub returns-in_err-report_match-clause-work : goal.returns-in_err-report_match-clause-work
-returns-in_err-report_match-clause-work g c =
+pub returns-in_err-print_match-clause-work : goal.returns-in_err-print_match-clause-work
+returns-in_err-print_match-clause-work g c =
     let i = c.lines.invariant in
     let e = c.in-Some.ensures in
-    omega (
-      arith,
-      once_more c.args.matcher.now.tree c.args.printer.now.name.now (length c.args.block.now) _
-          (some c.args.block.now c.requires.whole (sym c.is_empty.ensures ∙ c.if-is_empty.false)),
-      steps_of_block c.args.block.now c.lines.offset c.in-Some.line.start c.in-Some.line.end e.line i.whole
-          c.args.printer.now.name.now c.args.matcher.now.tree c.lines.matcher.tree i.same
-          (c.args.steps.now + state_work * c.args.matcher.now.states) (c.lines.steps + state_work * c.lines.matcher.states)
-          (c.next_match_counted.new.steps + state_work * c.next_match_counted.new.self.states)
-          (c.count_skipped.new.steps + state_work * c.next_match_counted.new.self.states)
-          (c.report_match.new.steps + state_work * c.next_match_counted.new.self.states)
-          i.work e.work (omega (arith, c.count_skipped.ensures.work)) (omega (arith, c.report_match.ensures.work)),
+    let k = c.count_skipped.ensures.work in (
+      k.0 ∙ e.same ∙ i.same,
+      steps_of_block c.args.block.now c.lines.offset c.in-Some.line.start c.in-Some.line.end e.line i.whole c.args.matcher.now
+          c.lines.matcher c.next_match.new.self c.count_skipped.new.matcher i.same i.work e.work k.1 c.requires.whole
+          (sym c.is_empty.ensures ∙ c.if-is_empty.false),
     )
 
 pub lines-preserved : goal.lines-preserved
@@ -302,8 +306,7 @@ lines-preserved g c =
     let name = c.args.printer.now.name.now in
     let line = take (end - start) (drop start block) in
     let mid = c.count_skipped.new.tally in
-    let next = c.report_match.new.tally in
-    let reported = c.in_ok-report_match.ensures in
+    let next = c.add_match.new.self in
     let before = up_to_line block offset start end e.line i.whole in
     let rising = after_start block offset start end e.line i.whole in
     let single = one block offset start end e.line i.whole in
@@ -313,7 +316,7 @@ lines-preserved g c =
       within = omega (arith, e.line.high);
       whole = up_to_next block offset start end e.line i.whole;
       counted = counted_on block start (end + 1) rising before style c.args.tally.now.lines mid.lines next.lines counted
-          (let e = reported.lines ∙ ap (λ (ls : List (List ℕ)). mid.lines + length ls) (sym single) in
+          (let e = c.add_match.ensures.lines ∙ ap (λ (ls : List (List ℕ)). mid.lines + length ls) (sym single) in
           record { exact = λ shown. e; bound = omega (arith, e) });
       tests = λ has_match decides.
           let there = subst (Decides has_match) (sym i.same) decides in
@@ -321,21 +324,19 @@ lines-preserved g c =
           c.lines.tally mid (g.O.Sink.model c.args.out.now) (g.O.Sink.model c.lines.out) i.counted.exact
           (i.tests has_match decides) (e.none has_match there) c.count_skipped.ensures.matches in
           let last = subst (λ (ls : List (List ℕ)). Tests style name has_match ls mid next (g.O.Sink.model c.lines.out)
-          (g.O.Sink.model c.report_match.new.out)) (sym single) (reported.tests has_match ((there line).1 e.found)) in
+          (g.O.Sink.model c.print_match.new.out)) (sym single)
+          (Tests-matching style name has_match line mid next (g.O.Sink.model c.lines.out) (g.O.Sink.model c.print_match.new.out)
+          ((there line).1 e.found) c.add_match.ensures.matches
+          (subst (λ n. Grows (g.O.Sink.model c.lines.out) (g.O.Sink.model c.print_match.new.out) (match_output style name (n, line)))
+          c.add_match.ensures.lines c.in_ok-print_match.ensures.written)) in
           tests_on block start (end + 1) rising before style name has_match c.args.tally.now mid next
-          (g.O.Sink.model c.args.out.now) (g.O.Sink.model c.lines.out) (g.O.Sink.model c.report_match.new.out)
+          (g.O.Sink.model c.args.out.now) (g.O.Sink.model c.lines.out) (g.O.Sink.model c.print_match.new.out)
           counted.exact tests last;
       unlisted = λ listed. absurd (false≢true (sym c.if-printer.false ∙ listed));
-      same = e.same ∙ i.same;
-      work =
-          steps_to_line block offset start end e.line i.whole name c.args.matcher.now.tree c.lines.matcher.tree i.same
-          (c.args.steps.now + state_work * c.args.matcher.now.states)
-          (c.lines.steps + state_work * c.lines.matcher.states)
-          (c.next_match_counted.new.steps + state_work * c.next_match_counted.new.self.states)
-          (c.count_skipped.new.steps + state_work * c.next_match_counted.new.self.states)
-          (c.report_match.new.steps + state_work * c.next_match_counted.new.self.states)
-          i.work e.work (omega (arith, c.count_skipped.ensures.work)) (omega (arith, c.report_match.ensures.work));
-      failed = reported.failed ∙ i.failed;
+      same = c.count_skipped.ensures.work.0 ∙ e.same ∙ i.same;
+      work = steps_to_line block offset start end e.line i.whole c.args.matcher.now c.lines.matcher c.next_match.new.self
+          c.count_skipped.new.matcher i.same i.work e.work c.count_skipped.ensures.work.1;
+      failed = c.in_ok-print_match.ensures.failed ∙ i.failed;
     }
 
 pub count_skipped-requires-2 : goal.count_skipped-requires-2
@@ -379,24 +380,28 @@ returns-clause-tests g c = λ has_match decides.
 pub returns-clause-work : goal.returns-clause-work
 returns-clause-work g c =
     let i = c.lines.invariant in
+    let e = c.in_default.ensures in
+    let k = c.count_skipped-2.ensures.work in
     let block = c.args.block.now in
     let offset = c.lines.offset in
-    let t = c.args.matcher.now.tree in
-    let before = c.lines.steps + state_work * c.lines.matcher.states in
-    let searched = c.next_match_counted.new.steps + state_work * c.next_match_counted.new.self.states in
+    let old = c.args.matcher.now in
     let fewer : length (terminated_lines (take offset block)) ≤ length (terminated_lines block) =
     omega (
       arith,
       ap (λ (ls : List (List ℕ)). length ls) (ended_prefix block offset i.whole)
           ∙ length-append (terminated_lines (take offset block)) _,
-    ) in
-    omega (
-      arith,
-      once_more t c.args.printer.now.name.now (length block) _ (some block c.requires.whole (sym c.is_empty.ensures ∙ c.if-is_empty.false)),
-      i.work,
-      rest_more t c.args.printer.now.name.now before searched
-          (c.count_skipped-2.new.steps + state_work * c.next_match_counted.new.self.states) offset (length block) _ _
-          i.within fewer
-          (subst (λ (v : Tree). searched ≤ before + search_work v (length block - offset)) i.same c.in_default.ensures.work)
-          (omega (arith, c.count_skipped-2.ensures.work, length-take (length block - offset) (drop offset block))),
+    ) in (
+      k.0 ∙ e.same ∙ i.same,
+      (
+        omega (arith, i.work.0, e.work.0, k.1.0),
+        omega (
+          arith,
+          once_more old.tree (length block) _ (some block c.requires.whole (sym c.is_empty.ensures ∙ c.if-is_empty.false)),
+          i.work.1,
+          rest_more old.tree (work_of c.lines.matcher) (work_of c.next_match.new.self) (work_of c.count_skipped-2.new.matcher) offset
+              (length block) _ _ i.within fewer
+              (omega (arith, e.work.1, ap (λ t. search_work t (length block - offset)) i.same))
+              (omega (arith, k.1.1, length-take (length block - offset) (drop offset block))),
+        ),
+      ),
     )

@@ -1,8 +1,8 @@
-use Rattle.std.proofs.Common.{◌≡◌, ◌≤◌, ◌+◌, ◌*◌, ◌-◌, true, Bool, List, ℕ, length, take}
+use Rattle.std.proofs.Common.{◌≡◌, ◌≤◌, ◌-◌, true, Bool, List, ℕ, length, take}
 use Rattle.cs_match.specs.Deciding.{Decides}
 use Rattle.cs_match.specs.Lines.{terminated_lines}
 use Rattle.cs_match.specs.Skipping.{AreWholeLines}
-use Rattle.cs_match.specs.Work.{state_work}
+use Rattle.cs_match.specs.Work.{WorksWithin}
 use Rattle.cs_search.specs.Work.{searched_work}
 use Rattle.cs_search.specs.TestedLines.{CountsLines, Tests}
 use Rattle.cs_search.proofs.line_search.search_lines.Given as goal
@@ -17,9 +17,7 @@ invariant-lines g l = record {
       (g.O.Sink.model l.out);
   unlisted : l.printer.style.list ≡ true → l.tally.matches ≡ 0;
   same : l.matcher.tree ≡ l.fn.matcher.tree;
-  work : l.steps + state_work * l.matcher.states
-      ≤ l.fn.steps + state_work * l.fn.matcher.states + searched_work l.fn.matcher.tree l.printer.name.now l.offset
-      (length (terminated_lines (take l.offset l.block)));
+  work : WorksWithin (searched_work l.fn.matcher.tree l.offset (length (terminated_lines (take l.offset l.block)))) l.fn.matcher l.matcher;
   failed : g.O.Sink.failed l.out ≡ g.O.Sink.failed l.fn.out;
 }
 

@@ -1,14 +1,16 @@
 use Rattle.std.proofs.Common.{inl, inr}
-use Rattle.cs_index.proofs.common.ResultClauses.{any_err}
+use Rattle.std.proofs.lemmas.Result.{err_from_is_err_and}
 use Rattle.cs_search.proofs.report.end_search.Goals as goal
 
-pub returns-in_err-search_rest-clause-prefix : goal.returns-in_err-search_rest-clause-prefix
-returns-in_err-search_rest-clause-prefix g c = any_err c.from_residual.result (λ has_match decides.
-    inl (c.in_err-search_rest.ensures.prefix has_match decides))
+pub returns-in_err-search_rest-clause-ends : goal.returns-in_err-search_rest-clause-ends
+returns-in_err-search_rest-clause-ends g c =
+    let p = err_from_is_err_and c.from_residual.result c.from_residual.ensures.1 in
+    rw p.1 (λ has_match decides. inl (c.in_err-search_rest.ensures.tests has_match decides))
 
-pub returns-in_err-print_total-clause-prefix : goal.returns-in_err-print_total-clause-prefix
-returns-in_err-print_total-clause-prefix g c = any_err c.from_residual-in_err-print_total.result (λ has_match decides.
-    inr (
+pub returns-in_err-print_total-clause-ends : goal.returns-in_err-print_total-clause-ends
+returns-in_err-print_total-clause-ends g c =
+    let p = err_from_is_err_and c.from_residual-in_err-print_total.result c.from_residual-in_err-print_total.ensures.1 in
+    rw p.1 (λ has_match decides. inr (
       g.O.Sink.model c.search_rest.new.out,
       c.in_ok-search_rest.ensures.tests has_match decides,
       c.in_err-print_total.ensures.written,

@@ -4,7 +4,7 @@ use Rattle.std.specs.List.{count_by}
 use Rattle.cs_match.proofs.LinesLemmas.{is_newline, length-terminated_lines}
 use Rattle.cs_search.proofs.tally.count_newlines.Goals as goal
 
-pub returns-clause-exact : goal.returns-clause-exact
-returns-clause-exact g c =
+pub returns : goal.returns
+returns c =
     c.loop-b.invariant ∙ ap (count_by is_newline) (take_all c.loop-b.b-index c.args.part.now c.loop-b-test.false)
     ∙ sym (length-terminated_lines c.args.part.now)

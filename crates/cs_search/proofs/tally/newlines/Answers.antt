@@ -14,24 +14,23 @@ counted count few rest part more block all cut is =
     (omega (arith, lines_within block), omega arith, ap (λ (text : List ℕ). length text) cut ∙ length-append part more)
 
 pub overflow_add-count : goal.overflow_add-count
-overflow_add-count g c =
-    let h = counted c.parts.count c.from-count.result _ _ _ c.args.block.now c.parts.invariant.lines
-    c.split_at.ensures.by_index.0 (c.from-count.ensures ∙ c.count_newlines.ensures.exact) in
+overflow_add-count c =
+    let h = counted c.parts.count c.from-count.result _ _ _ c.args.block.now c.parts.invariant
+    c.split_at.ensures.by_index.0 (c.from-count.ensures ∙ c.count_newlines.ensures) in
     omega (arith, h.0, c.well_formed.0.0)
 
 pub parts-preserved : goal.parts-preserved
-parts-preserved g c =
-    let i = c.parts.invariant in
-    let h = counted c.parts.count c.from-count.result _ _ _ c.args.block.now i.lines c.split_at.ensures.by_index.0
-    (c.from-count.ensures ∙ c.count_newlines.ensures.exact) in
-    record { lines = h.1; work = omega (arith, i.work, c.count_newlines.ensures.work, h.2) }
+parts-preserved c =
+    let h = counted c.parts.count c.from-count.result _ _ _ c.args.block.now c.parts.invariant c.split_at.ensures.by_index.0
+    (c.from-count.ensures ∙ c.count_newlines.ensures) in
+    h.1
 
 pub overflow_add-result : goal.overflow_add-result
-overflow_add-result g c = omega (
+overflow_add-result c = omega (
   arith,
   lines_within c.args.block.now,
   c.well_formed.0.0,
-  c.parts.invariant.lines,
+  c.parts.invariant,
   c.from.ensures,
-  c.count_newlines-2.ensures.exact,
+  c.count_newlines-2.ensures,
 )

@@ -3,10 +3,7 @@ use Rattle.cs_match.specs.Lines.{terminated_lines}
 use Rattle.cs_search.proofs.tally.newlines.Given as goal
 
 abbrev pub invariant-parts : goal.invariant-parts
-invariant-parts g l = record {
-  lines : l.count + length (terminated_lines l.rest) ≡ length (terminated_lines l.block);
-  work : l.steps + length l.rest ≡ l.fn.steps + length l.block;
-}
+invariant-parts l = l.count + length (terminated_lines l.rest) ≡ length (terminated_lines l.block)
 
 abbrev pub decreases-parts : goal.decreases-parts
-decreases-parts g l = length l.rest
+decreases-parts l = length l.rest

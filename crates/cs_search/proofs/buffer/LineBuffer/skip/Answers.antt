@@ -3,8 +3,8 @@ use Rattle.cs_search.specs.Buffer.{pending_bytes}
 use Rattle.cs_search.proofs.BufferLemmas.{slice_skip, pending_size}
 use Rattle.cs_search.proofs.buffer.LineBuffer.skip.Goals as goal
 
-pub returns : goal.returns
+pub returns-clause-pending : goal.returns-clause-pending
 unfolding pending_bytes
-returns c =
+returns-clause-pending c =
     let buffer = c.args.self.now in
     slice_skip buffer.bytes.items buffer.start buffer.end c.args.n (omega (arith, c.requires, pending_size buffer))

@@ -7,17 +7,17 @@ use Rattle.cs_tree.proofs.PrefixLemmas.{prefix_left, prefix_right}
 use Rattle.cs_search.specs.Report.{count_line}
 use Rattle.cs_search.proofs.printer.Printer.print_count.Goals as goal
 
-pub returns-in_err-write_bytes-2-clause-written : goal.returns-in_err-write_bytes-2-clause-written
+pub returns-in_err-write_all-2-clause-written : goal.returns-in_err-write_all-2-clause-written
 unfolding count_line
-returns-in_err-write_bytes-2-clause-written g c =
-    let p = err_from_is_err_and c.from_residual-in_err-write_bytes-2.result c.from_residual-in_err-write_bytes-2.ensures.1 in
+returns-in_err-write_all-2-clause-written g c =
+    let p = err_from_is_err_and c.from_residual-in_err-write_all-2.result c.from_residual-in_err-write_all-2.ensures.1 in
     let name = c.args.self.now.name.now in
     let before = g.O.Sink.model c.args.out.now in
-    let later = g.O.Sink.model c.write_bytes-2.new.out in
-    let named = subst (Grows before (g.O.Sink.model c.write_bytes.new.out)) c.as_bytes.ensures.value c.in_ok-write_bytes.ensures.model in
-    refused _ before later c.from_residual-in_err-write_bytes-2.result p.0 p.1
+    let later = g.O.Sink.model c.write_all-2.new.out in
+    let named = subst (Grows before (g.O.Sink.model c.write_all.new.out)) c.as_bytes.ensures.value c.in_ok-write_all.ensures.model in
+    refused _ before later c.from_residual-in_err-write_all-2.result p.0 p.1
     (prefix_right name _ before _ later named
-    (prefix_left (58 ∷ 32 ∷ []) (decimal c.args.count ++ newline ∷ []) _ later c.in_err-write_bytes-2.ensures.model))
+    (prefix_left (58 ∷ 32 ∷ []) (decimal c.args.count ++ newline ∷ []) _ later c.in_err-write_all-2.ensures.model))
 
 pub returns-in_err-write_number-clause-written : goal.returns-in_err-write_number-clause-written
 unfolding count_line
@@ -26,10 +26,10 @@ returns-in_err-write_number-clause-written g c =
     let name = c.args.self.now.name.now in
     let before = g.O.Sink.model c.args.out.now in
     let later = g.O.Sink.model c.write_number.new.out in
-    let named = subst (Grows before (g.O.Sink.model c.write_bytes.new.out)) c.as_bytes.ensures.value c.in_ok-write_bytes.ensures.model in
+    let named = subst (Grows before (g.O.Sink.model c.write_all.new.out)) c.as_bytes.ensures.value c.in_ok-write_all.ensures.model in
     refused _ before later c.from_residual-in_err-write_number.result p.0 p.1
     (prefix_right name _ before _ later named
-    (prefix_right (58 ∷ 32 ∷ []) _ _ _ later c.in_ok-write_bytes-2.ensures.model
+    (prefix_right (58 ∷ 32 ∷ []) _ _ _ later c.in_ok-write_all-2.ensures.model
     (prefix_left (decimal c.args.count) (newline ∷ []) _ later c.in_err-write_number.ensures.written)))
 
 pub returns-in_err-end_line-clause-written : goal.returns-in_err-end_line-clause-written
@@ -39,8 +39,8 @@ returns-in_err-end_line-clause-written g c =
     let name = c.args.self.now.name.now in
     let before = g.O.Sink.model c.args.out.now in
     let later = g.O.Sink.model c.end_line.new.out in
-    let named = subst (Grows before (g.O.Sink.model c.write_bytes.new.out)) c.as_bytes.ensures.value c.in_ok-write_bytes.ensures.model in
+    let named = subst (Grows before (g.O.Sink.model c.write_all.new.out)) c.as_bytes.ensures.value c.in_ok-write_all.ensures.model in
     refused _ before later c.from_residual-in_err-end_line.result p.0 p.1
     (prefix_right name _ before _ later named
-    (prefix_right (58 ∷ 32 ∷ []) _ _ _ later c.in_ok-write_bytes-2.ensures.model
+    (prefix_right (58 ∷ 32 ∷ []) _ _ _ later c.in_ok-write_all-2.ensures.model
     (prefix_right (decimal c.args.count) (newline ∷ []) _ _ later c.in_ok-write_number.ensures.written c.in_err-end_line.ensures.written)))

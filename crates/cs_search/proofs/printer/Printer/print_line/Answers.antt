@@ -6,17 +6,17 @@ use Rattle.cs_search.proofs.Printing.{refused}
 use Rattle.cs_tree.proofs.PrefixLemmas.{prefix_left, prefix_right}
 use Rattle.cs_search.proofs.printer.Printer.print_line.Goals as goal
 
-pub returns-in_err-write_bytes-clause-written : goal.returns-in_err-write_bytes-clause-written
+pub returns-in_err-write_all-clause-written : goal.returns-in_err-write_all-clause-written
 unfolding match_line
-returns-in_err-write_bytes-clause-written g c =
-    let p = err_from_is_err_and c.from_residual-in_err-write_bytes.result c.from_residual-in_err-write_bytes.ensures.1 in
+returns-in_err-write_all-clause-written g c =
+    let p = err_from_is_err_and c.from_residual-in_err-write_all.result c.from_residual-in_err-write_all.ensures.1 in
     let line = c.args.line.now in
     let before = g.O.Sink.model c.args.out.now in
-    let later = g.O.Sink.model c.write_bytes.new.out in
-    refused _ before later c.from_residual-in_err-write_bytes.result p.0 p.1
+    let later = g.O.Sink.model c.write_all.new.out in
+    refused _ before later c.from_residual-in_err-write_all.result p.0 p.1
     (prefix_right _ _ before _ later c.in_ok-print_prefix.ensures.written
     (prefix_right _ _ _ _ later c.in_ok-print_number.ensures.written
-    (prefix_left line (newline ∷ []) _ later c.in_err-write_bytes.ensures.model)))
+    (prefix_left line (newline ∷ []) _ later c.in_err-write_all.ensures.model)))
 
 pub returns-in_err-end_line-clause-written : goal.returns-in_err-end_line-clause-written
 unfolding match_line
@@ -28,4 +28,4 @@ returns-in_err-end_line-clause-written g c =
     refused _ before later c.from_residual-in_err-end_line.result p.0 p.1
     (prefix_right _ _ before _ later c.in_ok-print_prefix.ensures.written
     (prefix_right _ _ _ _ later c.in_ok-print_number.ensures.written
-    (prefix_right line (newline ∷ []) _ _ later c.in_ok-write_bytes.ensures.model c.in_err-end_line.ensures.written)))
+    (prefix_right line (newline ∷ []) _ _ later c.in_ok-write_all.ensures.model c.in_err-end_line.ensures.written)))

@@ -6,25 +6,25 @@ use Rattle.cs_search.proofs.Printing.{refused}
 use Rattle.cs_tree.proofs.PrefixLemmas.{prefix_left, prefix_right}
 use Rattle.cs_search.proofs.printer.Printer.print_prefix.Goals as goal
 
-pub returns-in_err-write_bytes-clause-written : goal.returns-in_err-write_bytes-clause-written
-returns-in_err-write_bytes-clause-written g c =
+pub returns-in_err-write_all-clause-written : goal.returns-in_err-write_all-clause-written
+returns-in_err-write_all-clause-written g c =
     let p = err_from_is_err_and c.from_residual.result c.from_residual.ensures.1 in
     let name = c.args.self.now.name.now in
     let before = g.O.Sink.model c.args.out.now in
-    let later = g.O.Sink.model c.write_bytes.new.out in
+    let later = g.O.Sink.model c.write_all.new.out in
     refused _ before later c.from_residual.result p.0 p.1
     (subst (λ (bare : Bool). TakesPrefix (if bare then [] else name ++ 58 ∷ []) before later) (sym c.if-self.false)
     (prefix_left name (58 ∷ []) before later
     (subst (λ (name : List ℕ). TakesPrefix name before later) c.as_bytes.ensures.value
-    c.in_err-write_bytes.ensures.model)))
+    c.in_err-write_all.ensures.model)))
 
-pub returns-in_err-write_bytes-2-clause-written : goal.returns-in_err-write_bytes-2-clause-written
-returns-in_err-write_bytes-2-clause-written g c =
-    let p = err_from_is_err_and c.from_residual-in_err-write_bytes-2.result c.from_residual-in_err-write_bytes-2.ensures.1 in
+pub returns-in_err-write_all-2-clause-written : goal.returns-in_err-write_all-2-clause-written
+returns-in_err-write_all-2-clause-written g c =
+    let p = err_from_is_err_and c.from_residual-in_err-write_all-2.result c.from_residual-in_err-write_all-2.ensures.1 in
     let name = c.args.self.now.name.now in
     let before = g.O.Sink.model c.args.out.now in
-    let later = g.O.Sink.model c.write_bytes-2.new.out in
-    let grows = subst (Grows before (g.O.Sink.model c.write_bytes.new.out)) c.as_bytes.ensures.value c.in_ok-write_bytes.ensures.model in
-    refused _ before later c.from_residual-in_err-write_bytes-2.result p.0 p.1
+    let later = g.O.Sink.model c.write_all-2.new.out in
+    let grows = subst (Grows before (g.O.Sink.model c.write_all.new.out)) c.as_bytes.ensures.value c.in_ok-write_all.ensures.model in
+    refused _ before later c.from_residual-in_err-write_all-2.result p.0 p.1
     (subst (λ (bare : Bool). TakesPrefix (if bare then [] else name ++ 58 ∷ []) before later) (sym c.if-self.false)
-    (prefix_right name (58 ∷ []) before _ later grows c.in_err-write_bytes-2.ensures.model))
+    (prefix_right name (58 ∷ []) before _ later grows c.in_err-write_all-2.ensures.model))

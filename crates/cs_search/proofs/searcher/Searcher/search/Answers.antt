@@ -34,7 +34,7 @@ pub returns-in_ok-print_fault-clause-faults : goal.returns-in_ok-print_fault-cla
 returns-in_ok-print_fault-clause-faults g c =
     let tool = c.args.self.now.tool in
     let name = c.args.name.now in
-    let failed = c.in_ok-answer.ensures.read_failed in
+    let failed = c.in_ok-answer.ensures.counts.0 in
     let written = subst (λ fault. Grows (g.E.Sink.model c.args.err.now) (g.E.Sink.model c.print_fault.new.err)
     (fault_line_of tool name fault)) c.of_input.ensures c.in_ok-print_fault.ensures.written in
     PrintsAllFaults-left tool done c.in-Some.fault name (g.R.Source.failed c.args.input.now)
@@ -48,7 +48,7 @@ returns-in_err-answer-clause-prints g c =
     rw p.1 (λ has_match decides.
     PrintsPrefix-input _ c.args.self.now.tool c.args.self.now.style has_match c.args.name.now
     (g.R.Source.model c.args.input.now) (g.O.Sink.model c.args.out.now) (g.O.Sink.model c.grep_within.new.out)
-    (g.E.Sink.model c.args.err.now) (c.in_err-answer.ensures.prefix has_match decides))
+    (g.E.Sink.model c.args.err.now) (c.in_err-answer.ensures.report has_match decides))
 
 pub returns-in_err-print_fault-clause-prints : goal.returns-in_err-print_fault-clause-prints
 returns-in_err-print_fault-clause-prints g c =
@@ -67,7 +67,7 @@ returns-in_default-clause-faults g c =
     PrintsAllFaults-none c.args.self.now.tool done (c.args.name.now ∷ []) (g.R.Source.failed c.args.input.now)
     (g.R.Source.failed c.grep_within.new.input) (g.E.Sink.model c.args.err.now) (g.E.Sink.model c.args.err.now)
     (subst (λ fault. g.R.Source.failed c.grep_within.new.input ≡ count_if (is_failed_read fault)
-    (g.R.Source.failed c.args.input.now)) c.in_default.is c.in_ok-answer.ensures.read_failed) refl
+    (g.R.Source.failed c.args.input.now)) c.in_default.is c.in_ok-answer.ensures.counts.0) refl
 
 pub returns-in_err-answer-clause-faults : goal.returns-in_err-answer-clause-faults
 returns-in_err-answer-clause-faults g c =
@@ -75,7 +75,7 @@ returns-in_err-answer-clause-faults g c =
     let err = g.E.Sink.model c.args.err.now in
     PrintsAllFaults-refused c.args.self.now.tool c.from_residual.result p.0 (c.args.name.now ∷ []) _ _ err err p.1
     (PrintsAllFaults-none c.args.self.now.tool undone (c.args.name.now ∷ []) (g.R.Source.failed c.args.input.now)
-    (g.R.Source.failed c.grep_within.new.input) err err c.in_err-answer.ensures.read_failed refl)
+    (g.R.Source.failed c.grep_within.new.input) err err c.in_err-answer.ensures.counts.0 refl)
 
 pub returns-in_err-print_fault-clause-faults : goal.returns-in_err-print_fault-clause-faults
 returns-in_err-print_fault-clause-faults g c =
@@ -85,7 +85,7 @@ returns-in_err-print_fault-clause-faults g c =
     let err = g.E.Sink.model c.args.err.now in
     let later = g.E.Sink.model c.print_fault.new.err in
     let failed = subst (λ fault. g.R.Source.failed c.grep_within.new.input ≡ count_if (is_failed_read fault)
-    (g.R.Source.failed c.args.input.now)) c.in-Some.is c.in_ok-answer.ensures.read_failed in
+    (g.R.Source.failed c.args.input.now)) c.in-Some.is c.in_ok-answer.ensures.counts.0 in
     PrintsAllFaults-refused tool c.from_residual-in_err-print_fault.result p.0 (name ∷ []) _ _ err later p.1
     (PrintsAllFaults-left tool undone c.in-Some.fault name (g.R.Source.failed c.args.input.now)
     (g.R.Source.failed c.grep_within.new.input) err later failed

@@ -1,14 +1,13 @@
-use Rattle.std.proofs.Common.{◌+◌, ◌*◌, sym, subst}
-use Rattle.cs_match.specs.Work.{state_work}
+use Rattle.std.proofs.Common.{◌+◌, sym, subst}
 use Rattle.cs_search.specs.Buffer.{pending_bytes}
 use Rattle.cs_search.proofs.InputWorkLemmas.{ended_input, rest_input, steps_lose}
 use Rattle.cs_match.specs.Deciding.{Decides}
 use Rattle.cs_search.specs.declared.stop.Stop.TheVariants.{End}
 use Rattle.cs_search.specs.Progress.{Stops}
 use Rattle.cs_search.proofs.InputReportLemmas.{Reports-listed, Reports-left, Reports-end}
-use Rattle.cs_index.proofs.common.ResultClauses.{any_err}
+use Rattle.std.proofs.lemmas.Result.{err_from_is_err_and}
 use Rattle.cs_search.proofs.PrintedPrefixLemmas.{ReportsPrefix-read, ReportsPrefix-ended}
-use Rattle.cs_search.proofs.report.grep_counted.Goals as goal
+use Rattle.cs_search.proofs.report.grep_within.Goals as goal
 
 pub returns-in-Listed-clause-report : goal.returns-in-Listed-clause-report
 returns-in-Listed-clause-report g c = λ has_match decides.
@@ -41,17 +40,19 @@ returns-in_ok-end_search-in-End-clause-report g c = λ has_match decides.
     (subst (λ r. Stops c.args.printer.now.style c.args.limit End model r mid.lines) (sym c.pending.ensures) s.stops)
     s.unlisted (s.tests has_match decides) e.tests e.written
 
-pub returns-in_err-search_input-clause-prefix : goal.returns-in_err-search_input-clause-prefix
-returns-in_err-search_input-clause-prefix g c =
-    any_err c.from_residual.result (λ has_match decides.
+pub returns-in_err-search_input-clause-report : goal.returns-in_err-search_input-clause-report
+returns-in_err-search_input-clause-report g c =
+    let p = err_from_is_err_and c.from_residual.result c.from_residual.ensures.1 in
+    rw p.1 (λ has_match decides.
     let printer = c.args.printer.now in
     ReportsPrefix-read printer.style printer.name.now has_match c.new-tally.result c.new-tally.ensures.lines
     c.new-tally.ensures.matches (g.O.Sink.model c.args.out.now) c.args.limit (g.R.Source.model c.args.input.now)
-    (g.O.Sink.model c.search_input.new.out) (c.in_err-search_input.ensures.prefix has_match decides))
+    (g.O.Sink.model c.search_input.new.out) (c.in_err-search_input.ensures.tests has_match decides))
 
-pub returns-in_err-end_search-in-End-clause-prefix : goal.returns-in_err-end_search-in-End-clause-prefix
-returns-in_err-end_search-in-End-clause-prefix g c =
-    any_err c.from_residual-in_err-end_search-in-End.result (λ has_match decides.
+pub returns-in_err-end_search-in-End-clause-report : goal.returns-in_err-end_search-in-End-clause-report
+returns-in_err-end_search-in-End-clause-report g c =
+    let p = err_from_is_err_and c.from_residual-in_err-end_search-in-End.result c.from_residual-in_err-end_search-in-End.ensures.1 in
+    rw p.1 (λ has_match decides.
     let s = rw c.in-End.is at c.in_ok-search_input.ensures in
     let printer = c.args.printer.now in
     let model = g.R.Source.model c.args.input.now in
@@ -61,50 +62,40 @@ returns-in_err-end_search-in-End-clause-prefix g c =
     (g.O.Sink.model c.search_input.new.out) c.pending.result.now (g.O.Sink.model c.end_search.new.out)
     (subst (λ r. Stops c.args.printer.now.style c.args.limit End model r mid.lines) (sym c.pending.ensures) s.stops)
     s.unlisted (s.tests has_match decides)
-    (c.in_err-end_search-in-End.ensures.prefix has_match (subst (Decides has_match) (sym s.same) decides)))
+    (c.in_err-end_search-in-End.ensures.ends has_match (subst (Decides has_match) (sym s.same) decides)))
+
+pub search_input-requires-clause-empty : goal.search_input-requires-clause-empty
+unfolding pending_bytes
+search_input-requires-clause-empty g c = c.clear.ensures
 
 pub returns-in-Listed-clause-work : goal.returns-in-Listed-clause-work
 returns-in-Listed-clause-work g c =
-    ended_input c.args.matcher.now.tree c.args.printer.now.name.now (c.args.limit + 1)
-    (g.R.Source.model c.args.input.now) (g.R.Source.model c.search_input.new.input)
-    (c.args.steps.now + state_work * c.args.matcher.now.states)
-    (c.search_input.new.steps + state_work * c.search_input.new.matcher.states) c.search_input.ensures.work.steps
+    ended_input (c.args.limit + 1) (g.R.Source.model c.args.input.now) (g.R.Source.model c.search_input.new.input)
+    c.args.matcher.now c.search_input.new.matcher c.search_input.ensures.work.steps
 
 pub returns-in-Faulted-clause-work : goal.returns-in-Faulted-clause-work
 returns-in-Faulted-clause-work g c =
-    ended_input c.args.matcher.now.tree c.args.printer.now.name.now (c.args.limit + 1)
-    (g.R.Source.model c.args.input.now) (g.R.Source.model c.search_input.new.input)
-    (c.args.steps.now + state_work * c.args.matcher.now.states)
-    (c.search_input.new.steps + state_work * c.search_input.new.matcher.states) c.search_input.ensures.work.steps
+    ended_input (c.args.limit + 1) (g.R.Source.model c.args.input.now) (g.R.Source.model c.search_input.new.input)
+    c.args.matcher.now c.search_input.new.matcher c.search_input.ensures.work.steps
 
 pub returns-in_err-search_input-clause-work : goal.returns-in_err-search_input-clause-work
 returns-in_err-search_input-clause-work g c =
-    ended_input c.args.matcher.now.tree c.args.printer.now.name.now (c.args.limit + 1)
-    (g.R.Source.model c.args.input.now) (g.R.Source.model c.search_input.new.input)
-    (c.args.steps.now + state_work * c.args.matcher.now.states)
-    (c.search_input.new.steps + state_work * c.search_input.new.matcher.states) c.search_input.ensures.work.steps
+    ended_input (c.args.limit + 1) (g.R.Source.model c.args.input.now) (g.R.Source.model c.search_input.new.input)
+    c.args.matcher.now c.search_input.new.matcher c.search_input.ensures.work.steps
 
 pub returns-in_ok-end_search-in-End-clause-work : goal.returns-in_ok-end_search-in-End-clause-work
 returns-in_ok-end_search-in-End-clause-work g c =
     let s = rw c.in-End.is at c.in_ok-search_input.ensures in
-    rest_input c.args.matcher.now.tree c.args.printer.now.name.now (c.args.limit + 1)
-    (g.R.Source.model c.args.input.now) (g.R.Source.model c.search_input.new.input)
-    (c.args.steps.now + state_work * c.args.matcher.now.states) (pending_bytes c.search_input.new.buffer)
-    c.pending.result.now c.search_input.new.matcher.tree
-    (c.search_input.new.steps + state_work * c.search_input.new.matcher.states)
-    (c.end_search.new.steps + state_work * c.end_search.new.matcher.states) s.work s.same c.pending.ensures
-    c.end_search.ensures.work
+    rest_input (c.args.limit + 1) (g.R.Source.model c.args.input.now) (g.R.Source.model c.search_input.new.input)
+    c.args.matcher.now (pending_bytes c.search_input.new.buffer) c.pending.result.now c.search_input.new.matcher
+    c.end_search.new.matcher s.work s.same c.pending.ensures c.end_search.ensures.work
 
 pub returns-in_err-end_search-in-End-clause-work : goal.returns-in_err-end_search-in-End-clause-work
 returns-in_err-end_search-in-End-clause-work g c =
     let s = rw c.in-End.is at c.in_ok-search_input.ensures in
-    rest_input c.args.matcher.now.tree c.args.printer.now.name.now (c.args.limit + 1)
-    (g.R.Source.model c.args.input.now) (g.R.Source.model c.search_input.new.input)
-    (c.args.steps.now + state_work * c.args.matcher.now.states) (pending_bytes c.search_input.new.buffer)
-    c.pending.result.now c.search_input.new.matcher.tree
-    (c.search_input.new.steps + state_work * c.search_input.new.matcher.states)
-    (c.end_search.new.steps + state_work * c.end_search.new.matcher.states) s.work s.same c.pending.ensures
-    c.end_search.ensures.work
+    rest_input (c.args.limit + 1) (g.R.Source.model c.args.input.now) (g.R.Source.model c.search_input.new.input)
+    c.args.matcher.now (pending_bytes c.search_input.new.buffer) c.pending.result.now c.search_input.new.matcher
+    c.end_search.new.matcher s.work s.same c.pending.ensures c.end_search.ensures.work
 
 pub returns-in-Listed-clause-loses : goal.returns-in-Listed-clause-loses
 returns-in-Listed-clause-loses g c = steps_lose c.search_input.ensures.work.steps

@@ -8,7 +8,7 @@ use Rattle.cs_tree.specs.Transfers.{Consumes}
 use Rattle.cs_tree.specs.ConsumesAtMost.{ConsumesAtMost}
 use Rattle.cs_tree.proofs.ConsumesLemmas.{Consumes_few}
 use Rattle.cs_match.specs.Lines.{lines, terminated_lines}
-use Rattle.cs_match.specs.Automaton.{Automaton}
+use Rattle.cs_match.specs.Automaton.{Automaton, after_steps}
 use Rattle.cs_match.specs.Work.{line_work, WorksWithin}
 use Rattle.cs_match.specs.LastPart.{last_part, last_line}
 use Rattle.cs_match.proofs.LinesLemmas.{last_part-append, lines_within, lines-split}
@@ -16,7 +16,7 @@ use Rattle.cs_search.specs.declared.grep_fault.GrepFault.{GrepFault}
 use Rattle.cs_search.specs.declared.stop.Stop.{Stop}
 use Rattle.cs_search.specs.declared.stop.Stop.TheVariants.{Listed, End, Faulted}
 use Rattle.cs_search.specs.Work.{TakesSteps, searched_work, input_work}
-use Rattle.cs_search.specs.SearchedWork.{HasSearched, SearchesLines, StepsWithin, IfEnded, after_steps, ended_work, read_work}
+use Rattle.cs_search.specs.SearchedWork.{HasSearched, SearchesLines, StepsWithin, IfEnded, ended_work, read_work}
 use Rattle.cs_search.proofs.WorkLemmas.{ended_more, searched_fewer, works_fewer, works_more, works_added}
 
 pub Consumes-none : (model : Option SourceModel) → Consumes model model []

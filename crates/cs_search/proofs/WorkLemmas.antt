@@ -7,10 +7,10 @@ use Rattle.cs_match.specs.NoNewline.{HasNoNewline}
 use Rattle.cs_match.specs.Skipping.{AreWholeLines}
 use Rattle.cs_match.proofs.LinesLemmas.{length-terminated_append, lines_within, last_part-append, terminated_lines-append}
 use Rattle.cs_match.proofs.WholeLineLemmas.{ended_all, rest_is_last}
-use Rattle.cs_match.specs.Automaton.{Automaton}
+use Rattle.cs_match.specs.Automaton.{Automaton, after_steps}
 use Rattle.cs_match.specs.Work.{search_overhead, searched_byte_work, search_work, count_work, WorksWithin}
 use Rattle.cs_search.specs.Work.{searched_work}
-use Rattle.cs_search.specs.SearchedWork.{after_steps, ended_work}
+use Rattle.cs_search.specs.SearchedWork.{ended_work}
 
 mul_both : (k p t w : ℕ) → k ≤ t → p ≤ w → k * p ≤ t * w
 mul_both k p t w h g = grind arith

@@ -16,10 +16,6 @@ use Rattle.cs_search.specs.Work.{searched_work, TakesSteps}
 abbrev pub StepsWithin : ℕ → Automaton → Automaton → Type 0
 StepsWithin bound old new = (new.tree ≡ old.tree) × WorksWithin bound old new
 
--- a matcher after so many steps more
-abbrev pub after_steps : ℕ → Automaton → Automaton
-after_steps count matcher = record { tree = matcher.tree; states = matcher.states; steps = matcher.steps + count }
-
 -- the most steps of the lines of a text that have ended
 abbrev pub ended_work : Tree → List ℕ → ℕ
 ended_work t text = searched_work t (length text - length (last_part text)) (2 * length (terminated_lines text))

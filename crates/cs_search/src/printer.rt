@@ -22,8 +22,7 @@ pub struct Printer<'a> {
 impl Printer<'_> {
     /// Whether matching lines are only counted: `-c` without `-l`.
     pub(crate) fn counts(&self) -> bool
-        ensures { IsTrue result →
-            (self.now.style.count ≡ true) × (self.now.style.list ≡ false) }
+        ensures { IsTrue result → (self.now.style.count ≡ true) × (self.now.style.list ≡ false) }
     {
         self.style.count && !self.style.list
     }

@@ -1,7 +1,7 @@
 // The counts of a search.
 ghost use Rattle.std.specs.Prelude.{◌≤◌, ◌<◌, ◌≡◌, ◌+◌, ◌^◌, length};
 ghost use Rattle.cs_match.specs.Lines.{terminated_lines};
-ghost use Rattle.cs_search.specs.SearchedWork.{after_steps};
+ghost use Rattle.cs_match.specs.Automaton.{after_steps};
 
 use cs_match::Matcher;
 

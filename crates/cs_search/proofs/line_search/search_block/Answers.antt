@@ -3,10 +3,10 @@ use Rattle.std.proofs.lemmas.Bool.{false≢true}
 use Rattle.cs_search.specs.TestedLines.{CountsLines, Tests, TestsPrefix, IsListed}
 use Rattle.cs_match.proofs.WholeLineLemmas.{ended_all, rest_is_last}
 use Rattle.std.proofs.lemmas.Result.{err_from_is_err_and}
-use Rattle.cs_match.specs.Automaton.{Automaton}
+use Rattle.cs_match.specs.Automaton.{Automaton, after_steps}
 use Rattle.cs_match.specs.Work.{WorksWithin}
 use Rattle.cs_search.specs.Work.{searched_work}
-use Rattle.cs_search.specs.SearchedWork.{StepsWithin, after_steps, ended_work}
+use Rattle.cs_search.specs.SearchedWork.{StepsWithin, ended_work}
 use Rattle.cs_match.specs.Deciding.{Decides}
 use Rattle.cs_match.specs.NoNewline.{HasNoNewline}
 use Rattle.cs_match.specs.Skipping.{AreWholeLines}

@@ -1,9 +1,6 @@
 -- Slices of a buffer before and after bytes are written at their end.
-use Rattle.std.proofs.Common.{◌≡◌, ℕ, ◌+◌, ◌-◌, ◌<◌, ◌≤◌, List, [], ◌++◌, length, take, drop, refl, sym, ap, subst, ◌∙◌, arith, length-take, length-drop, length-append, Result, Ok, Err, IfOk, Option}
-use Rattle.cs_tree.specs.Transfers.{Consumes, ReadGives}
-use Rattle.std.proofs.lemmas.List.{take_at, drop_at, take-append-drop, drop-drop, drop-take, take-append-le, drop-append-le}
-use Rattle.cs_tree.specs.declared.fault.IoFault.{IoFault}
-use Rattle.cs_tree.specs.StreamModels.{SourceModel}
+use Rattle.std.proofs.Common.{◌≡◌, ℕ, ◌+◌, ◌-◌, ◌≤◌, List, [], ◌++◌, length, take, drop, refl, sym, ap, ◌∙◌, arith, length-take, length-drop, length-append}
+use Rattle.std.proofs.lemmas.List.{take_at, drop_at, take-append-drop, drop-drop, drop-take, drop-append-le}
 use Rattle.cs_tree.proofs.GrowsLemmas.{take_on}
 use Rattle.cs_search.specs.Buffer.{GrowsBy, pending_bytes}
 use Rattle.cs_search.specs.declared.buffer.LineBuffer.{LineBuffer}

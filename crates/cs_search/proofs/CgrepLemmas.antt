@@ -30,7 +30,7 @@ use Rattle.cs_search.specs.Refusals.{IsAccepted, DecidesText, SilentOnError, has
 use Rattle.cs_search.specs.SearchEffects.{EndsOutputs}
 use Rattle.cs_search.specs.GrepFaults.{IsSearchFault}
 use Rattle.cs_args.specs.declared.fault.ToolFault.{ToolFault}
-use Rattle.cs_args.specs.declared.fault.ToolFault.TheVariants.{Pattern, FilePattern, NoIndex, BadIndex, Write, Memory}
+use Rattle.cs_args.specs.declared.fault.ToolFault.TheVariants.{Write, Memory}
 use Rattle.cs_search.proofs.PrintedInputLemmas.{PrintsFaults-no, PrintsAnswer-nothing, PrintsAnswer-all, outputs_of}
 use Rattle.cs_args.specs.Faults.{pattern_fault, pattern_fault_at}
 

@@ -14,7 +14,7 @@ use Rattle.cs_syntax.specs.declared.fault.PatternFault.TheVariants as pattern
 use Rattle.cs_syntax.specs.declared.fault.PatternError.{PatternError}
 use Rattle.cs_tree.specs.Snapshot.{Snapshot}
 use Rattle.cs_index.specs.declared.fault.IndexFault.{IndexFault}
-use Rattle.cs_index.specs.declared.fault.IndexFault.TheVariants.{BadMagic, BadTrailer, BadOffsets, BadPaths, BadNames, BadNameIndex, BadListIndex, BadList, Memory as IndexMemory}
+use Rattle.cs_index.specs.declared.fault.IndexFault.TheVariants.{BadList, Memory as IndexMemory}
 use Rattle.cs_args.specs.declared.jobs.Tool.{Tool}
 use Rattle.cs_args.specs.declared.jobs.Tool.TheVariants.{Csearch}
 use Rattle.cs_args.specs.declared.jobs.SearchJob.{SearchJob}

@@ -1,5 +1,5 @@
 -- The steps of an input, read by read.
-use Rattle.std.proofs.Common.{◌≡◌, ◌≤◌, ℕ, ◌+◌, ◌*◌, ◌-◌, List, [], ◌∷◌, ◌++◌, length, Option, Some, None, Result, Ok, Err, IfOk, refl, sym, ap, ◌∙◌, arith, length-append, append-nil, append_assoc}
+use Rattle.std.proofs.Common.{◌≡◌, ◌≤◌, ℕ, ◌+◌, ◌*◌, ◌-◌, List, [], ◌++◌, length, Option, Some, None, Result, Ok, Err, IfOk, refl, sym, ap, ◌∙◌, arith, length-append, append-nil, append_assoc}
 use Rattle.std.specs.Result.{IsErr}
 use Rattle.std.proofs.lemmas.Bool.{false≢true}
 use Rattle.cs_syntax.specs.Matching.{Tree}
@@ -10,8 +10,8 @@ use Rattle.cs_tree.proofs.ConsumesLemmas.{Consumes_few}
 use Rattle.cs_match.specs.Lines.{lines, terminated_lines}
 use Rattle.cs_match.specs.Automaton.{Automaton, after_steps}
 use Rattle.cs_match.specs.Work.{line_work, WorksWithin}
-use Rattle.cs_match.specs.LastPart.{last_part, last_line}
-use Rattle.cs_match.proofs.LinesLemmas.{last_part-append, lines_within, lines-split}
+use Rattle.cs_match.specs.LastPart.{last_part}
+use Rattle.cs_match.proofs.LinesLemmas.{last_part-append, lines-split}
 use Rattle.cs_search.specs.declared.grep_fault.GrepFault.{GrepFault}
 use Rattle.cs_search.specs.declared.stop.Stop.{Stop}
 use Rattle.cs_search.specs.declared.stop.Stop.TheVariants.{Listed, End, Faulted}

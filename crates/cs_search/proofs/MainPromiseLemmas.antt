@@ -25,13 +25,12 @@ use Rattle.cs_history.specs.History.{History, index_of, paths_of, files_of}
 use Rattle.cs_history.specs.HistoryIndex.{indexed_names, IsBuiltByJobs}
 use Rattle.cs_history.specs.FileTrigrams.{ReadAsIndexed}
 use Rattle.cs_history.specs.MatchingFiles.{names_matching}
-use Rattle.cs_history.specs.Premises.{modelled_snapshot, IsShort}
 use Rattle.cs_history.specs.WellFormed.{IsHistory}
 use Rattle.cs_history.proofs.HistoryLemmas.{history_content, index_is}
 use Rattle.cs_args.specs.declared.jobs.Tool.TheVariants.{Csearch, Cgrep}
 use Rattle.cs_args.specs.declared.jobs.SearchJob.{SearchJob}
 use Rattle.cs_search.specs.InputReport.{max_searched}
-use Rattle.cs_search.specs.SearchHeadline.{SearchPremises, SearchesLikeGrep}
+use Rattle.cs_search.specs.SearchHeadline.{SearchesLikeGrep}
 use Rattle.cs_search.specs.SameSearch.{PrintsLikeCgrep}
 use Rattle.cs_search.specs.Printed.{searched_by_cgrep, Printed, PrintsFaults, all_printed, file_printed}
 use Rattle.cs_index.specs.Answerable.{is_answerable}

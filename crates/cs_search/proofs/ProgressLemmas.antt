@@ -1,13 +1,11 @@
 -- An input that is read chunk by chunk.
-use Rattle.std.proofs.Common.{◌≡◌, ℕ, ◌+◌, ◌-◌, ◌≤◌, Bool, true, false, nat_lt, cond, List, [], ◌++◌, length, take, drop, refl, sym, ap, subst, ◌∙◌, arith, append_assoc, append-nil, length-append, length-take, length-drop, Option, Some, None, ◌⊎◌, ⊎_elim}
+use Rattle.std.proofs.Common.{◌≡◌, ℕ, ◌+◌, ◌≤◌, Bool, true, false, nat_lt, cond, List, [], ◌++◌, length, take, drop, refl, sym, ap, subst, ◌∙◌, arith, append_assoc, append-nil, length-append, length-take, Option, Some, None, ◌⊎◌, ⊎_elim}
 use Rattle.cs_tree.specs.Transfers.{Consumes, IsAt}
-use Rattle.cs_tree.specs.ConsumesAtMost.{ConsumesAtMost}
-use Rattle.std.proofs.lemmas.List.{take_at, drop_at, take-append-drop, take-take, take_all, drop-drop}
+use Rattle.std.proofs.lemmas.List.{take_at, drop_at, take-append-drop, take-take, take_all}
 use Rattle.std.proofs.lemmas.Bool.{le-ltb, lt-ltb}
 use Rattle.cs_tree.specs.StreamModels.{SourceModel, Ending, ends, fails}
 use Rattle.cs_tree.specs.Sinks.{SinkModel}
 use Rattle.cs_tree.proofs.GrowsLemmas.{take_on}
-use Rattle.cs_tree.proofs.ConsumesLemmas.{Consumes_few}
 use Rattle.cs_args.specs.declared.jobs.Style.{Style}
 use Rattle.cs_search.specs.declared.tally.Tally.{Tally}
 use Rattle.cs_search.specs.declared.grep_fault.ReadFault.TheVariants.{Read, TooLong}

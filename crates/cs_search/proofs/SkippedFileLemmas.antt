@@ -9,7 +9,7 @@ use Rattle.std.proofs.lemmas.List.{take_all}
 use Rattle.cs_syntax.specs.Matching.{Tree}
 use Rattle.cs_match.specs.Deciding.{Decides}
 use Rattle.cs_tree.specs.StreamModels.{SourceModel, ends}
-use Rattle.cs_tree.specs.Snapshot.{Snapshot, Item, folder, file, cut, other, bad, item_at}
+use Rattle.cs_tree.specs.Snapshot.{Snapshot, Item, file, item_at}
 use Rattle.cs_tree.specs.Reachability.{read_item}
 use Rattle.cs_trigram.specs.Trigram.{tri, has}
 use Rattle.cs_trigram.specs.Text.{rule_broken, first_broken, too_many, skip, text_trigrams, limits, valid_utf8_pair, last_byte, line_so_far}

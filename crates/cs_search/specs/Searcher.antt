@@ -16,7 +16,7 @@ use Rattle.cs_search.specs.GrepFaults.{IsSearchFault}
 use Rattle.cs_search.specs.Refusals.{has_write_failed}
 use Rattle.cs_search.specs.Printed.{Printed, input_printed, file_printed, all_printed, PrintsFaults, SearchOutputs}
 
--- It is of this tool, style and program.
+-- a searcher of this tool and style, whose matcher is of this program
 abbrev pub IsSearcherOf : Tool → Style → Tree → Searcher → Type 0
 IsSearcherOf tool style program searcher =
     (searcher.tool ≡ tool) × (searcher.style ≡ style) × (searcher.matcher.tree ≡ program)

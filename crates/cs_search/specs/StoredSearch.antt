@@ -1,5 +1,5 @@
 -- The promise about a search by an index in a store. docs/PROMISES.md, "Searches of an index".
-use Rattle.std.specs.Prelude.{ℕ, ◌≡◌, ◌≢◌, ◌⊎◌, List, Option, Some, Result, Ok, Err, IfSome, IfOk}
+use Rattle.std.specs.Prelude.{ℕ, ◌≡◌, ◌≢◌, ◌⊎◌, List, Option, Some, Result, Err, IfSome, IfOk}
 use Rattle.std.specs.Result.{IsOkAnd}
 use Rattle.cs_tree.specs.declared.fault.IoFault.{IoFault}
 use Rattle.cs_trigram.specs.declared.queries.Query.{Query}

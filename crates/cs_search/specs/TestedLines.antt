@@ -86,7 +86,7 @@ module _ (tree : Tree) (style : Style) (name : List ℕ) (lines : List (List ℕ
       (λ _. (has_match : List ℕ → Bool) → Decides has_match tree → Tests style name has_match lines before after sink later)
       (λ _. TestsPrefixBy)
 
-  -- the same, unless a line was listed, which is_listed of the answer says
+  -- The same, unless the answer says, by `is_listed`, that a line was listed.
   abbrev pub TestsUnlessListed : {A : Type 0} → (A → Bool) → Result A GrepFault → Type 0
   TestsUnlessListed is_listed result = MatchResult result
       (λ answer. (has_match : List ℕ → Bool) → Decides has_match tree → MatchBool (is_listed answer)

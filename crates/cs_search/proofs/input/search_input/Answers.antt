@@ -1,4 +1,4 @@
-use Rattle.std.proofs.Common.{◌≡◌, true, ◌+◌, ◌*◌, ◌-◌, ◌++◌, [], Bool, List, ℕ, Ok, length, drop, refl, sym, ap, subst, ◌∙◌, inl, inr, arith, rules, append-nil}
+use Rattle.std.proofs.Common.{◌≡◌, true, ◌+◌, ◌-◌, ◌++◌, [], Bool, List, ℕ, Ok, length, drop, refl, sym, ap, subst, ◌∙◌, inl, inr, arith, append-nil}
 use Rattle.std.proofs.lemmas.List.{nil_from_length}
 use Rattle.cs_match.specs.Deciding.{Decides}
 use Rattle.cs_tree.specs.StreamModels.{ends, fails}

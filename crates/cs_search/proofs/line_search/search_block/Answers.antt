@@ -1,10 +1,9 @@
-use Rattle.std.proofs.Common.{◌≡◌, ◌≤◌, ◌+◌, ◌*◌, ◌-◌, Bool, true, false, List, ℕ, length, take, drop, MatchBool, sym, ap, subst, ◌∙◌, arith}
+use Rattle.std.proofs.Common.{◌≡◌, ◌≤◌, ◌+◌, ◌*◌, Bool, true, false, List, ℕ, length, take, drop, MatchBool, sym, ap, subst, ◌∙◌, arith}
 use Rattle.std.proofs.lemmas.Bool.{false≢true}
 use Rattle.cs_search.specs.TestedLines.{CountsLines, Tests, TestsPrefix, IsListed}
 use Rattle.cs_match.proofs.WholeLineLemmas.{ended_all, rest_is_last}
 use Rattle.std.proofs.lemmas.Result.{err_from_is_err_and}
 use Rattle.cs_match.specs.Automaton.{Automaton, after_steps}
-use Rattle.cs_match.specs.Work.{WorksWithin}
 use Rattle.cs_search.specs.Work.{searched_work}
 use Rattle.cs_search.specs.SearchedWork.{StepsWithin, ended_work}
 use Rattle.cs_match.specs.Deciding.{Decides}

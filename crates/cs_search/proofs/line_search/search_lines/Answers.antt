@@ -9,12 +9,10 @@ use Rattle.cs_match.specs.Deciding.{Decides}
 use Rattle.cs_match.specs.Lines.{terminated_lines}
 use Rattle.cs_match.specs.Skipping.{AreWholeLines, IsLineAfter, NoneMatch}
 use Rattle.cs_match.proofs.WholeLineLemmas.{whole_drop, whole_line, terminated_line, ended_prefix}
-use Rattle.cs_syntax.specs.Matching.{Tree}
 use Rattle.cs_match.specs.Automaton.{Automaton}
 use Rattle.cs_match.specs.Work.{search_work, work_of, WorksWithin}
 use Rattle.cs_search.specs.Work.{searched_work}
-use Rattle.cs_search.specs.SearchedWork.{StepsWithin}
-use Rattle.cs_search.proofs.WorkLemmas.{searched_fewer, some_lines, once_more, line_more, rest_more, works_fewer, works_none}
+use Rattle.cs_search.proofs.WorkLemmas.{searched_fewer, some_lines, once_more, line_more, rest_more, works_fewer}
 use Rattle.cs_search.specs.declared.tally.Tally.{Tally}
 use Rattle.cs_search.specs.TestedLines.{SameNumber, CountsLines, match_output, Tests, TestsPrefix, IsListed}
 use Rattle.cs_search.proofs.BlockLemmas.{lines_on, whole_on, counted_within}

@@ -1,4 +1,4 @@
-use Rattle.std.proofs.Common.{List, Result, ℕ, Option, sym, subst, ◌∙◌}
+use Rattle.std.proofs.Common.{Result, Option, sym, subst, ◌∙◌}
 use Rattle.std.specs.Option.{option_copied}
 use Rattle.std.specs.Result.{IsOkAnd}
 use Rattle.cs_syntax.specs.Matching.{Tree}

@@ -1,21 +1,22 @@
 -- The bytes of a class are alike.
-use Rattle.std.proofs.Common.{◌≡◌, ℕ, zero, suc, ◌+◌, ◌-◌, ◌<◌, ◌≤◌, ◌⊎◌, inl, inr, Bool, true, false, ◌&&◌, ◌||◌, List, [], ◌∷◌, take, drop, get_or, refl, sym, ◌∙◌, ap, subst, arith}
+use Rattle.std.proofs.Common.{◌≡◌, ℕ, zero, suc, ◌+◌, ◌-◌, ◌^◌, ◌<◌, ◌≤◌, ◌⊎◌, inl, inr, Bool, true, false, ◌&&◌, ◌||◌, not, List, [], ◌∷◌, take, drop, get_or, refl, sym, ◌∙◌, ap, ap₂, subst, arith}
 use Rattle.std.specs.Prelude.{nat_eq}
-use Rattle.std.proofs.lemmas.Bool.{cases_lt, lt-ltb, ne_eqb, false_from_ne_true}
-use Rattle.std.proofs.lemmas.List.{get_or-drop}
-use Rattle.std.proofs.Math.Seq.{get_or-take}
-use Rattle.memchr.specs.Find.{Passes, is_byte}
+use Rattle.std.proofs.lemmas.Bool.{cases_lt, lt-ltb, ne_eqb}
 use Rattle.cs_syntax.specs.Matching.{Tree, Trees, one_of, one_char, cat, alt, rep, none, more, is_word}
-use Rattle.cs_syntax.specs.CharSteps.{unfinished_after}
+use Rattle.cs_syntax.specs.Cuts.{AreCutsOf}
+use Rattle.cs_syntax.specs.CharSteps.{char_step, is_split, unfinished_after}
+use Rattle.cs_syntax.proofs.CutLemmas.{floor_members}
+use Rattle.cs_syntax.proofs.CharStepLemmas.{char_step_members}
 use Rattle.cs_syntax.specs.declared.char_step.CharStep.TheVariants.{Single}
-use Rattle.cs_syntax.specs.declared.char_step.Unfinished.{Unfinished}
+use Rattle.cs_match.specs.declared.byte_classes.ByteClasses.{ByteClasses}
 use Rattle.cs_match.specs.declared.input.Input.{Input}
 use Rattle.cs_match.specs.declared.state.State.{State}
 use Rattle.cs_match.specs.declared.look_around.LookAround.{LookAround}
 use Rattle.cs_match.specs.declared.look_around.LookBehind.{LookBehind}
 use Rattle.cs_match.specs.LookBehind.{look_behind}
-use Rattle.cs_match.specs.ByteClasses.{AreAlike, StepTogether, AreClasses, HaveBoth, AllHaveBoth, AddsMarks, begins_at}
-use Rattle.cs_match.specs.Glushkov.{position_count, is_final, accepts, step, step_all, step_each, char_step_of}
+use Rattle.cs_match.specs.ByteClasses.{AreAlike, AreTogether, AreClasses, AreNumbered, StepAlike, HaveBoth, AllHaveBoth, AddsMarks, begins_at}
+use Rattle.cs_match.specs.Glushkov.{position_count, is_final, accepts, step, step_all, step_each, cuts_of}
+use Rattle.cs_match.specs.Digits.{IsBlock}
 use Rattle.cs_match.specs.States.{input}
 
 -- the inputs do the same to the unfinished character, except that both may be characters themselves
@@ -53,26 +54,33 @@ mutual
   step_each_both (more t ts) b c h e enter ms a =
       rw (step_both t b c h.0 e enter (take (position_count t) ms) a, step_each_both ts b c h.1 e enter (drop (position_count t) ms) a) refl
 
--- a byte below 128 is a character
-same_step : (t : Tree) (state : State) (b c : ℕ) → b < c →
-    (c < 128) ⊎ (char_step_of t state.unfinished b ≡ char_step_of t state.unfinished c) →
-    SameStep (input t state b) (input t state c)
-same_step t state b c lt (inr same) = inl same
-same_step t state b c lt (inl low) = by (look_behind t).char refl
+-- bytes that step alike; a byte below 128 is a character
+same_step : (t : Tree) (state : State) (b c : ℕ) → b < c → IsBlock (cuts_of t) state.unfinished →
+    ((look_behind t).char ≡ true → StepAlike (cuts_of t) b c) → SameStep (input t state b) (input t state c)
+same_step t state b c lt is step = by (look_behind t).char refl
   where
+    alike : (look_behind t).char ≡ true → (c < 128) ⊎ (char_step (cuts_of t) state.unfinished b ≡ char_step (cuts_of t) state.unfinished c) →
+        SameStep (input t state b) (input t state c)
+    alike e (inr same) = inl (rw e same)
+    alike e (inl low) = inr (rw (e, lt-ltb b 128 (omega arith)) refl, rw (e, lt-ltb c 128 low) refl)
+
     by : (x : Bool) → (look_behind t).char ≡ x → SameStep (input t state b) (input t state c)
-    by true e = inr (rw (e, lt-ltb b 128 (omega arith)) refl, rw (e, lt-ltb c 128 low) refl)
+    by true e = alike e (step e state.unfinished is)
     by false e = inl (rw e refl)
 
 same_unfinished : (b c : Input) → SameStep b c → unfinished_after b.char ≡ unfinished_after c.char
 same_unfinished b c (inl same) = ap unfinished_after same
 same_unfinished b c (inr singles) = ap unfinished_after singles.0 ∙ sym (ap unfinished_after singles.1)
 
--- neighbouring bytes that are together are alike
-next_alike : (t : Tree) (state : State) (b : ℕ) → StepTogether t state.unfinished b (suc b) → AreAlike t state b (suc b)
-next_alike t state b h =
-    let both = h.together in
-    let same = same_step t state b (suc b) (omega arith) h.step in
+-- neighbouring bytes of a class, before which no class begins
+abbrev AreNeighbours : Tree → ℕ → ℕ → Type 0
+AreNeighbours t b c = AreTogether t b c × ((look_behind t).char ≡ true → StepAlike (cuts_of t) b c)
+
+-- they are alike
+next_alike : (t : Tree) (state : State) (b : ℕ) → IsBlock (cuts_of t) state.unfinished → AreNeighbours t b (suc b) → AreAlike t state b (suc b)
+next_alike t state b is h =
+    let both = h.0 in
+    let same = same_step t state b (suc b) (omega arith) is h.1 in
     record {
       newline = both.newline;
       successor = rw (
@@ -84,30 +92,40 @@ next_alike t state b h =
       accepts = rw (both.newline, both.word) refl;
     }
 
-module _ (t : Tree) (state : State) (low high byte : ℕ) (from : low ≤ byte) (to : byte < high)
-    (together : (b : ℕ) → low ≤ b → suc b < high → StepTogether t state.unfinished b (suc b)) where
-  alike_same : (b : ℕ) → AreAlike t state b b
-  alike_same b = record { newline = refl; successor = refl; accepts = refl }
+pub alike_back : (t : Tree) (state : State) (b c : ℕ) → AreAlike t state b c → AreAlike t state c b
+alike_back t state b c p = record { newline = sym p.newline; successor = sym p.successor; accepts = sym p.accepts }
 
-  alike_on : (b c d : ℕ) → AreAlike t state b c → AreAlike t state c d → AreAlike t state b d
-  alike_on b c d p q = record { newline = p.newline ∙ q.newline; successor = p.successor ∙ q.successor; accepts = p.accepts ∙ q.accepts }
+-- from marks to classes
+module _ (t : Tree) (begins : List ℕ) (classes : ByteClasses) (numbered : AreNumbered begins classes)
+    (marked : (b : ℕ) → suc b < 256 → begins_at begins (suc b) ≡ false → AreNeighbours t b (suc b)) where
+  module _ (state : State) (is : IsBlock (cuts_of t) state.unfinished) where
+    alike_up : (b n : ℕ) → b + n < 256 → ((k : ℕ) → b < k → k ≤ b + n → begins_at begins k ≡ false) → AreAlike t state b (b + n)
+    alike_up b zero lt clear = subst (AreAlike t state b) (omega arith) (record { newline = refl; successor = refl; accepts = refl })
+    alike_up b (suc n) lt clear =
+        let next : suc (b + n) ≡ b + suc n = omega arith in
+        let before = alike_up b n (omega arith) (λ k from to. clear k from (omega arith)) in
+        let last = next_alike t state (b + n) is (marked (b + n) (omega arith) (clear (suc (b + n)) (omega arith) (omega arith))) in
+        subst (AreAlike t state b) next
+        (record {
+          newline = before.newline ∙ last.newline;
+          successor = before.successor ∙ last.successor;
+          accepts = before.accepts ∙ last.accepts;
+        })
 
-  alike_back : (b c : ℕ) → AreAlike t state b c → AreAlike t state c b
-  alike_back b c p = record { newline = sym p.newline; successor = sym p.successor; accepts = sym p.accepts }
+    ordered_alike : (b c : ℕ) → b ≤ c → c < 256 → get_or classes.of b 0 ≡ get_or classes.of c 0 → AreAlike t state b c
+    ordered_alike b c le lt same =
+        let last : b + (c - b) ≡ c = omega arith in
+        subst (AreAlike t state b) last
+        (alike_up b (c - b) (omega arith) (λ k from to. numbered.none b c k from (omega arith) lt same))
 
-  from_low : (n : ℕ) → low + n < high → AreAlike t state low (low + n)
-  from_low zero lt = subst (AreAlike t state low) (omega arith) (alike_same low)
-  from_low (suc n) lt =
-      let next : suc (low + n) ≡ low + suc n = omega arith in
-      subst (AreAlike t state low) next
-      (alike_on low (low + n) (suc (low + n)) (from_low n (omega arith))
-      (next_alike t state (low + n) (together (low + n) (omega arith) (omega arith))))
-
-  alike_low : (b : ℕ) → low ≤ b → b < high → AreAlike t state low b
-  alike_low b le lt = subst (AreAlike t state low) (omega arith) (from_low (b - low) (omega arith))
-
-  pub class_alike : (b : ℕ) → low ≤ b → b < high → AreAlike t state byte b
-  class_alike b le lt = alike_on byte low b (alike_back low byte (alike_low byte from to)) (alike_low b le lt)
+  pub classes_are : AreClasses t classes
+  classes_are = record {
+    alike = λ b c bl cl same state is. elim (cases_lt b c) [
+      | inl lt ↦ ordered_alike state is b c (omega arith) cl same
+      | inr ge ↦ alike_back t state c b (ordered_alike state is c b ge bl (sym same))
+    ];
+    range = numbered.range;
+  }
 
 -- one byte more is marked, if it is unlike the byte before it
 pub marks_on : (test : ℕ → Bool) (old new : List ℕ) (byte : ℕ) →
@@ -132,41 +150,50 @@ newlines new b ten eleven e =
     let next = λ (h : suc b ≡ 10). ten (subst (λ k. begins_at new k ≡ false) h e) in
     ne_eqb b 10 here ∙ sym (ne_eqb (suc b) 10 next)
 
--- what a marked list says of its classes
-pub classes_by : (t : Tree) (bits : LookBehind) (first words new : List ℕ) → bits ≡ look_behind t →
-    (begins_at first 10 ≡ false → ⊥) → (begins_at first 11 ≡ false → ⊥) →
-    AddsMarks (λ b c. (is_word b && bits.word) ≡ (is_word c && bits.word)) first words → AddsMarks (HaveBoth t) words new → AreClasses t new
-classes_by t bits first words new is ten eleven both marks b lt e =
-    let kept = marks.kept (suc b) e in
-    let words_alike = subst (λ (x : LookBehind). (is_word b && x.word) ≡ (is_word (suc b) && x.word)) is (both.alike b lt kept) in
-    record { newline = newlines first b ten eleven (both.kept (suc b) kept); word = words_alike; sets = marks.alike b lt e }
-
--- no class begins at a byte that a search for a flag has passed
-pub clear_before : (begins : List ℕ) (n k : ℕ) → k < n → ¬ Passes (is_byte 1) (take n begins) k → begins_at begins k ≡ false
-clear_before begins n k lt h = false_from_ne_true _ (λ e. h (ap (λ x. nat_eq x 1) (get_or-take n begins k 0 lt) ∙ e))
-
-pub clear_after : (begins : List ℕ) (m n k : ℕ) → m ≤ k → k - m < n → ¬ Passes (is_byte 1) (take n (drop m begins))
-    (k - m) → begins_at begins k ≡ false
-clear_after begins m n k le lt h =
-    let index : m + (k - m) ≡ k = omega arith in
-    let there = get_or-drop m begins (k - m) 0 ∙ ap (λ (i : ℕ). get_or begins i 0) index in
-    false_from_ne_true _ (λ e. h (ap (λ x. nat_eq x 1) (get_or-take n (drop m begins) (k - m) 0 lt ∙ there) ∙ e))
-
--- a class grows by a byte
-pub together_down : (t : Tree) (at : Unfinished) (low top : ℕ) → StepTogether t at low (suc low) →
-    ((b : ℕ) → low + 1 ≤ b → b < top → StepTogether t at b (suc b)) →
-    (b : ℕ) → low ≤ b → b < top → StepTogether t at b (suc b)
-together_down t at low top here above b le lt =
-    elim (cases_lt low b) [
-      | inl less ↦ above b (omega arith) lt
-      | inr same ↦ subst (λ (k : ℕ). StepTogether t at k (suc k)) (omega arith) here
+-- the cuts of a tree step as any list of them does
+step_alike : (t : Tree) (cuts : List ℕ) → AreCutsOf t cuts → (b c : ℕ) → StepAlike cuts b c → StepAlike (cuts_of t) b c
+step_alike t cuts are b c step at is =
+    let floors = floor_members cuts (cuts_of t) are.members in
+    let split : is_split cuts at.needed at.low ≡ is_split (cuts_of t) at.needed at.low =
+    ap₂ (λ (m n : ℕ). not (nat_eq m n)) (floors at.low) (floors (at.low + (64 ^ at.needed - 1))) in
+    let same = char_step_members cuts (cuts_of t) are.members at in
+    elim (step at (record { multiple = λ e. is.multiple (sym split ∙ e) })) [
+      | inl single ↦ inl single
+      | inr steps ↦ inr (sym (same b) ∙ steps ∙ same c)
     ]
 
-pub together_up : (t : Tree) (at : Unfinished) (low high : ℕ) → 1 ≤ high → StepTogether t at (high - 1) (suc (high - 1))
-    → ((b : ℕ) → low ≤ b → suc b < high → StepTogether t at b (suc b)) →
-    (b : ℕ) → low ≤ b → suc b < high + 1 → StepTogether t at b (suc b)
-together_up t at low high some here below b le lt =
-    elim (cases_lt (suc b) high) [
-      | inl less ↦ below b le less
-      | inr same ↦ subst (λ (k : ℕ). StepTogether t at k (suc k)) (omega arith) here
+-- what a marked list says of its classes
+pub classes_by : (t : Tree) (bits : LookBehind) (cuts first words sets new : List ℕ) (classes : ByteClasses) → bits ≡ look_behind t →
+    AreCutsOf t cuts → (begins_at first 10 ≡ false → ⊥) → (begins_at first 11 ≡ false → ⊥) →
+    AddsMarks (λ b c. (is_word b && bits.word) ≡ (is_word c && bits.word)) first words → AddsMarks (HaveBoth t) words sets →
+    AddsMarks (λ b c. bits.char ≡ true → StepAlike cuts b c) sets new → AreNumbered new classes → AreClasses t classes
+classes_by t bits cuts first words sets new classes is are ten eleven both marks steps numbered =
+    classes_are t new classes numbered
+    (λ b lt e.
+    let at_sets = steps.kept (suc b) e in
+    let at_words = marks.kept (suc b) at_sets in
+    let words_alike = subst (λ (x : LookBehind). (is_word b && x.word) ≡ (is_word (suc b) && x.word)) is (both.alike b lt at_words) in (
+      record { newline = newlines first b ten eleven (both.kept (suc b) at_words); word = words_alike; sets = marks.alike b lt at_sets },
+      λ char. step_alike t cuts are b (suc b) (steps.alike b lt e (ap (λ (x : LookBehind). x.char) is ∙ char)),
+    ))
+
+-- one byte more is numbered
+pub numbered_on : (begins old new : List ℕ) (byte last now : ℕ) → 1 ≤ byte → get_or old (byte - 1) 0 ≡ last →
+    ((b : ℕ) → b < byte → get_or old b 0 ≤ last) →
+    ((b c k : ℕ) → b < k → k ≤ c → c < byte → get_or old b 0 ≡ get_or old c 0 → begins_at begins k ≡ false) →
+    ((b : ℕ) → b < byte → get_or new b 0 ≡ get_or old b 0) → get_or new byte 0 ≡ now →
+    (now ≡ last → begins_at begins byte ≡ false) → last ≤ now →
+    (b c k : ℕ) → b < k → k ≤ c → c < byte + 1 → get_or new b 0 ≡ get_or new c 0 → begins_at begins k ≡ false
+numbered_on begins old new byte last now some top below clear kept is here rises b c k from to lt same =
+    elim (cases_lt c byte) [
+      | inl less ↦ clear b c k from to less (sym (kept b (omega (arith, from, to, less))) ∙ same ∙ kept c less)
+      | inr ge ↦
+          let last_is : c ≡ byte = omega (arith, ge, lt) in
+          let first : get_or old b 0 ≡ now = sym (kept b (omega (arith, from, to, lt))) ∙ same ∙ ap (λ (i : ℕ). get_or new i 0) last_is ∙ is in
+          let low = below b (omega (arith, from, to, lt)) in
+          let stays : now ≡ last = omega (arith, first, low, rises) in
+          elim (cases_lt k byte) [
+            | inl inside ↦ clear b (byte - 1) k from (omega arith) (omega arith) (first ∙ stays ∙ sym top)
+            | inr at ↦ subst (λ (i : ℕ). begins_at begins i ≡ false) (omega (arith, at, to, lt)) (here stays)
+          ]
     ]

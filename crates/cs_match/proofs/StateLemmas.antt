@@ -3,7 +3,7 @@ use Rattle.std.proofs.Common.{◌≡◌, ℕ, zero, suc, ◌+◌, ◌-◌, ◌<�
 use Rattle.std.specs.Prelude.{slice_index, nat_eq, ◌≢◌}
 use mathlib.Core.Bool.{xor, beq, not}
 use Rattle.std.proofs.lemmas.List.{take_more, take_all, length-replicate}
-use Rattle.std.proofs.lemmas.Bool.{lt-ltb, le-ltb, le-leb, eq-eqb, ne_eqb, cases_eq}
+use Rattle.std.proofs.lemmas.Bool.{lt-ltb, le-ltb, le-leb, eq-eqb, ne_eqb, cases_eq, cases_Bool}
 use Rattle.cs_match.proofs.GlushkovLemmas.{length-step, length-positions}
 use Rattle.cs_syntax.specs.Matching.{Tree, is_word, word_before, word_after, is_at_word_boundary}
 use Rattle.cs_syntax.specs.CharSteps.{unfinished_after}
@@ -11,7 +11,9 @@ use Rattle.cs_syntax.specs.declared.char_step.CharStep.{CharStep}
 use Rattle.cs_syntax.specs.declared.char_step.Unfinished.{Unfinished}
 use Rattle.cs_match.specs.declared.look_around.LookAround.{LookAround}
 use Rattle.cs_match.specs.declared.state.State.{State}
-use Rattle.cs_match.specs.Glushkov.{look_around, input_at, unfinished_before, position_count, accepts, step, char_step_of, positions, accepts_in}
+use Rattle.cs_match.specs.Glushkov.{look_around, input_at, unfinished_before, position_count, accepts, step, char_step_of, cuts_of, positions, accepts_in}
+use Rattle.cs_match.specs.Digits.{IsBlock}
+use Rattle.cs_match.proofs.DigitLemmas.{block_after}
 use Rattle.cs_match.specs.LookBehind.{look_behind}
 use Rattle.cs_match.specs.States.{start, is_word_for, ahead, input, look_at_end, next_state, state_through, state, successor, accepts_before}
 
@@ -26,6 +28,22 @@ length-successor t n b =
     elim (cases_eq b 10) [
       | inl e ↦ rw (eq-eqb b 10 e) (length-replicate (position_count t) false)
       | inr other ↦ rw (ne_eqb b 10 other) (length-step t true n.positions (ahead t n b) (input t n b))
+    ]
+
+-- each state has an unfinished character of a whole block
+pub block_start : (t : Tree) → IsBlock (cuts_of t) (start t).unfinished
+block_start t = record { multiple = λ split. (0, refl) }
+
+pub block_successor : (t : Tree) (n : State) (b : ℕ) → IsBlock (cuts_of t) n.unfinished → IsBlock (cuts_of t) (successor t n b).unfinished
+block_successor t n b is =
+    elim (cases_eq b 10) [
+      | inl e ↦ rw (eq-eqb b 10 e) (block_start t)
+      | inr other ↦
+          rw (ne_eqb b 10 other)
+          (elim (cases_Bool (look_behind t).char) [
+            | inl on ↦ rw on (block_after (cuts_of t) n.unfinished b is)
+            | inr off ↦ rw off (block_start t)
+          ])
     ]
 
 xor-false : (b : Bool) → xor b false ≡ b

@@ -8,10 +8,12 @@ use Rattle.std.proofs.lemmas.Nat.{or_shifted}
 use Rattle.std.proofs.lemmas.List.{length-replicate, get_or-replicate, get_or_past}
 use Rattle.cs_syntax.specs.Matching.{Tree}
 use Rattle.cs_match.specs.declared.state.State.{State}
-use Rattle.cs_match.specs.Glushkov.{position_count}
+use Rattle.cs_match.specs.Digits.{IsBlock}
+use Rattle.cs_match.specs.Glushkov.{position_count, cuts_of}
 use Rattle.cs_match.specs.ByteClasses.{AreAlike}
 use Rattle.cs_match.specs.States.{start, successor, accepts_before}
 use Rattle.cs_match.specs.Scan.{match_state, unknown_state}
+use Rattle.cs_match.proofs.StateLemmas.{block_start}
 use Rattle.cs_match.specs.LazyDfa.{IsStateNumber, Leads, found, next, IsTransition, unknown, known, IsDeadNumber, missing, present, AreStates, AreTransitions, blank_transition}
 
 -- the index of a transition from the state number and the byte
@@ -109,6 +111,7 @@ new_states t cached is =
       all = ap length is ∙ length-replicate 254 (start t);
       first = one 0;
       positions = λ k. ap (λ n. length n.positions) (one k) ∙ length-replicate (position_count t) false;
+      blocks = λ k. subst (λ (n : State). IsBlock (cuts_of t) n.unfinished) (sym (one k)) (block_start t);
     }
 
 pub blank_transitions : (t : Tree) (cached : List State) (used : ℕ) (transitions : List ℕ) → length transitions ≡ 65536 →
@@ -167,8 +170,8 @@ module _ (t : Tree) (cached : List State) (used : ℕ) (state : State) (low : us
     unknown = h.unknown;
   }
 
-  pub added_states : length state.positions ≡ position_count t → AreStates t more_cached (used + 1)
-  added_states size = record {
+  pub added_states : length state.positions ≡ position_count t → IsBlock (cuts_of t) state.unfinished → AreStates t more_cached (used + 1)
+  added_states size block = record {
     some = omega arith;
     bound = omega arith;
     all = length-set cached used state ∙ given.all;
@@ -179,5 +182,14 @@ module _ (t : Tree) (cached : List State) (used : ℕ) (state : State) (low : us
           (omega (arith, given.all)) in
           ap (λ (n : State). length n.positions) there ∙ size
       | inr other ↦ ap (λ (n : State). length n.positions) (get_or-set_other cached used slot state (start t) other) ∙ given.positions slot
+    ];
+    blocks = λ slot. elim (cases_eq slot used) [
+      | inl same ↦
+          let there = ap (λ k. get_or more_cached k (start t)) same ∙ get_or-set_same cached used state (start t)
+          (omega (arith, given.all)) in
+          subst (λ (n : State). IsBlock (cuts_of t) n.unfinished) (sym there) block
+      | inr other ↦
+          subst (λ (n : State). IsBlock (cuts_of t) n.unfinished) (sym (get_or-set_other cached used slot state (start t) other))
+          (given.blocks slot)
     ];
   }

@@ -1,10 +1,13 @@
--- Byte classes (RE2's byte map): ranges of bytes that a tree does not tell apart.
-use Rattle.std.specs.Prelude.{ℕ, suc, ◌≡◌, ◌<◌, ◌⊎◌, Bool, false, List, length, nat_eq, slice_index}
+-- Byte classes (RE2's byte map): one partition of the bytes that no state of a tree tells apart.
+use Rattle.std.specs.Prelude.{ℕ, suc, ◌≡◌, ◌<◌, ◌≤◌, ◌⊎◌, Bool, false, List, length, nat_eq, slice_index}
 use Rattle.cs_syntax.specs.Matching.{Tree, Trees, empty, one_of, one_char, cat, alt, rep, line_start, line_end, word_edge, not_word_edge, none, more, member}
 use Rattle.cs_syntax.specs.Characters.{has_char}
+use Rattle.cs_syntax.specs.CharSteps.{char_step}
 use Rattle.cs_syntax.specs.declared.char_step.Unfinished.{Unfinished}
+use Rattle.cs_match.specs.declared.byte_classes.ByteClasses.{ByteClasses}
 use Rattle.cs_match.specs.declared.state.State.{State}
-use Rattle.cs_match.specs.Glushkov.{char_step_of}
+use Rattle.cs_match.specs.Digits.{IsBlock}
+use Rattle.cs_match.specs.Glushkov.{cuts_of}
 use Rattle.cs_match.specs.Lines.{newline}
 use Rattle.cs_match.specs.States.{is_word_for, successor, accepts_before}
 
@@ -43,17 +46,23 @@ pub record AreTogether (t : Tree) (b c : ℕ) : Type 0 where
 abbrev pub begins_at : List ℕ → ℕ → Bool
 begins_at begins b = nat_eq (slice_index begins b) 1
 
--- neighbouring bytes are together, except where a class begins
-abbrev pub AreClasses : Tree → List ℕ → Type 0
-AreClasses t begins = (b : ℕ) → suc b < 256 → begins_at begins (suc b) ≡ false → AreTogether t b (suc b)
-
--- the bytes are together, and do the same to the unfinished character, except that both may be characters themselves
-pub record StepTogether (t : Tree) (at : Unfinished) (b c : ℕ) : Type 0 where
-  pub together : AreTogether t b c
-  pub step : (c < 128) ⊎ (char_step_of t at b ≡ char_step_of t at c)
+-- the bytes do the same to each unfinished character, except that both may be characters themselves
+abbrev pub StepAlike : List ℕ → ℕ → ℕ → Type 0
+StepAlike cuts b c = (at : Unfinished) → IsBlock cuts at → (c < 128) ⊎ (char_step cuts at b ≡ char_step cuts at c)
 
 -- marks are added, and then neighbouring bytes satisfy the relation, except where a class begins
 pub record AddsMarks (Alike : ℕ → ℕ → Type 0) (old new : List ℕ) : Type 0 where
   pub bytes : length new ≡ length old
   pub kept : (b : ℕ) → begins_at new b ≡ false → begins_at old b ≡ false
   pub alike : (b : ℕ) → suc b < 256 → begins_at new (suc b) ≡ false → Alike b (suc b)
+
+-- a class has no byte after its first at which one begins, and its number is below the count
+pub record AreNumbered (begins : List ℕ) (classes : ByteClasses) : Type 0 where
+  pub none : (b c k : ℕ) → b < k → k ≤ c → c < 256 → slice_index classes.of b ≡ slice_index classes.of c → begins_at begins k ≡ false
+  pub range : (b : ℕ) → b < 256 → slice_index classes.of b < classes.count
+
+-- no state tells two bytes of a class apart; so no other byte is in the class of the newline
+pub record AreClasses (t : Tree) (classes : ByteClasses) : Type 0 where
+  pub alike : (b c : ℕ) → b < 256 → c < 256 → slice_index classes.of b ≡ slice_index classes.of c →
+      (state : State) → IsBlock (cuts_of t) state.unfinished → AreAlike t state b c
+  pub range : (b : ℕ) → b < 256 → slice_index classes.of b < classes.count

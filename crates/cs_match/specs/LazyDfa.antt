@@ -4,7 +4,8 @@ use Rattle.std.specs.Prelude.{ℕ, ◌≡◌, ◌+◌, ◌*◌, ◌/◌, ◌<◌
 use Rattle.cs_syntax.specs.Matching.{Tree}
 use Rattle.cs_match.specs.declared.state.State.{State}
 use Rattle.cs_match.specs.Lines.{newline}
-use Rattle.cs_match.specs.Glushkov.{position_count}
+use Rattle.cs_match.specs.Glushkov.{position_count, cuts_of}
+use Rattle.cs_match.specs.Digits.{IsBlock}
 use Rattle.cs_match.specs.States.{start, successor, accepts_before, IsDead}
 use Rattle.cs_match.specs.Scan.{match_state, unknown_state}
 
@@ -37,13 +38,15 @@ pub data IsTransition (t : Tree) (cached : List State) (used slot b transition :
   known : slot < used → Leads t cached used (slice_index_or cached slot (start t)) b transition →
       IsTransition t cached used slot b transition
 
--- the first state is the start state, and each state has a truth value for each position
+-- the first state is the start state, and each state has a truth value for each position, and an unfinished character
+-- of a whole block
 pub record AreStates (t : Tree) (cached : List State) (used : ℕ) : Type 0 where
   pub some : 1 ≤ used
   pub bound : used ≤ 254
   pub all : length cached ≡ 254
   pub first : slice_index_or cached 0 (start t) ≡ start t
   pub positions : (slot : ℕ) → length (slice_index_or cached slot (start t)).positions ≡ position_count t
+  pub blocks : (slot : ℕ) → IsBlock (cuts_of t) (slice_index_or cached slot (start t)).unfinished
 
 -- each transition is unknown or correct, and the two special states are absorbing
 pub record AreTransitions (t : Tree) (cached : List State) (used : ℕ) (transitions : List ℕ) : Type 0 where

@@ -1,4 +1,4 @@
--- The masks of a program, one for each input that was seen.
+-- The masks of a program.
 use Rattle.std.specs.Prelude.{ℕ, ◌≡◌, ◌+◌, ◌<◌, true, false, List, length, map, vec_len, slice_index_or}
 use Rattle.cs_syntax.specs.Matching.{Tree}
 use Rattle.cs_match.specs.declared.position.Position.{Position}
@@ -25,11 +25,11 @@ pub record IsMask (ps : List Position) (mask : Mask) : Type 0 where
   pub kept : mask.kept ≡ map (if_kept mask.input) ps
   pub one_mask : mask.is_one_mask ≡ true → IsOneMask mask
 
--- each mask that is known is that of its input
+-- there is a mask, and each that is known is that of its input
 pub record AreMasks (ps : List Position) (masks : Masks) : Type 0 where
-  pub all : length masks.slots.items ≡ 320
-  pub room : (k : ℕ) (other : Mask) → k < 320 → HasRoom (length ps) (slice_index_or masks.slots.items k other)
-  pub known : (k : ℕ) (other : Mask) → k < 320 → (slice_index_or masks.slots.items k other).is_known ≡ true →
+  pub some : 0 < length masks.slots.items
+  pub room : (k : ℕ) (other : Mask) → k < length masks.slots.items → HasRoom (length ps) (slice_index_or masks.slots.items k other)
+  pub known : (k : ℕ) (other : Mask) → k < length masks.slots.items → (slice_index_or masks.slots.items k other).is_known ≡ true →
       IsMask ps (slice_index_or masks.slots.items k other)
 
 -- the memory of the steps of a tree

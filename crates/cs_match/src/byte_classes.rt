@@ -1,29 +1,98 @@
-// Byte classes (RE2's byte map): ranges of bytes that a tree does not tell apart. A transition is computed once for
-// the bytes of a class.
-ghost use Rattle.std.specs.Prelude.{◌≡◌, ◌&&◌, ◌+◌, ◌<◌, ◌≤◌, ℕ, suc, length, true, false};
+// Byte classes (RE2's byte map): one partition of the bytes into ranges that no state of a program tells apart. A
+// transition is computed once for the bytes of a class.
+ghost use Rattle.std.specs.Prelude.{◌≡◌, ◌&&◌, ◌+◌, ◌<◌, ◌≤◌, ℕ, length, true, false, slice_index};
 ghost use Rattle.cs_syntax.specs.Matching.{member, is_word};
 ghost use Rattle.cs_syntax.specs.Characters.{has_char};
+ghost use Rattle.cs_syntax.specs.Cuts.{AreCuts, AreCutsOf};
 ghost use Rattle.cs_syntax.specs.Node.{tree_of};
 ghost use Rattle.cs_syntax.specs.NodeList.{trees_of};
 ghost use Rattle.cs_match.specs.LookBehind.{look_behind};
-ghost use Rattle.cs_match.specs.ByteClasses.{AreClasses, StepTogether, begins_at, HaveBoth, AllHaveBoth, AddsMarks};
+ghost use Rattle.cs_match.specs.ByteClasses.{AreClasses, AreNumbered, StepAlike, begins_at, HaveBoth, AllHaveBoth, AddsMarks};
+ghost use Rattle.cs_match.specs.Digits.{IsNoDigit};
 
 use crate::look_around::LookBehind;
-use crate::program::Program;
-use cs_syntax::{ByteSet, CharSet, CharStep, Node, Unfinished};
-use memchr::{memchr, memrchr};
+use cs_syntax::{ByteSet, CharSet, CharStep, Cuts, Node, Unfinished};
+use memchr::memchr;
 
-/// The flags of the bytes at which a class begins, for a tree with these look-behind bits.
-pub(crate) fn byte_classes(root: &Node, bits: LookBehind) -> [u8; 256]
-    requires { bits ≡ look_behind (tree_of root.now) }
-    ensures { AreClasses (tree_of root.now) result }
+/// The classes of the bytes, numbered in ascending order.
+#[derive(Clone, Copy, Drop)]
+pub(crate) struct ByteClasses {
+    /// The class of each byte.
+    pub(crate) of: [u8; 256],
+    /// The number of classes.
+    pub(crate) count: u16,
+}
+
+impl ByteClasses {
+    /// The classes of a tree with these look-behind bits and cuts.
+    pub(crate) fn of_tree(root: &Node, bits: LookBehind, cuts: &Cuts) -> ByteClasses
+        requires bits { bits ≡ look_behind (tree_of root.now) }
+        requires cuts { AreCutsOf (tree_of root.now) cuts.now }
+        ensures { AreClasses (tree_of root.now) result }
+    {
+        let mut begins = [0; 256];
+        begins[b'\n' as usize] = 1;
+        begins[b'\n' as usize + 1] = 1;
+        mark_words(&mut begins, bits);
+        mark_sets(root, &mut begins);
+        mark_cuts(&mut begins, bits, cuts);
+        number_classes(&begins)
+    }
+
+    /// The first byte of the class of a byte.
+    pub(crate) fn first(&self, byte: u8) -> u8
+        ensures { slice_index self.now.of result ≡ slice_index self.now.of byte }
+    {
+        match memchr(self.of[byte as usize], &self.of) {
+            Some(first) => first as u8,
+            None => byte,
+        }
+    }
+
+    /// The range of the class of a byte: its first byte, and the byte after its last.
+    pub(crate) fn range(&self, byte: u8) -> (usize, usize)
+        ensures low { result.0 ≤ byte }
+        ensures high { (byte < result.1) × (result.1 ≤ 256) }
+        ensures class { (b : ℕ) → result.0 ≤ b → b < result.1
+            → slice_index self.now.of b ≡ slice_index self.now.of byte }
+    {
+        let class = self.of[byte as usize];
+        let mut low = byte as usize;
+        'down: while low > 0 && self.of[low - 1] == class {
+            low -= 1;
+        }
+        let mut high = byte as usize + 1;
+        'up: while high < 256 && self.of[high] == class {
+            high += 1;
+        }
+        (low, high)
+    }
+}
+
+/// Numbers the classes that begin at the marked bytes.
+fn number_classes(begins: &[u8; 256]) -> ByteClasses
+    ensures { AreNumbered begins.now result }
 {
-    let mut begins = [0; 256];
-    begins[b'\n' as usize] = 1;
-    begins[b'\n' as usize + 1] = 1;
-    mark_words(&mut begins, bits);
-    mark_sets(root, &mut begins);
-    begins
+    let mut of = [0; 256];
+    let mut last = 0u8;
+    for byte in 1..256usize {
+        if is_begin(begins, byte) {
+            last += 1;
+        }
+        of[byte] = last;
+    }
+    ByteClasses {
+        of,
+        count: u16::from(last) + 1,
+    }
+}
+
+/// Whether a class begins at the byte.
+fn is_begin(begins: &[u8; 256], byte: usize) -> bool
+    requires { byte < 256 }
+    ensures { result ≡ begins_at begins.now byte }
+{
+    begins[byte] == 1
 }
 
 /// Marks where word bytes begin and end, if the bits have one for them.
@@ -99,77 +168,58 @@ fn mark(begins: &mut [u8], byte: u8, before: bool, here: bool)
     }
 }
 
-/// The class of the byte in a state with this unfinished character: its first byte, and the byte after its last.
-pub(crate) fn class_of(program: &Program, at: Unfinished, byte: u8) -> (usize, usize)
-    ensures from { result.0 ≤ byte }
-    ensures to { byte < result.1 }
-    ensures bytes { result.1 ≤ 256 }
-    ensures together { (b : ℕ) → result.0 ≤ b → suc b < result.1 → StepTogether program.now at b (suc b) }
+/// Marks where bytes change what they do to an unfinished character, if the bits have one for it.
+fn mark_cuts(begins: &mut [u8], bits: LookBehind, cuts: &Cuts)
+    requires bytes { length begins.old ≡ 256 }
+    requires cuts { AreCuts cuts.now }
+    ensures { AddsMarks (λ b c. bits.char ≡ true → StepAlike cuts.now b c) begins.old begins.new }
 {
-    if byte < 128 {
-        let begins = program.byte_classes();
-        return (
-            class_start(begins, byte as usize),
-            class_end(begins, byte as usize),
-        );
-    }
-    let mut low = byte as usize;
-    'down: while low > 0 && are_together(program, at, low - 1) {
-        low -= 1;
-    }
-    let mut high = byte as usize + 1;
-    'up: while high < 256 && are_together(program, at, high - 1) {
-        high += 1;
-    }
-    (low, high)
-}
-
-/// The first byte of the class of a byte.
-fn class_start(begins: &[u8; 256], byte: usize) -> usize
-    requires { byte < 128 }
-    ensures low { result ≤ byte }
-    ensures none { (b : ℕ) → result < b → b ≤ byte → begins_at begins.now b ≡ false }
-{
-    match memrchr(1, &begins[..byte + 1]) {
-        Some(start) => start,
-        None => 0,
+    if bits.char {
+        mark_digits(begins, cuts.as_slice());
+        mark_leads(begins, cuts);
     }
 }
 
-/// The byte after the last byte of the class of an ASCII byte.
-fn class_end(begins: &[u8; 256], byte: usize) -> usize
-    requires { byte < 128 }
-    ensures low { byte < result }
-    ensures high { result ≤ 128 }
-    ensures none { (b : ℕ) → byte < b → b < result → begins_at begins.now b ≡ false }
+/// Marks the continuation bytes that do not do the same to each unfinished character as the bytes before them. A
+/// continuation byte is a digit of base 64 of the character, so it begins a class if it is a digit of a cut, and the
+/// next one does if the cut has lower digits too.
+fn mark_digits(begins: &mut [u8], cuts: &[u32])
+    requires bytes { length begins.old ≡ 256 }
+    requires cuts { AreCuts cuts.now }
+    ensures { AddsMarks (λ b c. c < 192 → StepAlike cuts.now b c) begins.old begins.new }
 {
-    match memchr(1, &begins[byte + 1..128]) {
-        Some(offset) => byte + 1 + offset,
-        None => 128,
+    mark(begins, 0x80, true, false);
+    for cut in cuts {
+        mark_digit(begins, *cut, 1);
+        mark_digit(begins, *cut, 64);
+        mark_digit(begins, *cut, 4096);
     }
 }
 
-/// Whether the byte and the next one are in one class.
-fn are_together(program: &Program, at: Unfinished, byte: usize) -> bool
-    requires { byte < 255 }
-    ensures { result ≡ true → StepTogether program.now at byte (suc byte) }
+/// Marks the digit of base 64 of a cut that counts blocks of this size, and the next byte if there are lower digits.
+#[inline(always)]
+fn mark_digit(begins: &mut [u8], cut: u32, size: u32)
+    requires bytes { length begins.old ≡ 256 }
+    requires some { 0 < size }
+    ensures { AddsMarks (λ b c. IsNoDigit cut size c) begins.old begins.new }
 {
-    if is_begin(program.byte_classes(), byte + 1) {
-        return false;
-    }
-    byte < 127
-        || is_same(
-            program.char_step(at, byte as u8),
-            program.char_step(at, byte as u8 + 1),
-        )
+    let digit = (0x80 + cut / size % 64) as u8;
+    mark(begins, digit, true, false);
+    mark(begins, digit + 1, cut % size == 0, true);
 }
 
-/// Whether a class begins at the byte.
-fn is_begin(begins: &[u8; 256], byte: usize) -> bool
-    requires { byte < 256 }
-    ensures { result ≡ begins_at begins.now byte }
+/// Marks the first bytes of characters that do not do the same as the bytes before them. What they do does not depend
+/// on the unfinished character.
+fn mark_leads(begins: &mut [u8], cuts: &Cuts)
+    requires { length begins.old ≡ 256 }
+    ensures { AddsMarks (λ b c. 192 ≤ c → StepAlike cuts.now b c) begins.old begins.new }
 {
-    begins[byte] == 1
+    mark(begins, 0xC0, true, false);
+    for byte in 0xC0..255u8 {
+        let before = cuts.step(Unfinished::none(), byte);
+        let here = cuts.step(Unfinished::none(), byte + 1);
+        mark(begins, byte + 1, is_same(before, here), true);
+    }
 }
 
 /// Whether the steps are equal.

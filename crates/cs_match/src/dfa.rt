@@ -7,7 +7,8 @@ ghost use Rattle.cs_match.specs.Work.{words, step_work, byte_work, line_work};
 ghost use Rattle.cs_match.specs.FirstMatch.{AcceptsFirst, AreScanned, HasScanned, scanned_bytes};
 ghost use Rattle.cs_match.specs.Lines.{newline};
 ghost use Rattle.cs_match.specs.Skipping.{AreWholeLines};
-ghost use Rattle.cs_match.specs.Glushkov.{position_count, IsExpanded};
+ghost use Rattle.cs_match.specs.Glushkov.{position_count, IsExpanded, cuts_of};
+ghost use Rattle.cs_match.specs.Digits.{IsBlock};
 ghost use Rattle.cs_match.specs.Masks.{IsScratch};
 ghost use Rattle.cs_match.specs.States.{start, successor, accepts_before, IsDead};
 ghost use Rattle.cs_match.specs.LazyDfa.{blank_transition};
@@ -15,7 +16,6 @@ ghost use Rattle.cs_match.specs.declared.state.State.{State};
 ghost use Rattle.cs_match.specs.ConsistentDfa.{IsConsistent, HasState, LeadsIn, TakesWork, tree_in, state_in, accepts_from, successor_in};
 ghost use Rattle.cs_prefilter.specs.CountsAtMost.{CountsAtMost};
 
-use crate::byte_classes::class_of;
 use crate::glushkov::Scratch;
 use crate::interleaved_scan::{FIRST_SPECIAL, MATCH, line_end};
 use crate::program::Program;
@@ -156,6 +156,7 @@ fn step_from(
 ) -> bool
     requires positions { length from.now.positions ≡ position_count program.now }
     requires room { length next.old.positions ≡ position_count program.now }
+    requires block { IsBlock (cuts_of program.now) from.now.unfinished }
     requires memory { IsScratch program.now memory.old }
     ensures accepting { result ≡ accepts_before program.now from.now byte }
     ensures moved { next.new ≡ successor program.now from.now byte }
@@ -164,7 +165,9 @@ fn step_from(
         steps.old steps.new }
 {
     next.copy_from(from, steps);
-    next.step_over(program, memory, byte, steps)
+    // All bytes of the class have the same successor, so that one mask serves them.
+    let first = program.byte_classes().first(byte);
+    next.step_over(program, memory, first, steps)
 }
 
 impl<'a> LazyDfa<'a> {
@@ -396,8 +399,7 @@ impl<'a> LazyDfa<'a> {
         ensures states { self.new.states.used ≡ self.old.states.used }
         ensures work { CountsAtMost 512 steps.old steps.new }
     {
-        let unfinished = self.states.cached[(from >> 8) as usize].unfinished;
-        let class = class_of(self.program, unfinished, byte);
+        let class = self.program.byte_classes().range(byte);
         steps.add(2 * (class.1 - class.0));
         put_range(&mut self.states.transitions, from, class.0, class.1, next);
     }
@@ -406,6 +408,7 @@ impl<'a> LazyDfa<'a> {
     fn add(&mut self, hash: u8, is_dead: bool, steps: &mut Steps) -> u16
         requires right { IsConsistent self.old }
         requires room { self.old.states.used < 254 }
+        requires block { IsBlock (cuts_of (tree_in self.old)) self.old.states.scratch.unfinished }
         requires dead { is_dead ≡ true → IsDead (tree_in self.old) self.old.states.scratch }
         ensures number { HasState self.new result self.old.states.scratch }
         ensures kept { (number : ℕ) (state : State) → HasState self.old number state

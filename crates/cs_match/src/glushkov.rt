@@ -129,7 +129,7 @@ impl Scratch {
         Ok(Scratch {
             loops: vec![in alloc; false; program.repeats()]?,
             entries: PositionSet::none(alloc, program.positions().len() + 1)?,
-            masks: Masks::new(alloc, program.positions())?,
+            masks: Masks::new(alloc, program)?,
         })
     }
 }
@@ -175,7 +175,9 @@ pub(crate) fn step_over(
     ensures cost { CountsAtMost (step_work program.now) steps.old steps.new }
 {
     let accepting = enter(program, positions, scratch, here, steps);
-    let slot = scratch.masks.find(program.positions(), input, steps);
+    let slot = scratch
+        .masks
+        .find(program.positions(), program.byte_classes(), input, steps);
     scratch.masks.slots[slot].move_over(&scratch.entries, positions, steps);
     accepting
 }

@@ -1,19 +1,23 @@
-// Masks: what each position does over an input, one bit each. They are computed when an input is seen first.
+// Masks: what each position does over an input, one bit each. They are computed when an input is seen first. All bytes
+// of a class do the same, so that each class has one mask, that of its first byte.
 ghost use Rattle.std.specs.Prelude.{◌≡◌, ℕ, ◌+◌, ◌<◌, ◌≤◌, IfOk, length, true, false, slice_index_or};
+ghost use Rattle.cs_match.specs.Entered.{position_list};
 ghost use Rattle.cs_match.specs.Masks.{IsMask, IsOneMask, HasRoom, AreMasks};
 ghost use Rattle.cs_match.specs.PositionSet.{is_moved};
 ghost use Rattle.cs_match.specs.Work.{words};
 ghost use Rattle.cs_prefilter.specs.CountsAtMost.{CountsAtMost};
 
+use crate::byte_classes::ByteClasses;
 use crate::input::Input;
 use crate::position::Position;
 use crate::position_set::PositionSet;
+use crate::program::Program;
 use cs_prefilter::Steps;
 use cs_syntax::CharStep;
 use std::alloc::{AllocError, Global};
 
-/// The number of masks: one for each byte, and 64 for the last bytes of characters.
-const MOST: usize = 320;
+/// The number of masks for the last bytes of characters.
+const LAST_BYTES: usize = 64;
 
 /// What each position does over an input.
 #[derive(Drop)]
@@ -111,12 +115,26 @@ pub(crate) struct Masks {
 }
 
 impl Masks {
-    /// Memory for the masks of these positions. None is computed.
-    pub(crate) fn new(alloc: Global, positions: &[Position]) -> Result<Masks, AllocError>
+    /// Memory for the masks of a program: one for each class of bytes, and some for the last bytes of characters. None
+    /// is computed.
+    pub(crate) fn new(alloc: Global, program: &Program) -> Result<Masks, AllocError>
+        ensures { IfOk result (AreMasks (position_list program.now)) }
+    {
+        let classes = program.byte_classes().count as usize;
+        if program.look_behind().char {
+            Masks::with_slots(alloc, program.positions(), classes + LAST_BYTES)
+        } else {
+            Masks::with_slots(alloc, program.positions(), classes)
+        }
+    }
+
+    /// So many masks of these positions.
+    fn with_slots(alloc: Global, positions: &[Position], count: usize) -> Result<Masks, AllocError>
+        requires { 0 < count }
         ensures { IfOk result (AreMasks positions.now) }
     {
-        let mut slots = Vec::with_capacity(alloc, MOST)?;
-        for slot in 0..MOST {
+        let mut slots = Vec::with_capacity(alloc, count)?;
+        for slot in 0..count {
             let mask = Mask::none(alloc, positions.len())?;
             slots.push(mask)?;
         }
@@ -124,15 +142,21 @@ impl Masks {
     }
 
     /// The index of the mask of an input, computed first if it is not there.
-    pub(crate) fn find(&mut self, positions: &[Position], input: Input, steps: &mut Steps) -> usize
+    pub(crate) fn find(
+        &mut self,
+        positions: &[Position],
+        classes: &ByteClasses,
+        input: Input,
+        steps: &mut Steps,
+    ) -> usize
         requires { AreMasks positions.now self.old }
         ensures masks { AreMasks positions.now self.new }
-        ensures within { result < 320 }
+        ensures within { result < length self.new.slots.items }
         ensures mask { (other : Mask) → IsMask positions.now (slice_index_or self.new.slots.items result other) }
         ensures input { (other : Mask) → (slice_index_or self.new.slots.items result other).input ≡ input }
         ensures cost { CountsAtMost (length positions.now) steps.old steps.new }
     {
-        let slot = slot_of(input);
+        let slot = slot_of(classes, input, self.slots.len());
         if !self.slots[slot].is_of(input) {
             self.slots[slot].fill(positions, input, steps);
         }
@@ -140,13 +164,15 @@ impl Masks {
     }
 }
 
-/// Where the mask of an input is kept.
-fn slot_of(input: Input) -> usize
-    ensures { result < 320 }
+/// Where the mask of an input is kept among so many.
+fn slot_of(classes: &ByteClasses, input: Input, count: usize) -> usize
+    requires { 0 < count }
+    ensures { result < count }
 {
     let byte = input.byte as usize;
-    match input.char {
-        CharStep::Completes(low) => 256 + (low as usize ^ byte) % 64,
-        _ => byte,
-    }
+    let slot = match input.char {
+        CharStep::Completes(low) => classes.count as usize + (low as usize ^ byte) % LAST_BYTES,
+        _ => classes.of[byte] as usize,
+    };
+    if slot < count { slot } else { 0 }
 }

@@ -12,7 +12,7 @@ ghost use Rattle.cs_match.specs.Parts.{HaveSameShape, shape_of, size_of};
 ghost use Rattle.cs_match.specs.Entered.{position_list};
 ghost use Rattle.cs_match.specs.Size.{nodes, FitsWeight};
 
-use crate::byte_classes::byte_classes;
+use crate::byte_classes::ByteClasses;
 use crate::expand::expand;
 use crate::glushkov::count_repeats;
 use crate::look_around::{LookBehind, is_anchored, look_behind};
@@ -38,8 +38,8 @@ pub struct Program {
     look_behind: LookBehind,
     /// Each match begins at the start of the line.
     is_anchored: bool,
-    /// The flags of the bytes at which a class begins.
-    byte_classes: [u8; 256],
+    /// The byte classes of the tree.
+    byte_classes: ByteClasses,
     /// The cuts of the sets of characters.
     cuts: Cuts,
     /// The prefilter, if the tree has rare words.
@@ -94,7 +94,7 @@ impl Program {
         let repeats = count_repeats(&root);
         let look_behind = look_behind(&root);
         let is_anchored = is_anchored(&root);
-        let byte_classes = byte_classes(&root, look_behind);
+        let byte_classes = ByteClasses::of_tree(&root, look_behind, &cuts);
         Ok(Program {
             root,
             part,
@@ -146,8 +146,8 @@ impl Program {
         self.is_anchored
     }
 
-    /// The flags of the bytes at which a class begins.
-    pub(crate) fn byte_classes(&self) -> &[u8; 256]
+    /// The byte classes of the tree.
+    pub(crate) fn byte_classes(&self) -> &ByteClasses
         ensures { AreClasses self.now result.now }
     {
         &self.byte_classes

@@ -18,6 +18,7 @@ returns-clause-right c =
         all = given.cached.all;
         first = given.cached.first;
         positions = given.cached.positions;
+        blocks = given.cached.blocks;
       };
       transitions = subst (AreTransitions (tree_in s) s.states.cached.items 1)
           (sym (with_items_is s.states.transitions blank (c.reset.ensures.length ∙ c.deref_mut.ensures.len)))

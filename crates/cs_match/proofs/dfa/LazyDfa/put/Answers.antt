@@ -1,12 +1,7 @@
-use Rattle.std.proofs.Common.{◌≡◌, ◌∙◌, ◌+◌, ◌/◌, ◌<◌, ◌≤◌, ℕ, suc, slice_index, length, ap, sym, subst, arith}
-use Rattle.std.proofs.lemmas.List.{with_items_is, get_or_read}
-use Rattle.cs_syntax.specs.declared.char_step.Unfinished.{Unfinished}
-use Rattle.cs_match.specs.declared.state.State.{State}
-use Rattle.cs_match.specs.States.{start}
-use Rattle.cs_match.specs.ByteClasses.{StepTogether}
+use Rattle.std.proofs.Common.{◌≡◌, ◌∙◌, ◌+◌, ◌/◌, ◌<◌, ◌≤◌, ℕ, slice_index, length, ap, sym, subst, arith}
+use Rattle.std.proofs.lemmas.List.{with_items_is}
 use Rattle.cs_match.specs.LazyDfa.{AreTransitions}
 use Rattle.cs_match.specs.ConsistentDfa.{tree_in, state_in}
-use Rattle.cs_match.proofs.ByteClassLemmas.{class_alike}
 use Rattle.cs_match.proofs.TransitionLemmas.{leads_alike, put_transition}
 use Rattle.cs_match.proofs.dfa.LazyDfa.put.Goals as goal
 
@@ -14,19 +9,15 @@ pub returns-clause-right : goal.returns-clause-right
 returns-clause-right c =
     let s = c.args.self.now in
     let t = tree_in s in
-    let class = c.class_of-class.ensures in
-    let low = c.class_of-class.result.0 in
-    let high = c.class_of-class.result.1 in
+    let class = c.range-class.ensures in
+    let low = c.range-class.result.0 in
+    let high = c.range-class.result.1 in
     let put = c.put_range.ensures in
     let stored = c.put_range.new.transitions in
     let state = state_in s c.args.from in
-    let unfinished = ap (λ (n : State). n.unfinished)
-    (get_or_read s.states.cached.items (c.args.from / 256) c.index.result.now
-    (omega (arith, c.requires.number.in_use, c.requires.right.cached.bound, c.requires.right.cached.all))
-    c.index.ensures (start t)) in
-    let alike = class_alike t state low high c.args.byte class.from class.to
-    (subst (λ (at : Unfinished). (b : ℕ) → low ≤ b → suc b < high → StepTogether t at b (suc b)) unfinished
-    class.together) in
+    let alike = λ (b : ℕ) (from : low ≤ b) (to : b < high).
+    c.byte_classes.ensures.alike c.args.byte b (omega arith) (omega (arith, to, class.high.1)) (sym (class.class b from to)) state
+    (c.requires.right.cached.blocks (c.args.from / 256)) in
     let index = sym c.requires.number.whole in
     let same = λ (k : ℕ). ap (λ xs. slice_index xs k) c.deref_mut.ensures.value in
     record {
@@ -36,7 +27,7 @@ returns-clause-right c =
           (sym (with_items_is s.states.transitions stored (put.length ∙ c.deref_mut.ensures.len)))
           (put_transition t s.states.cached.items s.states.used s.states.transitions.items stored
           c.requires.right.transitions (c.args.from / 256) low high c.args.next
-          c.requires.number.in_use c.requires.right.cached.bound class.bytes
+          c.requires.number.in_use c.requires.right.cached.bound class.high.1
           (λ b from to. leads_alike t s.states.cached.items s.states.used state c.args.byte b c.args.next
           (alike b from to) c.requires.leads)
           (subst (λ (n : ℕ). (b : ℕ) → low ≤ b → b < high → slice_index stored (n + b) ≡ c.args.next) index put.inside)
@@ -52,5 +43,5 @@ returns-clause-right c =
 pub returns-clause-work : goal.returns-clause-work
 returns-clause-work c = (
   omega (arith, c.add.ensures),
-  omega (arith, c.add.ensures, c.class_of-class.ensures.bytes),
+  omega (arith, c.add.ensures, c.range-class.ensures.high.1),
 )

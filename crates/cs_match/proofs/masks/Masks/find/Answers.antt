@@ -10,16 +10,17 @@ returns-then-not-is_of-clause-masks c =
     let old = c.args.self.now.slots.items in
     let at = c.slot_of-slot.result in
     let new = c.fill.new.self in
-    let within : at < length old = omega (arith, c.requires.all, c.slot_of-slot.ensures) in
+    let size = length-set old at new in
+    let within : at < length old = omega (arith, c.slot_of-slot.ensures, c.len.ensures) in
     record {
-      all = length-set old at new ∙ c.requires.all;
+      some = omega (arith, size, c.requires.some);
       room = λ k other h. elim (cases_eq k at) [
         | inl same ↦
             subst (λ (m : Mask). HasRoom (length ps) m)
             (sym (ap (λ i. get_or (set old at new) i other) same ∙ get_or-set_same old at new other within))
             c.fill.ensures.room
         | inr else ↦ subst (λ (m : Mask). HasRoom (length ps) m) (sym (get_or-set_other old at k new other else))
-            (c.requires.room k other h)
+            (c.requires.room k other (omega (arith, h, size)))
       ];
       known = λ k other h is. elim (cases_eq k at) [
         | inl same ↦ subst (λ (m : Mask). IsMask ps m)
@@ -27,6 +28,6 @@ returns-then-not-is_of-clause-masks c =
             c.fill.ensures.mask
         | inr else ↦
             subst (λ (m : Mask). IsMask ps m) (sym (get_or-set_other old at k new other else))
-            (c.requires.known k other h (subst (λ (m : Mask). m.is_known ≡ true) (get_or-set_other old at k new other else) is))
+            (c.requires.known k other (omega (arith, h, size)) (subst (λ (m : Mask). m.is_known ≡ true) (get_or-set_other old at k new other else) is))
       ];
     }

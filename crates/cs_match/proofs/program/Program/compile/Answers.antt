@@ -20,7 +20,7 @@ invariant_of-result c = (
   c.in_ok-part.ensures.shape,
   c.in_ok-part.ensures.size,
   c.in_ok-part.ensures.positions,
-  c.byte_classes-byte_classes.ensures,
+  c.of_tree-byte_classes.ensures,
   c.in_ok-part.ensures.cuts,
   c.is_anchored-is_anchored.ensures,
 )

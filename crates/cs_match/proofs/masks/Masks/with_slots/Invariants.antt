@@ -1,6 +1,6 @@
 use Rattle.std.proofs.Common.{◌≡◌, ℕ, ◌<◌, false, length, get_or}
 use Rattle.cs_match.specs.declared.masks.Mask.{Mask}
-use Rattle.cs_match.proofs.masks.Masks.new.Given as goal
+use Rattle.cs_match.proofs.masks.Masks.with_slots.Given as goal
 
 abbrev pub invariant-loop-slot : goal.invariant-loop-slot
 invariant-loop-slot l = record {

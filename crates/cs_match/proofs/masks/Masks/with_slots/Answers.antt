@@ -1,7 +1,7 @@
 use Rattle.std.proofs.Common.{◌≡◌, ℕ, ◌+◌, ◌<◌, ◌∷◌, [], false, List, length, get_or, sym, ap, subst, arith, length-append}
 use Rattle.cs_match.specs.declared.masks.Mask.{Mask}
 use Rattle.cs_match.proofs.MaskLemmas.{pushed_mask}
-use Rattle.cs_match.proofs.masks.Masks.new.Goals as goal
+use Rattle.cs_match.proofs.masks.Masks.with_slots.Goals as goal
 
 pub loop-slot-preserved : goal.loop-slot-preserved
 loop-slot-preserved c =

@@ -1,0 +1,50 @@
+use Rattle.std.proofs.Common.{◌≡◌, ◌⊎◌, ◌+◌, ◌-◌, ◌≤◌, ◌<◌, ◌∙◌, ℕ, false, inl, inr, length, set, get_or, sym, ap, arith, length-set, get_or-set_same, get_or-set_other}
+use Rattle.std.proofs.lemmas.Bool.{cases_lt}
+use Rattle.cs_match.specs.ByteClasses.{begins_at}
+use Rattle.cs_match.proofs.ByteClassLemmas.{numbered_on}
+use Rattle.cs_match.proofs.byte_classes.number_classes.Goals as goal
+use Rattle.cs_match.proofs.byte_classes.number_classes.Goals.{then-is_begin, else-is_begin}
+
+pub loop-byte-preserved : goal.loop-byte-preserved
+loop-byte-preserved c =
+    let i = c.loop-byte.invariant in
+    let begins = c.args.begins.now in
+    let old = c.loop-byte.of in
+    let byte = c.loop-byte.byte in
+    let last = c.loop-byte.last in
+    let now = c.if-is_begin.last in
+    let new = set old byte now in
+    let size = length-set old byte now in
+    let step : (now ≡ last + 1) ⊎ ((now ≡ last) × (begins_at begins byte ≡ false)) =
+    elim c.if-is_begin.branch [
+      | then-is_begin w ↦ inl w.last-is
+      | else-is_begin w ↦ inr (w.last-is, sym c.is_begin.ensures ∙ w.if-is_begin.false)
+    ] in
+    let rises : last ≤ now = elim step [ inl more ↦ omega (arith, more) | inr same ↦ omega (arith, same.0) ] in
+    let bound : now ≤ byte = elim step [ inl more ↦ omega (arith, more, i.low) | inr same ↦ omega (arith, same.0, i.low) ] in
+    let here : now ≡ last → begins_at begins byte ≡ false = λ e. elim step [ inl more ↦ absurd (omega (arith, more, e)) | inr same ↦ same.1 ] in
+    let within : byte < length old = omega (arith, i.size, c.loop-byte-test.true) in
+    let last_is : get_or new byte 0 ≡ now = get_or-set_same old byte now 0 within in
+    let kept : (b : ℕ) → b < byte → get_or new b 0 ≡ get_or old b 0 = λ b lt. get_or-set_other old byte b now 0 (λ e. omega (arith, e, lt)) in
+    let next : byte + 1 - 1 ≡ byte = omega arith in
+    record {
+      size = omega (arith, size, i.size);
+      some = omega arith;
+      low = omega (arith, bound);
+      top = ap (λ (k : ℕ). get_or new k 0) next ∙ last_is;
+      below = λ b lt. elim (cases_lt b byte) [
+        | inl less ↦ omega (arith, kept b less, i.below b less, rises)
+        | inr ge ↦
+            let same : b ≡ byte = omega (arith, ge, lt) in
+            omega (arith, ap (λ (k : ℕ). get_or new k 0) same, last_is)
+      ];
+      none = numbered_on begins old new byte last now i.some i.top i.below i.none kept last_is here rises;
+    }
+
+pub returns : goal.returns
+returns c =
+    let i = c.loop-byte.invariant in
+    record {
+      none = λ b k at from to lt same. i.none b k at from to (omega (arith, lt, c.loop-byte-test.false)) same;
+      range = λ b lt. omega (arith, i.below b (omega (arith, lt, c.loop-byte-test.false)), c.from.ensures);
+    }

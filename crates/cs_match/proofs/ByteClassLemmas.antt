@@ -124,6 +124,7 @@ module _ (t : Tree) (begins : List ℕ) (classes : ByteClasses) (numbered : AreN
       | inl lt ↦ ordered_alike state is b c (omega arith) cl same
       | inr ge ↦ alike_back t state c b (ordered_alike state is c b ge bl (sym same))
     ];
+    ascending = numbered.ascending;
     range = numbered.range;
   }
 

@@ -56,13 +56,19 @@ pub record AddsMarks (Alike : ℕ → ℕ → Type 0) (old new : List ℕ) : Typ
   pub kept : (b : ℕ) → begins_at new b ≡ false → begins_at old b ≡ false
   pub alike : (b : ℕ) → suc b < 256 → begins_at new (suc b) ≡ false → Alike b (suc b)
 
--- a class has no byte after its first at which one begins, and its number is below the count
+-- the numbers of the classes ascend
+abbrev pub IsAscending : List ℕ → Type 0
+IsAscending of = (b c : ℕ) → b ≤ c → c < 256 → slice_index of b ≤ slice_index of c
+
+-- a class has no byte after its first at which one begins; the numbers ascend, and are below the count
 pub record AreNumbered (begins : List ℕ) (classes : ByteClasses) : Type 0 where
   pub none : (b c k : ℕ) → b < k → k ≤ c → c < 256 → slice_index classes.of b ≡ slice_index classes.of c → begins_at begins k ≡ false
+  pub ascending : IsAscending classes.of
   pub range : (b : ℕ) → b < 256 → slice_index classes.of b < classes.count
 
--- no state tells two bytes of a class apart; so no other byte is in the class of the newline
+-- no state tells two bytes of a class apart, so no other byte is in the class of the newline; a class is a range of bytes
 pub record AreClasses (t : Tree) (classes : ByteClasses) : Type 0 where
   pub alike : (b c : ℕ) → b < 256 → c < 256 → slice_index classes.of b ≡ slice_index classes.of c →
       (state : State) → IsBlock (cuts_of t) state.unfinished → AreAlike t state b c
+  pub ascending : IsAscending classes.of
   pub range : (b : ℕ) → b < 256 → slice_index classes.of b < classes.count

@@ -7,12 +7,12 @@ ghost use Rattle.cs_syntax.specs.Cuts.{AreCuts, AreCutsOf};
 ghost use Rattle.cs_syntax.specs.Node.{tree_of};
 ghost use Rattle.cs_syntax.specs.NodeList.{trees_of};
 ghost use Rattle.cs_match.specs.LookBehind.{look_behind};
-ghost use Rattle.cs_match.specs.ByteClasses.{AreClasses, AreNumbered, StepAlike, begins_at, HaveBoth, AllHaveBoth, AddsMarks};
+ghost use Rattle.cs_match.specs.ByteClasses.{AreClasses, AreNumbered, IsAscending, StepAlike, begins_at, HaveBoth, AllHaveBoth, AddsMarks};
 ghost use Rattle.cs_match.specs.Digits.{IsNoDigit};
 
 use crate::look_around::LookBehind;
 use cs_syntax::{ByteSet, CharSet, CharStep, Cuts, Node, Unfinished};
-use memchr::memchr;
+use memchr::{memchr, memrchr};
 
 /// The classes of the bytes, numbered in ascending order.
 #[derive(Clone, Copy, Drop)]
@@ -41,7 +41,8 @@ impl ByteClasses {
 
     /// The first byte of the class of a byte.
     pub(crate) fn first(&self, byte: u8) -> u8
-        ensures { slice_index self.now.of result ≡ slice_index self.now.of byte }
+        ensures low { result ≤ byte }
+        ensures class { slice_index self.now.of result ≡ slice_index self.now.of byte }
     {
         match memchr(self.of[byte as usize], &self.of) {
             Some(first) => first as u8,
@@ -49,23 +50,26 @@ impl ByteClasses {
         }
     }
 
+    /// The last byte of the class of a byte.
+    fn last(&self, byte: u8) -> u8
+        ensures high { byte ≤ result }
+        ensures class { slice_index self.now.of result ≡ slice_index self.now.of byte }
+    {
+        match memrchr(self.of[byte as usize], &self.of) {
+            Some(last) => last as u8,
+            None => byte,
+        }
+    }
+
     /// The range of the class of a byte: its first byte, and the byte after its last.
     pub(crate) fn range(&self, byte: u8) -> (usize, usize)
+        requires { IsAscending self.now.of }
         ensures low { result.0 ≤ byte }
         ensures high { (byte < result.1) × (result.1 ≤ 256) }
         ensures class { (b : ℕ) → result.0 ≤ b → b < result.1
             → slice_index self.now.of b ≡ slice_index self.now.of byte }
     {
-        let class = self.of[byte as usize];
-        let mut low = byte as usize;
-        'down: while low > 0 && self.of[low - 1] == class {
-            low -= 1;
-        }
-        let mut high = byte as usize + 1;
-        'up: while high < 256 && self.of[high] == class {
-            high += 1;
-        }
-        (low, high)
+        (self.first(byte) as usize, self.last(byte) as usize + 1)
     }
 }
 

@@ -38,6 +38,18 @@ loop-byte-preserved c =
             let same : b ≡ byte = omega (arith, ge, lt) in
             omega (arith, ap (λ (k : ℕ). get_or new k 0) same, last_is)
       ];
+      ascending = λ b at le lt. elim (cases_lt at byte) [
+        | inl less ↦ omega (arith, kept b (omega (arith, le, less)), kept at less, i.ascending b at le less)
+        | inr ge ↦
+            let same : at ≡ byte = omega (arith, ge, lt) in
+            let top = ap (λ (k : ℕ). get_or new k 0) same ∙ last_is in
+            elim (cases_lt b byte) [
+              | inl less ↦ omega (arith, kept b less, i.below b less, rises, top)
+              | inr here ↦
+                  let both : b ≡ at = omega (arith, here, le, same) in
+                  omega (arith, ap (λ (k : ℕ). get_or new k 0) both)
+            ]
+      ];
       none = numbered_on begins old new byte last now i.some i.top i.below i.none kept last_is here rises;
     }
 
@@ -46,5 +58,6 @@ returns c =
     let i = c.loop-byte.invariant in
     record {
       none = λ b k at from to lt same. i.none b k at from to (omega (arith, lt, c.loop-byte-test.false)) same;
+      ascending = λ b at le lt. i.ascending b at le (omega (arith, lt, c.loop-byte-test.false));
       range = λ b lt. omega (arith, i.below b (omega (arith, lt, c.loop-byte-test.false)), c.from.ensures);
     }

@@ -9,5 +9,6 @@ invariant-loop-byte l = record {
   low : l.last < l.byte;
   top : get_or l.of (l.byte - 1) 0 ≡ l.last;
   below : (b : ℕ) → b < l.byte → get_or l.of b 0 ≤ l.last;
+  ascending : (b c : ℕ) → b ≤ c → c < l.byte → get_or l.of b 0 ≤ get_or l.of c 0;
   none : (b c k : ℕ) → b < k → k ≤ c → c < l.byte → get_or l.of b 0 ≡ get_or l.of c 0 → begins_at l.begins k ≡ false;
 }

@@ -29,13 +29,14 @@ pub(crate) fn execute_cgrep<'a, T: Tree, R: Source, O: Sink, E: Sink>(
     match &call.job {
         Ok(Job::Grep(job)) => search_files(job, world),
         Err(fault) => refused(call, *fault),
+        // The arguments of `cgrep` mean no other job.
         Ok(Job::Index(_) | Job::Search(_)) => unreachable!(),
     }
 }
 
-/// Does what the arguments of a tool with an index mean: opens the index file, claims it if the job may update it, does the
-/// job, and updates the file. So a second run, and a folder that cannot be written, are found before the job. The line of
-/// an error is still to be printed.
+/// Does what the arguments of a tool with an index mean: opens the index file, claims it if the job may update it, does
+/// the job, and updates the file. So a second run, and a folder that cannot be written, are found before the job. The
+/// line of an error is still to be printed.
 pub(crate) fn execute<'a, F: IndexFolder, T: Tree, R: Source, O: Sink, E: Sink>(
     call: &'a Call<'a>,
     folder: &mut F,

@@ -1,6 +1,6 @@
 //! The program: its arguments, the standard streams, the disk, the index file and the exit status. What it does is
-//! `Call::read`, and `execute` or for `cgrep` `execute_cgrep`, over any implementation of these. Read `specs/Program.antt`
-//! and then `specs/Execution.antt` first.
+//! `Call::read` and then `execute`, or `execute_cgrep` for `cgrep`, over any implementation of these. Read
+//! `specs/Program.antt` and then `specs/Execution.antt` first.
 #![tactic(auto)]
 
 ghost use Rattle.std.specs.Prelude.{◌≡◌};
@@ -90,7 +90,7 @@ fn execute_on_disk(rt: &HostRuntime, call: &Call<'_>) -> Result<u8, AllocError>
     Ok(end(rt, &mut world.out, &outcome))
 }
 
-/// Ends a run: prints what is left in the buffer of standard output and the line of an error, and returns the exit status.
+/// Ends a run: prints what is left in the buffer of standard output, and the line of an error. Returns the exit status.
 fn end<O: Sink>(rt: &HostRuntime, out: &mut O, outcome: &Outcome<'_>) -> u8
     ensures { result ≡ exit_status outcome.now }
 {

@@ -21,11 +21,6 @@ pub struct IndexPaths {
 }
 
 impl IndexPaths {
-    /// No index file.
-    pub fn none(rt: &HostRuntime) -> Result<IndexPaths, AllocError> {
-        IndexPaths::unusable(rt, "", StorageFault::Failed)
-    }
-
     /// The index file that the environment names, or if that is a link, the file that it leads to.
     #[inline(never)]
     pub fn of_environment(rt: &HostRuntime) -> Result<IndexPaths, AllocError> {

@@ -13,7 +13,7 @@ sources = crates.txt $(shell find crates -type d \( -name out -o -name must-fail
 help:
 	@echo 'make program    proves the crates and builds crates/codesearch/out/codesearch: 20 minutes or more the first time'
 	@echo 'make lib        proves and builds the library for C and Rust: out/lib'
-	@echo 'make install    installs the tools, cs, the library, manual, completions and editor files under PREFIX (now $(PREFIX))'
+	@echo 'make install    installs the tools, cs, csparts, the library, manual, completions and editor files under PREFIX (now $(PREFIX))'
 	@echo 'make uninstall  removes them'
 	@echo 'make dist deb   makes an archive for each Linux on x86-64, and a Debian package, in the folder dist'
 	@echo 'make quick      the pages, names and types of all crates, and the end-to-end tests on the built program: minutes'
@@ -66,6 +66,7 @@ run-tests: pages
 	tests/shell/manual.sh $(program)
 	tests/shell/use.sh $(program)
 	tests/shell/cs.sh $(program)
+	tests/shell/parts.sh $(program)
 	tests/shell/editors.sh $(program)
 	tests/shell/c_library.sh $(program)
 	tests/shell/packages.sh $(program)

@@ -1,4 +1,4 @@
-# Completion of codesearch, cindex, csearch, cgrep and cs in bash: the tool, options, and names of files.
+# Completion of codesearch, cindex, csearch, cgrep, cs and csparts in bash: the tool, options, and names of files.
 
 _codesearch() {
     local tool=${1##*/} first=1 word=${COMP_WORDS[COMP_CWORD]} options at
@@ -21,6 +21,24 @@ _codesearch() {
                 --help --json --no-refresh --version --vimgrep' -- "$word")
             return
             ;;
+        csparts)
+            for ((at = 1; at < COMP_CWORD; at++)); do
+                case ${COMP_WORDS[at]} in
+                    -[djmt]) ((at++)) ;;
+                    -*) ;;
+                    search) options='-brute -c -f -h -i -l -n' tool=csearch first=$((at + 1)) && break ;;
+                    *) return ;;
+                esac
+            done
+            if [[ $tool == csparts ]]; then
+                if ((at == COMP_CWORD)); then
+                    options='cut index search status place'
+                    [[ $word != -* ]] || options='-d -g -j -m -t -u'
+                    mapfile -t COMPREPLY < <(compgen -W "$options" -- "$word")
+                fi
+                return
+            fi
+            ;;
         *) return ;;
     esac
     # Options come first. What follows is a name of a file, which bash itself completes where nothing stands here.
@@ -35,4 +53,4 @@ _codesearch() {
     fi
 }
 
-complete -o bashdefault -o default -F _codesearch codesearch cindex csearch cgrep cs
+complete -o bashdefault -o default -F _codesearch codesearch cindex csearch cgrep cs csparts

@@ -1,4 +1,4 @@
-# Completion of codesearch, cindex, csearch, cgrep and cs in fish.
+# Completion of codesearch, cindex, csearch, cgrep, cs and csparts in fish.
 
 function __codesearch_options --argument-names command condition
     set -l common -c $command
@@ -52,3 +52,13 @@ complete -c cs -l color -x -a 'always never auto' -d colours
 complete -c cs -l no-refresh -d 'do not look for changed files'
 complete -c cs -l help -d 'show the options'
 complete -c cs -l version -d 'show the version'
+
+set -l commands cut index search status place
+complete -c csparts -n "not __fish_seen_subcommand_from $commands" -f -a "$commands"
+complete -c csparts -n "not __fish_seen_subcommand_from $commands" -s d -x -a '(__fish_complete_directories)' -d 'the folder of the parts'
+complete -c csparts -n "not __fish_seen_subcommand_from $commands" -s g -d 'git says which clones have changed'
+complete -c csparts -n "not __fish_seen_subcommand_from $commands" -s j -x -d 'processes at once on a host'
+complete -c csparts -n "not __fish_seen_subcommand_from $commands" -s m -x -d 'bytes of source that a part may hold'
+complete -c csparts -n "not __fish_seen_subcommand_from $commands" -s t -x -d 'time limit in seconds'
+complete -c csparts -n "not __fish_seen_subcommand_from $commands" -s u -d 'lines of hosts as they come'
+__codesearch_options csparts '__fish_seen_subcommand_from search' csearch

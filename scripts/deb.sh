@@ -66,6 +66,8 @@ $package: initial-upload-closes-no-bugs *
 $package: package-name-doesnt-match-sonames *
 $package: no-symbols-control-file *
 $package: non-dev-pkg-with-shlib-symlink *
+# Only csparts needs Python, and all else works without it.
+$package: python3-script-but-no-python3-dep *
 END
 
 cp docs/USE.md "$doc/USE.md"
@@ -86,16 +88,16 @@ Architecture: amd64
 Maintainer: $maintainer
 Installed-Size: $(du -sk --apparent-size "$root/usr" | cut -f1)
 Depends: libc6 (>= 2.34)
-Recommends: git
-Suggests: ripgrep
+Recommends: git, python3
+Suggests: ripgrep, parallel, openssh-client
 Conflicts: codesearch
 Replaces: codesearch
 Provides: codesearch
 Description: search source trees by regular expressions through an index
  codesearch indexes trees of source files by their trigrams (cindex), and prints
  the lines that match a regular expression (csearch) while it opens only files
- that can match. cgrep searches files without an index, and cs searches the
- current project as it is now.
+ that can match. cgrep searches files without an index, cs searches the current
+ project as it is now, and csparts keeps several indexes on several machines.
  .
  It reads and writes the index format of Google's codesearch. That it loses no
  file and hides no line is proved down to the bytes.

@@ -1,5 +1,5 @@
 #!/bin/sh
-# Installs codesearch, or removes it: the program, the tools, cs, the library, manual, completions, editor files.
+# Installs codesearch, or removes it: the program, the tools, cs, csparts, the library, manual, completions, editor files.
 # usage: install.sh [-u] PREFIX    PREFIX begins with /, as /usr/local
 # DESTDIR, if set, is prepended to each path. PROGRAM and LIBRARY name a program and a folder of libraries other than those
 # beside this script. LIBDIR is the folder of libraries under PREFIX, if it is not lib.
@@ -28,7 +28,7 @@ libs=$DESTDIR$libdir
 tools='cindex csearch cgrep'
 
 if [ -n "$remove" ]; then
-    for name in codesearch cs $tools; do rm -f "$to/bin/$name" "$bash/$name" "$fish/$name.fish"; done
+    for name in codesearch cs csparts $tools; do rm -f "$to/bin/$name" "$bash/$name" "$fish/$name.fish"; done
     for page in "$here"/man/*.[157]; do rm -f "$to/share/man/man${page##*.}/${page##*/}"; done
     rm -f "$zsh/_codesearch" "$vim/codesearch.vim" "$emacs/codesearch.el"
     rm -f "$libs"/libcodesearch.a "$libs"/libcodesearch.so* "$libs/pkgconfig/codesearch.pc" "$to/include/codesearch.h"
@@ -52,12 +52,13 @@ fi
 install -d "$to/bin" "$bash" "$zsh" "$fish" "$vim" "$emacs"
 put 755 "$program" "$to/bin/codesearch"
 put 755 "$here/bin/cs" "$to/bin/cs"
+put 755 "$here/bin/csparts" "$to/bin/csparts"
 # The program is the tool whose name it is run by.
 for tool in $tools; do
     rm -f "$to/bin/$tool"
     ln -s codesearch "$to/bin/$tool"
 done
-for name in codesearch cs $tools; do
+for name in codesearch cs csparts $tools; do
     put 644 "$here/completion/codesearch.bash" "$bash/$name"
     put 644 "$here/completion/codesearch.fish" "$fish/$name.fish"
 done

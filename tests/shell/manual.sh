@@ -16,7 +16,7 @@ holds 'managed install'
 for page in $pages; do
     holds "cmp '$root/man/$page' '$prefix/share/man/man${page##*.}/$page'"
 done
-for tool in codesearch cindex csearch cgrep; do
+for tool in codesearch cindex csearch cgrep cs csparts; do
     holds "[ -x '$prefix/bin/$tool' ] && [ -r '$prefix/share/bash-completion/completions/$tool' ]"
 done
 
@@ -129,6 +129,10 @@ if command -v bash > /dev/null; then
     completes '' csearch word -b
     completes '' cindex -- -l
     completes '' cgrep word no
+    completes 'cut index search status place' csparts -m 8G ''
+    completes '-d -g -j -m -t -u' csparts -
+    completes '-brute -c -f -h -i -l -n' csparts -u search -
+    completes '' csparts search word -
     holds "bash -c '. \"\$0\"; complete -p cgrep' '$root/completion/codesearch.bash' | grep -q -- '-o default'"
 else
     skipped 'completion: there is no bash'

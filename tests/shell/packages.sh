@@ -35,7 +35,7 @@ gives 2 "'$root/scripts/install.sh' '/usr local'"
 mkdir -p "$fresh/go/folder" "$fresh/library" "$fresh/linked/bin" "$fresh/linked/lib/pkgconfig"
 echo another > "$fresh/go/file"
 for name in "libcodesearch.a" "libcodesearch.so.$version"; do echo library > "$fresh/library/$name"; done
-for name in bin/codesearch bin/cs bin/cindex bin/csearch lib/libcodesearch.a lib/pkgconfig/codesearch.pc; do
+for name in bin/codesearch bin/cs bin/csparts bin/cindex bin/csearch lib/libcodesearch.a lib/pkgconfig/codesearch.pc; do
     ln -s "$fresh/go/file" "$fresh/linked/$name"
 done
 ln -s "$fresh/go/folder" "$fresh/linked/bin/cgrep"
@@ -58,6 +58,14 @@ uses() {
     same came wanted
     $1 'export HOME=/t; cd /t/src && cs -n another && rm -rf /t' > "$fresh/came" 2>&1
     printf 'a.c:3:another marker\n' > "$fresh/wanted"
+    same came wanted
+}
+
+# uses_parts COMMAND: csparts, where there is Python
+uses_parts() {
+    $1 'command -v python3' > /dev/null || { skipped "csparts: no python3 for: $1"; return; }
+    $1 'mkdir -p /t/src && echo a marker > /t/src/a.c && export HOME=/t && csparts cut /t/src && csparts index && csparts search -n marker; rm -rf /t' > "$fresh/came" 2>&1
+    printf '0001\n/t/src/a.c:1:a marker\n' > "$fresh/wanted"
     same came wanted
 }
 
@@ -91,10 +99,12 @@ else
     if [ -n "$has_archive" ]; then
         holds "in_debian 'cd /root/$archive && ./install.sh /usr/local'"
         uses in_debian
+        uses_parts in_debian
         holds "in_debian 'cd /root/$archive && ./install.sh -u /usr/local && ! command -v cindex'"
     fi
     holds "in_debian 'dpkg -i /root/$package'"
     uses in_debian
-    holds "in_debian 'dpkg -r codesearch-verified && ! command -v cindex && ! command -v cs'"
+    uses_parts in_debian
+    holds "in_debian 'dpkg -r codesearch-verified && ! command -v cindex && ! command -v cs && ! command -v csparts'"
 fi
 summary

@@ -1,5 +1,5 @@
 #!/bin/sh
-# Tries the examples of docs/USE.md in the real programs, if they are installed: vim, emacs, git, xargs and GNU parallel.
+# Tries the examples of docs/USE.md in the real programs, if they are installed: vim, emacs, git and GNU parallel.
 # usage: tests/shell/use.sh PROGRAM
 # The settings, functions and commands are those of the page. The last line is 'N passed, M failed'.
 
@@ -141,59 +141,36 @@ gives 2 "CSEARCHINDEX=none refresh"
 
 # ---- several indexes ----------------------------------------------------------------------------------------------------------
 # Each has more lines than fit into a buffer, so that unsorted output would mix.
-mkdir .indexes one two
+mkdir one two
 for shard in one two; do
     awk -v shard=$shard 'BEGIN { for (i = 0; i < 9000; i++) print "int list_of_" shard "(int);", i, "{}" }' > $shard/many.c
-    CSEARCHINDEX=.indexes/$shard.index cindex $shard
 done
 echo 'only here' > two/rare
-CSEARCHINDEX=.indexes/two.index cindex
-printf 'csearch index 1' > '.indexes/two.index~'
 CSEARCHINDEX=$fresh/joined cindex one two
 CSEARCHINDEX=$fresh/joined csearch -n 'list_[a-z]+' > "$fresh/wanted"
 holds "[ \$(wc -l < '$fresh/wanted') = 18000 ]"
-gives 0 "csall -n 'list_[a-z]+' > '$fresh/shards'"
-same shards wanted
-gives 0 "csall -n '; [0-9]* \\{\\}\$' > '$fresh/shards'"
-same shards wanted
-gives 0 "[ \"\$(csall 'only here')\" = '$HOME/two/rare:only here' ]"
-gives 0 "csall 'only here' > /dev/null"
-gives 1 "csall 'nowhere at all'"
-gives 2 "csall 'a**' 2>/dev/null"
-mkdir remote
-printf '#!/bin/sh\n' > remote/ssh
-cat >> remote/ssh <<'END'
-# Replaces ssh: the machine is this one, with the index of its name, and the arguments after it are a command line. Like sshd
-# it sets the shell, without which GNU parallel prints nothing there.
-export SHELL=/bin/sh
+if [ ! -x /usr/bin/python3 ]; then
+    skipped 'csparts: there is no /usr/bin/python3'
+elif parallel --version 2>/dev/null | grep -q '^GNU parallel'; then
+    mkdir remote .csparts
+    printf '#!/bin/sh\n' > remote/ssh
+    cat >> remote/ssh <<'END'
+# Replaces ssh: the machine is this one, with the parts of its name, and the arguments after it are a command line.
 while :; do
     case $1 in -[lop]) shift 2 ;; -*) shift ;; *) break ;; esac
 done
-export CSEARCHINDEX="$HOME/.indexes/$1.index"
+export CSPARTS="$HOME/.parts-of-$1"
 shift
-[ "$1" != -- ] || shift
 exec sh -c "$*"
 END
-chmod 755 remote/ssh
-printf 'one\ntwo\n' > .machines
-CSEARCHINDEX=.indexes/one.index csearch -n 'list_[a-z]+' > "$fresh/one"
-blocks ssh | head -n 1 > "$fresh/command"
-gives 0 "PATH=\$HOME/remote:\$PATH sh '$fresh/command'"
-holds "cat found.one found.two | diff '$fresh/wanted' - && diff '$fresh/one' found.one"
-if parallel --version 2>/dev/null | grep -q '^GNU parallel'; then
-    mkdir -p .parallel
-    touch .parallel/will-cite
-    blocks parallel > "$fresh/command"
-    gives 0 "sh '$fresh/command' > '$fresh/shards'"
-    same shards wanted
-    sed -i "s/'list.*]+'/'only here'/" "$fresh/command"
-    gives 1 "sh '$fresh/command'"
-    blocks ssh | tail -n 1 > "$fresh/command"
-    gives 0 "PARALLEL_SSH=\$HOME/remote/ssh sh '$fresh/command' > '$fresh/shards'"
-    { sed 's/^/one\t/' found.one; sed 's/^/two\t/' found.two; } > "$fresh/wanted"
+    chmod 755 remote/ssh
+    ln -s "$root/bin/csparts" "$fresh_bin/csparts"
+    holds "CSPARTS=.parts-of-alpha csparts cut one && CSPARTS=.parts-of-beta csparts cut two"
+    blocks hosts > "$fresh/command"
+    gives 0 "PATH=\$HOME/remote:\$PATH sh '$fresh/command' > '$fresh/shards'"
     same shards wanted
 else
-    skipped 'GNU parallel: it is not installed'
+    skipped 'csparts over several machines: GNU parallel is not installed'
 fi
 
 # ---- a review server ------------------------------------------------------------------------------------------------------------

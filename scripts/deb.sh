@@ -66,8 +66,6 @@ $package: initial-upload-closes-no-bugs *
 $package: package-name-doesnt-match-sonames *
 $package: no-symbols-control-file *
 $package: non-dev-pkg-with-shlib-symlink *
-# Only csparts needs Python, and all else works without it.
-$package: python3-script-but-no-python3-dep *
 END
 
 cp docs/USE.md "$doc/USE.md"

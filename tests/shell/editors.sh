@@ -86,12 +86,14 @@ if command -v bash > /dev/null; then
     holds "bash '$fresh/complete.bash' | diff '$fresh/wanted' -"
 fi
 if command -v zsh > /dev/null; then
-    holds "zsh -f -c 'fpath=($prefix/share/zsh/site-functions \$fpath); autoload -Uz compinit; compinit -D -u; [[ \$_comps[cs] = _codesearch && \$_comps[csearch] = _codesearch ]] && autoload +X _codesearch'"
+    holds "zsh -f -c 'fpath=($prefix/share/zsh/site-functions \$fpath); autoload -Uz compinit; compinit -D -u; [[ \$_comps[cs] = _codesearch && \$_comps[csearch] = _codesearch && \$_comps[csparts] = _codesearch ]] && autoload +X _codesearch'"
 else
     skipped 'zsh: it is not installed'
 fi
 if command -v fish > /dev/null; then
     holds "XDG_DATA_DIRS=$prefix/share:/usr/share fish -c 'complete -C \"cs --no-r\"' | grep -q -- --no-refresh"
+    holds "XDG_DATA_DIRS=$prefix/share:/usr/share fish -c 'complete -C \"csparts sea\"' | grep -q '^search'"
+    holds "XDG_DATA_DIRS=$prefix/share:/usr/share fish -c 'complete -C \"csparts search -br\"' | grep -q '^-brute'"
     holds "XDG_DATA_DIRS=$prefix/share:/usr/share fish -c 'complete -C \"csearch -b\"' | grep -q -- -brute"
 else
     skipped 'fish: it is not installed'

@@ -5,7 +5,7 @@ net=p$$
 
 finish() {
     trap - EXIT
-    for host in $hosts head; do
+    for host in $hosts head slurm; do
         for pid in $(ip netns pids $net$host 2> /dev/null); do kill -9 $pid 2> /dev/null; done
         ip netns del $net$host 2> /dev/null
     done

@@ -513,4 +513,39 @@ if command -v tcsh > /dev/null; then
 else
     skipped 'tcsh as login shell: it is not installed'
 fi
+
+# Slurm runs each part as a job of an array.
+. "$root/tests/shell/slurm.sh"
+if [ -n "$why" ]; then
+    skipped "Slurm: $why"
+    summary
+    exit
+fi
+export CSPARTS=$fresh/array SRV=$fresh/array-srv
+mkdir -p "$CSPARTS" "$SRV"
+csparts -m 400K cut "$tree" > "$fresh/due"
+array() {
+    batch sbatch --array="1-$(wc -l < "$fresh/due")" --output="$fresh/job.%a" "$@" \
+        --wrap "exec csparts -j 1 index \"\$(sed -n \"\${SLURM_ARRAY_TASK_ID}p\" $fresh/due)\"" > "$fresh/err" 2>&1
+}
+array --wait; expect 'Slurm: an array of parts' 0 $?
+csparts status > "$fresh/status"; expect 'Slurm: all are indexed' 0 $?
+all; alike -c shared
+for part in "$CSPARTS"/*.part; do echo 'by Slurm' >> "$(sed -n '1s/^[0-9]*\t//p' "$part")/a.c"; done; rest
+csparts cut > "$fresh/due"
+mkdir "$CSPARTS/0001.index~"
+array --wait; expect 'Slurm: a part that fails' 2 $?
+that 'it is named' grep -q '^csparts: part 0001: failed' "$fresh/job.1"
+rmdir "$CSPARTS/0001.index~"
+csparts cut > "$fresh/due"
+: > "$SRV/slow-cindex"
+array; expect 'Slurm: an array is started' 0 $?
+batch_works() { comms slurm | grep -q -x sleep; }
+batch_rests() { ! batch_works; }
+within 'Slurm: its parts are indexed' 20 batch_works
+batch scancel --user root
+within 'Slurm: scancel ends the indexers' 10 batch_rests
+rm "$SRV/slow-cindex"
+index 0 'an update after that'
+all; alike -l 'by Slurm'
 summary

@@ -6,7 +6,7 @@
 
 . "$(dirname -- "$0")/library.sh"
 
-needs awk flock setpriv
+needs awk setpriv
 [ -x /usr/bin/python3 ] || { skipped 'all of parts.sh: there is no /usr/bin/python3'; summary; exit; }
 PATH=$PATH:/usr/sbin:/sbin
 LC_ALL=C
@@ -58,7 +58,7 @@ expect 'the script as it is installed' 'csparts: usage: csparts [-g] [-u] [-d DI
     "$("$root/bin/csparts" 2>&1 | head -n 1)"
 export CSPARTS=$fresh/parts
 tree=$fresh/src
-one() { CSEARCHINDEX=$fresh/one csearch "$@"; }
+one() { CSEARCHINDEX=$fresh/one csearch "$@" 2> /dev/null; }
 all() { CSEARCHINDEX=$fresh/one cindex "$tree"; }
 # alike ARGUMENTS..: csparts finds the lines that one index has
 alike() {

@@ -61,9 +61,12 @@ uses() {
     same came wanted
 }
 
-# uses_parts COMMAND: csparts, where there is Python
+# uses_parts COMMAND: csparts, if Python is there or can be installed
 uses_parts() {
-    $1 'command -v python3' > /dev/null || { skipped "csparts: no python3 for: $1"; return; }
+    if ! $1 'command -v python3 || DEBIAN_FRONTEND=noninteractive apt-get install -y -qq --no-install-recommends python3' > "$fresh/said" 2>&1; then
+        skipped "csparts in a fresh Debian: $(tail -n 1 "$fresh/said")"
+        return
+    fi
     $1 'mkdir -p /t/src && echo a marker > /t/src/a.c && export HOME=/t && csparts cut /t/src && csparts index && csparts search -n marker; rm -rf /t' > "$fresh/came" 2>&1
     printf '0001\n/t/src/a.c:1:a marker\n' > "$fresh/wanted"
     same came wanted

@@ -80,7 +80,8 @@ impl HeldPattern {
         lines: &mut [Line],
         count: &mut usize,
     ) -> i32
-        ensures code { IsLinesCode self.old.pattern block.now lines.old lines.new count.old count.new result }
+        ensures code { IsLinesCode self.old.pattern block.now lines.old lines.new
+            count.old count.new result }
         ensures same { self.new ≡ self.old }
     {
         let Ok(mut matcher) = matcher_of(alloc, &mut self.cache, &self.program) else {
@@ -113,8 +114,8 @@ impl HeldPattern {
         out: &mut [u8],
         len: &mut usize,
     ) -> i32
-        ensures code { IsReportCode self.old.pattern input.now.name.now input.now.text.now input.now.style
-            out.old out.new len.old len.new result }
+        ensures code { IsReportCode self.old.pattern input.now.name.now input.now.text.now
+            input.now.style out.old out.new len.old len.new result }
         ensures same { self.new ≡ self.old }
     {
         let Ok(name) = from_utf8(input.name) else {

@@ -27,7 +27,7 @@ use Rattle.cs_search.specs.InputReport.{max_searched}
 use Rattle.cs_search.specs.Cgrep.{cgrep_printed, standard_name, PatternFirst, PrintsFaultsOf, IsGrep}
 use Rattle.cs_search.specs.Programs.{IsProgramOf, RefusesPattern}
 use Rattle.cs_search.specs.Refusals.{IsAccepted, DecidesText, SilentOnError, has_write_failed}
-use Rattle.cs_search.specs.SearchEffects.{EndsOutputs}
+use Rattle.cs_search.specs.SearchEffects.{EndsBoth}
 use Rattle.cs_search.specs.GrepFaults.{IsSearchFault}
 use Rattle.cs_args.specs.declared.fault.ToolFault.{ToolFault}
 use Rattle.cs_args.specs.declared.fault.ToolFault.TheVariants.{Write, Memory}
@@ -119,7 +119,7 @@ pub ended_outputs : {O E : Type 0} (out_model : O → Option SinkModel) (out_fai
     MatchResult answer (λ _. GrowsFlushed (out_model now) (out_model later) []) (λ _. MayEnd [] (out_model now) (out_model later)) →
     EndsAfter [] (err_model err-now) (err_model err-later) answer →
     CountsOne (has_write_failed answer) (out_failed now) (out_failed later) (err_failed err-now) (err_failed err-later) →
-    EndsOutputs out_model out_failed err_model err_failed out later err err-later answer
+    EndsBoth out_model out_failed err_model err_failed out later err err-later answer
 ended_outputs out_model out_failed err_model err_failed out now later err err-now err-later answer same ends ends-err counts = (
   ended_flushed (out_model out) (out_model now) (out_model later) (err_model err) (err_model err-now) (err_model err-later) answer
       ends ends-err,

@@ -38,9 +38,9 @@ is_grep_failure Write = true
 is_grep_failure Memory = false
 
 -- The input counts a failed read, and the output a failed write.
-abbrev pub CountsFailures : {R O A : Type 0} → (R → ℕ) → (O → ℕ) → Bool → R → R → O → O → Result A GrepFault → Type 0
-CountsFailures read_failed write_failed failed input input' out out' result =
-    (read_failed input' ≡ count_if failed (read_failed input))
+abbrev pub CountsBoth : {R O A : Type 0} → (Result A GrepFault → Bool) → (R → ℕ) → (O → ℕ) → R → R → O → O → Result A GrepFault → Type 0
+CountsBoth has_read_failed read_failed write_failed input input' out out' result =
+    (read_failed input' ≡ count_if (has_read_failed result) (read_failed input))
     × (write_failed out' ≡ count_after is_grep_failure result (write_failed out))
 
 -- A search that has begun fails only for a failed write or out of memory.

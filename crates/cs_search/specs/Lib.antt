@@ -42,6 +42,7 @@ pub mod Cgrep
 pub mod Csearch
 pub mod SearchHeadline
 pub mod Searched
+pub mod SearchedBy
 pub mod StoredSearch
 pub mod SameSearch
 pub mod SearchLaws

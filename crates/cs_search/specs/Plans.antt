@@ -11,6 +11,7 @@ use Rattle.cs_index.specs.Answerable.{is_answerable}
 use Rattle.cs_args.specs.declared.jobs.SearchJob.{SearchJob}
 use Rattle.cs_args.specs.declared.fault.ToolFault.{ToolFault}
 use Rattle.cs_search.specs.declared.plan.Plan.{Plan}
+use Rattle.cs_search.specs.declared.plan.PlannedJob.{PlannedJob}
 use Rattle.cs_search.specs.declared.status.Status.{Status}
 use Rattle.cs_search.specs.Refusals.{has_write_failed}
 use Rattle.cs_search.specs.Csearch.{file_text, OpensWith, RefusedInOrder}
@@ -39,5 +40,6 @@ pub record AreSelected (plan : Plan) (index : Option (List ℕ)) (texts : List (
   pub kept : AreKept plan.file parts.names (candidates_of parts plan.query) texts
 
 -- the names that the plan selects, or an error that is right for the job
-abbrev pub SelectsOrRefuses : SearchJob → Plan → Option (List ℕ) → Result (Vec (String Global) Global) ToolFault → Type 0
-SelectsOrRefuses job plan index answer = MatchResult answer (λ names. AreSelected plan index names.items) (RefusesPlan job index)
+abbrev pub SelectsOrRefuses : PlannedJob → Option (List ℕ) → Result (Vec (String Global) Global) ToolFault → Type 0
+SelectsOrRefuses planned index answer =
+    MatchResult answer (λ names. AreSelected planned.plan.now index names.items) (RefusesPlan planned.job.now index)

@@ -27,8 +27,8 @@ HasNotBegun out_model err_model failed longest out out' err err' tree tree' =
 module _ {O E : Type 0} (out_model : O → Option SinkModel) (out_failed : O → ℕ) (err_model : E → Option SinkModel) (err_failed : E → ℕ)
     (out out' : O) (err err' : E) where
   -- Without an error both outputs are flushed. A failed write is counted by one of them.
-  abbrev pub EndsOutputs : {A : Type 0} → Result A ToolFault → Type 0
-  EndsOutputs answer =
+  abbrev pub EndsBoth : {A : Type 0} → Result A ToolFault → Type 0
+  EndsBoth answer =
       OnOk answer (HasFlushed (out_model out') × HasFlushed (err_model err'))
       × CountsOne (has_write_failed answer) (out_failed out) (out_failed out') (err_failed err) (err_failed err')
 

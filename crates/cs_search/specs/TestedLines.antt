@@ -99,3 +99,9 @@ module _ (tree : Tree) (style : Style) (name : List ℕ) (lines : List (List ℕ
   EndsBy result = MatchResult result
       (λ _. (has_match : List ℕ → Bool) → Decides has_match tree → Ends style name has_match lines before after sink later)
       (λ _. (has_match : List ℕ → Bool) → Decides has_match tree → EndsPrefix style name has_match lines before after sink later)
+
+-- The lines of a block that have ended were tested, unless one was listed.
+abbrev pub TestsBlock : {A : Type 0} → Tree → Style → List ℕ → List ℕ → Tally → Tally → Option SinkModel → Option SinkModel →
+    (A → Bool) → Result A GrepFault → Type 0
+TestsBlock tree style name block before after sink later is_listed result =
+    TestsUnlessListed tree style name (terminated_lines block) before after sink later is_listed result

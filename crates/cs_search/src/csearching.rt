@@ -1,12 +1,11 @@
 // Search by a trigram index (Cox): a query of the pattern selects candidates, which are searched line by line.
 ghost use Rattle.std.specs.Prelude.{None, option_copied};
 ghost use Rattle.cs_search.specs.Refusals.{SilentOnError};
-ghost use Rattle.cs_search.specs.SearchEffects.{SearchesTree, HasNotBegun, EndsOutputs};
+ghost use Rattle.cs_search.specs.SearchEffects.{SearchesTree, HasNotBegun, EndsBoth};
 ghost use Rattle.cs_search.specs.Plans.{RefusesPlan};
 ghost use Rattle.cs_search.specs.Csearch.{IsSound};
 ghost use Rattle.cs_trigram.specs.QueryOf.{IsQueryOf};
-ghost use Rattle.cs_search.specs.Printed.{search_outputs};
-ghost use Rattle.cs_search.specs.Searched.{IsSearch};
+ghost use Rattle.cs_search.specs.SearchedBy.{SearchesBy};
 
 use crate::plan::Plan;
 use crate::status::Status;
@@ -33,14 +32,14 @@ pub fn csearch<T: Tree, O: Sink, E: Sink>(
     out: &mut O,
     err: &mut E,
 ) -> Result<Status, ToolFault>
-    ensures searches { IsSearch IsSound job.now (option_copied index.entry) (T.snapshot tree.old) (T.failed tree.old)
-        (T.failed tree.new) (search_outputs O.model E.model out.old out.new err.old err.new) result }
-    ensures selective { IsSearch IsQueryOf job.now (option_copied index.entry) (T.snapshot tree.old) (T.failed tree.old)
-        (T.failed tree.new) (search_outputs O.model E.model out.old out.new err.old err.new) result }
+    ensures searches { SearchesBy IsSound T.snapshot T.failed O.model E.model job.now
+        (option_copied index.entry) tree.old tree.new out.old out.new err.old err.new result }
+    ensures selective { SearchesBy IsQueryOf T.snapshot T.failed O.model E.model job.now
+        (option_copied index.entry) tree.old tree.new out.old out.new err.old err.new result }
     ensures silent { SilentOnError result (HasNotBegun O.model E.model T.failed T.longest_requested
         out.old out.new err.old err.new tree.old tree.new) }
     ensures tree { SearchesTree T.snapshot T.read_counts tree.old tree.new }
-    ensures outputs { EndsOutputs O.model O.failed E.model E.failed out.old out.new err.old err.new result }
+    ensures outputs { EndsBoth O.model O.failed E.model E.failed out.old out.new err.old err.new result }
 {
     let Some(bytes) = index else {
         return Err(without_index(alloc, job));

@@ -2,7 +2,7 @@
 ghost use Rattle.std.specs.Prelude.{◌≡◌, ◌≤◌, ◌<◌, ◌+◌, ◌^◌, [], IfOk, IsOkUnless, length};
 ghost use Rattle.cs_tree.specs.Failures.{count_if};
 ghost use Rattle.cs_search.specs.Buffer.{pending_bytes};
-ghost use Rattle.cs_search.specs.GrepFaults.{CountsFailures};
+ghost use Rattle.cs_search.specs.GrepFaults.{CountsBoth};
 ghost use Rattle.cs_search.specs.Progress.{StopsHere, Stops, UnlessListed, TestsInputBy, has_stop_failed};
 ghost use Rattle.cs_search.specs.TestedLines.{IsUnlisted};
 ghost use Rattle.cs_search.specs.SearchedWork.{SearchesLines, ReadsOne};
@@ -38,7 +38,7 @@ pub(crate) fn search_input<R: Source, O: Sink>(
         (O.model out.old) (O.model out.new) buffer.old.left (R.model input.old) result }
     ensures unlisted { IfOk result (λ stop. UnlessListed stop (IsUnlisted printer.now.style tally.new)) }
     ensures same { matcher.new.tree ≡ matcher.old.tree }
-    ensures counts { CountsFailures R.failed O.failed (has_stop_failed result) input.old input.new out.old out.new result }
+    ensures counts { CountsBoth has_stop_failed R.failed O.failed input.old input.new out.old out.new result }
     ensures keeps { R.Keeps input.old input.new }
     ensures work { SearchesLines (pending_bytes buffer.new) result (buffer.old.left + 1)
         (R.model input.old) (R.model input.new) matcher.old matcher.new }

@@ -8,7 +8,7 @@ ghost use Rattle.cs_match.specs.NoNewline.{HasNoNewline};
 ghost use Rattle.cs_match.specs.Skipping.{AreWholeLines};
 ghost use Rattle.cs_match.specs.LastPart.{last_part};
 ghost use Rattle.cs_match.specs.Work.{line_work};
-ghost use Rattle.cs_search.specs.TestedLines.{SameNumber, CountsBlock, IsUnlisted, TestsBy, TestsUnlessListed};
+ghost use Rattle.cs_search.specs.TestedLines.{SameNumber, CountsBlock, IsUnlisted, TestsBy, TestsBlock};
 ghost use Rattle.cs_search.specs.Work.{searched_work};
 ghost use Rattle.cs_search.specs.SearchedWork.{StepsWithin, ended_work};
 
@@ -111,7 +111,7 @@ fn search_lines<O: Sink>(
     requires unlisted { IsUnlisted printer.now.style tally.old }
     ensures lines { IfOk result (λ listed. listed ≡ false →
         CountsBlock printer.now.style tally.old tally.new block.now) }
-    ensures tests { TestsUnlessListed matcher.old.tree printer.now.style printer.now.name.now (terminated_lines block.now)
+    ensures tests { TestsBlock matcher.old.tree printer.now.style printer.now.name.now block.now
         tally.old tally.new (O.model out.old) (O.model out.new) (λ listed. listed) result }
     ensures unlisted { IfOk result (λ listed. listed ≡ false → IsUnlisted printer.now.style tally.new) }
     ensures failed { O.failed out.new ≡ count_after is_grep_failure result (O.failed out.old) }
@@ -159,9 +159,9 @@ pub(crate) fn search_block<O: Sink>(
         (λ start. (start ≤ length block.now) × (drop start block.now ≡ last_part block.now))) }
     ensures lines { IfOk result (λ answer. IfSome answer
         (λ start. CountsBlock printer.now.style tally.old tally.new block.now)) }
-    ensures tests { TestsUnlessListed matcher.old.tree printer.now.style printer.now.name.now (terminated_lines block.now)
+    ensures tests { TestsBlock matcher.old.tree printer.now.style printer.now.name.now block.now
         tally.old tally.new (O.model out.old) (O.model out.new) is_none result }
-    ensures unlisted { IfOk result (λ answer. IfSome answer (λ start. IsUnlisted printer.now.style tally.new)) }
+    ensures unlisted { IfOk result (λ answer. IfSome answer (λ _. IsUnlisted printer.now.style tally.new)) }
     ensures failed { O.failed out.new ≡ count_after is_grep_failure result (O.failed out.old) }
     ensures work { StepsWithin (ended_work matcher.old.tree block.now + (length block.now - scanned))
         matcher.old matcher.new }

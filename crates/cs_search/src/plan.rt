@@ -6,7 +6,7 @@ ghost use Rattle.cs_trigram.specs.QueryOf.{IsQueryOf};
 ghost use Rattle.cs_search.specs.Plans.{IsPlan, AreSelected, RefusesPlan};
 ghost use Rattle.cs_search.specs.Printed.{search_outputs};
 ghost use Rattle.cs_search.specs.Refusals.{SilentOnError};
-ghost use Rattle.cs_search.specs.SearchEffects.{SearchesTree, HasNotBegun, EndsOutputs};
+ghost use Rattle.cs_search.specs.SearchEffects.{SearchesTree, HasNotBegun, EndsBoth};
 ghost use Rattle.cs_search.specs.Searched.{IsSearch};
 
 use crate::name_filter::compile_file;
@@ -43,7 +43,7 @@ impl Plan {
     /// Compiles the job. An error of the pattern comes before one of the `-f` pattern.
     pub(crate) fn new(alloc: Global, job: &SearchJob) -> Result<Plan, ToolFault>
         ensures plan { IfOk result (IsPlan job.now) }
-        ensures refused { IfErr result (λ fault. (index : Option (List ℕ)) → RefusesPlan job.now index fault) }
+        ensures refused { IfErr result (λ why. (index : Option (List ℕ)) → RefusesPlan job.now index why) }
     {
         let pattern = parse(alloc, job.pattern.as_str(), job.fold)?;
         Plan::of_pattern(alloc, job, &pattern)
@@ -54,7 +54,7 @@ impl Plan {
         requires reads { ParsesAs (string_bytes job.now.pattern) job.now.fold pattern.now }
         requires light { weight pattern.now ≤ max_weight }
         ensures plan { IfOk result (IsPlan job.now) }
-        ensures refused { IfErr result (λ fault. (index : Option (List ℕ)) → RefusesPlan job.now index fault) }
+        ensures refused { IfErr result (λ why. (index : Option (List ℕ)) → RefusesPlan job.now index why) }
     {
         let query = query_of(alloc, job.brute, pattern)?;
         let program = Program::compile(alloc, pattern)?;
@@ -91,7 +91,7 @@ impl PlannedJob<'_> {
         ensures silent { SilentOnError result (HasNotBegun O.model E.model T.failed T.longest_requested
             out.old out.new err.old err.new tree.old tree.new) }
         ensures tree { SearchesTree T.snapshot T.read_counts tree.old tree.new }
-        ensures outputs { EndsOutputs O.model O.failed E.model E.failed out.old out.new err.old err.new result }
+        ensures outputs { EndsBoth O.model O.failed E.model E.failed out.old out.new err.old err.new result }
     {
         // The names are those that some test keeps.
         matching_is_decidable();

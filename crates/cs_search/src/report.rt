@@ -6,7 +6,7 @@ ghost use Rattle.cs_match.specs.LastPart.{last_line};
 ghost use Rattle.cs_match.specs.Work.{line_work};
 ghost use Rattle.cs_search.specs.GrepReports.{ReportsBy};
 ghost use Rattle.cs_search.specs.InputReport.{max_searched, input_report};
-ghost use Rattle.cs_search.specs.GrepFaults.{CountsFailures, is_grep_failure, has_read_failed};
+ghost use Rattle.cs_search.specs.GrepFaults.{CountsBoth, is_grep_failure, has_read_failed};
 ghost use Rattle.cs_search.specs.TestedLines.{TestsBy, EndsBy};
 ghost use Rattle.cs_search.specs.Work.{TakesSteps, input_work};
 ghost use Rattle.cs_search.specs.SearchedWork.{StepsWithin};
@@ -45,7 +45,7 @@ pub fn grep<R: Source, O: Sink>(
 ) -> Result<Grepped, GrepFault>
     ensures report { ReportsBy matcher.old.tree (R.model input.old) (input_report max_searched style name.now)
         (O.model out.old) (O.model out.new) result }
-    ensures counts { CountsFailures R.failed O.failed (has_read_failed result) input.old input.new out.old out.new result }
+    ensures counts { CountsBoth has_read_failed R.failed O.failed input.old input.new out.old out.new result }
     ensures loses { ConsumesAtMost (max_searched + 1) (R.model input.old) (R.model input.new) }
     ensures same { matcher.new.tree ≡ matcher.old.tree }
     ensures keeps { R.Keeps input.old input.new }
@@ -75,7 +75,7 @@ pub fn grep_within<R: Source, O: Sink>(
     requires { limit < 2 ^ 32 }
     ensures report { ReportsBy matcher.old.tree (R.model input.old)
         (input_report limit printer.now.style printer.now.name.now) (O.model out.old) (O.model out.new) result }
-    ensures counts { CountsFailures R.failed O.failed (has_read_failed result) input.old input.new out.old out.new result }
+    ensures counts { CountsBoth has_read_failed R.failed O.failed input.old input.new out.old out.new result }
     ensures loses { ConsumesAtMost (limit + 1) (R.model input.old) (R.model input.new) }
     ensures same { matcher.new.tree ≡ matcher.old.tree }
     ensures keeps { R.Keeps input.old input.new }

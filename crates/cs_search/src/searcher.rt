@@ -4,6 +4,8 @@ ghost use Rattle.cs_args.specs.FileFaults.{fault_line_of};
 ghost use Rattle.cs_tree.specs.Failures.{count_if};
 ghost use Rattle.cs_tree.specs.ConsumesAtMost.{ConsumesAtMost};
 ghost use Rattle.cs_tree.specs.WritesBytes.{WritesBytes};
+ghost use Rattle.cs_args.specs.declared.fault.FileFault.TheVariants.{Failed, InputTooLong};
+ghost use Rattle.cs_search.specs.declared.grep_fault.ReadFault.TheVariants.{Read, TooLong};
 ghost use Rattle.cs_search.specs.InputReport.{max_searched};
 ghost use Rattle.cs_search.specs.Printed.{search_outputs};
 ghost use Rattle.cs_search.specs.Refusals.{has_write_failed};
@@ -169,7 +171,7 @@ impl<'p> Searcher<'p> {
 
 /// The fault of an input, as that of a file.
 fn of_input(fault: ReadFault) -> FileFault
-    ensures { result ≡ elim fault [ ReadFault.Read ↦ FileFault.Failed | ReadFault.TooLong ↦ FileFault.InputTooLong ] }
+    ensures { result ≡ elim fault [ Read ↦ Failed | TooLong ↦ InputTooLong ] }
 {
     match fault {
         ReadFault::Read => FileFault::Failed,

@@ -7,7 +7,7 @@ ghost use Rattle.cs_tree.specs.WritesBytes.{WritesBytes};
 ghost use Rattle.cs_search.specs.InputReport.{max_searched};
 ghost use Rattle.cs_search.specs.Cgrep.{cgrep_printed, PrintsFaultsOf, IsGrep};
 ghost use Rattle.cs_search.specs.Refusals.{SilentOnError};
-ghost use Rattle.cs_search.specs.SearchEffects.{SearchesTree, HasNotBegun, EndsOutputs};
+ghost use Rattle.cs_search.specs.SearchEffects.{SearchesTree, HasNotBegun, EndsBoth};
 ghost use Rattle.cs_search.specs.Programs.{IsProgramOf, RefusesPattern};
 ghost use Rattle.cs_search.specs.Searcher.{PrintsResult, CountsSearchFault};
 ghost use Rattle.cs_search.specs.Printed.{search_outputs};
@@ -43,7 +43,7 @@ pub fn cgrep<T: Tree, R: Source, O: Sink, E: Sink>(
         out.old out.new err.old err.new tree.old tree.new
         × (R.failed input.new ≡ R.failed input.old) × (R.model input.new ≡ R.model input.old)) }
     ensures tree { SearchesTree T.snapshot T.read_counts tree.old tree.new }
-    ensures outputs { EndsOutputs O.model O.failed E.model E.failed out.old out.new err.old err.new result }
+    ensures outputs { EndsBoth O.model O.failed E.model E.failed out.old out.new err.old err.new result }
     ensures input_keeps { R.Keeps input.old input.new }
 {
     let program = compile(alloc, job)?;

@@ -82,7 +82,7 @@ impl<'p> Selection<'p> {
     ) -> Result<Selection<'p>, AllocError>
         ensures selected { IfOk result (λ selection. (bytes : List ℕ) (parts : Parts) →
             StandsIn bytes index.now parts → HasSelected bytes parts [] selection) }
-        ensures file { IfOk result (λ selection. matcher_tree selection.filter.matcher ≡ option_copied file.entry) }
+        ensures file { IfOk result (λ s. matcher_tree s.filter.matcher ≡ option_copied file.entry) }
     {
         let filter = NameFilter::new(alloc, file)?;
         Ok(Selection {

@@ -5,9 +5,8 @@ ghost use Rattle.cs_search.specs.Refusals.{has_write_failed, SilentOnError};
 ghost use Rattle.cs_search.specs.Csearch.{IsSound, AreAccepted};
 ghost use Rattle.cs_trigram.specs.QueryOf.{IsQueryOf};
 ghost use Rattle.cs_search.specs.Plans.{IsPlan, SelectsOrRefuses};
-ghost use Rattle.cs_search.specs.Printed.{search_outputs};
-ghost use Rattle.cs_search.specs.SearchEffects.{SearchesTree, HasNotBegun, LeavesTree, LeavesOutputs, EndsOutputs};
-ghost use Rattle.cs_search.specs.Searched.{IsSearch};
+ghost use Rattle.cs_search.specs.SearchEffects.{SearchesTree, HasNotBegun, LeavesTree, LeavesOutputs, EndsBoth};
+ghost use Rattle.cs_search.specs.SearchedBy.{SearchesBy};
 ghost use Rattle.cs_search.specs.StoredSearch.{IsOpened, IfRead, IsUnopened};
 
 use crate::plan::{Plan, PlannedJob};
@@ -35,19 +34,19 @@ pub fn csearch_stored<S: Store, T: Tree, O: Sink, E: Sink>(
     err: &mut E,
 ) -> Result<Result<Status, ToolFault>, IoFault>
     requires { IsOpened (S.model store.old) opened }
-    ensures searches { IfRead (S.model store.old) result (λ index answer.
-        IsSearch IsSound job.now index (T.snapshot tree.old) (T.failed tree.old) (T.failed tree.new)
-        (search_outputs O.model E.model out.old out.new err.old err.new) answer) }
-    ensures selective { IfRead (S.model store.old) result (λ index answer.
-        IsSearch IsQueryOf job.now index (T.snapshot tree.old) (T.failed tree.old) (T.failed tree.new)
-        (search_outputs O.model E.model out.old out.new err.old err.new) answer) }
+    ensures searches { IfRead (S.model store.old) result (λ index. SearchesBy IsSound T.snapshot T.failed
+        O.model E.model job.now index tree.old tree.new out.old out.new err.old err.new) }
+    ensures selective { IfRead (S.model store.old) result (λ index. SearchesBy IsQueryOf T.snapshot T.failed
+        O.model E.model job.now index tree.old tree.new out.old out.new err.old err.new) }
     ensures unopened { IfErr opened (λ fault. IsUnopened job.now fault result) }
-    ensures silent { IfOk result (λ answer. SilentOnError answer (HasNotBegun O.model E.model T.failed T.longest_requested
-        out.old out.new err.old err.new tree.old tree.new)) }
-    ensures unread { IfErr result (λ _. AreAccepted job.now × LeavesTree T.failed T.longest_requested tree.old tree.new
+    ensures silent { IfOk result (λ answer. SilentOnError answer (HasNotBegun O.model E.model
+        T.failed T.longest_requested out.old out.new err.old err.new tree.old tree.new)) }
+    ensures unread { IfErr result (λ _. AreAccepted job.now
+        × LeavesTree T.failed T.longest_requested tree.old tree.new
         × LeavesOutputs O.model O.failed E.model E.failed out.old out.new err.old err.new) }
     ensures tree { SearchesTree T.snapshot T.read_counts tree.old tree.new }
-    ensures outputs { IfOk result (EndsOutputs O.model O.failed E.model E.failed out.old out.new err.old err.new) }
+    ensures outputs { IfOk result
+        (EndsBoth O.model O.failed E.model E.failed out.old out.new err.old err.new) }
     ensures store { KeepsStore S.model S.size S.failed store.old store.new result }
 {
     let plan = match Plan::new(alloc, job) {
@@ -76,7 +75,7 @@ fn select<S: Store>(
 ) -> Result<Result<Vec<String>, ToolFault>, IoFault>
     requires plan { IsPlan planned.now.job.now planned.now.plan.now }
     requires opened { IsOpened (S.model store.old) opened }
-    ensures answers { IfRead (S.model store.old) result (SelectsOrRefuses planned.now.job.now planned.now.plan.now) }
+    ensures answers { IfRead (S.model store.old) result (SelectsOrRefuses planned.now) }
     ensures unopened { IfErr opened (λ fault. IsUnopened planned.now.job.now fault result) }
     ensures unwritten { IfOk result (λ answer. has_write_failed answer ≡ false) }
     ensures store { KeepsStore S.model S.size S.failed store.old store.new result }

@@ -7,18 +7,21 @@ ghost use Rattle.cs_syntax.specs.Cuts.{AreCuts, AreCutsOf};
 ghost use Rattle.cs_syntax.specs.Node.{tree_of};
 ghost use Rattle.cs_syntax.specs.NodeList.{trees_of};
 ghost use Rattle.cs_match.specs.LookBehind.{look_behind};
-ghost use Rattle.cs_match.specs.ByteClasses.{AreClasses, AreNumbered, IsAscending, StepAlike, begins_at, HaveBoth, AllHaveBoth, AddsMarks};
+ghost use Rattle.cs_match.specs.ByteClasses.{AreClasses, AreNumbered, HaveEnds, StepAlike, begins_at, HaveBoth, AllHaveBoth, AddsMarks};
 ghost use Rattle.cs_match.specs.Digits.{IsNoDigit};
 
 use crate::look_around::LookBehind;
 use cs_syntax::{ByteSet, CharSet, CharStep, Cuts, Node, Unfinished};
-use memchr::{memchr, memrchr};
 
 /// The classes of the bytes, numbered in ascending order.
 #[derive(Clone, Copy, Drop)]
 pub(crate) struct ByteClasses {
     /// The class of each byte.
     pub(crate) of: [u8; 256],
+    /// The first byte of the class of each byte.
+    pub(crate) firsts: [u8; 256],
+    /// The last byte of each class.
+    pub(crate) lasts: [u8; 256],
     /// The number of classes.
     pub(crate) count: u16,
 }
@@ -33,6 +36,8 @@ impl ByteClasses {
         let mut begins = [0; 256];
         begins[b'\n' as usize] = 1;
         begins[b'\n' as usize + 1] = 1;
+        // Most text is ASCII: transitions over other bytes would be stored in vain.
+        begins[0x80] = 1;
         mark_words(&mut begins, bits);
         mark_sets(root, &mut begins);
         mark_cuts(&mut begins, bits, cuts);
@@ -41,35 +46,23 @@ impl ByteClasses {
 
     /// The first byte of the class of a byte.
     pub(crate) fn first(&self, byte: u8) -> u8
+        requires { HaveEnds self.now }
         ensures low { result ≤ byte }
         ensures class { slice_index self.now.of result ≡ slice_index self.now.of byte }
     {
-        match memchr(self.of[byte as usize], &self.of) {
-            Some(first) => first as u8,
-            None => byte,
-        }
-    }
-
-    /// The last byte of the class of a byte.
-    fn last(&self, byte: u8) -> u8
-        ensures high { byte ≤ result }
-        ensures class { slice_index self.now.of result ≡ slice_index self.now.of byte }
-    {
-        match memrchr(self.of[byte as usize], &self.of) {
-            Some(last) => last as u8,
-            None => byte,
-        }
+        self.firsts[byte as usize]
     }
 
     /// The range of the class of a byte: its first byte, and the byte after its last.
     pub(crate) fn range(&self, byte: u8) -> (usize, usize)
-        requires { IsAscending self.now.of }
+        requires { HaveEnds self.now }
         ensures low { result.0 ≤ byte }
         ensures high { (byte < result.1) × (result.1 ≤ 256) }
         ensures class { (b : ℕ) → result.0 ≤ b → b < result.1
             → slice_index self.now.of b ≡ slice_index self.now.of byte }
     {
-        (self.first(byte) as usize, self.last(byte) as usize + 1)
+        let last = self.lasts[self.of[byte as usize] as usize];
+        (self.first(byte) as usize, last as usize + 1)
     }
 }
 
@@ -78,15 +71,23 @@ fn number_classes(begins: &[u8; 256]) -> ByteClasses
     ensures { AreNumbered begins.now result }
 {
     let mut of = [0; 256];
+    let mut firsts = [0; 256];
+    let mut lasts = [0; 256];
     let mut last = 0u8;
+    let mut first = 0u8;
     for byte in 1..256usize {
         if is_begin(begins, byte) {
             last += 1;
+            first = byte as u8;
         }
         of[byte] = last;
+        firsts[byte] = first;
+        lasts[last as usize] = byte as u8;
     }
     ByteClasses {
         of,
+        firsts,
+        lasts,
         count: u16::from(last) + 1,
     }
 }

@@ -1,7 +1,7 @@
 use Rattle.std.proofs.Common.{◌≡◌, ◌⊎◌, ◌+◌, ◌-◌, ◌≤◌, ◌<◌, ◌∙◌, ℕ, false, inl, inr, length, set, get_or, sym, ap, arith, length-set, get_or-set_same, get_or-set_other}
 use Rattle.std.proofs.lemmas.Bool.{cases_lt}
 use Rattle.cs_match.specs.ByteClasses.{begins_at}
-use Rattle.cs_match.proofs.ByteClassLemmas.{numbered_on}
+use Rattle.cs_match.proofs.ByteClassLemmas.{numbered_on, lasts_on}
 use Rattle.cs_match.proofs.byte_classes.number_classes.Goals as goal
 use Rattle.cs_match.proofs.byte_classes.number_classes.Goals.{then-is_begin, else-is_begin}
 
@@ -27,6 +27,16 @@ loop-byte-preserved c =
     let last_is : get_or new byte 0 ≡ now = get_or-set_same old byte now 0 within in
     let kept : (b : ℕ) → b < byte → get_or new b 0 ≡ get_or old b 0 = λ b lt. get_or-set_other old byte b now 0 (λ e. omega (arith, e, lt)) in
     let next : byte + 1 - 1 ≡ byte = omega arith in
+    let first = c.if-is_begin.first in
+    let firsts = set c.loop-byte.firsts byte first in
+    let first_is : (first < byte + 1) × (get_or new first 0 ≡ now) =
+    elim c.if-is_begin.branch [
+      | then-is_begin w ↦ (omega (arith, w.first-is), ap (λ (k : ℕ). get_or new k 0) w.first-is ∙ last_is)
+      | else-is_begin w ↦ (
+        omega (arith, w.first-is, i.first.0),
+        ap (λ (k : ℕ). get_or new k 0) w.first-is ∙ kept c.loop-byte.first i.first.0 ∙ i.first.1 ∙ sym w.last-is,
+      )
+    ] in
     record {
       size = omega (arith, size, i.size);
       some = omega arith;
@@ -50,6 +60,26 @@ loop-byte-preserved c =
                   omega (arith, ap (λ (k : ℕ). get_or new k 0) both)
             ]
       ];
+      size_firsts = length-set c.loop-byte.firsts byte first ∙ i.size_firsts;
+      size_lasts = length-set c.loop-byte.lasts now byte ∙ i.size_lasts;
+      first = first_is;
+      firsts = λ b lt. elim (cases_lt b byte) [
+        | inl less ↦
+            let old_first = i.firsts b less in
+            let same = get_or-set_other c.loop-byte.firsts byte b first 0 (λ e. omega (arith, e, less)) in (
+              omega (arith, same, old_first.0),
+              ap (λ (k : ℕ). get_or new k 0) same ∙ kept (get_or c.loop-byte.firsts b 0) (omega (arith, old_first.0, less)) ∙ old_first.1
+                  ∙ sym (kept b less),
+            )
+        | inr ge ↦
+            let at : b ≡ byte = omega (arith, ge, lt) in
+            let same : get_or firsts b 0 ≡ first = ap (λ (k : ℕ). get_or firsts k 0) at
+            ∙ get_or-set_same c.loop-byte.firsts byte first 0 (omega (arith, i.size_firsts, c.loop-byte-test.true)) in (
+              omega (arith, same, first_is.0, at),
+              ap (λ (k : ℕ). get_or new k 0) same ∙ first_is.1 ∙ sym last_is ∙ sym (ap (λ (k : ℕ). get_or new k 0) at),
+            )
+      ];
+      lasts = lasts_on old new c.loop-byte.lasts byte now (omega (arith, i.size_lasts, bound, c.loop-byte-test.true)) kept last_is i.lasts;
       none = numbered_on begins old new byte last now i.some i.top i.below i.none kept last_is here rises;
     }
 
@@ -58,6 +88,10 @@ returns c =
     let i = c.loop-byte.invariant in
     record {
       none = λ b k at from to lt same. i.none b k at from to (omega (arith, lt, c.loop-byte-test.false)) same;
-      ascending = λ b at le lt. i.ascending b at le (omega (arith, lt, c.loop-byte-test.false));
+      ends = record {
+        ascending = λ b at le lt. i.ascending b at le (omega (arith, lt, c.loop-byte-test.false));
+        first = λ b lt. i.firsts b (omega (arith, lt, c.loop-byte-test.false));
+        last = λ b lt. let last = i.lasts b (omega (arith, lt, c.loop-byte-test.false)) in (last.0, last.2);
+      };
       range = λ b lt. omega (arith, i.below b (omega (arith, lt, c.loop-byte-test.false)), c.from.ensures);
     }

@@ -11,7 +11,7 @@ returns-in-Ok-clause-answers g c = λ bytes parts modelled stands.
     let candidates = subst (AreCandidates plan.query parts) c.in-Ok.is (c.in_ok-ids.ensures.answers bytes modelled parts stands) in
     let ids : c.deref.result.now ≡ candidates_of parts plan.query = c.deref.ensures.value ∙ candidates.0 in
     selects plan parts _ c.deref.result.now c.kept_names.result c.as_ref.ensures.value ids candidates.1
-    (c.kept_names.ensures.kept bytes parts (c.candidates.ensures.keeps ∙ modelled) stands
+    (c.kept_names.ensures.kept bytes parts (c.candidates.ensures.store.0 ∙ modelled) stands
     (subst (All (λ id. id < length parts.names)) (sym ids) (candidates_below parts plan.query)))
 
 pub returns-in-Err-clause-answers : goal.returns-in-Err-clause-answers

@@ -164,12 +164,7 @@ fn take_builder(alloc: Global, slot: &mut Slot) -> Option<Builder>
         return None;
     }
     match Box::into_inner(held) {
-        Held::Builder(
-            HeldBuilder {
-                builder,
-                scanner: _,
-            },
-        ) => Some(builder),
+        Held::Builder(held) => Some(held.into_builder()),
         _ => None,
     }
 }

@@ -1,4 +1,6 @@
 // What a slot holds.
+ghost use Rattle.std.specs.Prelude.{◌≡◌};
+
 use cs_index::Builder;
 use cs_match::{Cache, Program};
 use cs_syntax::Pattern;
@@ -7,12 +9,23 @@ use std::marker::Model;
 
 /// A pattern, its query and its program. The cache is that of the last matcher; it is made at the first match. Contracts
 /// see the pattern and the query.
-#[derive(Drop)]
 pub struct HeldPattern {
     pub(crate) pattern: Pattern,
     pub(crate) query: Query,
     pub(crate) program: Program,
     pub(crate) cache: Option<Cache>,
+}
+
+// A body that owns a held pattern or builder drops it by a call. A derived `drop` would stand there with each field.
+impl Drop for HeldPattern {
+    fn drop(self) {
+        let HeldPattern {
+            pattern: _pattern,
+            query: _query,
+            program: _program,
+            cache: _cache,
+        } = self;
+    }
 }
 
 impl Model for HeldPattern {
@@ -34,10 +47,30 @@ impl Model for HeldPattern {
 }
 
 /// An index under construction, and the scanner of its texts.
-#[derive(Drop)]
 pub struct HeldBuilder {
     pub(crate) builder: Builder,
     pub(crate) scanner: Scanner,
+}
+
+impl HeldBuilder {
+    pub(crate) fn into_builder(self) -> Builder
+        ensures { result ≡ self.builder }
+    {
+        let HeldBuilder {
+            builder,
+            scanner: _scanner,
+        } = self;
+        builder
+    }
+}
+
+impl Drop for HeldBuilder {
+    fn drop(self) {
+        let HeldBuilder {
+            builder: _builder,
+            scanner: _scanner,
+        } = self;
+    }
 }
 
 /// What a slot holds.

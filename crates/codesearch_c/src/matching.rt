@@ -82,8 +82,8 @@ fn prepared(alloc: Global, pattern: Pattern) -> Result<Box<Held>, AllocError>
         OnPattern (Some held.value) (false ≡ true) (λ p.
         (p.pattern ≡ pattern) × IsQueryOf false p.pattern p.query)) }
 {
-    let program = Program::compile(alloc, &pattern)?;
     let query = query(alloc, &pattern)?;
+    let program = Program::compile(alloc, &pattern)?;
     let held = HeldPattern {
         pattern,
         query,

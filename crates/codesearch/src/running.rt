@@ -15,7 +15,7 @@ use cs_args::{
 use cs_cindex::{JobCall, cindex_stored};
 use cs_index::StoredIndex;
 use cs_output::Output;
-use cs_search::{Status, cgrep, csearch, csearch_stored};
+use cs_search::{SearchCall, Status, cgrep, csearch, csearch_stored};
 use cs_storage::IndexUpdate;
 use cs_tree::{IoFault, Sink, Source, Store, Tree, read_part};
 use std::alloc::Global;
@@ -174,7 +174,7 @@ fn search_index<'a, S: Store, T: Tree, R: Source, O: Sink, E: Sink>(
             let alloc = world.alloc;
             let opened = StoredIndex::open(alloc, store)?;
             let (tree, out, err) = (&mut world.tree, &mut world.out, &mut world.err);
-            let answer = csearch_stored(alloc, job, opened, store, tree, out, err)?;
+            let answer = csearch_stored(SearchCall { alloc, job }, opened, store, tree, out, err)?;
             Ok(searched(Tool::Csearch, answer))
         }
         None => {

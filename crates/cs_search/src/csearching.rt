@@ -9,7 +9,7 @@ ghost use Rattle.cs_search.specs.SearchedBy.{SearchesBy};
 
 use crate::plan::Plan;
 use crate::status::Status;
-use crate::stored::csearch_stored;
+use crate::stored::{SearchCall, csearch_stored};
 use cs_args::{SearchJob, ToolFault};
 use cs_index::StoredIndex;
 use cs_tree::{MemStore, Sink, Tree};
@@ -49,7 +49,14 @@ pub fn csearch<T: Tree, O: Sink, E: Sink>(
     let Ok(opened) = StoredIndex::open(alloc, &mut store) else {
         return Err(ToolFault::Memory);
     };
-    match csearch_stored(alloc, job, opened, &mut store, tree, out, err) {
+    match csearch_stored(
+        SearchCall { alloc, job },
+        opened,
+        &mut store,
+        tree,
+        out,
+        err,
+    ) {
         Ok(answer) => answer,
         Err(_) => Err(ToolFault::Memory),
     }

@@ -31,5 +31,5 @@ pub use printer::Printer;
 pub use report::{MAX_SEARCHED, grep, grep_within};
 pub use searching::cgrep;
 pub use status::Status;
-pub use stored::csearch_stored;
+pub use stored::{SearchCall, csearch_stored};
 pub use texts::grep_text;

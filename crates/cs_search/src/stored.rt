@@ -17,6 +17,13 @@ use cs_index::{IndexFault, StoredIndex};
 use cs_tree::{IoFault, Sink, Store, Tree};
 use std::alloc::Global;
 
+/// A job of `csearch`, and the allocator for its work.
+#[derive(Clone, Copy, Drop)]
+pub struct SearchCall<'a> {
+    pub alloc: Global,
+    pub job: &'a SearchJob,
+}
+
 /// `csearch` over the bytes of a store; `opened` is what `StoredIndex::open` returned for it. Only the posting lists
 /// that the query requires and the names of the candidates are read, before anything is printed.
 ///
@@ -25,8 +32,7 @@ use std::alloc::Global;
 /// The outer result is that of the store: if it cannot be read, nothing was printed, and both patterns were accepted.
 /// Errors of the patterns, and then of the index, come before that, in the inner result.
 pub fn csearch_stored<S: Store, T: Tree, O: Sink, E: Sink>(
-    alloc: Global,
-    job: &SearchJob,
+    call: SearchCall<'_>,
     opened: Result<StoredIndex, IndexFault>,
     store: &mut S,
     tree: &mut T,
@@ -35,13 +41,13 @@ pub fn csearch_stored<S: Store, T: Tree, O: Sink, E: Sink>(
 ) -> Result<Result<Status, ToolFault>, IoFault>
     requires { IsOpened (S.model store.old) opened }
     ensures searches { IfRead (S.model store.old) result (λ index. SearchesBy IsSound T.snapshot T.failed
-        O.model E.model job.now index tree.old tree.new out.old out.new err.old err.new) }
+        O.model E.model call.entry.job.now index tree.old tree.new out.old out.new err.old err.new) }
     ensures selective { IfRead (S.model store.old) result (λ index. SearchesBy IsQueryOf T.snapshot T.failed
-        O.model E.model job.now index tree.old tree.new out.old out.new err.old err.new) }
-    ensures unopened { IfErr opened (λ fault. IsUnopened job.now fault result) }
+        O.model E.model call.entry.job.now index tree.old tree.new out.old out.new err.old err.new) }
+    ensures unopened { IfErr opened (λ fault. IsUnopened call.entry.job.now fault result) }
     ensures silent { IfOk result (λ answer. SilentOnError answer (HasNotBegun O.model E.model
         T.failed T.longest_requested out.old out.new err.old err.new tree.old tree.new)) }
-    ensures unread { IfErr result (λ _. AreAccepted job.now
+    ensures unread { IfErr result (λ _. AreAccepted call.entry.job.now
         × LeavesTree T.failed T.longest_requested tree.old tree.new
         × LeavesOutputs O.model O.failed E.model E.failed out.old out.new err.old err.new) }
     ensures tree { SearchesTree T.snapshot T.read_counts tree.old tree.new }
@@ -49,13 +55,13 @@ pub fn csearch_stored<S: Store, T: Tree, O: Sink, E: Sink>(
         (EndsBoth O.model O.failed E.model E.failed out.old out.new err.old err.new) }
     ensures store { KeepsStore S.model S.size S.failed store.old store.new result }
 {
-    let plan = match Plan::new(alloc, job) {
+    let plan = match Plan::new(call.alloc, call.job) {
         Ok(plan) => plan,
         Err(fault) => return Ok(Err(fault)),
     };
     let planned = PlannedJob {
-        alloc,
-        job,
+        alloc: call.alloc,
+        job: call.job,
         plan: &plan,
     };
     match select(&planned, opened, store)? {

@@ -25,9 +25,7 @@ fn lists(
     let mut out = MemSink::new(alloc, 1000);
     let mut err = MemSink::new(alloc, 1000);
     let call = JobCall { alloc, job: &job };
-    let listed = cindex_stored(
-        call, &mut store, &mut tree, &mut new, &mut out, &mut err,
-    );
+    let listed = cindex_stored(call, &mut store, &mut tree, &mut new, &mut out, &mut err);
     let is_done = match listed {
         Ok(update) => Ok(update.is_ok()),
         Err(fault) => Err(fault),

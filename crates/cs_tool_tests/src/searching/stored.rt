@@ -3,7 +3,7 @@ use crate::fixtures::{args_of, tree_of};
 use cs_args::{Job, SearchJob, Tool, ToolFault, read_words};
 use cs_fakes::{ChangingStore, MemTree, ONE_FILE, PutFault, UNSORTED, one_file_until};
 use cs_index::StoredIndex;
-use cs_search::{Status, csearch_stored};
+use cs_search::{SearchCall, Status, csearch_stored};
 use cs_tree::{IoFault, MemSink, Store};
 use std::alloc::Global;
 use std::test::Fail;
@@ -34,7 +34,14 @@ fn run(
 ) -> Result<Answer, IoFault> {
     let opened = StoredIndex::open(alloc, store)?;
     let mut err = MemSink::new(alloc, 1000);
-    csearch_stored(alloc, job, opened, store, tree, out, &mut err)
+    csearch_stored(
+        SearchCall { alloc, job },
+        opened,
+        store,
+        tree,
+        out,
+        &mut err,
+    )
 }
 
 /// A search by a store.

@@ -31,7 +31,7 @@ use Rattle.cs_storage.specs.declared.fault.StorageFault.{StorageFault}
 use Rattle.cs_storage.specs.declared.fault.StorageFault.TheVariants.{Failed}
 use Rattle.cs_storage.specs.declared.update.IndexUpdate.TheVariants.{Keep}
 use Rattle.codesearch.specs.Program.{tree_of, EndsSearch, EndsUnread, IsUnreadBy, tool_of, tool_args, meaning, lacks_folder, word_line, reading_line, writing_line, IndexFile, early_line, arg_at, opened_file, Surroundings, IsUntouched, Refuses, DoesJob, RunsAfter, Runs, IsCall, may_update, update_of}
-use Rattle.codesearch.specs.Running.{Answers, EndsRead, RefusesArgs}
+use Rattle.codesearch.specs.Running.{AnswersJob, EndsRead, RefusesArgs}
 use Rattle.codesearch.specs.declared.call.Call.{Call}
 use Rattle.codesearch.specs.declared.given.Given.{Given}
 use Rattle.codesearch.specs.declared.outcome.Outcome.{Outcome}
@@ -188,7 +188,7 @@ no_read_fails failed (Some store) = refl
 -- what the job answers is what the program does
 pub runs_answered : {S : Type 0} (call : Call) (job : Job) (file : FoundFile S) (IsIndex : Option (List ℕ) → Type 0)
     (old new : Surroundings) (answer : Result Outcome IoFault) (outcome : Outcome) → IsCall call → call.job ≡ Ok job →
-    Answers IsIndex job answer old new → EndsRead file.name.now answer outcome →
+    AnswersJob IsIndex job answer old new → EndsRead file.name.now answer outcome →
     Runs call.given.now (opened_file file (has_failed answer)) IsIndex old new outcome
 runs_answered call job file IsIndex old new (Ok done) outcome is job-is answers ends =
     runs_job call job (opened_file file false) IsIndex old new outcome is job-is refl refl

@@ -11,9 +11,9 @@ use Rattle.codesearch.specs.declared.call.Call.{Call}
 use Rattle.codesearch.specs.declared.outcome.Outcome.{Outcome}
 
 -- The job is done over the index, or a read of the index failed in it. If memory for a read is missing, nothing was done.
-abbrev pub Answers : (Option (List ℕ) → Type 0) → Job → Result Outcome IoFault → Surroundings → Surroundings → Type 0
-Answers IsIndex job (Ok outcome) old new = (index : Option (List ℕ)) → IsIndex index → DoesJob job index old new outcome
-Answers IsIndex job (Err fault) old new = IsUnreadBy job IsIndex old new × (fault ≡ Memory → IsUntouched old new)
+abbrev pub AnswersJob : (Option (List ℕ) → Type 0) → Job → Result Outcome IoFault → Surroundings → Surroundings → Type 0
+AnswersJob IsIndex job (Ok outcome) old new = (index : Option (List ℕ)) → IsIndex index → DoesJob job index old new outcome
+AnswersJob IsIndex job (Err fault) old new = IsUnreadBy job IsIndex old new × (fault ≡ Memory → IsUntouched old new)
 
 -- a run over the index file with this name ends as its job does, or because the file cannot be read
 abbrev pub EndsRead : List ℕ → Result Outcome IoFault → Outcome → Type 0

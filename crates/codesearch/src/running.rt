@@ -5,7 +5,7 @@ ghost use Rattle.cs_storage.specs.FileAfter.{IsGiven};
 ghost use Rattle.cs_history.specs.Jobs.{HasAbsoluteFolder};
 ghost use Rattle.cs_cindex.specs.OldIndex.{IsIndex, IsUnreadable, has_failed};
 ghost use Rattle.codesearch.specs.Program.{Between, IsCall, opened_file, Runs, DoesGrep, EndsSearch, may_update, update_of, exit_status, arg_at, path_at};
-ghost use Rattle.codesearch.specs.Running.{Answers, EndsRead, RefusesArgs};
+ghost use Rattle.codesearch.specs.Running.{AnswersJob, EndsRead, RefusesArgs};
 
 use crate::call::Call;
 use crate::outcome::{Outcome, ProgramFault};
@@ -165,7 +165,7 @@ fn search_index<'a, S: Store, T: Tree, R: Source, O: Sink, E: Sink>(
     world: &mut World<T, R, O, E>,
 ) -> Result<Outcome<'a>, IoFault>
     ensures answers { Between T.snapshot T.failed R.model R.failed O.model O.failed E.model E.failed
-        world.old world.new (Answers (IsIndex S.model index.old) (Job.Search job.now) result) }
+        world.old world.new (AnswersJob (IsIndex S.model index.old) (Job.Search job.now) result) }
     ensures kept { IfOk result (λ outcome. update_of outcome ≡ IndexUpdate.Keep) }
     ensures counted { IsUnreadable S.failed index.old index.new (has_failed result) }
 {
@@ -205,7 +205,7 @@ fn run_index<'a, S: Store, T: Tree, R: Source, O: Sink, E: Sink, W: Output>(
 ) -> Result<Outcome<'a>, IoFault>
     requires folder { HasAbsoluteFolder job.now }
     ensures answers { Between T.snapshot T.failed R.model R.failed O.model O.failed E.model E.failed
-        world.old world.new (Answers (IsIndex S.model index.old) (Job.Index job.now) result) }
+        world.old world.new (AnswersJob (IsIndex S.model index.old) (Job.Index job.now) result) }
     ensures unclaimed { IfOk result
         (λ outcome. job.now.list ≡ true → update_of outcome ≡ IndexUpdate.Keep) }
     ensures counted { IsUnreadable S.failed index.old index.new (has_failed result) }

@@ -39,8 +39,8 @@ IndexesFiles log_skip names entries to result =
     × (to.later.failed ≡ count_after is_failed_write result to.err.failed)
 
 -- The index has the paths and the entries of the builder, and fewer than 2^32 bytes. After `TooLarge` it would have more.
-abbrev pub Finishes : Built → Result Sent CindexFault → Type 0
-Finishes built result =
+abbrev pub FinishesIndex : Built → Result Sent CindexFault → Type 0
+FinishesIndex built result =
     IsBuilt built
     × IfOk result (λ index. (index.bytes ≡ encoding_of built.paths built.entries) × IsShort (Some index.bytes))
     × (result ≡ Err TooLarge → IsLong (Some (encoding_of built.paths built.entries)))

@@ -5,7 +5,7 @@ ghost use Rattle.cs_tree.specs.Walks.{AreWithinPathLimit};
 ghost use Rattle.cs_index.specs.Built.{are_paths, is_above};
 ghost use Rattle.cs_index.specs.Encoding.{names_of};
 ghost use Rattle.cs_cindex.specs.Effects.{effects};
-ghost use Rattle.cs_cindex.specs.IndexedFiles.{Finishes, IndexesFiles, NotesFile};
+ghost use Rattle.cs_cindex.specs.IndexedFiles.{FinishesIndex, IndexesFiles, NotesFile};
 ghost use Rattle.cs_cindex.specs.Output.{output};
 ghost use Rattle.cs_cindex.specs.ReadsFiles.{ReadsFiles};
 ghost use Rattle.cs_cindex.specs.Sends.{Sends};
@@ -136,7 +136,7 @@ impl Indexer {
 
     /// Sends the index of the added files to `new`.
     pub(crate) fn finish_into<W: Output>(self, new: &mut W) -> Result<Sent, CindexFault>
-        ensures finishes { Finishes self.builder result }
+        ensures finishes { FinishesIndex self.builder result }
         ensures sends { Sends W.given W.Keeps new.old new.new result }
     {
         let Indexer {

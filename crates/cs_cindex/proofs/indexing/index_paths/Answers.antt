@@ -2,7 +2,7 @@ use Rattle.std.proofs.Common.{◌≡◌, ◌∙◌, ℕ, Bool, List, Option, Som
 use Rattle.cs_cindex.proofs.Common.{err_from_is_err_and, Built, CindexFault, Entry, IsBuilt, IsShort, Grows, HaveNamesOf, IsIndexOf, IsLong, IsTreeTooLarge, Memory, Paths, Sent, Snapshot, TakesPrefix, count_if, encoding_of, fault_entry, fault_entry_line, faults_walked, is_failed_write, names_walked, text_of}
 use Rattle.cs_tree.specs.PathSet as set
 use Rattle.cs_cindex.specs.Effects.{Effects, PrintsWalk, effects}
-use Rattle.cs_cindex.specs.IndexedFiles.{Finishes}
+use Rattle.cs_cindex.specs.IndexedFiles.{FinishesIndex}
 use Rattle.cs_cindex.specs.WalkAnswers.{IndexesWalk, IsWalkIndex}
 use Rattle.cs_cindex.proofs.ReadLemmas.{tree_kept, tree_read, tree_walked}
 use Rattle.cs_cindex.proofs.WalkAnswerLemmas.{end_fault, end_written, nothing_walked, output_failure, walk_failed}
@@ -29,7 +29,7 @@ ended : (log_skip : Bool) (paths : Paths) (to : Effects) (built : Built) → to.
     ((bytes : List ℕ) → IsBuilt built → bytes ≡ encoding_of built.paths built.entries → IsShort (Some bytes) →
     IsWalkIndex to.tree.snapshot paths bytes) →
     (IsLong (Some (encoding_of built.paths built.entries)) → IsTreeTooLarge to.tree.snapshot paths) →
-    (r : Result Sent CindexFault) → Finishes built r → IndexesWalk r (λ sent. sent.bytes) log_skip paths to
+    (r : Result Sent CindexFault) → FinishesIndex built r → IndexesWalk r (λ sent. sent.bytes) log_skip paths to
 ended log_skip paths to built written all index large (Ok sent) f = ((index sent.bytes f.0 f.1.0 f.1.1, all), written)
 ended log_skip paths to built written all index large (Err fault) f = (
   (

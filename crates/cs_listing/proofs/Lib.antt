@@ -1,0 +1,7 @@
+pub mod NameLemmas
+pub mod PathLemmas
+pub mod RuleLemmas
+pub mod LineLemmas
+pub mod ClassLemmas
+pub mod TokenLemmas
+mod Examples

@@ -1,0 +1,10 @@
+-- Definitions that public contracts cite.
+pub mod Globs
+pub mod Rules
+pub mod Classes
+pub mod GlobText
+pub mod RuleFiles
+pub mod Models
+-- Definitions that only private contracts cite.
+pub mod Matching
+pub mod Reading

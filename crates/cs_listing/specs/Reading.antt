@@ -1,0 +1,42 @@
+-- What functions that read the text of a rule file promise each other.
+use denote.Ref.{Bor}
+use Rattle.std.specs.Prelude.{ℕ, ◌≡◌, ◌≤◌, ◌<◌, ◌++◌, List, [], ◌∷◌, map, length, Option, Some, None, Vec}
+use Rattle.cs_listing.specs.Rules.{Rule as OneRule}
+use Rattle.cs_listing.specs.Classes.{class_item, class_items, range_from, quoted}
+use Rattle.cs_listing.specs.Globs.{GlobToken}
+use Rattle.cs_listing.specs.Models.{token_of, rule_of}
+use Rattle.cs_listing.specs.declared.glob.Token.{Token}
+use Rattle.cs_listing.specs.declared.rules.Rule.{Rule}
+use Rattle.cs_listing.specs.declared.rules.Rules.{Rules}
+
+abbrev pub rules_in : Rules → List OneRule
+rules_in rules = map rule_of rules.rules.items
+
+-- the rule, if there is one, is added
+abbrev pub AddsRule : Option OneRule → List Rule → List Rule → Type 0
+AddsRule None before after = after ≡ before
+AddsRule (Some rule) before after = map rule_of after ≡ map rule_of before ++ rule ∷ []
+
+-- what a borrow lends, if there is one
+abbrev pub lent : {A : Type 0} → Option (Bor A) → Option A
+lent None = None
+lent (Some part) = Some part.now
+
+-- the range that a text begins with, and its length
+abbrev pub ReadsRange : List ℕ → Option ((ℕ × ℕ) × ℕ) → Type 0
+ReadsRange text None = range_from text (quoted text) ≡ None
+ReadsRange text (Some read) = (range_from text (quoted text) ≡ Some (read.0 ∷ [], read.1)) × (read.1 ≤ length text)
+
+-- the ranges of an item are added, and its length is read
+abbrev pub ReadsItem : List ℕ → List (ℕ × ℕ) → List (ℕ × ℕ) → Option ℕ → Type 0
+ReadsItem text before after None = class_item text ≡ None
+ReadsItem text before after (Some len) =
+    (ranges : List (ℕ × ℕ)) × (class_item text ≡ Some (ranges, len)) × (after ≡ before ++ ranges) × (len ≤ length text)
+
+abbrev pub ReadsClass : {A : Type 0} → List ℕ → Option (Vec (ℕ × ℕ) A × ℕ) → Type 0
+ReadsClass text None = class_items text ≡ None
+ReadsClass text (Some read) = (class_items text ≡ Some (read.0.items, read.1)) × (read.1 ≤ length text)
+
+-- a token and its length, which is within the text
+abbrev pub ReadsToken : GlobToken × ℕ → List ℕ → Token × ℕ → Type 0
+ReadsToken token text read = (token ≡ (token_of read.0, read.1)) × (0 < read.1) × (read.1 ≤ length text)

@@ -1,0 +1,207 @@
+// Globs: what each element of a path has to match. After a mismatch only the last `*`, or the last `**`, takes one more, so
+// each token meets each byte at most once.
+ghost use Rattle.std.specs.Prelude.{◌≡◌, ◌∷◌};
+ghost use Rattle.cs_listing.specs.Globs.{is_in_ranges as is_in_ranges', accepts_byte, matches_name as matches_name', matches_path as matches_path', star, folders};
+ghost use Rattle.cs_listing.specs.Models.{token_of, tokens_of, glob_of, names};
+ghost use Rattle.cs_listing.specs.Matching.{NameStepSays, PathStepSays};
+
+/// What a part of a name has to match.
+#[derive(Debug, Drop)]
+pub(crate) enum Token {
+    Byte(u8),
+    /// `?`: any byte.
+    Any,
+    /// `[..]`: a byte in one of the ranges, or if it is negated, in none.
+    Class {
+        negated: bool,
+        ranges: Vec<(u8, u8)>,
+    },
+    /// `*`: any bytes.
+    Star,
+}
+
+/// What a part of a path has to match.
+#[derive(Debug, Drop)]
+pub(crate) enum Element {
+    /// `**`: any number of folders, also none.
+    Folders,
+    One(Vec<Token>),
+}
+
+impl Token {
+    /// Whether a token other than `*` matches the byte.
+    fn accepts(&self, byte: u8) -> bool
+        ensures { result ≡ accepts_byte (token_of self.now) byte }
+    {
+        match self {
+            Token::Byte(own) => *own == byte,
+            Token::Any => true,
+            Token::Class { negated, ranges } => is_in_ranges(ranges, byte) != *negated,
+            Token::Star => false,
+        }
+    }
+}
+
+fn is_in_ranges(ranges: &[(u8, u8)], byte: u8) -> bool
+    ensures { result ≡ is_in_ranges' ranges.now byte }
+{
+    ranges
+        .iter()
+        .any(|range| range.0 <= byte && byte <= range.1)
+}
+
+/// What the first token and the first byte of a name say, and what is left after them.
+enum NameStep<'t, 'n> {
+    Star(&'t [Token]),
+    Byte(&'t [Token], &'n [u8]),
+    End,
+    Mismatch,
+}
+
+fn name_step<'t, 'n>(tokens: &'t [Token], name: &'n [u8]) -> NameStep<'t, 'n>
+    ensures { NameStepSays tokens.now name.now result }
+{
+    let Some((token, later)) = tokens.split_first() else {
+        return if name.is_empty() {
+            NameStep::End
+        } else {
+            NameStep::Mismatch
+        };
+    };
+    if matches!(token, Token::Star) {
+        return NameStep::Star(later);
+    }
+    match name.split_first() {
+        Some((byte, rest)) if token.accepts(*byte) => NameStep::Byte(later, rest),
+        _ => NameStep::Mismatch,
+    }
+}
+
+/// Whether the tokens match the whole name.
+fn matches_name(tokens: &[Token], name: &[u8]) -> bool
+    ensures { result ≡ matches_name' (tokens_of tokens.now) name.now }
+{
+    let mut left = tokens;
+    let mut rest = name;
+    'tokens: loop {
+        match name_step(left, rest) {
+            NameStep::Star(later) => return matches_after_star(later, rest),
+            NameStep::Byte(later, more) => {
+                left = later;
+                rest = more;
+            }
+            NameStep::End => return true,
+            NameStep::Mismatch => return false,
+        }
+    }
+}
+
+/// Whether a star and the tokens match the whole name.
+fn matches_after_star(tokens: &[Token], name: &[u8]) -> bool
+    ensures { result ≡ matches_name' (star ∷ tokens_of tokens.now) name.now }
+{
+    let mut after = tokens;
+    let mut from = name;
+    let mut left = tokens;
+    let mut rest = name;
+    'tokens: loop {
+        match name_step(left, rest) {
+            NameStep::Star(later) => {
+                after = later;
+                from = rest;
+                left = later;
+            }
+            NameStep::Byte(later, more) => {
+                left = later;
+                rest = more;
+            }
+            NameStep::End => return true,
+            NameStep::Mismatch => {
+                let Some((_, more)) = from.split_first() else {
+                    return false;
+                };
+                from = more;
+                left = after;
+                rest = more;
+            }
+        }
+    }
+}
+
+/// What the first element of a glob and the first name of a path say, and what is left of the glob.
+enum PathStep<'g> {
+    Folders(&'g [Element]),
+    Name(&'g [Element]),
+    End,
+    Mismatch,
+}
+
+fn path_step<'g>(glob: &'g [Element], path: &[&[u8]]) -> PathStep<'g>
+    ensures { PathStepSays glob.now path.now result }
+{
+    let Some((element, later)) = glob.split_first() else {
+        return if path.is_empty() {
+            PathStep::End
+        } else {
+            PathStep::Mismatch
+        };
+    };
+    let Element::One(tokens) = element else {
+        return PathStep::Folders(later);
+    };
+    match path.split_first() {
+        Some((name, _)) if matches_name(tokens, name) => PathStep::Name(later),
+        _ => PathStep::Mismatch,
+    }
+}
+
+/// Whether the elements of a glob match the whole path.
+pub(crate) fn matches_path(glob: &[Element], path: &[&[u8]]) -> bool
+    ensures { result ≡ matches_path' (glob_of glob.now) (names path.now) }
+{
+    let mut left = glob;
+    let mut at = 0;
+    'elements: loop {
+        match path_step(left, &path[at..]) {
+            PathStep::Folders(later) => return matches_after_folders(later, &path[at..]),
+            PathStep::Name(later) => {
+                left = later;
+                at += 1;
+            }
+            PathStep::End => return true,
+            PathStep::Mismatch => return false,
+        }
+    }
+}
+
+/// Whether `**` and the elements match the whole path.
+fn matches_after_folders(glob: &[Element], path: &[&[u8]]) -> bool
+    ensures { result ≡ matches_path' (folders ∷ glob_of glob.now) (names path.now) }
+{
+    let mut after = glob;
+    let mut from = 0;
+    let mut left = glob;
+    let mut at = 0;
+    'elements: loop {
+        match path_step(left, &path[at..]) {
+            PathStep::Folders(later) => {
+                after = later;
+                from = at;
+                left = later;
+            }
+            PathStep::Name(later) => {
+                left = later;
+                at += 1;
+            }
+            PathStep::End => return true,
+            PathStep::Mismatch => {
+                if from == path.len() {
+                    return false;
+                }
+                from += 1;
+                left = after;
+                at = from;
+            }
+        }
+    }
+}

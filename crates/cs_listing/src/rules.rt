@@ -1,0 +1,111 @@
+// The rules of one file, and what the last of them says that applies to a path.
+ghost use Rattle.std.specs.Prelude.{◌≡◌, IfOk, OnOk};
+ghost use Rattle.cs_listing.specs.Rules.{applies as applies', decide as decide'};
+ghost use Rattle.cs_listing.specs.Models.{names, rule_of};
+ghost use Rattle.cs_listing.specs.RuleFiles.{rules_of, rule_of_line, rule_in, rule_saying};
+ghost use Rattle.cs_listing.specs.Reading.{rules_in, AddsRule};
+
+use crate::classes::begins_with;
+use crate::glob::{Element, matches_path};
+use crate::glob_parsing::parse_glob;
+use crate::rule_lines::{line_text, without_last, without_mark};
+use std::alloc::{AllocError, Global};
+
+/// What a rule says of what it matches.
+#[derive(Clone, Copy, Debug, PartialEq, Eq)]
+pub enum Decision {
+    Ignore,
+    /// A rule with `!`.
+    TakeBack,
+}
+
+#[derive(Debug, Drop)]
+pub(crate) struct Rule {
+    decision: Decision,
+    /// A rule that ends in a slash.
+    only_folders: bool,
+    glob: Vec<Element>,
+}
+
+/// The rules of a file, in order.
+#[derive(Debug, Drop)]
+pub struct Rules {
+    rules: Vec<Rule>,
+}
+
+impl Rules {
+    /// The rules of a file's bytes.
+    pub fn parse(alloc: Global, bytes: &[u8]) -> Result<Rules, AllocError>
+        ensures { IfOk result (λ rules. rules_in rules ≡ rules_of bytes.now) }
+    {
+        let mut rules = Vec::new(alloc);
+        for line in without_mark(bytes).split(|byte| *byte == b'\n') {
+            add_line(alloc, &mut rules, line)?;
+        }
+        Ok(Rules { rules })
+    }
+
+    /// What the last rule says that applies to a path, which is given by its elements below the folder of the rules.
+    pub fn decide(&self, path: &[&[u8]], is_folder: bool) -> Option<Decision>
+        ensures { result ≡ decide' (rules_in self.now) (names path.now) is_folder }
+    {
+        let mut earlier = self.rules.as_slice();
+        'rules: while let Some((rule, rest)) = earlier.split_last() {
+            if rule.applies(path, is_folder) {
+                return Some(rule.decision);
+            }
+            earlier = rest;
+        }
+        None
+    }
+}
+
+impl Rule {
+    fn applies(&self, path: &[&[u8]], is_folder: bool) -> bool
+        ensures { result ≡ applies' (rule_of self.now) (names path.now) is_folder }
+    {
+        (is_folder || !self.only_folders) && matches_path(&self.glob, path)
+    }
+}
+
+/// Adds the rule of a line, if it has one.
+fn add_line(alloc: Global, rules: &mut Vec<Rule>, line: &[u8]) -> Result<(), AllocError>
+    ensures { OnOk result (AddsRule (rule_of_line line.now) rules.old.items rules.new.items) }
+{
+    if begins_with(b'#', line) {
+        return Ok(());
+    }
+    add_text(alloc, rules, line_text(line))
+}
+
+/// Adds the rule of a text, which may begin with `!`.
+fn add_text(alloc: Global, rules: &mut Vec<Rule>, text: &[u8]) -> Result<(), AllocError>
+    ensures { OnOk result (AddsRule (rule_in text.now) rules.old.items rules.new.items) }
+{
+    match text.split_first() {
+        Some((b'!', rest)) => add_rule(alloc, rules, Decision::TakeBack, rest),
+        _ => add_rule(alloc, rules, Decision::Ignore, text),
+    }
+}
+
+/// Adds the rule of a text, unless it is empty.
+fn add_rule(
+    alloc: Global,
+    rules: &mut Vec<Rule>,
+    decision: Decision,
+    text: &[u8],
+) -> Result<(), AllocError>
+    ensures { OnOk result (AddsRule (rule_saying decision text.now) rules.old.items rules.new.items) }
+{
+    let glob_text = without_last(b'/', text);
+    if glob_text.is_empty() {
+        return Ok(());
+    }
+    let glob = parse_glob(alloc, glob_text)?;
+    rules.push(Rule {
+        decision,
+        only_folders: glob_text.len() < text.len(),
+        glob,
+    })?;
+    Ok(())
+}

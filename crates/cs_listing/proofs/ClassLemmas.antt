@@ -139,9 +139,9 @@ in_by false text name is e = cc
 name_by : (c : Bool) (text name : List ℕ) → bytes_eq (take 2 text) (codes "[:") ≡ c → cond c (name_in (drop 2 text)) None ≡ Some name →
     length name + 4 ≤ length text
 name_by true text name is e =
-    let front = two text (codes "[:") refl is in
+    let start = two text (codes "[:") refl is in
     let rest = in_by (bytes_eq (take 2 (drop (letters (drop 2 text)) (drop 2 text))) (codes ":]")) (drop 2 text) name refl e in
-    omega (arith, front, rest, length-drop 2 text)
+    omega (arith, start, rest, length-drop 2 text)
 name_by false text name is e = cc
 
 name_within : (text name : List ℕ) → class_name text ≡ Some name → length name + 4 ≤ length text

@@ -4,4 +4,5 @@ pub mod RuleLemmas
 pub mod LineLemmas
 pub mod ClassLemmas
 pub mod TokenLemmas
+pub mod WorkLemmas
 mod Examples

@@ -13,8 +13,8 @@ ends_at_last b last [] = refl
 ends_at_last b last (x ∷ []) = refl
 ends_at_last b last (x ∷ y ∷ rest) = ends_at_last b last (y ∷ rest)
 
-take_front : (rest : List ℕ) (last : ℕ) → take (length (rest ++ last ∷ []) - 1) (rest ++ last ∷ []) ≡ rest
-take_front rest last =
+take_start : (rest : List ℕ) (last : ℕ) → take (length (rest ++ last ∷ []) - 1) (rest ++ last ∷ []) ≡ rest
+take_start rest last =
     let len : length (rest ++ last ∷ []) - 1 ≡ length rest = omega (arith, length-append rest (last ∷ [])) in
     ap (λ n. take n (rest ++ last ∷ [])) len ∙ take-append-le (length rest) rest (last ∷ []) (omega arith) ∙ take_all (length rest) rest (omega arith)
 
@@ -22,7 +22,7 @@ take_front rest last =
 pub last_taken : (b last : ℕ) (text rest : List ℕ) → IsLastAndRest text last rest → nat_eq last b ≡ true → rest ≡ without_last b text
 last_taken b last text rest h is =
     sym (ap (without_last b) h.0 ∙ ap (λ t. cond t (take (length (rest ++ last ∷ []) - 1) (rest ++ last ∷ [])) (rest ++ last ∷ []))
-    (ends_at_last b last rest ∙ is) ∙ take_front rest last)
+    (ends_at_last b last rest ∙ is) ∙ take_start rest last)
 
 pub last_kept : (b last : ℕ) (text rest : List ℕ) → IsLastAndRest text last rest → nat_eq last b ≡ false → text ≡ without_last b text
 last_kept b last text rest h is =

@@ -1,9 +1,10 @@
 -- The same of `**` in paths: what it could match from a name on, it can match from an earlier one.
 use denote.Ref.{Bor}
-use Rattle.std.proofs.Common.{◌≡◌, refl, ℕ, ◌+◌, Bool, true, false, ◌||◌, ◌&&◌, List, [], ◌∷◌, length, drop, ◌<◌, sym, ap, ◌∙◌, arith}
+use Rattle.std.proofs.Common.{◌≡◌, refl, ℕ, ◌+◌, Bool, true, false, ◌||◌, ◌&&◌, List, [], ◌∷◌, length, drop, ◌<◌, ◌≤◌, sym, ap, ◌∙◌, arith}
 use Rattle.std.proofs.lemmas.List.{length-drop, drop-drop}
 use Rattle.std.specs.List.{IsFirstAndRest}
 use Rattle.cs_listing.specs.Globs.{GlobToken, matches_name, Element, folders, one, matches_path}
+use Rattle.cs_listing.specs.MatchWork.{largest}
 use Rattle.cs_listing.specs.Models.{tokens_of, glob_of, names}
 use Rattle.cs_listing.specs.declared.glob.Token.{Token}
 use Rattle.cs_listing.specs.declared.glob.Element.{Element as OwnElement}
@@ -53,7 +54,7 @@ pub path_name : (glob later : List OwnElement) (tokens : List Token) (path rest 
     matches_name (tokens_of tokens) name.now ≡ true →
     (matches_path (glob_of glob) (names path) ≡ matches_path (glob_of later) (names (drop 1 path)))
     × (matches_path (folders ∷ glob_of glob) (names path) ≡ true → matches_path (folders ∷ glob_of later) (names (drop 1 path)) ≡ true)
-    × (length later + 1 ≡ length glob) × (0 < length path)
+    × (length later + 1 ≡ length glob) × (0 < length path) × (largest (glob_of later) ≤ largest (glob_of glob))
 path_name glob later tokens path rest name first len taken is =
     let others = ap (drop 1) taken.0 in (
       ap (λ t. matches_path t (names path)) first ∙ ap (λ p. matches_path (one (tokens_of tokens) ∷ glob_of later) (names p)) taken.0
@@ -65,6 +66,7 @@ path_name glob later tokens path rest name first len taken is =
           ∙ ap (λ p. matches_path (folders ∷ one (tokens_of tokens) ∷ glob_of later) (names p)) taken.0) ∙ all),
       len,
       omega (arith, taken.1),
+      omega (arith, ap largest first),
     )
 
 -- At `**`, an earlier one need not take more.

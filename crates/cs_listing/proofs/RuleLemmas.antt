@@ -1,5 +1,5 @@
 -- What the last rule says.
-use Rattle.std.proofs.Common.{◌≡◌, refl, ℕ, Bool, true, false, cond, List, [], ◌∷◌, ◌++◌, map, length, eqb, sym, ap, ◌∙◌, subst}
+use Rattle.std.proofs.Common.{◌≡◌, refl, ℕ, Bool, true, false, cond, List, [], ◌∷◌, ◌++◌, map, length, eqb, sym, ap, ◌∙◌, subst, ◌+◌, arith}
 use denote.Ref.{Bor}
 use Rattle.std.specs.Prelude.{Option, Some, None, nat_lt, filter_map}
 use Rattle.std.specs.Path.{slash}
@@ -10,6 +10,7 @@ use Rattle.cs_listing.specs.Rules.{Rule, applies, decide, or_else}
 use Rattle.cs_listing.specs.Models.{rule_of, glob_of, names}
 use Rattle.cs_listing.specs.Globs.{Element}
 use Rattle.cs_listing.specs.GlobText.{glob_in}
+use Rattle.cs_listing.specs.MatchWork.{path_work, rules_work}
 use Rattle.cs_listing.specs.RuleFiles.{ends_with_byte, without_last, rule_with, rule_saying, rule_of_line}
 use Rattle.cs_listing.specs.Reading.{AddsRule}
 use Rattle.cs_listing.specs.declared.rules.Decision.{Decision}
@@ -54,6 +55,20 @@ pub passes : (rules rest : List OwnRule) (rule : OwnRule) (path : List (List ℕ
 passes rules rest rule path is_folder last is =
     decide_last rules rest rule path is_folder last
     ∙ ap (λ b. or_else (cond b (Some rule.decision) None) (decide (map rule_of rest) path is_folder)) is
+
+-- ---- the work of the rules
+
+work_append : (rules : List Rule) (rule : Rule) (path : List (List ℕ)) →
+    rules_work (rules ++ rule ∷ []) path ≡ rules_work rules path + path_work rule.glob path
+work_append [] rule path = omega arith
+work_append (first ∷ rules) rule path = omega (arith, work_append rules rule path)
+
+pub work_last : (rules rest : List OwnRule) (rule : OwnRule) (path : List (List ℕ)) → IsLastAndRest rules rule rest →
+    rules_work (map rule_of rules) path ≡ rules_work (map rule_of rest) path + path_work (rule_of rule).glob path
+work_last rules rest rule path last =
+    ap (λ rs. rules_work (map rule_of rs) path) last.0
+    ∙ ap (λ rs. rules_work rs path) (map-append rule_of rest (rule ∷ []))
+    ∙ work_append (map rule_of rest) (rule_of rule) path
 
 -- ---- the rules of lines
 

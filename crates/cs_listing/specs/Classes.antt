@@ -55,8 +55,8 @@ class_name text = if bytes_eq (take 2 text) (codes "[:") then name_in (drop 2 te
 abbrev pub is_range : List ℕ → Bool
 is_range text = begins_with 45 text && (not (bytes_eq (drop 1 text) []) && not (begins_with 93 (drop 1 text)))
 
--- The range from a byte to another and its length, of which the first byte takes some. If the other one is less, the range
--- has the first byte alone.
+-- The range from a byte, with its length, to another one. If the other one is less, the range has the first byte
+-- alone.
 abbrev pub range_to : ℕ × ℕ → Option (ℕ × ℕ) → Option (List (ℕ × ℕ) × ℕ)
 range_to low None = None
 range_to low (Some high) = Some ((low.0, max low.0 high.0) ∷ [], low.1 + 1 + high.1)

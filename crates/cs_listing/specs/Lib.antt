@@ -1,6 +1,7 @@
 -- Definitions that public contracts cite.
 pub mod Globs
 pub mod Rules
+pub mod MatchWork
 pub mod Classes
 pub mod GlobText
 pub mod RuleFiles

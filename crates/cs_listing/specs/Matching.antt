@@ -1,7 +1,8 @@
 -- What one step of matching finds, of a name and of a path.
 use denote.Ref.{Bor}
-use Rattle.std.specs.Prelude.{ℕ, ◌≡◌, ◌+◌, true, false, List, ◌∷◌, length, drop, ◌<◌}
+use Rattle.std.specs.Prelude.{ℕ, ◌≡◌, ◌+◌, ◌≤◌, ◌<◌, true, false, List, ◌∷◌, length, drop}
 use Rattle.cs_listing.specs.Globs.{star, matches_name, folders, matches_path}
+use Rattle.cs_listing.specs.MatchWork.{tokens_work, largest}
 use Rattle.cs_listing.specs.Models.{tokens_of, glob_of, names}
 use Rattle.cs_listing.specs.declared.glob.Token.{Token}
 use Rattle.cs_listing.specs.declared.glob.Element.{Element}
@@ -22,13 +23,26 @@ NameStepSays tokens name (in_name.Byte later rest) =
 NameStepSays tokens name in_name.End = matches_name (tokens_of tokens) name ≡ true
 NameStepSays tokens name in_name.Mismatch = matches_name (tokens_of tokens) name ≡ false
 
+-- what the tokens that are left may take falls by the steps that were taken
+abbrev pub PaysFor : List Token → List Token → ℕ → ℕ → Type 0
+PaysFor tokens later before after =
+    (after + tokens_work (tokens_of later) ≤ before + tokens_work (tokens_of tokens))
+    × (tokens_work (tokens_of later) ≤ tokens_work (tokens_of tokens))
+
+-- The tokens that are left pay for a step, and a mismatch takes one more.
+abbrev pub NameStepTakes : List Token → NameStep → ℕ → ℕ → Type 0
+NameStepTakes tokens (in_name.Star later) before after = PaysFor tokens later.now before after
+NameStepTakes tokens (in_name.Byte later rest) before after = PaysFor tokens later.now before after
+NameStepTakes tokens _ before after = after ≤ before + tokens_work (tokens_of tokens) + 1
+
 -- the same of the elements of a glob and of a path
 abbrev pub PathStepSays : List Element → List (Bor (List ℕ)) → PathStep → Type 0
 PathStepSays glob path (in_path.Folders later) = (glob_of glob ≡ folders ∷ glob_of later.now) × (length later.now + 1 ≡ length glob)
+    × (largest (glob_of later.now) ≤ largest (glob_of glob))
 PathStepSays glob path (in_path.Name later) =
     (matches_path (glob_of glob) (names path) ≡ matches_path (glob_of later.now) (names (drop 1 path)))
     × (matches_path (folders ∷ glob_of glob) (names path) ≡ true →
     matches_path (folders ∷ glob_of later.now) (names (drop 1 path)) ≡ true)
-    × (length later.now + 1 ≡ length glob) × (0 < length path)
+    × (length later.now + 1 ≡ length glob) × (0 < length path) × (largest (glob_of later.now) ≤ largest (glob_of glob))
 PathStepSays glob path in_path.End = matches_path (glob_of glob) (names path) ≡ true
 PathStepSays glob path in_path.Mismatch = matches_path (glob_of glob) (names path) ≡ false

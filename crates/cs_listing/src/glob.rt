@@ -1,9 +1,14 @@
 // Globs: what each element of a path has to match. After a mismatch only the last `*`, or the last `**`, takes one more, so
 // each token meets each byte at most once.
-ghost use Rattle.std.specs.Prelude.{◌≡◌, ◌∷◌};
+ghost use Rattle.std.specs.Prelude.{◌≡◌, ◌≤◌, ◌+◌, ◌∷◌, length};
+ghost use Rattle.cs_listing.specs.MatchWork.{token_work, name_work, pair_work, path_work};
 ghost use Rattle.cs_listing.specs.Globs.{is_in_ranges as is_in_ranges', accepts_byte, matches_name as matches_name', matches_path as matches_path', star, folders};
 ghost use Rattle.cs_listing.specs.Models.{token_of, tokens_of, glob_of, names};
-ghost use Rattle.cs_listing.specs.Matching.{NameStepSays, PathStepSays};
+ghost use Rattle.cs_listing.specs.Matching.{NameStepSays, NameStepTakes, PathStepSays};
+
+use cs_prefilter::Steps;
+use std::marker::Model;
+use std::sync::ledger::Ledger;
 
 /// What a part of a name has to match.
 #[derive(Debug, Drop)]
@@ -29,6 +34,16 @@ pub(crate) enum Element {
 }
 
 impl Token {
+    /// Counts the steps of the token at one byte.
+    fn count<L: Ledger>(&self, steps: &mut Steps<L>)
+        ensures { steps.new ≡ steps.old + token_work (token_of self.now) }
+    {
+        steps.add(1);
+        if let Token::Class { ranges, .. } = self {
+            steps.add(ranges.len());
+        }
+    }
+
     /// Whether a token other than `*` matches the byte.
     fn accepts(&self, byte: u8) -> bool
         ensures { result ≡ accepts_byte (token_of self.now) byte }
@@ -58,16 +73,23 @@ enum NameStep<'t, 'n> {
     Mismatch,
 }
 
-fn name_step<'t, 'n>(tokens: &'t [Token], name: &'n [u8]) -> NameStep<'t, 'n>
-    ensures { NameStepSays tokens.now name.now result }
+fn name_step<'t, 'n, L: Ledger>(
+    tokens: &'t [Token],
+    name: &'n [u8],
+    steps: &mut Steps<L>,
+) -> NameStep<'t, 'n>
+    ensures says { NameStepSays tokens.now name.now result }
+    ensures takes { NameStepTakes tokens.now result steps.old steps.new }
 {
     let Some((token, later)) = tokens.split_first() else {
+        steps.add(1);
         return if name.is_empty() {
             NameStep::End
         } else {
             NameStep::Mismatch
         };
     };
+    token.count(steps);
     if matches!(token, Token::Star) {
         return NameStep::Star(later);
     }
@@ -78,14 +100,15 @@ fn name_step<'t, 'n>(tokens: &'t [Token], name: &'n [u8]) -> NameStep<'t, 'n>
 }
 
 /// Whether the tokens match the whole name.
-fn matches_name(tokens: &[Token], name: &[u8]) -> bool
-    ensures { result ≡ matches_name' (tokens_of tokens.now) name.now }
+fn matches_name<L: Ledger>(tokens: &[Token], name: &[u8], steps: &mut Steps<L>) -> bool
+    ensures matches { result ≡ matches_name' (tokens_of tokens.now) name.now }
+    ensures work { steps.new ≤ steps.old + name_work (tokens_of tokens.now) (length name.now) }
 {
     let mut left = tokens;
     let mut rest = name;
     'tokens: loop {
-        match name_step(left, rest) {
-            NameStep::Star(later) => return matches_after_star(later, rest),
+        match name_step(left, rest, steps) {
+            NameStep::Star(later) => return matches_after_star(later, rest, steps),
             NameStep::Byte(later, more) => {
                 left = later;
                 rest = more;
@@ -97,15 +120,16 @@ fn matches_name(tokens: &[Token], name: &[u8]) -> bool
 }
 
 /// Whether a star and the tokens match the whole name.
-fn matches_after_star(tokens: &[Token], name: &[u8]) -> bool
-    ensures { result ≡ matches_name' (star ∷ tokens_of tokens.now) name.now }
+fn matches_after_star<L: Ledger>(tokens: &[Token], name: &[u8], steps: &mut Steps<L>) -> bool
+    ensures matches { result ≡ matches_name' (star ∷ tokens_of tokens.now) name.now }
+    ensures work { steps.new ≤ steps.old + name_work (tokens_of tokens.now) (length name.now) }
 {
     let mut after = tokens;
     let mut from = name;
     let mut left = tokens;
     let mut rest = name;
     'tokens: loop {
-        match name_step(left, rest) {
+        match name_step(left, rest, steps) {
             NameStep::Star(later) => {
                 after = later;
                 from = rest;
@@ -136,9 +160,15 @@ enum PathStep<'g> {
     Mismatch,
 }
 
-fn path_step<'g>(glob: &'g [Element], path: &[&[u8]]) -> PathStep<'g>
-    ensures { PathStepSays glob.now path.now result }
+fn path_step<'g, L: Ledger>(
+    glob: &'g [Element],
+    path: &[&[u8]],
+    steps: &mut Steps<L>,
+) -> PathStep<'g>
+    ensures says { PathStepSays glob.now path.now result }
+    ensures work { steps.new ≤ steps.old + pair_work (glob_of glob.now) (names path.now) + 1 }
 {
+    steps.add(1);
     let Some((element, later)) = glob.split_first() else {
         return if path.is_empty() {
             PathStep::End
@@ -149,21 +179,29 @@ fn path_step<'g>(glob: &'g [Element], path: &[&[u8]]) -> PathStep<'g>
     let Element::One(tokens) = element else {
         return PathStep::Folders(later);
     };
-    match path.split_first() {
-        Some((name, _)) if matches_name(tokens, name) => PathStep::Name(later),
-        _ => PathStep::Mismatch,
+    let Some((name, _)) = path.split_first() else {
+        return PathStep::Mismatch;
+    };
+    if matches_name(tokens, name, steps) {
+        return PathStep::Name(later);
     }
+    PathStep::Mismatch
 }
 
 /// Whether the elements of a glob match the whole path.
-pub(crate) fn matches_path(glob: &[Element], path: &[&[u8]]) -> bool
-    ensures { result ≡ matches_path' (glob_of glob.now) (names path.now) }
+pub(crate) fn matches_path<L: Ledger>(
+    glob: &[Element],
+    path: &[&[u8]],
+    steps: &mut Steps<L>,
+) -> bool
+    ensures work { steps.new ≤ steps.old + path_work (glob_of glob.now) (names path.now) }
+    ensures matches { result ≡ matches_path' (glob_of glob.now) (names path.now) }
 {
     let mut left = glob;
     let mut at = 0;
     'elements: loop {
-        match path_step(left, &path[at..]) {
-            PathStep::Folders(later) => return matches_after_folders(later, &path[at..]),
+        match path_step(left, &path[at..], steps) {
+            PathStep::Folders(later) => return matches_after_folders(later, &path[at..], steps),
             PathStep::Name(later) => {
                 left = later;
                 at += 1;
@@ -175,15 +213,16 @@ pub(crate) fn matches_path(glob: &[Element], path: &[&[u8]]) -> bool
 }
 
 /// Whether `**` and the elements match the whole path.
-fn matches_after_folders(glob: &[Element], path: &[&[u8]]) -> bool
-    ensures { result ≡ matches_path' (folders ∷ glob_of glob.now) (names path.now) }
+fn matches_after_folders<L: Ledger>(glob: &[Element], path: &[&[u8]], steps: &mut Steps<L>) -> bool
+    ensures work { steps.new ≤ steps.old + path_work (glob_of glob.now) (names path.now) }
+    ensures matches { result ≡ matches_path' (folders ∷ glob_of glob.now) (names path.now) }
 {
     let mut after = glob;
     let mut from = 0;
     let mut left = glob;
     let mut at = 0;
     'elements: loop {
-        match path_step(left, &path[at..]) {
+        match path_step(left, &path[at..], steps) {
             PathStep::Folders(later) => {
                 after = later;
                 from = at;

@@ -1,16 +1,67 @@
-use Rattle.std.proofs.Common.{arith}
+use Rattle.std.proofs.Common.{◌||◌, length, ap, ◌∙◌, arith}
+use Rattle.cs_listing.specs.MatchWork.{tokens_work}
 use Rattle.cs_listing.specs.Models.{tokens_of}
-use Rattle.cs_listing.proofs.NameLemmas.{star_again, later_is_match}
+use Rattle.cs_listing.proofs.NameLemmas.{matches_later, star_again, star_split, later_is_match}
+use Rattle.cs_listing.proofs.WorkLemmas.{paid_later, paid_again}
 use Rattle.cs_listing.proofs.glob.matches_after_star.Goals as goal
 
 pub tokens-preserved-in-Star : goal.tokens-preserved-in-Star
-tokens-preserved-in-Star c =
-    let step = c.in-Star.ensures in
+tokens-preserved-in-Star g c =
+    let inv = c.tokens.invariant in
+    let says = c.in-Star.ensures.says in
+    let takes = c.in-Star.ensures.takes in
+    let paid = paid_later (length c.tokens.from.now) (length c.tokens.rest.now) (tokens_work (tokens_of c.args.tokens.now)) inv.within in
     record {
-      same = star_again (tokens_of c.tokens.left.now) _ c.tokens.rest.now _ _ step.0 c.tokens.invariant.same
-          c.tokens.invariant.absorbed;
+      same = star_again (tokens_of c.tokens.left.now) (tokens_of c.in-Star.later.now) c.tokens.rest.now _ _ says.0 inv.same inv.absorbed;
       absorbed = later_is_match (tokens_of c.in-Star.later.now) c.tokens.rest.now;
-      short = omega (arith, step.1);
-      fewer = omega (arith, step.1);
+      short = omega (arith, says.1, inv.short);
+      fewer = omega (arith, says.1, inv.short);
       within = omega arith;
+      left = omega (arith, takes.1, inv.left);
+      again = omega (arith, takes.1, inv.left);
+      work = omega (arith, takes.0, inv.work, paid);
     }
+
+pub tokens-preserved-in-Byte : goal.tokens-preserved-in-Byte
+tokens-preserved-in-Byte g c =
+    let inv = c.tokens.invariant in
+    let says = c.in-Byte.ensures.says in
+    let takes = c.in-Byte.ensures.takes in
+    let old = matches_later (tokens_of c.tokens.after.now) c.tokens.from.now in
+    record {
+      same = inv.same ∙ ap (λ t. t || old) says.0;
+      absorbed = λ is. says.1 (inv.absorbed is);
+      short = omega (arith, says.2, inv.short);
+      fewer = inv.fewer;
+      within = omega (arith, says.3, inv.within);
+      left = omega (arith, takes.1, inv.left);
+      again = inv.again;
+      work = omega (arith, takes.0, inv.work);
+    }
+
+pub tokens-preserved : goal.tokens-preserved
+tokens-preserved g c =
+    let inv = c.tokens.invariant in
+    let says = c.in-Mismatch.ensures.says in
+    let takes = c.in-Mismatch.ensures.takes in
+    let after = tokens_of c.tokens.after.now in
+    let more = c.in-Some.more.now in
+    let next = c.in-Some.ensures.cases in
+    let old = matches_later after c.tokens.from.now in
+    let paid = paid_again (length c.tokens.from.now) (length more) (tokens_work (tokens_of c.args.tokens.now)) next.1 in
+    record {
+      same = inv.same ∙ ap (λ t. t || old) says ∙ ap (matches_later after) next.0 ∙ star_split after more;
+      absorbed = later_is_match after more;
+      short = inv.fewer;
+      fewer = inv.fewer;
+      within = omega arith;
+      left = inv.again;
+      again = inv.again;
+      work = omega (arith, takes, inv.work, inv.again, paid);
+    }
+
+pub returns-in-End-clause-work : goal.returns-in-End-clause-work
+returns-in-End-clause-work g c = omega (arith, c.tokens.invariant.work, c.in-End.ensures.takes)
+
+pub returns-in_default-clause-work : goal.returns-in_default-clause-work
+returns-in_default-clause-work g c = omega (arith, c.tokens.invariant.work, c.in-Mismatch.ensures.takes)

@@ -1,11 +1,17 @@
-use Rattle.std.proofs.Common.{◌≡◌, length}
+use Rattle.std.proofs.Common.{◌≡◌, ◌≤◌, ◌+◌, length}
 use Rattle.cs_listing.specs.Globs.{matches_name}
+use Rattle.cs_listing.specs.MatchWork.{tokens_work}
 use Rattle.cs_listing.specs.Models.{tokens_of}
 use Rattle.cs_listing.proofs.glob.matches_name.Given as goal
 
 -- the tokens left match the rest exactly if all match the name
 abbrev pub invariant-tokens : goal.invariant-tokens
-invariant-tokens l = matches_name (tokens_of l.tokens) l.name ≡ matches_name (tokens_of l.left) l.rest
+invariant-tokens g l = record {
+  same : matches_name (tokens_of l.tokens) l.name ≡ matches_name (tokens_of l.left) l.rest;
+  shorter : length l.rest ≤ length l.name;
+  fewer : tokens_work (tokens_of l.left) ≤ tokens_work (tokens_of l.tokens);
+  work : l.steps + tokens_work (tokens_of l.left) ≤ l.fn.steps + tokens_work (tokens_of l.tokens);
+}
 
 abbrev pub decreases-tokens : goal.decreases-tokens
-decreases-tokens l = length l.left
+decreases-tokens g l = length l.left

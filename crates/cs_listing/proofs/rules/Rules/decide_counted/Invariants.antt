@@ -1,0 +1,15 @@
+use Rattle.std.proofs.Common.{◌≡◌, ◌≤◌, ◌+◌, map, length}
+use Rattle.cs_listing.specs.Rules.{decide}
+use Rattle.cs_listing.specs.MatchWork.{rules_work}
+use Rattle.cs_listing.specs.Models.{names, rule_of}
+use Rattle.cs_listing.proofs.rules.Rules.decide_counted.Given as goal
+
+-- the earlier rules decide as all do
+abbrev pub invariant-rules : goal.invariant-rules
+invariant-rules g l = record {
+  same : decide (map rule_of l.self.rules.items) (names l.path) l.is_folder ≡ decide (map rule_of l.earlier) (names l.path) l.is_folder;
+  work : l.steps + rules_work (map rule_of l.earlier) (names l.path) ≤ l.fn.steps + rules_work (map rule_of l.self.rules.items) (names l.path);
+}
+
+abbrev pub decreases-rules : goal.decreases-rules
+decreases-rules g l = length l.earlier

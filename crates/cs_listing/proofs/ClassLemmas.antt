@@ -2,10 +2,7 @@
 use Rattle.std.proofs.Common.{◌≡◌, refl, ℕ, zero, suc, ◌+◌, ◌-◌, ◌≤◌, ◌<◌, Bool, true, false, cond, List, [], ◌∷◌, ◌++◌, length, drop, take, sym, ap, ◌∙◌, subst, arith, append_assoc, length-take, length-drop}
 use Rattle.std.proofs.lemmas.Slice.Eq.{bytes_eq-Decides}
 use Rattle.std.specs.Prelude.{Option, Some, None, nat_eq, nat_le, ◌&&◌, IfSome, bytes_eq, codes}
-use Rattle.cs_listing.specs.Classes.{begins_with, after_backslash, quoted, letters, class_name, name_in, is_range, range_to, range_from, named_item, ranges_named, item_or, class_item, item_length, with_item, one_longer, later_items, class_items}
-
-abbrev pub Items : Type 0
-Items = Option (List (ℕ × ℕ) × ℕ)
+use Rattle.cs_listing.specs.Classes.{Items, begins_with, after_backslash, quoted, letters, class_name, name_in, is_range, range_to, range_from, named_item, ranges_named, item_or, class_item, item_length, with_item, one_longer, later_items, class_items}
 
 -- ---- lengths
 

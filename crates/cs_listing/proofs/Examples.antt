@@ -1,6 +1,8 @@
 -- Rows of the definitions: examples of gitignore(5), and what git does where that page is silent.
 use Rattle.std.proofs.Common.{◌≡◌, refl, ℕ, true, false, List, [], ◌∷◌, ◌++◌}
 use Rattle.std.specs.Prelude.{Option, Some, None, codes}
+use Rattle.cs_listing.specs.Globs.{byte, star}
+use Rattle.cs_listing.specs.MatchWork.{name_work}
 use Rattle.cs_listing.specs.Rules.{decide}
 use Rattle.cs_listing.specs.RuleFiles.{rules_of}
 use Rattle.cs_listing.specs.declared.rules.Decision.{Decision}
@@ -121,3 +123,9 @@ last_counts = refl
 
 mark : file_says (239 ∷ 187 ∷ 191 ∷ codes "x") (codes "x") ≡ Some Ignore
 mark = refl
+
+-- ---- work
+
+-- `*a` at a name of three bytes
+star_work : name_work (star ∷ byte 97 ∷ []) 3 ≡ 12
+star_work = refl

@@ -1,5 +1,10 @@
--- Classes in the text of a glob, as in `[a-z]`, `[!0-9]` and `[[:alpha:]]`: fnmatch(3), regex(7).
+-- Classes in the text of a glob, as in `[a-z]`, `[!0-9]` and `[[:alpha:]]`: fnmatch(3), regex(7). The bytes are 45 for `-`,
+-- 92 for a backslash, 93 for `]`, and 97 to 122 for small letters.
 use Rattle.std.specs.Prelude.{ℕ, zero, suc, length, ◌+◌, ◌-◌, max, Bool, false, not, ◌&&◌, nat_eq, nat_le, if◌then◌else◌, List, [], ◌∷◌, ◌++◌, drop, take, Option, Some, None, codes, bytes_eq}
+
+-- What is read of a text: ranges, and the length of their text. None if they are no part of a class.
+abbrev pub Items : Type 0
+Items = Option (List (ℕ × ℕ) × ℕ)
 
 -- whether a text begins with the byte
 abbrev pub begins_with : ℕ → List ℕ → Bool
@@ -57,46 +62,46 @@ is_range text = begins_with 45 text && (not (bytes_eq (drop 1 text) []) && not (
 
 -- The range from a byte, with its length, to another one. If the other one is less, the range has the first byte
 -- alone.
-abbrev pub range_to : ℕ × ℕ → Option (ℕ × ℕ) → Option (List (ℕ × ℕ) × ℕ)
+abbrev pub range_to : ℕ × ℕ → Option (ℕ × ℕ) → Items
 range_to low None = None
 range_to low (Some high) = Some ((low.0, max low.0 high.0) ∷ [], low.1 + 1 + high.1)
 
 -- the range that begins with a byte, if there is one
-abbrev pub range_from : List ℕ → Option (ℕ × ℕ) → Option (List (ℕ × ℕ) × ℕ)
+abbrev pub range_from : List ℕ → Option (ℕ × ℕ) → Items
 range_from text None = None
 range_from text (Some low) =
     if is_range (drop low.1 text) then range_to low (quoted (drop (low.1 + 1) text)) else Some ((low.0, low.0) ∷ [], low.1)
 
-abbrev pub named_item : List ℕ → Option (List (ℕ × ℕ)) → Option (List (ℕ × ℕ) × ℕ)
+abbrev pub named_item : List ℕ → Option (List (ℕ × ℕ)) → Items
 named_item name None = None
 named_item name (Some ranges) = Some (ranges, length name + 4)
 
 -- the item of a class that a text begins with: its ranges and its length
-abbrev pub item_or : List ℕ → Option (List ℕ) → Option (List (ℕ × ℕ) × ℕ)
+abbrev pub item_or : List ℕ → Option (List ℕ) → Items
 item_or text None = range_from text (quoted text)
 item_or text (Some name) = named_item name (ranges_named name)
 
-abbrev pub class_item : List ℕ → Option (List (ℕ × ℕ) × ℕ)
+abbrev pub class_item : List ℕ → Items
 class_item text = item_or text (class_name text)
 
 -- ---- classes
 
-abbrev pub item_length : Option (List (ℕ × ℕ) × ℕ) → ℕ
+abbrev pub item_length : Items → ℕ
 item_length None = 0
 item_length (Some item) = item.1
 
 -- an item and what follows it; the length is that of what follows
-abbrev pub with_item : Option (List (ℕ × ℕ) × ℕ) → Option (List (ℕ × ℕ) × ℕ) → Option (List (ℕ × ℕ) × ℕ)
+abbrev pub with_item : Items → Items → Items
 with_item None others = None
 with_item (Some item) None = None
 with_item (Some item) (Some others) = Some (item.0 ++ others.0, others.1)
 
-abbrev pub one_longer : Option (List (ℕ × ℕ) × ℕ) → Option (List (ℕ × ℕ) × ℕ)
+abbrev pub one_longer : Items → Items
 one_longer None = None
 one_longer (Some items) = Some (items.0, items.1 + 1)
 
 -- The items up to the `]`, and the length with it. The first bytes, as many as the number says, are those of an item before.
-abbrev pub later_items : ℕ → List ℕ → Option (List (ℕ × ℕ) × ℕ)
+abbrev pub later_items : ℕ → List ℕ → Items
 later_items n [] = None
 later_items (suc n) (b ∷ text) = one_longer (later_items n text)
 later_items zero (b ∷ text) =
@@ -104,5 +109,5 @@ later_items zero (b ∷ text) =
     else with_item (class_item (b ∷ text)) (one_longer (later_items (item_length (class_item (b ∷ text)) - 1) text))
 
 -- A class after its `[` and `!`: its ranges and its length. A `]` that comes first is an item. None if it does not end.
-abbrev pub class_items : List ℕ → Option (List (ℕ × ℕ) × ℕ)
+abbrev pub class_items : List ℕ → Items
 class_items text = with_item (class_item text) (later_items (item_length (class_item text)) text)

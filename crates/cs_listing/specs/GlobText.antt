@@ -1,9 +1,10 @@
 -- How the text of a rule, without its `!` and the slash at its end, is read as a glob: gitignore(5), "PATTERN FORMAT".
+-- The bytes are 33 for `!`, 42 for `*`, 63 for `?`, 91 for `[` and 94 for `^`.
 use Rattle.std.specs.Prelude.{ℕ, zero, suc, ◌+◌, ◌-◌, Bool, true, false, ◌&&◌, ◌||◌, nat_eq, nat_le, if◌then◌else◌, List, [], ◌∷◌, drop, length, Option, Some, None}
 use Rattle.std.specs.List.{list_any, list_all, slice_split}
 use Rattle.std.specs.Path.{slash}
 use Rattle.cs_listing.specs.Globs.{GlobToken, byte, any, class, star, Element, folders, one}
-use Rattle.cs_listing.specs.Classes.{begins_with, quoted, class_items}
+use Rattle.cs_listing.specs.Classes.{Items, begins_with, quoted, class_items}
 
 -- ---- tokens
 
@@ -16,7 +17,7 @@ byte_token None = (nothing, 1)
 byte_token (Some own) = (byte own.0, own.1)
 
 -- a class, before whose items so many bytes stand in a text of that length
-abbrev pub class_token : Bool → ℕ → ℕ → Option (List (ℕ × ℕ) × ℕ) → GlobToken × ℕ
+abbrev pub class_token : Bool → ℕ → ℕ → Items → GlobToken × ℕ
 class_token negated before len None = (nothing, len)
 class_token negated before len (Some items) = (class negated items.0, before + items.1)
 

@@ -1,4 +1,5 @@
--- The rules of a file like .gitignore: gitignore(5), "PATTERN FORMAT".
+-- The rules of a file like .gitignore: gitignore(5), "PATTERN FORMAT". The bytes are 10 for a newline, 13 for a carriage
+-- return, 32 for a space, 33 for `!`, 35 for `#` and 92 for a backslash.
 use Rattle.std.specs.Prelude.{ℕ, ◌-◌, Bool, true, false, ◌&&◌, nat_eq, if◌then◌else◌, List, [], ◌∷◌, drop, take, length, Option, Some, None, bytes_eq, filter_map}
 use Rattle.std.specs.List.{slice_split, before_first}
 use Rattle.std.specs.Path.{slash}

@@ -37,7 +37,8 @@ fn without_slash(text: &[u8]) -> &[u8]
 
 /// Adds the elements of a text.
 fn add_elements(alloc: Global, glob: &mut Vec<Element>, text: &[u8]) -> Result<(), AllocError>
-    ensures { OnOk result (glob_of glob.new.items ≡ glob_of glob.old.items ++ elements_in text.now) }
+    ensures { OnOk result (glob_of glob.new.items
+        ≡ glob_of glob.old.items ++ elements_in text.now) }
 {
     let mut tokens = Vec::new(alloc);
     let mut rest = text;
@@ -139,7 +140,8 @@ fn element(tokens: Vec<Token>) -> Element
 
 /// Adds the last element. A `**` there is `**/*`.
 fn add_last(alloc: Global, glob: &mut Vec<Element>, tokens: Vec<Token>) -> Result<(), AllocError>
-    ensures { OnOk result (glob_of glob.new.items ≡ glob_of glob.old.items ++ last_element (tokens_of tokens.items)) }
+    ensures { OnOk result (glob_of glob.new.items
+        ≡ glob_of glob.old.items ++ last_element (tokens_of tokens.items)) }
 {
     if !is_double_star(&tokens) {
         glob.push(Element::One(tokens))?;

@@ -1,6 +1,8 @@
 -- What one step of matching finds, of a name and of a path.
 use denote.Ref.{Bor}
 use Rattle.std.specs.Prelude.{ℕ, ◌≡◌, ◌+◌, ◌≤◌, ◌<◌, true, false, List, ◌∷◌, length, drop}
+use Rattle.cs_prefilter.specs.declared.steps.Steps.{Steps}
+use Rattle.cs_prefilter.specs.CountsAtMost.{CountsAtMost}
 use Rattle.cs_listing.specs.Globs.{star, matches_name, folders, matches_path}
 use Rattle.cs_listing.specs.MatchWork.{tokens_work, largest}
 use Rattle.cs_listing.specs.Models.{tokens_of, glob_of, names}
@@ -24,16 +26,16 @@ NameStepSays tokens name in_name.End = matches_name (tokens_of tokens) name ≡ 
 NameStepSays tokens name in_name.Mismatch = matches_name (tokens_of tokens) name ≡ false
 
 -- what the tokens that are left may take falls by the steps that were taken
-abbrev pub PaysFor : List Token → List Token → ℕ → ℕ → Type 0
-PaysFor tokens later before after =
-    (after + tokens_work (tokens_of later) ≤ before + tokens_work (tokens_of tokens))
-    × (tokens_work (tokens_of later) ≤ tokens_work (tokens_of tokens))
+abbrev pub PaysFor : List Token → List Token → Steps → Steps → Type 0
+PaysFor tokens later old new =
+    (new.count + tokens_work (tokens_of later) ≤ old.count + tokens_work (tokens_of tokens))
+    × (tokens_work (tokens_of later) ≤ tokens_work (tokens_of tokens)) × (old.count ≤ new.count)
 
 -- The tokens that are left pay for a step, and a mismatch takes one more.
-abbrev pub NameStepTakes : List Token → NameStep → ℕ → ℕ → Type 0
-NameStepTakes tokens (in_name.Star later) before after = PaysFor tokens later.now before after
-NameStepTakes tokens (in_name.Byte later rest) before after = PaysFor tokens later.now before after
-NameStepTakes tokens _ before after = after ≤ before + tokens_work (tokens_of tokens) + 1
+abbrev pub NameStepTakes : List Token → NameStep → Steps → Steps → Type 0
+NameStepTakes tokens (in_name.Star later) old new = PaysFor tokens later.now old new
+NameStepTakes tokens (in_name.Byte later rest) old new = PaysFor tokens later.now old new
+NameStepTakes tokens _ old new = CountsAtMost (tokens_work (tokens_of tokens) + 1) old new
 
 -- the same of the elements of a glob and of a path
 abbrev pub PathStepSays : List Element → List (Bor (List ℕ)) → PathStep → Type 0

@@ -1,14 +1,14 @@
 // Globs: what each element of a path has to match. After a mismatch only the last `*`, or the last `**`, takes one more, so
 // each token meets each byte at most once.
-ghost use Rattle.std.specs.Prelude.{◌≡◌, ◌≤◌, ◌+◌, ◌∷◌, length};
+ghost use Rattle.std.specs.Prelude.{◌≡◌, ◌+◌, ◌∷◌, length};
 ghost use Rattle.cs_listing.specs.MatchWork.{token_work, name_work, pair_work, path_work};
 ghost use Rattle.cs_listing.specs.Globs.{is_in_ranges as is_in_ranges', accepts_byte, matches_name as matches_name', matches_path as matches_path', star, folders};
+ghost use Rattle.cs_prefilter.specs.CountsAtMost.{CountsAtMost};
 ghost use Rattle.cs_listing.specs.Models.{token_of, tokens_of, glob_of, names};
 ghost use Rattle.cs_listing.specs.Matching.{NameStepSays, NameStepTakes, PathStepSays};
 
 use cs_prefilter::Steps;
 use std::marker::Model;
-use std::sync::ledger::Ledger;
 
 /// What a part of a name has to match.
 #[derive(Debug, Drop)]
@@ -35,8 +35,8 @@ pub(crate) enum Element {
 
 impl Token {
     /// Counts the steps of the token at one byte.
-    fn count<L: Ledger>(&self, steps: &mut Steps<L>)
-        ensures { steps.new ≡ steps.old + token_work (token_of self.now) }
+    fn count(&self, steps: &mut Steps)
+        ensures { steps.new.count ≡ steps.old.count + token_work (token_of self.now) }
     {
         steps.add(1);
         if let Token::Class { ranges, .. } = self {
@@ -73,11 +73,7 @@ enum NameStep<'t, 'n> {
     Mismatch,
 }
 
-fn name_step<'t, 'n, L: Ledger>(
-    tokens: &'t [Token],
-    name: &'n [u8],
-    steps: &mut Steps<L>,
-) -> NameStep<'t, 'n>
+fn name_step<'t, 'n>(tokens: &'t [Token], name: &'n [u8], steps: &mut Steps) -> NameStep<'t, 'n>
     ensures says { NameStepSays tokens.now name.now result }
     ensures takes { NameStepTakes tokens.now result steps.old steps.new }
 {
@@ -100,9 +96,9 @@ fn name_step<'t, 'n, L: Ledger>(
 }
 
 /// Whether the tokens match the whole name.
-fn matches_name<L: Ledger>(tokens: &[Token], name: &[u8], steps: &mut Steps<L>) -> bool
+fn matches_name(tokens: &[Token], name: &[u8], steps: &mut Steps) -> bool
     ensures matches { result ≡ matches_name' (tokens_of tokens.now) name.now }
-    ensures work { steps.new ≤ steps.old + name_work (tokens_of tokens.now) (length name.now) }
+    ensures work { CountsAtMost (name_work (tokens_of tokens.now) (length name.now)) steps.old steps.new }
 {
     let mut left = tokens;
     let mut rest = name;
@@ -120,9 +116,9 @@ fn matches_name<L: Ledger>(tokens: &[Token], name: &[u8], steps: &mut Steps<L>) 
 }
 
 /// Whether a star and the tokens match the whole name.
-fn matches_after_star<L: Ledger>(tokens: &[Token], name: &[u8], steps: &mut Steps<L>) -> bool
+fn matches_after_star(tokens: &[Token], name: &[u8], steps: &mut Steps) -> bool
     ensures matches { result ≡ matches_name' (star ∷ tokens_of tokens.now) name.now }
-    ensures work { steps.new ≤ steps.old + name_work (tokens_of tokens.now) (length name.now) }
+    ensures work { CountsAtMost (name_work (tokens_of tokens.now) (length name.now)) steps.old steps.new }
 {
     let mut after = tokens;
     let mut from = name;
@@ -160,13 +156,9 @@ enum PathStep<'g> {
     Mismatch,
 }
 
-fn path_step<'g, L: Ledger>(
-    glob: &'g [Element],
-    path: &[&[u8]],
-    steps: &mut Steps<L>,
-) -> PathStep<'g>
+fn path_step<'g>(glob: &'g [Element], path: &[&[u8]], steps: &mut Steps) -> PathStep<'g>
     ensures says { PathStepSays glob.now path.now result }
-    ensures work { steps.new ≤ steps.old + pair_work (glob_of glob.now) (names path.now) + 1 }
+    ensures work { CountsAtMost (pair_work (glob_of glob.now) (names path.now) + 1) steps.old steps.new }
 {
     steps.add(1);
     let Some((element, later)) = glob.split_first() else {
@@ -189,12 +181,8 @@ fn path_step<'g, L: Ledger>(
 }
 
 /// Whether the elements of a glob match the whole path.
-pub(crate) fn matches_path<L: Ledger>(
-    glob: &[Element],
-    path: &[&[u8]],
-    steps: &mut Steps<L>,
-) -> bool
-    ensures work { steps.new ≤ steps.old + path_work (glob_of glob.now) (names path.now) }
+pub(crate) fn matches_path(glob: &[Element], path: &[&[u8]], steps: &mut Steps) -> bool
+    ensures work { CountsAtMost (path_work (glob_of glob.now) (names path.now)) steps.old steps.new }
     ensures matches { result ≡ matches_path' (glob_of glob.now) (names path.now) }
 {
     let mut left = glob;
@@ -213,8 +201,8 @@ pub(crate) fn matches_path<L: Ledger>(
 }
 
 /// Whether `**` and the elements match the whole path.
-fn matches_after_folders<L: Ledger>(glob: &[Element], path: &[&[u8]], steps: &mut Steps<L>) -> bool
-    ensures work { steps.new ≤ steps.old + path_work (glob_of glob.now) (names path.now) }
+fn matches_after_folders(glob: &[Element], path: &[&[u8]], steps: &mut Steps) -> bool
+    ensures work { CountsAtMost (path_work (glob_of glob.now) (names path.now)) steps.old steps.new }
     ensures matches { result ≡ matches_path' (folders ∷ glob_of glob.now) (names path.now) }
 {
     let mut after = glob;

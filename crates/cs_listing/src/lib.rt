@@ -8,7 +8,5 @@ mod glob;
 mod glob_parsing;
 mod rule_lines;
 mod rules;
-#[cfg(test)]
-mod tests;
 
 pub use rules::{Decision, Rules};

@@ -1,7 +1,8 @@
 // The rules of one file, and what the last of them says that applies to a path.
-ghost use Rattle.std.specs.Prelude.{◌≡◌, ◌≤◌, ◌<◌, ◌+◌, IfOk, OnOk};
+ghost use Rattle.std.specs.Prelude.{◌≡◌, IfOk, OnOk};
 ghost use Rattle.cs_listing.specs.Rules.{applies as applies', decide as decide'};
 ghost use Rattle.cs_listing.specs.MatchWork.{path_work, rules_work};
+ghost use Rattle.cs_prefilter.specs.CountsAtMost.{CountsAtMost};
 ghost use Rattle.cs_listing.specs.Models.{names, rule_of};
 ghost use Rattle.cs_listing.specs.RuleFiles.{rules_of, rule_of_line, rule_in, rule_saying};
 ghost use Rattle.cs_listing.specs.Reading.{rules_in, AddsRule};
@@ -12,8 +13,7 @@ use crate::glob_parsing::parse_glob;
 use crate::rule_lines::{line_text, without_last, without_mark};
 use cs_prefilter::Steps;
 use std::alloc::{AllocError, Global};
-use std::marker::{Brand, Model};
-use std::sync::ledger::{Blank, Ledger};
+use std::marker::Model;
 
 /// What a rule says of what it matches.
 #[derive(Clone, Copy, Debug, PartialEq, Eq)]
@@ -50,34 +50,9 @@ impl Rules {
     }
 
     /// What the last rule says that applies to a path, which is given by its elements below the folder of the rules.
-    pub fn decide(&self, path: &[&[u8]], is_folder: bool) -> Option<Decision>
-        ensures { result ≡ decide' (rules_in self.now) (names path.now) is_folder }
-    {
-        self.decide_from_blank::<Brand>(path, is_folder, Blank::new(1))
-    }
-
-    fn decide_from_blank<L: Ledger>(
-        &self,
-        path: &[&[u8]],
-        is_folder: bool,
-        blank: Blank,
-    ) -> Option<Decision>
-        requires blank { (blank.name ≡ L.name) × (blank.parts ≡ L.parts) × (0 < blank.parts) }
-        ensures { result ≡ decide' (rules_in self.now) (names path.now) is_folder }
-    {
-        let mut steps = Steps::<L>::new(blank);
-        self.decide_counted(path, is_folder, &mut steps)
-    }
-
-    /// The same, with its steps counted.
-    pub fn decide_counted<L: Ledger>(
-        &self,
-        path: &[&[u8]],
-        is_folder: bool,
-        steps: &mut Steps<L>,
-    ) -> Option<Decision>
+    pub fn decide(&self, path: &[&[u8]], is_folder: bool, steps: &mut Steps) -> Option<Decision>
         ensures decides { result ≡ decide' (rules_in self.now) (names path.now) is_folder }
-        ensures work { steps.new ≤ steps.old + rules_work (rules_in self.now) (names path.now) }
+        ensures work { CountsAtMost (rules_work (rules_in self.now) (names path.now)) steps.old steps.new }
     {
         let mut earlier = self.rules.as_slice();
         'rules: while let Some((rule, rest)) = earlier.split_last() {
@@ -91,9 +66,9 @@ impl Rules {
 }
 
 impl Rule {
-    fn applies<L: Ledger>(&self, path: &[&[u8]], is_folder: bool, steps: &mut Steps<L>) -> bool
+    fn applies(&self, path: &[&[u8]], is_folder: bool, steps: &mut Steps) -> bool
         ensures applies { result ≡ applies' (rule_of self.now) (names path.now) is_folder }
-        ensures work { steps.new ≤ steps.old + path_work (rule_of self.now).glob (names path.now) }
+        ensures work { CountsAtMost (path_work (rule_of self.now).glob (names path.now)) steps.old steps.new }
     {
         (is_folder || !self.only_folders) && matches_path(&self.glob, path, steps)
     }

@@ -8,7 +8,7 @@ use Rattle.cs_listing.proofs.WorkLemmas.{paid, paid_last, falls_at_star, falls_a
 use Rattle.cs_listing.proofs.glob.matches_after_folders.Goals as goal
 
 pub elements-preserved-in-Folders : goal.elements-preserved-in-Folders
-elements-preserved-in-Folders g c =
+elements-preserved-in-Folders c =
     let path = c.args.path.now in
     let own = c.args.glob.now in
     let at = c.elements.at in
@@ -27,14 +27,15 @@ elements-preserved-in-Folders g c =
       within = inv.within;
       large = omega (arith, says.2, inv.large);
       again = omega (arith, says.2, inv.large);
-      work = paid (pair_work (glob_of own) (names path) + 1) c.elements.steps c.path_step.new.steps _ _ _ inv.work
-          (omega (arith, takes, less))
+      rises = omega (arith, inv.rises, takes.0);
+      work = paid (pair_work (glob_of own) (names path) + 1) c.elements.steps.count c.path_step.new.steps.count _ _ _ inv.work
+          (omega (arith, takes.1, less))
           (falls_at_star (length path) c.elements.from at (length own) (length c.elements.left.now) (length later) inv.later
           (omega (arith, says.1)));
     }
 
 pub elements-preserved-in-Name : goal.elements-preserved-in-Name
-elements-preserved-in-Name g c =
+elements-preserved-in-Name c =
     let path = c.args.path.now in
     let own = c.args.glob.now in
     let at = c.elements.at in
@@ -54,12 +55,13 @@ elements-preserved-in-Name g c =
       within = omega (arith, says.3, length-drop at path);
       large = omega (arith, says.4, inv.large);
       again = inv.again;
-      work = paid (pair_work (glob_of own) (names path) + 1) c.elements.steps c.path_step.new.steps _ _ _ inv.work
-          (omega (arith, takes, less)) (omega (arith, says.2));
+      rises = omega (arith, inv.rises, takes.0);
+      work = paid (pair_work (glob_of own) (names path) + 1) c.elements.steps.count c.path_step.new.steps.count _ _ _ inv.work
+          (omega (arith, takes.1, less)) (omega (arith, says.2));
     }
 
 pub elements-preserved : goal.elements-preserved
-elements-preserved g c =
+elements-preserved c =
     let path = c.args.path.now in
     let own = c.args.glob.now in
     let at = c.elements.at in
@@ -80,29 +82,30 @@ elements-preserved g c =
       within = omega arith;
       large = inv.again;
       again = inv.again;
-      work = paid (pair_work (glob_of own) (names path) + 1) c.elements.steps c.path_step.new.steps _ _ _ inv.work
-          (omega (arith, takes, less))
+      rises = omega (arith, inv.rises, takes.0);
+      work = paid (pair_work (glob_of own) (names path) + 1) c.elements.steps.count c.path_step.new.steps.count _ _ _ inv.work
+          (omega (arith, takes.1, less))
           (falls_again (length path) from (length own) (length c.elements.left.now) (length c.elements.after.now) before inv.fewer);
     }
 
 pub returns-in-End-clause-work : goal.returns-in-End-clause-work
-returns-in-End-clause-work g c =
+returns-in-End-clause-work c =
     let path = c.args.path.now in
     let own = c.args.glob.now in
     let inv = c.elements.invariant in
     let takes = (rw (take_rest path c.elements.at) at c.in-End.ensures.work) in
     let less = pair_less (glob_of c.elements.left.now) (glob_of own) c.elements.at path inv.large in
     let all = paid_last (pair_work (glob_of own) (names path) + 1) (length path) c.elements.from (length own) (length c.elements.left.now)
-    c.elements.steps c.path_step.new.steps c.args.steps.now inv.work (omega (arith, takes, less)) in
-    omega (arith, all, path_work_is own path)
+    c.elements.steps.count c.path_step.new.steps.count c.args.steps.now.count inv.work (omega (arith, takes.1, less)) in
+    (omega (arith, inv.rises, takes.0), omega (arith, all, path_work_is own path))
 
 pub returns-then-from-path-clause-work : goal.returns-then-from-path-clause-work
-returns-then-from-path-clause-work g c =
+returns-then-from-path-clause-work c =
     let path = c.args.path.now in
     let own = c.args.glob.now in
     let inv = c.elements.invariant in
     let takes = (rw (take_rest path c.elements.at) at c.in-Mismatch.ensures.work) in
     let less = pair_less (glob_of c.elements.left.now) (glob_of own) c.elements.at path inv.large in
     let all = paid_last (pair_work (glob_of own) (names path) + 1) (length path) c.elements.from (length own) (length c.elements.left.now)
-    c.elements.steps c.path_step.new.steps c.args.steps.now inv.work (omega (arith, takes, less)) in
-    omega (arith, all, path_work_is own path)
+    c.elements.steps.count c.path_step.new.steps.count c.args.steps.now.count inv.work (omega (arith, takes.1, less)) in
+    (omega (arith, inv.rises, takes.0), omega (arith, all, path_work_is own path))

@@ -6,7 +6,7 @@ use Rattle.cs_listing.proofs.WorkLemmas.{paid_later, paid_again}
 use Rattle.cs_listing.proofs.glob.matches_after_star.Goals as goal
 
 pub tokens-preserved-in-Star : goal.tokens-preserved-in-Star
-tokens-preserved-in-Star g c =
+tokens-preserved-in-Star c =
     let inv = c.tokens.invariant in
     let says = c.in-Star.ensures.says in
     let takes = c.in-Star.ensures.takes in
@@ -19,11 +19,12 @@ tokens-preserved-in-Star g c =
       within = omega arith;
       left = omega (arith, takes.1, inv.left);
       again = omega (arith, takes.1, inv.left);
+      rises = omega (arith, takes.2, inv.rises);
       work = omega (arith, takes.0, inv.work, paid);
     }
 
 pub tokens-preserved-in-Byte : goal.tokens-preserved-in-Byte
-tokens-preserved-in-Byte g c =
+tokens-preserved-in-Byte c =
     let inv = c.tokens.invariant in
     let says = c.in-Byte.ensures.says in
     let takes = c.in-Byte.ensures.takes in
@@ -36,11 +37,12 @@ tokens-preserved-in-Byte g c =
       within = omega (arith, says.3, inv.within);
       left = omega (arith, takes.1, inv.left);
       again = inv.again;
+      rises = omega (arith, takes.2, inv.rises);
       work = omega (arith, takes.0, inv.work);
     }
 
 pub tokens-preserved : goal.tokens-preserved
-tokens-preserved g c =
+tokens-preserved c =
     let inv = c.tokens.invariant in
     let says = c.in-Mismatch.ensures.says in
     let takes = c.in-Mismatch.ensures.takes in
@@ -57,11 +59,18 @@ tokens-preserved g c =
       within = omega arith;
       left = inv.again;
       again = inv.again;
-      work = omega (arith, takes, inv.work, inv.again, paid);
+      rises = omega (arith, takes.0, inv.rises);
+      work = omega (arith, takes.1, inv.work, inv.again, paid);
     }
 
 pub returns-in-End-clause-work : goal.returns-in-End-clause-work
-returns-in-End-clause-work g c = omega (arith, c.tokens.invariant.work, c.in-End.ensures.takes)
+returns-in-End-clause-work c =
+    let inv = c.tokens.invariant in
+    let takes = c.in-End.ensures.takes in
+    (omega (arith, inv.rises, takes.0), omega (arith, inv.work, takes.1))
 
 pub returns-in_default-clause-work : goal.returns-in_default-clause-work
-returns-in_default-clause-work g c = omega (arith, c.tokens.invariant.work, c.in-Mismatch.ensures.takes)
+returns-in_default-clause-work c =
+    let inv = c.tokens.invariant in
+    let takes = c.in-Mismatch.ensures.takes in
+    (omega (arith, inv.rises, takes.0), omega (arith, inv.work, takes.1))

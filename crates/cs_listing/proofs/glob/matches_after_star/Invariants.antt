@@ -7,7 +7,7 @@ use Rattle.cs_listing.proofs.glob.matches_after_star.Given as goal
 
 -- There is a match from here on, or the last star takes more. What it could match then, a star here can match.
 abbrev pub invariant-tokens : goal.invariant-tokens
-invariant-tokens g l = record {
+invariant-tokens l = record {
   same : matches_name (star ∷ tokens_of l.tokens) l.name
       ≡ (matches_name (tokens_of l.left) l.rest || matches_later (tokens_of l.after) l.from);
   absorbed : matches_later (tokens_of l.after) l.from ≡ true → matches_name (star ∷ tokens_of l.left) l.rest ≡ true;
@@ -16,10 +16,11 @@ invariant-tokens g l = record {
   within : length l.rest ≤ length l.from;
   left : tokens_work (tokens_of l.left) ≤ tokens_work (tokens_of l.tokens);
   again : tokens_work (tokens_of l.after) ≤ tokens_work (tokens_of l.tokens);
-  work : l.steps + length l.from * (tokens_work (tokens_of l.tokens) + 1) + tokens_work (tokens_of l.left)
-      ≤ l.fn.steps + length l.name * (tokens_work (tokens_of l.tokens) + 1) + tokens_work (tokens_of l.tokens);
+  rises : l.fn.steps.count ≤ l.steps.count;
+  work : l.steps.count + length l.from * (tokens_work (tokens_of l.tokens) + 1) + tokens_work (tokens_of l.left)
+      ≤ l.fn.steps.count + length l.name * (tokens_work (tokens_of l.tokens) + 1) + tokens_work (tokens_of l.tokens);
 }
 
 -- each byte from which the last star may take more can be met by each token
 abbrev pub decreases-tokens : goal.decreases-tokens
-decreases-tokens g l = length l.from * (length l.tokens + 1) + length l.left
+decreases-tokens l = length l.from * (length l.tokens + 1) + length l.left

@@ -6,12 +6,13 @@ use Rattle.cs_listing.proofs.glob.matches_name.Given as goal
 
 -- the tokens left match the rest exactly if all match the name
 abbrev pub invariant-tokens : goal.invariant-tokens
-invariant-tokens g l = record {
+invariant-tokens l = record {
   same : matches_name (tokens_of l.tokens) l.name ≡ matches_name (tokens_of l.left) l.rest;
   shorter : length l.rest ≤ length l.name;
   fewer : tokens_work (tokens_of l.left) ≤ tokens_work (tokens_of l.tokens);
-  work : l.steps + tokens_work (tokens_of l.left) ≤ l.fn.steps + tokens_work (tokens_of l.tokens);
+  rises : l.fn.steps.count ≤ l.steps.count;
+  work : l.steps.count + tokens_work (tokens_of l.left) ≤ l.fn.steps.count + tokens_work (tokens_of l.tokens);
 }
 
 abbrev pub decreases-tokens : goal.decreases-tokens
-decreases-tokens g l = length l.left
+decreases-tokens l = length l.left

@@ -7,7 +7,7 @@ use Rattle.cs_listing.proofs.WorkLemmas.{paid, paid_path, paid_short, pair_less,
 use Rattle.cs_listing.proofs.glob.matches_path.Goals as goal
 
 pub elements-preserved : goal.elements-preserved
-elements-preserved g c =
+elements-preserved c =
     let path = c.args.path.now in
     let at = c.elements.at in
     let inv = c.elements.invariant in
@@ -19,12 +19,13 @@ elements-preserved g c =
       within = omega (arith, says.3, length-drop at path);
       fewer = omega (arith, says.2, inv.fewer);
       large = omega (arith, says.4, inv.large);
-      work = paid (pair_work (glob_of c.args.glob.now) (names path) + 1) c.elements.steps c.path_step.new.steps (length c.elements.left.now)
-          (length c.in-Name.later.now) _ inv.work (omega (arith, takes, less)) (omega (arith, says.2));
+      rises = omega (arith, inv.rises, takes.0);
+      work = paid (pair_work (glob_of c.args.glob.now) (names path) + 1) c.elements.steps.count c.path_step.new.steps.count (length c.elements.left.now)
+          (length c.in-Name.later.now) _ inv.work (omega (arith, takes.1, less)) (omega (arith, says.2));
     }
 
 pub returns-in-Folders-clause-work : goal.returns-in-Folders-clause-work
-returns-in-Folders-clause-work g c =
+returns-in-Folders-clause-work c =
     let path = c.args.path.now in
     let glob = c.args.glob.now in
     let at = c.elements.at in
@@ -36,31 +37,31 @@ returns-in-Folders-clause-work g c =
     let work = (rw (take_rest path at) at c.matches_after_folders.ensures.work) in
     let less = pair_less (glob_of c.elements.left.now) (glob_of glob) at path inv.large in
     let rest = path_less later glob at path (omega (arith, says.2, inv.large)) in
-    let one = paid pair c.elements.steps c.path_step.new.steps (length c.elements.left.now) (length later) _ inv.work
-    (omega (arith, takes, less)) (omega (arith, says.1)) in
-    let all = paid_path pair (length path) (length (drop at path)) (length glob) (length later) c.path_step.new.steps
-    c.matches_after_folders.new.steps c.args.steps.now one (omega (arith, work, rest)) (omega (arith, length-drop at path))
+    let one = paid pair c.elements.steps.count c.path_step.new.steps.count (length c.elements.left.now) (length later) _ inv.work
+    (omega (arith, takes.1, less)) (omega (arith, says.1)) in
+    let all = paid_path pair (length path) (length (drop at path)) (length glob) (length later) c.path_step.new.steps.count
+    c.matches_after_folders.new.steps.count c.args.steps.now.count one (omega (arith, work.1, rest)) (omega (arith, length-drop at path))
     (omega (arith, says.1, inv.fewer)) in
-    omega (arith, all, path_work_is glob path)
+    (omega (arith, inv.rises, takes.0, work.0), omega (arith, all, path_work_is glob path))
 
 pub returns-in-End-clause-work : goal.returns-in-End-clause-work
-returns-in-End-clause-work g c =
+returns-in-End-clause-work c =
     let path = c.args.path.now in
     let glob = c.args.glob.now in
     let inv = c.elements.invariant in
     let takes = (rw (take_rest path c.elements.at) at c.in-End.ensures.work) in
     let less = pair_less (glob_of c.elements.left.now) (glob_of glob) c.elements.at path inv.large in
     let all = paid_short (pair_work (glob_of glob) (names path) + 1) (length path) (length glob) (length c.elements.left.now)
-    c.elements.steps c.path_step.new.steps c.args.steps.now inv.work (omega (arith, takes, less)) in
-    omega (arith, all, path_work_is glob path)
+    c.elements.steps.count c.path_step.new.steps.count c.args.steps.now.count inv.work (omega (arith, takes.1, less)) in
+    (omega (arith, inv.rises, takes.0), omega (arith, all, path_work_is glob path))
 
 pub returns-in-Mismatch-clause-work : goal.returns-in-Mismatch-clause-work
-returns-in-Mismatch-clause-work g c =
+returns-in-Mismatch-clause-work c =
     let path = c.args.path.now in
     let glob = c.args.glob.now in
     let inv = c.elements.invariant in
     let takes = (rw (take_rest path c.elements.at) at c.in-Mismatch.ensures.work) in
     let less = pair_less (glob_of c.elements.left.now) (glob_of glob) c.elements.at path inv.large in
     let all = paid_short (pair_work (glob_of glob) (names path) + 1) (length path) (length glob) (length c.elements.left.now)
-    c.elements.steps c.path_step.new.steps c.args.steps.now inv.work (omega (arith, takes, less)) in
-    omega (arith, all, path_work_is glob path)
+    c.elements.steps.count c.path_step.new.steps.count c.args.steps.now.count inv.work (omega (arith, takes.1, less)) in
+    (omega (arith, inv.rises, takes.0), omega (arith, all, path_work_is glob path))

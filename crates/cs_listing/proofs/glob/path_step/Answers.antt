@@ -7,7 +7,7 @@ use Rattle.cs_listing.proofs.WorkLemmas.{pair_of}
 use Rattle.cs_listing.proofs.glob.path_step.Goals as goal
 
 pub returns-then-matches_name-clause-says : goal.returns-then-matches_name-clause-says
-returns-then-matches_name-clause-says g c =
+returns-then-matches_name-clause-says c =
     let glob = c.in-Some.ensures.cases in
     path_name _ c.in-Some.later.now c.in-One.tokens.items _ _ _
     (ap glob_of glob.0 ∙ ap (λ e. element_of e ∷ glob_of c.in-Some.later.now) c.in-One.is) glob.1
@@ -16,17 +16,17 @@ returns-then-matches_name-clause-says g c =
     ∙ sym c.matches_name.ensures.matches ∙ c.if-matches_name.true)
 
 pub returns-then-matches_name-clause-work : goal.returns-then-matches_name-clause-work
-returns-then-matches_name-clause-work g c =
+returns-then-matches_name-clause-work c =
     let glob = c.in-Some.ensures.cases in
     let pair = pair_of _ c.in-Some.later.now c.in-One.tokens.items _ _ _
     (ap glob_of glob.0 ∙ ap (λ e. element_of e ∷ glob_of c.in-Some.later.now) c.in-One.is) c.in-Some-split_first.ensures.cases in
     let own = ap (λ ts. name_work (tokens_of ts) (length c.in-Some-split_first.name.now.now)) c.deref.ensures.value in
-    omega (arith, pair, own, c.matches_name.ensures.work, c.add.ensures)
+    (omega (arith, c.matches_name.ensures.work.0, c.add.ensures), omega (arith, pair, own, c.matches_name.ensures.work.1, c.add.ensures))
 
 pub returns-clause-work : goal.returns-clause-work
-returns-clause-work g c =
+returns-clause-work c =
     let glob = c.in-Some.ensures.cases in
     let pair = pair_of _ c.in-Some.later.now c.in-One.tokens.items _ _ _
     (ap glob_of glob.0 ∙ ap (λ e. element_of e ∷ glob_of c.in-Some.later.now) c.in-One.is) c.in-Some-split_first.ensures.cases in
     let own = ap (λ ts. name_work (tokens_of ts) (length c.in-Some-split_first.name.now.now)) c.deref.ensures.value in
-    omega (arith, pair, own, c.matches_name.ensures.work, c.add.ensures)
+    (omega (arith, c.matches_name.ensures.work.0, c.add.ensures), omega (arith, pair, own, c.matches_name.ensures.work.1, c.add.ensures))

@@ -8,7 +8,10 @@ fn last_rules_decide(rt: HostRuntime) -> Result<(), Fail> {
     let rules = Rules::parse(rt.alloc(), b"*.o\n!a*/\n/doc/**/x[0-9]\n")?;
     let ignored = Some(Decision::Ignore);
     let mut steps = Steps::new();
-    assert_eq!(rt; rules.decide(&[b"b.o".as_slice()], false, &mut steps), ignored);
+    assert_eq!(rt;
+        rules.decide(&[b"b.o".as_slice()], false, &mut steps),
+        ignored
+    );
     assert_eq!(rt;
         rules.decide(&[b"a.o".as_slice()], true, &mut steps),
         Some(Decision::TakeBack)

@@ -17,7 +17,7 @@ _codesearch() {
         cgrep) options='-c -h -i -l -n' ;;
         cs)
             # its options may stand anywhere
-            [[ $word == -* ]] && mapfile -t COMPREPLY < <(compgen -W '-0 -A -B -C -F -N -S -c -e -i -l -m -n -w --color= --column
+            [[ $word == -* ]] && mapfile -t COMPREPLY < <(compgen -W '-0 -A -B -C -F -H -N -S -c -e -i -l -m -n -w --color= --column
                 --help --json --no-refresh --version --vimgrep' -- "$word")
             return
             ;;

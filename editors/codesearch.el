@@ -45,7 +45,7 @@
   "Search this project for ARGUMENTS, which are those of cs(1)."
   (interactive (list (codesearch-read)))
   (compilation-start
-   (concat codesearch-command " --color=never -n " (if (executable-find "rg") "--column " "") arguments)
+   (concat codesearch-command " --color=never -nH " (if (executable-find "rg") "--column " "") arguments)
    #'grep-mode))
 
 (provide 'codesearch)

@@ -5,7 +5,7 @@ if exists('g:loaded_codesearch') || &compatible
 endif
 let g:loaded_codesearch = 1
 
-let s:options = ['-A', '-B', '-C', '-F', '-S', '-e', '-i', '-m', '-w', '--no-refresh', '--ignore-case', '--smart-case',
+let s:options = ['-A', '-B', '-C', '-F', '-H', '-S', '-e', '-i', '-m', '-w', '--no-refresh', '--ignore-case', '--smart-case',
     \ '--fixed-strings', '--word-regexp', '--max-count=']
 
 " Options after a dash, else names of files.
@@ -20,7 +20,7 @@ function! s:Cs(arguments) abort
     let command = get(g:, 'codesearch_command', 'cs') . ' --color=never'
     let column = executable('rg')
     let errors = tempname()
-    let lines = systemlist(command . (column ? ' --vimgrep ' : ' -n ') . a:arguments . ' 2>' . shellescape(errors))
+    let lines = systemlist(command . (column ? ' --vimgrep ' : ' -nH ') . a:arguments . ' 2>' . shellescape(errors))
     let status = v:shell_error
     let messages = filereadable(errors) ? readfile(errors) : []
     call delete(errors)

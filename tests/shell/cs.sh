@@ -121,6 +121,8 @@ holds "! cs --no-refresh -l 'marker ignored'"
 printf 'marker late\n' > late.c
 gives 1 "cs --no-refresh 'marker late'"
 gives 0 "cs 'marker late'"
+holds "[ \"\$(cs -n 'marker late' late.c)\" = '1:marker late' ]"
+holds "[ \"\$(cs -nH 'marker late' late.c)\" = 'late.c:1:marker late' ]"
 mv "$HOME/link/a project" "$HOME/moved" && cd "$HOME/moved" && as_git -n marker
 
 # several runs at once, a pipe that closes early

@@ -8,9 +8,10 @@ object = $(program).o
 library = out/lib/libcodesearch.a
 sources = crates.txt $(shell find crates -type d \( -name out -o -name must-fail \) -prune -o -type f -print)
 
-.PHONY: help check quick test wrong mutants trusted program lib bench install uninstall dist deb
+.PHONY: help try check quick test wrong mutants trusted program lib bench install uninstall dist deb
 
 help:
+	@echo 'make try        searches a file of this repository with the program as it is before its proof: a minute'
 	@echo 'make program    proves the crates and builds crates/codesearch/out/codesearch: 20 minutes or more the first time'
 	@echo 'make lib        proves and builds the library for C and Rust: out/lib'
 	@echo 'make install    installs the tools, cs, csparts, the library, manual, completions and editor files under PREFIX (now $(PREFIX))'
@@ -22,6 +23,11 @@ help:
 	@echo "make mutants    judges each mutant by itself (also make wrong): hours; CRATES='cs_tree cs_index/NAME' gives some"
 	@echo 'make trusted    what has to be read to believe the contracts of the tools'
 	@echo 'make bench      measures the tools beside their peers over a tree of files: TREE=/usr/src'
+
+# The toolchain runs the sources with checks in place of proofs.
+try:
+	@echo 'codesearch: this first look is not proved; make program proves the program and builds it, in 20 minutes or more' >&2
+	@cd crates/codesearch && rt try -- cgrep -n 'fn [a-z_]+' "$(CURDIR)/crates/cs_match/src/matcher.rt" < /dev/null
 
 check:
 	rt ci

@@ -57,7 +57,7 @@ module _ (t : Tree) (ts : Trees) where
 module _ (a : LookAround) where
   -- a tree without positions does not end
   mutual
-    not_final : (t : Tree) → is_final t (no_positions (position_count t)) a ≡ false
+    pub not_final : (t : Tree) → is_final t (no_positions (position_count t)) a ≡ false
     not_final empty = refl
     not_final (one_of set) = refl
     not_final (one_char ranges) = refl
@@ -80,7 +80,7 @@ module _ (a : LookAround) where
   -- nor has it positions after a byte, if it cannot begin here
   module _ (b : Input) where
     mutual
-      stays_out : (t : Tree) → step t false (no_positions (position_count t)) a b ≡ no_positions (position_count t)
+      pub stays_out : (t : Tree) → step t false (no_positions (position_count t)) a b ≡ no_positions (position_count t)
       stays_out empty = refl
       stays_out (one_of set) = refl
       stays_out (one_char ranges) = chars_out ranges b.char

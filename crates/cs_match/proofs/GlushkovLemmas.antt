@@ -420,7 +420,7 @@ module _ (t : Tree) (s : List ℕ) where
   IsRead u = IsExpanded u → Asked (look_behind u) → Divide (cuts_of t) (char_ranges u) → Reads s (look_around t s) (input_at t s) u
 
   mutual
-    reads : (u : Tree) → IsRead u
+    pub reads : (u : Tree) → IsRead u
     reads empty st asked divide = tt
     reads (one_of set) st asked divide = λ i. refl
     reads (one_char ranges) st asked divide = (cuts_of t, divide, steps (asked.2 refl))

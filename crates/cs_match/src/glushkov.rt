@@ -142,25 +142,28 @@ struct Configuration<'a> {
     here: LookAround,
 }
 
-/// Whether the position set accepts here.
+/// Whether the position set accepts here; `may_begin` says whether a match can begin here.
 pub(crate) fn is_accepting(
     program: &Program,
+    may_begin: bool,
     positions: &PositionSet,
     here: LookAround,
     steps: &mut Steps,
 ) -> bool
     requires { length positions.now ≡ position_count program.now }
-    ensures accepting { result ≡ accepts program.now true positions.now here }
+    ensures accepting { result ≡ accepts program.now may_begin positions.now here }
     ensures cost { CountsAtMost (nodes program.now) steps.old steps.new }
 {
     let mut cursor = START;
     let ends = find_ends(program.part(), positions, &mut [], here, &mut cursor, steps);
-    ends.accepting || ends.nullable
+    ends.accepting || may_begin && ends.nullable
 }
 
-/// Moves the position set over a byte, and returns whether it accepts before the byte.
+/// Moves the position set over a byte, and returns whether it accepts before the byte; `may_begin` says whether a match
+/// can begin there.
 pub(crate) fn step_over(
     program: &Program,
+    may_begin: bool,
     positions: &mut PositionSet,
     scratch: &mut Scratch,
     here: LookAround,
@@ -169,12 +172,12 @@ pub(crate) fn step_over(
 ) -> bool
     requires one_each { length positions.old ≡ position_count program.now }
     requires scratch { IsScratch program.now scratch.old }
-    ensures accepting { result ≡ accepts program.now true positions.old here }
-    ensures positions { positions.new ≡ step program.now true positions.old here input }
+    ensures accepting { result ≡ accepts program.now may_begin positions.old here }
+    ensures positions { positions.new ≡ step program.now may_begin positions.old here input }
     ensures scratch { IsScratch program.now scratch.new }
     ensures cost { CountsAtMost (step_work program.now) steps.old steps.new }
 {
-    let accepting = enter(program, positions, scratch, here, steps);
+    let accepting = enter(program, may_begin, positions, scratch, here, steps);
     let slot = scratch
         .masks
         .find(program.positions(), program.byte_classes(), input, steps);
@@ -185,6 +188,7 @@ pub(crate) fn step_over(
 /// Finds which positions are entered, and returns whether the position set accepts.
 fn enter(
     program: &Program,
+    may_begin: bool,
     positions: &PositionSet,
     scratch: &mut Scratch,
     here: LookAround,
@@ -192,9 +196,9 @@ fn enter(
 ) -> bool
     requires one_each { length positions.now ≡ position_count program.now }
     requires scratch { IsScratch program.now scratch.old }
-    ensures accepting { result ≡ accepts program.now true positions.now here }
+    ensures accepting { result ≡ accepts program.now may_begin positions.now here }
     ensures entries { take (position_count program.now) scratch.new.entries
-        ≡ entered program.now true positions.now here }
+        ≡ entered program.now may_begin positions.now here }
     ensures scratch { IsScratch program.now scratch.new }
     ensures cost { CountsAtMost (2 * nodes program.now + words (position_count program.now + 1))
         steps.old steps.new }
@@ -208,7 +212,14 @@ fn enter(
         loops: &scratch.loops,
         here,
     };
-    advance(part, true, &at, &mut scratch.entries, &mut cursor, steps)
+    advance(
+        part,
+        may_begin,
+        &at,
+        &mut scratch.entries,
+        &mut cursor,
+        steps,
+    )
 }
 
 /// Stores for each repeat whether its body is final here.

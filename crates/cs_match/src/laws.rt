@@ -3,6 +3,9 @@ ghost use Rattle.std.specs.Prelude.{◌≡◌, ◌∷◌, ◌++◌, [], ℕ, Lis
 ghost use Rattle.cs_syntax.specs.Matching.{Tree};
 ghost use Rattle.cs_match.specs.Expansion.{expansion};
 ghost use Rattle.cs_match.specs.Size.{FitsWeight};
+ghost use Rattle.cs_match.specs.Span.{FirstSpansAreUnique};
+ghost use Rattle.cs_match.specs.Glushkov.{IsExpanded};
+ghost use Rattle.cs_match.specs.Passes.{PassesFindEnds};
 ghost use Rattle.cs_match.specs.Decidability.{MatchingIsDecidable};
 ghost use Rattle.cs_match.specs.Lines.{newline, lines, terminated_lines};
 ghost use Rattle.cs_match.specs.NoNewline.{HasNoNewline};
@@ -31,4 +34,15 @@ pub fn terminated_lines_are_parts()
 /// The expansion of a tree has at most two positions and three nodes for each unit of the tree's weight.
 pub fn programs_are_small()
     ensures { (tree : Tree) → FitsWeight (expansion tree) tree }
+{}
+
+/// The first match of a line from an offset on is unique.
+pub fn first_spans_are_unique()
+    ensures { FirstSpansAreUnique }
+{}
+
+/// A pass of the automaton in which a match may begin in a part of the line finds the ends of the matches that begin there.
+pub fn passes_find_ends()
+    ensures { (line : List ℕ) (tree : Tree) (from until : ℕ) → IsExpanded tree →
+        PassesFindEnds line tree from until }
 {}

@@ -22,8 +22,10 @@ mod position_set;
 mod program;
 mod sequences;
 mod skipping;
+mod spans;
 mod state;
 
 pub use matcher::{Cache, Line, Matcher};
 pub use program::Program;
 pub use skipping::whole_lines_len;
+pub use spans::{Finder, Span};

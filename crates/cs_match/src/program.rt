@@ -2,7 +2,7 @@
 ghost use Rattle.std.specs.Prelude.{◌≡◌, ◌≤◌, ◌<◌, ◌^◌, IfOk, IfSome, length};
 ghost use Rattle.cs_syntax.specs.Node.{tree_of};
 ghost use Rattle.cs_syntax.specs.Cuts.{AreCutsOf};
-ghost use Rattle.cs_match.specs.SameLines.{MatchSameLines};
+ghost use Rattle.cs_match.specs.SameLines.{MatchSameLines, MatchSameSpans};
 ghost use Rattle.cs_match.specs.Glushkov.{position_count, repeats, char_step_of, IsExpanded};
 ghost use Rattle.cs_prefilter.specs.WordAt.{IsPrefilterOf};
 ghost use Rattle.cs_match.specs.LookBehind.{look_behind};
@@ -82,6 +82,7 @@ impl Program {
     /// positions and three nodes for each unit of the pattern's weight.
     pub fn compile(alloc: Global, pattern: &Pattern) -> Result<Program, AllocError>
         ensures alike { IfOk result (λ program. MatchSameLines program pattern.now) }
+        ensures spans { IfOk result (λ program. MatchSameSpans program pattern.now) }
         ensures small { IfOk result (λ program. FitsWeight program pattern.now) }
     {
         let root = expand(alloc, pattern.tree())?;

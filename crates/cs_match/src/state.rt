@@ -173,7 +173,15 @@ impl State {
         };
         let char = program.char_step(self.unfinished, byte);
         let input = Input { byte, char };
-        let accepting = step_over(program, &mut self.positions, scratch, here, input, steps);
+        let accepting = step_over(
+            program,
+            true,
+            &mut self.positions,
+            scratch,
+            here,
+            input,
+            steps,
+        );
         self.first = false;
         self.word = is_word;
         self.unfinished = char.unfinished();
@@ -194,7 +202,7 @@ impl State {
             last: true,
             edge: self.word,
         };
-        let accepting = is_accepting(program, &self.positions, here, steps);
+        let accepting = is_accepting(program, true, &self.positions, here, steps);
         self.begin(program, steps);
         accepting
     }

@@ -1,4 +1,4 @@
-use Rattle.std.proofs.Common.{◌∙◌, true, sym, arith}
+use Rattle.std.proofs.Common.{◌∙◌, sym, arith}
 use Rattle.cs_match.specs.Entered.{if_entered, if_previous, if_kept}
 use Rattle.cs_match.proofs.EnteredLemmas.{is_step}
 use Rattle.cs_match.proofs.MaskLemmas.{found, found_input, mask_entered, mask_previous, mask_kept, length-mask}
@@ -36,7 +36,7 @@ move_over-requires-clause-one_mask c =
 pub returns-clause-positions : goal.returns-clause-positions
 returns-clause-positions c =
     let t = c.args.program.now in
-    is_step t true c.args.positions.now c.args.here c.args.input c.enter-accepting.new.scratch.entries
+    is_step t c.args.may_begin c.args.positions.now c.args.here c.args.input c.enter-accepting.new.scratch.entries
     c.move_over.new.positions _ _ _ c.requires.one_each c.enter-accepting.ensures.entries
     (mask_entered t c.positions.result.now c.index.result.now c.args.input
     (found c.positions.result.now c.find-slot.new.self.slots.items c.find-slot.result c.index.result.now c.index.ensures

@@ -1,11 +1,11 @@
 use Rattle.std.proofs.Common.{◌≡◌, ◌↔◌, sym, ◌∙◌, ap, subst, arith}
-use Rattle.cs_syntax.specs.Matching.{Tree, HasMatch}
+use Rattle.cs_syntax.specs.Matching.{Tree, MatchesSpan, HasMatch}
 use Rattle.cs_syntax.specs.Node.{tree_of}
 use Rattle.cs_match.specs.Glushkov.{IsExpanded}
 use Rattle.cs_match.specs.Size.{FitsWeight}
 use Rattle.cs_match.specs.Expansion.{expansion}
 use Rattle.cs_match.proofs.PositionCountLemmas.{positions_light, repeats_light, is_small}
-use Rattle.cs_match.proofs.ExpansionLemmas.{expansion_matches, is_expanded}
+use Rattle.cs_match.proofs.ExpansionLemmas.{expansion_matches, matches_as_read, matches_expansion, is_expanded}
 use Rattle.cs_match.proofs.program.Program.compile.Goals as goal
 
 pub invariant_of-result : goal.invariant_of-result
@@ -29,6 +29,13 @@ pub returns-clause-alike : goal.returns-clause-alike
 returns-clause-alike c = λ line.
     let same : tree_of c.in_ok-root.root ≡ expansion c.args.pattern.now = c.in_ok-root.ensures ∙ ap expansion c.tree.ensures.tree in
     subst (λ (t : Tree). HasMatch t line ↔ HasMatch c.args.pattern.now line) (sym same) (expansion_matches c.args.pattern.now line)
+
+pub returns-clause-spans : goal.returns-clause-spans
+returns-clause-spans c = λ line i j.
+    let same : tree_of c.in_ok-root.root ≡ expansion c.args.pattern.now = c.in_ok-root.ensures ∙ ap expansion c.tree.ensures.tree in
+    let t = c.args.pattern.now in
+    subst (λ (u : Tree). MatchesSpan line u i j ↔ MatchesSpan line t i j) (sym same)
+    (matches_as_read line t i j, matches_expansion line t i j)
 
 pub count_repeats-repeats-requires : goal.count_repeats-repeats-requires
 count_repeats-repeats-requires c = rw c.in_ok-root.ensures (omega (arith, repeats_light (tree_of c.tree.result.now)))

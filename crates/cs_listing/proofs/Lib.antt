@@ -5,4 +5,5 @@ pub mod LineLemmas
 pub mod ClassLemmas
 pub mod TokenLemmas
 pub mod WorkLemmas
+pub mod LayerLemmas
 mod Examples

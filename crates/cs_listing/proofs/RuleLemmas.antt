@@ -17,11 +17,11 @@ use Rattle.cs_listing.specs.declared.rules.Decision.{Decision}
 use Rattle.cs_listing.specs.declared.rules.Rule.{Rule as OwnRule}
 use Rattle.cs_listing.proofs.LineLemmas.{shorter}
 
-or_else_then : {A : Type 0} (a b c : Option A) → or_else (or_else a b) c ≡ or_else a (or_else b c)
+pub or_else_then : {A : Type 0} (a b c : Option A) → or_else (or_else a b) c ≡ or_else a (or_else b c)
 or_else_then None b c = refl
 or_else_then (Some x) b c = refl
 
-or_else_none : {A : Type 0} (a : Option A) → or_else a None ≡ a
+pub or_else_none : {A : Type 0} (a : Option A) → or_else a None ≡ a
 or_else_none None = refl
 or_else_none (Some x) = refl
 

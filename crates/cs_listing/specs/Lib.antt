@@ -6,6 +6,8 @@ pub mod MatchWork
 pub mod Classes
 pub mod GlobText
 pub mod RuleFiles
+pub mod Layers
+pub mod LayersWork
 pub mod Models
 -- Definitions that only private contracts cite.
 pub mod Matching

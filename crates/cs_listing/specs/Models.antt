@@ -1,13 +1,18 @@
--- The tokens, elements and rules that the values of the code stand for.
+-- The tokens, elements, rules and folders that the values of the code stand for.
 use denote.Ref.{Bor}
-use Rattle.std.specs.Prelude.{ℕ, List, map}
+use Rattle.std.specs.Prelude.{ℕ, List, map, Option, Some, None}
 use Rattle.cs_listing.specs.Globs.{GlobToken, byte, any, class, star, Element, folders, one}
 use Rattle.cs_listing.specs.Rules.{Rule}
+use Rattle.cs_listing.specs.Layers.{Folder, Repository}
 use Rattle.cs_listing.specs.declared.glob.Token.{Token}
 use Rattle.cs_listing.specs.declared.glob.Token.TheVariants.{Byte, Any, Class, Star}
 use Rattle.cs_listing.specs.declared.glob.Element.{Element as OwnElement}
 use Rattle.cs_listing.specs.declared.glob.Element.TheVariants.{Folders, One}
 use Rattle.cs_listing.specs.declared.rules.Rule.{Rule as OwnRule}
+use Rattle.cs_listing.specs.declared.rules.Rules.{Rules}
+use Rattle.cs_listing.specs.declared.layers.Folder.{Folder as OwnFolder}
+use Rattle.cs_listing.specs.declared.layers.Repository.{Repository as OwnRepository}
+use Rattle.cs_listing.specs.declared.layers.Layers.{Layers}
 
 abbrev pub token_of : Token → GlobToken
 token_of (Byte b) = byte b
@@ -28,6 +33,32 @@ glob_of elements = map element_of elements
 abbrev pub rule_of : OwnRule → Rule
 rule_of rule = record { decision = rule.decision; only_folders = rule.only_folders; glob = glob_of rule.glob.items }
 
+abbrev pub rules_in : Rules → List Rule
+rules_in rules = map rule_of rules.rules.items
+
+abbrev pub rules_if : Option Rules → Option (List Rule)
+rules_if None = None
+rules_if (Some rules) = Some (rules_in rules)
+
+abbrev pub folder_of : OwnFolder → Folder
+folder_of folder =
+    record { ignore = rules_in folder.ignore; gitignore = rules_in folder.gitignore; exclude = rules_if folder.exclude }
+
+abbrev pub folders_of : List OwnFolder → List Folder
+folders_of all = map folder_of all
+
+-- the folders that the layers stand for, from the top down
+abbrev pub folders_in : Layers → List Folder
+folders_in layers = folders_of layers.folders.items
+
 -- the values of borrowed names
 abbrev pub names : List (Bor (List ℕ)) → List (List ℕ)
 names lent = map (λ (name : Bor (List ℕ)). name.now) lent
+
+abbrev pub repository_in : Option OwnRepository → Option Repository
+repository_in None = None
+repository_in (Some at) = Some (record {
+  exclude = rules_in at.exclude.now;
+  folders = folders_of at.folders.now;
+  path = names at.path.now;
+})

@@ -7,10 +7,6 @@ use Rattle.cs_listing.specs.Globs.{GlobToken}
 use Rattle.cs_listing.specs.Models.{token_of, rule_of}
 use Rattle.cs_listing.specs.declared.glob.Token.{Token}
 use Rattle.cs_listing.specs.declared.rules.Rule.{Rule}
-use Rattle.cs_listing.specs.declared.rules.Rules.{Rules}
-
-abbrev pub rules_in : Rules → List OneRule
-rules_in rules = map rule_of rules.rules.items
 
 -- the rule, if there is one, is added
 abbrev pub AddsRule : Option OneRule → List Rule → List Rule → Type 0

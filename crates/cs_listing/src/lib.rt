@@ -6,7 +6,9 @@
 mod classes;
 mod glob;
 mod glob_parsing;
+mod layers;
 mod rule_lines;
 mod rules;
 
+pub use layers::{Folder, Layers};
 pub use rules::{Decision, Rules};

@@ -3,9 +3,9 @@ ghost use Rattle.std.specs.Prelude.{◌≡◌, IfOk, OnOk};
 ghost use Rattle.cs_prefilter.specs.CountsAtMost.{CountsAtMost};
 ghost use Rattle.cs_listing.specs.Rules.{applies as applies', decide as decide'};
 ghost use Rattle.cs_listing.specs.MatchWork.{path_work, rules_work};
-ghost use Rattle.cs_listing.specs.Models.{names, rule_of};
+ghost use Rattle.cs_listing.specs.Models.{names, rule_of, rules_in};
 ghost use Rattle.cs_listing.specs.RuleFiles.{rules_of, rule_of_line, rule_in, rule_saying};
-ghost use Rattle.cs_listing.specs.Reading.{rules_in, AddsRule};
+ghost use Rattle.cs_listing.specs.Reading.{AddsRule};
 
 use crate::classes::begins_with;
 use crate::glob::{Element, matches_path};

@@ -1,0 +1,81 @@
+-- What all rule files along a path say together: gitignore(5), "DESCRIPTION", and `.ignore` files, which come first.
+-- docs/PROMISES.md, "Rules".
+use Rattle.std.specs.Prelude.{ℕ, Bool, true, false, not, ◌&&◌, ◌||◌, List, [], ◌∷◌, drop, Option, Some, None, is_some, bytes_eq, codes}
+use Rattle.cs_listing.specs.declared.rules.Decision.{Decision}
+use Rattle.cs_listing.specs.declared.rules.Decision.TheVariants.{Ignore, TakeBack}
+use Rattle.cs_listing.specs.declared.layers.RuleFile.{RuleFile}
+use Rattle.cs_listing.specs.declared.layers.RuleFile.TheVariants as file
+use Rattle.cs_listing.specs.Rules.{Rule, or_else, decide}
+use Rattle.cs_listing.specs.Classes.{begins_with}
+
+-- a folder, by the rules that count below it
+pub record Folder : Type 0 where
+  -- of its `.ignore` and of its `.gitignore`; none where there is no such file
+  pub ignore : List Rule
+  pub gitignore : List Rule
+  -- if a repository begins here: the rules of its `info/exclude`
+  pub exclude : Option (List Rule)
+
+-- The folders along a path are given from the top down. The elements of the path are the names of those below the first one,
+-- and last the name that is asked about.
+
+abbrev pub rules_at : RuleFile → Folder → List Rule
+rules_at file.Ignore folder = folder.ignore
+rules_at file.Gitignore folder = folder.gitignore
+
+-- What the files of this kind say: that of the deepest folder whose file says anything of the path below it.
+abbrev pub deepest : RuleFile → Bool → List Folder → List (List ℕ) → Option Decision
+deepest kind is_folder [] path = None
+deepest kind is_folder (folder ∷ folders) path =
+    or_else (deepest kind is_folder folders (drop 1 path)) (decide (rules_at kind folder) path is_folder)
+
+-- ---- repositories
+
+-- a repository: the rules of its `info/exclude`, the folders from its root down, and the path below its root
+pub record Repository : Type 0 where
+  pub exclude : List Rule
+  pub folders : List Folder
+  pub path : List (List ℕ)
+
+abbrev pub begins_here : Option (List Rule) → List Folder → List (List ℕ) → Option Repository
+begins_here None folders path = None
+begins_here (Some exclude) folders path = Some (record { exclude = exclude; folders = folders; path = path })
+
+-- the repository that a path is in, which begins in the deepest folder where one begins
+abbrev pub repository_of : List Folder → List (List ℕ) → Option Repository
+repository_of [] path = None
+repository_of (folder ∷ folders) path =
+    or_else (repository_of folders (drop 1 path)) (begins_here folder.exclude (folder ∷ folders) path)
+
+-- What a repository says: its `.gitignore` files; else its `info/exclude`; else the file of the user, `global`.
+abbrev pub repository_says : List Rule → Bool → Option Repository → Option Decision
+repository_says global is_folder None = None
+repository_says global is_folder (Some at) =
+    or_else (deepest file.Gitignore is_folder at.folders at.path)
+    (or_else (decide at.exclude at.path is_folder) (decide global at.path is_folder))
+
+-- ---- all files together
+
+-- what all rule files say of the path: the `.ignore` files; else those of its repository
+abbrev pub says : List Rule → Bool → List Folder → List (List ℕ) → Option Decision
+says global is_folder folders path =
+    or_else (deepest file.Ignore is_folder folders path) (repository_says global is_folder (repository_of folders path))
+
+-- the last element of a path
+abbrev pub last_name : List (List ℕ) → List ℕ
+last_name [] = []
+last_name (name ∷ []) = name
+last_name (folder ∷ name ∷ path) = last_name (name ∷ path)
+
+-- whether a path is left out by what the rule files say; if they say nothing, a name with a dot is left out outside of
+-- repositories, unless the user takes hidden names
+abbrev pub is_left_out_by : Option Decision → Bool → Bool → List ℕ → Bool
+is_left_out_by (Some Ignore) in_repository takes_hidden name = true
+is_left_out_by (Some TakeBack) in_repository takes_hidden name = false
+is_left_out_by None in_repository takes_hidden name = begins_with 46 name && not (takes_hidden || in_repository)
+
+-- whether a path is left out; `.git` always is
+abbrev pub is_left_out : Bool → List Rule → Bool → List Folder → List (List ℕ) → Bool
+is_left_out takes_hidden global is_folder folders path =
+    bytes_eq (last_name path) (codes ".git")
+    || is_left_out_by (says global is_folder folders path) (is_some (repository_of folders path)) takes_hidden (last_name path)

@@ -1,0 +1,217 @@
+// What all rule files along a path say together.
+ghost use Rattle.std.specs.Prelude.{◌≡◌, ◌≤◌, ◌++◌, [], ◌∷◌, length, IfOk, OnOk, OnErr, IfSome, IsSome, is_some, ◌↔◌, ◌<◌, ◌||◌};
+ghost use Rattle.std.specs.Option.{option_to_list};
+ghost use Rattle.cs_prefilter.specs.CountsAtMost.{CountsAtMost};
+ghost use Rattle.cs_listing.specs.Layers.{rules_at, deepest as deepest', repository_of as repository_of', repository_says, says as says', last_name as last_name', is_left_out as is_left_out', is_left_out_by as is_left_out_by'};
+ghost use Rattle.cs_listing.specs.LayersWork.{files_work, repository_work, layers_work};
+ghost use Rattle.cs_listing.specs.Models.{names, rules_in, folder_of, folders_of, folders_in, repository_in};
+
+use crate::classes::begins_with;
+use crate::rules::{Decision, Rules};
+use cs_prefilter::Steps;
+use std::alloc::{AllocError, Global};
+use std::marker::Model;
+
+/// The rule files of a folder. A file that is not there is one without rules.
+#[derive(Debug, Drop)]
+pub struct Folder {
+    /// The rules of `.ignore`, which come before all others.
+    pub ignore: Rules,
+    /// The rules of `.gitignore`.
+    pub gitignore: Rules,
+    /// If a repository begins here, the rules of its `info/exclude`.
+    pub exclude: Option<Rules>,
+}
+
+/// The kinds of rule files of which the deepest one counts.
+#[derive(Clone, Copy, Debug)]
+enum RuleFile {
+    Ignore,
+    Gitignore,
+}
+
+/// The repository that a path is in.
+#[derive(Clone, Copy)]
+struct Repository<'f, 'p, 'n> {
+    exclude: &'f Rules,
+    /// Its root, and the folders below it along the path.
+    folders: &'f [Folder],
+    /// The path below its root.
+    path: &'p [&'n [u8]],
+}
+
+/// The rule files that count in a folder: those of the folders along its path, the topmost first. A path is given by its elements
+/// below the topmost folder, so it has one name for each folder: the last one is that of an entry of the deepest folder.
+#[derive(Debug, Drop)]
+pub struct Layers {
+    folders: Vec<Folder>,
+    /// The rules of the user, for all repositories.
+    global: Rules,
+    /// Whether names that begin with a dot count outside of repositories.
+    takes_hidden: bool,
+}
+
+impl Folder {
+    fn rules(&self, file: RuleFile) -> &Rules
+        ensures { rules_in result.now ≡ rules_at file (folder_of self.now) }
+    {
+        match file {
+            RuleFile::Ignore => &self.ignore,
+            RuleFile::Gitignore => &self.gitignore,
+        }
+    }
+}
+
+/// What the files of this kind say: that of the deepest folder whose file says anything.
+fn deepest(
+    file: RuleFile,
+    folders: &[Folder],
+    path: &[&[u8]],
+    is_folder: bool,
+    steps: &mut Steps,
+) -> Option<Decision>
+    requires { length folders.now ≤ length path.now }
+    ensures says { result ≡ deepest' file is_folder (folders_of folders.now) (names path.now) }
+    ensures work { CountsAtMost (files_work file (folders_of folders.now) (names path.now)) steps.old steps.new }
+{
+    let mut upper = folders;
+    'folders: while let Some((folder, above)) = upper.split_last() {
+        let said = folder
+            .rules(file)
+            .decide(&path[above.len()..], is_folder, steps);
+        if said.is_some() {
+            return said;
+        }
+        upper = above;
+    }
+    None
+}
+
+/// The repository that a path is in.
+fn repository_of<'f, 'p, 'n>(
+    folders: &'f [Folder],
+    path: &'p [&'n [u8]],
+) -> Option<Repository<'f, 'p, 'n>>
+    requires { length folders.now ≤ length path.now }
+    ensures found { repository_of' (folders_of folders.now) (names path.now) ≡ repository_in result }
+    ensures within { IfSome result (λ at. length at.folders.now ≤ length at.path.now) }
+{
+    let mut upper = folders;
+    'folders: while let Some((folder, above)) = upper.split_last() {
+        if let Some(exclude) = &folder.exclude {
+            return Some(Repository {
+                exclude,
+                folders: &folders[above.len()..],
+                path: &path[above.len()..],
+            });
+        }
+        upper = above;
+    }
+    None
+}
+
+impl Repository<'_, '_, '_> {
+    fn says(&self, global: &Rules, is_folder: bool, steps: &mut Steps) -> Option<Decision>
+        requires { length self.now.folders.now ≤ length self.now.path.now }
+        ensures says { result ≡ repository_says (rules_in global.now) is_folder (repository_in (Some self.now)) }
+        ensures work { CountsAtMost (repository_work (rules_in global.now) (repository_in (Some self.now))) steps.old steps.new }
+    {
+        let said = deepest(
+            RuleFile::Gitignore,
+            self.folders,
+            self.path,
+            is_folder,
+            steps,
+        );
+        if said.is_some() {
+            return said;
+        }
+        let said = self.exclude.decide(self.path, is_folder, steps);
+        if said.is_some() {
+            return said;
+        }
+        global.decide(self.path, is_folder, steps)
+    }
+}
+
+/// The last name of a path.
+fn last_name<'n>(path: &[&'n [u8]]) -> &'n [u8]
+    ensures { result.now ≡ last_name' (names path.now) }
+{
+    match path.split_last() {
+        Some((name, _)) => *name,
+        None => &[],
+    }
+}
+
+impl Layers {
+    /// The layers of no folder. The rules of the user count in each repository.
+    pub fn new(alloc: Global, global: Rules, takes_hidden: bool) -> Layers
+        ensures folders { folders_in result ≡ [] }
+        ensures choices { (result.global ≡ global) × (result.takes_hidden ≡ takes_hidden) }
+    {
+        Layers {
+            folders: Vec::new(alloc),
+            global,
+            takes_hidden,
+        }
+    }
+
+    /// Enters a folder of the deepest one.
+    pub fn enter(&mut self, folder: Folder) -> Result<(), AllocError>
+        ensures entered { OnOk result (folders_in self.new ≡ folders_in self.old ++ folder_of folder ∷ []) }
+        ensures unchanged { OnErr result (folders_in self.new ≡ folders_in self.old) }
+        ensures choices { (self.new.global ≡ self.old.global) × (self.new.takes_hidden ≡ self.old.takes_hidden) }
+    {
+        self.folders.push(folder)?;
+        Ok(())
+    }
+
+    /// Leaves the deepest folder, if there is one.
+    pub fn leave(&mut self) -> Option<Folder>
+        ensures left { folders_in self.old ≡ folders_in self.new ++ folders_of (option_to_list result) }
+        ensures some { IsSome result ↔ (0 < length (folders_in self.old)) }
+        ensures choices { (self.new.global ≡ self.old.global) × (self.new.takes_hidden ≡ self.old.takes_hidden) }
+    {
+        self.folders.pop()
+    }
+
+    /// What all rule files along a path say of it.
+    pub fn says(&self, path: &[&[u8]], is_folder: bool, steps: &mut Steps) -> Option<Decision>
+        requires { length (folders_in self.now) ≡ length path.now }
+        ensures says { result ≡ says' (rules_in self.now.global) is_folder (folders_in self.now) (names path.now) }
+        ensures work { CountsAtMost (layers_work (rules_in self.now.global) (folders_in self.now) (names path.now)) steps.old steps.new }
+    {
+        let said = deepest(RuleFile::Ignore, &self.folders, path, is_folder, steps);
+        if said.is_some() {
+            return said;
+        }
+        let repository = repository_of(&self.folders, path)?;
+        repository.says(&self.global, is_folder, steps)
+    }
+
+    /// Whether a path is left out.
+    pub fn is_left_out(&self, path: &[&[u8]], is_folder: bool, steps: &mut Steps) -> bool
+        requires { length (folders_in self.now) ≡ length path.now }
+        ensures left_out { result ≡ is_left_out' self.now.takes_hidden (rules_in self.now.global) is_folder (folders_in self.now) (names path.now) }
+        ensures work { CountsAtMost (layers_work (rules_in self.now.global) (folders_in self.now) (names path.now)) steps.old steps.new }
+    {
+        let name = last_name(path);
+        if name == b".git".as_slice() {
+            return true;
+        }
+        match self.says(path, is_folder, steps) {
+            Some(Decision::Ignore) => true,
+            Some(Decision::TakeBack) => false,
+            None => begins_with(b'.', name) && !self.takes_hidden_in(path),
+        }
+    }
+
+    /// Whether a name that begins with a dot counts.
+    fn takes_hidden_in(&self, path: &[&[u8]]) -> bool
+        requires { length (folders_in self.now) ≡ length path.now }
+        ensures { result ≡ (self.now.takes_hidden || is_some (repository_of' (folders_in self.now) (names path.now))) }
+    {
+        self.takes_hidden || repository_of(&self.folders, path).is_some()
+    }
+}

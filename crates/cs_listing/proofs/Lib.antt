@@ -7,3 +7,4 @@ pub mod TokenLemmas
 pub mod WorkLemmas
 pub mod LayerLemmas
 mod Examples
+mod LayerExamples

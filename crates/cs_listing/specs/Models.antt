@@ -1,9 +1,10 @@
 -- The tokens, elements, rules and folders that the values of the code stand for.
 use denote.Ref.{Bor}
-use Rattle.std.specs.Prelude.{ℕ, List, map, Option, Some, None}
+use Rattle.std.specs.Prelude.{ℕ, ◌≡◌, List, map, length, Option, Some, None}
 use Rattle.cs_listing.specs.Globs.{GlobToken, byte, any, class, star, Element, folders, one}
 use Rattle.cs_listing.specs.Rules.{Rule}
 use Rattle.cs_listing.specs.Layers.{Folder, Repository}
+use Rattle.cs_listing.specs.LayersWork.{layers_work}
 use Rattle.cs_listing.specs.declared.glob.Token.{Token}
 use Rattle.cs_listing.specs.declared.glob.Token.TheVariants.{Byte, Any, Class, Star}
 use Rattle.cs_listing.specs.declared.glob.Element.{Element as OwnElement}
@@ -51,9 +52,21 @@ folders_of all = map folder_of all
 abbrev pub folders_in : Layers → List Folder
 folders_in layers = folders_of layers.folders.items
 
+-- the rules and the choice of the user stay
+abbrev pub KeepsChoices : Layers → Layers → Type 0
+KeepsChoices old new = (new.global ≡ old.global) × (new.takes_hidden ≡ old.takes_hidden)
+
 -- the values of borrowed names
 abbrev pub names : List (Bor (List ℕ)) → List (List ℕ)
 names lent = map (λ (name : Bor (List ℕ)). name.now) lent
+
+-- the path is that of an entry of the deepest folder: it has one name for each folder
+abbrev pub IsInDeepest : Layers → List (Bor (List ℕ)) → Type 0
+IsInDeepest layers path = length (folders_in layers) ≡ length path
+
+-- the most steps that the layers take for a path
+abbrev pub work_for : Layers → List (Bor (List ℕ)) → ℕ
+work_for layers path = layers_work (rules_in layers.global) (folders_in layers) (names path)
 
 abbrev pub repository_in : Option OwnRepository → Option Repository
 repository_in None = None

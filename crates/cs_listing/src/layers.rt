@@ -3,8 +3,8 @@ ghost use Rattle.std.specs.Prelude.{◌≡◌, ◌≤◌, ◌++◌, [], ◌∷�
 ghost use Rattle.std.specs.Option.{option_to_list};
 ghost use Rattle.cs_prefilter.specs.CountsAtMost.{CountsAtMost};
 ghost use Rattle.cs_listing.specs.Layers.{rules_at, deepest as deepest', repository_of as repository_of', repository_says, says as says', last_name as last_name', is_left_out as is_left_out', is_left_out_by as is_left_out_by'};
-ghost use Rattle.cs_listing.specs.LayersWork.{files_work, repository_work, layers_work};
-ghost use Rattle.cs_listing.specs.Models.{names, rules_in, folder_of, folders_of, folders_in, repository_in};
+ghost use Rattle.cs_listing.specs.LayersWork.{files_work, repository_work};
+ghost use Rattle.cs_listing.specs.Models.{names, rules_in, folder_of, folders_of, folders_in, KeepsChoices, IsInDeepest, work_for, repository_in};
 
 use crate::classes::begins_with;
 use crate::rules::{Decision, Rules};
@@ -23,7 +23,7 @@ pub struct Folder {
     pub exclude: Option<Rules>,
 }
 
-/// The kinds of rule files of which the deepest one counts.
+/// The rule files that may stand in each folder.
 #[derive(Clone, Copy, Debug)]
 enum RuleFile {
     Ignore,
@@ -72,7 +72,8 @@ fn deepest(
 ) -> Option<Decision>
     requires { length folders.now ≤ length path.now }
     ensures says { result ≡ deepest' file is_folder (folders_of folders.now) (names path.now) }
-    ensures work { CountsAtMost (files_work file (folders_of folders.now) (names path.now)) steps.old steps.new }
+    ensures work { CountsAtMost (files_work file (folders_of folders.now) (names path.now))
+        steps.old steps.new }
 {
     let mut upper = folders;
     'folders: while let Some((folder, above)) = upper.split_last() {
@@ -114,7 +115,8 @@ impl Repository<'_, '_, '_> {
     fn says(&self, global: &Rules, is_folder: bool, steps: &mut Steps) -> Option<Decision>
         requires { length self.now.folders.now ≤ length self.now.path.now }
         ensures says { result ≡ repository_says (rules_in global.now) is_folder (repository_in (Some self.now)) }
-        ensures work { CountsAtMost (repository_work (rules_in global.now) (repository_in (Some self.now))) steps.old steps.new }
+        ensures work { CountsAtMost (repository_work (rules_in global.now) (repository_in (Some self.now)))
+            steps.old steps.new }
     {
         let said = deepest(
             RuleFile::Gitignore,
@@ -161,7 +163,7 @@ impl Layers {
     pub fn enter(&mut self, folder: Folder) -> Result<(), AllocError>
         ensures entered { OnOk result (folders_in self.new ≡ folders_in self.old ++ folder_of folder ∷ []) }
         ensures unchanged { OnErr result (folders_in self.new ≡ folders_in self.old) }
-        ensures choices { (self.new.global ≡ self.old.global) × (self.new.takes_hidden ≡ self.old.takes_hidden) }
+        ensures choices { KeepsChoices self.old self.new }
     {
         self.folders.push(folder)?;
         Ok(())
@@ -171,16 +173,17 @@ impl Layers {
     pub fn leave(&mut self) -> Option<Folder>
         ensures left { folders_in self.old ≡ folders_in self.new ++ folders_of (option_to_list result) }
         ensures some { IsSome result ↔ (0 < length (folders_in self.old)) }
-        ensures choices { (self.new.global ≡ self.old.global) × (self.new.takes_hidden ≡ self.old.takes_hidden) }
+        ensures choices { KeepsChoices self.old self.new }
     {
         self.folders.pop()
     }
 
     /// What all rule files along a path say of it.
     pub fn says(&self, path: &[&[u8]], is_folder: bool, steps: &mut Steps) -> Option<Decision>
-        requires { length (folders_in self.now) ≡ length path.now }
-        ensures says { result ≡ says' (rules_in self.now.global) is_folder (folders_in self.now) (names path.now) }
-        ensures work { CountsAtMost (layers_work (rules_in self.now.global) (folders_in self.now) (names path.now)) steps.old steps.new }
+        requires { IsInDeepest self.now path.now }
+        ensures says { result ≡ says' (rules_in self.now.global) is_folder (folders_in self.now)
+            (names path.now) }
+        ensures work { CountsAtMost (work_for self.now path.now) steps.old steps.new }
     {
         let said = deepest(RuleFile::Ignore, &self.folders, path, is_folder, steps);
         if said.is_some() {
@@ -192,9 +195,10 @@ impl Layers {
 
     /// Whether a path is left out.
     pub fn is_left_out(&self, path: &[&[u8]], is_folder: bool, steps: &mut Steps) -> bool
-        requires { length (folders_in self.now) ≡ length path.now }
-        ensures left_out { result ≡ is_left_out' self.now.takes_hidden (rules_in self.now.global) is_folder (folders_in self.now) (names path.now) }
-        ensures work { CountsAtMost (layers_work (rules_in self.now.global) (folders_in self.now) (names path.now)) steps.old steps.new }
+        requires { IsInDeepest self.now path.now }
+        ensures left_out { result ≡ is_left_out' self.now.takes_hidden (rules_in self.now.global) is_folder
+            (folders_in self.now) (names path.now) }
+        ensures work { CountsAtMost (work_for self.now path.now) steps.old steps.new }
     {
         let name = last_name(path);
         if name == b".git".as_slice() {
@@ -209,8 +213,9 @@ impl Layers {
 
     /// Whether a name that begins with a dot counts.
     fn takes_hidden_in(&self, path: &[&[u8]]) -> bool
-        requires { length (folders_in self.now) ≡ length path.now }
-        ensures { result ≡ (self.now.takes_hidden || is_some (repository_of' (folders_in self.now) (names path.now))) }
+        requires { IsInDeepest self.now path.now }
+        ensures { result ≡ (self.now.takes_hidden
+            || is_some (repository_of' (folders_in self.now) (names path.now))) }
     {
         self.takes_hidden || repository_of(&self.folders, path).is_some()
     }

@@ -1,6 +1,6 @@
-//! Which files are a project's: those that no rule file leaves out, as gitignore(5) says. So far the rules of one file: its
-//! globs, and what the last rule decides that applies to a path. Read `specs/Globs.antt` and `specs/Rules.antt` first, then
-//! `specs/RuleFiles.antt`: how the bytes of a rule file are read.
+//! Which files are a project's: those that no rule file leaves out, as gitignore(5) says. So far the rules of one file, and what
+//! the rule files of all folders along a path say together. Read `specs/Globs.antt`, `specs/Rules.antt` and `specs/Layers.antt`
+//! first, then `specs/RuleFiles.antt`: how the bytes of a rule file are read.
 #![tactic(auto)]
 
 mod classes;

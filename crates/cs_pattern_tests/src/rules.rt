@@ -1,5 +1,5 @@
-// What the last rule of a file decides.
-use cs_listing::{Decision, Rules};
+// What the last rule of a file decides, and the rule files along a path together.
+use cs_listing::{Decision, Folder, Layers, Rules};
 use cs_prefilter::Steps;
 use std::test::Fail;
 
@@ -24,5 +24,38 @@ fn last_rules_decide(rt: HostRuntime) -> Result<(), Fail> {
         rules.decide(&[b"src".as_slice(), b"x1".as_slice()], false, &mut steps),
         None
     );
+    Ok(())
+}
+
+#[test]
+fn layers_decide(rt: HostRuntime) -> Result<(), Fail> {
+    let user = Rules::parse(rt.alloc(), b"*~\n")?;
+    let mut layers = Layers::new(rt.alloc(), user, false);
+    layers.enter(Folder {
+        ignore: Rules::parse(rt.alloc(), b"")?,
+        gitignore: Rules::parse(rt.alloc(), b"*.o\n/build/\n")?,
+        exclude: Some(Rules::parse(rt.alloc(), b"notes\n")?),
+    })?;
+    layers.enter(Folder {
+        ignore: Rules::parse(rt.alloc(), b"!a.o\n")?,
+        gitignore: Rules::parse(rt.alloc(), b"")?,
+        exclude: None,
+    })?;
+    let mut steps = Steps::new();
+    for (name, want) in [
+        (b"a.o".as_slice(), false),
+        (b"b.o".as_slice(), true),
+        (b"notes".as_slice(), true),
+        (b"x~".as_slice(), true),
+        (b"build".as_slice(), false),
+        (b".x".as_slice(), false),
+        (b".git".as_slice(), true),
+    ] {
+        let path = [b"src".as_slice(), name];
+        assert_eq!(rt; layers.is_left_out(&path, true, &mut steps), want, "at {name:?}");
+    }
+    assert_eq!(rt; layers.leave().is_some(), true);
+    assert_eq!(rt; layers.is_left_out(&[b"build".as_slice()], true, &mut steps), true);
+    assert_eq!(rt; layers.is_left_out(&[b"build".as_slice()], false, &mut steps), false);
     Ok(())
 }

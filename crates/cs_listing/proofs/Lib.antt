@@ -8,3 +8,5 @@ pub mod WorkLemmas
 pub mod LayerLemmas
 mod Examples
 mod LayerExamples
+mod ListingExamples
+pub mod ListingLemmas

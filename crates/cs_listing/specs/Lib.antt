@@ -8,6 +8,7 @@ pub mod GlobText
 pub mod RuleFiles
 pub mod Layers
 pub mod LayersWork
+pub mod Listing
 pub mod Models
 -- Definitions that only private contracts cite.
 pub mod Matching

@@ -1,0 +1,93 @@
+-- Which files of a tree a search of a folder lists: those that no rule file on the way leaves out. docs/PROMISES.md, "Rules".
+-- No walk finds them yet.
+use Rattle.std.specs.Prelude.{ℕ, ◌≡◌, Bool, true, false, not, ◌&&◌, if◌then◌else◌, nat_le, List, [], ◌∷◌, ◌++◌, length, reverse, Some, None, codes}
+use Rattle.cs_tree.specs.Snapshot.{Item, file}
+use Rattle.cs_tree.specs.Folders.{lists}
+use Rattle.cs_tree.specs.Clean.{path_of, longest_path}
+use Rattle.cs_tree.specs.Walks.{is_file}
+use Rattle.cs_listing.specs.Rules.{Rule}
+use Rattle.cs_listing.specs.RuleFiles.{rules_of}
+use Rattle.cs_listing.specs.Layers.{Folder, is_left_out}
+
+-- the items of a tree by their paths, as `item_at` gives them for a snapshot
+abbrev pub Items : Type 0
+Items = List ℕ → Item
+
+-- what the tree does not say: the rules of the user, whether names that begin with a dot count outside of repositories, and the
+-- rules of `info/exclude` of the repository whose root has these elements
+pub record Settings : Type 0 where
+  pub global : List Rule
+  pub takes_hidden : Bool
+  pub excludes : List (List ℕ) → List Rule
+
+-- ---- the folders along a path. The elements of a folder are given last one first, as to `path_of`.
+
+-- the length of the longest rule file; a longer one has no rules
+abbrev pub longest_rule_file : ℕ
+longest_rule_file = 1048576
+
+-- the rules of an item; only a file has any, and a link is none
+abbrev pub rules_of_item : Item → List Rule
+rules_of_item (file bytes) = if nat_le (length bytes) longest_rule_file then rules_of bytes else []
+rules_of_item _ = []
+
+-- the rule files of a folder of the tree; a folder that lists `.git` is the root of a repository
+abbrev pub folder_at : Settings → Items → List (List ℕ) → Folder
+folder_at settings items above = record {
+  ignore = rules_of_item (items (path_of (codes ".ignore" ∷ above)));
+  gitignore = rules_of_item (items (path_of (codes ".gitignore" ∷ above)));
+  exclude = if lists (items (path_of above)) (codes ".git") then Some (settings.excludes above) else None;
+}
+
+-- the folders from this one down that a path goes through, without its last element
+abbrev pub folders_along : Settings → Items → List (List ℕ) → List (List ℕ) → List Folder
+folders_along settings items above [] = []
+folders_along settings items above (name ∷ path) =
+    folder_at settings items above ∷ folders_along settings items (name ∷ above) path
+
+-- ---- what is listed
+
+-- whether the entry of a folder is left out, by the rule files from `/` down to the folder
+abbrev pub leaves_out : Settings → Items → Bool → List (List ℕ) → List ℕ → Bool
+leaves_out settings items is_folder above name =
+    is_left_out settings.takes_hidden settings.global is_folder (folders_along settings items [] (reverse (name ∷ above)))
+    (reverse (name ∷ above))
+
+-- whether the folder lists the name, at a path within the limit, and does not leave it out
+abbrev pub is_taken : Settings → Items → Bool → List (List ℕ) → List ℕ → Bool
+is_taken settings items is_folder above name =
+    (lists (items (path_of above)) name && nat_le (length (path_of (name ∷ above))) longest_path)
+    && not (leaves_out settings items is_folder above name)
+
+abbrev pub has_more : List (List ℕ) → Bool
+has_more [] = false
+has_more (name ∷ path) = true
+
+-- whether each element of a path below a folder is taken; all but the last one are folders
+abbrev pub is_reached : Settings → Items → List (List ℕ) → List (List ℕ) → Bool
+is_reached settings items above [] = true
+is_reached settings items above (name ∷ path) =
+    is_taken settings items (has_more path) above name && is_reached settings items (name ∷ above) path
+
+-- the elements of a path below a folder, last one first
+abbrev pub down : List (List ℕ) → List (List ℕ) → List (List ℕ)
+down above [] = above
+down above (name ∷ path) = down (name ∷ above) path
+
+-- whether a search of the folder `start` lists the file at a path below it
+abbrev pub is_listed : Settings → Items → List (List ℕ) → List (List ℕ) → Bool
+is_listed settings items start path =
+    is_reached settings items start path && is_file (items (path_of (down start path)))
+
+-- ---- searches of folders
+
+-- whether a search of the folder `start` enters all these folders, each in the one before
+abbrev pub enters : Settings → Items → List (List ℕ) → List (List ℕ) → Bool
+enters settings items start [] = true
+enters settings items start (name ∷ path) = is_taken settings items true start name && enters settings items (name ∷ start) path
+
+-- Below a folder that it enters, a search lists what a search of that folder lists.
+abbrev pub ListsAsBelow : Type 0
+ListsAsBelow = (settings : Settings) (items : Items) (start entered : List (List ℕ)) (name : List ℕ) (path : List (List ℕ)) →
+    enters settings items start entered ≡ true →
+    is_listed settings items start (entered ++ name ∷ path) ≡ is_listed settings items (down start entered) (name ∷ path)

@@ -3,7 +3,7 @@
 # counted in a counter that is thrown away is counted nowhere. `*steps = Steps::new()` is refused by a clause too, since the
 # count never falls (`CountsAtMost`, `WorksWithin`). No clause refuses a call that is handed a counter of its own, or one that is
 # put back afterwards; this does. Only `Matcher::new` makes a counter, and `Finder::new`, whose passes are no part of the search of
-# a block: they have their own bound on work; and the tests in `cs_pattern_tests`. Before, it tries its test on wrong lines.
+# a block, so that no bound of a search counts them; and the tests in `cs_pattern_tests`. Before, it tries its test on wrong lines.
 # usage: tests/shell/steps.sh [FOLDER]
 
 cd "${1:-$(dirname -- "$0")/../..}" || exit 2

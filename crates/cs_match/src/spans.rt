@@ -1,6 +1,6 @@
 // Where in a line a match is: the leftmost one, and of those that begin there the longest. The position automaton is
 // simulated without the DFA, and a match may begin only before a given offset: so one pass says whether a match begins
-// there. The start is found by passes over ever shorter parts of the line, and the end by one that begins at the start.
+// there. The start is found by passes through ever shorter parts of the line, and the end by one that begins at the start.
 ghost use Rattle.std.specs.Prelude.{◌≡◌, ◌≤◌, ◌<◌, ◌+◌, ℕ, IfOk, IfSome, MatchOption, length, replicate, true, false, ◌&&◌, nat_le, nat_lt, slice_index};
 ghost use Rattle.cs_syntax.specs.CharSteps.{finished, unfinished_after};
 ghost use Rattle.cs_syntax.specs.Matching.{Tree, is_at_word_boundary, is_word, word_before, word_after};
@@ -40,7 +40,7 @@ pub(crate) struct Pass {
     /// The character that is unfinished before the offset.
     pub(crate) unfinished: Unfinished,
     pub(crate) scratch: Scratch,
-    /// The steps of the passes. A finder has a counter of its own, since no block bounds its work.
+    /// The steps of the passes. A finder has a counter of its own, since it is no part of a search, whose bound counts its steps.
     pub(crate) steps: Steps,
 }
 
@@ -57,7 +57,7 @@ struct Wanted {
 
 /// The end of a match.
 #[derive(Clone, Copy, Drop)]
-struct Hit {
+struct FirstEnd {
     end: usize,
     /// No match that is wanted begins before this offset.
     since: usize,
@@ -137,15 +137,15 @@ impl Pass {
             until: line.len() + 1,
             least,
         };
-        let hit = self.first_end(program, line, all)?;
-        let start = match self.last_end(program, line, hit.since, least) {
+        let first = self.first_end(program, line, all)?;
+        let start = match self.last_end(program, line, first.since, least) {
             Some(end) => {
                 return Some(Span {
-                    start: hit.since,
+                    start: first.since,
                     end,
                 });
             }
-            None => self.first_start(program, line, hit.since + 1, hit.end, least),
+            None => self.first_start(program, line, first.since + 1, first.end, least),
         };
         let end = self.last_end(program, line, start, least)?;
         Some(Span { start, end })
@@ -184,23 +184,23 @@ impl Pass {
         low
     }
 
-    /// An end of a match that is wanted, the first one.
-    fn first_end(&mut self, program: &Program, line: &[u8], wanted: Wanted) -> Option<Hit>
+    /// The first end of a match that is wanted.
+    fn first_end(&mut self, program: &Program, line: &[u8], wanted: Wanted) -> Option<FirstEnd>
         requires within { (wanted.from ≤ length line.now) × (wanted.least ≤ length line.now) }
         requires ready { IsReady program.now self.old }
         ensures none { MatchOption result
             (BeginFrom program.now line.now wanted.from wanted.least wanted.until)
-            (λ hit. BeginFrom program.now line.now wanted.from wanted.least hit.since) }
-        ensures after { IfSome result (λ hit. wanted.from ≤ hit.since) }
-        ensures ends { IfSome result (λ hit. EndsAt program.now line.now wanted.from wanted.least
-            wanted.until hit.end) }
+            (λ first. BeginFrom program.now line.now wanted.from wanted.least first.since) }
+        ensures after { IfSome result (λ first. wanted.from ≤ first.since) }
+        ensures ends { IfSome result (λ first. EndsAt program.now line.now wanted.from wanted.least
+            wanted.until first.end) }
         ensures ready { IsReady program.now self.new }
     {
         let mut since = wanted.from;
         self.begin(program, line, wanted.from);
         for offset in wanted.from..line.len() {
             if self.step(program, line, wanted, offset) && wanted.least <= offset {
-                return Some(Hit { end: offset, since });
+                return Some(FirstEnd { end: offset, since });
             }
             if self.is_empty() {
                 since = offset + 1;
@@ -210,7 +210,7 @@ impl Pass {
             }
         }
         if self.is_end(program, line, wanted) {
-            return Some(Hit {
+            return Some(FirstEnd {
                 end: line.len(),
                 since,
             });

@@ -52,10 +52,20 @@ fn layers_decide(rt: HostRuntime) -> Result<(), Fail> {
         (b".git".as_slice(), true),
     ] {
         let path = [b"src".as_slice(), name];
-        assert_eq!(rt; layers.is_left_out(&path, true, &mut steps), want, "at {name:?}");
+        assert_eq!(rt;
+            layers.is_left_out(&path, true, &mut steps),
+            want,
+            "at {name:?}"
+        );
     }
     assert_eq!(rt; layers.leave().is_some(), true);
-    assert_eq!(rt; layers.is_left_out(&[b"build".as_slice()], true, &mut steps), true);
-    assert_eq!(rt; layers.is_left_out(&[b"build".as_slice()], false, &mut steps), false);
+    assert_eq!(rt;
+        layers.is_left_out(&[b"build".as_slice()], true, &mut steps),
+        true
+    );
+    assert_eq!(rt;
+        layers.is_left_out(&[b"build".as_slice()], false, &mut steps),
+        false
+    );
     Ok(())
 }

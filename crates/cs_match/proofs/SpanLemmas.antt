@@ -10,7 +10,7 @@ use Rattle.cs_syntax.specs.declared.char_step.CharStep.{CharStep}
 use Rattle.cs_syntax.specs.declared.char_step.Unfinished.{Unfinished}
 use Rattle.cs_match.specs.declared.look_around.LookAround.{LookAround}
 use Rattle.cs_match.specs.Span.{IsMatchFrom, BeginFrom, EndFrom, EndsAt, IsLastEnd, FirstSpansAreUnique}
-use Rattle.cs_match.specs.Passes.{between, positions_in, ends_in, PassesFindEnds, IsAt, IsReady}
+use Rattle.cs_match.specs.Passes.{between, positions_in, ends_in, PassesFindEnds, IsPassAt, IsPassOf}
 use Rattle.cs_match.specs.declared.spans.Pass.{Pass}
 use Rattle.cs_match.proofs.GlushkovLemmas.{length-positions, reads, sound, complete, accepts_at_sound}
 use Rattle.cs_match.proofs.DeadLemmas.{no_positions, not_final, stays_out}
@@ -230,10 +230,10 @@ pub anew : (t : Tree) (s : List ℕ) (i : ℕ) → (nat_le 0x80 (slice_index s i
 anew t s i h = ap unfinished_after (sym (starts_anew t (unfinished_before t s i) (slice_index s i) h)) ∙ ap (unfinished_before t s) (sym (add-one i))
 
 -- a pass that is somewhere is ready for another one
-pub ready_length : (t : Tree) (s : List ℕ) (from until i : ℕ) (pass : Pass) → IsAt t s from until i pass → length pass.positions ≡ position_count t
+pub ready_length : (t : Tree) (s : List ℕ) (from until i : ℕ) (pass : Pass) → IsPassAt t s from until i pass → length pass.positions ≡ position_count t
 ready_length t s from until i pass at = ap length at.positions ∙ length-positions (look_around t s) (input_at t s) t (between from until) i
 
-pub is_ready : (t : Tree) (s : List ℕ) (from until i : ℕ) (pass : Pass) → IsExpanded t → IsAt t s from until i pass → IsReady t pass
+pub is_ready : (t : Tree) (s : List ℕ) (from until i : ℕ) (pass : Pass) → IsExpanded t → IsPassAt t s from until i pass → IsPassOf t pass
 is_ready t s from until i pass expanded at = (ready_length t s from until i pass at, at.scratch, expanded)
 
 -- a pass moves to the next offset
@@ -249,7 +249,7 @@ pub begins_blank : (t : Tree) (s : List ℕ) (from until : ℕ) (ms : List Bool)
 begins_blank t s from until ms size = ap no_positions size ∙ sym (blank s t from until from (omega arith))
 
 -- the set of a pass is empty
-pub set_is_empty : (t : Tree) (s : List ℕ) (from until i : ℕ) (pass : Pass) → IsAt t s from until i pass → pass.positions ≡ no_positions (length pass.positions) →
+pub set_is_empty : (t : Tree) (s : List ℕ) (from until i : ℕ) (pass : Pass) → IsPassAt t s from until i pass → pass.positions ≡ no_positions (length pass.positions) →
     positions_in s t from until i ≡ no_positions (position_count t)
 set_is_empty t s from until i pass at h = sym at.positions ∙ h ∙ ap no_positions (ready_length t s from until i pass at)
 

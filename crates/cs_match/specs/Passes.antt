@@ -27,11 +27,11 @@ pub record PassesFindEnds (s : List ℕ) (t : Tree) (from until : ℕ) : Type 0 
       ends_in s t from until (more + i) ≡ false
 
 -- the memory of the passes of a tree
-abbrev pub IsReady : Tree → Pass → Type 0
-IsReady t pass = (length pass.positions ≡ position_count t) × IsScratch t pass.scratch × IsExpanded t
+abbrev pub IsPassOf : Tree → Pass → Type 0
+IsPassOf t pass = (length pass.positions ≡ position_count t) × IsScratch t pass.scratch × IsExpanded t
 
 -- the pass is at this offset of the line
-pub record IsAt (t : Tree) (s : List ℕ) (from until offset : ℕ) (pass : Pass) : Type 0 where
+pub record IsPassAt (t : Tree) (s : List ℕ) (from until offset : ℕ) (pass : Pass) : Type 0 where
   pub positions : pass.positions ≡ positions_in s t from until offset
   pub unfinished : pass.unfinished ≡ unfinished_before t s offset
   pub scratch : IsScratch t pass.scratch

@@ -5,7 +5,7 @@ ghost use Rattle.std.specs.Prelude.{◌≡◌, ◌≤◌, ◌<◌, ◌+◌, ℕ,
 ghost use Rattle.cs_syntax.specs.CharSteps.{finished, unfinished_after};
 ghost use Rattle.cs_syntax.specs.Matching.{Tree, is_at_word_boundary, is_word, word_before, word_after};
 ghost use Rattle.cs_match.specs.Glushkov.{char_step_of, look_around, unfinished_before};
-ghost use Rattle.cs_match.specs.Passes.{IsAt, IsReady, ends_in};
+ghost use Rattle.cs_match.specs.Passes.{IsPassAt, IsPassOf, ends_in};
 ghost use Rattle.cs_match.specs.Span.{IsMatchFrom, IsFirstSpan, HasNoMatchFrom, BeginFrom, BeginsAt, BeginsBy, EndsAt};
 
 use crate::glushkov::{Scratch, is_accepting, step_over};
@@ -71,11 +71,11 @@ impl<'a> Model for Finder<'a> {
 
     ghost coded = { tree_code };
 
-    ghost use Rattle.cs_match.specs.Passes.{IsReady};
+    ghost use Rattle.cs_match.specs.Passes.{IsPassOf};
 
     ghost view = { λ finder. finder.program.now };
 
-    ghost invariant = { λ finder. IsReady finder.program.now finder.pass };
+    ghost invariant = { λ finder. IsPassOf finder.program.now finder.pass };
 }
 
 impl<'a> Finder<'a> {
@@ -127,10 +127,10 @@ impl Pass {
         least: usize,
     ) -> Option<Span>
         requires within { (from ≤ length line.now) × (least ≤ length line.now) }
-        requires ready { IsReady program.now self.old }
+        requires ready { IsPassOf program.now self.old }
         ensures found { MatchOption result (HasNoMatchFrom program.now line.now from least)
             (λ span. IsFirstSpan program.now line.now from least span.start span.end) }
-        ensures ready { IsReady program.now self.new }
+        ensures ready { IsPassOf program.now self.new }
     {
         let all = Wanted {
             from,
@@ -162,10 +162,10 @@ impl Pass {
     ) -> usize
         requires within { (last ≤ length line.now) × (least ≤ length line.now) }
         requires some { BeginsBy program.now line.now from least last }
-        requires ready { IsReady program.now self.old }
+        requires ready { IsPassOf program.now self.old }
         ensures least { BeginFrom program.now line.now from least result }
         ensures some { BeginsAt program.now line.now from least result }
-        ensures ready { IsReady program.now self.new }
+        ensures ready { IsPassOf program.now self.new }
     {
         let mut low = from;
         let mut high = last;
@@ -187,14 +187,14 @@ impl Pass {
     /// The first end of a match that is wanted.
     fn first_end(&mut self, program: &Program, line: &[u8], wanted: Wanted) -> Option<FirstEnd>
         requires within { (wanted.from ≤ length line.now) × (wanted.least ≤ length line.now) }
-        requires ready { IsReady program.now self.old }
+        requires ready { IsPassOf program.now self.old }
         ensures none { MatchOption result
             (BeginFrom program.now line.now wanted.from wanted.least wanted.until)
             (λ first. BeginFrom program.now line.now wanted.from wanted.least first.since) }
         ensures after { IfSome result (λ first. wanted.from ≤ first.since) }
         ensures ends { IfSome result (λ first. EndsAt program.now line.now wanted.from wanted.least
             wanted.until first.end) }
-        ensures ready { IsReady program.now self.new }
+        ensures ready { IsPassOf program.now self.new }
     {
         let mut since = wanted.from;
         self.begin(program, line, wanted.from);
@@ -227,12 +227,12 @@ impl Pass {
         least: usize,
     ) -> Option<usize>
         requires within { (start ≤ length line.now) × (least ≤ length line.now) }
-        requires ready { IsReady program.now self.old }
+        requires ready { IsPassOf program.now self.old }
         ensures ends { MatchOption result (BeginFrom program.now line.now start least (start + 1))
             (IsMatchFrom program.now line.now start least start) }
         ensures last { IfSome result (λ last. (end : ℕ)
             → IsMatchFrom program.now line.now start least start end → end ≤ last) }
-        ensures ready { IsReady program.now self.new }
+        ensures ready { IsPassOf program.now self.new }
     {
         let wanted = Wanted {
             from: start,
@@ -258,8 +258,8 @@ impl Pass {
     /// Begins a pass at an offset of the line.
     fn begin(&mut self, program: &Program, line: &[u8], from: usize)
         requires within { from ≤ length line.now }
-        requires ready { IsReady program.now self.old }
-        ensures { (until : ℕ) → IsAt program.now line.now from until from self.new }
+        requires ready { IsPassOf program.now self.old }
+        ensures { (until : ℕ) → IsPassAt program.now line.now from until from self.new }
     {
         self.positions.clear();
         self.unfinished = unfinished_before(program, line, from);
@@ -275,9 +275,9 @@ impl Pass {
     /// Moves over the byte at the offset, and returns whether a match ends before it.
     fn step(&mut self, program: &Program, line: &[u8], wanted: Wanted, offset: usize) -> bool
         requires within { offset < length line.now }
-        requires at { IsAt program.now line.now wanted.from wanted.until offset self.old }
+        requires at { IsPassAt program.now line.now wanted.from wanted.until offset self.old }
         ensures ends { result ≡ ends_in line.now program.now wanted.from wanted.until offset }
-        ensures at { IsAt program.now line.now wanted.from wanted.until (offset + 1) self.new }
+        ensures at { IsPassAt program.now line.now wanted.from wanted.until (offset + 1) self.new }
     {
         let byte = line[offset];
         let char = program.char_step(self.unfinished, byte);
@@ -296,10 +296,10 @@ impl Pass {
 
     /// Whether a match ends at the end of the line.
     fn is_end(&mut self, program: &Program, line: &[u8], wanted: Wanted) -> bool
-        requires { IsAt program.now line.now wanted.from wanted.until (length line.now) self.old }
+        requires { IsPassAt program.now line.now wanted.from wanted.until (length line.now) self.old }
         ensures ends { result
             ≡ ends_in line.now program.now wanted.from wanted.until (length line.now) }
-        ensures at { IsAt program.now line.now wanted.from wanted.until (length line.now) self.new }
+        ensures at { IsPassAt program.now line.now wanted.from wanted.until (length line.now) self.new }
     {
         let may_begin = (wanted.from <= line.len()) & (line.len() < wanted.until);
         let here = look_around(program, line, line.len());

@@ -6,6 +6,7 @@ pub mod ClassLemmas
 pub mod TokenLemmas
 pub mod WorkLemmas
 pub mod LayerLemmas
+pub mod ReadLemmas
 mod Examples
 mod LayerExamples
 mod ListingExamples

@@ -6,6 +6,7 @@ pub mod MatchWork
 pub mod Classes
 pub mod GlobText
 pub mod RuleFiles
+pub mod RuleFileReads
 pub mod Layers
 pub mod LayersWork
 pub mod Listing

@@ -7,6 +7,7 @@ use Rattle.cs_tree.specs.Clean.{path_of, longest_path}
 use Rattle.cs_tree.specs.Walks.{is_file}
 use Rattle.cs_listing.specs.Rules.{Rule}
 use Rattle.cs_listing.specs.RuleFiles.{rules_of}
+use Rattle.cs_listing.specs.RuleFileReads.{longest_rule_file}
 use Rattle.cs_listing.specs.Layers.{Folder, is_left_out}
 
 -- the items of a tree by their paths, as `item_at` gives them for a snapshot
@@ -21,10 +22,6 @@ pub record Settings : Type 0 where
   pub excludes : List (List ℕ) → List Rule
 
 -- ---- the folders along a path. The elements of a folder are given last one first, as to `path_of`.
-
--- the length of the longest rule file; a longer one has no rules
-abbrev pub longest_rule_file : ℕ
-longest_rule_file = 1048576
 
 -- the rules of an item; only a file has any, and a link is none
 abbrev pub rules_of_item : Item → List Rule

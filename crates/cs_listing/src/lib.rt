@@ -9,6 +9,7 @@ mod glob;
 mod glob_parsing;
 pub mod laws;
 mod layers;
+mod rule_files;
 mod rule_lines;
 mod rules;
 

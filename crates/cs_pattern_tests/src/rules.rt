@@ -1,6 +1,7 @@
 // What the last rule of a file decides, and the rule files along a path together.
 use cs_listing::{Decision, Folder, Layers, Rules};
 use cs_prefilter::Steps;
+use cs_tree::MemSource;
 use std::test::Fail;
 
 #[test]
@@ -67,5 +68,18 @@ fn layers_decide(rt: HostRuntime) -> Result<(), Fail> {
         layers.is_left_out(&[b"build".as_slice()], false, &mut steps),
         false
     );
+    Ok(())
+}
+
+#[test]
+fn rules_are_read(rt: HostRuntime) -> Result<(), Fail> {
+    let mut source = MemSource::new(b"*.o\n!a.o\n", 3, false);
+    let rules = Rules::read(rt.alloc(), &mut source)?;
+    let mut steps = Steps::new();
+    let decided = rules.and_then(|rules| rules.decide(&[b"a.o".as_slice()], false, &mut steps));
+    assert_eq!(rt; decided, Some(Decision::TakeBack));
+    let long = vec![in rt.alloc(); b'\n'; (1 << 20) + 1]?;
+    let mut source = MemSource::new(&long, 4096, false);
+    assert_eq!(rt; Rules::read(rt.alloc(), &mut source)?.is_none(), true);
     Ok(())
 }

@@ -3,32 +3,32 @@ use Rattle.std.proofs.Common.{◌≡◌, refl, ℕ, ◌+◌, Bool, true, false, 
 use Rattle.std.specs.Prelude.{Option, Some, None, codes}
 use Rattle.cs_listing.specs.RuleFiles.{rules_of}
 use Rattle.cs_listing.specs.MatchWork.{rules_work}
-use Rattle.cs_listing.specs.Layers.{Folder, says, is_left_out}
+use Rattle.cs_listing.specs.Layers.{FolderRules, says, is_left_out}
 use Rattle.cs_listing.specs.LayersWork.{layers_work}
 use Rattle.cs_listing.specs.declared.rules.Decision.{Decision}
 use Rattle.cs_listing.specs.declared.rules.Decision.TheVariants.{Ignore, TakeBack}
 
 -- ---- folders, by the text of their files
 
-abbrev plain : Folder
+abbrev plain : FolderRules
 plain = record { ignore = []; gitignore = []; exclude = None }
 
-abbrev with_ignore : List ℕ → Folder
+abbrev with_ignore : List ℕ → FolderRules
 with_ignore text = record { ignore = rules_of text; gitignore = []; exclude = None }
 
-abbrev with_gitignore : List ℕ → Folder
+abbrev with_gitignore : List ℕ → FolderRules
 with_gitignore text = record { ignore = []; gitignore = rules_of text; exclude = None }
 
 -- the root of a repository, by its `.gitignore` and its `info/exclude`
-abbrev root : List ℕ → List ℕ → Folder
+abbrev root : List ℕ → List ℕ → FolderRules
 root text exclude = record { ignore = []; gitignore = rules_of text; exclude = Some (rules_of exclude) }
 
 -- what the files of these folders say of a file that is in the last one
-abbrev file_says : List Folder → List (List ℕ) → Option Decision
+abbrev file_says : List FolderRules → List (List ℕ) → Option Decision
 file_says folders path = says [] false folders path
 
 -- whether it is left out, without a file of the user
-abbrev leaves_out : List Folder → List (List ℕ) → Bool
+abbrev leaves_out : List FolderRules → List (List ℕ) → Bool
 leaves_out folders path = is_left_out false [] false folders path
 
 -- ---- the deepest file counts

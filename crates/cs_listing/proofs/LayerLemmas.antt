@@ -8,28 +8,28 @@ use Rattle.std.proofs.Math.Seq.{drop-append_seam}
 use Rattle.cs_listing.specs.Rules.{Rule, decide, or_else}
 use Rattle.cs_listing.specs.MatchWork.{rules_work}
 use Rattle.cs_listing.specs.Models.{names, folder_of, folders_of, rules_in, rules_if}
-use Rattle.cs_listing.specs.Layers.{Folder, Repository, rules_at, deepest, begins_here, repository_of, last_name}
+use Rattle.cs_listing.specs.Layers.{FolderRules, Repository, rules_at, deepest, begins_here, repository_of, last_name}
 use Rattle.cs_listing.specs.LayersWork.{files_work}
 use Rattle.cs_listing.specs.declared.rules.Decision.{Decision}
 use Rattle.cs_listing.specs.declared.rules.Rules.{Rules}
 use Rattle.cs_listing.specs.declared.layers.RuleFile.{RuleFile}
-use Rattle.cs_listing.specs.declared.layers.Folder.{Folder as OwnFolder}
+use Rattle.cs_listing.specs.declared.layers.FolderRules.{FolderRules as OwnFolder}
 use Rattle.cs_listing.proofs.RuleLemmas.{or_else_then, or_else_none}
 
 -- what the file of a folder says of a path
-abbrev file_says : RuleFile → Bool → Folder → List (List ℕ) → Option Decision
+abbrev file_says : RuleFile → Bool → FolderRules → List (List ℕ) → Option Decision
 file_says kind is_folder folder path = decide (rules_at kind folder) path is_folder
 
-one_more : (first : Folder) (folders : List Folder) → 1 + length folders ≡ length (first ∷ folders)
+one_more : (first : FolderRules) (folders : List FolderRules) → 1 + length folders ≡ length (first ∷ folders)
 one_more first folders = omega arith
 
 -- what is left of a path below one more folder
-drop_more : (first : Folder) (folders : List Folder) (path : List (List ℕ)) →
+drop_more : (first : FolderRules) (folders : List FolderRules) (path : List (List ℕ)) →
     drop (length folders) (drop 1 path) ≡ drop (length (first ∷ folders)) path
 drop_more first folders path = drop-drop (length folders) 1 path
     ∙ ap (λ n. drop n path) (one_more first folders)
 
-deepest_append : (kind : RuleFile) (is_folder : Bool) (folders : List Folder) (folder : Folder) (path : List (List ℕ)) →
+deepest_append : (kind : RuleFile) (is_folder : Bool) (folders : List FolderRules) (folder : FolderRules) (path : List (List ℕ)) →
     deepest kind is_folder (folders ++ folder ∷ []) path
     ≡ or_else (file_says kind is_folder folder (drop (length folders) path)) (deepest kind is_folder folders path)
 deepest_append kind is_folder [] folder path = sym (or_else_none (file_says kind is_folder folder path))
@@ -85,7 +85,7 @@ deepest_passes kind is_folder folders above folder path said last e is =
 
 -- ---- work
 
-files_append : (kind : RuleFile) (folders : List Folder) (folder : Folder) (path : List (List ℕ)) →
+files_append : (kind : RuleFile) (folders : List FolderRules) (folder : FolderRules) (path : List (List ℕ)) →
     files_work kind (folders ++ folder ∷ []) path
     ≡ files_work kind folders path + rules_work (rules_at kind folder) (drop (length folders) path)
 files_append kind [] folder path = omega arith
@@ -106,19 +106,19 @@ files_last kind folders above folder path last =
 
 -- ---- repositories
 
-abbrev begins_with_rules : List Rule → List Folder → List (List ℕ) → Repository
+abbrev begins_with_rules : List Rule → List FolderRules → List (List ℕ) → Repository
 begins_with_rules exclude folders path = record { exclude = exclude; folders = folders; path = path }
 
 -- no repository begins in any of the folders
-abbrev pub HasNone : List Folder → Type 0
+abbrev pub HasNone : List FolderRules → Type 0
 HasNone folders = (path : List (List ℕ)) → repository_of folders path ≡ None
 
-pub has_none_more : (folder : Folder) (folders : List Folder) → folder.exclude ≡ None → HasNone folders → HasNone (folder ∷ folders)
+pub has_none_more : (folder : FolderRules) (folders : List FolderRules) → folder.exclude ≡ None → HasNone folders → HasNone (folder ∷ folders)
 has_none_more folder folders none has path =
     ap (λ o. or_else o (begins_here folder.exclude (folder ∷ folders) path)) (has (drop 1 path))
     ∙ ap (λ e. begins_here e (folder ∷ folders) path) none
 
-begins : (above lower : List Folder) (folder : Folder) (exclude : List Rule) (path : List (List ℕ)) →
+begins : (above lower : List FolderRules) (folder : FolderRules) (exclude : List Rule) (path : List (List ℕ)) →
     folder.exclude ≡ Some exclude → HasNone lower →
     repository_of (above ++ folder ∷ lower) path
     ≡ Some (begins_with_rules exclude (folder ∷ lower) (drop (length above) path))

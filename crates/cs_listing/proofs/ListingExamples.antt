@@ -4,7 +4,7 @@ use Rattle.std.specs.Prelude.{codes, unwrap_or}
 use Rattle.std.specs.FinMap.{find}
 use Rattle.cs_tree.specs.NameOrder.{bytes_cmp}
 use Rattle.cs_tree.specs.Snapshot.{Item, folder, file, other, bad, missing}
-use Rattle.cs_listing.specs.Listing.{Settings, Items, is_listed}
+use Rattle.cs_listing.specs.Listing.{Settings, TreeItems, is_listed}
 
 abbrev settings : Settings
 settings = record { global = []; takes_hidden = false; excludes = λ above. [] }
@@ -24,7 +24,7 @@ tree =
     ∷ (codes "/p/src/keep.o", file (codes "5"))
     ∷ []
 
-abbrev items : Items
+abbrev items : TreeItems
 items path = unwrap_or (find bytes_cmp path tree) (bad missing)
 
 -- whether a search of `/p` lists the file

@@ -3,8 +3,8 @@
 use Rattle.std.specs.Prelude.{ℕ, zero, suc, length, ◌+◌, ◌-◌, max, Bool, false, not, ◌&&◌, nat_eq, nat_le, if◌then◌else◌, List, [], ◌∷◌, ◌++◌, drop, take, Option, Some, None, codes, bytes_eq}
 
 -- What is read of a text: ranges, and the length of their text. None if they are no part of a class.
-abbrev pub Items : Type 0
-Items = Option (List (ℕ × ℕ) × ℕ)
+abbrev pub TreeItems : Type 0
+TreeItems = Option (List (ℕ × ℕ) × ℕ)
 
 -- whether a text begins with the byte
 abbrev pub begins_with : ℕ → List ℕ → Bool
@@ -62,46 +62,46 @@ is_range text = begins_with 45 text && (not (bytes_eq (drop 1 text) []) && not (
 
 -- The range from a byte, with its length, to another one. If the other one is less, the range has the first byte
 -- alone.
-abbrev pub range_to : ℕ × ℕ → Option (ℕ × ℕ) → Items
+abbrev pub range_to : ℕ × ℕ → Option (ℕ × ℕ) → TreeItems
 range_to low None = None
 range_to low (Some high) = Some ((low.0, max low.0 high.0) ∷ [], low.1 + 1 + high.1)
 
 -- the range that begins with a byte, if there is one
-abbrev pub range_from : List ℕ → Option (ℕ × ℕ) → Items
+abbrev pub range_from : List ℕ → Option (ℕ × ℕ) → TreeItems
 range_from text None = None
 range_from text (Some low) =
     if is_range (drop low.1 text) then range_to low (quoted (drop (low.1 + 1) text)) else Some ((low.0, low.0) ∷ [], low.1)
 
-abbrev pub named_item : List ℕ → Option (List (ℕ × ℕ)) → Items
+abbrev pub named_item : List ℕ → Option (List (ℕ × ℕ)) → TreeItems
 named_item name None = None
 named_item name (Some ranges) = Some (ranges, length name + 4)
 
 -- the item of a class that a text begins with: its ranges and its length
-abbrev pub item_or : List ℕ → Option (List ℕ) → Items
+abbrev pub item_or : List ℕ → Option (List ℕ) → TreeItems
 item_or text None = range_from text (quoted text)
 item_or text (Some name) = named_item name (ranges_named name)
 
-abbrev pub class_item : List ℕ → Items
+abbrev pub class_item : List ℕ → TreeItems
 class_item text = item_or text (class_name text)
 
 -- ---- classes
 
-abbrev pub item_length : Items → ℕ
+abbrev pub item_length : TreeItems → ℕ
 item_length None = 0
 item_length (Some item) = item.1
 
 -- an item and what follows it; the length is that of what follows
-abbrev pub with_item : Items → Items → Items
+abbrev pub with_item : TreeItems → TreeItems → TreeItems
 with_item None others = None
 with_item (Some item) None = None
 with_item (Some item) (Some others) = Some (item.0 ++ others.0, others.1)
 
-abbrev pub one_longer : Items → Items
+abbrev pub one_longer : TreeItems → TreeItems
 one_longer None = None
 one_longer (Some items) = Some (items.0, items.1 + 1)
 
 -- The items up to the `]`, and the length with it. The first bytes, as many as the number says, are those of an item before.
-abbrev pub later_items : ℕ → List ℕ → Items
+abbrev pub later_items : ℕ → List ℕ → TreeItems
 later_items n [] = None
 later_items (suc n) (b ∷ text) = one_longer (later_items n text)
 later_items zero (b ∷ text) =
@@ -109,5 +109,5 @@ later_items zero (b ∷ text) =
     else with_item (class_item (b ∷ text)) (one_longer (later_items (item_length (class_item (b ∷ text)) - 1) text))
 
 -- A class after its `[` and `!`: its ranges and its length. A `]` that comes first is an item. None if it does not end.
-abbrev pub class_items : List ℕ → Items
+abbrev pub class_items : List ℕ → TreeItems
 class_items text = with_item (class_item text) (later_items (item_length (class_item text)) text)

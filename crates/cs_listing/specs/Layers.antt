@@ -9,7 +9,7 @@ use Rattle.cs_listing.specs.Rules.{Rule, or_else, decide}
 use Rattle.cs_listing.specs.Classes.{begins_with}
 
 -- a folder, by the rules that count below it
-pub record Folder : Type 0 where
+pub record FolderRules : Type 0 where
   -- of its `.ignore` and of its `.gitignore`; none where there is no such file
   pub ignore : List Rule
   pub gitignore : List Rule
@@ -19,12 +19,12 @@ pub record Folder : Type 0 where
 -- The folders along a path are given from the top down. The elements of the path are the names of those below the first one,
 -- and last the name that is asked about.
 
-abbrev pub rules_at : RuleFile → Folder → List Rule
+abbrev pub rules_at : RuleFile → FolderRules → List Rule
 rules_at file.Ignore folder = folder.ignore
 rules_at file.Gitignore folder = folder.gitignore
 
 -- What the files of this kind say: that of the deepest folder whose file says anything of the path below it.
-abbrev pub deepest : RuleFile → Bool → List Folder → List (List ℕ) → Option Decision
+abbrev pub deepest : RuleFile → Bool → List FolderRules → List (List ℕ) → Option Decision
 deepest kind is_folder [] path = None
 deepest kind is_folder (folder ∷ folders) path =
     or_else (deepest kind is_folder folders (drop 1 path)) (decide (rules_at kind folder) path is_folder)
@@ -34,15 +34,15 @@ deepest kind is_folder (folder ∷ folders) path =
 -- a repository: the rules of its `info/exclude`, the folders from its root down, and the path below its root
 pub record Repository : Type 0 where
   pub exclude : List Rule
-  pub folders : List Folder
+  pub folders : List FolderRules
   pub path : List (List ℕ)
 
-abbrev pub begins_here : Option (List Rule) → List Folder → List (List ℕ) → Option Repository
+abbrev pub begins_here : Option (List Rule) → List FolderRules → List (List ℕ) → Option Repository
 begins_here None folders path = None
 begins_here (Some exclude) folders path = Some (record { exclude = exclude; folders = folders; path = path })
 
 -- the repository that a path is in, which begins in the deepest folder where one begins
-abbrev pub repository_of : List Folder → List (List ℕ) → Option Repository
+abbrev pub repository_of : List FolderRules → List (List ℕ) → Option Repository
 repository_of [] path = None
 repository_of (folder ∷ folders) path =
     or_else (repository_of folders (drop 1 path)) (begins_here folder.exclude (folder ∷ folders) path)
@@ -57,7 +57,7 @@ repository_says global is_folder (Some at) =
 -- ---- all files together
 
 -- what all rule files say of the path: the `.ignore` files; else those of its repository
-abbrev pub says : List Rule → Bool → List Folder → List (List ℕ) → Option Decision
+abbrev pub says : List Rule → Bool → List FolderRules → List (List ℕ) → Option Decision
 says global is_folder folders path =
     or_else (deepest file.Ignore is_folder folders path) (repository_says global is_folder (repository_of folders path))
 
@@ -75,7 +75,7 @@ is_left_out_by (Some TakeBack) in_repository takes_hidden name = false
 is_left_out_by None in_repository takes_hidden name = begins_with 46 name && not (takes_hidden || in_repository)
 
 -- whether a path is left out; `.git` always is
-abbrev pub is_left_out : Bool → List Rule → Bool → List Folder → List (List ℕ) → Bool
+abbrev pub is_left_out : Bool → List Rule → Bool → List FolderRules → List (List ℕ) → Bool
 is_left_out takes_hidden global is_folder folders path =
     bytes_eq (last_name path) (codes ".git")
     || is_left_out_by (says global is_folder folders path) (is_some (repository_of folders path)) takes_hidden (last_name path)

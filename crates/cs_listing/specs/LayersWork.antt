@@ -4,10 +4,10 @@ use Rattle.cs_listing.specs.declared.layers.RuleFile.{RuleFile}
 use Rattle.cs_listing.specs.declared.layers.RuleFile.TheVariants as file
 use Rattle.cs_listing.specs.Rules.{Rule}
 use Rattle.cs_listing.specs.MatchWork.{rules_work}
-use Rattle.cs_listing.specs.Layers.{Folder, Repository, rules_at, repository_of}
+use Rattle.cs_listing.specs.Layers.{FolderRules, Repository, rules_at, repository_of}
 
 -- the files of one kind
-abbrev pub files_work : RuleFile → List Folder → List (List ℕ) → ℕ
+abbrev pub files_work : RuleFile → List FolderRules → List (List ℕ) → ℕ
 files_work kind [] path = 0
 files_work kind (folder ∷ folders) path = rules_work (rules_at kind folder) path + files_work kind folders (drop 1 path)
 
@@ -18,5 +18,5 @@ repository_work global (Some at) =
     files_work file.Gitignore at.folders at.path + (rules_work at.exclude at.path + rules_work global at.path)
 
 -- Each file is asked at most once.
-abbrev pub layers_work : List Rule → List Folder → List (List ℕ) → ℕ
+abbrev pub layers_work : List Rule → List FolderRules → List (List ℕ) → ℕ
 layers_work global folders path = files_work file.Ignore folders path + repository_work global (repository_of folders path)

@@ -8,11 +8,11 @@ use Rattle.cs_tree.specs.Walks.{is_file}
 use Rattle.cs_listing.specs.Rules.{Rule}
 use Rattle.cs_listing.specs.RuleFiles.{rules_of}
 use Rattle.cs_listing.specs.RuleFileReads.{longest_rule_file}
-use Rattle.cs_listing.specs.Layers.{Folder, is_left_out}
+use Rattle.cs_listing.specs.Layers.{FolderRules, is_left_out}
 
 -- the items of a tree by their paths, as `item_at` gives them for a snapshot
-abbrev pub Items : Type 0
-Items = List ℕ → Item
+abbrev pub TreeItems : Type 0
+TreeItems = List ℕ → Item
 
 -- what the tree does not say: the rules of the user, whether names that begin with a dot count outside of repositories, and the
 -- rules of `info/exclude` of the repository whose root has these elements
@@ -29,7 +29,7 @@ rules_of_item (file bytes) = if nat_le (length bytes) longest_rule_file then rul
 rules_of_item _ = []
 
 -- the rule files of a folder of the tree; a folder that lists `.git` is the root of a repository
-abbrev pub folder_at : Settings → Items → List (List ℕ) → Folder
+abbrev pub folder_at : Settings → TreeItems → List (List ℕ) → FolderRules
 folder_at settings items above = record {
   ignore = rules_of_item (items (path_of (codes ".ignore" ∷ above)));
   gitignore = rules_of_item (items (path_of (codes ".gitignore" ∷ above)));
@@ -37,7 +37,7 @@ folder_at settings items above = record {
 }
 
 -- the folders from this one down that a path goes through, without its last element
-abbrev pub folders_along : Settings → Items → List (List ℕ) → List (List ℕ) → List Folder
+abbrev pub folders_along : Settings → TreeItems → List (List ℕ) → List (List ℕ) → List FolderRules
 folders_along settings items above [] = []
 folders_along settings items above (name ∷ path) =
     folder_at settings items above ∷ folders_along settings items (name ∷ above) path
@@ -45,13 +45,13 @@ folders_along settings items above (name ∷ path) =
 -- ---- what is listed
 
 -- whether the entry of a folder is left out, by the rule files from `/` down to the folder
-abbrev pub leaves_out : Settings → Items → Bool → List (List ℕ) → List ℕ → Bool
+abbrev pub leaves_out : Settings → TreeItems → Bool → List (List ℕ) → List ℕ → Bool
 leaves_out settings items is_folder above name =
     is_left_out settings.takes_hidden settings.global is_folder (folders_along settings items [] (reverse (name ∷ above)))
     (reverse (name ∷ above))
 
 -- whether the folder lists the name, at a path within the limit, and does not leave it out
-abbrev pub is_taken : Settings → Items → Bool → List (List ℕ) → List ℕ → Bool
+abbrev pub is_taken : Settings → TreeItems → Bool → List (List ℕ) → List ℕ → Bool
 is_taken settings items is_folder above name =
     (lists (items (path_of above)) name && nat_le (length (path_of (name ∷ above))) longest_path)
     && not (leaves_out settings items is_folder above name)
@@ -61,7 +61,7 @@ has_more [] = false
 has_more (name ∷ path) = true
 
 -- whether each element of a path below a folder is taken; all but the last one are folders
-abbrev pub is_reached : Settings → Items → List (List ℕ) → List (List ℕ) → Bool
+abbrev pub is_reached : Settings → TreeItems → List (List ℕ) → List (List ℕ) → Bool
 is_reached settings items above [] = true
 is_reached settings items above (name ∷ path) =
     is_taken settings items (has_more path) above name && is_reached settings items (name ∷ above) path
@@ -72,19 +72,19 @@ down above [] = above
 down above (name ∷ path) = down (name ∷ above) path
 
 -- whether a search of the folder `start` lists the file at a path below it
-abbrev pub is_listed : Settings → Items → List (List ℕ) → List (List ℕ) → Bool
+abbrev pub is_listed : Settings → TreeItems → List (List ℕ) → List (List ℕ) → Bool
 is_listed settings items start path =
     is_reached settings items start path && is_file (items (path_of (down start path)))
 
 -- ---- searches of folders
 
 -- whether a search of the folder `start` enters all these folders, each in the one before
-abbrev pub enters : Settings → Items → List (List ℕ) → List (List ℕ) → Bool
+abbrev pub enters : Settings → TreeItems → List (List ℕ) → List (List ℕ) → Bool
 enters settings items start [] = true
 enters settings items start (name ∷ path) = is_taken settings items true start name && enters settings items (name ∷ start) path
 
 -- Below a folder that it enters, a search lists what a search of that folder lists.
 abbrev pub ListsAsBelow : Type 0
-ListsAsBelow = (settings : Settings) (items : Items) (start entered : List (List ℕ)) (name : List ℕ) (path : List (List ℕ)) →
+ListsAsBelow = (settings : Settings) (items : TreeItems) (start entered : List (List ℕ)) (name : List ℕ) (path : List (List ℕ)) →
     enters settings items start entered ≡ true →
     is_listed settings items start (entered ++ name ∷ path) ≡ is_listed settings items (down start entered) (name ∷ path)

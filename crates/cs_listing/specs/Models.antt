@@ -3,7 +3,7 @@ use denote.Ref.{Bor}
 use Rattle.std.specs.Prelude.{ℕ, ◌≡◌, List, map, length, Option, Some, None}
 use Rattle.cs_listing.specs.Globs.{GlobToken, byte, any, class, star, Element, folders, one}
 use Rattle.cs_listing.specs.Rules.{Rule}
-use Rattle.cs_listing.specs.Layers.{Folder, Repository}
+use Rattle.cs_listing.specs.Layers.{FolderRules, Repository}
 use Rattle.cs_listing.specs.LayersWork.{layers_work}
 use Rattle.cs_listing.specs.declared.glob.Token.{Token}
 use Rattle.cs_listing.specs.declared.glob.Token.TheVariants.{Byte, Any, Class, Star}
@@ -11,7 +11,7 @@ use Rattle.cs_listing.specs.declared.glob.Element.{Element as OwnElement}
 use Rattle.cs_listing.specs.declared.glob.Element.TheVariants.{Folders, One}
 use Rattle.cs_listing.specs.declared.rules.Rule.{Rule as OwnRule}
 use Rattle.cs_listing.specs.declared.rules.Rules.{Rules}
-use Rattle.cs_listing.specs.declared.layers.Folder.{Folder as OwnFolder}
+use Rattle.cs_listing.specs.declared.layers.FolderRules.{FolderRules as OwnFolder}
 use Rattle.cs_listing.specs.declared.layers.Repository.{Repository as OwnRepository}
 use Rattle.cs_listing.specs.declared.layers.Layers.{Layers}
 
@@ -41,15 +41,15 @@ abbrev pub rules_if : Option Rules → Option (List Rule)
 rules_if None = None
 rules_if (Some rules) = Some (rules_in rules)
 
-abbrev pub folder_of : OwnFolder → Folder
+abbrev pub folder_of : OwnFolder → FolderRules
 folder_of folder =
     record { ignore = rules_in folder.ignore; gitignore = rules_in folder.gitignore; exclude = rules_if folder.exclude }
 
-abbrev pub folders_of : List OwnFolder → List Folder
+abbrev pub folders_of : List OwnFolder → List FolderRules
 folders_of all = map folder_of all
 
 -- the folders that the layers stand for, from the top down
-abbrev pub folders_in : Layers → List Folder
+abbrev pub folders_in : Layers → List FolderRules
 folders_in layers = folders_of layers.folders.items
 
 -- the rules and the choice of the user stay

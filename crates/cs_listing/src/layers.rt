@@ -14,7 +14,7 @@ use std::marker::Model;
 
 /// The rule files of a folder. A file that is not there is one without rules.
 #[derive(Debug, Drop)]
-pub struct Folder {
+pub struct FolderRules {
     /// The rules of `.ignore`, which come before all others.
     pub ignore: Rules,
     /// The rules of `.gitignore`.
@@ -35,7 +35,7 @@ enum RuleFile {
 struct Repository<'f, 'p, 'n> {
     exclude: &'f Rules,
     /// Its root, and the folders below it along the path.
-    folders: &'f [Folder],
+    folders: &'f [FolderRules],
     /// The path below its root.
     path: &'p [&'n [u8]],
 }
@@ -44,14 +44,14 @@ struct Repository<'f, 'p, 'n> {
 /// below the topmost folder, so it has one name for each folder: the last one is that of an entry of the deepest folder.
 #[derive(Debug, Drop)]
 pub struct Layers {
-    folders: Vec<Folder>,
+    folders: Vec<FolderRules>,
     /// The rules of the user, for all repositories.
     global: Rules,
     /// Whether names that begin with a dot count outside of repositories.
     takes_hidden: bool,
 }
 
-impl Folder {
+impl FolderRules {
     fn rules(&self, file: RuleFile) -> &Rules
         ensures { rules_in result.now ≡ rules_at file (folder_of self.now) }
     {
@@ -65,7 +65,7 @@ impl Folder {
 /// What the files of this kind say: that of the deepest folder whose file says anything.
 fn deepest(
     file: RuleFile,
-    folders: &[Folder],
+    folders: &[FolderRules],
     path: &[&[u8]],
     is_folder: bool,
     steps: &mut Steps,
@@ -90,7 +90,7 @@ fn deepest(
 
 /// The repository that a path is in.
 fn repository_of<'f, 'p, 'n>(
-    folders: &'f [Folder],
+    folders: &'f [FolderRules],
     path: &'p [&'n [u8]],
 ) -> Option<Repository<'f, 'p, 'n>>
     requires { length folders.now ≤ length path.now }
@@ -114,7 +114,8 @@ fn repository_of<'f, 'p, 'n>(
 impl Repository<'_, '_, '_> {
     fn says(&self, global: &Rules, is_folder: bool, steps: &mut Steps) -> Option<Decision>
         requires { length self.now.folders.now ≤ length self.now.path.now }
-        ensures says { result ≡ repository_says (rules_in global.now) is_folder (repository_in (Some self.now)) }
+        ensures says { result
+            ≡ repository_says (rules_in global.now) is_folder (repository_in (Some self.now)) }
         ensures work { CountsAtMost (repository_work (rules_in global.now) (repository_in (Some self.now)))
             steps.old steps.new }
     {
@@ -160,8 +161,9 @@ impl Layers {
     }
 
     /// Enters a folder of the deepest one.
-    pub fn enter(&mut self, folder: Folder) -> Result<(), AllocError>
-        ensures entered { OnOk result (folders_in self.new ≡ folders_in self.old ++ folder_of folder ∷ []) }
+    pub fn enter(&mut self, folder: FolderRules) -> Result<(), AllocError>
+        ensures entered { OnOk result
+            (folders_in self.new ≡ folders_in self.old ++ folder_of folder ∷ []) }
         ensures unchanged { OnErr result (folders_in self.new ≡ folders_in self.old) }
         ensures choices { KeepsChoices self.old self.new }
     {
@@ -170,7 +172,7 @@ impl Layers {
     }
 
     /// Leaves the deepest folder, if there is one.
-    pub fn leave(&mut self) -> Option<Folder>
+    pub fn leave(&mut self) -> Option<FolderRules>
         ensures left { folders_in self.old ≡ folders_in self.new ++ folders_of (option_to_list result) }
         ensures some { IsSome result ↔ (0 < length (folders_in self.old)) }
         ensures choices { KeepsChoices self.old self.new }

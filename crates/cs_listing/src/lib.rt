@@ -13,5 +13,5 @@ mod rule_files;
 mod rule_lines;
 mod rules;
 
-pub use layers::{Folder, Layers};
+pub use layers::{FolderRules, Layers};
 pub use rules::{Decision, Rules};

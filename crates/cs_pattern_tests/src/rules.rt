@@ -1,5 +1,5 @@
 // What the last rule of a file decides, and the rule files along a path together.
-use cs_listing::{Decision, Folder, Layers, Rules};
+use cs_listing::{Decision, FolderRules, Layers, Rules};
 use cs_prefilter::Steps;
 use cs_tree::MemSource;
 use std::test::Fail;
@@ -32,12 +32,12 @@ fn last_rules_decide(rt: HostRuntime) -> Result<(), Fail> {
 fn layers_decide(rt: HostRuntime) -> Result<(), Fail> {
     let user = Rules::parse(rt.alloc(), b"*~\n")?;
     let mut layers = Layers::new(rt.alloc(), user, false);
-    layers.enter(Folder {
+    layers.enter(FolderRules {
         ignore: Rules::parse(rt.alloc(), b"")?,
         gitignore: Rules::parse(rt.alloc(), b"*.o\n/build/\n")?,
         exclude: Some(Rules::parse(rt.alloc(), b"notes\n")?),
     })?;
-    layers.enter(Folder {
+    layers.enter(FolderRules {
         ignore: Rules::parse(rt.alloc(), b"!a.o\n")?,
         gitignore: Rules::parse(rt.alloc(), b"")?,
         exclude: None,

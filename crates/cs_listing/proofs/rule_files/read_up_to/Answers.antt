@@ -1,7 +1,7 @@
 use Rattle.std.proofs.Common.{length, take, sym, ap, subst, arith}
-use Rattle.std.proofs.lemmas.List.{length-take, length-append}
+use Rattle.std.proofs.lemmas.List.{length-take}
 use Rattle.cs_tree.specs.Transfers.{Consumes}
-use Rattle.cs_listing.proofs.ReadLemmas.{consumes_none, consumes_more, whole_read, too_long}
+use Rattle.cs_listing.proofs.ReadLemmas.{consumes_none, read_more, stays_within, whole_read, too_long}
 use Rattle.cs_listing.proofs.rule_files.read_up_to.Goals as goal
 
 pub file-init : goal.file-init
@@ -13,19 +13,15 @@ file-init g c = record {
 
 pub file-preserved : goal.file-preserved
 file-preserved g c =
-    let more = consumes_more (g.S.Source.model c.args.source.now) (g.S.Source.model c.file.source) (g.S.Source.model c.read.new.self)
-    c.file.bytes.items (take c.in_ok-len.len c.read.new.buf) c.file.invariant.consumed c.in_ok-len.ensures.bytes.0 in
+    let more = take c.in_ok-len.len c.read.new.buf in
     record {
-      consumed = subst (λ bytes. Consumes (g.S.Source.model c.args.source.now) (g.S.Source.model c.read.new.self) bytes)
-          (sym c.in_ok-extend_from_slice.ensures.items) more;
-      within = omega (
-        arith,
-        c.if-len-limit.false,
-        c.file.invariant.within,
-        ap length c.in_ok-extend_from_slice.ensures.items,
-        length-append c.file.bytes.items (take c.in_ok-len.len c.read.new.buf),
-        length-take c.in_ok-len.len c.read.new.buf,
-      );
+      consumed = read_more (g.S.Source.model c.args.source.now) (g.S.Source.model c.file.source) (g.S.Source.model c.read.new.self)
+          c.file.bytes.items more c.extend_from_slice.new.self.items c.in_ok-extend_from_slice.ensures.items c.file.invariant.consumed
+          c.in_ok-len.ensures.bytes.0;
+      within = stays_within c.file.bytes.items more c.extend_from_slice.new.self.items c.args.limit
+          c.in_ok-extend_from_slice.ensures.items
+          (omega (arith, c.if-len-limit.false, length-take c.in_ok-len.len c.read.new.buf, c.in_ok-len.ensures.within))
+          c.file.invariant.within;
     }
 
 pub returns-then-len-eq0 : goal.returns-then-len-eq0

@@ -1,6 +1,8 @@
 // How a call of the program ends: its exit status, the update of the index file, and the line of an error.
 ghost use Rattle.std.specs.Prelude.{◌≡◌, IfOk, string_bytes};
+ghost use Rattle.cs_tree.specs.FailureCount.{count_after};
 ghost use Rattle.cs_tree.specs.TakesPrefix.{EndsAfter};
+ghost use Rattle.cs_tree.specs.Transfers.{is_io_failure};
 ghost use Rattle.codesearch.specs.Program.{exit_status, fault_line, reading_line, writing_line, ReportsOutcome, PrintsErrorLine};
 
 use cs_args::{Refusal, Tool, message};
@@ -82,7 +84,8 @@ impl Outcome<'_> {
 
     /// Prints the line of an error; other outcomes have none.
     pub(crate) fn report<E: Sink>(&self, alloc: Global, err: &mut E) -> Result<(), IoFault>
-        ensures { ReportsOutcome self.now (E.model err.old) (E.model err.new) result }
+        ensures printed { ReportsOutcome self.now (E.model err.old) (E.model err.new) result }
+        ensures counted { E.failed err.new ≡ count_after is_io_failure result (E.failed err.old) }
     {
         match self {
             Outcome::Refused(fault) => print_fault(alloc, fault, err),
@@ -93,7 +96,8 @@ impl Outcome<'_> {
 
 /// Prints the line of an error, or that there is no memory for the line.
 fn print_fault<E: Sink>(alloc: Global, fault: &ProgramFault<'_>, err: &mut E) -> Result<(), IoFault>
-    ensures { PrintsErrorLine fault.now (E.model err.old) (E.model err.new) result }
+    ensures printed { PrintsErrorLine fault.now (E.model err.old) (E.model err.new) result }
+    ensures counted { E.failed err.new ≡ count_after is_io_failure result (E.failed err.old) }
 {
     match line(alloc, fault) {
         Ok(line) => print_line(line.as_str(), err),
@@ -147,7 +151,8 @@ fn leftover_line(alloc: Global, file: &str, temp: &str) -> Result<String, AllocE
 
 /// Prints a line at once.
 fn print_line<E: Sink>(line: &str, err: &mut E) -> Result<(), IoFault>
-    ensures { EndsAfter line.now (E.model err.old) (E.model err.new) result }
+    ensures printed { EndsAfter line.now (E.model err.old) (E.model err.new) result }
+    ensures counted { E.failed err.new ≡ count_after is_io_failure result (E.failed err.old) }
 {
     write_all(err, line.as_bytes())?;
     err.flush()

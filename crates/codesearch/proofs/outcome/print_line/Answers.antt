@@ -4,8 +4,8 @@ use Rattle.cs_tree.proofs.PrefixLemmas.{ends_after}
 use Rattle.codesearch.proofs.CallLemmas.{ends_flushed}
 use Rattle.codesearch.proofs.outcome.print_line.Goals as goal
 
-pub returns : goal.returns
-returns g c =
+pub returns-clause-printed : goal.returns-clause-printed
+returns-clause-printed g c =
     let flushed = ends_flushed _ _ c.flush.result c.flush.ensures.bytes in
     let old = g.E.Sink.model c.args.err.now in
     let new = g.E.Sink.model c.flush.new.self in

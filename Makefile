@@ -8,7 +8,7 @@ object = $(program).o
 library = out/lib/libcodesearch.a
 sources = crates.txt $(shell find crates -type d \( -name out -o -name must-fail \) -prune -o -type f -print)
 
-.PHONY: help try check quick test wrong mutants trusted program lib bench install uninstall dist deb
+.PHONY: help try check quick test wrong mutants trusted promises program lib bench install uninstall dist deb
 
 help:
 	@echo 'make try        searches a file of this repository with the program as it is before its proof: a minute'
@@ -22,6 +22,7 @@ help:
 	@echo 'make check      the gate: every proof from nothing, the mutants of must-fail/*.edit, and all tests: an hour or two'
 	@echo "make mutants    judges each mutant by itself (also make wrong): hours; CRATES='cs_tree cs_index/NAME' gives some"
 	@echo 'make trusted    what has to be read to believe the contracts of the tools'
+	@echo 'make promises   each promise with its clauses, definitions and mutants: out/promises.md'
 	@echo 'make bench      measures the tools beside their peers over a tree of files: TREE=/usr/src'
 
 # The toolchain runs the sources with checks in place of proofs.
@@ -46,6 +47,7 @@ pages:
 	tests/shell/words.sh
 	tests/shell/steps.sh
 	tests/shell/docs.py
+	scripts/promises.py --check
 	scripts/trusted.py -q --check
 
 # Names and types of all crates, of those that changed since they last passed.
@@ -89,6 +91,9 @@ wrong mutants:
 
 trusted:
 	@scripts/trusted.py
+
+promises:
+	@scripts/promises.py
 
 program: $(program)
 

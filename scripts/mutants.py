@@ -15,7 +15,11 @@ has kept. It judges all mutants of a crate, or the named ones; without arguments
 A mutant is refused by a goal that stays open. A written answer that no longer fits, since the mutant gives its goal another name
 or another type, refuses nothing: the check is made again without that answer. The open goals of each refused mutant are printed. A
 goal is false if the check has found values at which it is, or if a person has read it and the mutant has a line `false: GOAL`; a
-mutant without a false goal has to be read. So has one of a definition, which some proof refuses."""
+mutant without a false goal has to be read. So has one of a definition, which some proof refuses.
+
+must-fail/judged.txt has the mutants of a crate that were refused by a false goal, each with a sum of the mutant and of the contracts
+of the functions that it changes (of the file, for a mutant of a definition). The script keeps it; after a change of a contract the
+line no longer counts, and scripts/promises.py lists the mutant as one that is not judged on the present contract."""
 import hashlib
 import json
 import re
@@ -74,6 +78,48 @@ def function(crate, path, old):
     owner = rf"(?:\w+::)+{owners[-1]}\w*" if owners else module
     pattern = f"{crate.name}::{owner}::{name}"
     return pattern, f"{module} {cycle}" if cycle else pattern
+
+
+def contract(crate, path, old):
+    """The signature and the contract of the function that contains a text; elsewhere the text of the file."""
+    text = (crate / path).read_text()
+    found = [*FUNCTION.finditer(text.partition(old)[0])] if path.startswith("src/") else []
+    if not found:
+        return text
+    kept = []
+    for line in text[found[-1].start() :].splitlines():
+        if line.strip() in ("{", "{}") or (line.endswith(" {") and not any("ensures" in it for it in kept)):
+            break
+        kept.append(line)
+    return "\n".join(kept)
+
+
+def contract_sum(crate, mutant):
+    """A sum of a mutant and of the contracts of the functions that it changes."""
+    parts = [part for path, old, new in mutant.changes for part in (path, old, new, contract(crate, path, old))]
+    return hashlib.sha256("\0".join(parts).encode()).hexdigest()[:12]
+
+
+def judged(crate):
+    """The mutants of a crate that were refused by a false goal, each with the sum that it had then."""
+    path = crate / "must-fail/judged.txt"
+    return dict(line.split() for line in path.read_text().splitlines()) if path.exists() else {}
+
+
+def is_judged(crate, mutant):
+    return judged(crate).get(mutant.name) == contract_sum(crate, mutant)
+
+
+def note_judged(crate, verdicts):
+    """Keeps in must-fail/judged.txt which mutants are refused by a false goal, of those with a verdict."""
+    listed = {it.name: it for it in mutants(crate)}
+    kept = {name: total for name, total in judged(crate).items() if name in listed}
+    for name, verdict in verdicts.items():
+        kept.pop(name, None)
+        if verdict == "refused":
+            kept[name] = contract_sum(crate, listed[name])
+    lines = "".join(f"{name} {total}\n" for name, total in sorted(kept.items()))
+    (crate / "must-fail/judged.txt").write_text(lines)
 
 
 def mutants(crate):
@@ -230,6 +276,7 @@ def judge(crate, wanted):
 
     def tell(mutant, verdict, lines):
         counts[verdict] += 1
+        note_judged(top / "crates" / crate.name, {mutant.name: verdict})
         print(f"{crate.name}: {mutant.name}: {verdict}", *lines, sep="\n    ", flush=True)
 
     listed = [it for it in mutants(crate) if not wanted or it.name in wanted]

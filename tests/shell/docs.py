@@ -1,6 +1,7 @@
 #!/usr/bin/env python3
-"""Fails if a page names what is not there: a mutant, a file, a name of the code, a heading of a page, which comments of the code
-cite too, or a number of lines that scripts/trusted.py does not print. Before, it tries each of these tests on a wrong line.
+"""Fails if a page names what is not there: a file, a name of the code, a heading of a page, which comments of the code cite too, or
+a number of lines that scripts/trusted.py does not print. Before, it tries each of these tests on a wrong line. What PROMISES.md says
+of clauses and mutants is tested by scripts/promises.py.
 usage: tests/shell/docs.py [FOLDER]"""
 import re
 import subprocess
@@ -30,7 +31,7 @@ pages = [path for path in files if path.endswith(".md") and not path.startswith(
 folded = {path.rpartition("/")[2]: path for path in pages}
 edits = {path: text for path, text in files.items() if "/must-fail/" in path}
 mutants = {name for path, text in edits.items() for name in [Path(path).stem, *re.findall(r"^# (\w+)$", text, re.M)]}
-mutants |= {path.split("/")[1] for path in files if path.startswith("crates/")}  # "Refused: .. (`cs_tree`)"
+mutants |= {path.split("/")[1] for path in files if path.startswith("crates/")}
 words = {word for path, text in files.items() if path not in pages for word in re.findall(r"\w+", text)}
 words |= OTHERS | mutants
 trusted = re.findall(r"^(\w+): .*, (\d+) of definitions", run(sys.executable, "-B", "scripts/trusted.py", "-q"), re.M)
@@ -55,9 +56,6 @@ def stale(path, text):
         elif path != "docs/PERFORMANCE.md" and re.fullmatch(r"[\w:.]+", code):
             yield from (f"no name {name}" for name in re.findall(r"\w*[a-z](?:_|[A-Z])\w+", code) if name not in words)
     if path == PROMISES:
-        for part in re.findall(r"[Rr]efused:(.*?)(?:\.\s|\n\n|\n- |\Z)", text, re.S):
-            names = words.intersection(re.findall(r"`(\w+_\w+)`", part))
-            yield from (f"no mutant {name}" for name in sorted(names - mutants))
         for name, lines in trusted:
             said = re.findall(rf"(\d[\d,]*)(?:\s+lines\s+of\s+definitions)?\s+for\s+`{name}`", text)
             if said != [f"{int(lines):,}"]:
@@ -66,7 +64,6 @@ def stale(path, text):
 
 # A wrong line of each kind, in a page.
 for path, line in [
-    (PROMISES, "Refused: `matches_other_lines`,\n`run`, `next_match`."),
     (PROMISES, "`loses_a_line_that_is_not_there`"),
     (PROMISES, "7 lines of definitions for `cgrep`"),
     ("README.md", "`crates/cs_tree/src/lost.rt`"),

@@ -6,11 +6,13 @@
 #![tactic(auto)]
 
 mod byte_classes;
+mod chunks;
 mod dfa;
 mod expand;
 mod glushkov;
 mod input;
 mod interleaved_scan;
+mod lanes;
 pub mod laws;
 mod look_around;
 mod masks;
@@ -24,6 +26,7 @@ mod sequences;
 mod skipping;
 mod spans;
 mod state;
+mod table;
 
 pub use matcher::{Cache, Line, Matcher};
 pub use program::Program;

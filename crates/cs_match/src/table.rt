@@ -1,0 +1,51 @@
+// The transition table of the lazy DFA, borrowed by a scan. `specs/Table.antt` says what a scan needs of it.
+ghost use Rattle.std.specs.Prelude.{◌≡◌};
+ghost use Rattle.cs_match.specs.Table.{next_number, unknown, start, IsRow, HasRows};
+
+/// A transition table: a row for each state, with a cell for each class of bytes. The number of a state is the index of
+/// its row's first cell. The first rows are those of special states: found, the start state after a line that has a match;
+/// unknown, the transition is not computed yet; match, the line has a match, whatever follows in it; dead, no rest of the
+/// line makes one. The next is that of the start state.
+#[derive(Clone, Copy)]
+pub(crate) struct Table<'a> {
+    pub(crate) cells: &'a [u16],
+    /// The class of each byte. The newline is alone in its class.
+    pub(crate) of: &'a [u8; 256],
+    /// The number of classes.
+    pub(crate) count: usize,
+}
+
+impl<'a> Table<'a> {
+    /// The number of the state found.
+    pub(crate) const FOUND: u16 = 0;
+
+    /// The number of the state unknown.
+    #[inline(always)]
+    pub(crate) fn unknown(self) -> u16
+        requires { HasRows self }
+        ensures { result ≡ unknown self.entry }
+    {
+        self.count as u16
+    }
+
+    /// The number of the start state.
+    #[inline(always)]
+    pub(crate) fn start(self) -> u16
+        requires { HasRows self }
+        ensures { result ≡ start self.entry }
+    {
+        (4 * self.count) as u16
+    }
+
+    /// The transition of a state over a byte. The column of the byte does not depend on the state, so that a step waits for
+    /// one load alone.
+    #[inline(always)]
+    pub(crate) fn next(self, number: u16, byte: u8) -> u16
+        requires rows { HasRows self }
+        requires row { IsRow self number }
+        ensures { result ≡ next_number self.entry number byte }
+    {
+        let column = &self.cells[self.of[byte as usize] as usize..];
+        column[number as usize]
+    }
+}

@@ -24,9 +24,7 @@ use Rattle.cs_match.specs.ByteClasses.{AreAlike}
 use Rattle.cs_match.specs.LazyDfa.{blank_transition}
 use Rattle.cs_match.specs.Scan.{state_after}
 use Rattle.cs_match.specs.Automaton.{GrowsOver}
-use Rattle.cs_match.specs.Passes.{ends_in}
 use Rattle.cs_match.specs.Size.{nodes}
-use Rattle.cs_match.specs.Span.{IsFirstSpan, AreSpans}
 use Rattle.cs_match.specs.Work.{words, byte_work}
 
 lines_of_two : lines (codes "ab\ncd\n") ≡ codes "ab" ∷ codes "cd" ∷ []
@@ -190,108 +188,3 @@ second_word = refl
 
 byte_of_one_position : byte_work (one_of []) ≡ 1292
 byte_of_one_position = refl
-
--- `a|ab|aab` on `aab`, where `a` and `b` are the bytes 0 and 1: the longest branch
-abbrev letter_a : Tree
-letter_a = one_of (true ∷ [])
-
-abbrev letter_b : Tree
-letter_b = one_of (false ∷ true ∷ [])
-
-abbrev branches : Tree
-branches =
-    alt
-    (more letter_a
-    (more (cat (more letter_a (more letter_b none))) (more (cat (more letter_a (more letter_a (more letter_b none)))) none)))
-
-abbrev aab : List ℕ
-aab = 0 ∷ 0 ∷ 1 ∷ []
-
-longest_branch : IsFirstSpan branches aab 0 0 0 3
-longest_branch = record {
-  is = record {
-    begins = omega arith;
-    ends = omega arith;
-    ordered = omega arith;
-    within = omega arith;
-    matches = inr (inr (inl (1, (omega arith, refl, refl), (2, (omega arith, refl, refl), (3, (omega arith, refl, refl), refl)))));
-  };
-  leftmost = λ i j m. m.begins;
-  longest = λ j m. m.within;
-}
-
--- `x*` on `axxb`, where `a`, `x` and `b` are the bytes 0, 1 and 2
-abbrev letter_x : Tree
-letter_x = one_of (false ∷ true ∷ [])
-
-abbrev letters_x : Tree
-letters_x = rep letter_x 0 None
-
-abbrev axxb : List ℕ
-axxb = 0 ∷ 1 ∷ 1 ∷ 2 ∷ []
-
--- the ends of the matches that begin at offset 1
-ends_of_a_pass :
-    (ends_in axxb letters_x 1 2 0 ≡ false)
-    × (ends_in axxb letters_x 1 2 1 ≡ true)
-    × (ends_in axxb letters_x 1 2 2 ≡ true)
-    × (ends_in axxb letters_x 1 2 3 ≡ true)
-    × (ends_in axxb letters_x 1 2 4 ≡ false)
-ends_of_a_pass = (refl, refl, refl, refl, refl)
-
-before_a : (k j : ℕ) → Chain (MatchesSpan axxb letter_x) k 0 j → j ≤ 0
-before_a zero j h = omega (arith, h)
-before_a (suc k) j h = absurd (false≢true h.1.1)
-
-before_b : (k i j : ℕ) → i ≤ 3 → Chain (MatchesSpan axxb letter_x) k i j → j ≤ 3
-before_b zero i j low h = omega (arith, low, h)
-before_b (suc k) i j low h =
-    elim (cases_eq i 3) [
-      | inl e ↦
-          let P : ℕ → Type 0 = λ n. member (false ∷ true ∷ []) (slice_index axxb n) ≡ true in
-          absurd (false≢true (subst P e h.1.1))
-      | inr other ↦ before_b k h.0 j (omega (arith, low, other, h.1.2)) h.2
-    ]
-
-empty_match_before_a : IsFirstSpan letters_x axxb 0 0 0 0
-empty_match_before_a = record {
-  is = record { begins = omega arith; ends = omega arith; ordered = omega arith; within = omega arith; matches = (0, omega arith, tt, refl) };
-  leftmost = λ i j m. m.begins;
-  longest = λ j m. before_a m.matches.0 j m.matches.3;
-}
-
-both_letters : IsFirstSpan letters_x axxb 0 1 1 3
-both_letters = record {
-  is = record {
-    begins = omega arith;
-    ends = omega arith;
-    ordered = omega arith;
-    within = omega arith;
-    matches = (2, omega arith, tt, (2, (omega arith, refl, refl), (3, (omega arith, refl, refl), refl)));
-  };
-  leftmost = λ i j m. elim (cases_eq i 0) [
-    | inl e ↦
-        let P : ℕ → Type 0 = λ n. MatchesSpan axxb letters_x n j in
-        let h : MatchesSpan axxb letters_x 0 j = subst P e m.matches in
-        absurd (omega (arith, m.ends, before_a h.0 j h.3))
-    | inr other ↦ omega (arith, other)
-  ];
-  longest = λ j m. before_b m.matches.0 1 j (omega arith) m.matches.3;
-}
-
-empty_match_after_b : IsFirstSpan letters_x axxb 3 4 4 4
-empty_match_after_b = record {
-  is = record { begins = omega arith; ends = omega arith; ordered = omega arith; within = omega arith; matches = (0, omega arith, tt, refl) };
-  leftmost = λ i j m. elim (cases_eq i 3) [
-    | inl e ↦
-        let P : ℕ → Type 0 = λ n. MatchesSpan axxb letters_x n j in
-        let h : MatchesSpan axxb letters_x 3 j = subst P e m.matches in
-        absurd (omega (arith, m.ends, before_b h.0 3 j (omega arith) h.3))
-    | inr other ↦ omega (arith, m.begins, other)
-  ];
-  longest = λ j m. m.within;
-}
-
--- none between `x` and `b`, where the last one ended
-spans_of_a_star : AreSpans letters_x axxb ((0, 0) ∷ (1, 3) ∷ (4, 4) ∷ [])
-spans_of_a_star = (empty_match_before_a, (both_letters, (empty_match_after_b, λ i j m. absurd (omega (arith, m.ends, m.within)))))

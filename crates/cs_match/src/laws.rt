@@ -1,9 +1,9 @@
 // Laws of the definitions.
-ghost use Rattle.std.specs.Prelude.{◌≡◌, ◌∷◌, ◌++◌, [], ℕ, List};
+ghost use Rattle.std.specs.Prelude.{◌≡◌, ◌∷◌, ◌++◌, [], ℕ, Bool, List};
 ghost use Rattle.cs_syntax.specs.Matching.{Tree};
 ghost use Rattle.cs_match.specs.Expansion.{expansion};
 ghost use Rattle.cs_match.specs.Size.{FitsWeight};
-ghost use Rattle.cs_match.specs.Span.{FirstSpansAreUnique};
+ghost use Rattle.cs_match.specs.Span.{FirstSpansAreUnique, FirstSpansBeginAll, SpansAreUnique};
 ghost use Rattle.cs_match.specs.Glushkov.{IsExpanded};
 ghost use Rattle.cs_match.specs.Passes.{PassesFindEnds};
 ghost use Rattle.cs_match.specs.Decidability.{MatchingIsDecidable};
@@ -41,8 +41,14 @@ pub fn first_spans_are_unique()
     ensures { FirstSpansAreUnique }
 {}
 
+/// A line has one list of all its matches, and its first matches begin that list.
+pub fn spans_are_unique()
+    ensures all { SpansAreUnique }
+    ensures first { FirstSpansBeginAll }
+{}
+
 /// A pass of the automaton in which a match may begin in a part of the line finds the ends of the matches that begin there.
 pub fn passes_find_ends()
-    ensures { (line : List ℕ) (tree : Tree) (from until : ℕ) → IsExpanded tree →
-        PassesFindEnds line tree from until }
+    ensures { (whole : Bool) (line : List ℕ) (tree : Tree) (from until : ℕ) → IsExpanded tree →
+        PassesFindEnds whole line tree from until }
 {}

@@ -31,4 +31,4 @@ mod table;
 pub use matcher::{Cache, Line, Matcher};
 pub use program::Program;
 pub use skipping::whole_lines_len;
-pub use spans::{Finder, Span};
+pub use spans::{Finder, Listed, Pass, Span, Wanted};

@@ -1,0 +1,12 @@
+use Rattle.std.proofs.Common.{◌+◌}
+use Rattle.cs_match.specs.Passes.{IsPassAt, HasRead}
+use Rattle.cs_match.specs.SpanSearch.{IsLastEnd}
+use Rattle.cs_match.proofs.spans.pass.Pass.last_end.Given as goal
+
+abbrev pub invariant-loop-offset : goal.invariant-loop-offset
+invariant-loop-offset l =
+    record {
+      at : IsPassAt l.part.whole l.program l.line l.part.from l.part.until l.offset l.self;
+      last : IsLastEnd l.part.whole l.program l.line l.part.from l.part.least l.offset l.last;
+      read : HasRead l.program (l.offset + 1) l.fn.self l.self;
+    }

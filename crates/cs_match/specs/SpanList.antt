@@ -1,0 +1,27 @@
+-- Lists of spans in a buffer.
+use Rattle.std.specs.Prelude.{ℕ, ◌≡◌, ◌+◌, ◌≤◌, ◌⊎◌, Bool, not, List, length, map, take, drop}
+use Rattle.cs_syntax.specs.Matching.{Tree}
+use Rattle.cs_match.specs.Span.{AreSpansFrom}
+use Rattle.cs_match.specs.SpanWork.{Finding}
+use Rattle.cs_match.specs.declared.spans.Span.{Span}
+use Rattle.cs_match.specs.declared.spans.Listed.{Listed}
+use Rattle.cs_match.specs.declared.spans.pass.Pass.{Pass}
+
+-- the first spans of a buffer, as pairs of offsets
+abbrev pub first_spans : ℕ → List Span → List (ℕ × ℕ)
+first_spans count buffer = map (λ span. (span.start, span.end)) (take count buffer)
+
+-- The first matches of a line, and all of them unless the list was stopped. The rest of the buffer stays as it was.
+pub record IsListing (whole : Bool) (t : Tree) (s : List ℕ) (old new : List Span) (listed : Listed) : Type 0 where
+  pub spans : AreSpansFrom (not listed.stopped) whole t s 0 0 (first_spans listed.count new)
+  pub within : listed.count ≤ length old
+  pub size : length new ≡ length old
+  pub rest : drop listed.count new ≡ drop listed.count old
+
+-- the buffer is full, or at least as many steps were taken as the budget has bytes
+abbrev pub IsUsedUp : ℕ → ℕ → ℕ → Finding → Finding → Type 0
+IsUsedUp budget room count old new = (count ≡ room) ⊎ (old.steps + budget ≤ new.steps)
+
+-- the buffer is full, or the budget has no bytes left
+abbrev pub IsSpent : ℕ → ℕ → Pass → Type 0
+IsSpent room count pass = (count ≡ room) ⊎ (pass.left ≡ 0)

@@ -1,0 +1,4 @@
+mod Examples
+mod BlockLemmas
+mod ScanLemmas
+mod SpacingLemmas

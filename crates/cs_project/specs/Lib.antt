@@ -1,0 +1,9 @@
+-- Definitions that public contracts cite.
+pub mod Contexts
+pub mod Forms
+pub mod Shown
+pub mod Printing
+-- Definitions that only private contracts cite.
+pub mod Spacing
+pub mod Scans
+pub mod Blocks

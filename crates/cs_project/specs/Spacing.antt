@@ -1,0 +1,61 @@
+-- Rows one after another, with what is printed before each: the definition that the printing of a text is proved from.
+use Rattle.std.specs.Prelude.{ℕ, ◌≡◌, ◌+◌, Bool, true, false, nat_eq, if◌then◌else◌, List, [], ◌∷◌, ◌++◌, Result, OnOk}
+use Rattle.cs_project.specs.Contexts.{Row}
+use Rattle.cs_project.specs.Shown.{Finding, shown_bytes, heading, gap}
+use Rattle.cs_match.specs.Lines.{newline}
+use Rattle.cs_project.specs.declared.form.ShowOptions.{ShowOptions}
+use Rattle.cs_project.specs.declared.rows.Page.{Page}
+use Rattle.cs_project.specs.declared.rows.Rows.{Rows}
+
+-- What was printed, whether a row of the text was, and the number after that of the last one.
+pub record Progress : Type 0 where
+  pub given : List ℕ
+  pub shown : Bool
+  pub next : ℕ
+
+-- what is printed before a row with this number
+abbrev pub before_row : List ℕ → List ℕ → Bool → ℕ → ℕ → List ℕ
+before_row opening gap false next number = opening
+before_row opening gap true next number = if nat_eq number next then [] else gap
+
+module _ (opening gap : List ℕ) (bytes : Row → List ℕ) where
+  abbrev pub spaced : Bool → ℕ → List Row → List ℕ
+  spaced shown next [] = []
+  spaced shown next (row ∷ rows) = before_row opening gap shown next row.number ++ (bytes row ++ spaced true (row.number + 1) rows)
+
+  -- after these rows
+  abbrev pub printed : Progress → List Row → Progress
+  printed progress [] = progress
+  printed progress (row ∷ rows) = printed (record {
+    given = progress.given ++ (before_row opening gap progress.shown progress.next row.number ++ bytes row);
+    shown = true;
+    next = row.number + 1;
+  }) rows
+
+-- ---- of a page
+
+-- what is between the lines of two texts
+abbrev pub line_gap : ShowOptions → List ℕ
+line_gap options = if options.heading then newline ∷ [] else gap options
+
+-- what is printed before the first row of a text
+abbrev pub opening_of : Page → List ℕ
+opening_of page =
+    (if page.begun then line_gap page.options.now else []) ++ heading page.options.now page.name.now
+
+abbrev pub printed_by : Page → Finding → Progress → List Row → Progress
+printed_by page finding =
+    printed (opening_of page) (gap page.options.now) (shown_bytes page.options.now finding page.name.now)
+
+abbrev pub progress_of : Rows → List ℕ → Progress
+progress_of rows given = record { given = given; shown = rows.shown; next = rows.number }
+
+-- these rows were printed
+abbrev pub IsPrinted : Rows → Rows → List ℕ → List ℕ → List Row → Type 0
+IsPrinted old new given later rows =
+    ((finding : Finding) → progress_of new later ≡ printed_by old.page finding (progress_of old given) rows) × (new.page ≡ old.page)
+
+-- On success these rows were printed. The rest of the state stays.
+abbrev pub ShowsRows : {A E : Type 0} → Rows → Rows → List ℕ → List ℕ → List Row → Result A E → Type 0
+ShowsRows old new given later rows result =
+    OnOk result (IsPrinted old new given later rows × (new.most ≡ old.most) × (new.left ≡ old.left))

@@ -1,0 +1,12 @@
+//! What `cs` prints. Read `specs/Contexts.antt` first (which lines of a text are shown), then `specs/Forms.antt` (a line as it
+//! is printed) and `specs/Shown.antt` (a text, and texts one after another).
+#![tactic(auto)]
+
+mod form;
+mod lines;
+mod row;
+mod rows;
+mod searching;
+
+pub use form::{LineForm, Mode, ShowOptions};
+pub use rows::Page;

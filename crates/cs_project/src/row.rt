@@ -1,0 +1,132 @@
+// Lines as they are printed.
+ghost use Rattle.std.specs.Prelude.{◌≡◌, ◌++◌, ◌∷◌, [], false, None, List, codes};
+ghost use Rattle.cs_match.specs.Lines.{newline};
+ghost use Rattle.cs_project.specs.Forms.{dyed, separator, separated, name_part, number_part, prefix_of, row_bytes, Span};
+ghost use Rattle.cs_project.specs.Printing.{Prints, row_of, needs_spans};
+
+use crate::form::LineForm;
+use cs_output::Output;
+use itoa::Buffer;
+use std::alloc::AllocError;
+
+/// A line that is shown.
+#[derive(Clone, Copy, Drop)]
+pub(crate) struct LineRow<'a> {
+    pub(crate) number: u64,
+    pub(crate) line: &'a [u8],
+    pub(crate) marked: bool,
+}
+
+impl LineForm {
+    /// A text, in this colour if the form has colours.
+    pub(crate) fn print_dyed<O: Output>(
+        &self,
+        colour: &[u8],
+        text: &[u8],
+        out: &mut O,
+    ) -> Result<(), AllocError>
+        ensures { Prints (O.given out.old) (O.given out.new) (dyed self.now colour.now text.now) result }
+    {
+        if !self.colour {
+            out.append(text)?;
+            return Ok(());
+        }
+        out.append(b"\x1b[")?;
+        out.append(colour)?;
+        out.append(b"m")?;
+        out.append(text)?;
+        out.append(b"\x1b[m")?;
+        Ok(())
+    }
+
+    /// What ends a part of the prefix: a colon if the line is marked, else a hyphen.
+    fn print_separator<O: Output>(&self, marked: bool, out: &mut O) -> Result<(), AllocError>
+        ensures { Prints (O.given out.old) (O.given out.new) (dyed self.now (codes "36") (separator marked)) result }
+    {
+        if marked {
+            self.print_dyed(b"36", b":", out)?;
+        } else {
+            self.print_dyed(b"36", b"-", out)?;
+        }
+        Ok(())
+    }
+
+    /// A text and its separator.
+    fn print_separated<O: Output>(
+        &self,
+        marked: bool,
+        colour: &[u8],
+        text: &[u8],
+        out: &mut O,
+    ) -> Result<(), AllocError>
+        ensures { Prints (O.given out.old) (O.given out.new) (separated self.now marked colour.now text.now) result }
+    {
+        self.print_dyed(colour, text, out)?;
+        self.print_separator(marked, out)?;
+        Ok(())
+    }
+
+    /// The name, unless the form is bare.
+    fn print_name<O: Output>(&self, name: &str, marked: bool, out: &mut O) -> Result<(), AllocError>
+        ensures { Prints (O.given out.old) (O.given out.new) (name_part self.now name.now marked) result }
+    {
+        if self.bare {
+            return Ok(());
+        }
+        if self.nul {
+            self.print_dyed(b"35", name.as_bytes(), out)?;
+            out.append(b"\0")?;
+            return Ok(());
+        }
+        self.print_separated(marked, b"35", name.as_bytes(), out)?;
+        Ok(())
+    }
+
+    /// The number, if the form has numbers.
+    fn print_number<O: Output>(
+        &self,
+        number: u64,
+        marked: bool,
+        out: &mut O,
+    ) -> Result<(), AllocError>
+        ensures { Prints (O.given out.old) (O.given out.new) (number_part self.now number marked) result }
+    {
+        if !self.number {
+            return Ok(());
+        }
+        let mut digits = Buffer::new();
+        self.print_separated(marked, b"32", digits.format(number).as_bytes(), out)?;
+        Ok(())
+    }
+
+    /// The name and the number, as far as the form has them.
+    fn print_prefix<O: Output>(
+        &self,
+        name: &str,
+        row: &LineRow<'_>,
+        out: &mut O,
+    ) -> Result<(), AllocError>
+        ensures { Prints (O.given out.old) (O.given out.new) (prefix_of self.now name.now (row_of row.now) None) result }
+    {
+        self.print_name(name, row.marked, out)?;
+        self.print_number(row.number, row.marked, out)?;
+        Ok(())
+    }
+
+    /// A line after its prefix.
+    pub(crate) fn print_row<O: Output>(
+        &self,
+        name: &str,
+        row: &LineRow<'_>,
+        out: &mut O,
+    ) -> Result<(), AllocError>
+        requires plain { needs_spans self.now ≡ false }
+        ensures { (spans : List Span) →
+            Prints (O.given out.old) (O.given out.new) (row_bytes self.now name.now (row_of row.now) spans) result }
+    {
+        self.print_prefix(name, row, out)?;
+        out.append(row.line)?;
+        out.append(b"\n")?;
+        Ok(())
+    }
+}

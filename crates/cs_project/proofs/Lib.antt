@@ -2,3 +2,5 @@ mod Examples
 mod BlockLemmas
 mod ScanLemmas
 mod SpacingLemmas
+mod SearchLemmas
+mod TextLemmas

@@ -7,10 +7,10 @@ use Rattle.cs_project.specs.Scans.{rows_at}
 use Rattle.cs_project.specs.Spacing.{Progress, before_row, spaced, printed}
 
 -- a row begins the first group
-abbrev Begins : Row → List (List Row) → Type 0
+abbrev pub Begins : Row → List (List Row) → Type 0
 Begins row groups = (group : List Row) × (more : List (List Row)) × (groups ≡ (row ∷ group) ∷ more)
 
-begins : (row : Row) (groups : List (List Row)) → Begins row (with_row row groups)
+pub begins : (row : Row) (groups : List (List Row)) → Begins row (with_row row groups)
 begins row [] = ([], [], refl)
 begins row ([] ∷ groups) = ([], groups, refl)
 begins row ((next ∷ group) ∷ groups) = by_number (nat_eq next.number (row.number + 1))

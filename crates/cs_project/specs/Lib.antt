@@ -3,6 +3,7 @@ pub mod Contexts
 pub mod Forms
 pub mod Shown
 pub mod Printing
+pub mod Printed
 -- Definitions that only private contracts cite.
 pub mod Spacing
 pub mod Scans

@@ -2,7 +2,7 @@
 use Rattle.std.specs.Prelude.{ℕ, ◌≡◌, ◌≤◌, ◌+◌, ◌-◌, Bool, true, false, ◌&&◌, nat_lt, if◌then◌else◌, List, [], ◌∷◌, ◌++◌, length, drop, take, slice_range, Option, MatchOption}
 use Rattle.cs_match.specs.Deciding.{Decides}
 use Rattle.cs_match.specs.Lines.{terminated_lines}
-use Rattle.cs_match.specs.Skipping.{AreWholeLines, IsLineAfter}
+use Rattle.cs_match.specs.Skipping.{AreWholeLines}
 use Rattle.cs_match.specs.declared.matcher.Line.{Line}
 use Rattle.cs_syntax.specs.Matching.{Tree}
 use Rattle.cs_project.specs.Contexts.{Row, row_at, is_open, one_less}
@@ -80,8 +80,7 @@ pub record IsPassed (old new : Rows) (block : List ℕ) (held from held' : ℕ) 
 abbrev pub IsNextMark : Rows → (List ℕ → Bool) → List ℕ → ℕ → Option Line → Type 0
 IsNextMark rows has_match block from next = let wanted = is_wanted rows.page.options.now has_match in MatchOption next
     (NoneMarked wanted rows.most (terminated_lines (drop from block)))
-    (λ line. IsLineAfter block from line.start line.end
-    × ((wanted (slice_range block line.start line.end) && is_open rows.most) ≡ true) × (is_open rows.most ≡ true)
+    (λ line. ((wanted (slice_range block line.start line.end) && is_open rows.most) ≡ true)
     × NoneMarked wanted rows.most (terminated_lines (slice_range block from line.start)))
 
 -- Lines were searched, and `held'` are held now: what is to be printed of them and of any lines after them was printed, but for
@@ -90,3 +89,8 @@ abbrev pub Searches : Tree → Rows → Rows → List ℕ → List ℕ → List 
 Searches tree old new given given' held lines held' = (finding : Finding) (later : List (List ℕ)) → Decides finding.has_match tree →
     printed_by old.page finding (progress_of old given) (rows_by old finding held (lines ++ later))
     ≡ printed_by new.page finding (progress_of new given') (rows_by new finding held' later)
+
+-- The last lines were searched: what is to be printed of them was printed.
+abbrev pub SearchesLast : Tree → Rows → Rows → List ℕ → List ℕ → List (List ℕ) → List (List ℕ) → Type 0
+SearchesLast tree old new given given' held lines = (finding : Finding) → Decides finding.has_match tree →
+    progress_of new given' ≡ printed_by old.page finding (progress_of old given) (rows_by old finding held lines)

@@ -33,9 +33,13 @@ shows_lines Counts = false
 shows_lines Names = false
 shows_lines Others = false
 
--- what is between the groups of two texts: with headings an empty line; nothing, if no lines are shown
+-- what is between the lines of two texts: with headings an empty line
+abbrev pub line_gap : ShowOptions → List ℕ
+line_gap options = if options.heading then newline ∷ [] else gap options
+
+-- what is between the groups of two texts: nothing, if no lines are shown
 abbrev pub between : ShowOptions → List ℕ
-between options = if shows_lines options.mode then (if options.heading then newline ∷ [] else gap options) else []
+between options = if shows_lines options.mode then line_gap options else []
 
 -- with -v a line is wanted if it has no match
 abbrev pub is_wanted : ShowOptions → (List ℕ → Bool) → List ℕ → Bool

@@ -1,9 +1,7 @@
 -- Rows one after another, with what is printed before each: the definition that the printing of a text is proved from.
 use Rattle.std.specs.Prelude.{ℕ, ◌≡◌, ◌+◌, Bool, true, false, nat_eq, if◌then◌else◌, List, [], ◌∷◌, ◌++◌, Result, OnOk}
 use Rattle.cs_project.specs.Contexts.{Row}
-use Rattle.cs_project.specs.Shown.{Finding, shown_bytes, heading, gap}
-use Rattle.cs_match.specs.Lines.{newline}
-use Rattle.cs_project.specs.declared.form.ShowOptions.{ShowOptions}
+use Rattle.cs_project.specs.Shown.{Finding, shown_bytes, heading, gap, line_gap}
 use Rattle.cs_project.specs.declared.rows.Page.{Page}
 use Rattle.cs_project.specs.declared.rows.Rows.{Rows}
 
@@ -34,10 +32,6 @@ module _ (opening gap : List ℕ) (bytes : Row → List ℕ) where
 
 -- ---- of a page
 
--- what is between the lines of two texts
-abbrev pub line_gap : ShowOptions → List ℕ
-line_gap options = if options.heading then newline ∷ [] else gap options
-
 -- what is printed before the first row of a text
 abbrev pub opening_of : Page → List ℕ
 opening_of page =
@@ -46,6 +40,10 @@ opening_of page =
 abbrev pub printed_by : Page → Finding → Progress → List Row → Progress
 printed_by page finding =
     printed (opening_of page) (gap page.options.now) (shown_bytes page.options.now finding page.name.now)
+
+-- no line of the text is shown yet
+abbrev pub fresh_rows : Page → Rows
+fresh_rows page = record { page = page; number = 1; most = page.options.now.most; left = 0; shown = false }
 
 abbrev pub progress_of : Rows → List ℕ → Progress
 progress_of rows given = record { given = given; shown = rows.shown; next = rows.number }

@@ -7,6 +7,8 @@ mod lines;
 mod row;
 mod rows;
 mod searching;
+mod text;
 
 pub use form::{LineForm, Mode, ShowOptions};
 pub use rows::Page;
+pub use text::print_lines;

@@ -6,9 +6,9 @@ ghost use Rattle.cs_project.specs.Contexts.{is_open, one_less, row_at};
 ghost use Rattle.cs_project.specs.Forms.{dyed};
 ghost use Rattle.cs_project.specs.Printing.{Prints, row_of, needs_spans};
 ghost use Rattle.cs_project.specs.Scans.{rows_at, last_rows, scan_of, scan_marked, Fits, IsPassed};
-ghost use Rattle.cs_project.specs.Shown.{gap, heading, name_bytes};
+ghost use Rattle.cs_project.specs.Shown.{gap, line_gap, heading, name_bytes};
 ghost use Rattle.cs_project.specs.Blocks.{IsFirstLines};
-ghost use Rattle.cs_project.specs.Spacing.{ShowsRows, IsPrinted, before_row, line_gap, opening_of};
+ghost use Rattle.cs_project.specs.Spacing.{ShowsRows, IsPrinted, before_row, opening_of, fresh_rows};
 
 use crate::form::ShowOptions;
 use crate::lines::{last_lines, line_count, line_end};
@@ -115,11 +115,7 @@ impl Page<'_> {
 impl<'a> Rows<'a> {
     /// No line of the text is shown yet.
     pub(crate) fn new(page: Page<'a>) -> Rows<'a>
-        ensures page { result.page ≡ page.entry }
-        ensures number { result.number ≡ 1 }
-        ensures most { result.most ≡ page.entry.options.now.most }
-        ensures left { result.left ≡ 0 }
-        ensures shown { result.shown ≡ false }
+        ensures { result ≡ fresh_rows page.entry }
     {
         Rows {
             page,
@@ -208,7 +204,7 @@ impl<'a> Rows<'a> {
         requires within { (held ≤ from) × (from ≤ length block.now) }
         requires whole { AreWholeLines (drop held block.now) × AreWholeLines (slice_range block.now held from) }
         requires fits { Fits (terminated_lines (slice_range block.now held from)) self.old.left }
-        requires room { self.old.number + length block.now < 2 ^ 64 }
+        requires room { self.old.number + (length block.now - from) < 2 ^ 64 }
         requires plain { needs_spans self.old.page.options.now.form ≡ false }
         ensures rows { OnOk result (IsPrinted self.old self.new (O.given out.old) (O.given out.new)
             (rows_at self.old.number (take self.old.left (terminated_lines (drop from block.now))))) }

@@ -1,19 +1,22 @@
 // The search of the lines of a text for those that are marked.
-ghost use Rattle.std.specs.Prelude.{◌≡◌, ◌≤◌, ◌<◌, ◌+◌, ◌-◌, ◌^◌, ℕ, Bool, List, [], ◌∷◌, false, true, not, length, take, drop, slice_range, IfOk, OnOk};
+ghost use Rattle.std.specs.Prelude.{◌≡◌, ◌≤◌, ◌<◌, ◌+◌, ◌-◌, ◌^◌, ℕ, Bool, ◌&&◌, List, [], ◌∷◌, false, true, not, length, take, drop, slice_range, IfOk, IfSome, OnOk};
 ghost use Rattle.cs_match.specs.Deciding.{Decides};
+ghost use Rattle.cs_match.specs.LastPart.{last_line};
 ghost use Rattle.cs_match.specs.Lines.{terminated_lines};
 ghost use Rattle.cs_match.specs.NoNewline.{HasNoNewline};
 ghost use Rattle.cs_match.specs.Skipping.{AreWholeLines, NoneMatch, IsLineAfter};
 ghost use Rattle.cs_project.specs.Blocks.{IsNext};
 ghost use Rattle.cs_project.specs.Contexts.{is_open};
 ghost use Rattle.cs_project.specs.Printing.{needs_spans};
-ghost use Rattle.cs_project.specs.Scans.{Fits, Searches, IsNextMark};
+ghost use Rattle.cs_project.specs.Scans.{Fits, Searches, SearchesLast, IsNextMark};
 ghost use Rattle.cs_project.specs.Shown.{is_wanted};
 
 use crate::form::ShowOptions;
 use crate::lines::line_end;
 use crate::rows::Rows;
 use cs_match::{Line, Matcher};
+use cs_output::Output;
+use std::alloc::AllocError;
 
 /// Whether a line is wanted: it matches, or with `-v` does not.
 pub(crate) fn is_wanted(options: &ShowOptions, line: &[u8], matcher: &mut Matcher<'_>) -> bool
@@ -29,6 +32,7 @@ pub(crate) fn is_wanted(options: &ShowOptions, line: &[u8], matcher: &mut Matche
 fn next_miss(block: &[u8], from: usize, matcher: &mut Matcher<'_>) -> Option<Line>
     requires within { from ≤ length block.now }
     requires whole { AreWholeLines (drop from block.now) }
+    ensures line { IfSome result (λ line. IsLineAfter block.now from line.start line.end) }
     ensures next { (has_match : List ℕ → Bool) → Decides has_match matcher.old.tree →
         IsNext (λ line. not (has_match line)) block.now from result }
     ensures same { matcher.new.tree ≡ matcher.old.tree }
@@ -53,6 +57,7 @@ pub(crate) fn next_wanted(
 ) -> Option<Line>
     requires within { from ≤ length block.now }
     requires whole { AreWholeLines (drop from block.now) }
+    ensures line { IfSome result (λ line. IsLineAfter block.now from line.start line.end) }
     ensures next { (has_match : List ℕ → Bool) → Decides has_match matcher.old.tree →
         IsNext (is_wanted options.now has_match) block.now from result }
     ensures same { matcher.new.tree ≡ matcher.old.tree }
@@ -79,6 +84,7 @@ impl Rows<'_> {
     fn next_mark(&self, block: &[u8], from: usize, matcher: &mut Matcher<'_>) -> Option<Line>
         requires within { from ≤ length block.now }
         requires whole { AreWholeLines (drop from block.now) }
+        ensures line { IfSome result (λ line. IsLineAfter block.now from line.start line.end × (is_open self.now.most ≡ true)) }
         ensures mark { (has_match : List ℕ → Bool) → Decides has_match matcher.old.tree →
             IsNextMark self.now has_match block.now from result }
         ensures same { matcher.new.tree ≡ matcher.old.tree }
@@ -87,5 +93,80 @@ impl Rows<'_> {
             return None;
         }
         next_wanted(self.page.options, block, from, matcher)
+    }
+
+    /// Searches the lines of a block from `from` on; those before are held. Returns where the lines begin that are held then.
+    pub(crate) fn search_block<O: Output>(
+        &mut self,
+        block: &[u8],
+        from: usize,
+        matcher: &mut Matcher<'_>,
+        out: &mut O,
+    ) -> Result<usize, AllocError>
+        requires within { from ≤ length block.now }
+        requires whole { AreWholeLines (take from block.now) × AreWholeLines (drop from block.now) }
+        requires fits { Fits (terminated_lines (take from block.now)) self.old.left }
+        requires room { self.old.number + length block.now < 2 ^ 64 }
+        requires plain { needs_spans self.old.page.options.now.form ≡ false }
+        ensures within { IfOk result (λ held. held ≤ length block.now) }
+        ensures whole { IfOk result (λ held. AreWholeLines (drop held block.now)) }
+        ensures fits { IfOk result (λ held. Fits (terminated_lines (drop held block.now)) self.new.left) }
+        ensures room { IfOk result (λ held. self.new.number ≤ self.old.number + held) }
+        ensures page { OnOk result (self.new.page ≡ self.old.page) }
+        ensures rows { IfOk result (λ held. Searches matcher.old.tree self.old self.new (O.given out.old) (O.given out.new)
+            (terminated_lines (take from block.now)) (terminated_lines (drop from block.now))
+            (terminated_lines (drop held block.now))) }
+        ensures same { matcher.new.tree ≡ matcher.old.tree }
+    {
+        let mut held = 0;
+        let mut offset = from;
+        'marks: while let Some(line) = self.next_mark(block, offset, matcher) {
+            held = self.pass(&block[..line.start], held, offset, out)?;
+            self.show_mark(&block[held..line.start], &block[line.start..line.end], out)?;
+            offset = line.end + 1;
+            held = offset;
+        }
+        let held = self.pass(block, held, offset, out)?;
+        Ok(held)
+    }
+
+    /// Whether a line is marked.
+    fn is_marked(&self, line: &[u8], matcher: &mut Matcher<'_>) -> bool
+        ensures marked { (has_match : List ℕ → Bool) → Decides has_match matcher.old.tree →
+            result ≡ (is_wanted self.now.page.options.now has_match line.now && is_open self.now.most) }
+        ensures may { result ≡ true → is_open self.now.most ≡ true }
+        ensures same { matcher.new.tree ≡ matcher.old.tree }
+    {
+        if !self.is_open() {
+            return false;
+        }
+        is_wanted(self.page.options, line, matcher)
+    }
+
+    /// Searches the bytes after the last newline of a text, if there are any. The lines before are held.
+    pub(crate) fn search_last<O: Output>(
+        &mut self,
+        held: &[u8],
+        last: &[u8],
+        matcher: &mut Matcher<'_>,
+        out: &mut O,
+    ) -> Result<(), AllocError>
+        requires whole { AreWholeLines held.now }
+        requires fits { Fits (terminated_lines held.now) self.old.left }
+        requires room { self.old.number + length held.now + 1 < 2 ^ 64 }
+        requires plain { needs_spans self.old.page.options.now.form ≡ false }
+        ensures rows { OnOk result (SearchesLast matcher.old.tree self.old self.new (O.given out.old) (O.given out.new)
+            (terminated_lines held.now) (last_line last.now)) }
+        ensures same { matcher.new.tree ≡ matcher.old.tree }
+    {
+        if last.is_empty() {
+            return Ok(());
+        }
+        if self.is_marked(last, matcher) {
+            self.show_mark(held, last, out)?;
+        } else {
+            self.show_last(last, out)?;
+        }
+        Ok(())
     }
 }

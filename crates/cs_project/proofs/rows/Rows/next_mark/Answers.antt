@@ -26,10 +26,8 @@ mark_is : (rows : Rows) (has_match : List ℕ → Bool) (block : List ℕ) (from
     IsNext (is_wanted rows.page.options.now has_match) block from next → IsNextMark rows has_match block from next
 mark_is rows has_match block from None may h = none_marked (is_wanted rows.page.options.now has_match) rows.most _ h
 mark_is rows has_match block from (Some line) may h = (
-  h.0,
-  ap (λ b. b && is_open rows.most) h.1 ∙ may,
-  may,
-  none_marked (is_wanted rows.page.options.now has_match) rows.most _ h.2,
+  ap (λ b. b && is_open rows.most) h.0 ∙ may,
+  none_marked (is_wanted rows.page.options.now has_match) rows.most _ h.1,
 )
 
 pub returns-then-not-is_open-clause-mark : goal.returns-then-not-is_open-clause-mark

@@ -1,0 +1,20 @@
+-- The effect of printing a text on an output.
+use Rattle.std.specs.Prelude.{ℕ, ◌≡◌, Bool, List, ◌++◌}
+use Rattle.cs_match.specs.Deciding.{Decides}
+use Rattle.cs_syntax.specs.Matching.{Tree}
+use Rattle.cs_project.specs.Shown.{Finding, following, has_groups, line_gap, line_groups, text_rows}
+use Rattle.cs_project.specs.declared.rows.Page.{Page}
+
+-- the groups of lines of a text
+abbrev pub page_groups : Page → Finding → List ℕ → List (List ℕ)
+page_groups page finding text =
+    line_groups page.options.now finding page.name.now (text_rows page.options.now finding text)
+
+-- The lines of the text were printed, by each test that decides which lines match.
+abbrev pub PrintsLines : Tree → Page → List ℕ → List ℕ → List ℕ → Type 0
+PrintsLines tree page text given later = (finding : Finding) → Decides finding.has_match tree →
+    later ≡ given ++ following (line_gap page.options.now) page.begun (page_groups page finding text)
+
+-- whether a line of the text is shown
+abbrev pub HasLines : Tree → Page → List ℕ → Bool → Type 0
+HasLines tree page text some = (finding : Finding) → Decides finding.has_match tree → some ≡ has_groups (page_groups page finding text)

@@ -1,12 +1,14 @@
 -- The rest of a posting list during iteration.
-use Rattle.std.specs.Prelude.{ℕ, ◌<◌, ◌≤◌, Bool, List, if◌then◌else◌}
-use Rattle.cs_index.specs.PostingLists.{Ids, read_ids}
-use Rattle.cs_index.specs.Postings.{nothing_read}
+use Rattle.std.specs.Prelude.{◌<◌, ◌≤◌, ℕ, Bool, List, if◌then◌else◌}
 use Rattle.cs_index.specs.AscendingIds.{max_ids}
+use Rattle.cs_index.specs.ListDecoding.{ids_ahead}
+use Rattle.cs_index.specs.PostingLists.{Ids}
+use Rattle.cs_index.specs.Postings.{nothing_read}
+use Rattle.cs_index.specs.declared.reading.list_decoder.ListDecoder.{ListDecoder}
 
-abbrev pub remaining_ids : Bool → ℕ → ℕ → ℕ → List ℕ → Ids
-remaining_ids ended name_count left next bytes = if ended then nothing_read else read_ids name_count left next bytes
+abbrev pub remaining_ids : Bool → ListDecoder → List ℕ → Ids
+remaining_ids ended d bytes = if ended then nothing_read else ids_ahead d bytes
 
-pub record IsPostingsState (name_count next : ℕ) : Type 0 where
-  pub within : next ≤ name_count
-  pub bound : name_count < max_ids
+pub record IsPostingsState (d : ListDecoder) : Type 0 where
+  pub within : d.next ≤ d.name_count
+  pub bound : d.name_count < max_ids

@@ -1,13 +1,14 @@
 -- Posting lists that are read from a store by offset, in pieces.
 -- docs/FORMAT.md, "The index as it is read".
-use Rattle.std.specs.Prelude.{◌≡◌, ◌<◌, ◌≤◌, ◌^◌, ◌⊎◌, ℕ, ◌+◌, ◌-◌, Bool, List, [], ◌++◌, length, Option, Some, None, if◌then◌else◌, Vec}
-use Rattle.std.specs.declared.alloc.Global.{Global}
+use Rattle.std.specs.Prelude.{◌≡◌, ◌<◌, ◌≤◌, ◌^◌, ℕ, ◌+◌, ◌-◌, Bool, List, [], ◌++◌, length, drop, Option, Some, None, if◌then◌else◌}
 use Rattle.std.specs.List.{AllByRecursion}
 use Rattle.cs_tree.specs.Store.{part_of}
 use Rattle.cs_index.specs.AscendingIds.{BeginsFrom, max_ids}
+use Rattle.cs_index.specs.ListDecoding.{HaveVarint}
 use Rattle.cs_index.specs.PostingLists.{Ids, onto, read_ids}
 use Rattle.cs_index.specs.OpenedParts.{Parts}
 use Rattle.cs_index.specs.declared.reading.stored_list.ListSection.{ListSection}
+use Rattle.cs_index.specs.declared.reading.stored_list.StoredList.TheInside.{Inside}
 
 -- A list that is read in part: the offset of its next byte in the store, the end of the section, and the bytes that
 -- are read ahead. If it has ended, whether it is whole.
@@ -36,8 +37,7 @@ Holds bytes list = (more : List ℕ) × (bytes_left bytes list ≡ list.piece ++
 
 -- and it has a whole varint, or all of them
 abbrev pub IsReady : List ℕ → ListState → Type 0
-IsReady bytes list =
-    (more : List ℕ) × (bytes_left bytes list ≡ list.piece ++ more) × ((5 ≤ length list.piece) ⊎ (more ≡ []))
+IsReady bytes list = (more : List ℕ) × (bytes_left bytes list ≡ list.piece ++ more) × HaveVarint list.piece more
 
 -- the same list with another piece
 abbrev pub with_piece : ListState → List ℕ → ListState
@@ -59,14 +59,27 @@ SkipsBelow bytes end list rest =
     Holds bytes rest × (skipped : List ℕ) × (ids_left bytes list ≡ before skipped (ids_left bytes rest)) ×
     AllByRecursion (λ id. id < end) skipped
 
+-- the state that the fields of a list are
+abbrev pub state_of : Inside → ListState
+state_of s = record {
+  piece = drop s.used s.piece.items;
+  at = s.start + s.used;
+  stop = s.stop;
+  left = s.decoder.left;
+  next = s.decoder.next;
+  name_count = s.decoder.name_count;
+  has_ended = s.has_ended;
+  is_whole = s.is_whole;
+}
+
 -- The offsets, the ids and the piece of a list are within their bounds.
-pub record IsListState (piece : Vec ℕ Global) (used start stop size next name_count : ℕ) : Type 0 where
-  pub used_within : used ≤ length piece.items
-  pub within : start + length piece.items ≤ stop
-  pub short : stop < 2 ^ 63
-  pub room : 5 ≤ size
-  pub ids : next ≤ name_count
-  pub bound : name_count < max_ids
+pub record IsStoredList (s : Inside) : Type 0 where
+  pub used_within : s.used ≤ length s.piece.items
+  pub within : s.start + length s.piece.items ≤ s.stop
+  pub short : s.stop < 2 ^ 63
+  pub room : 5 ≤ s.size
+  pub ids : s.decoder.next ≤ s.decoder.name_count
+  pub bound : s.decoder.name_count < max_ids
 
 -- The section is short, and so are its ids.
 pub record IsSection (s : ListSection) : Type 0 where

@@ -6,6 +6,7 @@ mod entries;
 mod form;
 mod index;
 mod list_buffer;
+mod list_decoder;
 mod name_reader;
 mod name_table;
 mod order;

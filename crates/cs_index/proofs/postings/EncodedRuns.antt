@@ -13,6 +13,7 @@ use Rattle.cs_index.specs.AscendingIds.{ids_onward, max_ids, next_after, AscendW
 use Rattle.cs_index.specs.PostingLists.{Ids, read_ids}
 use Rattle.cs_index.specs.StoredLists.{before}
 use Rattle.cs_index.specs.PostingsInvariant.{remaining_ids}
+use Rattle.cs_index.specs.declared.reading.list_decoder.ListDecoder.{ListDecoder}
 use Rattle.cs_index.proofs.postings.StreamPush.{decoded-stream_of, rise_length, short_varint, stream_from, stream_more}
 use Rattle.cs_index.proofs.encoding.VarintRoundtrip.{read_prefix}
 use Rattle.cs_index.proofs.postings.IteratorSteps.{mark_step}
@@ -232,16 +233,17 @@ two_at (first ∷ second ∷ rest) two are large some small = two_bytes first se
 
 -- ---- ids that are skipped
 
-pub run_skipped : (ended : Bool) (name_count left next last len on : ℕ) (bytes rest ids : List ℕ) (now : Ids) →
-    remaining_ids ended name_count left next bytes ≡ now → ended ≡ false → next ≡ last + 1 → name_count < 2 ^ 31 →
-    AscendWithin max_ids 0 ids → next + on ≤ name_count → len ≡ length ids → len ≤ left → on ≡ next_after 0 ids →
-    bytes ≡ stream_of ids ++ rest →
-    now ≡ before (ids_onward (last + 1) ids) (remaining_ids ended name_count (left - len) (next + on) rest)
-run_skipped ended name_count left next last len on bytes rest ids now view off at bound up within count fits go is =
+pub run_skipped : (ended : Bool) (d : ListDecoder) (last len on : ℕ) (bytes rest ids : List ℕ) (now : Ids) →
+    remaining_ids ended d bytes ≡ now → ended ≡ false → d.next ≡ last + 1 → d.name_count < 2 ^ 31 →
+    AscendWithin max_ids 0 ids → d.next + on ≤ d.name_count → len ≡ length ids → len ≤ d.left → on ≡ next_after 0 ids →
+    bytes ≡ stream_of ids ++ rest → now ≡ before (ids_onward (last + 1) ids)
+    (remaining_ids ended (record d { left = d.left - len; next = d.next + on }) rest)
+run_skipped ended d last len on bytes rest ids now view off at bound up within count fits go is =
     sym view
-    ∙ ap (λ b. remaining_ids b name_count left next bytes) off
-    ∙ left_prefix name_count next left bytes rest ids bound up (omega (arith, within, go)) (omega (arith, fits, count)) is
-    ∙ (λ i. before (ids_onward (at i) ids) (remaining_ids (sym off i) name_count (left - sym count i) (next + sym go i) rest))
+    ∙ ap (λ b. remaining_ids b d bytes) off
+    ∙ left_prefix d.name_count d.next d.left bytes rest ids bound up (omega (arith, within, go)) (omega (arith, fits, count)) is
+    ∙ (λ i. before (ids_onward (at i) ids)
+    (remaining_ids (sym off i) (record d { left = d.left - sym count i; next = d.next + sym go i }) rest))
 
 -- ---- flags of ids
 

@@ -1,41 +1,24 @@
--- One step of reading ids.
-use Rattle.std.proofs.Common.{◌≡◌, ℕ, zero, suc, ◌+◌, ◌-◌, ◌<◌, ◌≤◌, cond, ltb, ◌&&◌, true, false, Bool, List, [], ◌∷◌, Some, Ok, Err, refl, sym, ap, ◌∙◌, inl, inr, ◌⊎◌, arith}
+-- One step of the iterator of a posting list.
+use Rattle.std.proofs.Common.{◌≡◌, ℕ, false, Bool, List, [], ◌∷◌, ◌++◌, drop, Ok, refl, sym, ap, ◌∙◌, inr}
+use Rattle.std.proofs.lemmas.List.{append-nil}
+use Rattle.cs_index.specs.ListDecoding.{IsNextId, IsStep, after_id, ids_ahead}
+use Rattle.cs_index.specs.PostingLists.{Ids, onto}
 use Rattle.cs_index.specs.Postings.{ids_given}
-use Rattle.cs_index.specs.PostingLists.{read_varint, Ids, damage, onto, read_ids}
-use Rattle.std.proofs.lemmas.Bool.{lt-ltb, le-ltb, and_from}
-use Rattle.cs_index.specs.declared.fault.IndexFault.TheVariants.{BadList}
 use Rattle.cs_index.specs.PostingsInvariant.{remaining_ids}
-use Rattle.std.proofs.Math.Bool.{and-false}
-use Rattle.cs_index.proofs.encoding.VarintRoundtrip.{after_delta}
+use Rattle.cs_index.specs.declared.reading.list_decoder.ListDecoder.{ListDecoder}
+use Rattle.cs_index.specs.declared.reading.list_decoder.Step.TheVariants.{End}
 
-pub step_ok : (ended : Bool) (name_count left next delta : ℕ) (bytes rest rest' : List ℕ) (now : Ids) → ended ≡ false →
-    (left ≡ 0 → ⊥) → remaining_ids ended name_count left next bytes ≡ now → read_varint bytes ≡ Some (delta, rest) →
-    rest' ≡ rest → (delta ≡ 0 → ⊥) → delta ≤ name_count - next → next ≤ name_count → ids_given now
-    ≡ Ok (next + delta - 1) ∷ ids_given (remaining_ids ended name_count (left - 1) (next + delta) rest')
-step_ok ended name_count zero next delta bytes rest rest' now chunks some is read same above within order = absurd (some refl)
-step_ok ended name_count (suc left) next delta bytes rest rest' now chunks some is read same above within order =
-    let down : suc left - 1 ≡ left = omega arith in
-    let fits : (ltb 0 delta && ltb (next + delta) (name_count + 1)) ≡ true =
-    and_from (ltb 0 delta) (ltb (next + delta) (name_count + 1)) (lt-ltb 0 delta (omega (arith, above)))
-    (lt-ltb (next + delta) (name_count + 1) (omega (arith, within, order))) in
-    ap ids_given (sym is ∙ ap (λ e. remaining_ids e name_count (suc left) next bytes) chunks
-    ∙ ap (after_delta name_count next (read_ids name_count left)) read
-    ∙ ap (λ b. cond b (onto (next + delta - 1) (read_ids name_count left (next + delta) rest)) damage) fits)
-    ∙ ap (λ r. Ok (next + delta - 1) ∷ ids_given r)
-    (sym (ap (λ e. remaining_ids e name_count (suc left - 1) (next + delta) rest') chunks
-    ∙ (λ i. read_ids name_count (down i) (next + delta) (same i))))
+module _ (ended : Bool) (d : ListDecoder) (bytes : List ℕ) (now : Ids) (going : ended ≡ false)
+    (is : remaining_ids ended d bytes ≡ now) where
+  all_read : now ≡ ids_ahead d (bytes ++ [])
+  all_read = sym is ∙ ap (λ e. remaining_ids e d bytes) going ∙ ap (ids_ahead d) (sym (append-nil bytes))
 
-pub step_bad : (ended : Bool) (name_count left next delta : ℕ) (bytes rest : List ℕ) (now : Ids) → ended ≡ false →
-    (left ≡ 0 → ⊥) → remaining_ids ended name_count left next bytes ≡ now → read_varint bytes ≡ Some (delta, rest) →
-    next ≤ name_count → (delta ≡ 0) ⊎ (name_count - next < delta) → ids_given now ≡ Err BadList ∷ []
-step_bad ended name_count zero next delta bytes rest now chunks some is read order bad = absurd (some refl)
-step_bad ended name_count (suc left) next delta bytes rest now chunks some is read order bad =
-    let fails : (ltb 0 delta && ltb (next + delta) (name_count + 1)) ≡ false = refused bad in
-    ap ids_given (sym is ∙ ap (λ e. remaining_ids e name_count (suc left) next bytes) chunks
-    ∙ ap (after_delta name_count next (read_ids name_count left)) read
-    ∙ ap (λ b. cond b (onto (next + delta - 1) (read_ids name_count left (next + delta) rest)) damage) fails)
-  where
-    refused : (delta ≡ 0) ⊎ (name_count - next < delta) → (ltb 0 delta && ltb (next + delta) (name_count + 1)) ≡ false
-    refused (inl none) = ap (λ b. b && ltb (next + delta) (name_count + 1)) (le-ltb 0 delta (omega (arith, none)))
-    refused (inr past) = ap (λ b. ltb 0 delta && b)
-        (le-ltb (next + delta) (name_count + 1) (omega (arith, past, order))) ∙ and-false (ltb 0 delta)
+  pub step_ok : (id len : ℕ) (rest : List ℕ) → rest ≡ drop len bytes → IsNextId d bytes id len →
+      ids_given now ≡ Ok id ∷ ids_given (remaining_ids ended (after_id d id) rest)
+  step_ok id len rest same step =
+      ap ids_given (all_read ∙ step.ids [] (inr refl)
+      ∙ ap (λ b. onto id (ids_ahead (after_id d id) b)) (append-nil (drop len bytes) ∙ sym same))
+      ∙ ap (λ r. Ok id ∷ ids_given r) (ap (λ e. remaining_ids e (after_id d id) rest) (sym going))
+
+  pub step_end : (whole : Bool) → IsStep d bytes (End whole) → ids_given now ≡ ids_given (record { ids = []; whole = whole })
+  step_end whole step = ap ids_given (all_read ∙ step [] (inr refl))

@@ -10,7 +10,12 @@ use Rattle.std.specs.List.{AllByRecursion}
 use Rattle.cs_index.specs.AscendingIds.{AscendWithin, BeginsFrom, ids_onward, max_ids, next_after}
 use Rattle.cs_index.specs.Encoding.{ListEntry, stream_of, three_bytes}
 use Rattle.cs_index.specs.PostingLists.{Ids, damage, onto, read_ids, read_list, read_varint, varint_at}
-use Rattle.cs_index.specs.StoredLists.{ListState, before, bytes_left, ids_left, with_piece, GivesBelow, Holds, IsReady, SkipsBelow}
+use Rattle.cs_index.specs.ListDecoding.{HaveVarint, IsNextId, IsStep, after_id, ids_ahead}
+use Rattle.cs_index.specs.StoredLists.{ListState, before, bytes_left, ids_left, state_of, with_piece, GivesBelow, Holds, IsReady, IsStoredList, SkipsBelow}
+use Rattle.cs_index.specs.declared.reading.list_decoder.ListDecoder.{ListDecoder}
+use Rattle.cs_index.specs.declared.reading.list_decoder.Step.{Step}
+use Rattle.cs_index.specs.declared.reading.list_decoder.Step.TheVariants.{End}
+use Rattle.cs_index.specs.declared.reading.stored_list.StoredList.TheInside.{Inside}
 use Rattle.cs_index.proofs.postings.ListAtEntry.{list_short}
 use Rattle.cs_index.proofs.postings.EncodedRuns.{all_below, left_prefix, onward_below}
 use Rattle.cs_index.proofs.encoding.VarintRoundtrip.{after_delta, below_limit}
@@ -54,16 +59,22 @@ read_ready bytes more (inr none) = subst (λ m. read_varint (bytes ++ m) ≡ gro
 
 -- ---- one step of reading ids
 
-unread : (name_count left next : ℕ) (bytes : List ℕ) → read_varint bytes ≡ None → read_ids name_count left next bytes
+abbrev is_end : Option (ℕ × List ℕ) → Bool
+is_end None = false
+is_end (Some n) = eqb n.0 0
+
+pub unread : (name_count left next : ℕ) (bytes : List ℕ) → read_varint bytes ≡ None → read_ids name_count left next bytes
     ≡ record { ids = []; whole = false }
 unread name_count zero next bytes none = ap (λ o. let r : Ids = record { ids = []; whole = is_end o } in r) none
-  where
-    is_end : Option (ℕ × List ℕ) → Bool
-    is_end None = false
-    is_end (Some n) = eqb n.0 0
 unread name_count (suc left) next bytes none = ap (after_delta name_count next (read_ids name_count left)) none
 
-refused : (name_count left next delta : ℕ) (bytes rest : List ℕ) → (left ≡ 0 → ⊥) → next ≤ name_count →
+pub closed : (name_count left next delta : ℕ) (bytes rest : List ℕ) → left ≡ 0 → read_varint bytes ≡ Some (delta, rest)
+    → read_ids name_count left next bytes ≡ record { ids = []; whole = eqb delta 0 }
+closed name_count left next delta bytes rest none read =
+    ap (λ n. read_ids name_count n next bytes) none
+    ∙ ap (λ o. let r : Ids = record { ids = []; whole = is_end o } in r) read
+
+pub refused : (name_count left next delta : ℕ) (bytes rest : List ℕ) → (left ≡ 0 → ⊥) → next ≤ name_count →
     read_varint bytes ≡ Some (delta, rest) → (delta ≡ 0) ⊎ (name_count - next < delta) →
     read_ids name_count left next bytes ≡ record { ids = []; whole = false }
 refused name_count zero next delta bytes rest some order read bad = absurd (some refl)
@@ -88,90 +99,80 @@ taken name_count (suc left) next delta bytes rest some order read above within =
     (lt-ltb (next + delta) (name_count + 1) (omega (arith, within, order))))
     ∙ ap (λ n. onto (next + delta - 1) (read_ids name_count n (next + delta) rest)) down
 
--- ---- the same steps, by the varint of the piece
+-- the varint of bytes that go on
+pub read_more : (bytes more : List ℕ) (found : Option (ℕ × List ℕ)) → HaveVarint bytes more → read_varint bytes ≡ found →
+    read_varint (bytes ++ more) ≡ grow more found
+read_more bytes more found ahead read = read_ready bytes more ahead ∙ ap (grow more) read
 
-module _ (bytes : List ℕ) (s : ListState) (going : s.has_ended ≡ false) (ready : IsReady bytes s) where
-  now_read : ids_left bytes s ≡ read_ids s.name_count s.left s.next (bytes_left bytes s)
-  now_read = ap (λ e. cond e (let r : Ids = record { ids = []; whole = s.is_whole } in r)
-      (read_ids s.name_count s.left s.next (bytes_left bytes s))) going
+pub next_id : (d : ListDecoder) (delta len : ℕ) (bytes : List ℕ) → (d.left ≡ 0 → ⊥) → d.next ≤ d.name_count →
+    read_varint bytes ≡ Some (delta, drop len bytes) → len ≤ length bytes → (delta ≡ 0 → ⊥) → delta ≤ d.name_count - d.next
+    → IsNextId d bytes (d.next + delta - 1) len
+next_id d delta len bytes some order read inside above small = record {
+  some = omega (arith, some);
+  from = omega (arith, above);
+  below = omega (arith, above, small, order);
+  within = inside;
+  ids = λ more ahead.
+      let up : d.next + delta ≡ d.next + delta - 1 + 1 = omega (arith, above) in
+      taken d.name_count d.left d.next delta (bytes ++ more) (drop len bytes ++ more) some order
+      (read_more bytes more (Some (delta, drop len bytes)) ahead read) above small
+      ∙ ap (λ n. onto (d.next + delta - 1) (read_ids d.name_count (d.left - 1) n (drop len bytes ++ more))) up;
+}
 
-  varint_read : read_varint (bytes_left bytes s) ≡ grow ready.0 (read_varint s.piece)
-  varint_read = ap read_varint ready.1 ∙ read_ready s.piece ready.0 ready.2
+-- ---- the same step of a stored list
 
-  pub unread_left : read_varint s.piece ≡ None → ids_left bytes s ≡ record { ids = []; whole = false }
-  unread_left none = now_read ∙ unread s.name_count s.left s.next (bytes_left bytes s) (varint_read ∙ ap (grow ready.0) none)
+-- the list without `len` bytes of its piece
+abbrev pub moved : Inside → ℕ → ℕ → ℕ → Inside
+moved s len left next = record s { used = s.used + len; decoder = record s.decoder { left = left; next = next } }
 
-  pub refused_left : (delta len : ℕ) → read_varint s.piece ≡ Some (delta, drop len s.piece) → (s.left ≡ 0 → ⊥) →
-      s.next ≤ s.name_count → (delta ≡ 0) ⊎ (s.name_count - s.next < delta) → ids_left bytes s
-      ≡ record { ids = []; whole = false }
-  refused_left delta len read some order bad =
-      now_read ∙ refused s.name_count s.left s.next delta (bytes_left bytes s) (drop len s.piece ++ ready.0) some order
-      (varint_read ∙ ap (grow ready.0) read) bad
+-- the ids of a list that goes on, by its bytes
+going_on : (bytes : List ℕ) (s : Inside) (rest : List ℕ) → s.has_ended ≡ false → bytes_left bytes (state_of s) ≡ rest →
+    ids_left bytes (state_of s) ≡ ids_ahead s.decoder rest
+going_on bytes s rest going is =
+    ap (λ e. cond e (let r : Ids = record { ids = []; whole = s.is_whole } in r)
+    (ids_ahead s.decoder (bytes_left bytes (state_of s)))) going
+    ∙ ap (ids_ahead s.decoder) is
 
-  pub taken_left : (delta len : ℕ) → read_varint s.piece ≡ Some (delta, drop len s.piece) → (s.left ≡ 0 → ⊥) →
-      s.next ≤ s.name_count → (delta ≡ 0 → ⊥) → delta ≤ s.name_count - s.next
-      → ids_left bytes s ≡ onto (s.next + delta - 1) (read_ids s.name_count (s.left - 1) (s.next + delta) (drop len s.piece ++ ready.0))
-  taken_left delta len read some order above within =
-      now_read ∙ taken s.name_count s.left s.next delta (bytes_left bytes s) (drop len s.piece ++ ready.0) some order
-      (varint_read ∙ ap (grow ready.0) read) above within
+module _ (bytes : List ℕ) (s : Inside) (going : s.has_ended ≡ false) (ready : IsReady bytes (state_of s)) where
+  ended_left : (whole : Bool) → IsStep s.decoder (drop s.used s.piece.items) (End whole) → ids_left bytes (state_of s)
+      ≡ record { ids = []; whole = whole }
+  ended_left whole step = going_on bytes s (drop s.used s.piece.items ++ ready.0) going ready.1 ∙ step ready.0 ready.2
+
+  next_left : (id len : ℕ) → IsNextId s.decoder (drop s.used s.piece.items) id len → ids_left bytes (state_of s)
+      ≡ onto id (ids_ahead (after_id s.decoder id) (drop len (drop s.used s.piece.items) ++ ready.0))
+  next_left id len step = going_on bytes s (drop s.used s.piece.items ++ ready.0) going ready.1 ∙ step.ids ready.0 ready.2
 
 -- ---- the bytes that are decoded
 
 pub piece_is : (items now : List ℕ) (used : ℕ) → now ≡ items → take (length now - used) (drop used now) ≡ drop used items
 piece_is items now used is = take_rest now used ∙ ap (drop used) is
 
-pub read_is : (items now : List ℕ) (used delta len : ℕ) → now ≡ items →
-    read_varint (take (length now - used) (drop used now))
-    ≡ Some (delta, drop len (take (length now - used) (drop used now))) → read_varint (drop used items)
-    ≡ Some (delta, drop len (drop used items))
-read_is items now used delta len is read =
-    let same = piece_is items now used is in
-    ap read_varint (sym same) ∙ read ∙ (λ i. Some (delta, drop len (same i)))
+pub step_there : (d : ListDecoder) (used : ℕ) (items now : List ℕ) (step : Step) → now ≡ items →
+    IsStep d (take (length now - used) (drop used now)) step → IsStep d (drop used items) step
+step_there d used items now step is found = subst (λ (p : List ℕ). IsStep d p step) (piece_is items now used is) found
 
 -- ---- what a list gives
 
 -- the list as it is inside, which ends without an id
-pub ends : (bytes : List ℕ) (end : ℕ) (whole : Bool) (s now : ListState) → s ≡ now →
-    (IsReady bytes s → ids_left bytes s ≡ record { ids = []; whole = whole }) → IsReady bytes now
-    → GivesBelow bytes end now (record {
-      piece = s.piece;
-      at = s.at;
-      stop = s.stop;
-      left = s.left;
-      next =
-          s.next;
-      name_count = s.name_count;
-      has_ended = true;
-      is_whole = whole;
-    }) None
-ends bytes end whole s now is so ready =
+pub ends : (bytes : List ℕ) (end : ℕ) (whole : Bool) (s : Inside) (now : ListState) → state_of s ≡ now →
+    s.has_ended ≡ false → IsStep s.decoder (drop s.used s.piece.items) (End whole) → IsReady bytes now
+    → GivesBelow bytes end now (state_of (record s { has_ended = true; is_whole = whole })) None
+ends bytes end whole s now is going step ready =
     subst (λ (n : ListState). IsReady bytes n →
-    GivesBelow bytes end n (record {
-      piece = s.piece;
-      at = s.at;
-      stop = s.stop;
-      left = s.left;
-      next =
-          s.next;
-      name_count = s.name_count;
-      has_ended = true;
-      is_whole = whole;
-    }) None) is
-    (λ r. ((r.0, r.1), sym (so r), subst (λ (ids : Ids). BeginsFrom end ids.ids) (sym (so r)) tt)) ready
+    GivesBelow bytes end n (state_of (record s { has_ended = true; is_whole = whole })) None) is
+    (λ r.
+    let none = ended_left bytes s going r whole step in
+    ((r.0, r.1), sym none, subst (λ (ids : Ids). BeginsFrom end ids.ids) (sym none) tt)) ready
 
 -- the next id is not below the end
-pub stays : (bytes : List ℕ) (end : ℕ) (s now : ListState) (delta len : ℕ) → s ≡ now → s.has_ended ≡ false →
-    read_varint s.piece ≡ Some (delta, drop len s.piece) → (s.left ≡ 0 → ⊥) → s.next ≤ s.name_count → (delta ≡ 0 → ⊥) →
-    delta ≤ s.name_count - s.next → end < s.next + delta
-    → IsReady bytes now → GivesBelow bytes end now now None
-stays bytes end s now delta len is going read some order above within past ready =
+pub stays : (bytes : List ℕ) (end id len : ℕ) (s : Inside) (now : ListState) → state_of s ≡ now → s.has_ended ≡ false →
+    IsNextId s.decoder (drop s.used s.piece.items) id len → end ≤ id → IsReady bytes now → GivesBelow bytes end now now None
+stays bytes end id len s now is going step past ready =
     subst (λ (n : ListState). IsReady bytes n → GivesBelow bytes end n n None) is
     (λ r. (
       (r.0, r.1),
       refl,
-      subst (λ (ids : Ids). BeginsFrom end ids.ids)
-          (sym (taken_left bytes s going r delta len read some order above within)) (let later : end ≤ s.next + delta - 1 =
-          omega (arith, past) in later),
+      subst (λ (ids : Ids). BeginsFrom end ids.ids) (sym (next_left bytes s going r id len step)) past,
     )) ready
 
 -- the bytes after a varint
@@ -182,76 +183,32 @@ left_after bytes at stop len within =
     sym (ap (λ n. drop len (take n (drop at bytes))) (sym whole) ∙ drop-take len (stop - (at + len)) (drop at bytes)
     ∙ ap (take (stop - (at + len))) (drop-drop len at bytes))
 
--- the next id is taken
-pub takes : (bytes items : List ℕ) (used start stop left next name_count : ℕ) (ended whole : Bool) (end delta len : ℕ) (now : ListState)
-    → (let s : ListState = record {
-      piece = drop used items;
-      at = start + used;
-      stop = stop;
-      left = left;
-      next =
-          next;
-      name_count = name_count;
-      has_ended = ended;
-      is_whole = whole;
-    } in s) ≡ now
-    → ended ≡ false → read_varint (drop used items) ≡ Some (delta, drop len (drop used items)) →
-    len ≤ length (drop used items) → used ≤ length items → start + length items ≤ stop
-    → (left ≡ 0 → ⊥) → next ≤ name_count → (delta ≡ 0 → ⊥) → delta ≤ name_count - next → next + delta ≤ end → IsReady bytes now
-    → GivesBelow bytes end now (record {
-      piece = drop (used + len) items;
-      at = start + (used + len);
-      stop = stop;
-      left =
-          left - 1;
-      next = next + delta;
-      name_count = name_count;
-      has_ended = ended;
-      is_whole = whole;
-    })
-    (Some (next + delta - 1))
-takes bytes items used start stop left next name_count ended whole end delta len now is going read inside used_within
-    within some order above small fits ready =
-    subst (λ (n : ListState). IsReady bytes n → GivesBelow bytes end n rest (Some (next + delta - 1))) is
-    (λ r.
-    let after : bytes_left bytes rest ≡ drop (used + len) items ++ r.0 =
-    ap (λ at. take (stop - at) (drop at bytes)) (let z : start + (used + len) ≡ start + used + len = omega arith in z)
-    ∙ left_after bytes (start + used) stop len (let l = length-drop used items in omega (arith, l, inside, used_within, within))
-    ∙ ap (drop len) r.1 ∙ drop-append-le len (drop used items) r.0 inside ∙ ap (λ p. p ++ r.0) (drop-drop len used items) in (
-      (r.0, after),
-      taken_left bytes s going r delta len read some order above small
-          ∙ ap (λ b. onto (next + delta - 1) (read_ids name_count (left - 1) (next + delta) b))
-          (ap (λ p. p ++ r.0) (drop-drop len used items) ∙ sym after)
-          ∙ ap (λ e. onto (next + delta - 1) (cond e (let ids : Ids = record { ids = []; whole = whole } in ids)
-          (read_ids name_count (left - 1) (next + delta) (bytes_left bytes rest)))) (sym going),
-      (let less : next + delta - 1 < end = omega (arith, fits, above) in less),
-    )) ready
-  where
-    s : ListState
-    s = record {
-      piece = drop used items;
-      at = start + used;
-      stop = stop;
-      left = left;
-      next = next;
-      name_count =
-          name_count;
-      has_ended = ended;
-      is_whole = whole;
-    }
+-- the same in the section
+bytes_after : (bytes more : List ℕ) (s : Inside) (len : ℕ) → IsStoredList s → len ≤ length (drop s.used s.piece.items) →
+    bytes_left bytes (state_of s) ≡ drop s.used s.piece.items ++ more →
+    part_of bytes (s.start + (s.used + len)) (s.stop - (s.start + (s.used + len))) ≡ drop (s.used + len) s.piece.items ++ more
+bytes_after bytes more s len inv inside is =
+    let l = length-drop s.used s.piece.items in
+    ap (λ at. take (s.stop - at) (drop at bytes)) (let z : s.start + (s.used + len) ≡ s.start + s.used + len = omega arith in z)
+    ∙ left_after bytes (s.start + s.used) s.stop len (omega (arith, l, inside, inv.used_within, inv.within))
+    ∙ ap (drop len) is ∙ drop-append-le len (drop s.used s.piece.items) more inside
+    ∙ ap (λ p. p ++ more) (drop-drop len s.used s.piece.items)
 
-    rest : ListState
-    rest = record {
-      piece = drop (used + len) items;
-      at = start + (used + len);
-      stop = stop;
-      left = left - 1;
-      next =
-          next + delta;
-      name_count = name_count;
-      has_ended = ended;
-      is_whole = whole;
-    }
+-- the next id is taken
+pub takes : (bytes : List ℕ) (end id len : ℕ) (s : Inside) (now : ListState) → state_of s ≡ now → s.has_ended ≡ false →
+    IsStoredList s → IsNextId s.decoder (drop s.used s.piece.items) id len → id < end → IsReady bytes now
+    → GivesBelow bytes end now (state_of (moved s len (s.decoder.left - 1) (id + 1))) (Some id)
+takes bytes end id len s now is going inv step less ready =
+    let rest : Inside = moved s len (s.decoder.left - 1) (id + 1) in
+    subst (λ (n : ListState). IsReady bytes n → GivesBelow bytes end n (state_of rest) (Some id)) is
+    (λ r.
+    let after = bytes_after bytes r.0 s len inv step.within r.1 in (
+      (r.0, after),
+      next_left bytes s going r id len step
+          ∙ ap (λ p. onto id (ids_ahead (after_id s.decoder id) (p ++ r.0))) (drop-drop len s.used s.piece.items)
+          ∙ ap (onto id) (sym (going_on bytes rest (drop (s.used + len) s.piece.items ++ r.0) going after)),
+      less,
+    )) ready
 
 -- ---- ids that are skipped
 
@@ -267,86 +224,30 @@ pub ids_skipped : (bytes : List ℕ) (end : ℕ) (ids : List ℕ) (list rest : L
 ids_skipped bytes end ids list rest t = (t.holds, ids, t.left, t.below)
 
 -- ids of the piece are taken
-pub run_taken : (bytes items : List ℕ) (used start stop left next name_count : ℕ) (ended whole : Bool) (end len : ℕ)
-    (ids more : List ℕ) (now : ListState)
-    → (let s : ListState = record {
-      piece = drop used items;
-      at = start + used;
-      stop = stop;
-      left = left;
-      next =
-          next;
-      name_count = name_count;
-      has_ended = ended;
-      is_whole = whole;
-    } in s) ≡ now
-    → ended ≡ false → drop used items ≡ stream_of ids ++ more → len ≡ length (stream_of ids) → used ≤ length items →
-    start + length items ≤ stop
-    → AscendWithin max_ids 0 ids → length ids ≤ left → next + next_after 0 ids ≤ name_count →
-    next_after 0 ids ≤ end - next → name_count < max_ids → Holds bytes now
-    → TakesIds bytes end (ids_onward next ids) now
-    (record {
-      piece = drop (used + len) items;
-      at = start + (used + len);
-      stop = stop;
-      left = left - length ids;
-      next =
-          next + next_after 0 ids;
-      name_count = name_count;
-      has_ended = ended;
-      is_whole = whole;
-    })
-run_taken bytes items used start stop left next name_count ended whole end len ids more now is going split size
-    used_within within up count fits below few holds =
-    subst (λ (n : ListState). Holds bytes n → TakesIds bytes end (ids_onward next ids) n rest) is
+pub run_taken : (bytes : List ℕ) (end len : ℕ) (ids more : List ℕ) (s : Inside) (now : ListState) → state_of s ≡ now →
+    s.has_ended ≡ false → IsStoredList s → drop s.used s.piece.items ≡ stream_of ids ++ more → len ≡ length (stream_of ids)
+    → AscendWithin max_ids 0 ids → length ids ≤ s.decoder.left → s.decoder.next + next_after 0 ids ≤ s.decoder.name_count →
+    next_after 0 ids ≤ end - s.decoder.next → Holds bytes now → TakesIds bytes end (ids_onward s.decoder.next ids) now
+    (state_of (moved s len (s.decoder.left - length ids) (s.decoder.next + next_after 0 ids)))
+run_taken bytes end len ids more s now is going inv split size up count fits below holds =
+    let d = s.decoder in
+    let rest : Inside = moved s len (d.left - length ids) (d.next + next_after 0 ids) in
+    subst (λ (n : ListState). Holds bytes n → TakesIds bytes end (ids_onward d.next ids) n (state_of rest)) is
     (λ h.
-    let l = length-drop used items in
     let a = length-append (stream_of ids) more in
     let parts = ap length split in
-    let inside : len ≤ length (drop used items) = omega (arith, a, parts, size) in
-    let left_bytes : bytes_left bytes s ≡ stream_of ids ++ (more ++ h.0) = h.1 ∙ ap (λ p. p ++ h.0) split
-    ∙ append_assoc (stream_of ids) more h.0 in
-    let after : bytes_left bytes rest ≡ more ++ h.0 =
-    ap (λ at. take (stop - at) (drop at bytes)) (let z : start + (used + len) ≡ start + used + len = omega arith in z)
-    ∙ left_after bytes (start + used) stop len (omega (arith, l, inside, used_within, within))
-    ∙ ap (drop len) left_bytes ∙ ap (λ n. drop n (stream_of ids ++ (more ++ h.0))) size ∙ drop-append_seam (stream_of ids) (more ++ h.0) in
-    let piece : drop (used + len) items ≡ more = sym (drop-drop len used items) ∙ ap (drop len) split
+    let after = bytes_after bytes h.0 s len inv (omega (arith, a, parts, size)) h.1 in
+    let piece : drop (s.used + len) s.piece.items ≡ more = sym (drop-drop len s.used s.piece.items) ∙ ap (drop len) split
     ∙ ap (λ n. drop n (stream_of ids ++ more)) size ∙ drop-append_seam (stream_of ids) more in
+    let left_bytes : bytes_left bytes (state_of s) ≡ stream_of ids ++ (more ++ h.0) = h.1 ∙ ap (λ p. p ++ h.0) split
+    ∙ append_assoc (stream_of ids) more h.0 in
     record {
-      holds = (h.0, after ∙ ap (λ p. p ++ h.0) (sym piece));
-      left = ap (λ e. cond e (let r : Ids = record { ids = []; whole = whole } in r)
-          (read_ids name_count left next (bytes_left bytes s))) going
-          ∙ left_prefix name_count next left (bytes_left bytes s) (more ++ h.0) ids few up fits count left_bytes
-          ∙ ap (λ b. before (ids_onward next ids) (read_ids name_count (left - length ids) (next + next_after 0 ids) b)) (sym after)
-          ∙ ap (λ e. before (ids_onward next ids) (cond e (let r : Ids = record { ids = []; whole = whole } in r)
-          (read_ids name_count (left - length ids) (next + next_after 0 ids) (bytes_left bytes rest)))) (sym going);
-      below = onward_below next end ids (all_below max_ids next end 0 ids up below);
+      holds = (h.0, after);
+      left = going_on bytes s (bytes_left bytes (state_of s)) going refl
+          ∙ left_prefix d.name_count d.next d.left (bytes_left bytes (state_of s)) (more ++ h.0) ids inv.bound up fits count left_bytes
+          ∙ ap (before (ids_onward d.next ids)) (sym (going_on bytes rest (more ++ h.0) going (after ∙ ap (λ p. p ++ h.0) piece)));
+      below = onward_below d.next end ids (all_below max_ids d.next end 0 ids up below);
     }) holds
-  where
-    s : ListState
-    s = record {
-      piece = drop used items;
-      at = start + used;
-      stop = stop;
-      left = left;
-      next = next;
-      name_count =
-          name_count;
-      has_ended = ended;
-      is_whole = whole;
-    }
-
-    rest : ListState
-    rest = record {
-      piece = drop (used + len) items;
-      at = start + (used + len);
-      stop = stop;
-      left = left - length ids;
-      next = next + next_after 0 ids;
-      name_count = name_count;
-      has_ended = ended;
-      is_whole = whole;
-    }
 
 -- an id, and then others
 pub skips_on : (bytes : List ℕ) (end id : ℕ) (list one two rest : ListState) → SkipsBelow bytes end list one →
@@ -372,34 +273,31 @@ pub skips_filled : (bytes : List ℕ) (start : ℕ) (list one later : ListState)
 skips_filled bytes start list one later piece is ready skips =
     ((ready.0, ready.1), skips.1, skips.2 ∙ ap (before skips.1) (sym (ap (ids_left bytes) is)), skips.3)
 
--- a list without ids begins from any number
-pub begins_none : (bytes : List ℕ) (from : ℕ) (s now : ListState) → s ≡ now →
-    (IsReady bytes s → (ids_left bytes s).ids ≡ []) → IsReady bytes now → BeginsFrom from (ids_left bytes now).ids
-begins_none bytes from s now is none ready =
-    subst (λ (l : ListState). IsReady bytes l → BeginsFrom from (ids_left bytes l).ids) is
-    (λ r. subst (BeginsFrom from) (sym (none r)) tt) ready
+-- ---- the first id that is left
 
-pub begins_next : (bytes : List ℕ) (delta len : ℕ) (s now : ListState) → s ≡ now → s.has_ended ≡ false →
-    read_varint s.piece ≡ Some (delta, drop len s.piece) → (s.left ≡ 0 → ⊥) → s.next ≤ s.name_count → (delta ≡ 0 → ⊥) →
-    delta ≤ s.name_count - s.next → IsReady bytes now → BeginsFrom (s.next + delta - 1) (ids_left bytes now).ids
-begins_next bytes delta len s now is going read some order above within ready =
-    subst (λ (l : ListState). IsReady bytes l → BeginsFrom (s.next + delta - 1) (ids_left bytes l).ids) is
-    (λ r. subst (λ (ids : Ids). BeginsFrom (s.next + delta - 1) ids.ids)
-    (sym (taken_left bytes s going r delta len read some order above within))
-    (let same : s.next + delta - 1 ≤ s.next + delta - 1 = omega arith in same)) ready
+module _ (bytes : List ℕ) (s : Inside) (now : ListState) (is : state_of s ≡ now) (from : ℕ) where
+  -- a list without ids begins from any number
+  begins_none : (IsReady bytes (state_of s) → (ids_left bytes (state_of s)).ids ≡ []) → IsReady bytes now →
+      BeginsFrom from (ids_left bytes now).ids
+  begins_none none ready =
+      subst (λ (l : ListState). IsReady bytes l → BeginsFrom from (ids_left bytes l).ids) is
+      (λ r. subst (BeginsFrom from) (sym (none r)) tt) ready
 
--- a list that has ended, or has no id left to read
-pub none_left : (bytes : List ℕ) (s : ListState) → (s.has_ended ≡ true) ⊎ (s.left ≡ 0) → (ids_left bytes s).ids ≡ []
-none_left bytes s (inl ended) = ap (λ e. (cond e (let r : Ids = record { ids = []; whole = s.is_whole } in r)
-    (read_ids s.name_count s.left s.next (bytes_left bytes s))).ids) ended
-none_left bytes s (inr none) =
-    ap (λ n. (cond s.has_ended (let r : Ids = record { ids = []; whole = s.is_whole } in r)
-    (read_ids s.name_count n s.next (bytes_left bytes s))).ids) none ∙ either s.has_ended
-  where
-    either : (e : Bool) → (cond e (let r : Ids = record { ids = []; whole = s.is_whole } in r)
-        (read_ids s.name_count 0 s.next (bytes_left bytes s))).ids ≡ []
-    either true = refl
-    either false = refl
+  -- a list that has ended
+  pub begins_ended : s.has_ended ≡ true → IsReady bytes now → BeginsFrom from (ids_left bytes now).ids
+  begins_ended ended = begins_none (λ r. ap (λ e. (cond e (let r : Ids = record { ids = []; whole = s.is_whole } in r)
+      (ids_ahead s.decoder (bytes_left bytes (state_of s)))).ids) ended)
+
+  pub begins_end : (whole : Bool) → s.has_ended ≡ false → IsStep s.decoder (drop s.used s.piece.items) (End whole) →
+      IsReady bytes now → BeginsFrom from (ids_left bytes now).ids
+  begins_end whole going step = begins_none (λ r. ap (λ (ids : Ids). ids.ids) (ended_left bytes s going r whole step))
+
+  pub begins_next : (len : ℕ) → s.has_ended ≡ false → IsNextId s.decoder (drop s.used s.piece.items) from len →
+      IsReady bytes now → BeginsFrom from (ids_left bytes now).ids
+  begins_next len going step ready =
+      subst (λ (l : ListState). IsReady bytes l → BeginsFrom from (ids_left bytes l).ids) is
+      (λ r. subst (λ (ids : Ids). BeginsFrom from ids.ids) (sym (next_left bytes s going r from len step))
+      (let same : from ≤ from = omega arith in same)) ready
 
 -- ---- pieces that are read
 
@@ -438,6 +336,25 @@ new_piece bytes piece at m len h enough is = (
       | inl less ↦ inr (short less long)
       | inr more ↦ inl more
     ]
+
+-- the piece has a whole varint, or ends with the section
+pub still_ready : (bytes : List ℕ) (s : Inside) (now : ListState) → state_of s ≡ now → s.used ≤ length s.piece.items →
+    (5 ≤ length s.piece.items - s.used) ⊎ (s.start + length s.piece.items ≡ s.stop) → Holds bytes now → IsReady bytes now
+still_ready bytes s now is inside enough holds =
+    subst (λ (n : ListState). Holds bytes n → IsReady bytes n) is
+    (λ h.
+    let piece : List ℕ = drop s.used s.piece.items in
+    let l = length-drop s.used s.piece.items in
+    let parts = ap length h.1 in
+    let t = length-take (s.stop - (s.start + s.used)) (drop (s.start + s.used) bytes) in
+    let a = length-append piece h.0 in (
+      h.0,
+      h.1,
+      elim enough [
+        | inl long ↦ inl (omega (arith, l, long))
+        | inr ends ↦ inr (nil_from_length h.0 (omega (arith, l, parts, t, a, ends, inside)))
+      ],
+    )) holds
 
 -- what a modelled store shows
 pub shown : (P : List ℕ → Type 0) (model : Option (List ℕ)) (bytes : List ℕ) → model ≡ Some bytes → IfSome model P → P bytes

@@ -1,13 +1,14 @@
 // A posting list, decoded id by id from the bytes of an index (Go: `postReader` in index/read.go).
-ghost use Rattle.std.specs.Prelude.{◌≡◌, ◌≤◌, ◌<◌, ◌^◌, ◌+◌, ◌∷◌, ◌++◌, Some, None, List, ℕ, Option, drop, length, IfSome, MatchOption};
+ghost use Rattle.std.specs.Prelude.{◌≡◌, ◌<◌, ◌+◌, ◌++◌};
 ghost use Rattle.std.specs.List.{AllByRecursion};
 ghost use Rattle.cs_index.specs.AscendingIds.{ids_onward, max_ids};
 ghost use Rattle.cs_index.specs.Postings.{ids_given};
-ghost use Rattle.cs_index.specs.PostingLists.{varint_at, read_varint, Ids, damage, read_ids};
+ghost use Rattle.cs_index.specs.PostingLists.{damage, read_ids};
 ghost use Rattle.std.specs.Iterator.{YieldsFirst, item_count};
 
 use crate::encoded_run::EncodedRun;
 use crate::fault::IndexFault;
+use crate::reading::list_decoder::{ListDecoder, Step};
 use std::marker::Model;
 
 /// The ids of a posting list, ascending. If the list is damaged: the ids before the damage, then
@@ -15,9 +16,7 @@ use std::marker::Model;
 #[derive(Drop)]
 pub struct Postings<'a> {
     bytes: &'a [u8],
-    left: u32,
-    next: u32,
-    name_count: u32,
+    decoder: ListDecoder,
     has_ended: bool,
 }
 
@@ -27,9 +26,9 @@ impl<'a> Model for Postings<'a> {
 
     ghost Value = { Ids };
 
-    ghost view = { λ s. remaining_ids s.has_ended s.name_count s.left s.next s.bytes.now };
+    ghost view = { λ s. remaining_ids s.has_ended s.decoder s.bytes.now };
 
-    ghost invariant = { λ s. IsPostingsState s.name_count s.next };
+    ghost invariant = { λ s. IsPostingsState s.decoder };
 }
 
 impl<'a> Postings<'a> {
@@ -41,9 +40,11 @@ impl<'a> Postings<'a> {
     {
         Postings {
             bytes,
-            left: count,
-            next: 0,
-            name_count,
+            decoder: ListDecoder {
+                left: count,
+                next: 0,
+                name_count,
+            },
             has_ended: false,
         }
     }
@@ -56,14 +57,16 @@ impl<'a> Postings<'a> {
         ensures below { AllByRecursion (λ id. last + 1 + id < end) result }
         ensures whole { self.new.whole ≡ self.old.whole }
     {
-        if self.has_ended || self.next == 0 || last != self.next - 1 {
+        if self.has_ended || self.decoder.next == 0 || last != self.decoder.next - 1 {
             return EncodedRun::none();
         }
-        let room = end.min(self.name_count).saturating_sub(self.next);
-        let (ids, rest) = EncodedRun::prefix(self.bytes, self.left, room);
+        let room = end
+            .min(self.decoder.name_count)
+            .saturating_sub(self.decoder.next);
+        let (ids, rest) = EncodedRun::prefix(self.bytes, self.decoder.left, room);
         self.bytes = rest;
-        self.left -= ids.len();
-        self.next += ids.next();
+        self.decoder.left -= ids.len();
+        self.decoder.next += ids.next();
         ids
     }
 
@@ -86,62 +89,20 @@ impl<'a> Iterator for Postings<'a> {
         if self.has_ended {
             return None;
         }
-        let Some((delta, len)) = decode_varint(self.bytes) else {
-            self.has_ended = true;
-            return Some(Err(IndexFault::BadList));
-        };
-        if self.left == 0 {
-            self.has_ended = true;
-            return if delta == 0 {
-                None
-            } else {
-                Some(Err(IndexFault::BadList))
-            };
-        }
-        if delta == 0 || delta > self.name_count - self.next {
-            self.has_ended = true;
-            return Some(Err(IndexFault::BadList));
-        }
-        self.bytes = &self.bytes[len..];
-        self.left -= 1;
-        self.next += delta;
-        Some(Ok(self.next - 1))
-    }
-}
-
-/// Decodes the first varint: its value and its length. A varint of one byte is the fast path.
-pub(crate) fn decode_varint(bytes: &[u8]) -> Option<(u32, usize)>
-    ensures value { MatchOption result (read_varint bytes.now ≡ None)
-        (λ found. read_varint bytes.now ≡ Some (found.0, drop found.1 bytes.now)) }
-    ensures within { IfSome result (λ found. found.1 ≤ length bytes.now) }
-{
-    match bytes {
-        [first, ..] if *first < 128 => Some((*first as u32, 1)),
-        _ => {
-            let (value, len) = groups(5, bytes)?;
-            if value > u32::MAX as u64 {
-                return None;
+        match self.decoder.step(self.bytes) {
+            Step::Id(id, len) => {
+                self.bytes = &self.bytes[len..];
+                self.decoder.left -= 1;
+                self.decoder.next = id + 1;
+                Some(Ok(id))
             }
-            Some((value as u32, len))
+            Step::End(is_whole) => {
+                self.has_ended = true;
+                if is_whole {
+                    return None;
+                }
+                Some(Err(IndexFault::BadList))
+            }
         }
     }
-}
-
-/// Decodes a varint of at most `room` bytes, from the last byte to the first.
-fn groups(room: u32, bytes: &[u8]) -> Option<(u64, usize)>
-    requires { room ≤ 5 }
-    ensures value { MatchOption result (varint_at room bytes.now ≡ None)
-        (λ found. varint_at room bytes.now ≡ Some (found.0, drop found.1 bytes.now)) }
-    ensures within { IfSome result (λ found. found.1 ≤ length bytes.now) }
-    ensures small { IfSome result (λ found. found.0 < 128 ^ room) }
-{
-    if room == 0 {
-        return None;
-    }
-    let first = *bytes.first()?;
-    if first < 128 {
-        return Some((first as u64, 1));
-    }
-    let (high, len) = groups(room - 1, &bytes[1..])?;
-    Some((first as u64 - 128 + 128 * high, len + 1))
 }

@@ -10,7 +10,7 @@ ghost use Rattle.cs_index.specs.Rows.{RowSoFar};
 ghost use Rattle.cs_index.specs.StoredLists.{GivesBelow, Holds, IsReady, SkipsBelow, IsSection, ids_left, with_piece};
 
 use crate::encoded_run::extent;
-use crate::reading::postings::decode_varint;
+use crate::reading::list_decoder::{ListDecoder, Step};
 use crate::reading::stored_entries::Entry;
 use cs_tree::{IoFault, Store, read_part};
 use std::alloc::Global;
@@ -39,32 +39,19 @@ pub(crate) struct StoredList {
     start: usize,
     stop: usize,
     size: usize,
-    left: u32,
-    next: u32,
-    name_count: u32,
+    decoder: ListDecoder,
     has_ended: bool,
     is_whole: bool,
 }
 
 impl Model for StoredList {
-    ghost use Rattle.std.specs.Prelude.{◌+◌, drop};
-    ghost use Rattle.cs_index.specs.StoredEntries.{entry_read};
-    ghost use Rattle.cs_index.specs.StoredLists.{ListState, IsListState};
+    ghost use Rattle.cs_index.specs.StoredLists.{IsStoredList, ListState, state_of};
 
     ghost Value = { ListState };
 
-    ghost view = { λ s. record {
-      piece = drop s.used s.piece.items;
-      at = s.start + s.used;
-      stop = s.stop;
-      left = s.left;
-      next = s.next;
-      name_count = s.name_count;
-      has_ended = s.has_ended;
-      is_whole = s.is_whole;
-    } };
+    ghost view = { state_of };
 
-    ghost invariant = { λ s. IsListState s.piece s.used s.start s.stop s.size s.next s.name_count };
+    ghost invariant = { IsStoredList };
 }
 
 impl StoredList {
@@ -102,9 +89,11 @@ impl StoredList {
             start,
             stop: section.start + section.room,
             size,
-            left: entry.count,
-            next: 0,
-            name_count: section.name_count,
+            decoder: ListDecoder {
+                left: entry.count,
+                next: 0,
+                name_count: section.name_count,
+            },
             has_ended: false,
             is_whole: false,
         })
@@ -121,9 +110,11 @@ impl StoredList {
             start: 0,
             stop: 0,
             size: VARINT_LEN,
-            left: 0,
-            next: 0,
-            name_count: 0,
+            decoder: ListDecoder {
+                left: 0,
+                next: 0,
+                name_count: 0,
+            },
             has_ended: true,
             is_whole,
         }
@@ -158,7 +149,7 @@ impl StoredList {
             IfOk result (λ whole. whole ≡ (ids_left bytes self.old).whole) }
         ensures store { KeepsStore S.model S.size S.failed store.old store.new result }
     {
-        let end = self.name_count;
+        let end = self.decoder.name_count;
         self.skip_below(alloc, store, end)?;
         Ok(self.is_whole)
     }
@@ -187,23 +178,17 @@ impl StoredList {
             BeginsFrom result (ids_left bytes self.now).ids }
     {
         if self.has_ended {
-            return self.name_count;
+            return self.decoder.name_count;
         }
-        if self.left == 0 {
-            return self.name_count;
+        match self.decoder.step(&self.piece[self.used..]) {
+            Step::Id(id, _) => id,
+            Step::End(_) => self.decoder.name_count,
         }
-        let Some((delta, _)) = decode_varint(&self.piece[self.used..]) else {
-            return self.name_count;
-        };
-        if delta == 0 || delta > self.name_count - self.next {
-            return self.name_count;
-        }
-        self.next + delta - 1
     }
 
     /// The number of ids that are left, as the entry counts them.
     pub(crate) fn len(&self) -> u32 {
-        self.left
+        self.decoder.left
     }
 
     /// Skips the ids that are less than `end`.
@@ -238,19 +223,26 @@ impl StoredList {
         ensures left { self.new.left ≤ self.old.left }
         ensures names { self.new.name_count ≡ self.old.name_count }
     {
-        if self.has_ended || self.next < start {
+        if self.has_ended || self.decoder.next < start {
             return;
         }
-        let end = end.min(self.name_count);
-        if end < self.next {
+        let end = end.min(self.decoder.name_count);
+        if end < self.decoder.next {
             return;
         }
-        let at = (self.next - start) as usize;
+        let at = (self.decoder.next - start) as usize;
         let piece = &self.piece[self.used..];
-        let (len, count, next) = extent(piece, self.left, end - self.next, row, at, marks);
+        let (len, count, next) = extent(
+            piece,
+            self.decoder.left,
+            end - self.decoder.next,
+            row,
+            at,
+            marks,
+        );
         self.used += len;
-        self.left -= count;
-        self.next += next;
+        self.decoder.left -= count;
+        self.decoder.next += next;
     }
 
     /// Reads the next piece if the one that is there may end inside a varint.
@@ -265,7 +257,7 @@ impl StoredList {
         if len - self.used >= VARINT_LEN || self.start + len == self.stop {
             return Ok(());
         }
-        let most = VARINT_LEN * (self.left as usize + 1);
+        let most = VARINT_LEN * (self.decoder.left as usize + 1);
         let len = (self.stop - at).min(self.size).min(most);
         self.piece = read_part(alloc, store, at, len)?;
         self.start = at;
@@ -274,6 +266,7 @@ impl StoredList {
     }
 
     /// The next id of the piece, if it is less than `end`; without one, the list stays as it is, or ends.
+    #[inline(never)]
     fn take_below(&mut self, end: u32) -> Option<u32>
         ensures gives { (bytes : List ℕ) → IsReady bytes self.old →
             GivesBelow bytes end self.old self.new result }
@@ -285,28 +278,22 @@ impl StoredList {
         if self.has_ended {
             return None;
         }
-        let Some((delta, len)) = decode_varint(&self.piece[self.used..]) else {
-            self.has_ended = true;
-            self.is_whole = false;
-            return None;
-        };
-        if self.left == 0 {
-            self.has_ended = true;
-            self.is_whole = delta == 0;
-            return None;
+        match self.decoder.step(&self.piece[self.used..]) {
+            Step::End(is_whole) => {
+                self.has_ended = true;
+                self.is_whole = is_whole;
+                None
+            }
+            Step::Id(id, len) => {
+                if id >= end {
+                    return None;
+                }
+                self.used += len;
+                self.decoder.left -= 1;
+                self.decoder.next = id + 1;
+                Some(id)
+            }
         }
-        if delta == 0 || delta > self.name_count - self.next {
-            self.has_ended = true;
-            self.is_whole = false;
-            return None;
-        }
-        if self.next + delta > end {
-            return None;
-        }
-        self.used += len;
-        self.left -= 1;
-        self.next += delta;
-        Some(self.next - 1)
     }
 }
 

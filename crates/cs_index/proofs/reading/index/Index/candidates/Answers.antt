@@ -19,47 +19,20 @@ candidates_in-requires-clause-section c =
       names = omega (arith, same, few, c.len.ensures);
     }
 
-pub returns-in-Ok-candidates_in-clause-ids : goal.returns-in-Ok-candidates_in-clause-ids
-returns-in-Ok-candidates_in-clause-ids c =
-    ids_of c.args.query.now c.args.self.now c.in-Ok-candidates_in.answer
-    (c.in-Ok-candidates_in.ensures.answers c.self.inside.slices.postings.now c.new-postings.ensures.model
-    c.args.self.now (section_of c.self.inside.slices c.args.self.now c.len.result c.self.view_is c.len.ensures)
-    (subst (λ (es : List ListEntry). rises es ≡ true) (ap (λ (p : Parts). p.entries) c.self.view_is)
-    (entries_rise (length c.self.inside.slices.postings.now) c.self.inside.slices.list_index.now
-    c.self.invariant.read.entries))
-    (subst (λ (ls : List Entry). AreListed c.args.query.now c.args.self.now.entries ls) (sym c.deref.ensures.value)
-    (subst (λ (es : List ListEntry). AreListed c.args.query.now es c.in-Ok.listed.items) (ap (λ (p : Parts). p.entries) c.self.view_is)
-    (c.in-Ok.ensures.listed c.self.inside.slices.list_index.now c.new-list_index.ensures.model
-    c.self.inside.slices.list_index.now (entries_of c.self.inside.slices.list_index.now
-    (entries_rise (length c.self.inside.slices.postings.now) c.self.inside.slices.list_index.now
-    c.self.invariant.read.entries))))))
-
-pub returns-in-Ok-candidates_in-clause-whole : goal.returns-in-Ok-candidates_in-clause-whole
-returns-in-Ok-candidates_in-clause-whole c =
-    whole_of_ok c.args.query.now c.args.self.now c.in-Ok-candidates_in.answer
-    (c.in-Ok-candidates_in.ensures.answers c.self.inside.slices.postings.now c.new-postings.ensures.model
-    c.args.self.now (section_of c.self.inside.slices c.args.self.now c.len.result c.self.view_is c.len.ensures)
-    (subst (λ (es : List ListEntry). rises es ≡ true) (ap (λ (p : Parts). p.entries) c.self.view_is)
-    (entries_rise (length c.self.inside.slices.postings.now) c.self.inside.slices.list_index.now
-    c.self.invariant.read.entries))
-    (subst (λ (ls : List Entry). AreListed c.args.query.now c.args.self.now.entries ls) (sym c.deref.ensures.value)
-    (subst (λ (es : List ListEntry). AreListed c.args.query.now es c.in-Ok.listed.items) (ap (λ (p : Parts). p.entries) c.self.view_is)
-    (c.in-Ok.ensures.listed c.self.inside.slices.list_index.now c.new-list_index.ensures.model
-    c.self.inside.slices.list_index.now (entries_of c.self.inside.slices.list_index.now
-    (entries_rise (length c.self.inside.slices.postings.now) c.self.inside.slices.list_index.now
-    c.self.invariant.read.entries))))))
-
-pub returns-in-Ok-candidates_in-clause-fault : goal.returns-in-Ok-candidates_in-clause-fault
-returns-in-Ok-candidates_in-clause-fault c =
-    fault_of_err c.args.query.now c.args.self.now c.in-Ok-candidates_in.answer
-    (c.in-Ok-candidates_in.ensures.answers c.self.inside.slices.postings.now c.new-postings.ensures.model
-    c.args.self.now (section_of c.self.inside.slices c.args.self.now c.len.result c.self.view_is c.len.ensures)
-    (subst (λ (es : List ListEntry). rises es ≡ true) (ap (λ (p : Parts). p.entries) c.self.view_is)
-    (entries_rise (length c.self.inside.slices.postings.now) c.self.inside.slices.list_index.now
-    c.self.invariant.read.entries))
-    (subst (λ (ls : List Entry). AreListed c.args.query.now c.args.self.now.entries ls) (sym c.deref.ensures.value)
-    (subst (λ (es : List ListEntry). AreListed c.args.query.now es c.in-Ok.listed.items) (ap (λ (p : Parts). p.entries) c.self.view_is)
-    (c.in-Ok.ensures.listed c.self.inside.slices.list_index.now c.new-list_index.ensures.model
-    c.self.inside.slices.list_index.now (entries_of c.self.inside.slices.list_index.now
-    (entries_rise (length c.self.inside.slices.postings.now) c.self.inside.slices.list_index.now
-    c.self.invariant.read.entries))))))
+pub returns-in-Ok-candidates_in : goal.returns-in-Ok-candidates_in
+returns-in-Ok-candidates_in c =
+    let s = c.self.inside.slices in
+    let now = c.args.self.now in
+    let query = c.args.query.now in
+    let up = entries_rise (length s.postings.now) s.list_index.now c.self.invariant.read.entries in
+    let same = ap (λ (p : Parts). p.entries) c.self.view_is in
+    let are = c.in-Ok-candidates_in.ensures.answers s.postings.now c.new-postings.ensures.model now
+    (section_of s now c.len.result c.self.view_is c.len.ensures) (subst (λ (es : List ListEntry). rises es ≡ true) same up)
+    (subst (λ (ls : List Entry). AreListed query now.entries ls) (sym c.deref.ensures.value)
+    (subst (λ (es : List ListEntry). AreListed query es c.in-Ok.listed.items) same
+    (c.in-Ok.ensures.listed s.list_index.now c.new-list_index.ensures.model s.list_index.now (entries_of s.list_index.now up)))) in
+    record {
+      ids = ids_of query now c.in-Ok-candidates_in.answer are;
+      whole = whole_of_ok query now c.in-Ok-candidates_in.answer are;
+      fault = fault_of_err query now c.in-Ok-candidates_in.answer are;
+    }

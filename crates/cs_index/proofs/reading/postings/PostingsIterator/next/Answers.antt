@@ -1,40 +1,45 @@
-use Rattle.std.proofs.Common.{◌-◌, ap, ℕ, List, Result, length, take, drop, inl, inr, arith, rules}
+use Rattle.std.proofs.Common.{◌-◌, ◌∙◌, refl, ap, [], ℕ, Bool, List, Result, length, take, drop, arith}
 use Rattle.std.proofs.lemmas.List.{take_rest}
 use Rattle.cs_index.specs.declared.fault.IndexFault.{IndexFault}
-use Rattle.cs_index.proofs.postings.ReadStep.{step_ok, step_bad}
+use Rattle.cs_index.specs.PostingLists.{Ids}
+use Rattle.cs_index.specs.Postings.{ids_given}
+use Rattle.cs_index.proofs.postings.ReadStep.{step_ok, step_end}
 use Rattle.cs_index.proofs.reading.postings.PostingsIterator.next.Goals as goal
-use Rattle.cs_index.proofs.reading.postings.PostingsIterator.next.Goals.{then-delta-eq0-2-via-then-delta-eq0-2, then-delta-eq0-2-via-else-delta-eq0-2+then-delta-self}
 
-pub returns-then-delta-eq0-2-clause-steps : goal.returns-then-delta-eq0-2-clause-steps
-returns-then-delta-eq0-2-clause-steps c =
+pub returns-in-Id-clause-steps : goal.returns-in-Id-clause-steps
+returns-in-Id-clause-steps c =
     let s = c.self.inside in
-    let rest : List ℕ = drop c.in-Some.len s.bytes.now in
-    elim c.then-delta-eq0-2.branch [
-      | then-delta-eq0-2-via-then-delta-eq0-2 w ↦ step_bad s.has_ended s.name_count s.left s.next c.in-Some.delta
-          s.bytes.now rest c.args.self.now c.if-self.false c.if-self-eq0.false c.self.view_is c.in-Some.ensures.value
-          c.self.invariant.within (inl w.if-delta-eq0-2.true)
-      | then-delta-eq0-2-via-else-delta-eq0-2+then-delta-self w ↦ step_bad s.has_ended s.name_count s.left s.next
-          c.in-Some.delta s.bytes.now rest c.args.self.now c.if-self.false c.if-self-eq0.false c.self.view_is
-          c.in-Some.ensures.value c.self.invariant.within (inr w.if-delta-self.true)
-    ]
+    step_ok s.has_ended s.decoder s.bytes.now c.args.self.now c.if-self.false c.self.view_is c.in-Id.id c.in-Id.len
+    (take (length s.bytes.now - c.in-Id.len) (drop c.in-Id.len s.bytes.now)) (take_rest s.bytes.now c.in-Id.len) c.in-Id.ensures
 
-pub returns-clause-steps : goal.returns-clause-steps
-returns-clause-steps c =
+pub returns-in-Id-clause-goes : goal.returns-in-Id-clause-goes
+returns-in-Id-clause-goes c =
     let s = c.self.inside in
-    step_ok s.has_ended s.name_count s.left s.next c.in-Some.delta s.bytes.now (drop c.in-Some.len s.bytes.now)
-    (take (length s.bytes.now - c.in-Some.len) (drop c.in-Some.len s.bytes.now)) c.args.self.now c.if-self.false
-    c.if-self-eq0.false c.self.view_is c.in-Some.ensures.value (take_rest s.bytes.now c.in-Some.len)
-    c.if-delta-eq0-2.false c.if-delta-self.false c.self.invariant.within
-
-pub returns-clause-goes : goal.returns-clause-goes
-returns-clause-goes c =
-    let s = c.self.inside in
-    let step = step_ok s.has_ended s.name_count s.left s.next c.in-Some.delta s.bytes.now
-    (drop c.in-Some.len s.bytes.now) (take (length s.bytes.now - c.in-Some.len) (drop c.in-Some.len s.bytes.now))
-    c.args.self.now c.if-self.false c.if-self-eq0.false c.self.view_is c.in-Some.ensures.value
-    (take_rest s.bytes.now c.in-Some.len) c.if-delta-eq0-2.false c.if-delta-self.false c.self.invariant.within in
+    let step = step_ok s.has_ended s.decoder s.bytes.now c.args.self.now c.if-self.false c.self.view_is c.in-Id.id
+    c.in-Id.len (take (length s.bytes.now - c.in-Id.len) (drop c.in-Id.len s.bytes.now)) (take_rest s.bytes.now c.in-Id.len)
+    c.in-Id.ensures in
     let less = ap (λ (xs : List (Result ℕ IndexFault)). length xs) step in
     record { on = λ _. (tt, tt, omega (arith, less)); keeps = tt; rests = λ _. tt }
 
-pub returns-in_default-clause-steps : goal.returns-in_default-clause-steps
-returns-in_default-clause-steps c = search rules
+-- the items of a list without ids
+abbrev at_end : Bool → List (Result ℕ IndexFault)
+at_end whole = let r : Ids = record { ids = []; whole = whole } in ids_given r
+
+pub returns-then-is_whole-clause-steps : goal.returns-then-is_whole-clause-steps
+returns-then-is_whole-clause-steps c =
+    let s = c.self.inside in (
+      step_end s.has_ended s.decoder s.bytes.now c.args.self.now c.if-self.false c.self.view_is c.in-End.is_whole c.in-End.ensures
+          ∙ ap at_end c.if-is_whole.true,
+      refl,
+    )
+
+pub returns-else-is_whole-clause-steps : goal.returns-else-is_whole-clause-steps
+returns-else-is_whole-clause-steps c =
+    let s = c.self.inside in
+    step_end s.has_ended s.decoder s.bytes.now c.args.self.now c.if-self.false c.self.view_is c.in-End.is_whole c.in-End.ensures
+    ∙ ap at_end c.if-is_whole.false
+
+pub returns-else-is_whole-clause-goes : goal.returns-else-is_whole-clause-goes
+returns-else-is_whole-clause-goes c =
+    let less = ap (λ (xs : List (Result ℕ IndexFault)). length xs) (returns-else-is_whole-clause-steps c) in
+    record { on = λ _. (tt, tt, omega (arith, less)); keeps = tt; rests = λ _. tt }

@@ -1,8 +1,19 @@
 use Rattle.std.proofs.Common.{◌≡◌, ◌+◌, ◌-◌, ◌∙◌, inl, inr, ap, ℕ, List, arith}
 use Rattle.std.proofs.lemmas.Bool.{cases_lt}
 use Rattle.cs_tree.specs.Store.{part_of}
-use Rattle.cs_index.proofs.stored.ListPieces.{new_piece, shown}
+use Rattle.cs_index.proofs.stored.ListPieces.{new_piece, shown, still_ready}
 use Rattle.cs_index.proofs.reading.stored_list.StoredList.fill.Goals as goal
+use Rattle.cs_index.proofs.reading.stored_list.StoredList.fill.Goals.{then-len-self-ge-VARINT_LEN-via-then-len-self-ge-VARINT_LEN, then-len-self-ge-VARINT_LEN-via-else-len-self-ge-VARINT_LEN+then-self-len}
+
+pub returns-then-len-self-ge-VARINT_LEN-clause-ready : goal.returns-then-len-self-ge-VARINT_LEN-clause-ready
+returns-then-len-self-ge-VARINT_LEN-clause-ready g c bytes is holds =
+    let s = c.self.inside in
+    let len = c.len-len.ensures ∙ s.piece.ok.0 in
+    still_ready bytes s c.args.self.now c.self.view_is c.self.invariant.used_within
+    (elim c.then-len-self-ge-VARINT_LEN.branch [
+      | then-len-self-ge-VARINT_LEN-via-then-len-self-ge-VARINT_LEN w ↦ inl (omega (arith, len, w.if-len-self-ge-VARINT_LEN.true))
+      | then-len-self-ge-VARINT_LEN-via-else-len-self-ge-VARINT_LEN+then-self-len w ↦ inr (omega (arith, len, w.if-self-len.true))
+    ]) holds
 
 pub returns-clause-ready : goal.returns-clause-ready
 returns-clause-ready g c bytes is holds =

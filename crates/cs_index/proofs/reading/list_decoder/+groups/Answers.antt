@@ -3,7 +3,7 @@ use Rattle.cs_index.specs.PostingLists.{varint_at}
 use Rattle.std.proofs.lemmas.List.{take_rest}
 use Rattle.std.specs.Option.{option_copied}
 use Rattle.cs_index.proofs.decoding.VarintGroups.{room_more, room_five, group_more, one_group, drop_more}
-use Rattle.cs_index.proofs.reading.postings.+groups.Goals as goal
+use Rattle.cs_index.proofs.reading.list_decoder.+groups.Goals as goal
 
 some_room : (room : ℕ) → (room ≡ 0 → ⊥) → 1 ≤ room
 some_room room h = omega (arith, h)

@@ -83,6 +83,7 @@ run-tests: pages
 	tests/runs/library_allocations.py crates/cs_tool_tests/out/cs_tool_tests_tests
 	tests/runs/allocations.py $(program)
 	tests/runs/damage.py $(program)
+	tests/runs/changing.py $(program)
 	tests/runs/failing.py $(program)
 	tests/runs/streams.py $(program)
 

@@ -124,8 +124,9 @@ module _ (t : Tree) (begins : List ℕ) (classes : ByteClasses) (numbered : AreN
       | inl lt ↦ ordered_alike state is b c (omega arith) cl same
       | inr ge ↦ alike_back t state c b (ordered_alike state is c b ge bl (sym same))
     ];
-    ends = numbered.ends;
+    firsts = numbered.firsts;
     range = numbered.range;
+    few = numbered.few;
   }
 
 -- one byte more is marked, if it is unlike the byte before it
@@ -197,44 +198,4 @@ numbered_on begins old new byte last now some top below clear kept is here rises
             | inl inside ↦ clear b (byte - 1) k from (omega arith) (omega arith) (first ∙ stays ∙ sym top)
             | inr at ↦ subst (λ (i : ℕ). begins_at begins i ≡ false) (omega (arith, at, to, lt)) (here stays)
           ]
-    ]
-
--- the last byte of each class, among the bytes before this one
-abbrev pub HasLasts : List ℕ → List ℕ → ℕ → Type 0
-HasLasts of lasts byte = (b : ℕ) → b < byte → (b ≤ get_or lasts (get_or of b 0) 0) × (get_or lasts (get_or of b 0) 0 < byte) ×
-    (get_or of (get_or lasts (get_or of b 0) 0) 0 ≡ get_or of b 0)
-
-pub lasts_on : (old new lasts : List ℕ) (byte now : ℕ) → now < length lasts → ((b : ℕ) → b < byte → get_or new b 0 ≡ get_or old b 0) →
-    get_or new byte 0 ≡ now → HasLasts old lasts byte → HasLasts new (set lasts now byte) (byte + 1)
-lasts_on old new lasts byte now size kept is given b lt =
-    let changed = set lasts now byte in
-    elim (cases_lt b byte) [
-      | inl less ↦
-          let k = get_or old b 0 in
-          let before = given b less in
-          elim (cases_eq k now) [
-            | inl same ↦
-                let last : get_or changed (get_or new b 0) 0 ≡ byte =
-                ap (λ (i : ℕ). get_or changed i 0) (kept b less ∙ same) ∙ get_or-set_same lasts now byte 0 size in (
-                  omega (arith, last, less),
-                  omega (arith, last),
-                  ap (λ (i : ℕ). get_or new i 0) last ∙ is ∙ sym same ∙ sym (kept b less),
-                )
-            | inr other ↦
-                let last : get_or changed (get_or new b 0) 0 ≡ get_or lasts k 0 =
-                ap (λ (i : ℕ). get_or changed i 0) (kept b less) ∙ get_or-set_other lasts now k byte 0 other in (
-                  omega (arith, last, before.0),
-                  omega (arith, last, before.1),
-                  ap (λ (i : ℕ). get_or new i 0) last ∙ kept (get_or lasts k 0) before.1 ∙ before.2 ∙ sym (kept b less),
-                )
-          ]
-      | inr ge ↦
-          let here : b ≡ byte = omega (arith, ge, lt) in
-          let class = ap (λ (i : ℕ). get_or new i 0) here ∙ is in
-          let last : get_or changed (get_or new b 0) 0 ≡ byte =
-          ap (λ (i : ℕ). get_or changed i 0) class ∙ get_or-set_same lasts now byte 0 size in (
-            omega (arith, last, here),
-            omega (arith, last),
-            ap (λ (i : ℕ). get_or new i 0) last ∙ is ∙ sym class,
-          )
     ]

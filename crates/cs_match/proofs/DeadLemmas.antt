@@ -12,7 +12,6 @@ use Rattle.cs_match.specs.Anchored.{is_anchored, begins_anchored, are_anchored}
 use Rattle.cs_match.specs.FirstMatch.{AreScanned}
 use Rattle.cs_match.specs.Glushkov.{position_count, position_count_of, nullable, nullable_all, nullable_some, is_final, is_final_all, is_final_some, accepts, step_chars, step, step_all, step_each, IsExpanded}
 use Rattle.cs_match.specs.LastPart.{last_part}
-use Rattle.cs_match.specs.LazyDfa.{IsStateNumber, IsDeadNumber, missing, present}
 use Rattle.cs_match.specs.Lines.{newline}
 use Rattle.cs_match.specs.NoNewline.{HasNoNewline}
 use Rattle.cs_match.specs.PositionSet.{intersect}
@@ -169,17 +168,13 @@ module _ (t : Tree) (anchored : is_anchored t ≡ true) where
       let moved = ap (λ ms. step t true ms (ahead t n c) (input t n c)) blank ∙ stays_empty (ahead t n c) later (input t n c) t anchored in
       is_dead (next_state t n c) moved refl bytes b
 
--- the state with the number of a dead state is dead
-pub dead_state : (t : Tree) (cached : List State) (used number : ℕ) (n : State) → used ≤ 254 → IsDeadNumber t cached used number → IsStateNumber t cached used number n → IsDead t n
-dead_state t cached used number n bound (missing is) at = absurd (omega (arith, is, at.in_use, bound))
-dead_state t cached used number n bound (present m there dead) at = subst (IsDead t) (sym there.same ∙ at.same) dead
-
 -- a scan that has reached a dead state
 module _ (t : Tree) (expanded : IsExpanded t) (text : List ℕ) where
   abbrev state_at : ℕ → State
   state_at i = state t (last_part (take i text))
 
-  dead_on : (n i end : ℕ) → i + n ≡ end → end ≤ length text → HasNoNewline (take n (drop i text)) → AreScanned t text i → IsDead t (state_at i) →
+  -- is in one up to the end of the line
+  pub dead_on : (n i end : ℕ) → i + n ≡ end → end ≤ length text → HasNoNewline (take n (drop i text)) → AreScanned t text i → IsDead t (state_at i) →
       AreScanned t text end × IsDead t (state_at end)
   dead_on zero i end e within part scanned dead =
       let same : i ≡ end = omega arith in
@@ -192,13 +187,3 @@ module _ (t : Tree) (expanded : IsExpanded t) (text : List ℕ) where
       let moved : successor t (state_at i) b ≡ next_state t (state_at i) b = rw parts.0 refl in
       dead_on n (i + 1) end (omega arith) within (subst (λ k. HasNoNewline (take n (drop k text))) (sym (add-one i)) parts.1)
       (scanned_on t text i lt expanded scanned (dead [] b)) (subst (IsDead t) (sym moved ∙ state_on t text i lt) next)
-
-  -- goes on at the next line
-  pub dead_line : (i end : ℕ) → i ≤ end → end < length text → HasNoNewline (take (end - i) (drop i text)) → drop end text ≡ newline ∷ drop (end + 1) text →
-      AreScanned t text i → IsDead t (state_at i) → AreScanned t text (end + 1) × (start t ≡ state_at (end + 1))
-  dead_line i end low high part here scanned dead =
-      let at_end = dead_on (end - i) i end (omega arith) (omega arith) part scanned dead in
-      let same : end ≡ end + 0 = omega arith in
-      let b_is : get_or text end 0 ≡ newline = ap (λ k. get_or text k 0) same ∙ sym (get_or-drop end text 0 0) ∙ ap (λ bytes. get_or bytes 0 0) here in
-      let moved : successor t (state_at end) (get_or text end 0) ≡ start t = rw b_is refl in
-      (scanned_on t text end high expanded at_end.0 (at_end.1 [] (get_or text end 0)), sym moved ∙ state_on t text end high)

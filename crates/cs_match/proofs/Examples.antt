@@ -21,9 +21,10 @@ use Rattle.cs_match.specs.States.{state, accepts_before}
 use Rattle.cs_syntax.specs.CharSteps.{finished}
 use Rattle.cs_match.specs.declared.state.State.{State}
 use Rattle.cs_match.specs.ByteClasses.{AreAlike}
-use Rattle.cs_match.specs.LazyDfa.{blank_transition}
-use Rattle.cs_match.specs.Scan.{state_after}
-use Rattle.cs_match.specs.Automaton.{GrowsOver}
+use Rattle.cs_match.specs.declared.byte_classes.ByteClasses.{ByteClasses}
+use Rattle.cs_match.specs.declared.table.Table.{Table}
+use Rattle.cs_match.specs.LazyDfa.{first_cell}
+use Rattle.cs_match.specs.Table.{number_after}
 use Rattle.cs_match.specs.Size.{nodes}
 use Rattle.cs_match.specs.Work.{words, byte_work}
 
@@ -95,9 +96,17 @@ whole_of_two : AreWholeLines (97 ∷ 10 ∷ 10 ∷ [])
 unfolding AreWholeLines
 whole_of_two = refl
 
+-- a table with a class for each of two bytes
+abbrev two_classes : Table
+two_classes = record {
+  cells = record { ref_ptr = (0, 0); now = 0 ∷ 2 ∷ 5 ∷ [] };
+  of = record { ref_ptr = (0, 0); now = 0 ∷ 1 ∷ [] };
+  count = 2;
+}
+
 -- by the bytes 1 and 0: from state 0 to state 2, and from there to state 5
-after_of_two : state_after (0 ∷ 2 ∷ 5 ∷ []) 0 (1 ∷ 0 ∷ []) ≡ 5
-unfolding state_after
+after_of_two : number_after two_classes 0 (1 ∷ 0 ∷ []) ≡ 5
+unfolding number_after
 after_of_two = refl
 
 -- after `a` the byte before is a word character, after `a-` it is not
@@ -134,19 +143,19 @@ end_before_a_newline = refl
 no_end_before_a_letter : accepts_before line_end (state line_end []) 97 ≡ false
 no_end_before_a_letter = refl
 
--- the transitions of the cached states are unknown, and the match state is absorbing
-last_transition_of_the_states : blank_transition 65023 ≡ 65280
-last_transition_of_the_states = refl
+-- three classes, of which the second is that of the newline
+abbrev three_classes : ByteClasses
+three_classes = record { of = 0 ∷ 0 ∷ 0 ∷ 0 ∷ 0 ∷ 0 ∷ 0 ∷ 0 ∷ 0 ∷ 0 ∷ 1 ∷ []; firsts = []; count = 3 }
 
-first_transition_of_a_match : blank_transition 65024 ≡ 65024
-first_transition_of_a_match = refl
+-- the transitions of the first state are unknown, the match state is absorbing, and the dead one but for the newline
+first_is_unknown : (first_cell three_classes 0 ≡ 3) × (first_cell three_classes 12 ≡ 3)
+first_is_unknown = (refl, refl)
 
--- the first of two bytes clears the full cache, and each adds a state
-full_dfa_is_emptied : GrowsOver 2 254 3
-full_dfa_is_emptied = record { added = omega arith; kept = λ room. omega (arith, room) }
+match_is_absorbing : first_cell three_classes 7 ≡ 6
+match_is_absorbing = refl
 
-no_state_is_forgotten_where_there_is_room : ¬ GrowsOver 1 5 2
-no_state_is_forgotten_where_there_is_room h = omega (arith, h.kept (omega arith))
+dead_ends_with_its_line : (first_cell three_classes 9 ≡ 9) × (first_cell three_classes 10 ≡ 12)
+dead_ends_with_its_line = (refl, refl)
 
 -- of a run the first position is entered with it, and each other one after the position before it
 entries_of_a_run : entered (run 3) true (true ∷ false ∷ true ∷ [])
@@ -186,5 +195,5 @@ four_nodes = refl
 second_word : words 65 ≡ 2
 second_word = refl
 
-byte_of_one_position : byte_work (one_of []) ≡ 1292
+byte_of_one_position : byte_work (one_of []) ≡ 1566
 byte_of_one_position = refl

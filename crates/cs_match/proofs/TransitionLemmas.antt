@@ -1,77 +1,466 @@
--- The states and transitions stay correct if transitions are stored, a state is added, or the cache is
--- cleared.
-use Rattle.std.proofs.Common.{true, ◌≡◌, ℕ, ◌+◌, ◌*◌, ◌/◌, ◌<◌, ◌≤◌, inl, inr, false, List, length, set, sym, ◌∙◌, ap, subst, arith, get_or, get_or-set_same, get_or-set_other}
-use Rattle.std.specs.Prelude.{◌≢◌, replicate, if◌then◌else◌, bit_or}
+-- The states and the table stay correct if a transition is stored, a state is added, or the cache is cleared.
+use Rattle.std.proofs.Common.{true, ◌≡◌, ℕ, ◌+◌, ◌-◌, ◌*◌, ◌/◌, ◌<◌, ◌≤◌, ◌⊎◌, inl, inr, false, List, [], ◌∷◌, ◌++◌, length, set, refl, sym, ◌∙◌, ap, subst, arith, get_or, get_or-set_same, get_or-set_other, length-append, take}
+use Rattle.std.specs.Prelude.{◌≢◌, nat_eq, nat_lt, replicate, if◌then◌else◌}
 use Rattle.std.proofs.Math.ListN.{length-set}
-use Rattle.std.proofs.lemmas.Bool.{cases_eq, cases_lt, eq-eqb, eqb-true, ne_eqb}
-use Rattle.std.proofs.lemmas.Nat.{or_shifted}
-use Rattle.std.proofs.lemmas.List.{length-replicate, get_or-replicate, get_or_past}
+use Rattle.std.proofs.lemmas.Bool.{cases_eq, cases_lt, cases_Bool, eq-eqb, eqb-true, ne_eqb, le-ltb, lt-ltb}
+use Rattle.std.proofs.lemmas.List.{length-replicate, get_or-replicate, get_or_past, get_or_append_left, get_or-append_right, get_or-take, length-take-le}
+use Rattle.std.proofs.lemmas.Nat.{div-mul-add, mul-add-lt}
 use Rattle.cs_syntax.specs.Matching.{Tree}
+use Rattle.cs_match.specs.declared.byte_classes.ByteClasses.{ByteClasses}
 use Rattle.cs_match.specs.declared.state.State.{State}
 use Rattle.cs_match.specs.Digits.{IsBlock}
 use Rattle.cs_match.specs.Glushkov.{position_count, cuts_of}
-use Rattle.cs_match.specs.ByteClasses.{AreAlike}
-use Rattle.cs_match.specs.States.{start, successor, accepts_before}
-use Rattle.cs_match.specs.Scan.{match_state, unknown_state}
+use Rattle.cs_match.specs.ByteClasses.{AreAlike, AreClasses}
+use Rattle.cs_match.specs.CachedStates.{StateList}
+use Rattle.cs_match.specs.States.{start, successor, accepts_before, next_state, IsDead}
+use Rattle.cs_match.proofs.PositionCountLemmas.{scaled}
 use Rattle.cs_match.proofs.StateLemmas.{block_start}
-use Rattle.cs_match.specs.LazyDfa.{IsStateNumber, Leads, found, next, IsTransition, unknown, known, IsDeadNumber, missing, present, AreStates, AreTransitions, blank_transition}
+use Rattle.cs_match.specs.LazyDfa.{unknown_number, match_number, dead_number, start_number, state_at, IsSlot, StandsFor, cached, dead, Leads, found, next, IsTransition, unknown, known, first_cell, AreFirstRows, AreFirstStates, AreStates, IsTable}
 
--- the index of a transition from the state number and the byte
-pub transition_index : (from b : ℕ) → 256 * (from / 256) ≡ from → b < 256 → bit_or from b ≡ 256 * (from / 256) + b
-transition_index from b whole lt =
-    let e : from ≡ from / 256 * 256 = omega (arith, whole) in
-    ap (λ n. bit_or n b) e ∙ or_shifted (from / 256) 8 b lt ∙ omega arith
+-- rows do not overlap
+pub same_cell : (count s r c d : ℕ) → c < count → d < count → s * count + c ≡ r * count + d → (s ≡ r) × (c ≡ d)
+same_cell count s r c d low high e =
+    let same : s ≡ r = sym (div-mul-add s count c low) ∙ ap (λ k. k / count) e ∙ div-mul-add r count d high in
+    (same, omega (arith, e, ap (λ k. k * count) same))
 
--- no cached state has a special number
-pub state_stays : (t : Tree) (cached : List State) (used number : ℕ) (n : State) → used ≤ 254 →
-    IsStateNumber t cached used number n → number < match_state
-state_stays t cached used number n bound slot = omega (arith, slot.whole, slot.in_use)
+pub same_row : (count s r : ℕ) → 0 < count → s * count ≡ r * count → s ≡ r
+same_row count s r some e = (same_cell count s r 0 0 some some (omega (arith, e))).0
+
+-- a cell of a row is in the table
+pub in_rows : (count slot rows c : ℕ) → slot < rows → c < count → slot * count + c < rows * count
+in_rows count slot rows c low within = omega (arith, mul-add-lt slot count c rows low within)
+
+pub row_in : (count slot rows : ℕ) → slot < rows → slot * count + count ≤ rows * count
+row_in count slot rows low = omega (arith, scaled (slot + 1) rows count (omega arith))
+
+-- the number of the classes of a tree
+pub some_classes : (t : Tree) (classes : ByteClasses) → AreClasses t classes → 0 < classes.count
+some_classes t classes are = omega (arith, are.range 0 (omega arith))
+
+-- the newline is alone in its class
+pub newline_alone : (t : Tree) (classes : ByteClasses) → AreClasses t classes → (b : ℕ) → b < 256 →
+    get_or classes.of b 0 ≡ get_or classes.of 10 0 → b ≡ 10
+newline_alone t classes are b lt same =
+    eqb-true b 10 (are.alike b 10 lt (omega arith) same (start t) (block_start t)).newline
 
 -- a correct transition over a byte is correct over the bytes of its class
-pub leads_alike : (t : Tree) (cached : List State) (used : ℕ) (state : State) (b c number : ℕ) → AreAlike t state b c →
-    Leads t cached used state b number → Leads t cached used state c number
-leads_alike t cached used state b c number alike (found is h) = found is (sym alike.accepts ∙ h)
-leads_alike t cached used state b c number alike (next h slot line) =
-    next (sym alike.accepts ∙ h) (subst (λ (n : State). IsStateNumber t cached used number n) alike.successor slot)
+pub leads_alike : (t : Tree) (count : ℕ) (states : List State) (state : State) (b c number : ℕ) → AreAlike t state b c →
+    Leads t count states state b number → Leads t count states state c number
+leads_alike t count states state b c number alike (found is h) = found is (sym alike.accepts ∙ h)
+leads_alike t count states state b c number alike (next h stands other line) =
+    next (sym alike.accepts ∙ h) (subst (λ (n : State). StandsFor t count states number n) alike.successor stands) other
     (λ e. line (eqb-true b 10 (alike.newline ∙ eq-eqb c 10 e)))
 
--- a transition is stored for the bytes of a class
-module _ (t : Tree) (cached : List State) (used : ℕ) (transitions stored : List ℕ) (given : AreTransitions t cached used transitions)
-    (slot low high number : ℕ) (in_use : slot < used) (bound : used ≤ 254) (bytes : high ≤ 256)
-    (leads : (b : ℕ) → low ≤ b → b < high → Leads t cached used (get_or cached slot (start t)) b number)
-    (inside : (b : ℕ) → low ≤ b → b < high → get_or stored (256 * slot + b) 0 ≡ number)
-    (before : (k : ℕ) → k < 256 * slot + low → get_or stored k 0 ≡ get_or transitions k 0)
-    (after : (k : ℕ) → 256 * slot + high ≤ k → get_or stored k 0 ≡ get_or transitions k 0) where
-  right_there : (r c : ℕ) → r < 254 → c < 256 → IsTransition t cached used r c (get_or stored (256 * r + c) 0)
-  right_there r c rl cl =
-      elim (cases_lt (256 * r + c) (256 * slot + low)) [
-        | inl less ↦ rw (before (256 * r + c) less) (given.right r c rl cl)
+-- a known transition
+pub known_leads : (t : Tree) (count : ℕ) (states : List State) (n : State) (b transition : ℕ) →
+    IsTransition t count states n b transition → (transition ≡ unknown_number count → ⊥) → Leads t count states n b transition
+known_leads t count states n b transition (unknown is) other = absurd (other is)
+known_leads t count states n b transition (known leads) other = leads
+
+-- the slot of a number
+pub stands_slot : (t : Tree) (count : ℕ) (states : List State) (number : ℕ) (n : State) → 5 ≤ length states →
+    StandsFor t count states number n → (slot : ℕ) × (slot < length states) × (number ≡ slot * count)
+stands_slot t count states number n some (cached slot is at same) = (slot, at.within, is)
+stands_slot t count states number n some (dead is gone) = (3, omega (arith, some), is)
+
+pub leads_slot : (t : Tree) (count : ℕ) (states : List State) (n : State) (b number : ℕ) → 5 ≤ length states →
+    Leads t count states n b number → (slot : ℕ) × (slot < length states) × (number ≡ slot * count)
+leads_slot t count states n b number some (found is h) = (2, omega (arith, some), is)
+leads_slot t count states n b number some (next h stands other line) =
+    stands_slot t count states number (successor t n b) some stands
+
+-- no state has the number of the match state
+pub stands_no_match : (t : Tree) (count : ℕ) (states : List State) (number : ℕ) (n : State) → 0 < count →
+    StandsFor t count states number n → number ≢ match_number count
+stands_no_match t count states number n some (cached slot is at same) e =
+    let two : slot ≡ 2 = same_row count slot 2 some (sym is ∙ e) in
+    elim at.ordinary [ inl zero_slot ↦ omega (arith, two, zero_slot) | inr high ↦ omega (arith, two, high) ]
+stands_no_match t count states number n some (dead is gone) e = omega (arith, some, is, e)
+
+-- a state accepts before the byte if its correct transition is the match state
+pub leads_to_found : (t : Tree) (count : ℕ) (states : List State) (b number : ℕ) (n : State) → 0 < count →
+    Leads t count states n b number → number ≡ match_number count → accepts_before t n b ≡ true
+leads_to_found t count states b number n some (found is h) e = h
+leads_to_found t count states b number n some (next h stands other line) e =
+    absurd (stands_no_match t count states number (successor t n b) some stands e)
+
+pub leads_on : (t : Tree) (count : ℕ) (states : List State) (b number : ℕ) (n : State) → Leads t count states n b number →
+    (number ≡ match_number count → ⊥) →
+    (accepts_before t n b ≡ false) × StandsFor t count states number (successor t n b)
+leads_on t count states b number n (found is h) e = absurd (e is)
+leads_on t count states b number n (next h stands other line) e = (h, stands)
+
+-- the state of the dead number is dead
+pub dead_state : (t : Tree) (count : ℕ) (states : List State) (number : ℕ) (n : State) → 0 < count →
+    StandsFor t count states number n → number ≡ dead_number count → IsDead t n
+dead_state t count states number n some (cached slot is at same) e =
+    let three : slot ≡ 3 = same_row count slot 3 some (sym is ∙ e) in
+    elim at.ordinary [ inl zero_slot ↦ absurd (omega (arith, three, zero_slot)) | inr high ↦ absurd (omega (arith, three, high)) ]
+dead_state t count states number n some (dead is gone) e = gone
+
+-- a known transition leads to no unknown state, and none leads to the first row
+pub leads_known : (t : Tree) (count : ℕ) (states : List State) (n : State) (b number : ℕ) → 0 < count →
+    Leads t count states n b number → number ≢ unknown_number count
+leads_known t count states n b number some (found is h) e = omega (arith, some, is, e)
+leads_known t count states n b number some (next h (cached slot is at same) other line) e =
+    let one : slot ≡ 1 = same_row count slot 1 some (sym is ∙ e ∙ omega arith) in
+    elim at.ordinary [ inl zero_slot ↦ omega (arith, one, zero_slot) | inr high ↦ omega (arith, one, high) ]
+leads_known t count states n b number some (next h (dead is gone) other line) e = omega (arith, some, is, e)
+
+pub transition_other : (t : Tree) (count : ℕ) (states : List State) (n : State) (b number : ℕ) → 0 < count →
+    IsTransition t count states n b number → number ≢ 0
+transition_other t count states n b number some (unknown is) e = omega (arith, some, is, e)
+transition_other t count states n b number some (known (found is h)) e = omega (arith, some, is, e)
+transition_other t count states n b number some (known (next h stands other line)) e = other e
+
+-- the start state has its number
+pub stands_start : (t : Tree) (count : ℕ) (states : StateList) → AreStates t count states →
+    StandsFor t count states.items (start_number count) (start t)
+stands_start t count states right =
+    cached 4 refl (record { within = omega (arith, right.first); ordinary = inr (omega arith) }) right.begin
+
+-- a correct transition to the start state
+pub leads_start : (t : Tree) (count : ℕ) (states : StateList) (n : State) (b : ℕ) → 0 < count → AreStates t count states →
+    b ≡ 10 → accepts_before t n b ≡ false → Leads t count states.items n b (start_number count)
+leads_start t count states n b some right e stays =
+    next stays (subst (λ (m : State). StandsFor t count states.items (start_number count) m) (sym (rw (eq-eqb b 10 e) refl))
+    (stands_start t count states right)) (λ zero_count. omega (arith, some, zero_count)) (λ _. refl)
+
+-- the cells of the special states
+module _ (classes : ByteClasses) (some : 0 < classes.count) (line : get_or classes.of 10 0 < classes.count) where
+  pub first_unknown : (k : ℕ) → (k < 2 * classes.count) ⊎ (4 * classes.count ≤ k) → first_cell classes k ≡ classes.count
+  first_unknown k (inl low) =
+      rw (ne_eqb k (3 * classes.count + get_or classes.of 10 0) (λ e. omega (arith, e, low)), lt-ltb k (2 * classes.count) low) refl
+  first_unknown k (inr high) =
+      rw (
+        ne_eqb k (3 * classes.count + get_or classes.of 10 0) (λ e. omega (arith, e, high, line)),
+        le-ltb k (2 * classes.count)
+            (omega (arith, high)),
+        le-ltb k (3 * classes.count) (omega (arith, high)),
+        le-ltb k (4 * classes.count) high,
+      ) refl
+
+  pub first_match : (k : ℕ) → 2 * classes.count ≤ k → k < 3 * classes.count → first_cell classes k ≡ 2 * classes.count
+  first_match k low high =
+      rw (
+        ne_eqb k (3 * classes.count + get_or classes.of 10 0) (λ e. omega (arith, e, high)),
+        le-ltb k (2 * classes.count) low,
+        lt-ltb k (3 * classes.count) high,
+      ) refl
+
+  first_start : first_cell classes (3 * classes.count + get_or classes.of 10 0) ≡ 4 * classes.count
+  first_start = rw (eq-eqb (3 * classes.count + get_or classes.of 10 0) (3 * classes.count + get_or classes.of 10 0) refl) refl
+
+  first_dead : (k : ℕ) → 3 * classes.count ≤ k → k < 4 * classes.count → k ≢ 3 * classes.count + get_or classes.of 10 0 →
+      first_cell classes k ≡ 3 * classes.count
+  first_dead k low high other =
+      rw (
+        ne_eqb k (3 * classes.count + get_or classes.of 10 0) other,
+        le-ltb k (2 * classes.count) (omega (arith, low)),
+        le-ltb k (3 * classes.count) low,
+        lt-ltb k (4 * classes.count) high,
+      ) refl
+
+  -- each has the number of a row
+  pub first_slot : (k : ℕ) → (slot : ℕ) × (slot < 5) × (first_cell classes k ≡ slot * classes.count) × (1 ≤ slot)
+  first_slot k =
+      elim (cases_lt k (2 * classes.count)) [
+        | inl low ↦ (1, omega arith, first_unknown k (inl low) ∙ omega arith, omega arith)
         | inr from ↦
-            elim (cases_lt (256 * r + c) (256 * slot + high)) [
-              | inl to ↦
-                  let one : slot ≡ r = omega arith in
-                  let P : ℕ → Type 0 = λ x. IsTransition t cached used x c (get_or stored (256 * x + c) 0) in
-                  subst P one (rw (inside c (omega arith) (omega arith)) (known in_use (leads c (omega arith) (omega arith))))
-              | inr past ↦ rw (after (256 * r + c) (omega arith)) (given.right r c rl cl)
+            elim (cases_lt k (3 * classes.count)) [
+              | inl low ↦ (2, omega arith, first_match k from low, omega arith)
+              | inr past ↦
+                  elim (cases_lt k (4 * classes.count)) [
+                    | inr high ↦ (1, omega arith, first_unknown k (inr high) ∙ omega arith, omega arith)
+                    | inl low ↦
+                        elim (cases_eq k (3 * classes.count + get_or classes.of 10 0)) [
+                          | inl e ↦ (4, omega arith, ap (first_cell classes) e ∙ first_start, omega arith)
+                          | inr other ↦ (3, omega arith, first_dead k past low other, omega arith)
+                        ]
+                  ]
             ]
       ]
 
-  pub put_transition : length stored ≡ length transitions → AreTransitions t cached used stored
-  put_transition same = record {
-    all = same ∙ given.all;
-    right = right_there;
-    found = λ c cl. after (match_state + c) (omega arith) ∙ given.found c cl;
-    unknown = λ c cl. after (unknown_state + c) (omega arith) ∙ given.unknown c cl;
-  }
+-- the transitions of a correct table
+module _ (t : Tree) (classes : ByteClasses) (states : StateList) (cells : List ℕ) (are : AreClasses t classes)
+    (right : AreStates t classes.count states) (table : IsTable t classes states.items cells) where
+  some : 0 < classes.count
+  some = some_classes t classes are
 
--- the successor is cached
-pub leads_next : (t u : Tree) (cached : List State) (used number : ℕ) (n m k : State) (b : ℕ) → u ≡ t → m ≡ n →
-    b ≢ 10 → accepts_before t n b ≡ false → k ≡ successor t n b → IsStateNumber u cached used number k → Leads u cached used m b number
-leads_next t u cached used number n m k b e f other h is slot =
-    next (ap (λ x. accepts_before x m b) e ∙ ap (λ x. accepts_before t x b) f ∙ h)
-    (subst (λ (x : State). IsStateNumber u cached used number x) (is ∙ ap (λ x. successor t x b) (sym f)
-    ∙ ap (λ x. successor x m b) (sym e)) slot)
-    (λ line. absurd (other line))
+  line : get_or classes.of 10 0 < classes.count
+  line = are.range 10 (omega arith)
+
+  dead_leads : (n : State) (b : ℕ) → IsDead t n → b < 256 →
+      Leads t classes.count states.items n b (get_or cells (3 * classes.count + get_or classes.of b 0) 0)
+  dead_leads n b gone lt =
+      let k = 3 * classes.count + get_or classes.of b 0 in
+      let within : get_or classes.of b 0 < classes.count = are.range b lt in
+      let cell : get_or cells k 0 ≡ first_cell classes k = table.special k (omega (arith, some)) (omega (arith, within)) in
+      elim (cases_eq b 10) [
+        | inl e ↦
+            let is : get_or cells k 0 ≡ 4 * classes.count =
+            cell ∙ ap (λ c. first_cell classes (3 * classes.count + get_or classes.of c 0)) e ∙ first_start classes some line in
+            subst (λ number. Leads t classes.count states.items n b number) (sym is)
+            (leads_start t classes.count states n b some right e (gone [] b))
+        | inr other ↦
+            let is : get_or cells k 0 ≡ 3 * classes.count =
+            cell ∙ first_dead classes some line k (omega arith) (omega (arith, within))
+            (λ e. other (newline_alone t classes are b lt (omega (arith, e)))) in
+            let moved : successor t n b ≡ next_state t n b = rw (ne_eqb b 10 other) refl in
+            let after : IsDead t (next_state t n b) = λ bytes c. gone (b ∷ bytes) c in
+            next (gone [] b) (dead is (subst (IsDead t) (sym moved) after)) (λ zero_cell. omega (arith, some, is, zero_cell))
+            (λ e. absurd (other e))
+      ]
+
+  -- the cell of a state and a byte
+  pub transition : (number : ℕ) (n : State) (b : ℕ) → StandsFor t classes.count states.items number n → b < 256 →
+      IsTransition t classes.count states.items n b (get_or cells (number + get_or classes.of b 0) 0)
+  transition number n b (cached slot is at same) lt =
+      subst (λ k. IsTransition t classes.count states.items n b (get_or cells (k + get_or classes.of b 0) 0)) (sym is)
+      (subst (λ (m : State). IsTransition t classes.count states.items m b (get_or cells (slot * classes.count + get_or classes.of b 0) 0))
+      same (table.right slot b at lt))
+  transition number n b (dead is gone) lt =
+      subst (λ k. IsTransition t classes.count states.items n b (get_or cells (k + get_or classes.of b 0) 0)) (sym is)
+      (known (dead_leads n b gone lt))
+
+  -- the slot of a state with an unknown transition
+  pub unknown_slot : (number : ℕ) (n : State) (b : ℕ) → StandsFor t classes.count states.items number n → b < 256 →
+      get_or cells (number + get_or classes.of b 0) 0 ≡ classes.count →
+      IsSlot states.items (number / classes.count) × (state_at t states.items (number / classes.count) ≡ n)
+  unknown_slot number n b (cached slot is at same) lt e =
+      let whole : slot * classes.count + 0 ≡ number = omega (arith, is) in
+      let here : slot ≡ number / classes.count = sym (div-mul-add slot classes.count 0 some) ∙ ap (λ k. k / classes.count) whole in
+      (subst (IsSlot states.items) here at, subst (λ k. state_at t states.items k ≡ n) here same)
+  unknown_slot number n b (dead is gone) lt e =
+      absurd (leads_known t classes.count states.items n b (get_or cells (3 * classes.count + get_or classes.of b 0) 0) some
+      (dead_leads n b gone lt) (ap (λ k. get_or cells (k + get_or classes.of b 0) 0) (sym is) ∙ e))
+
+  -- no cell has the number of the first row
+  pub no_first : (slot b : ℕ) → slot < length states.items → b < 256 → get_or cells (slot * classes.count + get_or classes.of b 0) 0 ≢ 0
+  no_first slot b lt byte e =
+      let k = slot * classes.count + get_or classes.of b 0 in
+      let row : IsSlot states.items slot → ⊥ = λ at.
+      transition_other t classes.count states.items (state_at t states.items slot) b (get_or cells k 0) some (table.right slot b at byte) e in
+      elim (cases_lt slot 4) [
+        | inr high ↦ row (record { within = lt; ordinary = inr high })
+        | inl low ↦ elim (cases_eq slot 0) [
+          | inl none ↦ row (record { within = lt; ordinary = inl none })
+          | inr other ↦
+              let from : classes.count ≤ k = omega (arith, scaled 1 slot classes.count (omega (arith, other))) in
+              let to : k < 4 * classes.count = omega (arith, row_in classes.count slot 4 low, are.range b byte) in
+              let at = first_slot classes some line k in
+              omega (arith, some, e, table.special k from to, at.2, scaled 1 at.0 classes.count at.3)
+        ]
+      ]
+
+  -- it is in the table
+  pub cell_within : (number : ℕ) (n : State) (b : ℕ) → StandsFor t classes.count states.items number n → b < 256 →
+      number + get_or classes.of b 0 < length cells
+  cell_within number n b stands lt =
+      let at = stands_slot t classes.count states.items number n right.first stands in
+      omega (arith, at.2, table.rows, in_rows classes.count at.0 (length states.items) (get_or classes.of b 0) at.1 (are.range b lt))
+
+  -- the transition of the state in a slot is stored for the bytes of a class
+  module _ (slot byte number : ℕ) (at : IsSlot states.items slot) (low : byte < 256)
+      (leads : Leads t classes.count states.items (state_at t states.items slot) byte number) where
+    abbrev cell : ℕ
+    cell = slot * classes.count + get_or classes.of byte 0
+
+    pub cell_in : cell < length cells
+    cell_in = omega (arith, table.rows, in_rows classes.count slot (length states.items) (get_or classes.of byte 0) at.within (are.range byte low))
+
+    ordinary_cell : (k : ℕ) → unknown_number classes.count ≤ k → k < start_number classes.count → k ≢ cell
+    ordinary_cell k from to e =
+        elim at.ordinary [
+          | inl zero_slot ↦ omega (arith, from, e, are.range byte low, ap (λ s. s * classes.count) zero_slot)
+          | inr high ↦ omega (arith, to, e, scaled 4 slot classes.count high)
+        ]
+
+    right_there : (r b : ℕ) → IsSlot states.items r → b < 256 →
+        IsTransition t classes.count states.items (state_at t states.items r) b (get_or (set cells cell number) (r * classes.count + get_or classes.of b 0) 0)
+    right_there r b there lt =
+        elim (cases_eq (r * classes.count + get_or classes.of b 0) cell) [
+          | inl e ↦
+              let same = same_cell classes.count r slot (get_or classes.of b 0) (get_or classes.of byte 0) (are.range b lt) (are.range byte low) e in
+              let alike = are.alike byte b low lt (sym same.1) (state_at t states.items slot) (right.blocks slot) in
+              let is : get_or (set cells cell number) (r * classes.count + get_or classes.of b 0) 0 ≡ number =
+              ap (λ k. get_or (set cells cell number) k 0) e ∙ get_or-set_same cells cell number 0 cell_in in
+              subst (λ x. IsTransition t classes.count states.items (state_at t states.items r) b x) (sym is)
+              (subst (λ s. IsTransition t classes.count states.items (state_at t states.items s) b number) (sym same.0)
+              (known (leads_alike t classes.count states.items (state_at t states.items slot) byte b number alike leads)))
+          | inr other ↦
+              subst (λ x. IsTransition t classes.count states.items (state_at t states.items r) b x)
+              (sym (get_or-set_other cells cell (r * classes.count + get_or classes.of b 0) number 0 other)) (table.right r b there lt)
+        ]
+
+    pub put_transition : IsTable t classes states.items (set cells cell number)
+    put_transition = record {
+      rows = length-set cells cell number ∙ table.rows;
+      numbers = λ k lt. elim (cases_eq k cell) [
+        | inl e ↦
+            let of_leads = leads_slot t classes.count states.items (state_at t states.items slot) byte number right.first leads in
+            (of_leads.0, of_leads.1, ap (λ i. get_or (set cells cell number) i 0) e ∙ get_or-set_same cells cell number 0 cell_in ∙ of_leads.2)
+        | inr other ↦
+            let before = table.numbers k (omega (arith, lt, length-set cells cell number)) in
+            (before.0, before.1, get_or-set_other cells cell k number 0 other ∙ before.2)
+      ];
+      special = λ k from to. get_or-set_other cells cell k number 0 (ordinary_cell k from to) ∙ table.special k from to;
+      right = right_there;
+    }
+
+  -- a state is added
+  module _ (state : State) (more : List ℕ) (long : length more ≡ length cells + classes.count)
+      (same : (k : ℕ) → k < length cells → get_or more k 0 ≡ get_or cells k 0)
+      (blank : (k : ℕ) → length cells ≤ k → k < length more → get_or more k 0 ≡ classes.count) where
+    abbrev more_states : List State
+    more_states = states.items ++ state ∷ []
+
+    length_more : length more_states ≡ length states.items + 1
+    length_more = length-append states.items (state ∷ [])
+
+    pub kept_state : (slot : ℕ) → slot < length states.items → state_at t more_states slot ≡ state_at t states.items slot
+    kept_state slot lt = get_or_append_left states.items (state ∷ []) (start t) slot lt
+
+    pub kept_slot : (slot : ℕ) → IsSlot states.items slot → IsSlot more_states slot
+    kept_slot slot at = record { within = omega (arith, at.within, length_more); ordinary = at.ordinary }
+
+    kept_stands : (number : ℕ) (n : State) → StandsFor t classes.count states.items number n → StandsFor t classes.count more_states number n
+    kept_stands number n (cached slot is at there) = cached slot is (kept_slot slot at) (kept_state slot at.within ∙ there)
+    kept_stands number n (dead is gone) = dead is gone
+
+    kept_leads : (n : State) (b number : ℕ) → Leads t classes.count states.items n b number → Leads t classes.count more_states n b number
+    kept_leads n b number (found is h) = found is h
+    kept_leads n b number (next h stands other line) = next h (kept_stands number (successor t n b) stands) other line
+
+    kept_transition : (n : State) (b transition : ℕ) → IsTransition t classes.count states.items n b transition →
+        IsTransition t classes.count more_states n b transition
+    kept_transition n b transition (unknown is) = unknown is
+    kept_transition n b transition (known leads) = known (kept_leads n b transition leads)
+
+    at_last : state_at t more_states (length states.items) ≡ state
+    at_last = get_or-append_right states.items (state ∷ []) (length states.items) (length states.items) (start t) refl (omega arith)
+        ∙ ap (λ k. get_or (state ∷ []) k (start t)) (let zero_left : length states.items - length states.items ≡ 0 = omega arith in zero_left)
+
+    pub last_slot : IsSlot more_states (length states.items)
+    last_slot = record { within = omega (arith, length_more); ordinary = inr (omega (arith, right.first)) }
+
+    pub added_stands : StandsFor t classes.count more_states (length states.items * classes.count) state
+    added_stands = cached (length states.items) refl last_slot at_last
+
+    right_more : (slot b : ℕ) → IsSlot more_states slot → b < 256 →
+        IsTransition t classes.count more_states (state_at t more_states slot) b (get_or more (slot * classes.count + get_or classes.of b 0) 0)
+    right_more slot b at lt =
+        let k = slot * classes.count + get_or classes.of b 0 in
+        elim (cases_lt slot (length states.items)) [
+          | inl old ↦
+              let within : k < length cells = omega (arith, table.rows, in_rows classes.count slot (length states.items) (get_or classes.of b 0) old (are.range b lt)) in
+              let before = kept_transition (state_at t states.items slot) b (get_or cells k 0)
+              (table.right slot b (record { within = old; ordinary = at.ordinary }) lt) in
+              subst (λ x. IsTransition t classes.count more_states (state_at t more_states slot) b x) (sym (same k within))
+              (subst (λ (n : State). IsTransition t classes.count more_states n b (get_or cells k 0)) (sym (kept_state slot old)) before)
+          | inr new ↦
+              let low : length cells ≤ k = omega (arith, table.rows, scaled (length states.items) slot classes.count new) in
+              let high : k < length more =
+              omega (
+                arith,
+                long,
+                table.rows,
+                length_more,
+                in_rows classes.count slot (length states.items + 1) (get_or classes.of b 0)
+                    (omega (arith, at.within, length_more)) (are.range b lt),
+              ) in
+              unknown (blank k low high)
+        ]
+
+    pub added_table : IsTable t classes more_states more
+    added_table = record {
+      rows = omega (arith, long, table.rows, ap (λ n. n * classes.count) length_more);
+      numbers = λ k lt. elim (cases_lt k (length cells)) [
+        | inl old ↦ let before = table.numbers k old in (before.0, omega (arith, before.1, length_more), same k old ∙ before.2)
+        | inr new ↦ (1, omega (arith, right.first, length_more), blank k new lt ∙ omega arith)
+      ];
+      special = λ k from to. same k (omega (arith, to, table.rows, scaled 5 (length states.items) classes.count right.first)) ∙ table.special k from to;
+      right = right_more;
+    }
+
+    pub added_states : length states.items < states.most → length state.positions ≡ position_count t → IsBlock (cuts_of t) state.unfinished →
+        AreStates t classes.count (record states { items = more_states })
+    added_states room size block = record {
+      first = omega (arith, right.first, length_more);
+      bound = omega (arith, room, length_more);
+      more = right.more;
+      fits = right.fits;
+      sized = right.sized;
+      found = kept_state 0 (omega (arith, right.first)) ∙ right.found;
+      begin = kept_state 4 (omega (arith, right.first)) ∙ right.begin;
+      positions = λ slot. elim (cases_lt slot (length states.items)) [
+        | inl old ↦ ap (λ (n : State). length n.positions) (kept_state slot old) ∙ right.positions slot
+        | inr new ↦ elim (cases_eq slot (length states.items)) [
+          | inl e ↦ ap (λ k. length (state_at t more_states k).positions) e ∙ ap (λ (n : State). length n.positions) at_last ∙ size
+          | inr past ↦
+              ap (λ (n : State). length n.positions) (get_or_past more_states slot (start t) (omega (arith, length_more, new, past)))
+              ∙ length-replicate (position_count t) false
+        ]
+      ];
+      blocks = λ slot. elim (cases_lt slot (length states.items)) [
+        | inl old ↦ subst (λ (n : State). IsBlock (cuts_of t) n.unfinished) (sym (kept_state slot old)) (right.blocks slot)
+        | inr new ↦ elim (cases_eq slot (length states.items)) [
+          | inl e ↦ subst (λ (n : State). IsBlock (cuts_of t) n.unfinished)
+              (sym (ap (λ k. state_at t more_states k) e ∙ at_last)) block
+          | inr past ↦
+              subst (λ (n : State). IsBlock (cuts_of t) n.unfinished)
+              (sym (get_or_past more_states slot (start t) (omega (arith, length_more, new, past)))) (block_start t)
+        ]
+      ];
+    }
+
+-- the table of the first rows
+pub first_table : (t : Tree) (classes : ByteClasses) (states : List State) (cells : List ℕ) → AreClasses t classes → length states ≡ 5 →
+    AreFirstRows classes cells → IsTable t classes states cells
+first_table t classes states cells are five rows =
+    let some = some_classes t classes are in
+    let line = are.range 10 (omega arith) in
+    record {
+      rows = omega (arith, rows.all, ap (λ n. n * classes.count) five);
+      numbers = λ k lt. let at = first_slot classes some line k in (at.0, omega (arith, at.1, five), rows.each k lt ∙ at.2);
+      special = λ k from to. rows.each k (omega (arith, to, rows.all));
+      right = λ slot b at lt.
+          let within = are.range b lt in
+          let k = slot * classes.count + get_or classes.of b 0 in
+          let in_table : k < length cells = omega (arith, rows.all, in_rows classes.count slot 5 (get_or classes.of b 0) (omega (arith, at.within, five)) within) in
+          let low : (k < 2 * classes.count) ⊎ (4 * classes.count ≤ k) = elim at.ordinary [
+            | inl zero_slot ↦ inl (omega (arith, within, ap (λ s. s * classes.count) zero_slot))
+            | inr high ↦ inr (omega (arith, scaled 4 slot classes.count high))
+          ] in
+          unknown (rows.each k in_table ∙ first_unknown classes some line k low);
+    }
+
+-- all states but the first ones are forgotten
+pub emptied_states : (t : Tree) (count : ℕ) (states : StateList) → AreStates t count states →
+    AreStates t count (record states { items = take 5 states.items })
+emptied_states t count states right =
+    let five : length (take 5 states.items) ≡ 5 = length-take-le 5 states.items right.first in
+    let kept : (slot : ℕ) → slot < 5 → state_at t (take 5 states.items) slot ≡ state_at t states.items slot =
+    λ slot lt. get_or-take 5 states.items slot (start t) lt in
+    let past : (slot : ℕ) → 5 ≤ slot → state_at t (take 5 states.items) slot ≡ start t =
+    λ slot ge. get_or_past (take 5 states.items) slot (start t) (omega (arith, five, ge)) in
+    record {
+      first = omega (arith, five);
+      bound = omega (arith, five, right.more);
+      more = right.more;
+      fits = right.fits;
+      sized = right.sized;
+      found = kept 0 (omega arith) ∙ right.found;
+      begin = kept 4 (omega arith) ∙ right.begin;
+      positions = λ slot. elim (cases_lt slot 5) [
+        | inl lt ↦ ap (λ (n : State). length n.positions) (kept slot lt) ∙ right.positions slot
+        | inr ge ↦ ap (λ (n : State). length n.positions) (past slot ge) ∙ length-replicate (position_count t) false
+      ];
+      blocks = λ slot. elim (cases_lt slot 5) [
+        | inl lt ↦ subst (λ (n : State). IsBlock (cuts_of t) n.unfinished) (sym (kept slot lt)) (right.blocks slot)
+        | inr ge ↦ subst (λ (n : State). IsBlock (cuts_of t) n.unfinished) (sym (past slot ge)) (block_start t)
+      ];
+    }
 
 same_everywhere : (n k : ℕ) (x : State) → get_or (replicate n x) k x ≡ x
 same_everywhere n k x =
@@ -80,116 +469,19 @@ same_everywhere n k x =
       | inr ge ↦ get_or_past (replicate n x) k x (omega (arith, length-replicate n x))
     ]
 
--- a known transition
-pub known_leads : (t : Tree) (cached : List State) (used slot b transition : ℕ) →
-    IsTransition t cached used slot b transition → (transition ≡ unknown_state → ⊥) →
-    Leads t cached used (get_or cached slot (start t)) b transition
-known_leads t cached used slot b transition (unknown is) other = absurd (other is)
-known_leads t cached used slot b transition (known lt leads) other = leads
-
--- a state accepts before the byte if its correct transition is the match state
-pub leads_to_found : (t : Tree) (cached : List State) (used b number : ℕ) (n : State) → used ≤ 254 →
-    Leads t cached used n b number → number ≡ match_state →
-    accepts_before t n b ≡ true
-leads_to_found t cached used b number n bound (found is h) e = h
-leads_to_found t cached used b number n bound (next h slot line) e =
-    absurd (omega (arith, state_stays t cached used number (successor t n b) bound slot))
-
-pub leads_on : (t : Tree) (cached : List State) (used b number : ℕ) (n : State) → Leads t cached used n b number →
-    (number ≡ match_state → ⊥) →
-    (accepts_before t n b ≡ false) × IsStateNumber t cached used number (successor t n b)
-leads_on t cached used b number n (found is h) e = absurd (e is)
-leads_on t cached used b number n (next h slot line) e = (h, slot)
-
 -- at first all states are the start state
-pub new_states : (t : Tree) (cached : List State) → cached ≡ replicate 254 (start t) → AreStates t cached 1
-new_states t cached is =
-    let one : (k : ℕ) → get_or cached k (start t) ≡ start t = λ k. ap (λ xs. get_or xs k (start t)) is ∙ same_everywhere 254 k (start t) in
+pub first_states : (t : Tree) (count : ℕ) (states : StateList) → AreFirstStates count (start t) states → AreStates t count states
+first_states t count states are =
+    let one : (k : ℕ) → state_at t states.items k ≡ start t = λ k. ap (λ xs. get_or xs k (start t)) are.all ∙ same_everywhere 5 k (start t) in
+    let five : length states.items ≡ 5 = ap length are.all ∙ length-replicate 5 (start t) in
     record {
-      some = omega arith;
-      bound = omega arith;
-      all = ap length is ∙ length-replicate 254 (start t);
-      first = one 0;
-      positions = λ k. ap (λ n. length n.positions) (one k) ∙ length-replicate (position_count t) false;
+      first = omega (arith, five);
+      bound = omega (arith, five, are.more);
+      more = are.more;
+      fits = are.fits;
+      sized = are.sized ∙ length-replicate (position_count t) false;
+      found = one 0;
+      begin = one 4;
+      positions = λ k. ap (λ (n : State). length n.positions) (one k) ∙ length-replicate (position_count t) false;
       blocks = λ k. subst (λ (n : State). IsBlock (cuts_of t) n.unfinished) (sym (one k)) (block_start t);
     }
-
-pub blank_transitions : (t : Tree) (cached : List State) (used : ℕ) (transitions : List ℕ) → length transitions ≡ 65536 →
-    ((k : ℕ) → k < length transitions → get_or transitions k 0 ≡ blank_transition k) → AreTransitions t cached used transitions
-blank_transitions t cached used transitions long blank = record {
-  all = long;
-  right = λ r b rl bl. unknown (blank (256 * r + b) (omega arith) ∙ ap (λ c. if c then match_state else unknown_state)
-      (ne_eqb ((256 * r + b) / 256) 254 (λ e. omega arith)));
-  found = λ b bl. blank (match_state + b) (omega arith) ∙ ap (λ c. if c then match_state else unknown_state)
-      (eq-eqb ((match_state + b) / 256) 254 (omega arith));
-  unknown = λ b bl. blank (unknown_state + b) (omega arith) ∙ ap (λ c. if c then match_state else unknown_state)
-      (ne_eqb ((unknown_state + b) / 256) 254 (λ e. omega arith));
-}
-
--- a state is added
-module _ (t : Tree) (cached : List State) (used : ℕ) (state : State) (low : used < 254) (given : AreStates t cached used) where
-  abbrev more_cached : List State
-  more_cached = set cached used state
-
-  kept_slot : (slot : ℕ) → slot < used → get_or more_cached slot (start t) ≡ get_or cached slot (start t)
-  kept_slot slot lt = get_or-set_other cached used slot state (start t) (λ e. omega arith)
-
-  kept_number : (number : ℕ) (n : State) → IsStateNumber t cached used number n → IsStateNumber t more_cached (used + 1) number n
-  kept_number number n h = record { whole = h.whole; in_use = omega (arith, h.in_use); same = kept_slot (number / 256) h.in_use ∙ h.same }
-
-  kept_leads : (n : State) (b number : ℕ) → Leads t cached used n b number → Leads t more_cached (used + 1) n b number
-  kept_leads n b number (found is h) = found is h
-  kept_leads n b number (next h slot line) = next h (kept_number number (successor t n b) slot) line
-
-  kept_transition : (slot b transition : ℕ) → IsTransition t cached used slot b transition →
-      IsTransition t more_cached (used + 1) slot b transition
-  kept_transition slot b transition (unknown is) = unknown is
-  kept_transition slot b transition (known lt leads) =
-      known (omega arith) (subst (λ (n : State). Leads t more_cached (used + 1) n b transition)
-      (sym (kept_slot slot lt)) (kept_leads (get_or cached slot (start t)) b transition leads))
-
-  pub added_number : (number : ℕ) → number ≡ used * 256 → IsStateNumber t more_cached (used + 1) number state
-  added_number number is =
-      let slot : number / 256 ≡ used = omega (arith, is) in
-      record {
-        whole = omega (arith, is);
-        in_use = omega (arith, slot);
-        same = ap (λ k. get_or more_cached k (start t)) slot ∙ get_or-set_same cached used state (start t) (omega (arith, given.all));
-      }
-
-  pub kept_dead : (number : ℕ) → IsDeadNumber t cached used number → IsDeadNumber t more_cached (used + 1) number
-  kept_dead number (missing is) = missing is
-  kept_dead number (present n at dead) = present n (kept_number number n at) dead
-
-  pub added_transitions : (transitions : List ℕ) → AreTransitions t cached used transitions →
-      AreTransitions t more_cached (used + 1) transitions
-  added_transitions transitions h = record {
-    all = h.all;
-    right = λ slot b sl bl. kept_transition slot b (get_or transitions (256 * slot + b) 0) (h.right slot b sl bl);
-    found = h.found;
-    unknown = h.unknown;
-  }
-
-  pub added_states : length state.positions ≡ position_count t → IsBlock (cuts_of t) state.unfinished → AreStates t more_cached (used + 1)
-  added_states size block = record {
-    some = omega arith;
-    bound = omega arith;
-    all = length-set cached used state ∙ given.all;
-    first = kept_slot 0 (omega (arith, given.some)) ∙ given.first;
-    positions = λ slot. elim (cases_eq slot used) [
-      | inl same ↦
-          let there = ap (λ k. get_or more_cached k (start t)) same ∙ get_or-set_same cached used state (start t)
-          (omega (arith, given.all)) in
-          ap (λ (n : State). length n.positions) there ∙ size
-      | inr other ↦ ap (λ (n : State). length n.positions) (get_or-set_other cached used slot state (start t) other) ∙ given.positions slot
-    ];
-    blocks = λ slot. elim (cases_eq slot used) [
-      | inl same ↦
-          let there = ap (λ k. get_or more_cached k (start t)) same ∙ get_or-set_same cached used state (start t)
-          (omega (arith, given.all)) in
-          subst (λ (n : State). IsBlock (cuts_of t) n.unfinished) (sym there) block
-      | inr other ↦
-          subst (λ (n : State). IsBlock (cuts_of t) n.unfinished) (sym (get_or-set_other cached used slot state (start t) other))
-          (given.blocks slot)
-    ];
-  }

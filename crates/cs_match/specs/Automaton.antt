@@ -1,5 +1,5 @@
 -- What contracts see of a matcher: the tree, the size of its state cache, and the steps that it has taken.
-use Rattle.std.specs.Prelude.{ℕ, ◌+◌, ◌≤◌, refl}
+use Rattle.std.specs.Prelude.{ℕ, ◌+◌, refl}
 use Rattle.std.specs.Coded.{Coded, code_by, coded_ℕ, coded×}
 use Rattle.cs_syntax.specs.Matching.{Tree}
 use Rattle.cs_syntax.specs.TreeCode.{tree_code}
@@ -20,13 +20,6 @@ automaton_code =
     code_by (Tree × (ℕ × ℕ)) (coded× tree_code (coded× coded_ℕ coded_ℕ)) (λ a. (a.tree, (a.states, a.steps)))
     (λ p. record { tree = p.0; states = p.1.0; steps = p.1.1 }) (λ _. refl)
 
--- The size of the state cache. The transition table has 256 rows, and two of them are those of the match
--- state and the unknown state.
+-- The most cached states: each has a row of at least one cell in the transition table, which has at most 65536.
 abbrev pub most_states : ℕ
-most_states = 254
-
--- The growth of the cache over a number of bytes: each byte adds at most one state, and the cache is not
--- cleared if it has room for one more state for each byte.
-pub record GrowsOver (bytes old new : ℕ) : Type 0 where
-  pub added : new ≤ old + bytes
-  pub kept : old + bytes ≤ most_states → old ≤ new
+most_states = 65536

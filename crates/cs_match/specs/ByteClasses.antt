@@ -56,23 +56,22 @@ pub record AddsMarks (Alike : ℕ → ℕ → Type 0) (old new : List ℕ) : Typ
   pub kept : (b : ℕ) → begins_at new b ≡ false → begins_at old b ≡ false
   pub alike : (b : ℕ) → suc b < 256 → begins_at new (suc b) ≡ false → Alike b (suc b)
 
--- the numbers of the classes ascend, and the ends of the class of a byte are kept
-pub record HaveEnds (classes : ByteClasses) : Type 0 where
-  pub ascending : (b c : ℕ) → b ≤ c → c < 256 → slice_index classes.of b ≤ slice_index classes.of c
+-- the first byte of the class of each byte is kept
+pub record HaveFirsts (classes : ByteClasses) : Type 0 where
   pub first : (b : ℕ) → b < 256 → (slice_index classes.firsts b ≤ b)
       × (slice_index classes.of (slice_index classes.firsts b) ≡ slice_index classes.of b)
-  pub last : (b : ℕ) → b < 256 → (b ≤ slice_index classes.lasts (slice_index classes.of b))
-      × (slice_index classes.of (slice_index classes.lasts (slice_index classes.of b)) ≡ slice_index classes.of b)
 
 -- a class has no byte after its first at which one begins, and its number is below the count
 pub record AreNumbered (begins : List ℕ) (classes : ByteClasses) : Type 0 where
   pub none : (b c k : ℕ) → b < k → k ≤ c → c < 256 → slice_index classes.of b ≡ slice_index classes.of c → begins_at begins k ≡ false
-  pub ends : HaveEnds classes
+  pub firsts : HaveFirsts classes
   pub range : (b : ℕ) → b < 256 → slice_index classes.of b < classes.count
+  pub few : classes.count ≤ 256
 
--- no state tells two bytes of a class apart, so no other byte is in the class of the newline; a class is a range of bytes
+-- no state tells two bytes of a class apart, so no other byte is in the class of the newline
 pub record AreClasses (t : Tree) (classes : ByteClasses) : Type 0 where
   pub alike : (b c : ℕ) → b < 256 → c < 256 → slice_index classes.of b ≡ slice_index classes.of c →
       (state : State) → IsBlock (cuts_of t) state.unfinished → AreAlike t state b c
-  pub ends : HaveEnds classes
+  pub firsts : HaveFirsts classes
   pub range : (b : ℕ) → b < 256 → slice_index classes.of b < classes.count
+  pub few : classes.count ≤ 256

@@ -1,60 +1,95 @@
--- The lazy DFA (RE2): the cached states and the transition table. The number of a state is 256 times its index
--- in the cache, so that its sum with a byte is the index of a transition.
-use Rattle.std.specs.Prelude.{ℕ, ◌≡◌, ◌+◌, ◌*◌, ◌/◌, ◌<◌, ◌≤◌, true, false, List, length, slice_index, slice_index_or, nat_eq, if◌then◌else◌}
+-- The lazy DFA (RE2): the cached states and the transition table, a row of cells for each state and a cell in it for each
+-- class of bytes. The number of a state is the index of the first cell of its row. The first rows are those of a start
+-- state, of three special states (a transition that is unknown, a match, a dead state) and of the start state.
+use Rattle.std.specs.Prelude.{ℕ, ◌≡◌, ◌≢◌, ◌+◌, ◌*◌, ◌<◌, ◌≤◌, ◌⊎◌, true, false, List, length, replicate, slice_index, slice_index_or, nat_eq, nat_lt, if◌then◌else◌}
 use Rattle.cs_syntax.specs.Matching.{Tree}
+use Rattle.cs_match.specs.declared.byte_classes.ByteClasses.{ByteClasses}
 use Rattle.cs_match.specs.declared.state.State.{State}
+use Rattle.cs_match.specs.CachedStates.{StateList}
 use Rattle.cs_match.specs.Lines.{newline}
 use Rattle.cs_match.specs.Glushkov.{position_count, cuts_of}
 use Rattle.cs_match.specs.Digits.{IsBlock}
 use Rattle.cs_match.specs.States.{start, successor, accepts_before, IsDead}
-use Rattle.cs_match.specs.Scan.{match_state, unknown_state}
 
--- the state with this number
-abbrev pub state_of : Tree → List State → ℕ → State
-state_of t cached number = slice_index_or cached (number / 256) (start t)
+-- the numbers of the special states and of the start state, for so many classes
+abbrev pub unknown_number : ℕ → ℕ
+unknown_number count = count
 
--- the number is that of a cached state, which is this one
-pub record IsStateNumber (t : Tree) (cached : List State) (used number : ℕ) (state : State) : Type 0 where
-  pub whole : 256 * (number / 256) ≡ number
-  pub in_use : number / 256 < used
-  pub same : state_of t cached number ≡ state
+abbrev pub match_number : ℕ → ℕ
+match_number count = 2 * count
 
--- the number is unknown, or that of a cached dead state
-pub data IsDeadNumber (t : Tree) (cached : List State) (used number : ℕ) : Type 0 where
-  missing : number ≡ unknown_state → IsDeadNumber t cached used number
-  present : (state : State) → IsStateNumber t cached used number state → IsDead t state →
-      IsDeadNumber t cached used number
+abbrev pub dead_number : ℕ → ℕ
+dead_number count = 3 * count
 
--- A correct transition of a state over the byte b: the match state if the state accepts before the byte;
--- otherwise the number of its successor, which is 0 (the start state) over a newline.
-pub data Leads (t : Tree) (cached : List State) (used : ℕ) (state : State) (b number : ℕ) : Type 0 where
-  found : number ≡ match_state → accepts_before t state b ≡ true → Leads t cached used state b number
-  next : accepts_before t state b ≡ false → IsStateNumber t cached used number (successor t state b) →
-      (b ≡ newline → number ≡ 0) → Leads t cached used state b number
+abbrev pub start_number : ℕ → ℕ
+start_number count = 4 * count
+
+-- the state in a slot
+abbrev pub state_at : Tree → List State → ℕ → State
+state_at t states slot = slice_index_or states slot (start t)
+
+-- the slot is that of a cached state, and not of a special one
+pub record IsSlot (states : List State) (slot : ℕ) : Type 0 where
+  pub within : slot < length states
+  pub ordinary : (slot ≡ 0) ⊎ (4 ≤ slot)
+
+-- the number stands for the state: it is the number of a cached state, which is this one, or that of the dead state
+pub data StandsFor (t : Tree) (count : ℕ) (states : List State) (number : ℕ) (state : State) : Type 0 where
+  cached : (slot : ℕ) → number ≡ slot * count → IsSlot states slot → state_at t states slot ≡ state →
+      StandsFor t count states number state
+  dead : number ≡ dead_number count → IsDead t state → StandsFor t count states number state
+
+-- A correct transition of a state over the byte b: the match state if the state accepts before the byte; otherwise a
+-- number that stands for its successor, which is the start state over a newline. No transition leads to the first row.
+pub data Leads (t : Tree) (count : ℕ) (states : List State) (state : State) (b number : ℕ) : Type 0 where
+  found : number ≡ match_number count → accepts_before t state b ≡ true → Leads t count states state b number
+  next : accepts_before t state b ≡ false → StandsFor t count states number (successor t state b) → number ≢ 0 →
+      (b ≡ newline → number ≡ start_number count) → Leads t count states state b number
 
 -- a transition of a cached state is unknown or correct
-pub data IsTransition (t : Tree) (cached : List State) (used slot b transition : ℕ) : Type 0 where
-  unknown : transition ≡ unknown_state → IsTransition t cached used slot b transition
-  known : slot < used → Leads t cached used (slice_index_or cached slot (start t)) b transition →
-      IsTransition t cached used slot b transition
+pub data IsTransition (t : Tree) (count : ℕ) (states : List State) (state : State) (b transition : ℕ) : Type 0 where
+  unknown : transition ≡ unknown_number count → IsTransition t count states state b transition
+  known : Leads t count states state b transition → IsTransition t count states state b transition
 
--- the first state is the start state, and each state has a truth value for each position, and an unfinished character
--- of a whole block
-pub record AreStates (t : Tree) (cached : List State) (used : ℕ) : Type 0 where
-  pub some : 1 ≤ used
-  pub bound : used ≤ 254
-  pub all : length cached ≡ 254
-  pub first : slice_index_or cached 0 (start t) ≡ start t
-  pub positions : (slot : ℕ) → length (slice_index_or cached slot (start t)).positions ≡ position_count t
-  pub blocks : (slot : ℕ) → IsBlock (cuts_of t) (slice_index_or cached slot (start t)).unfinished
+-- The cell at an index of the first rows, while no transition is known. The match and the unknown state are absorbing,
+-- and the dead one up to the end of the line.
+abbrev pub first_cell : ByteClasses → ℕ → ℕ
+first_cell classes k =
+    if nat_eq k (dead_number classes.count + slice_index classes.of newline) then start_number classes.count
+    else (if nat_lt k (match_number classes.count) then unknown_number classes.count
+    else (if nat_lt k (dead_number classes.count) then match_number classes.count
+    else (if nat_lt k (start_number classes.count) then dead_number classes.count else unknown_number classes.count)))
 
--- each transition is unknown or correct, and the two special states are absorbing
-pub record AreTransitions (t : Tree) (cached : List State) (used : ℕ) (transitions : List ℕ) : Type 0 where
-  pub all : length transitions ≡ 65536
-  pub right : (slot b : ℕ) → slot < 254 → b < 256 → IsTransition t cached used slot b (slice_index transitions (256 * slot + b))
-  pub found : (b : ℕ) → b < 256 → slice_index transitions (match_state + b) ≡ match_state
-  pub unknown : (b : ℕ) → b < 256 → slice_index transitions (unknown_state + b) ≡ unknown_state
+-- the table of the first rows
+pub record AreFirstRows (classes : ByteClasses) (cells : List ℕ) : Type 0 where
+  pub all : length cells ≡ 5 * classes.count
+  pub each : (k : ℕ) → k < length cells → slice_index cells k ≡ first_cell classes k
 
--- the transition at an index of a table in which no transition is known
-abbrev pub blank_transition : ℕ → ℕ
-blank_transition index = if nat_eq (index / 256) 254 then match_state else unknown_state
+-- five times the start state, with room for one more state, and for the row of each
+pub record AreFirstStates (count : ℕ) (first : State) (states : StateList) : Type 0 where
+  pub all : states.items ≡ replicate 5 first
+  pub more : 6 ≤ states.most
+  pub fits : states.most * count ≤ 65536
+  pub sized : states.positions ≡ length first.positions
+
+-- there is room for one more state than the first ones, and for the row of each; a state has a truth value for each
+-- position, and an unfinished character of a whole block
+pub record AreStates (t : Tree) (count : ℕ) (states : StateList) : Type 0 where
+  pub first : 5 ≤ length states.items
+  pub bound : length states.items ≤ states.most
+  pub more : 6 ≤ states.most
+  pub fits : states.most * count ≤ 65536
+  pub sized : states.positions ≡ position_count t
+  pub found : state_at t states.items 0 ≡ start t
+  pub begin : state_at t states.items 4 ≡ start t
+  pub positions : (slot : ℕ) → length (state_at t states.items slot).positions ≡ position_count t
+  pub blocks : (slot : ℕ) → IsBlock (cuts_of t) (state_at t states.items slot).unfinished
+
+-- each state has a row, each cell has the number of a row, the rows of the special states are as at first, and each
+-- transition of the others is unknown or correct
+pub record IsTable (t : Tree) (classes : ByteClasses) (states : List State) (cells : List ℕ) : Type 0 where
+  pub rows : length cells ≡ length states * classes.count
+  pub numbers : (k : ℕ) → k < length cells → (slot : ℕ) × (slot < length states) × (slice_index cells k ≡ slot * classes.count)
+  pub special : (k : ℕ) → unknown_number classes.count ≤ k → k < start_number classes.count → slice_index cells k ≡ first_cell classes k
+  pub right : (slot b : ℕ) → IsSlot states slot → b < 256 →
+      IsTransition t classes.count states (state_at t states slot) b (slice_index cells (slot * classes.count + slice_index classes.of b))

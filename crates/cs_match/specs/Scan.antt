@@ -1,40 +1,30 @@
--- Scans of a transition table. The table has 256 transitions for each state, and a state number is the index
--- of the first of them. The start state is 0.
-use Rattle.std.specs.Prelude.{ℕ, ◌≡◌, ◌<◌, ◌≤◌, Bool, false, List, [], ◌∷◌, ◌++◌, slice_index, bit_or}
+-- Scans of a transition table that skip lines without a match.
+use Rattle.std.specs.Prelude.{ℕ, ◌≡◌, ◌<◌, ◌≤◌, ◌*◌, Bool, false, List, [], ◌∷◌, ◌++◌}
 use Rattle.cs_tree.specs.ByteList.{AreBytes}
+use Rattle.cs_match.specs.declared.table.Table.{Table}
 use Rattle.cs_match.specs.Lines.{newline}
 use Rattle.cs_match.specs.NoNewline.{HasNoNewline}
+use Rattle.cs_match.specs.Table.{next_number, number_after, unknown, start}
 
--- the state number that a scan of the text reaches
-unfoldable pub state_after : List ℕ → ℕ → List ℕ → ℕ
-state_after transitions state [] = state
-state_after transitions state (b ∷ text) = state_after transitions (slice_index transitions (bit_or state b)) text
-
--- the match state: the line has a match
-abbrev pub match_state : ℕ
-match_state = 65024
-
--- the unknown state: a transition of the scan is not computed yet
-abbrev pub unknown_state : ℕ
-unknown_state = 65280
-
--- the first of these two special states
-abbrev pub first_special : ℕ
-first_special = match_state
+-- the state *match*: the line has a match
+abbrev pub matched : Table → ℕ
+matched t = 2 * t.count
 
 -- a scan of the text from the start state ends in an ordinary state
-abbrev pub IsOrdinary : List ℕ → List ℕ → Type 0
-IsOrdinary transitions text = state_after transitions 0 text < first_special
+abbrev pub IsOrdinary : Table → List ℕ → Type 0
+IsOrdinary t text = start t ≤ number_after t (start t) text
 
--- the special states are absorbing: no transition leads from them to an ordinary state
-abbrev pub IsAbsorbing : List ℕ → Type 0
-IsAbsorbing transitions = (at : ℕ) → first_special ≤ at → at < 65536 → first_special ≤ slice_index transitions at
+-- the number after a line and its newline: a special one, or that of the start state if the line has no match
+pub data EndsLine (has_match : List ℕ → Bool) (t : Table) (line : List ℕ) (number : ℕ) : Type 0 where
+  to_unknown : number ≡ unknown t → EndsLine has_match t line number
+  to_match : number ≡ matched t → EndsLine has_match t line number
+  to_start : number ≡ start t → has_match line ≡ false → EndsLine has_match t line number
 
--- If a scan of a line and its newline ends in an ordinary state, then this is the start state, and the line
--- has no match.
-pub record RulesOutLines (has_match : List ℕ → Bool) (transitions : List ℕ) : Type 0 where
-  pub absorbs : IsAbsorbing transitions
-  pub back : (line : List ℕ) → AreBytes line → HasNoNewline line → IsOrdinary transitions (line ++ newline ∷ []) →
-      state_after transitions 0 (line ++ newline ∷ []) ≡ 0
-  pub none : (line : List ℕ) → AreBytes line → HasNoNewline line → IsOrdinary transitions (line ++ newline ∷ []) →
-      has_match line ≡ false
+-- A scan that ends in an ordinary state has passed no line with a match: the unknown and the match state are absorbing, and
+-- any other line leads back to the start state.
+pub record RulesOutLines (has_match : List ℕ → Bool) (t : Table) : Type 0 where
+  pub some : 0 < t.count
+  pub at_unknown : (b : ℕ) → b < 256 → next_number t (unknown t) b ≡ unknown t
+  pub at_match : (b : ℕ) → b < 256 → next_number t (matched t) b ≡ matched t
+  pub ends : (line : List ℕ) → AreBytes line → HasNoNewline line →
+      EndsLine has_match t line (number_after t (start t) (line ++ newline ∷ []))

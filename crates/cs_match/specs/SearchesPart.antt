@@ -1,7 +1,7 @@
 -- What the search of a part of a block returns and leaves: it searches the lines up to `searched.to`, at least one, and
 -- finds the first of them that matches.
-use Rattle.std.specs.Prelude.{◌≡◌, ◌≤◌, ◌<◌, ◌-◌, ℕ, List, length}
-use Rattle.cs_match.specs.Automaton.{Automaton, GrowsOver}
+use Rattle.std.specs.Prelude.{◌≡◌, ◌≤◌, ◌<◌, ℕ, List, length}
+use Rattle.cs_match.specs.Automaton.{Automaton}
 use Rattle.cs_match.specs.FirstMatch.{IsSearched}
 use Rattle.cs_match.specs.PartWork.{part_work}
 use Rattle.cs_match.specs.Work.{WorksWithin}
@@ -12,5 +12,4 @@ pub record SearchesPart (block : List ℕ) (from : ℕ) (old new : Automaton) (s
   pub found : IsSearched old.tree block from searched.to searched.line
   pub high : searched.to ≤ length block
   pub same : new.tree ≡ old.tree
-  pub states : GrowsOver (searched.to - from) old.states new.states
   pub work : WorksWithin (part_work old.tree from searched.to searched.line) old new

@@ -1,5 +1,5 @@
 -- The work of a search, in steps. A step is a part of the program visited, a word of 64 positions moved or compared, a
--- position tested for a mask, a cached state compared, or a transition read, computed, written or forgotten. In a block it
+-- position tested for a mask, a place at which a state is looked for, or a transition read, computed or written. In a block it
 -- is also a byte that is searched for a newline, or one that a lane reads, and a step of the prefilter (`OffsetWork`).
 -- docs/PROMISES.md, "Work".
 use Rattle.std.specs.Prelude.{ℕ, ◌+◌, ◌-◌, ◌*◌, ◌/◌, ◌≤◌, Option, Some, None}
@@ -8,7 +8,7 @@ use Rattle.cs_prefilter.specs.OffsetWork.{offset_work}
 use Rattle.cs_match.specs.declared.matcher.Line.{Line}
 use Rattle.cs_match.specs.Glushkov.{position_count}
 use Rattle.cs_match.specs.Size.{nodes}
-use Rattle.cs_match.specs.Automaton.{Automaton, most_states}
+use Rattle.cs_match.specs.Automaton.{Automaton}
 
 -- the words of a set of so many positions
 abbrev pub words : ℕ → ℕ
@@ -18,22 +18,15 @@ words count = (count + 63) / 64
 abbrev pub step_work : Tree → ℕ
 step_work t = 2 * nodes t + position_count t + 2 * words (position_count t) + 1
 
--- the share of a cached state in the clearing of the cache: 254 shares pay for the 65536 transitions that are forgotten
-abbrev pub state_work : ℕ
-state_work = 260
-
--- the work of a matcher so far: the steps that it has taken, and those that its cached states have still to pay for
-abbrev pub work_of : Automaton → ℕ
-work_of m = m.steps + state_work * m.states
-
 -- A call takes at most so much work. The counter never falls, so that no step is taken back.
 abbrev pub WorksWithin : ℕ → Automaton → Automaton → Type 0
-WorksWithin bound old new = (old.steps ≤ new.steps) × (work_of new ≤ work_of old + bound)
+WorksWithin bound old new = (old.steps ≤ new.steps) × (new.steps ≤ old.steps + bound)
 
--- the most steps of the lazy DFA over a byte: the step of the automaton; the new state compared with each cached one,
--- copied twice and hashed; the 256 transitions of its byte class, tested and written; and its share of a clearing
+-- The most steps of the lazy DFA over a byte: the step of the automaton; the new state copied twice, tested, hashed and
+-- compared with at most eight cached ones; its row of at most 256 transitions; and the first five rows, to which the
+-- table is cleared.
 abbrev pub byte_work : Tree → ℕ
-byte_work t = step_work t + (most_states + 3) * (words (position_count t) + 1) + 2 * 256 + state_work
+byte_work t = step_work t + 12 * (words (position_count t) + 1) + 6 * 256
 
 -- the most steps of a line of so many bytes, which are scanned, and simulated once more if one of them is a newline
 abbrev pub line_work : Tree → ℕ → ℕ

@@ -7,7 +7,7 @@ ghost use Rattle.cs_syntax.specs.Cuts.{AreCuts, AreCutsOf};
 ghost use Rattle.cs_syntax.specs.Node.{tree_of};
 ghost use Rattle.cs_syntax.specs.NodeList.{trees_of};
 ghost use Rattle.cs_match.specs.LookBehind.{look_behind};
-ghost use Rattle.cs_match.specs.ByteClasses.{AreClasses, AreNumbered, HaveEnds, StepAlike, begins_at, HaveBoth, AllHaveBoth, AddsMarks};
+ghost use Rattle.cs_match.specs.ByteClasses.{AreClasses, AreNumbered, HaveFirsts, StepAlike, begins_at, HaveBoth, AllHaveBoth, AddsMarks};
 ghost use Rattle.cs_match.specs.Digits.{IsNoDigit};
 
 use crate::look_around::LookBehind;
@@ -20,8 +20,6 @@ pub(crate) struct ByteClasses {
     pub(crate) of: [u8; 256],
     /// The first byte of the class of each byte.
     pub(crate) firsts: [u8; 256],
-    /// The last byte of each class.
-    pub(crate) lasts: [u8; 256],
     /// The number of classes.
     pub(crate) count: u16,
 }
@@ -46,23 +44,11 @@ impl ByteClasses {
 
     /// The first byte of the class of a byte.
     pub(crate) fn first(&self, byte: u8) -> u8
-        requires { HaveEnds self.now }
+        requires { HaveFirsts self.now }
         ensures low { result ≤ byte }
         ensures class { slice_index self.now.of result ≡ slice_index self.now.of byte }
     {
         self.firsts[byte as usize]
-    }
-
-    /// The range of the class of a byte: its first byte, and the byte after its last.
-    pub(crate) fn range(&self, byte: u8) -> (usize, usize)
-        requires { HaveEnds self.now }
-        ensures low { result.0 ≤ byte }
-        ensures high { (byte < result.1) × (result.1 ≤ 256) }
-        ensures class { (b : ℕ) → result.0 ≤ b → b < result.1
-            → slice_index self.now.of b ≡ slice_index self.now.of byte }
-    {
-        let last = self.lasts[self.of[byte as usize] as usize];
-        (self.first(byte) as usize, last as usize + 1)
     }
 }
 
@@ -72,7 +58,6 @@ fn number_classes(begins: &[u8; 256]) -> ByteClasses
 {
     let mut of = [0; 256];
     let mut firsts = [0; 256];
-    let mut lasts = [0; 256];
     let mut last = 0u8;
     let mut first = 0u8;
     for byte in 1..256usize {
@@ -82,12 +67,10 @@ fn number_classes(begins: &[u8; 256]) -> ByteClasses
         }
         of[byte] = last;
         firsts[byte] = first;
-        lasts[last as usize] = byte as u8;
     }
     ByteClasses {
         of,
         firsts,
-        lasts,
         count: u16::from(last) + 1,
     }
 }

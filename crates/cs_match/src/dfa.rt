@@ -1,34 +1,43 @@
 // Lazy DFA (RE2): subset construction on demand over Glushkov positions (`specs/Glushkov.antt`), with a bounded cache
 // of states that is cleared when it is full.
-ghost use Rattle.std.specs.Prelude.{◌≡◌, ◌≢◌, ◌↔◌, ◌+◌, ◌<◌, ◌≤◌, ◌*◌, ◌/◌, ◌-◌, ℕ, IfOk, IsTrue, MatchOption, EachIndex, length, vec_len, replicate, slice_index, slice_index_or, slice_set, true, false};
+ghost use Rattle.std.specs.Prelude.{◌≡◌, ◌≢◌, ◌↔◌, ◌+◌, ◌-◌, ◌<◌, ◌≤◌, ◌*◌, ◌/◌, ℕ, Bool, List, IfOk, IsTrue, MatchOption, nat_eq, length, vec_capacity, true, false};
 ghost use Rattle.cs_syntax.specs.Matching.{HasMatch};
-ghost use Rattle.cs_match.specs.Automaton.{GrowsOver};
 ghost use Rattle.cs_match.specs.Work.{words, step_work, byte_work, line_work};
+ghost use Rattle.cs_match.specs.Deciding.{Decides};
+ghost use Rattle.cs_match.specs.Scan.{RulesOutLines};
+ghost use Rattle.cs_match.specs.Table.{next_number, IsRow, HasRows};
 ghost use Rattle.cs_match.specs.FirstMatch.{AcceptsFirst, AreScanned, HasScanned, scanned_bytes};
 ghost use Rattle.cs_match.specs.Lines.{newline};
 ghost use Rattle.cs_match.specs.Skipping.{AreWholeLines};
-ghost use Rattle.cs_match.specs.Glushkov.{position_count, IsExpanded, cuts_of};
+ghost use Rattle.cs_match.specs.Glushkov.{position_count, cuts_of};
 ghost use Rattle.cs_match.specs.Digits.{IsBlock};
 ghost use Rattle.cs_match.specs.Masks.{IsScratch};
 ghost use Rattle.cs_match.specs.States.{start, successor, accepts_before, IsDead};
-ghost use Rattle.cs_match.specs.LazyDfa.{blank_transition};
+ghost use Rattle.cs_match.specs.LazyDfa.{first_cell, AreFirstRows, AreFirstStates, match_number, dead_number, start_number};
 ghost use Rattle.cs_match.specs.declared.state.State.{State};
-ghost use Rattle.cs_match.specs.ConsistentDfa.{IsConsistent, HasState, LeadsIn, TakesWork, tree_in, state_in, accepts_from, successor_in};
+ghost use Rattle.cs_match.specs.ConsistentDfa.{IsConsistent, HasSlot, IsInSlot, HasState, HasTransition, LeadsIn, tree_in, count_in, state_in};
 ghost use Rattle.cs_prefilter.specs.CountsAtMost.{CountsAtMost};
 
+use crate::byte_classes::ByteClasses;
+use crate::cached_states::{CachedStates, MOST_PROBES};
 use crate::glushkov::Scratch;
-use crate::interleaved_scan::{FIRST_SPECIAL, MATCH, line_end};
+use crate::interleaved_scan::line_end;
 use crate::program::Program;
 use crate::state::State;
+use crate::table::Table;
 use cs_prefilter::Steps;
-use memchr::memchr_iter;
 use std::alloc::{AllocError, Global};
 
-/// The number of the unknown state: the transition is not computed yet. No cached state has this number or that of
-/// `MATCH`.
-const UNKNOWN: u16 = 0xFF00;
-/// The size of the state cache.
-const MOST_STATES: usize = 254;
+/// The most cells of the transition table: 128 KB.
+const CELLS: usize = 65536;
+/// The first states: a start state, three special ones, and the start state.
+const FIRST: usize = 5;
+/// The slot of the start state.
+const START: usize = 4;
+/// The least states, if the table has room for them.
+const LEAST_STATES: usize = 254;
+/// The most words of the position sets of more states: 2 MB.
+const MOST_WORDS: usize = 262144;
 
 /// The end of the scanned bytes, and the number of the state there.
 #[derive(Clone, Copy)]
@@ -40,16 +49,12 @@ struct Scanned {
 /// The cached states and their transitions.
 #[derive(Drop)]
 pub(crate) struct StateCache {
-    /// The transition table: 256 state numbers for each state.
-    pub(crate) transitions: Vec<u16>,
-    /// The cached states. The first is the start state.
-    pub(crate) cached: Vec<State>,
-    /// A byte of hash for each cached state, compared before the states.
-    pub(crate) hashes: [u8; 256],
-    /// The number of cached states.
-    pub(crate) used: usize,
-    /// The number of a cached dead state, or `UNKNOWN`: no rest of the line is accepted from it.
-    pub(crate) dead: u16,
+    /// The transition table: a row for each state, with a cell for each class of bytes.
+    pub(crate) cells: Vec<u16>,
+    /// The classes of the program.
+    pub(crate) classes: ByteClasses,
+    /// The cached states.
+    pub(crate) cached: CachedStates,
     /// The state under construction.
     pub(crate) scratch: State,
     /// The memory of the steps.
@@ -63,152 +68,145 @@ pub(crate) struct LazyDfa<'a> {
     pub(crate) states: StateCache,
 }
 
-/// A full cache of copies of the start state.
-fn start_states(alloc: Global, program: &Program) -> Result<Vec<State>, AllocError>
-    ensures { IfOk result (λ cached. cached.items ≡ replicate 254 (start program.now)) }
+/// The most states of a program with so many classes, whose sets have so many words.
+fn most_states(classes: usize, words: usize) -> usize
+    requires some { 0 < classes }
+    requires few { classes ≤ 256 }
+    ensures room { result * classes ≤ 65536 }
+    ensures more { 6 ≤ result }
+    ensures slots { result < 65536 }
 {
-    let mut cached = Vec::with_capacity(alloc, MOST_STATES)?;
-    for i in 0..MOST_STATES {
-        let slot = State::new(alloc, program)?;
-        cached.push(slot)?;
+    let rows = (CELLS / classes).min(u16::MAX as usize);
+    rows.min((MOST_WORDS / words.max(1)).max(LEAST_STATES))
+}
+
+/// The first states of a program with so many classes: five times the start state.
+fn first_states(alloc: Global, classes: usize, start: &State) -> Result<CachedStates, AllocError>
+    requires some { 0 < classes }
+    requires few { classes ≤ 256 }
+    ensures { IfOk result (AreFirstStates classes start.now) }
+{
+    let count = start.positions.len();
+    let most = most_states(classes, count.div_ceil(64));
+    let mut states = CachedStates::new(alloc, most, count)?;
+    let place = states.find(start).place;
+    for slot in 0..FIRST {
+        states.push(start, place);
     }
-    Ok(cached)
+    Ok(states)
 }
 
-/// Makes every transition unknown, except those of the match state.
-fn reset(transitions: &mut [u16])
-    requires { length transitions.old ≡ 65536 }
-    ensures length { length transitions.new ≡ length transitions.old }
-    ensures blank { EachIndex transitions.new (λ k. slice_index transitions.new k
-        ≡ blank_transition k) }
+/// The cell at an index of the first rows.
+fn first_cell(classes: &ByteClasses, index: usize) -> u16
+    requires { classes.now.count ≤ 256 }
+    ensures { result ≡ first_cell classes.now index }
 {
-    transitions.fill(UNKNOWN);
-    put_range(transitions, MATCH, 0, 256, MATCH);
+    let count = classes.count as usize;
+    let newline = classes.of[b'\n' as usize] as usize;
+    let slot = if index == 3 * count + newline {
+        START
+    } else if index < 2 * count {
+        1
+    } else if index < 3 * count {
+        2
+    } else if index < 4 * count {
+        3
+    } else {
+        1
+    };
+    (slot * count) as u16
 }
 
-/// A transition table in which no transition is known.
-fn blank(alloc: Global) -> Result<Vec<u16>, AllocError>
-    ensures { IfOk result (λ transitions. (length transitions.items ≡ 65536)
-        × EachIndex transitions.items (λ k. slice_index transitions.items k ≡ blank_transition k)) }
+/// Makes this the table of the first rows, in which no transition is known.
+fn write_first(cells: &mut Vec<u16>, classes: &ByteClasses)
+    requires few { classes.now.count ≤ 256 }
+    requires room { 65536 ≤ vec_capacity cells.old }
+    ensures rows { AreFirstRows classes.now cells.new.items }
+    ensures room { 65536 ≤ vec_capacity cells.new }
 {
-    let mut transitions = vec![in alloc; UNKNOWN; 65536]?;
-    reset(&mut transitions);
-    Ok(transitions)
-}
-
-/// The index of a cached state that equals this one and has its hash, if there is one.
-fn find(
-    cached: &[State],
-    hashes: &[u8],
-    hash: u8,
-    state: &State,
-    steps: &mut Steps,
-) -> Option<usize>
-    requires { length hashes.now ≤ length cached.now }
-    ensures found { MatchOption result (Unit {0})
-        (λ slot. (slot < length hashes.now) × (slice_index_or cached.now slot state.now ≡ state.now)) }
-    ensures cost { CountsAtMost (length hashes.now * (words (length state.now.positions) + 1))
-        steps.old steps.new }
-{
-    steps.add(hashes.len());
-    for slot in memchr_iter(hash, hashes) {
-        if cached[slot].is_same(state, steps) {
-            return Some(slot);
-        }
-    }
-    None
-}
-
-/// Stores a transition of a state for the bytes from `low` to before `high`.
-fn put_range(transitions: &mut [u16], from: u16, low: usize, high: usize, next: u16)
-    requires room { from + high ≤ length transitions.old }
-    ensures length { length transitions.new ≡ length transitions.old }
-    ensures inside { (b : ℕ) → low ≤ b → b < high → slice_index transitions.new (from + b) ≡ next }
-    ensures before { (k : ℕ) → k < from + low
-        → slice_index transitions.new k ≡ slice_index transitions.old k }
-    ensures after { (k : ℕ) → from + high ≤ k
-        → slice_index transitions.new k ≡ slice_index transitions.old k }
-{
-    for byte in low..high {
-        transitions[from as usize + byte] = next;
+    cells.clear();
+    for index in 0..FIRST * classes.count as usize {
+        cells.push(first_cell(classes, index)).unwrap();
     }
 }
 
-/// Copies a state into the cache.
-fn put_state(cached: &mut [State], slot: usize, state: &State, steps: &mut Steps)
-    requires within { slot < length cached.old }
-    requires positions { length (slice_index_or cached.old slot state.now).positions
-        ≡ length state.now.positions }
-    ensures put { cached.new ≡ slice_set cached.old slot state.now }
-    ensures cost { steps.new.count ≡ steps.old.count + words (length state.now.positions) }
-{
-    cached[slot].copy_from(state, steps);
-}
-
-/// Computes the successor of a state over a byte, and returns whether the state accepts before the byte.
-fn step_from(
+/// Makes the state its successor over a byte, and returns whether it accepts before the byte.
+fn step_over(
     program: &Program,
-    from: &State,
-    next: &mut State,
+    state: &mut State,
     memory: &mut Scratch,
     byte: u8,
     steps: &mut Steps,
 ) -> bool
-    requires positions { length from.now.positions ≡ position_count program.now }
-    requires room { length next.old.positions ≡ position_count program.now }
-    requires block { IsBlock (cuts_of program.now) from.now.unfinished }
+    requires positions { length state.old.positions ≡ position_count program.now }
+    requires block { IsBlock (cuts_of program.now) state.old.unfinished }
     requires memory { IsScratch program.now memory.old }
-    ensures accepting { result ≡ accepts_before program.now from.now byte }
-    ensures moved { next.new ≡ successor program.now from.now byte }
+    ensures accepting { result ≡ accepts_before program.now state.old byte }
+    ensures moved { state.new ≡ successor program.now state.old byte }
     ensures memory { IsScratch program.now memory.new }
-    ensures cost { CountsAtMost (words (position_count program.now) + step_work program.now)
-        steps.old steps.new }
+    ensures cost { CountsAtMost (step_work program.now) steps.old steps.new }
 {
-    next.copy_from(from, steps);
     // All bytes of the class have the same successor, so that one mask serves them.
     let first = program.byte_classes().first(byte);
-    next.step_over(program, memory, first, steps)
+    state.step_over(program, memory, first, steps)
 }
 
 impl<'a> LazyDfa<'a> {
-    /// A DFA whose cache has only the start state.
+    /// A DFA whose cache has only the first states.
     pub(crate) fn new(alloc: Global, program: &'a Program) -> Result<LazyDfa<'a>, AllocError>
         ensures { IfOk result (λ dfa. (tree_in dfa ≡ program.now)
-            × IsConsistent dfa × (dfa.states.used ≡ 1)) }
+            × IsConsistent dfa × (length dfa.states.cached.items ≡ 5)) }
     {
-        let cached = start_states(alloc, program)?;
+        let classes = *program.byte_classes();
         let scratch = State::new(alloc, program)?;
-        let mut hashes = [0; 256];
-        hashes[0] = scratch.hash();
+        let cached = first_states(alloc, classes.count as usize, &scratch)?;
         let memory = Scratch::new(alloc, program)?;
-        let transitions = blank(alloc)?;
+        let mut cells = Vec::with_capacity(alloc, CELLS)?;
+        write_first(&mut cells, &classes);
         let states = StateCache {
-            transitions,
+            cells,
+            classes,
             cached,
-            hashes,
-            used: 1,
-            dead: UNKNOWN,
             scratch,
             memory,
         };
         Ok(LazyDfa { program, states })
     }
 
+    /// The transition table.
+    #[inline(always)]
+    pub(crate) fn table(&self) -> Table<'_>
+        requires { IsConsistent self.now }
+        ensures rows { HasRows result }
+        ensures count { result.count ≡ count_in self.now }
+        ensures row { (number : ℕ) (state : State) → HasState self.now number state → IsRow result number }
+        ensures next { (number b : ℕ) (state : State) → b < 256 → HasState self.now number state →
+            HasTransition self.now state b (next_number result number b) }
+        ensures slot { (number b : ℕ) (state : State) → b < 256 → HasState self.now number state →
+            next_number result number b ≡ count_in self.now → IsInSlot self.now (number / count_in self.now) state }
+        ensures skips { (has_match : List ℕ → Bool) → Decides has_match (tree_in self.now) → RulesOutLines has_match result }
+    {
+        Table {
+            cells: &self.states.cells,
+            of: &self.states.classes.of,
+            count: self.states.classes.count as usize,
+        }
+    }
+
     /// The transition of a state over a byte, computed first if it is unknown. A newline is the end of the line.
     #[inline(always)]
     fn next(&mut self, from: u16, byte: u8, steps: &mut Steps) -> u16
         requires right { IsConsistent self.old }
-        requires number { HasState self.old from (state_in self.old from) }
-        ensures leads { LeadsIn self.new (state_in self.old from) byte result }
+        requires number { (state : State) × HasState self.old from state }
+        ensures leads { (state : State) → HasState self.old from state → LeadsIn self.new state byte result }
         ensures right { IsConsistent self.new }
         ensures same { tree_in self.new ≡ tree_in self.old }
-        ensures states { GrowsOver 1 self.old.states.used self.new.states.used }
-        ensures work { TakesWork (byte_work (tree_in self.old)) self.old steps.old self.new steps.new }
+        ensures work { CountsAtMost (byte_work (tree_in self.old) - 1) steps.old steps.new }
     {
         steps.add(1);
-        let next = self.states.transitions[(from | u16::from(byte)) as usize];
-        if next == UNKNOWN {
-            self.fill(from, byte, steps)
+        let next = self.table().next(from, byte);
+        if next == self.states.classes.count {
+            self.fill((from / self.states.classes.count) as usize, byte, steps)
         } else {
             next
         }
@@ -220,11 +218,9 @@ impl<'a> LazyDfa<'a> {
         ensures found { IsTrue result ↔ HasMatch (tree_in self.old) line.now }
         ensures right { IsConsistent self.new }
         ensures same { tree_in self.new ≡ tree_in self.old }
-        ensures states { GrowsOver (length line.now + 1) self.old.states.used self.new.states.used }
-        ensures work { TakesWork (line_work (tree_in self.old) (length line.now))
-            self.old steps.old self.new steps.new }
+        ensures work { CountsAtMost (line_work (tree_in self.old) (length line.now)) steps.old steps.new }
     {
-        let mut number = 0;
+        let mut number = self.start();
         for b in line {
             // The transition table reads a newline as the end of the line.
             if *b == b'\n' {
@@ -234,11 +230,40 @@ impl<'a> LazyDfa<'a> {
                     .search(self.program, &mut self.states.memory, line, steps);
             }
             number = self.next(number, *b, steps);
-            if number == MATCH {
+            if self.is_found(number) {
                 return true;
             }
         }
-        self.next(number, b'\n', steps) == MATCH
+        let last = self.next(number, b'\n', steps);
+        self.is_found(last)
+    }
+
+    /// The number of the start state.
+    #[inline(always)]
+    fn start(&self) -> u16
+        requires { IsConsistent self.now }
+        ensures number { result ≡ start_number (count_in self.now) }
+        ensures state { HasState self.now result (start (tree_in self.now)) }
+    {
+        START as u16 * self.states.classes.count
+    }
+
+    /// Whether the number is that of the match state.
+    #[inline(always)]
+    fn is_found(&self, number: u16) -> bool
+        requires { IsConsistent self.now }
+        ensures { result ≡ nat_eq number (match_number (count_in self.now)) }
+    {
+        number == 2 * self.states.classes.count
+    }
+
+    /// Whether the number is that of the dead state.
+    #[inline(always)]
+    fn is_dead(&self, number: u16) -> bool
+        requires { IsConsistent self.now }
+        ensures { result ≡ nat_eq number (dead_number (count_in self.now)) }
+    {
+        number == 3 * self.states.classes.count
     }
 
     /// The offset of the byte before which the automaton accepts first, in a scan over the lines of a text.
@@ -250,28 +275,18 @@ impl<'a> LazyDfa<'a> {
             (AcceptsFirst (tree_in self.old) text.now) }
         ensures right { IsConsistent self.new }
         ensures same { tree_in self.new ≡ tree_in self.old }
-        ensures states { GrowsOver (length text.now) self.old.states.used self.new.states.used }
-        ensures work { TakesWork (scanned_bytes (length text.now) result * byte_work (tree_in self.old))
-            self.old steps.old self.new steps.new }
+        ensures work { CountsAtMost (scanned_bytes (length text.now) result * byte_work (tree_in self.old))
+            steps.old steps.new }
     {
         let mut to = 0;
-        let mut number = 0;
+        let mut number = self.start();
         'scan: while to < text.len() {
-            let known = self.scan_known(text, Scanned { to, number });
-            steps.add(known.to - to);
+            let known = self.scan_lines(text, Scanned { to, number }, steps);
             if known.to == text.len() {
                 return None;
             }
-            let byte = text[known.to];
-            if known.number == self.states.dead && byte != b'\n' {
-                // The interleaved scan goes on in a dead state, so the transition is computed.
-                self.next(known.number, byte, steps);
-                to = line_end(text, known.to, steps) + 1;
-                number = 0;
-                continue 'scan;
-            }
-            number = self.next(known.number, byte, steps);
-            if number == MATCH {
+            number = self.next(known.number, text[known.to], steps);
+            if self.is_found(number) {
                 return Some(known.to);
             }
             to = known.to + 1;
@@ -279,8 +294,27 @@ impl<'a> LazyDfa<'a> {
         None
     }
 
-    /// Scans up to the first byte whose transition is special, or that is reached in the dead state. The column of a
-    /// byte does not depend on the state, so that a step waits for one load alone.
+    /// Scans up to the first byte whose transition is special, or from a dead state to the end of its line.
+    fn scan_lines(&self, text: &[u8], from: Scanned, steps: &mut Steps) -> Scanned
+        requires right { IsConsistent self.now }
+        requires whole { AreWholeLines text.now }
+        requires from { HasScanned self.now text.now from.to from.number }
+        ensures low { from.to ≤ result.to }
+        ensures scanned { HasScanned self.now text.now result.to result.number }
+        ensures work { CountsAtMost (result.to + 1 - from.to) steps.old steps.new }
+    {
+        let known = self.scan_known(text, from);
+        steps.add(known.to - from.to);
+        if known.to < text.len() && self.is_dead(known.number) {
+            return Scanned {
+                to: line_end(text, known.to, steps),
+                number: known.number,
+            };
+        }
+        known
+    }
+
+    /// Scans up to the first byte whose transition is special.
     #[inline(always)]
     fn scan_known(&self, text: &[u8], from: Scanned) -> Scanned
         requires right { IsConsistent self.now }
@@ -288,16 +322,12 @@ impl<'a> LazyDfa<'a> {
         ensures low { from.to ≤ result.to }
         ensures scanned { HasScanned self.now text.now result.to result.number }
     {
-        let transitions = &self.states.transitions[..];
-        let dead = self.states.dead;
+        let table = self.table();
+        let start = self.start();
         let mut number = from.number;
         for to in from.to..text.len() {
-            if number == dead {
-                return Scanned { to, number };
-            }
-            let column = &transitions[text[to] as usize..];
-            let next = column[number as usize];
-            if next >= FIRST_SPECIAL {
+            let next = table.next(number, text[to]);
+            if next < start {
                 return Scanned { to, number };
             }
             number = next;
@@ -311,75 +341,77 @@ impl<'a> LazyDfa<'a> {
     /// Computes an unknown transition and stores it.
     #[cold]
     #[inline(never)]
-    fn fill(&mut self, from: u16, byte: u8, steps: &mut Steps) -> u16
+    fn fill(&mut self, slot: usize, byte: u8, steps: &mut Steps) -> u16
         requires right { IsConsistent self.old }
-        requires number { HasState self.old from (state_in self.old from) }
-        ensures leads { LeadsIn self.new (state_in self.old from) byte result }
+        requires slot { HasSlot self.old slot }
+        ensures leads { LeadsIn self.new (state_in self.old slot) byte result }
         ensures right { IsConsistent self.new }
         ensures same { tree_in self.new ≡ tree_in self.old }
-        ensures states { GrowsOver 1 self.old.states.used self.new.states.used }
-        ensures work { TakesWork (byte_work (tree_in self.old) - 1) self.old steps.old self.new steps.new }
+        ensures work { CountsAtMost (byte_work (tree_in self.old) - 2) steps.old steps.new }
     {
-        if step_from(
+        steps.add(self.states.scratch.positions.len().div_ceil(64));
+        self.states.cached.load(slot, &mut self.states.scratch);
+        if step_over(
             self.program,
-            &self.states.cached[(from >> 8) as usize],
             &mut self.states.scratch,
             &mut self.states.memory,
             byte,
             steps,
         ) {
-            self.put(from, byte, MATCH, steps);
-            return MATCH;
+            let found = 2 * self.states.classes.count;
+            self.put(slot, byte, found);
+            return found;
         }
         if byte == b'\n' {
-            self.put(from, byte, 0, steps);
-            return 0;
+            let start = self.start();
+            self.put(slot, byte, start);
+            return start;
         }
-        self.next_number(from, byte, steps)
+        self.next_number(slot, byte, steps)
     }
 
-    /// The number of the state under construction, which is cached if it is new. It is the successor of `from` over a
-    /// byte of the line, and `from` does not accept before the byte.
-    fn next_number(&mut self, from: u16, byte: u8, steps: &mut Steps) -> u16
+    /// The number of the state under construction, which is cached if it is new. It is the successor of the state in the
+    /// slot over a byte of the line, and that state does not accept before the byte.
+    fn next_number(&mut self, slot: usize, byte: u8, steps: &mut Steps) -> u16
         requires right { IsConsistent self.old }
-        requires number { HasState self.old from (state_in self.old from) }
+        requires slot { HasSlot self.old slot }
         requires within { byte ≢ newline }
-        requires stays { accepts_from self.old from byte ≡ false }
-        requires scratch { self.old.states.scratch ≡ successor_in self.old from byte }
-        ensures leads { LeadsIn self.new (state_in self.old from) byte result }
+        requires stays { accepts_before (tree_in self.old) (state_in self.old slot) byte ≡ false }
+        requires scratch { self.old.states.scratch ≡ successor (tree_in self.old) (state_in self.old slot) byte }
+        ensures leads { LeadsIn self.new (state_in self.old slot) byte result }
         ensures right { IsConsistent self.new }
         ensures same { tree_in self.new ≡ tree_in self.old }
-        ensures states { GrowsOver 1 self.old.states.used self.new.states.used }
-        ensures work { TakesWork (256 * words (position_count (tree_in self.old)) + 1026)
-            self.old steps.old self.new steps.new }
+        ensures work { CountsAtMost (11 * words (position_count (tree_in self.old)) + 10 + 6 * 256) steps.old steps.new }
     {
-        let hash = self.states.scratch.hash();
-        steps.add(self.states.scratch.positions.len().div_ceil(64));
-        if let Some(slot) = find(
-            &self.states.cached,
-            &self.states.hashes[..self.states.used],
-            hash,
-            &self.states.scratch,
-            steps,
-        ) {
-            let next = slot as u16 * 256;
-            self.put(from, byte, next, steps);
+        let count = self.states.classes.count;
+        let words = self.states.scratch.positions.len().div_ceil(64);
+        steps.add((MOST_PROBES + 2) * (words + 1) + (FIRST + 1) * count as usize);
+        if self.is_lost(steps) {
+            let dead = 3 * count;
+            self.put(slot, byte, dead);
+            return dead;
+        }
+        let found = self.states.cached.find(&self.states.scratch);
+        if let Some(other) = found.slot
+            && other >= START
+        {
+            let next = (other * count as usize) as u16;
+            self.put(slot, byte, next);
             return next;
         }
-        if self.states.used == MOST_STATES {
-            // `from` is no longer cached, so its transition is not stored.
-            self.empty(steps);
-            return self.add(hash, false, steps);
+        if self.states.cached.len() == self.states.cached.most() {
+            // The slot is no longer that of the state, so the transition is not stored.
+            self.empty();
+            return self.add(found.place);
         }
-        let is_dead = self.is_dead(steps);
-        let next = self.add(hash, is_dead, steps);
-        self.put(from, byte, next, steps);
+        let next = self.add(found.place);
+        self.put(slot, byte, next);
         next
     }
 
     /// Whether the state under construction is known to be dead: each match begins at the start of the line, and no
     /// position is in the set.
-    fn is_dead(&self, steps: &mut Steps) -> bool
+    fn is_lost(&self, steps: &mut Steps) -> bool
         requires right { IsConsistent self.now }
         requires later { self.now.states.scratch.first ≡ false }
         ensures dead { result ≡ true → IsDead (tree_in self.now) self.now.states.scratch }
@@ -389,58 +421,48 @@ impl<'a> LazyDfa<'a> {
     }
 
     /// Stores a transition for all bytes of the class.
-    fn put(&mut self, from: u16, byte: u8, next: u16, steps: &mut Steps)
+    fn put(&mut self, slot: usize, byte: u8, next: u16)
         requires right { IsConsistent self.old }
-        requires number { HasState self.old from (state_in self.old from) }
-        requires leads { LeadsIn self.old (state_in self.old from) byte next }
-        ensures leads { LeadsIn self.new (state_in self.old from) byte next }
+        requires slot { HasSlot self.old slot }
+        requires leads { LeadsIn self.old (state_in self.old slot) byte next }
+        ensures leads { LeadsIn self.new (state_in self.old slot) byte next }
         ensures right { IsConsistent self.new }
         ensures same { tree_in self.new ≡ tree_in self.old }
-        ensures states { self.new.states.used ≡ self.old.states.used }
-        ensures work { CountsAtMost 512 steps.old steps.new }
     {
-        let class = self.program.byte_classes().range(byte);
-        steps.add(2 * (class.1 - class.0));
-        put_range(&mut self.states.transitions, from, class.0, class.1, next);
+        let class = self.states.classes.of[byte as usize] as usize;
+        let cell = slot * self.states.classes.count as usize + class;
+        self.states.cells[cell] = next;
     }
 
     /// Caches the state under construction, and returns its number.
-    fn add(&mut self, hash: u8, is_dead: bool, steps: &mut Steps) -> u16
+    fn add(&mut self, place: usize) -> u16
         requires right { IsConsistent self.old }
-        requires room { self.old.states.used < 254 }
+        requires room { length self.old.states.cached.items < self.old.states.cached.most }
         requires block { IsBlock (cuts_of (tree_in self.old)) self.old.states.scratch.unfinished }
-        requires dead { is_dead ≡ true → IsDead (tree_in self.old) self.old.states.scratch }
         ensures number { HasState self.new result self.old.states.scratch }
-        ensures kept { (number : ℕ) (state : State) → HasState self.old number state
-            → HasState self.new number state }
+        ensures other { result ≢ 0 }
+        ensures kept { (slot : ℕ) → HasSlot self.old slot
+            → HasSlot self.new slot × (state_in self.new slot ≡ state_in self.old slot) }
         ensures right { IsConsistent self.new }
         ensures same { tree_in self.new ≡ tree_in self.old }
-        ensures states { self.new.states.used ≡ self.old.states.used + 1 }
-        ensures work { steps.new.count ≡ steps.old.count + words (position_count (tree_in self.old)) }
     {
-        let slot = self.states.used;
-        put_state(&mut self.states.cached, slot, &self.states.scratch, steps);
-        self.states.hashes[slot] = hash;
-        self.states.used = slot + 1;
-        let number = slot as u16 * 256;
-        if is_dead {
-            self.states.dead = number;
-        }
-        number
+        let count = self.states.classes.count;
+        let slot = self.states.cached.len();
+        self.states.cached.push(&self.states.scratch, place);
+        let len = self.states.cells.len() + count as usize;
+        self.states.cells.resize(len, count).unwrap();
+        (slot * count as usize) as u16
     }
 
-    /// Clears the cache except for the start state.
-    fn empty(&mut self, steps: &mut Steps)
+    /// Clears the cache except for the first states.
+    fn empty(&mut self)
         requires right { IsConsistent self.old }
-        ensures one { self.new.states.used ≡ 1 }
+        ensures room { length self.new.states.cached.items < self.new.states.cached.most }
         ensures scratch { self.new.states.scratch ≡ self.old.states.scratch }
         ensures right { IsConsistent self.new }
         ensures same { tree_in self.new ≡ tree_in self.old }
-        ensures work { steps.new.count ≡ steps.old.count + 65536 }
     {
-        steps.add(self.states.transitions.len());
-        reset(&mut self.states.transitions);
-        self.states.used = 1;
-        self.states.dead = UNKNOWN;
+        self.states.cached.truncate(FIRST);
+        write_first(&mut self.states.cells, &self.states.classes);
     }
 }

@@ -1,23 +1,19 @@
 // Interleaved scan: six lanes scan chunks of a block by the transition table, and chunks without a match are skipped.
 // The two special states absorb, so that a lane has no branch for a byte. The scan knows nothing of patterns;
 // `specs/Scan.antt` says what it returns and what the table has to guarantee.
-ghost use Rattle.std.specs.Prelude.{◌≡◌, ◌≤◌, ◌<◌, ◌+◌, ◌-◌, ◌*◌, ◌∷◌, ℕ, [], map, min, true, bit_or, length, slice_range, slice_index, drop};
+ghost use Rattle.std.specs.Prelude.{◌≡◌, ◌≤◌, ◌<◌, ◌+◌, ◌-◌, ◌*◌, ◌∷◌, ℕ, [], map, min, true, length, slice_range, slice_index, drop};
 ghost use Rattle.cs_match.specs.Lines.{newline};
 ghost use Rattle.cs_match.specs.NoNewline.{HasNoNewline};
 ghost use Rattle.cs_match.specs.Skipped.{AreSkipped};
 ghost use Rattle.cs_match.specs.Skipping.{AreWholeLines};
-ghost use Rattle.cs_match.specs.Scan.{state_after, first_special, RulesOutLines};
+ghost use Rattle.cs_match.specs.Scan.{RulesOutLines};
+ghost use Rattle.cs_match.specs.Table.{number_after, start, IsRow, HasRows};
 ghost use Rattle.cs_match.specs.Work.{most_batch};
 ghost use Rattle.cs_prefilter.specs.CountsAtMost.{CountsAtMost};
 
+use crate::table::Table;
 use cs_prefilter::Steps;
 use memchr::memchr;
-
-/// The match state: the line has a match, whatever follows in it.
-pub(crate) const MATCH: u16 = 0xFE00;
-
-/// The special states, match and unknown, begin at this number.
-pub(crate) const FIRST_SPECIAL: u16 = MATCH;
 
 /// The least size of a chunk in bytes, except at the end of a block.
 const CHUNK: usize = 512;
@@ -31,24 +27,15 @@ pub(crate) const BATCH: usize = 3072;
 /// The most bytes of a batch that is scanned. What a scan reads in vain, as the first chunk has a match, is bounded by it.
 const MOST_BATCH: usize = 98304;
 
-/// The state after one more byte.
-#[inline(always)]
-fn next(transitions: &[u16], state: u16, byte: u8) -> u16
-    requires { length transitions.now ≡ 65536 }
-    ensures { result ≡ slice_index transitions.now (bit_or state byte) }
-{
-    transitions[(state | u16::from(byte)) as usize]
-}
-
 /// The state after the text.
-#[tactic(auto, using(crate::proofs::ScanLemmas::after_more, crate::proofs::ScanLemmas::after_all), unfolding(crate::specs::Scan::state_after))]
-fn scan(transitions: &[u16], from: u16, text: &[u8]) -> u16
-    requires { length transitions.now ≡ 65536 }
-    ensures { result ≡ state_after transitions.now from text.now }
+fn scan(table: Table<'_>, from: u16, text: &[u8]) -> u16
+    requires rows { HasRows table }
+    requires row { IsRow table from }
+    ensures { result ≡ number_after table.entry from text.now }
 {
     let mut state = from;
     for byte in text {
-        state = next(transitions, state, *byte);
+        state = table.next(state, *byte);
     }
     state
 }
@@ -114,9 +101,9 @@ struct Chunks<'a> {
 }
 
 /// The states after six chunks, scanned in interleaved lanes from the start state.
-fn six_lanes(transitions: &[u16], chunks: Chunks) -> [u16; 6]
-    requires { length transitions.now ≡ 65536 }
-    ensures { result ≡ map (state_after transitions.now 0)
+fn six_lanes(table: Table<'_>, chunks: Chunks) -> [u16; 6]
+    requires { HasRows table }
+    ensures { result ≡ map (number_after table.entry (start table.entry))
         (chunks.entry.a.now ∷ chunks.entry.b.now ∷ chunks.entry.c.now
         ∷ chunks.entry.d.now ∷ chunks.entry.e.now ∷ chunks.entry.f.now ∷ []) }
 {
@@ -128,36 +115,36 @@ fn six_lanes(transitions: &[u16], chunks: Chunks) -> [u16; 6]
         .min(d.len())
         .min(e.len())
         .min(f.len());
-    let mut s = 0u16;
-    let mut t = 0u16;
-    let mut u = 0u16;
-    let mut v = 0u16;
-    let mut w = 0u16;
-    let mut x = 0u16;
+    let mut s = table.start();
+    let mut t = table.start();
+    let mut u = table.start();
+    let mut v = table.start();
+    let mut w = table.start();
+    let mut x = table.start();
     for i in 0..n {
-        s = next(transitions, s, a[i]);
-        t = next(transitions, t, b[i]);
-        u = next(transitions, u, c[i]);
-        v = next(transitions, v, d[i]);
-        w = next(transitions, w, e[i]);
-        x = next(transitions, x, f[i]);
+        s = table.next(s, a[i]);
+        t = table.next(t, b[i]);
+        u = table.next(u, c[i]);
+        v = table.next(v, d[i]);
+        w = table.next(w, e[i]);
+        x = table.next(x, f[i]);
     }
-    s = scan(transitions, s, &a[n..]);
-    t = scan(transitions, t, &b[n..]);
-    u = scan(transitions, u, &c[n..]);
-    v = scan(transitions, v, &d[n..]);
-    w = scan(transitions, w, &e[n..]);
-    x = scan(transitions, x, &f[n..]);
+    s = scan(table, s, &a[n..]);
+    t = scan(table, t, &b[n..]);
+    u = scan(table, u, &c[n..]);
+    v = scan(table, v, &d[n..]);
+    w = scan(table, w, &e[n..]);
+    x = scan(table, x, &f[n..]);
     [s, t, u, v, w, x]
 }
 
 /// How many leading states are ordinary.
-fn ordinary_prefix(states: &[u16]) -> usize
+fn ordinary_prefix(states: &[u16], start: u16) -> usize
     ensures most { result ≤ length states.now }
-    ensures ordinary { (k : ℕ) → k < result → slice_index states.now k < first_special }
+    ensures ordinary { (k : ℕ) → k < result → start ≤ slice_index states.now k }
 {
     for (i, state) in states.iter().enumerate() {
-        if *state >= FIRST_SPECIAL {
+        if *state < start {
             return i;
         }
     }
@@ -172,11 +159,11 @@ struct Skipped {
 }
 
 /// Skips the leading chunks of a batch whose scans end in ordinary states, and no chunks of a batch that is too long.
-fn skip_batch(transitions: &[u16], block: &[u8], from: usize, steps: &mut Steps) -> Skipped
-    requires full { length transitions.now ≡ 65536 }
+fn skip_batch(table: Table<'_>, block: &[u8], from: usize, steps: &mut Steps) -> Skipped
+    requires rows { HasRows table }
     requires within { from ≤ length block.now }
     requires whole { AreWholeLines (drop from block.now) }
-    ensures skipped { AreSkipped (λ has_match. RulesOutLines has_match transitions.now)
+    ensures skipped { AreSkipped (λ has_match. RulesOutLines has_match table.entry)
         block.now from result.to }
     ensures moves { result.all ≡ true → from < length block.now → from < result.to }
     ensures all { result.all ≡ true → steps.new.count ≤ steps.old.count + 2 * (result.to - from) }
@@ -197,7 +184,7 @@ fn skip_batch(transitions: &[u16], block: &[u8], from: usize, steps: &mut Steps)
     }
     steps.add(f - from);
     let states = six_lanes(
-        transitions,
+        table,
         Chunks {
             a: &block[from..a],
             b: &block[a..b],
@@ -207,7 +194,7 @@ fn skip_batch(transitions: &[u16], block: &[u8], from: usize, steps: &mut Steps)
             f: &block[e..f],
         },
     );
-    let ordinary = ordinary_prefix(&states);
+    let ordinary = ordinary_prefix(&states, table.start());
     let ends = [from, a, b, c, d, e, f];
     Skipped {
         to: ends[ordinary],
@@ -218,15 +205,15 @@ fn skip_batch(transitions: &[u16], block: &[u8], from: usize, steps: &mut Steps)
 /// Skips batches while all their chunks are ordinary, then the leading ordinary chunks of the next batch. The
 /// returned offset is the start of a line or the end of the block.
 pub(crate) fn skip_interleaved(
-    transitions: &[u16],
+    table: Table<'_>,
     block: &[u8],
     from: usize,
     steps: &mut Steps,
 ) -> usize
-    requires full { length transitions.now ≡ 65536 }
+    requires rows { HasRows table }
     requires within { from ≤ length block.now }
     requires whole { AreWholeLines (drop from block.now) }
-    ensures skipped { AreSkipped (λ has_match. RulesOutLines has_match transitions.now)
+    ensures skipped { AreSkipped (λ has_match. RulesOutLines has_match table.entry)
         block.now from result }
     ensures rest { AreWholeLines (drop result block.now) }
     ensures most { CountsAtMost (2 * (result - from) + 2 * most_batch) steps.old steps.new }
@@ -234,7 +221,7 @@ pub(crate) fn skip_interleaved(
 {
     let mut offset = from;
     'batches: while offset < block.len() {
-        let skipped = skip_batch(transitions, block, offset, steps);
+        let skipped = skip_batch(table, block, offset, steps);
         if !skipped.all {
             return skipped.to;
         }

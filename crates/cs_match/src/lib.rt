@@ -6,6 +6,7 @@
 #![tactic(auto)]
 
 mod byte_classes;
+mod cached_states;
 mod chunks;
 mod dfa;
 mod expand;

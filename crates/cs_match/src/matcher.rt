@@ -1,7 +1,7 @@
 // Matchers: a lazy DFA (RE2) with the prefilters of its program, and the counters that choose between them.
 ghost use Rattle.std.specs.Prelude.{◌≡◌, ◌≤◌, ◌<◌, ◌+◌, ◌*◌, ◌-◌, ◌↔◌, ℕ, Bool, List, IsTrue, IfOk, IfSome, MatchOption, length, slice_range, drop, count_by};
 ghost use Rattle.cs_syntax.specs.Matching.{HasMatch};
-ghost use Rattle.cs_match.specs.Automaton.{GrowsOver, after_steps, most_states};
+ghost use Rattle.cs_match.specs.Automaton.{after_steps, most_states};
 ghost use Rattle.cs_match.specs.Deciding.{Decides};
 ghost use Rattle.cs_match.specs.FirstMatch.{IsFirstMatch};
 ghost use Rattle.cs_match.specs.Lines.{terminated_lines};
@@ -88,7 +88,7 @@ impl<'a> Matcher<'a> {
         ensures some { 1 ≤ result }
         ensures bound { result ≤ most_states }
     {
-        self.dfa.states.used
+        self.dfa.states.cached.len() - 4
     }
 
     /// Counts so many steps more, which a caller took for its search of the text. Does nothing when it runs.
@@ -98,20 +98,18 @@ impl<'a> Matcher<'a> {
         self.steps.add(count);
     }
 
-    /// Whether the line has a match, whatever was asked before. It allocates nothing. Lines of so many bytes together take
-    /// at most `line_work` for each, and at most `state_work` for each state that was cached before the first.
+    /// Whether the line has a match, whatever was asked before. It allocates nothing. It takes at most `line_work`
+    /// steps.
     pub fn is_match(&mut self, line: &[u8]) -> bool
         ensures found { IsTrue result ↔ HasMatch self.old.tree line.now }
         ensures same { self.new.tree ≡ self.old.tree }
-        ensures states { GrowsOver (length line.now + 1) self.old.states self.new.states }
         ensures work { WorksWithin (line_work self.old.tree (length line.now)) self.old self.new }
     {
         self.dfa.is_match(line, &mut self.steps)
     }
 
     /// The first line at or after `from` that has a match. The block is whole lines from there on. The steps are at most
-    /// `search_work` of the bytes up to the end of the line, or of the block if no line matches. The states that were
-    /// cached before pay for some of them, as in `is_match`.
+    /// `search_work` of the bytes up to the end of the line, or of the block if no line matches.
     pub fn next_match(&mut self, block: &[u8], from: usize) -> Option<Line>
         requires within { from ≤ length block.now }
         requires whole { AreWholeLines (drop from block.now) }
@@ -123,7 +121,6 @@ impl<'a> Matcher<'a> {
             (λ line. NoneMatch has_match
             (terminated_lines (slice_range block.now from line.start))) }
         ensures same { self.new.tree ≡ self.old.tree }
-        ensures states { GrowsOver (length block.now - from) self.old.states self.new.states }
         ensures work { WorksWithin (search_work self.old.tree (searched_bytes from (length block.now) result))
             self.old self.new }
     {
@@ -237,7 +234,7 @@ impl<'a> Matcher<'a> {
         requires whole { AreWholeLines (drop from block.now) }
         ensures { SearchesPart block.now from self.old self.new result }
     {
-        let start = skip_interleaved(&self.dfa.states.transitions, block, from, &mut self.steps);
+        let start = skip_interleaved(self.dfa.table(), block, from, &mut self.steps);
         let to = cut(block, start, &mut self.steps);
         let line = self.first_match(block, start, to);
         Searched {
@@ -257,7 +254,6 @@ impl<'a> Matcher<'a> {
             (AreSkipped (λ has_match. Decides has_match self.old.tree) block.now from to)
             (λ line. IsFirstMatch self.old.tree block.now from line.start line.end) }
         ensures same { self.new.tree ≡ self.old.tree }
-        ensures states { GrowsOver (to - from) self.old.states self.new.states }
         ensures work { WorksWithin (searched_bytes from to result * (byte_work self.old.tree + 2))
             self.old self.new }
     {

@@ -1,7 +1,7 @@
 // Sets of Glushkov positions as bit vectors.
-ghost use Rattle.std.specs.Prelude.{◌≡◌, ◌≢◌, ◌↔◌, ℕ, ◌+◌, ◌*◌, ◌<◌, ◌≤◌, ◌∷◌, ◌++◌, ◌==◌, ◌&&◌, ◌||◌, nat_le, true, false, IsTrue, IfOk, length, take, drop, replicate, slice_index_or, if◌then◌else◌};
+ghost use Rattle.std.specs.Prelude.{◌≡◌, ◌≢◌, ℕ, ◌+◌, ◌*◌, ◌<◌, ◌≤◌, ◌∷◌, ◌++◌, ◌==◌, ◌&&◌, ◌||◌, nat_le, true, false, IfOk, length, take, drop, replicate, slice_index_or, if◌then◌else◌};
 ghost use Rattle.std.specs.Int.{bit_at};
-ghost use Rattle.cs_match.specs.PositionSet.{has_from, has_bit_from, intersect, is_moved, is_selected};
+ghost use Rattle.cs_match.specs.PositionSet.{positions_of, IsPositionSet, has_from, has_bit_from, intersect, is_moved, is_selected};
 ghost use Rattle.cs_match.specs.Work.{words};
 
 use cs_prefilter::Steps;
@@ -79,19 +79,20 @@ impl PositionSet {
         self.words.fill(0);
     }
 
-    /// Copies a set for the same number of positions.
-    pub(crate) fn copy_from(&mut self, from: &PositionSet)
-        requires { length from.now ≡ length self.old }
-        ensures { self.new ≡ from.now }
+    /// The words of the set.
+    pub(crate) fn words(&self) -> &[u64]
+        ensures set { IsPositionSet result.now (length self.now) }
+        ensures same { positions_of result.now (length self.now) ≡ self.now }
     {
-        self.words.copy_from_slice(&from.words);
+        &self.words
     }
 
-    /// Whether both sets are equal.
-    pub(crate) fn is_same(&self, other: &PositionSet) -> bool
-        ensures { IsTrue result ↔ self.now ≡ other.now }
+    /// Makes this the set with these words.
+    pub(crate) fn copy_from(&mut self, words: &[u64])
+        requires { IsPositionSet words.now (length self.old) }
+        ensures { self.new ≡ positions_of words.now (length self.old) }
     {
-        self.count == other.count && self.words == other.words
+        self.words.copy_from_slice(words);
     }
 
     /// Adds the positions of `which`, a set that begins at position `from`, or removes them.
@@ -221,7 +222,7 @@ impl PositionSet {
     }
 
     /// A hash of the set and of the seed.
-    pub(crate) fn hash(&self, seed: u64) -> u8 {
+    pub(crate) fn hash(&self, seed: u64) -> u64 {
         let mut mixed = seed;
         for word in &self.words {
             // The high bits of a product depend on all bits of its factors, so they become the low ones.
@@ -229,7 +230,7 @@ impl PositionSet {
                 .wrapping_mul(0x9e37_79b9_7f4a_7c15)
                 .swap_bytes();
         }
-        (mixed & 0xff) as u8
+        mixed
     }
 }
 

@@ -57,31 +57,6 @@ impl State {
         self.unfinished = Unfinished::none();
     }
 
-    /// Copies a state of the same tree.
-    pub(crate) fn copy_from(&mut self, from: &State, steps: &mut Steps)
-        requires { length from.now.positions ≡ length self.old.positions }
-        ensures same { self.new ≡ from.now }
-        ensures cost { steps.new.count ≡ steps.old.count + words (length from.now.positions) }
-    {
-        steps.add(from.positions.len().div_ceil(64));
-        self.positions.copy_from(&from.positions);
-        self.first = from.first;
-        self.word = from.word;
-        self.unfinished = from.unfinished;
-    }
-
-    /// Whether both states are equal.
-    pub(crate) fn is_same(&self, other: &State, steps: &mut Steps) -> bool
-        ensures same { IsTrue result ↔ self.now ≡ other.now }
-        ensures cost { steps.new.count ≡ steps.old.count + words (length other.now.positions) }
-    {
-        steps.add(other.positions.len().div_ceil(64));
-        self.first == other.first
-            && self.word == other.word
-            && self.unfinished == other.unfinished
-            && self.positions.is_same(&other.positions)
-    }
-
     /// Whether the state has no positions, and no character is unfinished.
     pub(crate) fn is_empty(&self, steps: &mut Steps) -> bool
         ensures none { result ≡ true
@@ -93,7 +68,7 @@ impl State {
     }
 
     /// A hash of the state.
-    pub(crate) fn hash(&self) -> u8 {
+    pub(crate) fn hash(&self) -> u64 {
         let bits = u64::from(self.first) << 1 | u64::from(self.word);
         let char = u64::from(self.unfinished.low) << 2 | u64::from(self.unfinished.needed);
         self.positions.hash(char << 2 | bits)

@@ -1,7 +1,7 @@
 use Rattle.std.proofs.Common.{◌≡◌, ◌⊎◌, ◌+◌, ◌-◌, ◌≤◌, ◌<◌, ◌∙◌, ℕ, false, inl, inr, length, set, get_or, sym, ap, arith, length-set, get_or-set_same, get_or-set_other}
 use Rattle.std.proofs.lemmas.Bool.{cases_lt}
 use Rattle.cs_match.specs.ByteClasses.{begins_at}
-use Rattle.cs_match.proofs.ByteClassLemmas.{numbered_on, lasts_on}
+use Rattle.cs_match.proofs.ByteClassLemmas.{numbered_on}
 use Rattle.cs_match.proofs.byte_classes.number_classes.Goals as goal
 use Rattle.cs_match.proofs.byte_classes.number_classes.Goals.{then-is_begin, else-is_begin}
 
@@ -48,20 +48,7 @@ loop-byte-preserved c =
             let same : b ≡ byte = omega (arith, ge, lt) in
             omega (arith, ap (λ (k : ℕ). get_or new k 0) same, last_is)
       ];
-      ascending = λ b at le lt. elim (cases_lt at byte) [
-        | inl less ↦ omega (arith, kept b (omega (arith, le, less)), kept at less, i.ascending b at le less)
-        | inr ge ↦
-            let same : at ≡ byte = omega (arith, ge, lt) in
-            let top = ap (λ (k : ℕ). get_or new k 0) same ∙ last_is in
-            elim (cases_lt b byte) [
-              | inl less ↦ omega (arith, kept b less, i.below b less, rises, top)
-              | inr here ↦
-                  let both : b ≡ at = omega (arith, here, le, same) in
-                  omega (arith, ap (λ (k : ℕ). get_or new k 0) both)
-            ]
-      ];
       size_firsts = length-set c.loop-byte.firsts byte first ∙ i.size_firsts;
-      size_lasts = length-set c.loop-byte.lasts now byte ∙ i.size_lasts;
       first = first_is;
       firsts = λ b lt. elim (cases_lt b byte) [
         | inl less ↦
@@ -79,7 +66,6 @@ loop-byte-preserved c =
               ap (λ (k : ℕ). get_or new k 0) same ∙ first_is.1 ∙ sym last_is ∙ sym (ap (λ (k : ℕ). get_or new k 0) at),
             )
       ];
-      lasts = lasts_on old new c.loop-byte.lasts byte now (omega (arith, i.size_lasts, bound, c.loop-byte-test.true)) kept last_is i.lasts;
       none = numbered_on begins old new byte last now i.some i.top i.below i.none kept last_is here rises;
     }
 
@@ -88,10 +74,7 @@ returns c =
     let i = c.loop-byte.invariant in
     record {
       none = λ b k at from to lt same. i.none b k at from to (omega (arith, lt, c.loop-byte-test.false)) same;
-      ends = record {
-        ascending = λ b at le lt. i.ascending b at le (omega (arith, lt, c.loop-byte-test.false));
-        first = λ b lt. i.firsts b (omega (arith, lt, c.loop-byte-test.false));
-        last = λ b lt. let last = i.lasts b (omega (arith, lt, c.loop-byte-test.false)) in (last.0, last.2);
-      };
+      firsts = record { first = λ b lt. i.firsts b (omega (arith, lt, c.loop-byte-test.false)) };
       range = λ b lt. omega (arith, i.below b (omega (arith, lt, c.loop-byte-test.false)), c.from.ensures);
+      few = omega (arith, c.from.ensures);
     }

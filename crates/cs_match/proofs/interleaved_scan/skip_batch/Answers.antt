@@ -1,5 +1,6 @@
-use Rattle.std.proofs.Common.{◌<◌, [], ◌∷◌, get_or, subst, arith}
-use Rattle.cs_match.specs.Scan.{first_special, RulesOutLines}
+use Rattle.std.proofs.Common.{◌≤◌, [], ◌∷◌, get_or, subst, arith}
+use Rattle.cs_match.specs.Scan.{RulesOutLines}
+use Rattle.cs_match.specs.Table.{start}
 use Rattle.cs_match.proofs.ScanLemmas.{skipped_none, skipped_parts}
 use Rattle.cs_match.proofs.interleaved_scan.skip_batch.Goals as goal
 
@@ -11,7 +12,7 @@ returns-clause-skipped c =
     let e = c.cut-d in
     let f = c.cut-e in
     let g = c.cut-f in
-    skipped_parts c.args.transitions.now c.args.block.now c.type_inv.transitions c.type_inv.block c.args.from
+    skipped_parts c.args.table c.args.block.now c.type_inv.block c.args.from
     (a.result ∷ b.result ∷ d.result ∷ e.result ∷ f.result ∷ g.result ∷ []) c.ordinary_prefix-ordinary.result c.requires.within (
       (a.ensures.low, a.ensures.high, a.ensures.whole),
       (
@@ -26,10 +27,10 @@ returns-clause-skipped c =
       ),
     )
     (omega arith)
-    (λ k low. subst (λ states. get_or states k 0 < first_special) c.six_lanes-states.ensures
-    (c.ordinary_prefix-ordinary.ensures.ordinary k low))
+    (λ k low. subst (λ states. start c.args.table ≤ get_or states k 0) c.six_lanes-states.ensures
+    (subst (λ n. n ≤ get_or c.six_lanes-states.result k 0) c.start.ensures (c.ordinary_prefix-ordinary.ensures.ordinary k low)))
 
 pub returns-then-f-from-gt-MOST_BATCH-clause-skipped : goal.returns-then-f-from-gt-MOST_BATCH-clause-skipped
 returns-then-f-from-gt-MOST_BATCH-clause-skipped c =
-    skipped_none (λ has_match. RulesOutLines has_match c.args.transitions.now) c.args.block.now c.args.from
+    skipped_none (λ has_match. RulesOutLines has_match c.args.table) c.args.block.now c.args.from
     c.requires.within

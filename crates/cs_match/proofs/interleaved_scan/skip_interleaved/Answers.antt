@@ -6,7 +6,7 @@ use Rattle.cs_match.proofs.interleaved_scan.skip_interleaved.Goals as goal
 
 pub batches-init : goal.batches-init
 batches-init c = record {
-  skipped = skipped_none (λ has_match. RulesOutLines has_match c.args.transitions.now) c.args.block.now c.args.from c.requires.within;
+  skipped = skipped_none (λ has_match. RulesOutLines has_match c.args.table) c.args.block.now c.args.from c.requires.within;
   rises = omega arith;
   work = omega arith;
 }
@@ -21,7 +21,7 @@ batches-preserved c =
     let i = c.batches.invariant in
     let all : skipped.result.all ≡ true = search rules in
     record {
-      skipped = skipped_append (λ has_match. RulesOutLines has_match c.args.transitions.now) c.args.block.now
+      skipped = skipped_append (λ has_match. RulesOutLines has_match c.args.table) c.args.block.now
           c.args.from c.batches.offset skipped.result.to i.skipped skipped.ensures.skipped;
       rises = omega (arith, i.rises, skipped.ensures.most.0);
       work = omega (arith, i.work, i.skipped.lines.low, skipped.ensures.skipped.lines.low, skipped.ensures.all all);
@@ -33,7 +33,7 @@ returns-clause-rest c = whole_from c.args.block.now c.args.from c.batches.offset
 pub returns-then-not-skipped : goal.returns-then-not-skipped
 returns-then-not-skipped c =
     let to = c.skip_batch-skipped.result.to in
-    let p = skipped_append (λ has_match. RulesOutLines has_match c.args.transitions.now) c.args.block.now c.args.from
+    let p = skipped_append (λ has_match. RulesOutLines has_match c.args.table) c.args.block.now c.args.from
     c.batches.offset to c.batches.invariant.skipped c.skip_batch-skipped.ensures.skipped in
     let e = c.skip_batch-skipped.ensures in
     let i = c.batches.invariant in

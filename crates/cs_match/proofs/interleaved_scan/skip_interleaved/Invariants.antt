@@ -5,7 +5,7 @@ use Rattle.cs_match.proofs.interleaved_scan.skip_interleaved.Given as goal
 
 abbrev pub invariant-batches : goal.invariant-batches
 invariant-batches l = record {
-  skipped : AreSkipped (λ has_match. RulesOutLines has_match l.transitions) l.block l.from l.offset;
+  skipped : AreSkipped (λ has_match. RulesOutLines has_match l.table) l.block l.from l.offset;
   rises : l.fn.steps.count ≤ l.steps.count;
   work : l.steps.count ≤ l.fn.steps.count + 2 * (l.offset - l.from);
 }

@@ -10,7 +10,7 @@ use Rattle.cs_match.specs.Lines.{terminated_lines}
 use Rattle.cs_match.specs.Skipping.{AreWholeLines, IsLineAfter, NoneMatch}
 use Rattle.cs_match.proofs.WholeLineLemmas.{whole_drop, whole_line, terminated_line, ended_prefix}
 use Rattle.cs_match.specs.Automaton.{Automaton}
-use Rattle.cs_match.specs.Work.{search_work, work_of, WorksWithin}
+use Rattle.cs_match.specs.Work.{search_work, WorksWithin}
 use Rattle.cs_search.specs.Work.{searched_work}
 use Rattle.cs_search.proofs.WorkLemmas.{searched_fewer, some_lines, once_more, line_more, rest_more, works_fewer}
 use Rattle.cs_search.specs.declared.tally.Tally.{Tally}
@@ -97,7 +97,7 @@ module _ (block : List ℕ) (offset start end : ℕ) (line : IsLineAfter block o
       omega (
         arith,
         b.1,
-        line_more old.tree (work_of before) (work_of searched) (work_of after) offset start end _ _ line.low line.order one_more
+        line_more old.tree before.steps searched.steps after.steps offset start end _ _ line.low line.order one_more
             (omega (arith, s.1, ap (λ t. search_work t (end + 1 - offset)) same))
             (omega (arith, a.1, length-take (start - offset) (drop offset block))),
       ),
@@ -396,7 +396,7 @@ returns-clause-work g c =
           arith,
           once_more old.tree (length block) _ (some block c.requires.whole (sym c.is_empty.ensures ∙ c.if-is_empty.false)),
           i.work.1,
-          rest_more old.tree (work_of c.lines.matcher) (work_of c.next_match.new.self) (work_of c.count_skipped-2.new.matcher) offset
+          rest_more old.tree c.lines.matcher.steps c.next_match.new.self.steps c.count_skipped-2.new.matcher.steps offset
               (length block) _ _ i.within fewer
               (omega (arith, e.work.1, ap (λ t. search_work t (length block - offset)) i.same))
               (omega (arith, k.1.1, length-take (length block - offset) (drop offset block))),

@@ -1,75 +1,139 @@
-use Rattle.std.proofs.Common.{◌≡◌, ℕ, refl, ◌+◌, ◌*◌, ◌<◌, ◌∙◌, List, length, set, get_or, ap, sym, subst, arith}
-use Rattle.std.proofs.Math.ListN.{length-set}
-use Rattle.std.proofs.lemmas.List.{with_items_is, get_or_default}
-use Rattle.cs_match.specs.declared.dfa.LazyDfa.{LazyDfa}
+use Rattle.std.proofs.Common.{◌≡◌, ◌+◌, ◌*◌, ◌<◌, ◌≤◌, ◌++◌, ◌∷◌, [], ℕ, List, length, get_or, refl, sym, ◌∙◌, ap, subst, arith}
+use Rattle.std.specs.Prelude.{Result, Ok, is_ok, if◌then◌else◌}
 use Rattle.cs_match.specs.declared.state.State.{State}
-use Rattle.cs_match.specs.LazyDfa.{AreStates, AreTransitions, IsDeadNumber, present}
-use Rattle.cs_match.specs.ConsistentDfa.{IsConsistent, tree_in}
-use Rattle.cs_match.specs.Digits.{IsBlock}
-use Rattle.cs_match.specs.Glushkov.{cuts_of}
-use Rattle.cs_match.specs.States.{start, IsDead}
-use Rattle.cs_match.specs.Work.{words}
-use Rattle.cs_match.proofs.TransitionLemmas.{added_states, added_transitions, kept_dead, added_number}
+use Rattle.cs_match.specs.CachedStates.{StateList}
+use Rattle.cs_match.specs.ConsistentDfa.{IsConsistent, HasState, HasSlot, tree_in, count_in, state_in}
+use Rattle.cs_match.specs.LazyDfa.{AreStates, IsTable, StandsFor, IsSlot, state_at}
+use Rattle.cs_match.proofs.PositionCountLemmas.{scaled}
+use Rattle.cs_match.proofs.TransitionLemmas.{some_classes, kept_state, kept_slot, added_stands, added_table, added_states}
 use Rattle.cs_match.proofs.dfa.LazyDfa.add.Goals as goal
 
--- the state under construction is cached, and the dead state is one of those before or this one
-module _ (s : LazyDfa) (given : IsConsistent s) (room : s.states.used < 254) (block : IsBlock (cuts_of (tree_in s)) s.states.scratch.unfinished) (cached : List State) (is : cached ≡ set s.states.cached.items s.states.used s.states.scratch) where
-  states : AreStates (tree_in s) cached (s.states.used + 1)
-  states = subst (λ (xs : List State). AreStates (tree_in s) xs (s.states.used + 1)) (sym is) (added_states (tree_in s) s.states.cached.items s.states.used s.states.scratch room given.cached given.room block)
-
-  transitions : AreTransitions (tree_in s) cached (s.states.used + 1) s.states.transitions.items
-  transitions = subst (λ (xs : List State). AreTransitions (tree_in s) xs (s.states.used + 1) s.states.transitions.items) (sym is) (added_transitions (tree_in s) s.states.cached.items s.states.used s.states.scratch room given.cached s.states.transitions.items given.transitions)
-
-  same_dead : IsDeadNumber (tree_in s) cached (s.states.used + 1) s.states.dead
-  same_dead = subst (λ (xs : List State). IsDeadNumber (tree_in s) xs (s.states.used + 1) s.states.dead) (sym is) (kept_dead (tree_in s) s.states.cached.items s.states.used s.states.scratch room given.cached s.states.dead given.dead)
-
-  new_dead : (number : ℕ) → number ≡ s.states.used * 256 → IsDead (tree_in s) s.states.scratch → IsDeadNumber (tree_in s) cached (s.states.used + 1) number
-  new_dead number e dead = subst (λ (xs : List State). IsDeadNumber (tree_in s) xs (s.states.used + 1) number) (sym is) (present s.states.scratch (added_number (tree_in s) s.states.cached.items s.states.used s.states.scratch room given.cached number e) dead)
-
-pub put_state-requires-clause-positions : goal.put_state-requires-clause-positions
-put_state-requires-clause-positions c =
+pub unwrap-requires : goal.unwrap-requires
+unwrap-requires c =
     let s = c.args.self.now in
-    let cached = s.states.cached.items in
-    let within : s.states.used < length cached = omega (arith, c.requires.room, c.requires.right.cached.all) in
-    ap (λ (n : State). length n.positions)
-    (ap (λ (xs : List State). get_or xs s.states.used s.states.scratch) c.deref_mut.ensures.value
-    ∙ get_or_default cached s.states.used s.states.scratch (start (tree_in s)) within)
-    ∙ c.requires.right.cached.positions s.states.used ∙ sym c.requires.right.room
+    let right = c.requires.right in
+    c.resize.ensures.succeeds (omega (
+      arith,
+      c.len.ensures,
+      s.states.cells.ok.0,
+      right.table.rows,
+      right.cached.fits,
+      scaled (length s.states.cached.items + 1) s.states.cached.most (count_in s) (omega (arith, c.requires.room)),
+      right.capacity,
+    ))
 
-pub returns-then-is_dead-clause-right : goal.returns-then-is_dead-clause-right
-returns-then-is_dead-clause-right c =
+-- what was written, after a call that succeeds
+ok_is : {A E : Type 0} (r : Result (Unit {0}) E) (x : Unit {0}) (new all none : A) → r ≡ Ok x → new ≡ (if is_ok r then all else none) → new ≡ all
+ok_is r x new all none h is = is ∙ ap (λ q. if is_ok q then all else none) h
+
+pub returns-clause-number : goal.returns-clause-number
+returns-clause-number c =
     let s = c.args.self.now in
-    let given = c.requires.right in
-    let put : c.put_state.new.cached ≡ set s.states.cached.items s.states.used s.states.scratch = c.put_state.ensures.put ∙ ap (λ xs. set xs s.states.used s.states.scratch) c.deref_mut.ensures.value in
-    let size = ap length c.put_state.ensures.put ∙ length-set c.deref_mut.result.now s.states.used s.states.scratch ∙ c.deref_mut.ensures.len in
-    let is = with_items_is s.states.cached c.put_state.new.cached size ∙ put in
+    let right = c.requires.right in
+    let long : length c.resize.new.self.items ≡ length s.states.cells.items + count_in s =
+    omega (
+      arith,
+      ok_is _ c.unwrap.result _ _ s.states.cells.len c.unwrap.ensures c.resize.ensures.len,
+      c.len.ensures,
+      s.states.cells.ok.0,
+      c.resize.new.self.ok.0,
+    ) in
+    let same : (k : ℕ) → k < length s.states.cells.items → get_or c.resize.new.self.items k 0 ≡ get_or s.states.cells.items k 0 =
+    λ k lt. c.resize.ensures.by_index.0 k 0 (omega (arith, lt, c.len.ensures, s.states.cells.ok.0)) (omega (arith, lt, s.states.cells.ok.0)) in
+    let blank : (k : ℕ) → length s.states.cells.items ≤ k → k < length c.resize.new.self.items → get_or c.resize.new.self.items k 0 ≡ count_in s =
+    λ k ge lt. c.resize.ensures.by_index.1 k 0 (c.resize.ensures.succeeds (omega (
+      arith,
+      c.len.ensures,
+      s.states.cells.ok.0,
+      right.table.rows,
+      right.cached.fits,
+      scaled (length s.states.cached.items + 1) s.states.cached.most (count_in s) (omega (arith, c.requires.room)),
+      right.capacity,
+    ))) (omega (arith, ge, s.states.cells.ok.0))
+    (omega (arith, lt, long, c.len.ensures, s.states.cells.ok.0)) in
+    subst (λ (states : StateList). StandsFor (tree_in s) (count_in s) states.items (c.len-slot.result * count_in s) s.states.scratch) (sym c.push.ensures)
+    (subst (λ n. StandsFor (tree_in s) (count_in s) (s.states.cached.items ++ s.states.scratch ∷ []) (n * count_in s) s.states.scratch) (sym c.len-slot.ensures)
+    (added_stands (tree_in s) s.states.classes s.states.cached s.states.cells.items right.classes right.cached right.table s.states.scratch
+    c.resize.new.self.items long same blank))
+
+pub returns-clause-other : goal.returns-clause-other
+returns-clause-other c = λ e.
+    let s = c.args.self.now in
+    omega (
+      arith,
+      e,
+      c.len-slot.ensures,
+      scaled 5 c.len-slot.result (count_in s) (omega (arith, c.len-slot.ensures, c.requires.right.cached.first)),
+      some_classes (tree_in s) s.states.classes c.requires.right.classes,
+    )
+
+pub returns-clause-kept : goal.returns-clause-kept
+returns-clause-kept c = λ slot at.
+    let s = c.args.self.now in
+    let right = c.requires.right in
+    let long : length c.resize.new.self.items ≡ length s.states.cells.items + count_in s =
+    omega (
+      arith,
+      ok_is _ c.unwrap.result _ _ s.states.cells.len c.unwrap.ensures c.resize.ensures.len,
+      c.len.ensures,
+      s.states.cells.ok.0,
+      c.resize.new.self.ok.0,
+    ) in
+    let same : (k : ℕ) → k < length s.states.cells.items → get_or c.resize.new.self.items k 0 ≡ get_or s.states.cells.items k 0 =
+    λ k lt. c.resize.ensures.by_index.0 k 0 (omega (arith, lt, c.len.ensures, s.states.cells.ok.0)) (omega (arith, lt, s.states.cells.ok.0)) in
+    let blank : (k : ℕ) → length s.states.cells.items ≤ k → k < length c.resize.new.self.items → get_or c.resize.new.self.items k 0 ≡ count_in s =
+    λ k ge lt. c.resize.ensures.by_index.1 k 0 (c.resize.ensures.succeeds (omega (
+      arith,
+      c.len.ensures,
+      s.states.cells.ok.0,
+      right.table.rows,
+      right.cached.fits,
+      scaled (length s.states.cached.items + 1) s.states.cached.most (count_in s) (omega (arith, c.requires.room)),
+      right.capacity,
+    ))) (omega (arith, ge, s.states.cells.ok.0))
+    (omega (arith, lt, long, c.len.ensures, s.states.cells.ok.0)) in
+    subst (λ (states : StateList). IsSlot states.items slot × (state_at (tree_in s) states.items slot ≡ state_in s slot)) (sym c.push.ensures) (
+      kept_slot (tree_in s) s.states.classes s.states.cached s.states.cells.items right.classes right.cached right.table s.states.scratch
+          c.resize.new.self.items long same blank slot at,
+      kept_state (tree_in s) s.states.classes s.states.cached s.states.cells.items right.classes right.cached right.table s.states.scratch
+          c.resize.new.self.items long same blank slot at.within,
+    )
+
+pub returns-clause-right : goal.returns-clause-right
+returns-clause-right c =
+    let s = c.args.self.now in
+    let right = c.requires.right in
+    let long : length c.resize.new.self.items ≡ length s.states.cells.items + count_in s =
+    omega (
+      arith,
+      ok_is _ c.unwrap.result _ _ s.states.cells.len c.unwrap.ensures c.resize.ensures.len,
+      c.len.ensures,
+      s.states.cells.ok.0,
+      c.resize.new.self.ok.0,
+    ) in
+    let same : (k : ℕ) → k < length s.states.cells.items → get_or c.resize.new.self.items k 0 ≡ get_or s.states.cells.items k 0 =
+    λ k lt. c.resize.ensures.by_index.0 k 0 (omega (arith, lt, c.len.ensures, s.states.cells.ok.0)) (omega (arith, lt, s.states.cells.ok.0)) in
+    let blank : (k : ℕ) → length s.states.cells.items ≤ k → k < length c.resize.new.self.items → get_or c.resize.new.self.items k 0 ≡ count_in s =
+    λ k ge lt. c.resize.ensures.by_index.1 k 0 (c.resize.ensures.succeeds (omega (
+      arith,
+      c.len.ensures,
+      s.states.cells.ok.0,
+      right.table.rows,
+      right.cached.fits,
+      scaled (length s.states.cached.items + 1) s.states.cached.most (count_in s) (omega (arith, c.requires.room)),
+      right.capacity,
+    ))) (omega (arith, ge, s.states.cells.ok.0))
+    (omega (arith, lt, long, c.len.ensures, s.states.cells.ok.0)) in
     record {
-      expanded = given.expanded;
-      cached = states s given c.requires.room c.requires.block _ is;
-      transitions = transitions s given c.requires.room c.requires.block _ is;
-      dead = new_dead s given c.requires.room c.requires.block _ is (s.states.used * 256) refl (c.requires.dead c.if-is_dead.true);
-      room = given.room;
-      memory = given.memory;
+      expanded = right.expanded;
+      classes = right.classes;
+      cached = subst (AreStates (tree_in s) (count_in s)) (sym c.push.ensures)
+          (added_states (tree_in s) s.states.classes s.states.cached s.states.cells.items right.classes right.cached right.table s.states.scratch
+          c.resize.new.self.items long same blank c.requires.room right.room c.requires.block);
+      table = subst (λ (states : StateList). IsTable (tree_in s) s.states.classes states.items c.resize.new.self.items) (sym c.push.ensures)
+          (added_table (tree_in s) s.states.classes s.states.cached s.states.cells.items right.classes right.cached right.table s.states.scratch
+          c.resize.new.self.items long same blank);
+      capacity = omega (arith, right.capacity, c.resize.ensures.capacity);
+      room = right.room;
+      memory = right.memory;
     }
-
-pub returns-else-is_dead-clause-right : goal.returns-else-is_dead-clause-right
-returns-else-is_dead-clause-right c =
-    let s = c.args.self.now in
-    let given = c.requires.right in
-    let put : c.put_state.new.cached ≡ set s.states.cached.items s.states.used s.states.scratch = c.put_state.ensures.put ∙ ap (λ xs. set xs s.states.used s.states.scratch) c.deref_mut.ensures.value in
-    let size = ap length c.put_state.ensures.put ∙ length-set c.deref_mut.result.now s.states.used s.states.scratch ∙ c.deref_mut.ensures.len in
-    let is = with_items_is s.states.cached c.put_state.new.cached size ∙ put in
-    record {
-      expanded = given.expanded;
-      cached = states s given c.requires.room c.requires.block _ is;
-      transitions = transitions s given c.requires.room c.requires.block _ is;
-      dead = same_dead s given c.requires.room c.requires.block _ is;
-      room = given.room;
-      memory = given.memory;
-    }
-
-pub returns-then-is_dead-clause-work : goal.returns-then-is_dead-clause-work
-returns-then-is_dead-clause-work c = c.put_state.ensures.cost ∙ ap (λ n. c.args.steps.now.count + words n) c.requires.right.room
-
-pub returns-else-is_dead-clause-work : goal.returns-else-is_dead-clause-work
-returns-else-is_dead-clause-work c = c.put_state.ensures.cost ∙ ap (λ n. c.args.steps.now.count + words n) c.requires.right.room

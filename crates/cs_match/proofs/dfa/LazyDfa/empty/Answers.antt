@@ -1,33 +1,34 @@
-use Rattle.std.proofs.Common.{◌∙◌, length, refl, ap, sym, subst, arith}
-use Rattle.std.proofs.lemmas.List.{with_items_is}
-use Rattle.cs_match.specs.LazyDfa.{AreTransitions, missing}
-use Rattle.cs_match.specs.ConsistentDfa.{tree_in}
-use Rattle.cs_match.proofs.TransitionLemmas.{blank_transitions}
+use Rattle.std.proofs.Common.{◌≡◌, length, take, sym, ap, subst, ◌∙◌, arith}
+use Rattle.std.proofs.lemmas.List.{length-take-le}
+use Rattle.cs_match.specs.CachedStates.{StateList}
+use Rattle.cs_match.specs.ConsistentDfa.{tree_in, count_in}
+use Rattle.cs_match.specs.LazyDfa.{AreStates, IsTable}
+use Rattle.cs_match.proofs.TransitionLemmas.{emptied_states, first_table}
 use Rattle.cs_match.proofs.dfa.LazyDfa.empty.Goals as goal
+
+pub returns-clause-room : goal.returns-clause-room
+returns-clause-room c =
+    let s = c.args.self.now in
+    omega (
+      arith,
+      ap (λ (states : StateList). length states.items) c.truncate.ensures,
+      ap (λ (states : StateList). states.most) c.truncate.ensures,
+      length-take-le 5 s.states.cached.items c.requires.right.cached.first,
+      c.requires.right.cached.more,
+    )
 
 pub returns-clause-right : goal.returns-clause-right
 returns-clause-right c =
     let s = c.args.self.now in
-    let given = c.requires.right in
-    let blank = c.reset.new.transitions in
+    let right = c.requires.right in
     record {
-      expanded = given.expanded;
-      cached = record {
-        some = omega arith;
-        bound = omega arith;
-        all = given.cached.all;
-        first = given.cached.first;
-        positions = given.cached.positions;
-        blocks = given.cached.blocks;
-      };
-      transitions = subst (AreTransitions (tree_in s) s.states.cached.items 1)
-          (sym (with_items_is s.states.transitions blank (c.reset.ensures.length ∙ c.deref_mut.ensures.len)))
-          (blank_transitions (tree_in s) s.states.cached.items 1 blank
-          (c.reset.ensures.length ∙ ap length c.deref_mut.ensures.value ∙ given.transitions.all) c.reset.ensures.blank);
-      dead = missing refl;
-      room = given.room;
-      memory = given.memory;
+      expanded = right.expanded;
+      classes = right.classes;
+      cached = subst (AreStates (tree_in s) (count_in s)) (sym c.truncate.ensures) (emptied_states (tree_in s) (count_in s) s.states.cached right.cached);
+      table = subst (λ (states : StateList). IsTable (tree_in s) s.states.classes states.items c.write_first.new.cells.items) (sym c.truncate.ensures)
+          (first_table (tree_in s) s.states.classes (take 5 s.states.cached.items) c.write_first.new.cells.items right.classes
+          (length-take-le 5 s.states.cached.items right.cached.first) c.write_first.ensures.rows);
+      capacity = c.write_first.ensures.room;
+      room = right.room;
+      memory = right.memory;
     }
-
-pub returns-clause-work : goal.returns-clause-work
-returns-clause-work c = omega (arith, c.add.ensures, c.requires.right.transitions.all)

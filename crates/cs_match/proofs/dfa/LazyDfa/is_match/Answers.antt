@@ -1,30 +1,39 @@
-use Rattle.std.proofs.Common.{◌<◌, ◌≤◌, ◌+◌, ◌*◌, length, get_or, refl, ap, ◌∙◌, arith, below_more}
+use Rattle.std.proofs.Common.{◌≡◌, ◌≢◌, ◌<◌, ◌≤◌, ◌+◌, ◌*◌, length, get_or, refl, sym, ap, ◌∙◌, arith, below_more}
+use Rattle.std.proofs.lemmas.Bool.{eqb-true, false≢true, eq-eqb}
+use Rattle.cs_match.specs.LazyDfa.{match_number}
+use Rattle.cs_match.specs.States.{state}
 use Rattle.cs_match.specs.Work.{step_work, byte_work}
-use Rattle.cs_match.specs.ConsistentDfa.{tree_in, state_in}
+use Rattle.cs_match.specs.ConsistentDfa.{tree_in, count_in}
 use Rattle.cs_match.proofs.DecidabilityLemmas.{found_at, found_last}
 use Rattle.cs_match.proofs.PositionCountLemmas.{mul_both, scaled}
-use Rattle.cs_match.proofs.StateCountLemmas.{grows_none, grows_on}
 use Rattle.cs_match.proofs.DfaSearchLemmas.{scan_found, scan_stays, scan_next, scan_ends}
+use Rattle.cs_match.proofs.TransitionLemmas.{some_classes}
 use Rattle.cs_match.proofs.dfa.LazyDfa.is_match.Goals as goal
 
-pub returns-then-b-eq10-clause-states : goal.returns-then-b-eq10-clause-states
-returns-then-b-eq10-clause-states c = grows_on _ 0 _ _ _ _ c.loop-b.invariant.states (grows_none 0 _ _ refl) (omega arith)
+pub loop-b-init : goal.loop-b-init
+loop-b-init c = record {
+  rises = omega arith;
+  work = omega arith;
+  right = c.requires.right;
+  same = refl;
+  number = c.start-number.ensures.state;
+  none = λ k lt. absurd (omega arith);
+}
 
-pub returns-then-number-clause-states : goal.returns-then-number-clause-states
-returns-then-number-clause-states c = grows_on _ 1 _ _ _ _ c.loop-b.invariant.states c.next-number.ensures.states (omega arith)
-
-pub returns-then-number-clause-found : goal.returns-then-number-clause-found
-returns-then-number-clause-found c =
+pub returns-then-is_found-clause-found : goal.returns-then-is_found-clause-found
+returns-then-is_found-clause-found c =
     let t = tree_in c.args.self.now in
     let line = c.args.line.now in
     let i = c.loop-b.b-index in
     let given = c.loop-b.invariant in
     let new = c.next-number.new.self in
     let lt : i < length line = omega arith in
-    let accepting = scan_found t (tree_in new) new.states.cached.items new.states.used c.next-number.result
-    (state_in c.loop-b.self c.loop-b.number) (c.next-number.ensures.same ∙ given.same) line i (get_or line i 0)
-    given.number.same c.next-number.ensures.leads lt refl c.if-b-eq10.false c.next-number.ensures.right.cached.bound
-    c.if-number.true in
+    let some = some_classes (tree_in new) new.states.classes c.next-number.ensures.right.classes in
+    let is : c.next-number.result ≡ match_number (count_in new) =
+    eqb-true c.next-number.result (match_number (count_in new)) (sym c.is_found.ensures ∙ c.if-is_found.true) in
+    let accepting = scan_found t (tree_in new) (count_in new) new.states.cached.items c.next-number.result
+    (c.next-number.ensures.same ∙ given.same) some line i (get_or line i 0)
+    (c.next-number.ensures.leads _ given.number) lt refl c.if-b-eq10.false is in
     let f = found_at t line c.requires.right.expanded i (omega arith) accepting in
     (λ _. f, λ _. refl)
 
@@ -37,18 +46,19 @@ loop-b-preserved c =
     let new = c.next-number.new.self in
     let lt : i < length line = omega arith in
     let same = c.next-number.ensures.same ∙ given.same in
-    let n = state_in c.loop-b.self c.loop-b.number in
+    let some = some_classes (tree_in new) new.states.classes c.next-number.ensures.right.classes in
+    let other : c.next-number.result ≢ match_number (count_in new) =
+    λ e. false≢true (sym c.if-is_found.false ∙ c.is_found.ensures ∙ eq-eqb c.next-number.result (match_number (count_in new)) e) in
     record {
       rises = omega (arith, given.rises, c.next-number.ensures.work.0);
       work = omega (arith, given.work, c.next-number.ensures.work.1, ap byte_work given.same);
       right = c.next-number.ensures.right;
       same = same;
-      states = grows_on i 1 (i + 1) _ _ _ given.states c.next-number.ensures.states (omega arith);
-      number = scan_next t (tree_in new) new.states.cached.items new.states.used c.next-number.result n same line i
-          (get_or line i 0) given.number.same c.next-number.ensures.leads lt refl c.if-b-eq10.false c.if-number.false;
-      none = below_more _ _ given.none (scan_stays t (tree_in new) new.states.cached.items new.states.used
-          c.next-number.result n same line i (get_or line i 0) given.number.same c.next-number.ensures.leads lt refl
-          c.if-b-eq10.false c.if-number.false);
+      number = scan_next t (tree_in new) (count_in new) new.states.cached.items c.next-number.result same some line i
+          (get_or line i 0) (c.next-number.ensures.leads _ given.number) lt refl c.if-b-eq10.false other;
+      none = below_more _ _ given.none (scan_stays t (tree_in new) (count_in new) new.states.cached.items
+          c.next-number.result same some line i (get_or line i 0) (c.next-number.ensures.leads _ given.number) lt refl
+          c.if-b-eq10.false other);
     }
 
 pub returns-clause-found : goal.returns-clause-found
@@ -57,14 +67,12 @@ returns-clause-found c =
     let line = c.args.line.now in
     let i = c.loop-b.b-index in
     let given = c.loop-b.invariant in
-    let new = c.next.new.self in
-    let ends = scan_ends t (tree_in new) new.states.cached.items new.states.used c.next.result
-    (state_in c.loop-b.self c.loop-b.number) (c.next.ensures.same ∙ given.same) line i 10 given.number.same
-    c.next.ensures.leads (omega arith) refl c.next.ensures.right.cached.bound in
-    found_last t line c.requires.right.expanded _ ends (λ k lt. given.none k (omega arith))
-
-pub returns-clause-states : goal.returns-clause-states
-returns-clause-states c = grows_on _ 1 _ _ _ _ c.loop-b.invariant.states c.next.ensures.states (omega arith)
+    let new = c.next-last.new.self in
+    let some = some_classes (tree_in new) new.states.classes c.next-last.ensures.right.classes in
+    let ends = scan_ends t (tree_in new) (count_in new) new.states.cached.items c.next-last.result
+    (c.next-last.ensures.same ∙ given.same) some line i 10
+    (c.next-last.ensures.leads _ given.number) (omega arith) refl in
+    found_last t line c.requires.right.expanded _ (c.is_found-2.ensures ∙ ends) (λ k lt. given.none k (omega arith))
 
 pub returns-then-b-eq10-clause-work : goal.returns-then-b-eq10-clause-work
 returns-then-b-eq10-clause-work c =
@@ -85,8 +93,8 @@ returns-then-b-eq10-clause-work c =
       ),
     )
 
-pub returns-then-number-clause-work : goal.returns-then-number-clause-work
-returns-then-number-clause-work c =
+pub returns-then-is_found-clause-work : goal.returns-then-is_found-clause-work
+returns-then-is_found-clause-work c =
     let t = tree_in c.args.self.now in
     let i = c.loop-b.b-index in
     let n = length c.args.line.now in (
@@ -105,11 +113,11 @@ returns-clause-work c =
     let t = tree_in c.args.self.now in
     let i = c.loop-b.b-index in
     let n = length c.args.line.now in (
-      omega (arith, c.loop-b.invariant.rises, c.next.ensures.work.0),
+      omega (arith, c.loop-b.invariant.rises, c.next-last.ensures.work.0),
       omega (
         arith,
         c.loop-b.invariant.work,
-        c.next.ensures.work.1,
+        c.next-last.ensures.work.1,
         ap byte_work c.loop-b.invariant.same,
         scaled (i + 1) (n + 1) (byte_work t) (omega arith),
       ),

@@ -1,24 +1,28 @@
-use Rattle.std.proofs.Common.{◌∙◌, ap, length, false, refl}
+use Rattle.std.proofs.Common.{◌≡◌, false, length, replicate, refl, ap, subst, ◌∙◌, sym, arith}
 use Rattle.std.proofs.lemmas.List.{length-replicate}
 use Rattle.cs_match.specs.declared.state.State.{State}
 use Rattle.cs_match.specs.Glushkov.{position_count}
-use Rattle.cs_match.specs.LazyDfa.{missing}
-use Rattle.cs_match.proofs.TransitionLemmas.{new_states, blank_transitions}
+use Rattle.cs_match.specs.LazyDfa.{AreFirstStates}
+use Rattle.cs_match.specs.States.{start}
+use Rattle.cs_match.proofs.TransitionLemmas.{first_states, first_table}
 use Rattle.cs_match.proofs.dfa.LazyDfa.new.Goals as goal
 
 pub returns : goal.returns
 returns c =
     let t = c.args.program.now in
-    let cached = c.in_ok-cached.cached.items in
-    let transitions = c.in_ok-transitions.ensures in (
+    let classes = c.byte_classes.result.now in
+    let states = c.in_ok-cached.cached in
+    let first = subst (λ (n : State). AreFirstStates classes.count n states) c.in_ok-scratch.ensures c.in_ok-cached.ensures in
+    let five : length states.items ≡ 5 = ap length first.all ∙ length-replicate 5 (start t) in (
       refl,
       record {
         expanded = c.in_ok-memory.ensures.expanded;
-        cached = new_states t cached c.in_ok-cached.ensures;
-        transitions = blank_transitions t cached 1 c.in_ok-transitions.transitions.items transitions.0 transitions.1;
-        dead = missing refl;
+        classes = c.byte_classes.ensures;
+        cached = first_states t classes.count states first;
+        table = first_table t classes states.items c.write_first.new.cells.items c.byte_classes.ensures five c.write_first.ensures.rows;
+        capacity = c.write_first.ensures.room;
         room = ap (λ (n : State). length n.positions) c.in_ok-scratch.ensures ∙ length-replicate (position_count t) false;
         memory = c.in_ok-memory.ensures.scratch;
       },
-      refl,
+      five,
     )

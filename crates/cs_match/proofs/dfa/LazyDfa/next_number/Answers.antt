@@ -1,104 +1,102 @@
-use Rattle.std.proofs.Common.{subst, ◌≡◌, ◌+◌, ◌*◌, ◌/◌, ◌<◌, ◌≤◌, ◌∙◌, ℕ, List, false, length, take, get_or, refl, sym, ap, arith}
+use Rattle.std.proofs.Common.{◌≡◌, ◌≢◌, ◌+◌, ◌*◌, ◌/◌, ◌<◌, ◌≤◌, ◌∙◌, ℕ, List, false, length, get_or, inr, refl, sym, ap, subst, arith}
+use Rattle.std.specs.Prelude.{IfSome}
 use Rattle.std.proofs.lemmas.List.{get_or_default}
 use Rattle.std.proofs.lemmas.Bool.{ne_eqb}
-use Rattle.cs_match.proofs.TransitionLemmas.{leads_next}
-use Rattle.cs_match.proofs.StateLemmas.{block_successor}
 use Rattle.cs_syntax.specs.Matching.{Tree}
 use Rattle.cs_match.specs.declared.dfa.LazyDfa.{LazyDfa}
 use Rattle.cs_match.specs.declared.state.State.{State}
 use Rattle.cs_match.specs.Digits.{IsBlock}
 use Rattle.cs_match.specs.Glushkov.{cuts_of}
-use Rattle.cs_match.specs.States.{start}
+use Rattle.cs_match.specs.LazyDfa.{StandsFor, cached, dead, Leads, next, IsSlot, state_at}
+use Rattle.cs_match.specs.States.{start, successor, accepts_before, IsDead}
 use Rattle.cs_match.specs.Work.{words}
+use Rattle.cs_match.specs.ConsistentDfa.{IsConsistent, HasSlot, HasState, LeadsIn, tree_in, count_in, state_in}
 use Rattle.cs_match.proofs.PositionCountLemmas.{scaled}
-use Rattle.cs_match.specs.ConsistentDfa.{IsConsistent, LeadsIn, tree_in, state_in, successor_in}
+use Rattle.cs_match.proofs.StateLemmas.{block_successor}
+use Rattle.cs_match.proofs.TransitionLemmas.{some_classes}
 use Rattle.cs_match.proofs.dfa.LazyDfa.next_number.Goals as goal
 
+-- a number that stands for the state under construction is a correct transition
+leads_to : (t u : Tree) (count : ℕ) (states : List State) (n m k : State) (b number : ℕ) → u ≡ t → m ≡ n → b ≢ 10 →
+    accepts_before t n b ≡ false → k ≡ successor t n b → number ≢ 0 → StandsFor u count states number k → Leads u count states m b number
+leads_to t u count states n m k b number same is other h made some stands =
+    next (ap (λ x. accepts_before x m b) same ∙ ap (λ x. accepts_before t x b) is ∙ h)
+    (subst (λ (x : State). StandsFor u count states number x) (made ∙ ap (λ x. successor t x b) (sym is) ∙ ap (λ x. successor x m b) (sym same)) stands)
+    some (λ line. absurd (other line))
+
 -- the state under construction has an unfinished character of a whole block
-scratch_block : (old : LazyDfa) (from byte : ℕ) → IsConsistent old → old.states.scratch ≡ successor_in old from byte →
+scratch_block : (old : LazyDfa) (slot byte : ℕ) → IsConsistent old → old.states.scratch ≡ successor (tree_in old) (state_in old slot) byte →
     IsBlock (cuts_of (tree_in old)) old.states.scratch.unfinished
-scratch_block old from byte right is =
+scratch_block old slot byte right is =
     subst (λ (n : State). IsBlock (cuts_of (tree_in old)) n.unfinished) (sym is)
-    (block_successor (tree_in old) (state_in old from) byte (right.cached.blocks (from / 256)))
+    (block_successor (tree_in old) (state_in old slot) byte (right.cached.blocks slot))
 
-pub add-requires-then-self-eq-MOST_STATES-clause-block : goal.add-requires-then-self-eq-MOST_STATES-clause-block
-add-requires-then-self-eq-MOST_STATES-clause-block c =
+pub is_lost-requires-clause-later : goal.is_lost-requires-clause-later
+is_lost-requires-clause-later c =
     let old = c.args.self.now in
-    let new = c.empty.new.self in
-    subst (λ (t : Tree). IsBlock (cuts_of t) new.states.scratch.unfinished) (sym c.empty.ensures.same)
-    (subst (λ (n : State). IsBlock (cuts_of (tree_in old)) n.unfinished) (sym c.empty.ensures.scratch)
-    (scratch_block old c.args.from c.args.byte c.requires.right c.requires.scratch))
-
-pub add-next-requires-clause-block : goal.add-next-requires-clause-block
-add-next-requires-clause-block c = scratch_block c.args.self.now c.args.from c.args.byte c.requires.right c.requires.scratch
-
-pub is_dead-is_dead-requires-clause-later : goal.is_dead-is_dead-requires-clause-later
-is_dead-is_dead-requires-clause-later c =
-    let old = c.args.self.now in
-    let later : (successor_in old c.args.from c.args.byte).first ≡ false = rw (ne_eqb c.args.byte 10 c.requires.within) refl in
+    let later : (successor (tree_in old) (state_in old c.args.slot) c.args.byte).first ≡ false = rw (ne_eqb c.args.byte 10 c.requires.within) refl in
     ap (λ (n : State). n.first) c.requires.scratch ∙ later
-
-pub put-requires-2-clause-leads : goal.put-requires-2-clause-leads
-put-requires-2-clause-leads c =
-    let old = c.args.self.now in
-    let new = c.add-next.new.self in
-    let kept = c.add-next.ensures.kept c.args.from (state_in old c.args.from) c.requires.number in
-    leads_next (tree_in old) (tree_in new) new.states.cached.items new.states.used c.add-next.result
-    (state_in old c.args.from) (state_in new c.args.from) old.states.scratch c.args.byte
-    c.add-next.ensures.same kept.same c.requires.within c.requires.stays c.requires.scratch c.add-next.ensures.number
-
-pub returns-clause-leads : goal.returns-clause-leads
-returns-clause-leads c =
-    let kept = c.add-next.ensures.kept c.args.from (state_in c.args.self.now c.args.from) c.requires.number in
-    subst (λ (n : State). LeadsIn c.put-2.new.self n c.args.byte c.add-next.result) kept.same c.put-2.ensures.leads
 
 pub put-requires-clause-leads : goal.put-requires-clause-leads
 put-requires-clause-leads c =
     let old = c.args.self.now in
     let t = tree_in old in
-    let cached = old.states.cached.items in
-    let slot = c.in-Some.slot in
-    let found = c.in-Some.ensures.found in
-    let in_use : slot < old.states.used = omega (arith, found.0) in
-    let within : slot < length cached = omega (arith, in_use, c.requires.right.cached.bound, c.requires.right.cached.all) in
-    let index : slot * 256 / 256 ≡ slot = omega arith in
-    let same : get_or cached (slot * 256 / 256) (start t) ≡ old.states.scratch =
-    ap (λ (k : ℕ). get_or cached k (start t)) index ∙ get_or_default cached slot (start t) old.states.scratch within
-    ∙ ap (λ (xs : List State). get_or xs slot old.states.scratch) (sym c.deref.ensures.value) ∙ found.1 in
-    leads_next t t cached old.states.used (slot * 256) (state_in old c.args.from) (state_in old c.args.from) old.states.scratch c.args.byte
-    refl refl c.requires.within c.requires.stays c.requires.scratch
-    (record { whole = omega (arith, index); in_use = omega (arith, index, in_use); same = same })
+    let some = some_classes t old.states.classes c.requires.right.classes in
+    leads_to t t (count_in old) old.states.cached.items (state_in old c.args.slot) (state_in old c.args.slot) old.states.scratch c.args.byte
+    (3 * count_in old) refl refl c.requires.within c.requires.stays c.requires.scratch (λ e. omega (arith, e, some))
+    (dead refl (c.is_lost.ensures.dead c.if-is_lost.true))
 
-pub returns-in-Some-clause-work : goal.returns-in-Some-clause-work
-returns-in-Some-clause-work c =
-    let old = c.args.self.now in
-    let hashes = take old.states.used old.states.hashes in
-    let few : length hashes ≤ 254 = omega (arith, c.requires.right.cached.bound) in
-    let w = ap words c.requires.right.room in
-    let looked = scaled (length hashes) 254 (words (length old.states.scratch.positions) + 1) few in (
-      omega (arith, c.add.ensures, c.in-Some.ensures.cost.0, c.put.ensures.work.0),
-      omega (arith, w, looked, c.div_ceil.ensures, c.add.ensures, c.in-Some.ensures.cost.1, c.put.ensures.work.1, c.put.ensures.states),
-    )
+pub find-found-requires : goal.find-found-requires
+find-found-requires c = c.requires.right.room ∙ sym c.requires.right.cached.sized
 
-pub returns-clause-work : goal.returns-clause-work
-returns-clause-work c =
+pub add-requires-then-len-most-clause-block : goal.add-requires-then-len-most-clause-block
+add-requires-then-len-most-clause-block c =
     let old = c.args.self.now in
-    let hashes = take old.states.used old.states.hashes in
-    let few : length hashes ≤ 253 = omega (arith, c.requires.right.cached.bound, c.if-self-eq-MOST_STATES.false) in
-    let w = ap words c.requires.right.room in
-    let looked = scaled (length hashes) 253 (words (length old.states.scratch.positions) + 1) few in (
-      omega (arith, c.add.ensures, c.in_default.ensures.cost.0, c.is_dead-is_dead.ensures.work.0, c.add-next.ensures.work, c.put-2.ensures.work.0),
-      omega (
-        arith,
-        w,
-        looked,
-        c.div_ceil.ensures,
-        c.add.ensures,
-        c.in_default.ensures.cost.1,
-        c.is_dead-is_dead.ensures.work.1,
-        c.add-next.ensures.work,
-        c.add-next.ensures.states,
-        c.put-2.ensures.work.1,
-        c.put-2.ensures.states,
-      ),
-    )
+    let new = c.empty.new.self in
+    subst (λ (t : Tree). IsBlock (cuts_of t) new.states.scratch.unfinished) (sym c.empty.ensures.same)
+    (subst (λ (n : State). IsBlock (cuts_of (tree_in old)) n.unfinished) (sym c.empty.ensures.scratch)
+    (scratch_block old c.args.slot c.args.byte c.requires.right c.requires.scratch))
+
+pub add-next-requires-clause-block : goal.add-next-requires-clause-block
+add-next-requires-clause-block c = scratch_block c.args.self.now c.args.slot c.args.byte c.requires.right c.requires.scratch
+
+pub put-requires-2-clause-leads : goal.put-requires-2-clause-leads
+put-requires-2-clause-leads c =
+    let old = c.args.self.now in
+    let t = tree_in old in
+    let items = old.states.cached.items in
+    let other = c.in-Some.other in
+    let found = subst (λ o. IfSome o (λ k. (k < length items) × (get_or items k old.states.scratch ≡ old.states.scratch))) c.in-Some.is
+    c.find-found.ensures in
+    let some = some_classes t old.states.classes c.requires.right.classes in
+    leads_to t t (count_in old) items (state_in old c.args.slot) (state_in old c.args.slot) old.states.scratch c.args.byte
+    (other * count_in old) refl refl c.requires.within c.requires.stays c.requires.scratch
+    (λ e. omega (arith, e, some, scaled 4 other (count_in old) c.if-other-ge-START.true))
+    (cached other refl (record { within = found.0; ordinary = inr c.if-other-ge-START.true })
+    (get_or_default items other (start t) old.states.scratch found.0 ∙ found.1))
+
+pub returns-then-len-most-clause-leads : goal.returns-then-len-most-clause-leads
+returns-then-len-most-clause-leads c =
+    let old = c.args.self.now in
+    let new = c.add-then-len-most.new.self in
+    let added = c.add-then-len-most.ensures in
+    leads_to (tree_in old) (tree_in new) (count_in new) new.states.cached.items (state_in old c.args.slot) (state_in old c.args.slot)
+    c.empty.new.self.states.scratch c.args.byte c.add-then-len-most.result (added.same ∙ c.empty.ensures.same) refl
+    c.requires.within c.requires.stays (c.empty.ensures.scratch ∙ c.requires.scratch) added.other added.number
+
+pub put-requires-3-clause-slot : goal.put-requires-3-clause-slot
+put-requires-3-clause-slot c = (c.add-next.ensures.kept c.args.slot c.requires.slot).0
+
+pub put-requires-3-clause-leads : goal.put-requires-3-clause-leads
+put-requires-3-clause-leads c =
+    let old = c.args.self.now in
+    let new = c.add-next.new.self in
+    let added = c.add-next.ensures in
+    leads_to (tree_in old) (tree_in new) (count_in new) new.states.cached.items (state_in old c.args.slot) (state_in new c.args.slot)
+    old.states.scratch c.args.byte c.add-next.result added.same (added.kept c.args.slot c.requires.slot).1
+    c.requires.within c.requires.stays c.requires.scratch added.other added.number
+
+pub returns-2-clause-leads : goal.returns-2-clause-leads
+returns-2-clause-leads c =
+    subst (λ (n : State). LeadsIn c.put-3.new.self n c.args.byte c.add-next.result) (c.add-next.ensures.kept c.args.slot c.requires.slot).1
+    c.put-3.ensures.leads

@@ -2,17 +2,16 @@ use Rattle.std.proofs.Common.{◌≡◌, ◌≤◌, ◌+◌, ◌*◌, ◌-◌, �
 use Rattle.std.proofs.lemmas.List.{take_rest}
 use Rattle.cs_syntax.specs.Matching.{Tree}
 use Rattle.cs_match.specs.declared.matcher.Line.{Line}
-use Rattle.cs_match.specs.Automaton.{Automaton, GrowsOver}
+use Rattle.cs_match.specs.Automaton.{Automaton}
 use Rattle.cs_match.specs.Deciding.{Decides}
 use Rattle.cs_match.specs.FirstMatch.{IsSearched}
 use Rattle.cs_match.specs.Lines.{terminated_lines}
 use Rattle.cs_match.specs.Skipped.{AreSkipped}
 use Rattle.cs_match.specs.Skipping.{NoneMatch}
 use Rattle.cs_match.specs.PartWork.{part_work}
-use Rattle.cs_match.specs.Work.{WorksWithin, work_of, search_overhead, searched_byte_work}
+use Rattle.cs_match.specs.Work.{WorksWithin, search_overhead, searched_byte_work}
 use Rattle.cs_match.proofs.PositionCountLemmas.{scaled}
 use Rattle.cs_match.proofs.SearchWorkLemmas.{parts_on, parts_found, with_overhead}
-use Rattle.cs_match.proofs.StateCountLemmas.{grows_none, grows_on}
 use Rattle.cs_match.proofs.WholeLineLemmas.{whole_from}
 use Rattle.cs_match.proofs.ScanLemmas.{skipped_none}
 use Rattle.cs_match.proofs.FirstMatchLemmas.{searched_after}
@@ -31,7 +30,6 @@ parts-init c = record {
   skipped = skipped_none (λ has_match. Decides has_match c.args.self.now.tree) c.args.block.now
       c.args.from c.requires.within;
   same = refl;
-  states = grows_none _ _ _ refl;
   work = (omega arith, omega arith);
 }
 
@@ -64,16 +62,6 @@ pub returns-in-Some-clause-same : goal.returns-in-Some-clause-same
 returns-in-Some-clause-same c = ap (λ (a : Automaton). a.tree) c.note_part.ensures
     ∙ c.search_part-searched.ensures.same ∙ c.parts.invariant.same
 
-pub returns-in-Some-clause-states : goal.returns-in-Some-clause-states
-returns-in-Some-clause-states c =
-    let i = c.parts.invariant in
-    let e = c.search_part-searched.ensures in
-    let searched = c.search_part-searched.result in
-    let bytes = length c.args.block.now - c.args.from in
-    subst (λ (a : Automaton). GrowsOver bytes c.args.self.now.states a.states) (sym c.note_part.ensures)
-    (grows_on (c.parts.offset - c.args.from) (searched.to - c.parts.offset) bytes _ _ _ i.states e.states
-    (omega (arith, i.skipped.lines.low, e.moves, e.high)))
-
 pub parts-preserved : goal.parts-preserved
 parts-preserved c =
     let i = c.parts.invariant in
@@ -83,15 +71,12 @@ parts-preserved c =
       skipped = behind c.args.self.now.tree c.parts.self.tree c.args.block.now c.args.from c.parts.offset searched.to
           searched.line _ i.same c.in-None.is i.skipped e.found;
       same = ap (λ (a : Automaton). a.tree) c.note_part.ensures ∙ e.same ∙ i.same;
-      states = subst (λ (a : Automaton). GrowsOver (searched.to - c.args.from) c.args.self.now.states a.states) (sym c.note_part.ensures)
-          (grows_on (c.parts.offset - c.args.from) (searched.to - c.parts.offset) (searched.to - c.args.from) _ _ _
-          i.states e.states (omega (arith, i.skipped.lines.low, e.moves)));
       work =
           let w = searched_byte_work c.args.self.now.tree in
           let new = c.search_part-searched.new.self in
-          let part = subst (λ (found : Option Line). work_of new
-          ≤ work_of c.parts.self + part_work c.args.self.now.tree c.parts.offset searched.to found) c.in-None.is
-          (subst (λ (t : Tree). work_of new ≤ work_of c.parts.self + part_work t c.parts.offset searched.to searched.line)
+          let part = subst (λ (found : Option Line). new.steps
+          ≤ c.parts.self.steps + part_work c.args.self.now.tree c.parts.offset searched.to found) c.in-None.is
+          (subst (λ (t : Tree). new.steps ≤ c.parts.self.steps + part_work t c.parts.offset searched.to searched.line)
           i.same e.work.1) in
           subst (λ (a : Automaton). WorksWithin ((searched.to - c.args.from) * w) c.args.self.now a) (sym c.note_part.ensures) (
             omega (arith, i.work.0, e.work.0),
@@ -123,9 +108,9 @@ returns-in-Some-clause-work c =
     c.in-Some.is e.found in
     let w = searched_byte_work c.args.self.now.tree in
     let new = c.search_part-searched.new.self in
-    let part = subst (λ (f : Option Line). work_of new
-    ≤ work_of c.parts.self + part_work c.args.self.now.tree c.parts.offset searched.to f) c.in-Some.is
-    (subst (λ (t : Tree). work_of new ≤ work_of c.parts.self + part_work t c.parts.offset searched.to searched.line)
+    let part = subst (λ (f : Option Line). new.steps
+    ≤ c.parts.self.steps + part_work c.args.self.now.tree c.parts.offset searched.to f) c.in-Some.is
+    (subst (λ (t : Tree). new.steps ≤ c.parts.self.steps + part_work t c.parts.offset searched.to searched.line)
     i.same e.work.1) in
     subst (λ (a : Automaton). WorksWithin ((line.end + 1 - c.args.from + search_overhead) * w) c.args.self.now a)
     (sym c.note_part.ensures) (

@@ -1,5 +1,4 @@
 use Rattle.std.proofs.Common.{◌*◌, ◌-◌, ◌≡◌, length}
-use Rattle.cs_match.specs.Automaton.{GrowsOver}
 use Rattle.cs_match.specs.Deciding.{Decides}
 use Rattle.cs_match.specs.Work.{WorksWithin, searched_byte_work}
 use Rattle.cs_match.specs.Skipped.{AreSkipped}
@@ -9,7 +8,6 @@ abbrev pub invariant-parts : goal.invariant-parts
 invariant-parts l = record {
   skipped : AreSkipped (λ has_match. Decides has_match l.fn.self.tree) l.block l.from l.offset;
   same : l.self.tree ≡ l.fn.self.tree;
-  states : GrowsOver (l.offset - l.from) l.fn.self.states l.self.states;
   work : WorksWithin ((l.offset - l.from) * searched_byte_work l.fn.self.tree) l.fn.self l.self;
 }
 

@@ -7,7 +7,6 @@ use Rattle.cs_match.specs.Work.{byte_work, searched_bytes}
 use Rattle.cs_match.proofs.SearchWorkLemmas.{candidate_cost, read_cost, with_overhead}
 use Rattle.cs_match.proofs.CandidateLemmas.{word_is_match, no_candidate, before_candidate}
 use Rattle.cs_match.proofs.FirstMatchLemmas.{searched_after}
-use Rattle.cs_match.proofs.StateCountLemmas.{grows_none, grows_on}
 use Rattle.cs_match.proofs.WholeLineLemmas.{whole_line, whole_from}
 use Rattle.cs_match.proofs.matcher.Matcher.search_candidate.Goals as goal
 
@@ -26,7 +25,6 @@ returns-in_default-line c =
           c.next_candidate-candidate.result.has_word) c.in_default-line.is c.next_candidate-candidate.ensures.candidate);
       high = omega arith;
       same = refl;
-      states = grows_none _ _ _ refl;
       work = (work.0, omega (arith, bytes, work.1, read_cost (length block - c.args.from) (byte_work tree)));
     })
 
@@ -57,7 +55,6 @@ returns-then-is_exact c =
       };
       high = omega (arith, e.line.high);
       same = refl;
-      states = grows_none _ _ _ refl;
       work = (work.0, omega (arith, bytes, work.1, read_cost b k, with_overhead b (2 * (k + 2113))));
     })
 
@@ -94,8 +91,6 @@ returns c =
           c.next_candidate-candidate.result.has_word is.required e) line.found;
       high = omega (arith, e.line.high);
       same = line.same;
-      states = grows_on 0 (end + 1 - start) (end + 1 - c.args.from) _ _ _ (grows_none 0 _ _ refl) line.states
-          (omega (arith, e.line.low, e.line.order));
       work = (
         omega (arith, work.0, line.work.0),
         omega (

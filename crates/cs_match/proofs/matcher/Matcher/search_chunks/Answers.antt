@@ -1,15 +1,12 @@
-use Rattle.std.proofs.Common.{ℕ, List, ◌≤◌, ◌-◌, length, inl, inr, refl, sym, subst, arith}
+use Rattle.std.proofs.Common.{ℕ, List, ◌≤◌, ◌-◌, length, inl, inr, arith}
 use Rattle.std.specs.Prelude.{Option, Some, None, MatchOption}
 use Rattle.std.proofs.lemmas.Bool.{cases_lt}
 use Rattle.cs_syntax.specs.Matching.{Tree}
 use Rattle.cs_match.specs.declared.matcher.Line.{Line}
-use Rattle.cs_match.specs.Scan.{RulesOutLines}
 use Rattle.cs_match.specs.ConsistentDfa.{tree_in}
 use Rattle.cs_match.specs.FirstMatch.{IsSearched}
-use Rattle.cs_match.proofs.DfaLineLemmas.{dfa_rules_out}
 use Rattle.cs_match.proofs.SearchWorkLemmas.{chunk_cost}
 use Rattle.cs_match.proofs.FirstMatchLemmas.{searched_after}
-use Rattle.cs_match.proofs.StateCountLemmas.{grows_none, grows_on}
 use Rattle.cs_match.proofs.WholeLineLemmas.{whole_from}
 use Rattle.cs_match.proofs.matcher.Matcher.search_chunks.Goals as goal
 
@@ -32,7 +29,6 @@ returns c =
     let block = c.args.block.now in
     let dfa = c.self.inside.dfa in
     let tree = tree_in dfa in
-    let right = c.self.invariant.0 in
     let start = c.skip_interleaved-start.result in
     let skip = c.skip_interleaved-start.ensures in
     let to = c.cut-to.result in
@@ -53,15 +49,11 @@ returns c =
           (record {
             lines = skip.skipped.lines;
             none = λ has_match decides.
-                skip.skipped.none has_match (subst (RulesOutLines has_match) (sym c.deref.ensures.value)
-                (dfa_rules_out tree dfa.states.cached.items dfa.states.used dfa.states.transitions.items
-                right.cached.bound right.transitions right.cached right.expanded has_match decides));
+                skip.skipped.none has_match (c.table.ensures.skips has_match decides);
           })
           line.found;
       high = cut.high;
       same = line.same;
-      states = grows_on 0 (to - start) (to - c.args.from) _ _ _ (grows_none 0 _ _ refl) line.states
-          (omega (arith, skip.skipped.lines.low));
       work = (
         omega (arith, skip.most.0, cut.work.0, line.work.0),
         omega (arith, skip.most.0, cut.work.0, line.work.1, cost),

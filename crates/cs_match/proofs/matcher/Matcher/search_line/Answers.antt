@@ -17,7 +17,6 @@ returns c =
       found = line.found;
       high = omega (arith, e.high);
       same = line.same;
-      states = line.states;
       work = (
         omega (arith, e.work, line.work.0),
         omega (

@@ -10,7 +10,6 @@ returns-in-Single c =
       found = line.found;
       high = omega arith;
       same = line.same;
-      states = line.states;
       work = (
         line.work.0,
         omega (

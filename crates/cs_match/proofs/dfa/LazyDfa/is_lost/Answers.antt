@@ -1,7 +1,7 @@
 use Rattle.std.proofs.Common.{replicate, false, sym, ◌∙◌, ap}
 use Rattle.cs_match.specs.ConsistentDfa.{tree_in}
 use Rattle.cs_match.proofs.DeadLemmas.{is_dead}
-use Rattle.cs_match.proofs.dfa.LazyDfa.is_dead.Goals as goal
+use Rattle.cs_match.proofs.dfa.LazyDfa.is_lost.Goals as goal
 
 pub returns-then-is_anchored-clause-dead : goal.returns-then-is_anchored-clause-dead
 returns-then-is_anchored-clause-dead c = λ h.

@@ -1,0 +1,217 @@
+// The states that a lazy DFA has cached, in flat vectors, and a hash table in which they are looked for.
+ghost use Rattle.std.specs.Prelude.{◌≡◌, ◌<◌, ◌≤◌, ◌∷◌, ◌++◌, [], IfOk, IfSome, length, take, slice_index_or, true};
+ghost use Rattle.cs_match.specs.declared.state.State.{State};
+ghost use Rattle.cs_match.specs.CachedStates.{behind_of};
+ghost use Rattle.cs_match.specs.PositionSet.{positions_of, IsPositionSet};
+
+use crate::state::State;
+use cs_syntax::Unfinished;
+use std::alloc::{AllocError, Global};
+use std::marker::Model;
+
+/// The most places at which a state is looked for.
+pub(crate) const MOST_PROBES: usize = 8;
+
+/// What a state keeps of the bytes before the offset, besides its positions.
+#[derive(Clone, Copy, Drop)]
+pub(crate) struct Behind {
+    pub(crate) first: bool,
+    pub(crate) word: bool,
+    pub(crate) unfinished: Unfinished,
+}
+
+/// A cached state that equals another one, if it is found, and the place of the other one in the hash table.
+#[derive(Clone, Copy)]
+pub(crate) struct Found {
+    pub(crate) slot: Option<usize>,
+    pub(crate) place: usize,
+}
+
+/// The cached states. A state that is cached need not be found: it is cached again.
+#[derive(Drop)]
+pub(crate) struct CachedStates {
+    /// The positions of the states, as many words for each.
+    sets: Vec<u64>,
+    /// The rest of each state.
+    behinds: Vec<Behind>,
+    /// The hash table has a slot at each place. It is in use if it is that of a state with this place.
+    slots: Vec<u16>,
+    /// The place of each state.
+    places: Vec<u32>,
+    /// The most states.
+    most: usize,
+    /// The number of positions.
+    count: usize,
+}
+
+impl Model for CachedStates {
+    ghost use Rattle.std.specs.Prelude.{◌≡◌, ◌≤◌, ◌<◌, ◌*◌, length, vec_len, vec_capacity};
+    ghost use Rattle.cs_match.specs.CachedStates.{StateList, states_of, AreSets};
+    ghost use Rattle.cs_match.specs.Work.{words};
+
+    ghost Value = { StateList };
+
+    ghost view = { λ s. record { items = states_of s.count s.sets.items s.behinds.items; most = s.most; positions = s.count } };
+
+    ghost invariant = { λ s. AreSets s.count s.sets.items s.behinds.items
+        × (vec_len s.places ≡ vec_len s.behinds)
+        × (vec_len s.slots ≡ 2 * s.most)
+        × (0 < s.most)
+        × (s.most < 65536)
+        × (s.most ≤ vec_capacity s.behinds)
+        × (s.most ≤ vec_capacity s.places)
+        × (s.most * words s.count ≤ vec_capacity s.sets) };
+}
+
+impl Behind {
+    /// What the state keeps of the bytes before the offset.
+    fn of(state: &State) -> Behind
+        ensures { result ≡ behind_of state.now }
+    {
+        Behind {
+            first: state.first,
+            word: state.word,
+            unfinished: state.unfinished,
+        }
+    }
+
+    /// Whether the state keeps the same.
+    fn is_of(self, state: &State) -> bool
+        ensures { result ≡ true → self ≡ behind_of state.now }
+    {
+        self.first == state.first && self.word == state.word && self.unfinished == state.unfinished
+    }
+}
+
+impl CachedStates {
+    /// No states of so many positions, with room for so many. Their pages are touched as states are cached.
+    pub(crate) fn new(alloc: Global, most: usize, count: usize) -> Result<CachedStates, AllocError>
+        requires some { 0 < most }
+        requires few { most < 65536 }
+        ensures { IfOk result (λ states. states ≡ record { items = []; most = most; positions = count }) }
+    {
+        let Some(words) = most.checked_mul(count.div_ceil(64)) else {
+            return Err(AllocError);
+        };
+        let sets = Vec::with_capacity(alloc, words)?;
+        let behinds = Vec::with_capacity(alloc, most)?;
+        let slots = vec![in alloc; 0u16; 2 * most]?;
+        let places = Vec::with_capacity(alloc, most)?;
+        Ok(CachedStates {
+            sets,
+            behinds,
+            slots,
+            places,
+            most,
+            count,
+        })
+    }
+
+    /// The number of states.
+    pub(crate) fn len(&self) -> usize
+        ensures { result ≡ length self.now.items }
+    {
+        self.behinds.len()
+    }
+
+    /// The most states.
+    pub(crate) fn most(&self) -> usize
+        ensures { result ≡ self.now.most }
+    {
+        self.most
+    }
+
+    /// The words of the positions of a state.
+    fn set(&self, slot: usize) -> &[u64]
+        requires { slot < length self.now.items }
+        ensures set { IsPositionSet result.now self.now.positions }
+        ensures same { (other : State) → (slice_index_or self.now.items slot other).positions
+            ≡ positions_of result.now self.now.positions }
+    {
+        let words = self.count.div_ceil(64);
+        let start = slot * words;
+        &self.sets[start..start + words]
+    }
+
+    /// The rest of a state.
+    fn behind(&self, slot: usize) -> Behind
+        requires { slot < length self.now.items }
+        ensures { (other : State) → result ≡ behind_of (slice_index_or self.now.items slot other) }
+    {
+        self.behinds[slot]
+    }
+
+    /// Whether the state is cached in the slot.
+    fn is_at(&self, slot: usize, state: &State) -> bool
+        requires within { slot < length self.now.items }
+        requires positions { length state.now.positions ≡ self.now.positions }
+        ensures { result ≡ true → slice_index_or self.now.items slot state.now ≡ state.now }
+    {
+        self.behind(slot).is_of(state) && self.set(slot) == state.positions.words()
+    }
+
+    /// Looks for the state, and for its place.
+    pub(crate) fn find(&self, state: &State) -> Found
+        requires { length state.now.positions ≡ self.now.positions }
+        ensures { IfSome result.slot (λ slot. (slot < length self.now.items)
+            × (slice_index_or self.now.items slot state.now ≡ state.now)) }
+    {
+        let home = state.hash() as usize;
+        for probe in 0..MOST_PROBES {
+            let place = home.wrapping_add(probe) % self.slots.len();
+            let slot = self.slots[place] as usize;
+            if slot >= self.len() || self.places[slot] as usize != place {
+                return Found { slot: None, place };
+            }
+            if self.is_at(slot, state) {
+                return Found {
+                    slot: Some(slot),
+                    place,
+                };
+            }
+        }
+        Found {
+            slot: None,
+            place: home,
+        }
+    }
+
+    /// Makes a cached state this one.
+    pub(crate) fn load(&self, slot: usize, state: &mut State)
+        requires within { slot < length self.now.items }
+        requires positions { length state.old.positions ≡ self.now.positions }
+        ensures { (other : State) → state.new ≡ slice_index_or self.now.items slot other }
+    {
+        let behind = self.behind(slot);
+        state.positions.copy_from(self.set(slot));
+        state.first = behind.first;
+        state.word = behind.word;
+        state.unfinished = behind.unfinished;
+    }
+
+    /// Caches the state.
+    pub(crate) fn push(&mut self, state: &State, place: usize)
+        requires room { length self.old.items < self.old.most }
+        requires positions { length state.now.positions ≡ self.old.positions }
+        ensures { self.new ≡ record self.old { items = self.old.items ++ state.now ∷ [] } }
+    {
+        let place = place % self.slots.len();
+        self.slots[place] = self.len() as u16;
+        self.places.push(place as u32).unwrap();
+        self.sets
+            .extend_from_slice(state.positions.words())
+            .unwrap();
+        self.behinds.push(Behind::of(state)).unwrap();
+    }
+
+    /// Forgets all states but the first ones, so many.
+    pub(crate) fn truncate(&mut self, len: usize)
+        requires { len ≤ length self.old.items }
+        ensures { self.new ≡ record self.old { items = take len self.old.items } }
+    {
+        let words = self.count.div_ceil(64);
+        self.sets.truncate(len * words);
+        self.behinds.truncate(len);
+        self.places.truncate(len);
+    }
+}

@@ -1,24 +1,16 @@
 -- Buckets of a byte and of three bytes.
-use Rattle.std.proofs.Common.{◌≡◌, ℕ, ◌+◌, ◌*◌, ◌/◌, ◌%◌, ◌^◌, ◌<◌, true, List, [], length, get_or, set, ap, sym, subst, ◌∙◌, bit_and, bit_or, inl, inr, arith, add-zero, w8}
+use Rattle.std.proofs.Common.{◌≡◌, ℕ, ◌+◌, ◌*◌, ◌/◌, ◌%◌, ◌^◌, ◌<◌, Bool, true, false, List, [], length, get_or, set, ap, sym, subst, ◌∙◌, bit_or, inl, inr, arith, add-zero, w8, eqb, not, refl}
 use Rattle.std.specs.Int.{bit_at}
-use Rattle.std.proofs.lemmas.Bool.{cases_eq}
-use Rattle.std.proofs.lemmas.Nat.Bits.{bit_at-zero, bit_at_and, bit_at_or, bit_at-lt, bit_at_set_same}
+use Rattle.std.proofs.lemmas.Bool.{cases_eq, eqb-true}
+use Rattle.std.proofs.lemmas.Nat.Bits.{bit_at_set_same}
 use Rattle.std.proofs.lemmas.List.{get_or-set_same, get_or-set_other}
+use Rattle.cs_prefilter.specs.declared.masks.NibbleMasks.{NibbleMasks}
 use Rattle.cs_prefilter.specs.declared.masks.TrigramMasks.{TrigramMasks}
 use Rattle.cs_prefilter.specs.declared.word.Word.{Word}
 use Rattle.cs_prefilter.specs.WordAt.{WordAt}
 use Rattle.cs_syntax.specs.Matching.{member}
-use Rattle.cs_prefilter.specs.Buckets.{buckets, IsInBucket, KeepsByteBuckets, buckets_of, buckets_at, KeepsBuckets, HasBucket}
-
--- a bit that is set in both numbers is set in their bitwise and
-in_both : (a b g : ℕ) → bit_at a g ≡ 1 → bit_at b g ≡ 1 → bit_at (bit_and a b) g ≡ 1
-in_both a b g h k = omega (arith, bit_at_and a b g)
-
-in_left : (a b g : ℕ) → bit_at (bit_and a b) g ≡ 1 → bit_at a g ≡ 1
-in_left a b g h = omega (arith, bit_at_and a b g, bit_at-lt a g, bit_at-lt b g)
-
-in_right : (a b g : ℕ) → bit_at (bit_and a b) g ≡ 1 → bit_at b g ≡ 1
-in_right a b g h = omega (arith, bit_at_and a b g, bit_at-lt a g, bit_at-lt b g)
+use Rattle.cs_prefilter.specs.Buckets.{buckets, looked_up, IsInBucket, KeepsByteBuckets, buckets_of, KeepsBuckets, HasBucket}
+use Rattle.cs_prefilter.proofs.BitLemmas.{in_both, in_left, in_right, in_either}
 
 -- the table, with the bit of the bucket set in one entry
 abbrev pub bit_is_set : List ℕ → ℕ → ℕ → List ℕ
@@ -29,9 +21,6 @@ bit_set_here : (entries : List ℕ) (at bucket : ℕ) → at < length entries �
 bit_set_here entries at bucket within small =
     ap (λ n. bit_at n bucket) (get_or-set_same entries at _ 0 within)
     ∙ bit_at_set_same w8 (get_or entries at 0) bucket small
-
-in_either : (a b g : ℕ) → bit_at a g ≡ 1 → bit_at (bit_or a b) g ≡ 1
-in_either a b g h = omega (arith, bit_at_or a b g, bit_at-lt b g)
 
 bit_set_keeps : (entries : List ℕ) (at bucket j g : ℕ) → at < length entries → bit_at (get_or entries j 0) g ≡ 1
     → bit_at (get_or (bit_is_set entries at bucket) j 0) g ≡ 1
@@ -78,20 +67,44 @@ KeepsBuckets-each old new one two three a b c g h =
     in_both _ _ g (one a g (in_left _ _ g h)) (in_both _ _ g (two b g (in_left _ _ g later)) (three c g (in_right _ _ g later)))
 
 -- a word keeps its bucket
-pub HasBucket-kept : (old new : TrigramMasks) → KeepsBuckets old new → (word : Word) → HasBucket old word → HasBucket new word
-HasBucket-kept old new keeps word of = record {
+pub HasBucket-kept : (old new : TrigramMasks) → KeepsBuckets old new → (bucket : ℕ) (word : Word) → HasBucket old bucket word
+    → HasBucket new bucket word
+HasBucket-kept old new keeps bucket word of = record {
   long = of.long;
-  bucket = of.bucket;
-  has = λ a b c d in_a in_b in_c has_a has_b has_c. keeps a b c of.bucket (of.has a b c d in_a in_b in_c has_a has_b has_c);
+  has = λ a b c d in_a in_b in_c has_a has_b has_c. keeps a b c bucket (of.has a b c d in_a in_b in_c has_a has_b has_c);
 }
 
--- no word of a bucket occurs at an offset that is not a candidate
-pub none_without_candidate : (trigram_masks : TrigramMasks) (text : List ℕ) (k : ℕ) → ((i : ℕ) → get_or text i 0 < 256)
-    → buckets_at trigram_masks text k ≡ 0 → (word : Word) → HasBucket trigram_masks word → WordAt text k word → ⊥
-none_without_candidate trigram_masks text k bytes none word of occurs =
+-- where a word of the bucket occurs, its first three bytes are in the bucket
+pub in_bucket : (trigram_masks : TrigramMasks) (text : List ℕ) (k bucket : ℕ) (word : Word) → ((i : ℕ) → get_or text i 0 < 256)
+    → HasBucket trigram_masks bucket word → WordAt text k word
+    → bit_at (buckets_of trigram_masks (get_or text k 0) (get_or text (k + 1) 0) (get_or text (k + 2) 0)) bucket ≡ 1
+in_bucket trigram_masks text k bucket word bytes of occurs =
     let at = λ (i : ℕ) (within : i < length word.sets.items). occurs.each i [] within in
     let first : member (get_or word.sets.items 0 []) (get_or text k 0) ≡ true =
     ap (λ i. member (get_or word.sets.items 0 []) (get_or text i 0)) (sym (add-zero k)) ∙ at 0 (omega (arith, of.long)) in
-    let set = of.has _ _ _ [] (bytes k) (bytes (k + 1)) (bytes (k + 2)) first (at 1 (omega (arith, of.long)))
-    (at 2 (omega (arith, of.long))) in
-    absurd (omega (arith, set, ap (λ n. bit_at n of.bucket) none, bit_at-zero of.bucket))
+    of.has _ _ _ [] (bytes k) (bytes (k + 1)) (bytes (k + 2)) first (at 1 (omega (arith, of.long))) (at 2 (omega (arith, of.long)))
+
+-- the same for each byte by the masks of its offset
+pub in_buckets : (trigram_masks : TrigramMasks) (a b c g : ℕ) → bit_at (buckets_of trigram_masks a b c) g ≡ 1
+    → IsInBucket trigram_masks.first a g × IsInBucket trigram_masks.second b g × IsInBucket trigram_masks.third c g
+unfolding buckets_of
+in_buckets trigram_masks a b c g set =
+    let later = in_right _ _ g set in
+    (in_left _ _ g set, in_left _ _ g later, in_right _ _ g later)
+
+-- a byte of a bucket is also in it by its low nibble
+pub in_looked_up : (all : Bool) (masks : NibbleMasks) (b g : ℕ) → IsInBucket masks b g → bit_at (looked_up all masks b) g ≡ 1
+unfolding buckets
+in_looked_up true masks b g set = set
+in_looked_up false masks b g set = in_left _ _ g set
+
+-- a flag that is a number: all nibbles if it is not 0, and low nibbles if it is
+pub all_of_flag : (flag : ℕ) (masks : NibbleMasks) (b : ℕ) → (flag ≡ 0 → ⊥) → looked_up (not (eqb flag 0)) masks b ≡ buckets masks b
+all_of_flag flag masks b some = by (eqb flag 0) refl
+  where
+    by : (t : Bool) → eqb flag 0 ≡ t → looked_up (not (eqb flag 0)) masks b ≡ buckets masks b
+    by true e = absurd (some (eqb-true flag 0 e))
+    by false e = rw e refl
+
+pub low_of_flag : (flag : ℕ) (masks : NibbleMasks) (b : ℕ) → flag ≡ 0 → looked_up (not (eqb flag 0)) masks b ≡ get_or masks.low (b % 16) 0
+low_of_flag flag masks b none = rw none refl

@@ -1,10 +1,13 @@
--- Worked examples: the buckets of a byte and of three bytes, and a test of a letter.
+-- Worked examples: the buckets of bytes and words, tests of a letter, and eight bytes.
 use Rattle.std.proofs.Common.{◌≡◌, ℕ, ◌-◌, List, ◌∷◌, ◌++◌, replicate, refl}
 use Rattle.cs_prefilter.specs.declared.byte_test.ByteTest.{ByteTest}
 use Rattle.cs_prefilter.specs.declared.masks.NibbleMasks.{NibbleMasks}
 use Rattle.cs_prefilter.specs.declared.masks.TrigramMasks.{TrigramMasks}
 use Rattle.cs_prefilter.specs.Buckets.{buckets, buckets_of}
-use Rattle.cs_prefilter.specs.ByteTest.{difference}
+use Rattle.std.specs.Prelude.{true, false, codes}
+use Rattle.cs_prefilter.specs.Pairs.{test_lane}
+use Rattle.cs_prefilter.specs.WordBuckets.{bucket_of, first_in}
+use Rattle.cs_prefilter.specs.Fronts.{eight}
 
 -- a table of sixteen entries, all 0 except one
 entry : ℕ → ℕ → List ℕ
@@ -33,10 +36,22 @@ abc_is_in_one_bucket : buckets_of trigram_masks 97 98 99 ≡ 4
 unfolding buckets_of buckets trigram_masks masks entry
 abc_is_in_one_bucket = refl
 
--- a test of both cases of a letter: `a` and `A` pass, and `q` differs in the bit 16
+-- a test of both cases of a letter: `a` and `A` pass, and `q` has a lane of 0
 letter : ByteTest
 letter = record { mask = 32; byte = 97 }
 
-both_cases_pass : (difference letter 65 ≡ 0) × (difference letter 97 ≡ 0) × (difference letter 113 ≡ 16)
+both_cases_pass : (test_lane true letter 65 ≡ 255) × (test_lane true letter 97 ≡ 255) × (test_lane true letter 113 ≡ 0)
 unfolding letter
 both_cases_pass = (refl, refl, refl)
+
+capital_needs_the_mask : test_lane false letter 65 ≡ 0
+unfolding letter
+capital_needs_the_mask = refl
+
+-- three words have the buckets 0, 2 and 5, and bucket 2 has the word 1 alone
+three_words : (bucket_of 0 3 ≡ 0) × (bucket_of 1 3 ≡ 2) × (bucket_of 2 3 ≡ 5) × (first_in 2 3 ≡ 1) × (first_in 3 3 ≡ 2)
+three_words = (refl, refl, refl, refl, refl)
+
+-- the eight bytes of `12345678`
+digits : eight (codes "12345678") 0 ≡ 0x3837363534333231
+digits = refl

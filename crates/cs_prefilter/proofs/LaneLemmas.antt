@@ -1,12 +1,11 @@
 -- The value of each lane after an operation on vectors of 32 bytes.
 use Rattle.std.proofs.Common.{◌≡◌, ◌≢◌, ◌↔◌, ℕ, ◌+◌, ◌*◌, ◌/◌, ◌%◌, ◌^◌, ◌<◌, List, Bool, true, false, not, cond, eqb, length, get_or, map, replicate, refl, sym, ap, ◌∙◌, arith, w8}
 use Rattle.std.specs.Int.{bit_at}
-use Rattle.std.specs.Simd.Lanes.{zip2, mask_l, top}
-use Rattle.std.proofs.lemmas.Simd.{length-zip2, get_or-zip2, get_or-replicate, length-replicate, swz_l, SwzOk, SwzOk-from_below, Each1-from_get_or, length-swz_l, get_or-swz_l_below, bitmask_splat, bit_mask_l}
+use Rattle.std.specs.Simd.Lanes.{zip2, mask_l, sel_l, top}
+use Rattle.std.proofs.lemmas.Simd.{length-zip2, get_or-zip2, get_or-replicate, length-replicate, swz_l, SwzOk, SwzOk-from_below, Each1-from_get_or, length-swz_l, get_or-swz_l_below, bitmask_splat, bit_mask_l, tops_compared, length-sel_l, get_or-sel_l}
 use Rattle.std.proofs.Math.ListN.{get_or-map}
-use Rattle.std.proofs.lemmas.List.{get_or-map as get_or-map_below}
 use Rattle.std.proofs.lemmas.Bool.{eqb-true, eqb-false}
-use Rattle.cs_prefilter.specs.Lanes.{HasLanes}
+use Rattle.cs_prefilter.specs.Lanes.{HasLanes, full_if_equal}
 
 -- an operator on two vectors
 pub of_two : (f : ℕ → ℕ → ℕ) (a b : List ℕ) → length a ≡ 32 → length b ≡ 32
@@ -67,15 +66,26 @@ mask_of_nonzero v k long =
     let t = mask_bit (get_or v k 0) _ refl in
     (λ h. t.0 (sym e ∙ h), λ h. e ∙ t.1 h)
 
--- the test that gives each bit of the mask of zeros
-zero_bit : (x : ℕ) → x ≡ 0 → cond {A = ℕ} (eqb x 0) 1 0 ≡ 1
-zero_bit x e = rw e refl
-
--- the mask of the lanes that are 0
-pub mask_of_zero : (v : List ℕ) (k : ℕ) → length v ≡ 32 → k < 32 → get_or v k 0 ≡ 0
-    → bit_at (mask_l (map (top 7) (zip2 (λ a b. cond (eqb a b) 255 0) v (replicate 32 0))) % 2 ^ 64) k ≡ 1
-mask_of_zero v k long below zero =
-    ap (λ m. bit_at m k) (bitmask_splat w8 (λ a b. eqb a b) v 32 0 long (omega arith))
-    ∙ bit_mask_l (map (λ x. eqb x 0) v) k
-    ∙ ap (λ b. cond b 1 0) (get_or-map_below (λ x. eqb x 0) v k 0 false (omega arith))
-    ∙ zero_bit (get_or v k 0) zero
+-- 255 for each lane that is equal to the byte
+pub equal_lanes : (v : List ℕ) (byte : ℕ) → length v ≡ 32
+    → HasLanes (sel_l (map (top 7) (zip2 (λ a b. cond (eqb a b) 255 0) v (replicate 32 byte))) (replicate 32 255) (replicate 32 0))
+    (λ k. full_if_equal (get_or v k 0) byte)
+equal_lanes v byte long =
+    let bytes : List ℕ = replicate 32 byte in
+    let full : List ℕ = replicate 32 255 in
+    let none : List ℕ = replicate 32 0 in
+    let full_long : length full ≡ 32 = length-replicate {A = ℕ} 32 255 in
+    let none_long : length none ≡ 32 = length-replicate {A = ℕ} 32 0 in
+    let wide : length bytes ≡ 32 = length-replicate 32 byte in
+    let tests = length-zip2 eqb v bytes (long ∙ sym wide) ∙ long in
+    let same = ap (λ ms. sel_l ms full none) (tops_compared w8 eqb v bytes) in
+    record {
+      long = ap (λ (l : List ℕ). length l) same
+          ∙ length-sel_l (zip2 eqb v bytes) full none (omega (arith, tests, full_long)) (omega (arith, full_long, none_long)) ∙ tests;
+      each = λ k below.
+          ap (λ l. get_or l k 0) same
+          ∙ get_or-sel_l (zip2 eqb v bytes) full none k 0 (omega (arith, tests)) (omega (arith, full_long)) (omega (arith, none_long))
+          ∙ (λ i. cond (get_or-zip2 eqb v bytes k 0 0 false (omega (arith, long)) (omega (arith, wide)) i)
+          (get_or-replicate 32 k 255 0 below i) (get_or-replicate 32 k 0 0 below i))
+          ∙ ap (λ b. cond (eqb (get_or v k 0) b) 255 0) (get_or-replicate 32 k byte 0 below);
+    }

@@ -4,4 +4,8 @@ mod BucketLemmas
 mod Examples
 mod LaneLemmas
 mod PairLemmas
-mod CandidateMaskLemmas
+mod BitLemmas
+mod ByteTestLemmas
+mod WordBucketLemmas
+mod FrontLemmas
+mod ScanLemmas

@@ -1,7 +1,7 @@
 -- Runs that a tree matches, and the words that every matching line contains.
 use Rattle.std.proofs.Common.{◌≡◌, ℕ, suc, ◌+◌, ◌<◌, ◌≤◌, inl, inr, Bool, true, List, [], ◌∷◌, ◌++◌, length, take, drop, get_or, refl, sym, ap, subst, ◌∙◌, arith, length-append, length-drop, length-take-le, get_or-take, get_or-drop, drop_of_length-le}
 use Rattle.cs_prefilter.specs.declared.words.Words.{Words}
-use Rattle.std.specs.Prelude.{Option, Some, None, IfSome, max, slice_index, vec_len}
+use Rattle.std.specs.Prelude.{Option, Some, None, Result, Ok, Err, IfOk, IfSome, max, slice_index, vec_len}
 use Rattle.std.proofs.lemmas.Bool.{cases_lt}
 use Rattle.std.proofs.lemmas.List.{drop-append-le, get_or_append_left, get_or-append-add}
 use Rattle.std.proofs.Math.Seq.{get_or-append_seam, drop-length}
@@ -192,3 +192,12 @@ required t words (Some p) has by all = record {
   required = λ line found. by line (has line found.0 found.1 (omega (arith, found.2, found.3)) found.4);
   sufficient = all;
 }
+
+-- the same unless there is no memory
+pub required_ok : {E : Type 0} (t : Tree) (words : Option Words) (result : Result (Option (List Word × Bool)) E) →
+    ((line : List ℕ) (i j : ℕ) → i ≤ length line → MatchesSpan line t i j → HasWordOf line words) →
+    IfOk result (λ prefilter. (line : List ℕ) → HasWordOf line words → IfSome prefilter (λ p. HasWord p.0 line)) →
+    IfOk result (λ prefilter. IfSome prefilter (λ p. p.1 ≡ true → AreSufficient t p.0)) →
+    IfOk result (λ prefilter. IfSome prefilter (IsPrefilterOf t))
+required_ok t words (Ok prefilter) has by all = required t words prefilter has by all
+required_ok t words (Err e) has by all = tt

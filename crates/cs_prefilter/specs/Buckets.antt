@@ -1,5 +1,5 @@
 -- Buckets of class trigrams (Teddy): the buckets that the nibble masks give for three neighbouring bytes.
-use Rattle.std.specs.Prelude.{◌≡◌, ℕ, ◌+◌, ◌/◌, ◌%◌, ◌<◌, ◌≤◌, true, Bool, List, length, slice_index, slice_index_or, bit_and}
+use Rattle.std.specs.Prelude.{◌≡◌, ℕ, ◌/◌, ◌%◌, ◌<◌, ◌≤◌, true, false, Bool, List, length, slice_index, slice_index_or, bit_and}
 use Rattle.std.specs.Int.{bit_at}
 use Rattle.cs_syntax.specs.Matching.{member}
 use Rattle.cs_prefilter.specs.declared.word.Word.{Word}
@@ -9,6 +9,11 @@ use Rattle.cs_prefilter.specs.declared.masks.TrigramMasks.{TrigramMasks}
 -- the buckets that both nibbles of the byte are in, one bit each
 unfoldable pub buckets : NibbleMasks → ℕ → ℕ
 buckets masks b = bit_and (slice_index masks.low (b % 16)) (slice_index masks.high (b / 16))
+
+-- the buckets, or without the flag those of the low nibble, which are some more
+abbrev pub looked_up : Bool → NibbleMasks → ℕ → ℕ
+looked_up true masks b = buckets masks b
+looked_up false masks b = slice_index masks.low (b % 16)
 
 -- the byte is in the bucket
 abbrev pub IsInBucket : NibbleMasks → ℕ → ℕ → Type 0
@@ -23,15 +28,6 @@ unfoldable pub buckets_of : TrigramMasks → ℕ → ℕ → ℕ → ℕ
 buckets_of trigram_masks a b c =
     bit_and (buckets trigram_masks.first a) (bit_and (buckets trigram_masks.second b) (buckets trigram_masks.third c))
 
--- the buckets of the three bytes at offset k
-abbrev pub buckets_at : TrigramMasks → List ℕ → ℕ → ℕ
-buckets_at trigram_masks text k =
-    buckets_of trigram_masks (slice_index text k) (slice_index text (k + 1)) (slice_index text (k + 2))
-
--- no offset from `from` up to `to` is a candidate: its three bytes share no bucket
-abbrev pub NoCandidate : TrigramMasks → List ℕ → ℕ → ℕ → Type 0
-NoCandidate trigram_masks text from to = (k : ℕ) → from ≤ k → k < to → buckets_at trigram_masks text k ≡ 0
-
 -- any three bytes keep their buckets
 abbrev pub KeepsBuckets : TrigramMasks → TrigramMasks → Type 0
 KeepsBuckets old new =
@@ -44,8 +40,7 @@ TrigramIsInBucket trigram_masks word bucket =
     → member (slice_index_or word.sets.items 0 d) a ≡ true → member (slice_index_or word.sets.items 1 d) b ≡ true
     → member (slice_index_or word.sets.items 2 d) c ≡ true → bit_at (buckets_of trigram_masks a b c) bucket ≡ 1
 
--- the trigram that the word begins with is in some bucket
-pub record HasBucket (trigram_masks : TrigramMasks) (word : Word) : Type 0 where
+-- the trigram that the word begins with is in the bucket
+pub record HasBucket (trigram_masks : TrigramMasks) (bucket : ℕ) (word : Word) : Type 0 where
   pub long : 3 ≤ length word.sets.items
-  pub bucket : ℕ
   pub has : TrigramIsInBucket trigram_masks word bucket

@@ -11,4 +11,8 @@ pub mod Pairs
 pub mod Lanes
 pub mod Buckets
 pub mod Search
+pub mod Probe
+pub mod WordBuckets
+pub mod Fronts
+pub mod Stop
 pub mod Sufficient

@@ -14,6 +14,10 @@ most_sets = 32
 abbrev pub word_work : ℕ
 word_work = 1 + most_sets
 
--- the most steps at an offset, which is skipped, or is a candidate where each word is compared
+-- the most steps of a candidate, where each word may be compared
+abbrev pub candidate_work : ℕ
+candidate_work = most_words * word_work
+
+-- the most steps at an offset, which is skipped or is a candidate
 abbrev pub offset_work : ℕ
-offset_work = 1 + most_words * word_work
+offset_work = 1 + candidate_work

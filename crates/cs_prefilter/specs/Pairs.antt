@@ -1,10 +1,10 @@
 -- Pairs of bytes: two tests of bytes of a word, each at its offset in the word.
-use Rattle.std.specs.Prelude.{◌≡◌, ◌≢◌, ℕ, ◌+◌, ◌<◌, ◌≤◌, ◌⊎◌, Bool, List, length, slice_index, slice_index_or, bit_or, min, Some, None}
+use Rattle.std.specs.Prelude.{◌≡◌, ℕ, ◌+◌, ◌<◌, ◌⊎◌, Bool, true, false, List, length, slice_index, slice_index_or, bit_and, bit_or}
 use Rattle.cs_prefilter.specs.declared.word.Word.{Word}
 use Rattle.cs_prefilter.specs.declared.byte_test.ByteTest.{ByteTest}
 use Rattle.cs_prefilter.specs.declared.pair.Pair.{Pair}
-use Rattle.cs_prefilter.specs.declared.pairs.Pairs.{Pairs}
-use Rattle.cs_prefilter.specs.ByteTest.{IsTestOf, difference}
+use Rattle.cs_prefilter.specs.ByteTest.{IsTestOf, used_mask}
+use Rattle.cs_prefilter.specs.Lanes.{full_if_equal}
 
 -- the test is one of the set at this offset of the word
 pub record TestsAt (word : Word) (test : ByteTest) (at : ℕ) : Type 0 where
@@ -18,23 +18,22 @@ pub record IsPairOf (pair : Pair) (word : Word) : Type 0 where
   pub first : TestsAt word pair.first pair.first_at
   pub second : TestsAt word pair.second pair.second_at
 
--- what the bytes of a text differ by if the word is to be at offset k; 0 if both tests pass
-unfoldable pub pair_difference : Pair → List ℕ → ℕ → ℕ
-pair_difference pair text k =
-    bit_or (difference pair.first (slice_index text (k + pair.first_at)))
-    (difference pair.second (slice_index text (k + pair.second_at)))
+-- neither test has a mask, unless the flag is set
+abbrev pub HasMasks : Bool → Pair → Type 0
+HasMasks folded pair = folded ≡ false → (pair.first.mask ≡ 0) × (pair.second.mask ≡ 0)
 
--- the word has one of the pairs
-abbrev pub HasPair : Pairs → Word → Type 0
-HasPair pairs word = IsPairOf pairs.first word ⊎ elim pairs.second [ None ↦ ⊥ | Some second ↦ IsPairOf second word ]
+-- the word has the first pair and is in bucket 0, or has the second of two pairs and is in bucket 4
+abbrev pub HasPair : Bool → Bool → Pair → Pair → ℕ → Word → Type 0
+HasPair folded two first second bucket word =
+    ((bucket ≡ 0) × HasMasks folded first × IsPairOf first word)
+    ⊎ ((two ≡ true) × (bucket ≡ 4) × HasMasks folded second × IsPairOf second word)
 
--- the same for two pairs: 0 if the tests of one of them pass
-abbrev pub least_difference : Pairs → List ℕ → ℕ → ℕ
-least_difference pairs text k = elim pairs.second [
-  | None ↦ pair_difference pairs.first text k
-  | Some second ↦ min (pair_difference pairs.first text k) (pair_difference second text k)
-]
+-- 255 if the byte passes the test, and 0 if not
+abbrev pub test_lane : Bool → ByteTest → ℕ → ℕ
+test_lane folded test b = full_if_equal (bit_or b (used_mask folded test)) test.byte
 
--- no offset from `from` up to `to` is a candidate
-abbrev pub NoPair : Pairs → List ℕ → ℕ → ℕ → Type 0
-NoPair pairs text from to = (k : ℕ) → from ≤ k → k < to → least_difference pairs text k ≢ 0
+-- 255 if both tests pass for a word at offset k, and 0 if not
+unfoldable pub pair_lane : Bool → Pair → List ℕ → ℕ → ℕ
+pair_lane folded pair text k =
+    bit_and (test_lane folded pair.first (slice_index text (k + pair.first_at)))
+    (test_lane folded pair.second (slice_index text (k + pair.second_at)))

@@ -1,18 +1,16 @@
 -- Searches for words.
-use Rattle.std.specs.Prelude.{ℕ, ◌≤◌, ◌<◌, List}
+use Rattle.std.specs.Prelude.{ℕ, true, false}
 use Rattle.cs_prefilter.specs.declared.word.Word.{Word}
 use Rattle.cs_prefilter.specs.declared.search.Search.{Search}
-use Rattle.cs_prefilter.specs.declared.search.Search.TheVariants.{Pairs, Trigrams}
-use Rattle.cs_prefilter.specs.WordAt.{WordAt}
+use Rattle.cs_prefilter.specs.declared.search.Search.TheVariants.{Pair, FoldedPair, TwoPairs, TwoFoldedPairs, LowNibbles, AllNibbles}
 use Rattle.cs_prefilter.specs.Pairs.{HasPair}
 use Rattle.cs_prefilter.specs.Buckets.{HasBucket}
 
--- the search stops where the word occurs
-abbrev pub Finds : Search → Word → Type 0
-Finds (Pairs pairs) word = HasPair pairs word
-Finds (Trigrams masks) word = HasBucket masks word
-
--- no word that the search finds occurs at an offset from `from` up to `to`
-abbrev pub NoneFrom : Search → List ℕ → ℕ → ℕ → Type 0
-NoneFrom search text from to =
-    (k : ℕ) → from ≤ k → k < to → (word : Word) → Finds search word → WordAt text k word → ⊥
+-- the search stops where the word of the bucket occurs
+abbrev pub Finds : Search → ℕ → Word → Type 0
+Finds (Pair pairs) bucket word = HasPair false false pairs.first pairs.second bucket word
+Finds (FoldedPair pairs) bucket word = HasPair true false pairs.first pairs.second bucket word
+Finds (TwoPairs pairs) bucket word = HasPair false true pairs.first pairs.second bucket word
+Finds (TwoFoldedPairs pairs) bucket word = HasPair true true pairs.first pairs.second bucket word
+Finds (LowNibbles nibbles) bucket word = HasBucket nibbles.masks bucket word
+Finds (AllNibbles nibbles) bucket word = HasBucket nibbles.masks bucket word

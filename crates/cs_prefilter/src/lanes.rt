@@ -1,7 +1,7 @@
 // Vectors of 32 bytes, lane by lane.
-ghost use Rattle.std.specs.Prelude.{◌≡◌, ◌≢◌, ◌↔◌, ℕ, ◌+◌, ◌/◌, ◌%◌, ◌<◌, ◌≤◌, length, min, slice_index, bit_and, bit_or, bit_xor};
+ghost use Rattle.std.specs.Prelude.{◌≡◌, ◌≢◌, ◌↔◌, ℕ, ◌+◌, ◌/◌, ◌%◌, ◌≤◌, length, slice_index, bit_and, bit_or};
 ghost use Rattle.std.specs.Int.{bit_at};
-ghost use Rattle.cs_prefilter.specs.Lanes.{HasLanes};
+ghost use Rattle.cs_prefilter.specs.Lanes.{HasLanes, full_if_equal};
 
 use std::simd::prelude::*;
 
@@ -28,22 +28,6 @@ pub(crate) fn either(a: u8x32, b: u8x32) -> u8x32
     ensures { HasLanes result (λ k. bit_or (slice_index a k) (slice_index b k)) }
 {
     a | b
-}
-
-/// The lesser of each two lanes.
-#[inline(always)]
-pub(crate) fn least(a: u8x32, b: u8x32) -> u8x32
-    ensures { HasLanes result (λ k. min (slice_index a k) (slice_index b k)) }
-{
-    a.simd_min(b)
-}
-
-/// What the bytes, with the bits of the mask set, differ from the byte by.
-#[inline(always)]
-pub(crate) fn different(bytes: u8x32, mask: u8, byte: u8) -> u8x32
-    ensures { HasLanes result (λ k. bit_xor (bit_or (slice_index bytes k) mask) byte) }
-{
-    (bytes | u8x32::splat(mask)) ^ u8x32::splat(byte)
 }
 
 /// The entries of the table at the low nibbles of the bytes.
@@ -73,20 +57,6 @@ fn in_each_half(table: &[u8; 16]) -> u8x32
     ])
 }
 
-/// Shifts the lanes down by one: each lane gets the value of the next one, and the last gets 0.
-#[inline(always)]
-pub(crate) fn next(v: u8x32) -> u8x32
-    ensures { HasLanes result (λ k. slice_index v (k + 1)) }
-{
-    v.shuffle(
-        u8x32::splat(0),
-        [
-            1, 2, 3, 4, 5, 6, 7, 8, 9, 10, 11, 12, 13, 14, 15, 16, 17, 18, 19, 20, 21, 22, 23, 24,
-            25, 26, 27, 28, 29, 30, 31, 32,
-        ],
-    )
-}
-
 /// A bit for each lane, set if the lane is not 0.
 #[inline(always)]
 pub(crate) fn nonzero(v: u8x32) -> u64
@@ -95,10 +65,19 @@ pub(crate) fn nonzero(v: u8x32) -> u64
     v.simd_ne(u8x32::splat(0)).to_bitmask()
 }
 
-/// A bit for each lane, set if the lane is 0.
+/// 255 for each lane that is the byte, and 0 for the others.
 #[inline(always)]
-pub(crate) fn zeros(v: u8x32) -> u64
-    ensures { (k : ℕ) → k < 32 → slice_index v k ≡ 0 → bit_at result k ≡ 1 }
+pub(crate) fn equal_to(v: u8x32, byte: u8) -> u8x32
+    ensures { HasLanes result (λ k. full_if_equal (slice_index v k) byte) }
 {
-    v.simd_eq(u8x32::splat(0)).to_bitmask()
+    v.simd_eq(u8x32::splat(byte))
+        .select(u8x32::splat(255), u8x32::splat(0))
+}
+
+/// The lanes with the bits of the mask set.
+#[inline(always)]
+pub(crate) fn with_bits(v: u8x32, mask: u8) -> u8x32
+    ensures { HasLanes result (λ k. bit_or (slice_index v k) mask) }
+{
+    v | u8x32::splat(mask)
 }

@@ -1,23 +1,21 @@
 // Nibble masks (shufti) with a bit for each bucket of class trigrams (Teddy).
-ghost use Rattle.std.specs.Prelude.{◌≡◌, ◌≢◌, ◌↔◌, ℕ, ◌+◌, ◌<◌, ◌≤◌, length, vec_len, slice_index, true, IfSome, All};
-ghost use Rattle.std.specs.Int.{bit_at};
+ghost use Rattle.std.specs.Prelude.{◌≡◌, ℕ, ◌+◌, ◌<◌, ◌≤◌, length, vec_len, slice_index, true, IfSome};
 ghost use Rattle.cs_syntax.specs.Matching.{member};
 ghost use Rattle.cs_prefilter.specs.Lanes.{HasLanes};
-ghost use Rattle.cs_prefilter.specs.Buckets.{buckets, buckets_of, buckets_at, IsInBucket, KeepsByteBuckets, KeepsBuckets, TrigramIsInBucket, HasBucket, NoCandidate};
+ghost use Rattle.cs_prefilter.specs.OffsetWork.{most_words};
+ghost use Rattle.cs_prefilter.specs.Buckets.{buckets, looked_up, IsInBucket, KeepsByteBuckets, KeepsBuckets, TrigramIsInBucket, HasBucket};
+ghost use Rattle.cs_prefilter.specs.WordBuckets.{AreFound};
 
-use crate::lanes::{both, by_high_nibble, by_low_nibble, load, next, nonzero};
+use crate::buckets::{BUCKETS, bucket_of};
+use crate::lanes::{both, by_high_nibble, by_low_nibble, load};
+use crate::probe::Probe;
+use crate::rarity::nibble_frequencies;
 use crate::word::Word;
 use cs_syntax::ByteSet;
 use std::simd::prelude::*;
 
-/// The number of buckets. Each has one bit of a mask.
-const BUCKETS: usize = 8;
-
-/// The number of bytes that are looked up at once.
-pub(crate) const LANES: usize = 32;
-
-/// The number of offsets that are decided at once: 32 bytes contain 30 trigrams.
-const STRIDE: usize = 30;
+/// Below this share of offsets, in units of 10^-12, the low nibbles alone are looked up first.
+const MOST_LOW: u64 = 3_000_000_000;
 
 /// The nibble masks of one of the three offsets of a trigram: a table of buckets by the low nibble of a byte, and one
 /// by the high nibble. A byte is in the buckets that both of its entries contain.
@@ -60,15 +58,40 @@ impl NibbleMasks {
         }
     }
 
-    /// The buckets of 32 bytes.
+    /// The buckets of a byte.
     #[inline(always)]
-    fn lanes(&self, bytes: u8x32) -> u8x32
-        ensures { HasLanes result (λ k. buckets self.now (slice_index bytes k)) }
+    fn of(&self, byte: u8) -> u8
+        ensures { result ≡ buckets self.now byte }
     {
-        both(
-            by_low_nibble(&self.low, bytes),
-            by_high_nibble(&self.high, bytes),
-        )
+        self.low[(byte % 16) as usize] & self.high[(byte / 16) as usize]
+    }
+
+    /// The buckets of 32 bytes; without ALL those of their low nibbles, which are some more.
+    #[inline(always)]
+    fn lanes<const ALL: bool>(&self, text: &[u8], offset: usize) -> u8x32
+        requires { offset + 32 ≤ length text.now }
+        ensures { HasLanes result (λ k. looked_up ALL self.now (slice_index text.now (offset + k))) }
+    {
+        let bytes = load(text, offset);
+        let low = by_low_nibble(&self.low, bytes);
+        if ALL {
+            both(low, by_high_nibble(&self.high, bytes))
+        } else {
+            low
+        }
+    }
+
+    /// The frequency of the bytes that have the bucket by their low nibbles, per 10,000, given those of the nibbles.
+    fn low_frequency(&self, bucket: usize, frequencies: &[u64; 16]) -> u64
+        requires { bucket < BUCKETS }
+    {
+        let mut sum = 0u64;
+        for (i, frequency) in frequencies.iter().enumerate() {
+            if self.low[i] >> bucket & 1 == 1 {
+                sum = sum.saturating_add(*frequency);
+            }
+        }
+        sum
     }
 }
 
@@ -81,10 +104,10 @@ pub(crate) struct TrigramMasks {
 }
 
 impl TrigramMasks {
-    /// Distributes the words over the buckets by the trigrams that they begin with, if each word has one. Neighbours in
-    /// the list share a bucket.
+    /// Distributes the words over the buckets by the trigrams that they begin with, if each word has one.
     pub(crate) fn of(words: &[Word]) -> Option<TrigramMasks>
-        ensures { IfSome result (λ masks. All (HasBucket masks) words.now) }
+        requires { length words.now ≤ most_words }
+        ensures { IfSome result (λ masks. AreFound (HasBucket masks) words.now) }
     {
         let mut trigram_masks = TrigramMasks {
             first: NibbleMasks::new(),
@@ -95,7 +118,7 @@ impl TrigramMasks {
             if word.sets.len() < 3 {
                 return None;
             }
-            trigram_masks.add(word, i.wrapping_mul(BUCKETS) / words.len() % BUCKETS);
+            trigram_masks.add(word, bucket_of(i, words.len()));
         }
         Some(trigram_masks)
     }
@@ -112,34 +135,43 @@ impl TrigramMasks {
         self.third.add(&word.sets[2], bucket);
     }
 
-    /// A bit for each of the next offsets, set if it is a candidate.
+    /// Whether the low nibbles rule out enough offsets.
+    pub(crate) fn is_low(&self) -> bool {
+        let frequencies = nibble_frequencies();
+        let mut share = 0u64;
+        for bucket in 0..BUCKETS {
+            let first = self.first.low_frequency(bucket, &frequencies);
+            let second = self.second.low_frequency(bucket, &frequencies);
+            let third = self.third.low_frequency(bucket, &frequencies);
+            share = share.saturating_add(first.saturating_mul(second).saturating_mul(third));
+        }
+        share < MOST_LOW
+    }
+}
+
+/// A probe by the nibbles of three bytes; without ALL a vector test by their low nibbles.
+#[derive(Clone, Copy, Drop)]
+pub(crate) struct Nibbles<const ALL: bool> {
+    pub(crate) masks: TrigramMasks,
+}
+
+impl<const ALL: bool> Probe for Nibbles<ALL> {
+    ghost use Rattle.cs_prefilter.specs.Buckets.{HasBucket};
+
+    ghost Finds = { λ nibbles bucket word. HasBucket nibbles.masks bucket word };
+
     #[inline(always)]
-    fn candidate_mask(&self, text: &[u8], offset: usize) -> u64
-        requires { offset + LANES ≤ length text.now }
-        ensures { (k : ℕ) → k < STRIDE
-            → (bit_at result k ≡ 1) ↔ (buckets_at self.now text.now (offset + k) ≢ 0) }
-    {
-        let bytes = load(text, offset);
-        let later = both(self.second.lanes(bytes), next(self.third.lanes(bytes)));
-        nonzero(both(self.first.lanes(bytes), next(later)))
+    fn lanes(&self, text: &[u8], offset: usize) -> u8x32 {
+        let first = self.masks.first.lanes::<ALL>(text, offset);
+        let second = self.masks.second.lanes::<ALL>(text, offset + 1);
+        let third = self.masks.third.lanes::<ALL>(text, offset + 2);
+        both(first, both(second, third))
     }
 
-    /// The first candidate at or after `from`. Fewer than 32 bytes before the end of the text it stops in any case, at
-    /// an offset that may not be a candidate.
-    pub(crate) fn skip(&self, text: &[u8], from: usize) -> usize
-        requires { from ≤ length text.now }
-        ensures low { from ≤ result }
-        ensures high { result ≤ length text.now }
-        ensures none { NoCandidate self.now text.now from result }
-    {
-        let mut offset = from;
-        'scan: while text.len() - offset >= LANES {
-            let mask = self.candidate_mask(text, offset);
-            if mask != 0 {
-                return offset + (mask.trailing_zeros() as usize).min(STRIDE);
-            }
-            offset += STRIDE;
-        }
-        offset
+    #[inline(always)]
+    fn buckets(&self, text: &[u8], offset: usize) -> u8 {
+        let masks = &self.masks;
+        masks.first.of(text[offset])
+            & (masks.second.of(text[offset + 1]) & masks.third.of(text[offset + 2]))
     }
 }

@@ -1,26 +1,20 @@
 // Pairs of bytes (the packed pairs of memchr's memmem): two rare bytes of a word, compared at their distance by
 // vectors, for one or two words whose letters may be folded.
-ghost use Rattle.std.specs.Prelude.{◌≡◌, ◌≢◌, ℕ, ◌+◌, ◌<◌, ◌≤◌, length, IsTrue, IfSome, All};
-ghost use Rattle.std.specs.Int.{bit_at};
+ghost use Rattle.std.specs.Prelude.{◌≡◌, ◌≢◌, ℕ, ◌+◌, ◌<◌, ◌≤◌, length, slice_index, IsTrue, IfSome, bit_and};
 ghost use Rattle.cs_prefilter.specs.Lanes.{HasLanes};
-ghost use Rattle.cs_prefilter.specs.Pairs.{IsPairOf, HasPair, pair_difference, least_difference, NoPair};
+ghost use Rattle.cs_prefilter.specs.Pairs.{IsPairOf, HasMasks, pair_lane};
 
 use crate::byte_test::ByteTest;
-use crate::lanes::{either, least, zeros};
+use crate::lanes::{both, either};
 use crate::pair::Pair;
+use crate::probe::Probe;
 use crate::rarity::{MOST_SETS, frequency_of, rarest_pair};
 use crate::word::Word;
 use std::simd::prelude::*;
 
-/// The number of offsets that are decided at once.
-const STRIDE: usize = 64;
-
-/// At least this many bytes are left where offsets are decided at once: the last offset, and the word there.
-pub(crate) const REACH: usize = 96;
-
 impl Pair {
     /// The rarest pair of the word, if it is rare enough.
-    fn of(word: &Word) -> Option<Pair>
+    pub(crate) fn of(word: &Word) -> Option<Pair>
         ensures { IfSome result (λ pair. IsPairOf pair word.now) }
     {
         let sets = &word.sets[..];
@@ -44,116 +38,50 @@ impl Pair {
         })
     }
 
-    /// For the next 32 offsets, what the bytes differ by if the word is to be there.
-    #[inline(always)]
-    fn lanes(&self, text: &[u8], offset: usize) -> u8x32
-        requires { offset + 64 ≤ length text.now }
-        ensures { HasLanes result (λ k. pair_difference self.now text.now (offset + k)) }
+    /// Whether a test has a mask.
+    pub(crate) fn is_folded(&self) -> bool
+        ensures { HasMasks result self.now }
     {
-        either(
-            self.first.lanes(text, offset + self.first_at),
-            self.second.lanes(text, offset + self.second_at),
+        self.first.mask != 0 || self.second.mask != 0
+    }
+
+    /// For the next 32 offsets, 255 if both tests pass and 0 if not.
+    #[inline(always)]
+    fn lanes<const FOLDED: bool>(&self, text: &[u8], offset: usize) -> u8x32
+        requires { offset + 64 ≤ length text.now }
+        ensures { HasLanes result (λ k. pair_lane FOLDED self.now text.now (offset + k)) }
+    {
+        both(
+            self.first.lanes::<FOLDED>(text, offset + self.first_at),
+            self.second.lanes::<FOLDED>(text, offset + self.second_at),
         )
     }
 }
 
-/// The pairs of one or two words.
+/// The pair of one word, or with TWO the pairs of two words. Without FOLDED no test has a mask.
 #[derive(Clone, Copy, Drop)]
-pub(crate) struct Pairs {
-    first: Pair,
-    second: Option<Pair>,
+pub(crate) struct Pairs<const FOLDED: bool, const TWO: bool> {
+    pub(crate) first: Pair,
+    pub(crate) second: Pair,
 }
 
-impl Pairs {
-    /// The pairs of the words, if they are one or two and each has a rare pair.
-    pub(crate) fn of(words: &[Word]) -> Option<Pairs>
-        ensures { IfSome result (λ pairs. All (HasPair pairs) words.now) }
-    {
-        match words {
-            [word] => Some(Pairs {
-                first: Pair::of(word)?,
-                second: None,
-            }),
-            [word, other] => Some(Pairs {
-                first: Pair::of(word)?,
-                second: Some(Pair::of(other)?),
-            }),
-            _ => None,
-        }
-    }
+impl<const FOLDED: bool, const TWO: bool> Probe for Pairs<FOLDED, TWO> {
+    ghost use Rattle.cs_prefilter.specs.Pairs.{HasPair};
 
-    /// For the next 32 offsets, what the bytes differ by if a word is to be there.
+    ghost Finds = { λ pairs bucket word. HasPair FOLDED TWO pairs.first pairs.second bucket word };
+
     #[inline(always)]
-    fn lanes(&self, text: &[u8], offset: usize) -> u8x32
-        requires { offset + 64 ≤ length text.now }
-        ensures { HasLanes result (λ k. least_difference self.now text.now (offset + k)) }
-    {
-        let lanes = self.first.lanes(text, offset);
-        match self.second {
-            Some(second) => least(lanes, second.lanes(text, offset)),
-            None => lanes,
-        }
-    }
-
-    /// Whether none of the next 64 offsets is a candidate.
-    #[inline(always)]
-    fn has_no_candidate(&self, text: &[u8], offset: usize) -> bool
-        requires { offset + REACH ≤ length text.now }
-        ensures { IsTrue result → NoPair self.now text.now offset (offset + STRIDE) }
-    {
-        zeros(least(self.lanes(text, offset), self.lanes(text, offset + 32))) == 0
-    }
-
-    /// A number of offsets before the first candidate, all of them if it is among the next 32.
-    #[inline(always)]
-    fn len_before_candidate(&self, text: &[u8], offset: usize) -> usize
-        requires { offset + REACH ≤ length text.now }
-        ensures within { result ≤ 32 }
-        ensures none { NoPair self.now text.now offset (offset + result) }
-    {
-        (zeros(self.lanes(text, offset)).trailing_zeros() as usize).min(32)
-    }
-
-    /// An offset at or after `from` before which there is no candidate from `from` on. One pair and two pairs have a loop
-    /// each, in which it is known which they are.
-    pub(crate) fn skip(&self, text: &[u8], from: usize) -> usize
-        requires { from ≤ length text.now }
-        ensures low { from ≤ result }
-        ensures high { result ≤ length text.now }
-        ensures none { NoPair self.now text.now from result }
-    {
-        match self.second {
-            None => {
-                let pairs = Pairs {
-                    first: self.first,
-                    second: None,
-                };
-                pairs.scan(text, from)
-            }
-            Some(second) => {
-                let pairs = Pairs {
-                    first: self.first,
-                    second: Some(second),
-                };
-                pairs.scan(text, from)
-            }
+    fn lanes(&self, text: &[u8], offset: usize) -> u8x32 {
+        let lanes = self.first.lanes::<FOLDED>(text, offset);
+        if TWO {
+            either(lanes, self.second.lanes::<FOLDED>(text, offset))
+        } else {
+            lanes
         }
     }
 
     #[inline(always)]
-    fn scan(&self, text: &[u8], from: usize) -> usize
-        requires { from ≤ length text.now }
-        ensures low { from ≤ result }
-        ensures high { result ≤ length text.now }
-        ensures none { NoPair self.now text.now from result }
-    {
-        let mut offset = from;
-        'scan: while text.len() - offset >= REACH {
-            if !self.has_no_candidate(text, offset) {
-                return offset + self.len_before_candidate(text, offset);
-            }
-            offset += STRIDE;
-        }
-        offset
+    fn buckets(&self, _text: &[u8], _offset: usize) -> u8 {
+        if TWO { 0b10001 } else { 1 }
     }
 }

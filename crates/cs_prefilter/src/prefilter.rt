@@ -9,8 +9,9 @@ ghost use Rattle.cs_prefilter.specs.Words.{HasWordOf};
 use crate::required::best;
 use crate::search::{Kind, Search};
 use crate::steps::Steps;
+use crate::stop::Stop;
 use crate::sufficient::are_sufficient;
-use crate::word::Word;
+use crate::word_list::WordList;
 use crate::words::{Words, share_of};
 use cs_syntax::Node;
 use std::alloc::{AllocError, Global};
@@ -26,43 +27,26 @@ const WORTH: u64 = 5_000_000_000;
 /// are.
 const MOST_SHARE: u64 = 10_000_000_000;
 
-/// How many bytes the DFA scans in the time of a candidate that is no word: so many, and so many for each word.
-const CANDIDATE_COST: usize = 16;
-
-const WORD_COST: usize = 4;
-
-/// A search is given up when candidates that are no words cost so many bytes more than are skipped.
-const MOST_WASTED: usize = 4096;
-
-/// The end of a search for a word: at the word, at the end of the text, or where the search is given up.
-#[derive(Clone, Copy, Drop)]
-pub struct Stop {
-    pub offset: usize,
-    pub has_word: bool,
-    /// The cost of the candidates that are no words, in bytes that the DFA scans in their time.
-    pub wasted: usize,
-}
-
 /// Words, and a search that rules out most offsets. Contracts see the words, and whether each line that contains one of
 /// them has a match.
 #[derive(Drop)]
 pub struct Prefilter {
-    words: Vec<Word>,
+    list: WordList,
     search: Search,
     is_exact: bool,
-    ghost few: { vec_len words ≤ most_words },
 }
 
 impl Model for Prefilter {
-    ghost use Rattle.std.specs.Prelude.{List, Bool, All};
+    ghost use Rattle.std.specs.Prelude.{List, Bool};
     ghost use Rattle.cs_prefilter.specs.declared.word.Word.{Word};
     ghost use Rattle.cs_prefilter.specs.Search.{Finds};
+    ghost use Rattle.cs_prefilter.specs.WordBuckets.{AreFound};
 
     ghost Value = { List Word × Bool };
 
-    ghost view = { λ s. (s.words.items, s.is_exact) };
+    ghost view = { λ s. (s.list.words.items, s.is_exact) };
 
-    ghost invariant = { λ s. All (Finds s.search) s.words.items };
+    ghost invariant = { λ s. AreFound (Finds s.search) s.list.words.items };
 }
 
 impl Prefilter {
@@ -71,34 +55,44 @@ impl Prefilter {
         ensures { IfOk result (λ prefilter. IfSome prefilter (IsPrefilterOf (tree_of root.now))) }
     {
         let pairs = best(alloc, Kind::Pairs, root)?;
-        if share_of(&pairs) < RARE {
-            return Ok(Prefilter::by(root, Kind::Pairs, pairs));
+        let has_rare_pairs = share_of(&pairs) < RARE;
+        if has_rare_pairs && !are_slow(&pairs) {
+            return Prefilter::by(alloc, root, Kind::Pairs, pairs);
         }
         let trigrams = best(alloc, Kind::Trigrams, root)?;
-        if share_of(&trigrams) < WORTH {
-            return Ok(Prefilter::by(root, Kind::Trigrams, trigrams));
+        if are_better(&trigrams, has_rare_pairs) {
+            return Prefilter::by(alloc, root, Kind::Trigrams, trigrams);
         }
-        Ok(Prefilter::by(root, Kind::Pairs, pairs))
+        Prefilter::by(alloc, root, Kind::Pairs, pairs)
     }
 
     /// A prefilter for these words, if there are any, and if they are rare enough or decide whether a line matches.
-    fn by(root: &Node, kind: Kind, words: Option<Words>) -> Option<Prefilter>
-        ensures required { (line : List ℕ) → HasWordOf line words →
-            IfSome result (λ prefilter. HasWord prefilter.0 line) }
-        ensures sufficient { IfSome result (λ prefilter.
-            prefilter.1 ≡ true → AreSufficient (tree_of root.now) prefilter.0) }
+    fn by(
+        alloc: Global,
+        root: &Node,
+        kind: Kind,
+        words: Option<Words>,
+    ) -> Result<Option<Prefilter>, AllocError>
+        ensures required { IfOk result (λ prefilter. (line : List ℕ) → HasWordOf line words →
+            IfSome prefilter (λ p. HasWord p.0 line)) }
+        ensures sufficient { IfOk result (λ prefilter. IfSome prefilter (λ p.
+            p.1 ≡ true → AreSufficient (tree_of root.now) p.0)) }
     {
-        let words = words?;
-        let search = Search::of(kind, &words.words)?;
+        let Some(words) = words else {
+            return Ok(None);
+        };
+        let Some(search) = Search::of(kind, &words.words) else {
+            return Ok(None);
+        };
         let is_exact = are_sufficient(root, &words.words);
         if words.share >= MOST_SHARE && !is_exact {
-            return None;
+            return Ok(None);
         }
-        Some(Prefilter {
-            words: words.words,
+        Ok(Some(Prefilter {
+            list: WordList::of(alloc, words.words)?,
             search,
             is_exact,
-        })
+        }))
     }
 
     /// Whether each line that contains one of the words has a match.
@@ -117,84 +111,31 @@ impl Prefilter {
         ensures stops { IsTrue result.has_word → Any (WordAt text.now result.offset) self.now.0 }
         ensures work { CountsAtMost ((result.offset - from + 1) * offset_work) steps.old steps.new }
     {
-        let mut wasted = 0usize;
-        let mut offset = self.next(text, from, steps);
-        'scan: while offset < text.len() {
-            let has_word = occurs(&self.words, text, offset, steps);
-            if has_word || wasted > (offset - from).saturating_add(MOST_WASTED) {
-                return Stop {
-                    offset,
-                    has_word,
-                    wasted,
-                };
-            }
-            wasted = wasted.saturating_add(self.cost(text.len() - offset));
-            offset = self.next(text, offset + 1, steps);
-        }
-        Stop {
-            offset: text.len(),
-            has_word: false,
-            wasted,
-        }
-    }
-
-    /// The cost of a candidate so many bytes before the end of the text, in bytes that the DFA scans in its time. It is
-    /// nothing where each offset is a candidate.
-    fn cost(&self, rest: usize) -> usize {
-        if rest < self.search.reach() {
-            0
-        } else {
-            CANDIDATE_COST + WORD_COST * self.words.len()
-        }
-    }
-
-    /// An offset at or after `from` such that no word occurs from `from` up to it. Near the end of the text it is `from`
-    /// itself.
-    fn next(&self, text: &[u8], from: usize, steps: &mut Steps) -> usize
-        requires { from ≤ length text.now }
-        ensures low { from ≤ result }
-        ensures high { result ≤ length text.now }
-        ensures none { NoWordFrom self.now.0 text.now from result }
-        ensures work { steps.new.count ≡ steps.old.count + (result - from + 1) }
-    {
-        let offset = self.search.skip(text, from);
-        // The search moves by strides of 30 or 64 offsets, each of constant work, from `from` to the offset.
-        steps.add(offset - from + 1);
-        offset
+        self.search.first(&self.list, text, from, steps)
     }
 }
 
-impl Word {
-    /// Whether the word occurs at the offset.
-    pub(crate) fn occurs(&self, text: &[u8], offset: usize, steps: &mut Steps) -> bool
-        requires { offset ≤ length text.now }
-        ensures found { IsTrue result ↔ WordAt text.now offset self.now }
-        ensures work { CountsAtMost word_work steps.old steps.new }
-    {
-        steps.add(1);
-        if text.len() - offset < self.sets.len() {
-            return false;
-        }
-        for (i, set) in self.sets.iter().enumerate() {
-            steps.add(1);
-            if !set.contains(text[offset + i]) {
-                return false;
-            }
-        }
-        true
+/// Whether the words are searched for by two pairs with masks, which takes longer than low nibbles.
+fn are_slow(words: &Option<Words>) -> bool {
+    match words {
+        Some(words) => match Search::of(Kind::Pairs, &words.words) {
+            Some(search) => search.is_slow(),
+            None => false,
+        },
+        None => false,
     }
 }
 
-/// Whether one of the words occurs at the offset.
-fn occurs(words: &[Word], text: &[u8], offset: usize, steps: &mut Steps) -> bool
-    requires { offset ≤ length text.now }
-    ensures found { IsTrue result ↔ Any (WordAt text.now offset) words.now }
-    ensures work { CountsAtMost (length words.now * word_work) steps.old steps.new }
-{
-    for word in words {
-        if word.occurs(text, offset, steps) {
-            return true;
-        }
+/// Whether the trigrams of the words are worth their search, if there are rare pairs that are slow, or no rare pairs.
+fn are_better(words: &Option<Words>, has_rare_pairs: bool) -> bool {
+    if !has_rare_pairs {
+        return share_of(words) < WORTH;
     }
-    false
+    match words {
+        Some(words) => match Search::of(Kind::Trigrams, &words.words) {
+            Some(search) => search.is_low() && words.share < RARE,
+            None => false,
+        },
+        None => false,
+    }
 }

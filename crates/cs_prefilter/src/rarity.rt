@@ -24,6 +24,16 @@ fn frequency(byte: u8) -> u64 {
     }
 }
 
+/// The frequencies of the low nibbles of the bytes of source text, per 10,000 bytes.
+pub(crate) fn nibble_frequencies() -> [u64; 16] {
+    let mut frequencies = [0u64; 16];
+    for byte in 0..=255u8 {
+        let nibble = (byte % 16) as usize;
+        frequencies[nibble] = frequencies[nibble].saturating_add(frequency(byte));
+    }
+    frequencies
+}
+
 /// Common trigrams, which are far more frequent in source text than the frequencies of their bytes suggest.
 const COMMON: [[u8; 3]; 44] = [
     *b"def", *b"efi", *b"fin", *b"ine", *b"int", *b"ion", *b"tio", *b"ing", *b"con", *b"ons",
@@ -93,6 +103,74 @@ const MOST_PAIRS: u64 = 1_000_000;
 /// unless it is a run by itself.
 const NO_SECOND: u64 = 30_000;
 
+/// How rare two neighbouring letters of source text are, the underscore as the last: `a` is 1, and each further letter
+/// half as frequent.
+const BIGRAMS: [[u8; 27]; 27] = [
+    *b"pkjjpnkpkpmijipksijhllollpn",
+    *b"lpnojqqqlmsjpplosmnokssslso",
+    *b"jplnioojkujjmpimrkmjlqrqmsm",
+    *b"konlioopjqqmmplnrllmlonqnul",
+    *b"jmjikjkompnijinkkhhinkmjlqk",
+    *b"kpoollptjvtmppjpslmmltrrnwo",
+    *b"mqoqjqnllttmnmnlullnlrrrprm",
+    *b"jqoohsrsjuroopkpumnlnrptmqn",
+    *b"kkjkjjkrnqnjkhikpkiiolsmsln",
+    *b"putsmsutqutttrnrtuqtourxvrr",
+    *b"nqopjrormsroqooqsplpnsouqun",
+    *b"jookijorjtmjpojnuokkkonqktm",
+    *b"ilnnipqqkuqllokjrqknlqooptn",
+    *b"jpjiilipkqmmoljmqpjilmqomrl",
+    *b"mljjnjlplpljjhljrhkjjlknqqn",
+    *b"jpmnjoolktoknqjkqjljlqoomsm",
+    *b"runqrsvuszzqptrswrptktvswwp",
+    *b"jollhmkqismlkkinokjjkmookql",
+    *b"lnjnhnokjsmmnnkkpnjikpnqkql",
+    *b"iolnhmqhhtplnpilsijkkpmnkqk",
+    *b"lmllkmmrlsrjkjojwjjjsqtmtsn",
+    *b"kponjpotkvtqoqmpuppqqtttsvp",
+    *b"lrqplrslkwrpnnlrrmnrstossxn",
+    *b"mqmpmorrmtvporqmtqqkrtuootn",
+    *b"lqprornunusmommkuokmrrntssm",
+    *b"otstlstrowsqrsotursrsuvvpsq",
+    *b"lmllmmmnlrnlmmmlplklnmnprql",
+];
+
+/// The row of a letter in the table, and whether it is a capital.
+fn row_of(set: &ByteSet) -> Option<(usize, bool)> {
+    let test = ByteTest::of(set)?;
+    match test.byte {
+        b'_' => Some((26, false)),
+        b'a'..=b'z' => Some(((test.byte - b'a') as usize, false)),
+        b'A'..=b'Z' => Some(((test.byte - b'A') as usize, true)),
+        _ => None,
+    }
+}
+
+/// How rare the two letters are as neighbours, by the rows of the table.
+fn level_of(first: usize, second: usize) -> Option<u32> {
+    let level = BIGRAMS.get(first)?.get(second)?;
+    Some(u32::from(level.saturating_sub(b'a')))
+}
+
+/// The share of offsets of two neighbouring sets, per 10^8, given that of independent ones. A capital makes them rarer.
+fn share_of_neighbours(first: &ByteSet, second: &ByteSet, independent: u64) -> u64 {
+    let (Some((i, is_capital)), Some((j, is_second_capital))) = (row_of(first), row_of(second))
+    else {
+        return independent;
+    };
+    let Some(level) = level_of(i, j) else {
+        return independent;
+    };
+    let capitals = if is_capital || is_second_capital {
+        4
+    } else {
+        0
+    };
+    100_000_000u64
+        .checked_shr(level.saturating_add(capitals))
+        .unwrap_or(0)
+}
+
 /// The indices of the rarest two sets that can be tested by a comparison, given the frequencies of the sets, if they are
 /// rare enough. They are the same if there is one such set.
 pub(crate) fn rarest_pair(run: &[ByteSet], frequencies: &[u64]) -> Option<(usize, usize)> {
@@ -107,10 +185,28 @@ pub(crate) fn rarest_pair(run: &[ByteSet], frequencies: &[u64]) -> Option<(usize
     };
     let share = frequencies.get(first)?.saturating_mul(rest);
     if share <= MOST_PAIRS {
-        Some((first, second))
+        Some(rarest_neighbours(run, frequencies, share).unwrap_or((first, second)))
     } else {
         None
     }
+}
+
+/// The indices of the rarest neighbours that can be tested by a comparison, if they are rarer than a pair with this share
+/// of offsets, per 10^8. They are preferred, since more is known of them.
+fn rarest_neighbours(run: &[ByteSet], frequencies: &[u64], share: u64) -> Option<(usize, usize)> {
+    let mut best = None;
+    let mut least = share.saturating_mul(3);
+    for (i, sets) in run.windows(2).take(MOST_SETS - 1).enumerate() {
+        let independent = frequencies.get(i)?.saturating_mul(*frequencies.get(i + 1)?);
+        if ByteTest::of(&sets[0]).is_some() && ByteTest::of(&sets[1]).is_some() {
+            let next = share_of_neighbours(&sets[0], &sets[1], independent);
+            if next < least {
+                least = next;
+                best = Some((i, i + 1));
+            }
+        }
+    }
+    best
 }
 
 /// The rarest set that can be tested by a comparison, other than the one at `except`.

@@ -1,12 +1,18 @@
-// The two kinds of search for candidates.
-ghost use Rattle.std.specs.Prelude.{◌≤◌, length, All, IfSome};
-ghost use Rattle.cs_prefilter.specs.WordAt.{NoWordFrom};
-ghost use Rattle.cs_prefilter.specs.Search.{Finds, NoneFrom};
-ghost use Rattle.cs_prefilter.specs.OffsetWork.{most_words};
+// The kinds of search for words, and the probes that they use.
+ghost use Rattle.std.specs.Prelude.{◌≡◌, ◌≤◌, ◌+◌, ◌*◌, ◌-◌, length, IfSome, vec_len};
+ghost use Rattle.cs_prefilter.specs.Search.{Finds};
+ghost use Rattle.cs_prefilter.specs.WordBuckets.{AreFound};
+ghost use Rattle.cs_prefilter.specs.Stop.{IsStop};
+ghost use Rattle.cs_prefilter.specs.OffsetWork.{most_words, offset_work};
+ghost use Rattle.cs_prefilter.specs.CountsAtMost.{CountsAtMost};
 
-use crate::masks::{LANES, TrigramMasks};
-use crate::pairs::{Pairs, REACH};
+use crate::masks::{Nibbles, TrigramMasks};
+use crate::pair::Pair;
+use crate::pairs::Pairs;
+use crate::steps::Steps;
+use crate::stop::Stop;
 use crate::word::Word;
+use crate::word_list::WordList;
 
 /// What words are searched for by.
 #[derive(Clone, Copy, Drop)]
@@ -29,44 +35,104 @@ impl Kind {
     }
 }
 
-/// A search for words.
+/// A search for words: a probe of each kind.
 #[derive(Clone, Copy, Drop)]
 pub(crate) enum Search {
-    Pairs(Pairs),
-    Trigrams(TrigramMasks),
+    Pair(Pairs<false, false>),
+    FoldedPair(Pairs<true, false>),
+    TwoPairs(Pairs<false, true>),
+    TwoFoldedPairs(Pairs<true, true>),
+    LowNibbles(Nibbles<false>),
+    AllNibbles(Nibbles<true>),
 }
 
 impl Search {
     /// A search of this kind for the words, if they have what it takes.
     pub(crate) fn of(kind: Kind, words: &[Word]) -> Option<Search>
-        ensures { IfSome result (λ search. All (Finds search) words.now) }
+        requires { length words.now ≤ most_words }
+        ensures { IfSome result (λ search. AreFound (Finds search) words.now) }
     {
         match kind {
-            Kind::Pairs => Some(Search::Pairs(Pairs::of(words)?)),
-            Kind::Trigrams => Some(Search::Trigrams(TrigramMasks::of(words)?)),
+            Kind::Pairs => Search::by_pairs(words),
+            Kind::Trigrams => {
+                let masks = TrigramMasks::of(words)?;
+                Some(if masks.is_low() {
+                    Search::LowNibbles(Nibbles { masks })
+                } else {
+                    Search::AllNibbles(Nibbles { masks })
+                })
+            }
         }
     }
 
-    /// How many bytes from an offset on it reads. Where fewer are left, each offset is a candidate.
-    pub(crate) fn reach(&self) -> usize {
+    /// A search by pairs, if the words are one or two and each has a rare pair.
+    fn by_pairs(words: &[Word]) -> Option<Search>
+        ensures { IfSome result (λ search. AreFound (Finds search) words.now) }
+    {
+        match words {
+            [word] => {
+                let first = Pair::of(word)?;
+                Some(if first.is_folded() {
+                    Search::FoldedPair(Pairs {
+                        first,
+                        second: first,
+                    })
+                } else {
+                    Search::Pair(Pairs {
+                        first,
+                        second: first,
+                    })
+                })
+            }
+            [word, other] => {
+                let first = Pair::of(word)?;
+                let second = Pair::of(other)?;
+                Some(if first.is_folded() || second.is_folded() {
+                    Search::TwoFoldedPairs(Pairs { first, second })
+                } else {
+                    Search::TwoPairs(Pairs { first, second })
+                })
+            }
+            _ => None,
+        }
+    }
+
+    /// Whether the search takes longer than one by low nibbles.
+    pub(crate) fn is_slow(&self) -> bool {
         match self {
-            Search::Pairs(_) => REACH,
-            Search::Trigrams(_) => LANES,
+            Search::TwoFoldedPairs(_) => true,
+            _ => false,
         }
     }
 
-    /// An offset at or after `from`, such that no word that the search finds occurs from `from` up to it. Near the end
-    /// of the text it is `from` itself.
+    pub(crate) fn is_low(&self) -> bool {
+        match self {
+            Search::LowNibbles(_) => true,
+            _ => false,
+        }
+    }
+
+    /// Skips to the first of the words at or after `from`, or to the end of the text, unless it is given up.
     #[inline(always)]
-    pub(crate) fn skip(&self, text: &[u8], from: usize) -> usize
-        requires { from ≤ length text.now }
-        ensures low { from ≤ result }
-        ensures high { result ≤ length text.now }
-        ensures none { NoneFrom self.now text.now from result }
+    pub(crate) fn first(
+        &self,
+        words: &WordList,
+        text: &[u8],
+        from: usize,
+        steps: &mut Steps,
+    ) -> Stop
+        requires within { from ≤ length text.now }
+        requires finds { AreFound (Finds self.now) words.now.words.items }
+        ensures stop { IsStop words.now.words.items text.now from result }
+        ensures work { CountsAtMost ((result.offset - from + 1) * offset_work) steps.old steps.new }
     {
         match self {
-            Search::Pairs(pairs) => pairs.skip(text, from),
-            Search::Trigrams(masks) => masks.skip(text, from),
+            Search::Pair(probe) => words.first(probe, text, from, steps),
+            Search::FoldedPair(probe) => words.first(probe, text, from, steps),
+            Search::TwoPairs(probe) => words.first(probe, text, from, steps),
+            Search::TwoFoldedPairs(probe) => words.first(probe, text, from, steps),
+            Search::LowNibbles(probe) => words.first(probe, text, from, steps),
+            Search::AllNibbles(probe) => words.first(probe, text, from, steps),
         }
     }
 }

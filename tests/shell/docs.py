@@ -68,7 +68,7 @@ for path, line in [
     (PROMISES, "7 lines of definitions for `cgrep`"),
     ("README.md", "`crates/cs_tree/src/lost.rt`"),
     ("README.md", "[a page](docs/LOST.md)"),
-    ("README.md", "`Matcher::is_lost`"),
+    ("README.md", "`Matcher::is_nowhere`"),
     ("docs/FORMAT.md", '[PATTERNS.md](PATTERNS.md), "Weight" and "A heading that is not there"'),
     ("crates/cs_tree/src/lib.rt", '// docs/FORMAT.md,\n// "A heading that is not there".'),
 ]:

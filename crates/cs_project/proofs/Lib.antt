@@ -4,3 +4,4 @@ mod ScanLemmas
 mod SpacingLemmas
 mod SearchLemmas
 mod TextLemmas
+mod CountLemmas

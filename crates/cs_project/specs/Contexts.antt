@@ -20,10 +20,6 @@ abbrev pub has_mark : List Bool → Bool
 has_mark [] = false
 has_mark (mark ∷ marks) = mark || has_mark marks
 
-abbrev pub count_marks : List Bool → ℕ
-count_marks [] = 0
-count_marks (mark ∷ marks) = if mark then count_marks marks + 1 else count_marks marks
-
 -- A line is shown if it is marked, or one of the `after` lines before it, or one of the `before` lines after it. `earlier` are
 -- the marks of the lines before, the nearest first.
 abbrev pub shown_after : ℕ → ℕ → List Bool → List Bool → List Bool

@@ -2,7 +2,7 @@
 use Rattle.std.specs.Prelude.{ℕ, ◌≡◌, Bool, List, ◌++◌}
 use Rattle.cs_match.specs.Deciding.{Decides}
 use Rattle.cs_syntax.specs.Matching.{Tree}
-use Rattle.cs_project.specs.Shown.{Finding, following, has_groups, line_gap, line_groups, text_rows}
+use Rattle.cs_project.specs.Shown.{Finding, following, has_groups, line_gap, line_groups, text_rows, between, text_groups}
 use Rattle.cs_project.specs.declared.rows.Page.{Page}
 
 -- the groups of lines of a text
@@ -18,3 +18,13 @@ PrintsLines tree page text given later = (finding : Finding) → Decides finding
 -- whether a line of the text is shown
 abbrev pub HasLines : Tree → Page → List ℕ → Bool → Type 0
 HasLines tree page text some = (finding : Finding) → Decides finding.has_match tree → some ≡ has_groups (page_groups page finding text)
+
+-- The text was printed, by each test that decides which lines match.
+abbrev pub PrintsText : Tree → Page → List ℕ → List ℕ → List ℕ → Type 0
+PrintsText tree page text given later = (finding : Finding) → Decides finding.has_match tree →
+    later ≡ given ++ following (between page.options.now) page.begun (text_groups page.options.now finding page.name.now text)
+
+-- whether something is printed for the text
+abbrev pub HasGroups : Tree → Page → List ℕ → Bool → Type 0
+HasGroups tree page text some = (finding : Finding) → Decides finding.has_match tree →
+    some ≡ has_groups (text_groups page.options.now finding page.name.now text)

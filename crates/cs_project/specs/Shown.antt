@@ -1,11 +1,11 @@
 -- What is printed for a text, and for texts one after another.
-use Rattle.std.specs.Prelude.{ℕ, ◌+◌, Bool, true, false, not, nat_lt, nat_eq, if◌then◌else◌, List, [], ◌∷◌, ◌++◌, map, take, codes, decimal}
+use Rattle.std.specs.Prelude.{Option, None, ℕ, ◌+◌, Bool, true, false, not, nat_lt, nat_eq, if◌then◌else◌, List, [], ◌∷◌, ◌++◌, map, take, codes, decimal, min, count_by, Some}
 use Rattle.std.specs.List.{flat_map, list_any}
 use Rattle.cs_match.specs.Lines.{newline, lines}
 use Rattle.cs_project.specs.declared.form.Mode.{Mode}
 use Rattle.cs_project.specs.declared.form.Mode.TheVariants.{Lines, Counts, Names, Others}
 use Rattle.cs_project.specs.declared.form.ShowOptions.{ShowOptions}
-use Rattle.cs_project.specs.Contexts.{Row, first_marks, count_marks, rows_of, groups_of}
+use Rattle.cs_project.specs.Contexts.{Row, rows_of, groups_of}
 use Rattle.cs_project.specs.Forms.{Span, row_bytes, dyed}
 
 -- How lines are tested, and where their matches are.
@@ -45,6 +45,10 @@ between options = if shows_lines options.mode then line_gap options else []
 abbrev pub is_wanted : ShowOptions → (List ℕ → Bool) → List ℕ → Bool
 is_wanted options has_match line = if options.invert then not (has_match line) else has_match line
 
+abbrev pub at_most : Option ℕ → ℕ → ℕ
+at_most None count = count
+at_most (Some most) count = min most count
+
 module _ (options : ShowOptions) (name : List ℕ) where
   -- the name, and what ends it
   abbrev pub name_bytes : List ℕ → List ℕ
@@ -69,9 +73,13 @@ module _ (options : ShowOptions) (finding : Finding) where
   abbrev pub text_rows : List ℕ → List Row
   text_rows text = rows_of options.most options.before options.after (is_wanted options finding.has_match) (lines text)
 
+  -- how many lines are wanted
+  abbrev pub wanted_count : List ℕ → ℕ
+  wanted_count text = count_by (is_wanted options finding.has_match) (lines text)
+
   -- how many lines are marked
   abbrev pub count_of : List ℕ → ℕ
-  count_of text = count_marks (first_marks options.most (map (is_wanted options finding.has_match) (lines text)))
+  count_of text = at_most options.most (wanted_count text)
 
   module _ (name : List ℕ) where
     abbrev pub shown_bytes : Row → List ℕ

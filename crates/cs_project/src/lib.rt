@@ -11,4 +11,4 @@ mod text;
 
 pub use form::{LineForm, Mode, ShowOptions};
 pub use rows::Page;
-pub use text::print_lines;
+pub use text::{print_lines, print_text};

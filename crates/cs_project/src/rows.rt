@@ -49,10 +49,10 @@ struct Passed {
 }
 
 impl Page<'_> {
-    /// The name, on a line of its own unless a NUL ends it.
-    pub(crate) fn print_name_line<O: Output>(&self, out: &mut O) -> Result<(), AllocError>
+    /// The name, and what ends it unless a NUL does.
+    pub(crate) fn print_name<O: Output>(&self, end: &[u8], out: &mut O) -> Result<(), AllocError>
         ensures { Prints (O.given out.old) (O.given out.new)
-            (name_bytes self.now.options.now self.now.name.now (newline ∷ [])) result }
+            (name_bytes self.now.options.now self.now.name.now end.now) result }
     {
         self.options
             .form
@@ -60,7 +60,7 @@ impl Page<'_> {
         if self.options.form.nul {
             out.append(b"\0")?;
         } else {
-            out.append(b"\n")?;
+            out.append(end)?;
         }
         Ok(())
     }
@@ -96,7 +96,7 @@ impl Page<'_> {
         if !self.options.heading {
             return Ok(());
         }
-        self.print_name_line(out)?;
+        self.print_name(b"\n", out)?;
         Ok(())
     }
 

@@ -1,12 +1,21 @@
 // The printing of the lines of a text that is in memory.
-ghost use Rattle.std.specs.Prelude.{◌≡◌, ◌++◌, ◌<◌, ◌+◌, ◌^◌, false, length, IfOk, OnOk};
+ghost use Rattle.std.specs.Prelude.{◌≡◌, ◌++◌, ◌<◌, ◌+◌, ◌^◌, false, length, count_by, ◌≤◌, IfOk, OnOk, [], nat_lt};
+ghost use Rattle.cs_project.specs.Printing.{Prints};
+ghost use Rattle.cs_project.specs.Shown.{Finding, is_wanted, at_most, count_groups, count_of, following, has_groups, name_groups, wanted_count};
+ghost use Rattle.cs_match.specs.LastPart.{last_line};
+ghost use Rattle.cs_match.specs.Lines.{terminated_lines};
+ghost use Rattle.cs_match.specs.Skipping.{AreWholeLines};
 ghost use Rattle.cs_match.specs.Deciding.{Decides};
 ghost use Rattle.cs_project.specs.Printing.{needs_spans};
-ghost use Rattle.cs_project.specs.Printed.{PrintsLines, HasLines};
+ghost use Rattle.cs_project.specs.Printed.{PrintsText, HasGroups, PrintsLines, HasLines};
 
+use crate::form::{Mode, ShowOptions};
+use crate::lines::line_count;
 use crate::rows::{Page, Rows};
+use crate::searching::{is_wanted, next_wanted};
 use cs_match::{Matcher, whole_lines_len};
 use cs_output::Output;
+use itoa::Buffer;
 use std::alloc::AllocError;
 
 /// Prints the lines of a text that are to be shown, and returns whether there is one.
@@ -27,4 +36,146 @@ pub fn print_lines<O: Output>(
     let held = rows.search_block(block, 0, matcher, out)?;
     rows.search_last(&block[held..], &text[end..], matcher, out)?;
     Ok(rows.shown)
+}
+
+/// How many lines of a block of whole lines are wanted.
+fn ended_count(options: &ShowOptions, block: &[u8], matcher: &mut Matcher<'_>) -> u64
+    requires whole { AreWholeLines block.now }
+    ensures count { (finding : Finding) → Decides finding.has_match matcher.old.tree →
+        result ≡ count_by (is_wanted options.now finding.has_match) (terminated_lines block.now) }
+    ensures bound { result ≤ length block.now }
+    ensures same { matcher.new.tree ≡ matcher.old.tree }
+{
+    let matches = matcher.count(block);
+    if !options.invert {
+        return matches;
+    }
+    line_count(block) as u64 - matches
+}
+
+/// How many lines are wanted of the bytes after the last newline.
+fn last_count(options: &ShowOptions, last: &[u8], matcher: &mut Matcher<'_>) -> u64
+    ensures count { (finding : Finding) → Decides finding.has_match matcher.old.tree →
+        result ≡ count_by (is_wanted options.now finding.has_match) (last_line last.now) }
+    ensures bound { result ≤ 1 }
+    ensures same { matcher.new.tree ≡ matcher.old.tree }
+{
+    if last.is_empty() {
+        return 0;
+    }
+    if is_wanted(options, last, matcher) {
+        1
+    } else {
+        0
+    }
+}
+
+/// How many lines of a text are wanted.
+fn count_wanted(options: &ShowOptions, text: &[u8], matcher: &mut Matcher<'_>) -> u64
+    ensures count { (finding : Finding) → Decides finding.has_match matcher.old.tree →
+        result ≡ wanted_count options.now finding text.now }
+    ensures same { matcher.new.tree ≡ matcher.old.tree }
+{
+    let end = whole_lines_len(text);
+    let ended = ended_count(options, &text[..end], matcher);
+    ended + last_count(options, &text[end..], matcher)
+}
+
+/// Whether a line of a text is wanted.
+fn has_wanted(options: &ShowOptions, text: &[u8], matcher: &mut Matcher<'_>) -> bool
+    ensures some { (finding : Finding) → Decides finding.has_match matcher.old.tree →
+        result ≡ nat_lt 0 (wanted_count options.now finding text.now) }
+    ensures same { matcher.new.tree ≡ matcher.old.tree }
+{
+    let end = whole_lines_len(text);
+    match next_wanted(options, &text[..end], 0, matcher) {
+        Some(_) => true,
+        None => last_count(options, &text[end..], matcher) > 0,
+    }
+}
+
+impl ShowOptions {
+    /// At most so many lines are marked.
+    fn at_most(&self, count: u64) -> u64
+        ensures { result ≡ at_most self.now.most count }
+    {
+        match self.most {
+            None => count,
+            Some(most) => most.min(count),
+        }
+    }
+}
+
+impl Page<'_> {
+    /// How many lines are marked, unless it is 0. Returns whether it is not.
+    fn print_count<O: Output>(&self, count: u64, out: &mut O) -> Result<bool, AllocError>
+        ensures count { Prints (O.given out.old) (O.given out.new)
+            (following [] self.now.begun (count_groups self.now.options.now self.now.name.now count)) result }
+        ensures some { IfOk result (λ some. some ≡ has_groups (count_groups self.now.options.now self.now.name.now count)) }
+    {
+        if count == 0 {
+            return Ok(false);
+        }
+        if !self.options.form.bare {
+            self.print_name(b":", out)?;
+        }
+        let mut digits = Buffer::new();
+        out.append(digits.format(count).as_bytes())?;
+        out.append(b"\n")?;
+        Ok(true)
+    }
+
+    /// The name on a line, if it is to be listed.
+    fn print_listed<O: Output>(&self, here: bool, out: &mut O) -> Result<bool, AllocError>
+        ensures name { Prints (O.given out.old) (O.given out.new)
+            (following [] self.now.begun (name_groups self.now.options.now self.now.name.now here)) result }
+        ensures some { IfOk result (λ some. some ≡ has_groups (name_groups self.now.options.now self.now.name.now here)) }
+    {
+        if here {
+            self.print_name(b"\n", out)?;
+        }
+        Ok(here)
+    }
+
+    /// Whether a line of a text is marked.
+    fn has_mark(&self, text: &[u8], matcher: &mut Matcher<'_>) -> bool
+        ensures some { (finding : Finding) → Decides finding.has_match matcher.old.tree →
+            result ≡ nat_lt 0 (count_of self.now.options.now finding text.now) }
+        ensures same { matcher.new.tree ≡ matcher.old.tree }
+    {
+        if self.options.at_most(1) == 0 {
+            return false;
+        }
+        has_wanted(self.options, text, matcher)
+    }
+}
+
+/// Prints what is to be printed for a text, and returns whether that is anything.
+pub fn print_text<O: Output>(
+    page: &Page<'_>,
+    text: &[u8],
+    matcher: &mut Matcher<'_>,
+    out: &mut O,
+) -> Result<bool, AllocError>
+    requires plain { needs_spans page.now.options.now.form ≡ false }
+    ensures text { OnOk result (PrintsText matcher.old.tree page.now text.now (O.given out.old) (O.given out.new)) }
+    ensures some { IfOk result (λ some. HasGroups matcher.old.tree page.now text.now some) }
+    ensures same { matcher.new.tree ≡ matcher.old.tree }
+{
+    match page.options.mode {
+        Mode::Lines => print_lines(page, text, matcher, out),
+        Mode::Counts => {
+            let wanted = count_wanted(page.options, text, matcher);
+            let some = page.print_count(page.options.at_most(wanted), out)?;
+            Ok(some)
+        }
+        Mode::Names => {
+            let here = page.has_mark(text, matcher);
+            page.print_listed(here, out)
+        }
+        Mode::Others => {
+            let here = page.has_mark(text, matcher);
+            page.print_listed(!here, out)
+        }
+    }
 }

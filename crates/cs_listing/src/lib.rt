@@ -2,6 +2,24 @@
 //! the rule files of all folders along a path say together. Read `specs/Globs.antt`, `specs/Rules.antt` and `specs/Layers.antt`
 //! first, then `specs/RuleFiles.antt`: how the bytes of a rule file are read. `specs/Listing.antt` says which files of a tree a
 //! search of a folder is to list; the walk that finds them is not written yet.
+//!
+//! A *glob* is a list of elements, one for each name of a path, or `**` for any number of folders; an element
+//! is a list of tokens; the token `*` takes any bytes. A rule without a slash begins with `**`, and a `**` at
+//! the end is `**/*`, so there is one kind of match. Matching is greedy, without backtracking: after a mismatch
+//! only the last `*` of a name takes one byte more, and only the last `**` of a path one name more. The
+//! invariant says why that is enough: what an earlier star could match, the last one can match too. A class
+//! that does not end matches nothing, and takes the rest of its rule, so that each byte is read a bounded
+//! number of times. A path is given by its names below the folder of the rules, so that a walk can pass a
+//! suffix of its stack of names.
+//!
+//! `Layers` is a stack of the folders from the topmost down to one that is walked, each with the rules of its
+//! `.ignore` and its `.gitignore`, and those of `info/exclude` where a repository begins. A walk enters a
+//! folder and leaves it, and hands over the rules, which `Rules::read` reads from a source. What is asked about
+//! is an entry of the deepest folder, by the names along its path: the rules of the first folder see all of
+//! them, those of the second all but the first, and so on. Each kind of file is asked from the deepest folder
+//! up, and the first that says anything counts. Whether a path is left out does not depend on where a walk
+//! began, but only on the folders above. That a folder which is left out is not entered is for the walk to see
+//! to.
 #![tactic(auto)]
 
 mod classes;

@@ -37,25 +37,34 @@
 //! times hundreds of bytes and intervals.
 //!
 //! *Lazy DFA.* A DFA state is a position set, two look-behind bits and the unfinished character, as far as the
-//! tree reads them. As in RE2, the subset construction is done on demand: a matcher caches up to 254 states,
-//! with a table of their transitions. The number of a state is 256 times its index in the cache, so that its
-//! sum with a byte is the index of a transition. A state that was computed is looked for among one byte of the
-//! hash of each cached state (`memchr`), before states are compared. A match is reported one byte late: the
-//! transition over a byte says whether the state accepts before it, and that over the newline whether it
-//! accepts at the end of the line, so that `$` and `\b` need no look-ahead. A transition that is computed is
-//! stored for each byte of a *class* (RE2's byte map): one partition of the bytes for all states, in which a
-//! continuation byte is a digit of base 64 of the character. If each match begins with `^`, a state without
-//! positions is *dead*, and a scan that reaches it continues after the next newline. When the cache is full it
-//! is cleared, and the search continues from the current state. A type invariant says that each transition is
-//! unknown or correct.
+//! tree reads them. As in RE2, the subset construction is done on demand. The transition table has a row for
+//! each state, with a transition of 16 bits for each *class* of bytes (RE2's byte map): at most 65,536
+//! transitions, some 2,000 states at 30 classes. There is one partition of the bytes for all states, in which a
+//! continuation byte is a digit of base 64 of the character. The number of a state is the index of its row's
+//! first transition. The first five rows are those of the special states and of the start state, so a special
+//! transition is one below the start state's number. The cached states are flat vectors (`CachedStates`): the
+//! words of their position sets, and what they keep of the bytes before. A state that was computed is looked
+//! for at eight places of a hash table; nothing depends on this table, since a state that is found is compared
+//! in full, and one that is not is cached again, so it is never cleared. When there is no room the cache is cut
+//! to the first five states, and their rows are written anew. If each match begins with `^`, a state without
+//! positions is *dead*, and a scan that reaches it goes on at the next newline, which `memchr` finds. A match
+//! is reported one byte late: the transition over a byte says whether the state accepts before it, and that
+//! over the newline whether it accepts at the end of the line, so that `$` and `\b` need no look-ahead. A type
+//! invariant says that each transition is unknown or correct.
 //!
 //! *Searching.* `Matcher::next_match` searches a block in parts. A *prefilter* skips to a line with one of its
 //! words, which is tested alone, unless the prefilter is exact. The *interleaved scan* skips chunks of at least
 //! 512 bytes: six lanes over six chunks, if all end within 16 KiB, so that a search reads a constant number of
-//! bytes in vain. The special states, match and unknown, are absorbing, so a lane needs no branch for a byte,
-//! and a chunk whose scan ends in an *ordinary* state contains no match. A *single scan* reads the chunk at
-//! which it stops. `Pacing` counts outcomes and chooses the method for each part; no contract depends on it.
-//! `Matcher::count` is a loop over `next_match`.
+//! bytes in vain. Special states are absorbing there, so a lane needs no branch for a byte, and a chunk whose
+//! scan ends in an *ordinary* state contains no match. A *single scan* reads the chunk at which it stops.
+//! `Pacing` counts outcomes and chooses the method for each part; no contract depends on it. `Matcher::count`
+//! is a loop over `next_match`.
+//!
+//! *Lanes* (`lanes.rt`, `chunks.rt`), which no search calls yet: four scans of four chunks of a block, so that
+//! the loads of one do not wait for those of another. Each lists the offset of each newline over which it
+//! enters the state *found*, which has number 0. A chunk ends after the first newline at least so many bytes
+//! on, so a quarter of the list has room for its lines. A lane that meets an unknown transition stays in the
+//! state *unknown*. The lanes know no states: `specs/Table.antt` says what they need of the table.
 //!
 //! *Spans.* A `Finder` simulates the position automaton without the DFA, in *passes* in which a match may begin
 //! in a part of the line only. The first pass, over the rest of the line, finds an end of a match, and the last

@@ -1,6 +1,7 @@
 -- Chunks, and the lists of the lanes made one.
 use Rattle.std.proofs.Common.{◌≡◌, ◌≢◌, ℕ, zero, suc, ◌+◌, ◌-◌, ◌*◌, ◌/◌, ◌<◌, ◌≤◌, Bool, true, false, cond, nat_eq, List, [], ◌∷◌, ◌++◌, length, take, drop, get_or, refl, sym, ap, ap₂, subst, ◌∙◌, arith, length-take, length-drop, length-append, drop-drop, take-take}
-use Rattle.std.proofs.Math.Seq.{take-append_seam, drop-append_seam}
+use Rattle.std.proofs.Math.Seq.{take-append_seam, drop-append_seam, take-append-add, drop-append-add}
+use Rattle.std.proofs.lemmas.List.{take-append-le}
 use Rattle.std.specs.List.{count_by}
 use Rattle.std.proofs.lemmas.List.Sums.{count_by-le-length}
 use Rattle.cs_match.specs.Lines.{newline}
@@ -117,13 +118,13 @@ quarter_within n len e = four (λ k. k * n + n ≤ len) (omega (arith, e)) (omeg
 -- quarters of a list of four parts and a rest
 module _ (n : ℕ) (p q r s rest : List ℕ) (at-p : length p ≡ n) (at-q : length q ≡ n) (at-r : length r ≡ n) (at-s : length s ≡ n)
     (few : length rest < 4) where
-  abbrev ends : List ℕ
-  ends = p ++ (q ++ (r ++ (s ++ rest)))
+  abbrev parts : List ℕ
+  parts = p ++ (q ++ (r ++ (s ++ rest)))
 
-  all : length ends ≡ 4 * n + length rest
+  all : length parts ≡ 4 * n + length rest
   all = omega (arith, length-append p (q ++ (r ++ (s ++ rest))), length-append q (r ++ (s ++ rest)), length-append r (s ++ rest), length-append s rest)
 
-  part : length ends / 4 ≡ n
+  part : length parts / 4 ≡ n
   part = omega (arith, all, few)
 
   front : (xs ys : List ℕ) → length xs ≡ n → take n (xs ++ ys) ≡ xs
@@ -132,39 +133,39 @@ module _ (n : ℕ) (p q r s rest : List ℕ) (at-p : length p ≡ n) (at-q : len
   back : (xs ys : List ℕ) → length xs ≡ n → drop n (xs ++ ys) ≡ ys
   back xs ys e = ap (λ k. drop k (xs ++ ys)) (sym e) ∙ drop-append_seam xs ys
 
-  quarter-is : (k : ℕ) → quarter k ends ≡ take n (drop (k * n) ends)
+  quarter-is : (k : ℕ) → quarter k parts ≡ take n (drop (k * n) parts)
   quarter-is k =
       let size : (k + 1) * n - k * n ≡ n = omega arith in
-      ap (λ m. take ((k + 1) * m - k * m) (drop (k * m) ends)) part ∙ ap (λ m. take m (drop (k * n) ends)) size
+      ap (λ m. take ((k + 1) * m - k * m) (drop (k * m) parts)) part ∙ ap (λ m. take m (drop (k * n) parts)) size
 
-  pub quarter-a : quarter 0 ends ≡ p
+  pub quarter-a : quarter 0 parts ≡ p
   quarter-a =
       let at : 0 * n ≡ 0 = omega arith in
-      quarter-is 0 ∙ ap (λ m. take n (drop m ends)) at ∙ front p (q ++ (r ++ (s ++ rest))) at-p
+      quarter-is 0 ∙ ap (λ m. take n (drop m parts)) at ∙ front p (q ++ (r ++ (s ++ rest))) at-p
 
-  after_p : drop n ends ≡ q ++ (r ++ (s ++ rest))
+  after_p : drop n parts ≡ q ++ (r ++ (s ++ rest))
   after_p = back p (q ++ (r ++ (s ++ rest))) at-p
 
-  pub quarter-b : quarter 1 ends ≡ q
+  pub quarter-b : quarter 1 parts ≡ q
   quarter-b =
       let at : 1 * n ≡ n = omega arith in
-      quarter-is 1 ∙ ap (λ m. take n (drop m ends)) at ∙ ap (take n) after_p ∙ front q (r ++ (s ++ rest)) at-q
+      quarter-is 1 ∙ ap (λ m. take n (drop m parts)) at ∙ ap (take n) after_p ∙ front q (r ++ (s ++ rest)) at-q
 
-  after_q : drop (n + n) ends ≡ r ++ (s ++ rest)
-  after_q = sym (drop-drop n n ends) ∙ ap (drop n) after_p ∙ back q (r ++ (s ++ rest)) at-q
+  after_q : drop (n + n) parts ≡ r ++ (s ++ rest)
+  after_q = sym (drop-drop n n parts) ∙ ap (drop n) after_p ∙ back q (r ++ (s ++ rest)) at-q
 
-  pub quarter-c : quarter 2 ends ≡ r
+  pub quarter-c : quarter 2 parts ≡ r
   quarter-c =
       let at : 2 * n ≡ n + n = omega arith in
-      quarter-is 2 ∙ ap (λ m. take n (drop m ends)) at ∙ ap (take n) after_q ∙ front r (s ++ rest) at-r
+      quarter-is 2 ∙ ap (λ m. take n (drop m parts)) at ∙ ap (take n) after_q ∙ front r (s ++ rest) at-r
 
-  after_r : drop (n + n + n) ends ≡ s ++ rest
-  after_r = sym (drop-drop n (n + n) ends) ∙ ap (drop n) after_q ∙ back r (s ++ rest) at-r
+  after_r : drop (n + n + n) parts ≡ s ++ rest
+  after_r = sym (drop-drop n (n + n) parts) ∙ ap (drop n) after_q ∙ back r (s ++ rest) at-r
 
-  pub quarter-d : quarter 3 ends ≡ s
+  pub quarter-d : quarter 3 parts ≡ s
   quarter-d =
       let at : 3 * n ≡ n + n + n = omega arith in
-      quarter-is 3 ∙ ap (λ m. take n (drop m ends)) at ∙ ap (take n) after_r ∙ front s rest at-s
+      quarter-is 3 ∙ ap (λ m. take n (drop m parts)) at ∙ ap (take n) after_r ∙ front s rest at-s
 
 pub length-quarter : (ends : List ℕ) (k : ℕ) → k < 4 → length (quarter k ends) ≡ length ends / 4
 length-quarter ends k low =
@@ -205,3 +206,78 @@ pending-more new old first at more n next low e same before =
     ap (λ k. drop k new) (sym there) ∙ sym (drop-drop (n - more) (at + more) new) ∙ ap (drop (n - more)) same
     ∙ drop-drop (n - more) (at + more) old ∙ ap (λ k. drop k old) (there ∙ sym e)
     ∙ sym (drop-drop n at old) ∙ ap (drop n) before ∙ drop-drop n at first ∙ ap (λ k. drop k first) e
+
+-- a list by the tests of another kind
+pub AreListed-kind : (IsKind IsOther : (List ℕ → Bool) → Type 0) → ((has_match : List ℕ → Bool) → IsOther has_match → IsKind has_match) →
+    (block : List ℕ) (from to count : ℕ) (ends : List ℕ) → AreListed IsKind block from to count ends → AreListed IsOther block from to count ends
+AreListed-kind IsKind IsOther implies block from to count ends a = record {
+  lines = a.lines;
+  few = a.few;
+  room = a.room;
+  listed = λ has_match is. a.listed has_match (implies has_match is);
+}
+
+-- the room between two offsets of a list
+pub room_between : (ends : List ℕ) (count stop n : ℕ) → count + n ≤ stop → stop ≤ length ends → n ≤ length (take (stop - count) (drop count ends))
+room_between ends count stop n low high = omega (arith, low, high, length-take (stop - count) (drop count ends), length-drop count ends)
+
+-- the steps of one more chunk, at most so many for each byte
+pub work-more : (each from middle to before now later : ℕ) → from ≤ middle → middle ≤ to → now ≤ before + each * (middle - from) →
+    later ≤ now + each * (to - middle) → later ≤ before + each * (to - from)
+work-more each from middle to before now later low high done more =
+    let size : to - from ≡ (middle - from) + (to - middle) = omega arith in
+    omega (arith, done, more, ap (λ n. each * n) size)
+
+pub filled-work : (each other bytes now later : ℕ) → other ≡ each → later ≤ now + other * bytes → later ≤ now + (each + 1) * bytes
+filled-work each other bytes now later e h = omega (arith, h, ap (λ m. m * bytes) e)
+
+pub moved-work : (each bytes more now later : ℕ) → later ≡ now + more → more ≤ bytes → later ≤ now + (each + 1) * bytes
+moved-work each bytes more now later e low =
+    let product : (each + 1) * bytes ≡ each * bytes + bytes = omega arith in
+    omega (arith, e, low, product)
+
+pub pending-far : (old first : List ℕ) (at n next : ℕ) → at + n ≡ next → drop at old ≡ drop at first → drop next old ≡ drop next first
+pending-far old first at n next e same =
+    ap (λ k. drop k old) (sym e) ∙ sym (drop-drop n at old) ∙ ap (drop n) same ∙ drop-drop n at first ∙ ap (λ k. drop k first) e
+
+-- a list after a write to what lies between two offsets
+module _ (ends own later : List ℕ) (count stop : ℕ) (low : count ≤ stop) (high : stop ≤ length ends)
+    (size : length own ≡ length (take (stop - count) (drop count ends)))
+    (is : later ≡ take count ends ++ (own ++ drop (stop - count) (drop count ends))) where
+  abbrev behind : List ℕ
+  behind = drop (stop - count) (drop count ends)
+
+  before-len : length (take count ends) ≡ count
+  before-len = omega (arith, length-take count ends, low, high)
+
+  pub own-len : length own ≡ stop - count
+  own-len = omega (arith, size, length-take (stop - count) (drop count ends), length-drop count ends, low, high)
+
+  pub filled-len : length later ≡ length ends
+  filled-len = omega (
+    arith,
+    ap (λ (xs : List ℕ). length xs) is,
+    length-append (take count ends) (own ++ behind),
+    length-append own behind,
+    before-len,
+    own-len,
+    length-drop (stop - count) (drop count ends),
+    length-drop count ends,
+    low,
+    high,
+  )
+
+  pub filled : (more : ℕ) → more ≤ length own → take (count + more) later ≡ take count ends ++ take more own
+  filled more few =
+      ap₂ (λ (n : ℕ) (xs : List ℕ). take (n + more) xs) (sym before-len) is
+      ∙ take-append-add (take count ends) (own ++ behind) more
+      ∙ ap (λ (xs : List ℕ). take count ends ++ xs) (take-append-le more own behind few)
+
+  pub filled-rest : drop stop later ≡ drop stop ends
+  filled-rest =
+      let at : stop ≡ length (take count ends) + (stop - count) = omega (arith, before-len, low) in
+      let there : count + (stop - count) ≡ stop = omega (arith, low) in
+      ap₂ (λ (n : ℕ) (xs : List ℕ). drop n xs) at is
+      ∙ drop-append-add (take count ends) (own ++ behind) (stop - count)
+      ∙ ap (λ n. drop n (own ++ behind)) (sym own-len) ∙ drop-append_seam own behind
+      ∙ drop-drop (stop - count) count ends ∙ ap (λ n. drop n ends) there

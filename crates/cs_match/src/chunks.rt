@@ -1,24 +1,24 @@
 // Chunks: a part of a block is cut into four, which the lanes scan, and the lists of the lanes become one.
 ghost use Rattle.std.specs.Prelude.{◌≡◌, ◌≤◌, ◌<◌, ◌+◌, ◌-◌, ◌*◌, ◌++◌, length, take, drop, slice_index, slice_range};
 ghost use Rattle.cs_match.specs.Skipping.{AreWholeLines};
-ghost use Rattle.cs_match.specs.Table.{HasRows, TellsLines};
+ghost use Rattle.cs_match.specs.Deciding.{Decides};
+ghost use Rattle.cs_match.specs.Work.{byte_work};
 ghost use Rattle.cs_match.specs.Lanes.{IsCut, IsChunk, AreCuts, AreChunks, AreListed};
 ghost use Rattle.cs_prefilter.specs.CountsAtMost.{CountsAtMost};
 
 use crate::interleaved_scan::line_end;
 use crate::lanes::four_lanes;
-use crate::table::Table;
+use crate::one_lane::OneLane;
 use cs_prefilter::Steps;
 
 /// The least size of a chunk in bytes, except at the end of a block.
 const LEAST: usize = 64;
 
-/// How many ends of matching lines are listed, and the offset up to which. The lines up to `scanned` were read.
+/// How many ends of matching lines are listed, and the offset up to which.
 #[derive(Clone, Copy)]
 pub(crate) struct Listed {
     pub(crate) count: usize,
     pub(crate) to: usize,
-    pub(crate) scanned: usize,
 }
 
 /// The end of the chunk that begins at `from`: after the first newline at least so many bytes on, or the end of the block.
@@ -57,54 +57,51 @@ pub(crate) fn four_chunks(block: &[u8], from: usize, size: usize, steps: &mut St
 pub(crate) fn append(ends: &mut [usize], count: usize, from: usize, more: usize)
     requires order { count ≤ from }
     requires within { from + more ≤ length ends.old }
-    ensures listed { take (count + more) ends.new ≡ take count ends.old ++ slice_range ends.old from (from + more) }
+    ensures listed { take (count + more) ends.new
+        ≡ take count ends.old ++ slice_range ends.old from (from + more) }
     ensures rest { drop (from + more) ends.new ≡ drop (from + more) ends.old }
     ensures len { length ends.new ≡ length ends.old }
 {
     ends.copy_within(from..from + more, count);
 }
 
-/// Lists the ends of the matching lines of four chunks, or of those before the first with an unknown transition.
-pub(crate) fn list_chunks(
-    table: Table<'_>,
+/// Lists the ends of the matching lines of four chunks, at least of one line. A chunk with an unknown transition is scanned
+/// once more, by one lane.
+pub(crate) fn list_chunks<D: OneLane>(
+    dfa: &mut D,
     block: &[u8],
     from: usize,
     ends: &mut [usize],
     steps: &mut Steps,
 ) -> Listed
-    requires rows { HasRows table }
+    requires right { D.is_right dfa.old }
     requires within { from ≤ length block.now }
     requires whole { AreWholeLines (drop from block.now) }
     requires room { 4 ≤ length ends.old }
-    ensures listed { AreListed (λ has_match. TellsLines has_match table.entry)
+    ensures listed { AreListed (λ has_match. Decides has_match (D.tree dfa.old))
         block.now from result.to result.count ends.new }
-    ensures scanned { (result.to ≤ result.scanned) × (result.scanned ≤ length block.now) }
-    ensures moves { from < length block.now → from < result.scanned }
-    ensures work { CountsAtMost (3 * (result.scanned - from)) steps.old steps.new }
+    ensures moves { from < length block.now → from < result.to }
+    ensures dfa { D.is_right dfa.new × (D.tree dfa.new ≡ D.tree dfa.old) }
+    ensures work { CountsAtMost ((byte_work (D.tree dfa.old) + 3) * (result.to - from)) steps.old steps.new }
 {
     let quarter = ends.len() / 4;
     let size = (quarter - 1).min((block.len() - from) / 4 + LEAST);
     let cuts = four_chunks(block, from, size, steps);
-    let scanned = cuts[4];
-    steps.add(scanned - from);
+    steps.add(cuts[4] - from);
+    let table = dfa.table();
+    let unknown = table.unknown();
     let lanes = four_lanes(table, block, cuts, ends);
     let mut count = 0;
     for k in 0..4usize {
         let lane = lanes[k];
-        if lane.number == table.unknown() {
-            return Listed {
-                count,
-                to: cuts[k],
-                scanned,
-            };
+        if lane.number == unknown {
+            let own = &mut ends[count..(k + 1) * quarter];
+            count += dfa.list_ends(block, cuts[k]..cuts[k + 1], own, steps);
+        } else {
+            steps.add(lane.count);
+            append(ends, count, k * quarter, lane.count);
+            count += lane.count;
         }
-        steps.add(lane.count);
-        append(ends, count, k * quarter, lane.count);
-        count += lane.count;
     }
-    Listed {
-        count,
-        to: scanned,
-        scanned,
-    }
+    Listed { count, to: cuts[4] }
 }

@@ -87,6 +87,7 @@ pub mod laws;
 mod look_around;
 mod masks;
 mod matcher;
+mod one_lane;
 mod pacing;
 mod parts;
 mod position;

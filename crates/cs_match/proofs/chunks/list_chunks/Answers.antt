@@ -1,101 +1,159 @@
 use Rattle.std.proofs.Common.{◌≡◌, ◌≢◌, ◌+◌, ◌-◌, ◌*◌, ◌/◌, ◌≤◌, ◌++◌, length, take, drop, get_or, refl, sym, ap, subst, ◌∙◌, arith}
 use Rattle.std.specs.Prelude.{slice_index_or}
+use Rattle.cs_prefilter.specs.declared.steps.Steps.{Steps}
 use Rattle.cs_match.specs.declared.lanes.Lane.{Lane}
+use Rattle.cs_match.specs.Deciding.{Decides}
+use Rattle.cs_match.specs.Work.{byte_work}
 use Rattle.cs_match.specs.Table.{unknown, TellsLines}
 use Rattle.cs_match.specs.MatchingEnds.{newlines_between}
 use Rattle.cs_match.specs.Lanes.{AreListed, quarter}
-use Rattle.cs_match.proofs.ChunkLemmas.{newlines_within, chunk_within, cuts_rise, pending-quarter, pending-more, quarter_within, length-quarter, AreListed-none, AreListed-lane, AreListed-append}
+use Rattle.cs_match.proofs.ChunkLemmas.{newlines_within, chunk_within, pending-quarter, pending-more, quarter_within, length-quarter, room_between, work-more, filled-work, moved-work, pending-far, own-len, filled-len, filled, filled-rest, AreListed-none, AreListed-lane, AreListed-append, AreListed-kind}
 use Rattle.cs_match.proofs.chunks.list_chunks.Goals as goal
+use Rattle.cs_match.proofs.chunks.list_chunks.Goals.{then-lane-unknown, else-lane-unknown}
 
 abbrev other : Lane
 other = record { from = 0; number = 0; count = 0 }
 
 pub loop-k-init : goal.loop-k-init
-loop-k-init c = record {
-  listed = subst (λ at. AreListed (λ has_match. TellsLines has_match c.args.table) c.args.block.now c.args.from at 0 c.four_lanes-lanes.new.ends)
+loop-k-init g c = record {
+  listed = subst (λ at. AreListed (λ has_match. Decides has_match (g.D.OneLane.tree c.args.dfa.now)) c.args.block.now c.args.from at 0 c.four_lanes-lanes.new.ends)
       (sym c.four_chunks-cuts.ensures.cuts.first)
-      (AreListed-none (λ has_match. TellsLines has_match c.args.table) c.args.block.now c.args.from c.four_lanes-lanes.new.ends c.requires.within);
+      (AreListed-none (λ has_match. Decides has_match (g.D.OneLane.tree c.args.dfa.now)) c.args.block.now c.args.from c.four_lanes-lanes.new.ends c.requires.within);
   room = omega arith;
   pending = refl;
+  right = c.requires.right;
+  same = refl;
   rises = omega arith;
   work = omega arith;
 }
 
-pub returns-then-lane-unknown-clause-scanned : goal.returns-then-lane-unknown-clause-scanned
-returns-then-lane-unknown-clause-scanned c =
-    let chunks = c.four_chunks-cuts.ensures.chunks in (
-      cuts_rise c.args.block.now c.four_chunks-cuts.result _ chunks c.loop-k.k c.loop-k-test.true,
-      (chunks 3 (omega arith)).lines.high,
+pub list_ends-count-requires-clause-lines : goal.list_ends-count-requires-clause-lines
+list_ends-count-requires-clause-lines g c = (c.four_chunks-cuts.ensures.chunks c.loop-k.k c.loop-k-test.true).lines
+
+pub list_ends-count-requires-clause-room : goal.list_ends-count-requires-clause-room
+list_ends-count-requires-clause-room g c =
+    let k = c.loop-k.k in
+    let n = length c.args.ends.now / 4 in
+    let cuts = c.four_chunks-cuts.result in
+    let next : k * n + n ≡ (k + 1) * n = omega arith in
+    let few : newlines_between c.args.block.now (get_or cuts k 0) (get_or cuts (k + 1) 0) ≤ n =
+    omega (arith, (c.four_chunks-cuts.ensures.chunks k c.loop-k-test.true).few) in
+    room_between c.loop-k.ends c.loop-k.count ((k + 1) * n) _ (omega (arith, c.loop-k.invariant.room, next, few))
+    (omega (arith, next, quarter_within n (length c.args.ends.now) refl k c.loop-k-test.true, c.loop-k.auto.ends, c.four_lanes-lanes.ensures.len))
+
+pub append-requires-clause-within : goal.append-requires-clause-within
+append-requires-clause-within g c =
+    let k = c.loop-k.k in
+    let n = length c.args.ends.now / 4 in
+    let cuts = c.four_chunks-cuts.result in
+    let is = c.four_lanes-lanes.ensures.lanes k other c.loop-k-test.true in
+    omega (
+      arith,
+      is.lane.few,
+      (c.four_chunks-cuts.ensures.chunks k c.loop-k-test.true).few,
+      ap (λ f. newlines_between c.args.block.now f (get_or cuts (k + 1) 0)) is.from,
+      quarter_within n (length c.args.ends.now) refl k c.loop-k-test.true,
+      c.loop-k.auto.ends,
+      c.four_lanes-lanes.ensures.len,
     )
 
-pub returns-then-lane-unknown-clause-work : goal.returns-then-lane-unknown-clause-work
-returns-then-lane-unknown-clause-work c =
-    let chunks = c.four_chunks-cuts.ensures.chunks in
-    let block = c.args.block.now in
-    let i = c.loop-k.invariant in
-    let rise = cuts_rise block c.four_chunks-cuts.result _ chunks c.loop-k.k c.loop-k-test.true in
-    let work = c.four_chunks-cuts.ensures.work in
-    let few = newlines_within block c.args.from (get_or c.four_chunks-cuts.result c.loop-k.k 0) in (
-      omega (arith, work.0, c.add.ensures, i.rises),
-      omega (arith, work.1, c.add.ensures, i.work, i.listed.few, few, rise),
-    )
-
-pub overflow_add-count : goal.overflow_add-count
-overflow_add-count c =
+pub overflow_add-count-else-lane-unknown : goal.overflow_add-count-else-lane-unknown
+overflow_add-count-else-lane-unknown g c =
     let i = c.loop-k.invariant in
     let k = c.loop-k.k in
     let n = length c.args.ends.now / 4 in
     let cuts = c.four_chunks-cuts.result in
     let is = c.four_lanes-lanes.ensures.lanes k other c.loop-k-test.true in
-    let chunk = c.four_chunks-cuts.ensures.chunks k c.loop-k-test.true in
     omega (
       arith,
       i.room,
       is.lane.few,
-      chunk.few,
+      (c.four_chunks-cuts.ensures.chunks k c.loop-k-test.true).few,
       ap (λ f. newlines_between c.args.block.now f (get_or cuts (k + 1) 0)) is.from,
       quarter_within n (length c.args.ends.now) refl k c.loop-k-test.true,
     )
 
 pub loop-k-preserved : goal.loop-k-preserved
-loop-k-preserved c =
+loop-k-preserved g c =
     let i = c.loop-k.invariant in
     let block = c.args.block.now in
     let k = c.loop-k.k in
     let n = length c.args.ends.now / 4 in
     let cuts = c.four_chunks-cuts.result in
+    let x = get_or cuts k 0 in
+    let y = get_or cuts (k + 1) 0 in
+    let t = g.D.OneLane.tree c.args.dfa.now in
     let first = c.four_lanes-lanes.new.ends in
-    let is = c.four_lanes-lanes.ensures.lanes k other c.loop-k-test.true in
-    let lane : Lane = slice_index_or c.four_lanes-lanes.result k other in
-    let chunk = chunk_within block _ n (get_or cuts k 0) (get_or cuts (k + 1) 0) (omega arith) (c.four_chunks-cuts.ensures.chunks k c.loop-k-test.true) in
-    let part : length first / 4 ≡ n = ap (λ len. len / 4) c.four_lanes-lanes.ensures.len in
-    let few : lane.count ≤ n = omega (
+    let stop = (k + 1) * n in
+    let count = c.loop-k.count in
+    let old = c.loop-k.ends in
+    let chunk = chunk_within block _ n x y (omega arith) (c.four_chunks-cuts.ensures.chunks k c.loop-k-test.true) in
+    let next : k * n + n ≡ stop = omega arith in
+    let high : stop ≤ length old = omega (
       arith,
-      is.lane.few,
-      chunk.few,
-      ap (λ f. newlines_between block f (get_or cuts (k + 1) 0)) is.from,
+      next,
+      quarter_within n (length c.args.ends.now) refl k c.loop-k-test.true,
+      c.loop-k.auto.ends,
+      c.four_lanes-lanes.ensures.len,
     ) in
-    let size : k * n + lane.count - k * n ≡ lane.count = omega arith in
-    let next : k * n + n ≡ (k + 1) * n = omega arith in
-    let known : lane.number ≢ unknown c.args.table = λ e. c.if-lane-unknown.false (e ∙ sym c.unknown.ensures) in
-    record {
-      listed = AreListed-append (λ has_match. TellsLines has_match c.args.table) block c.args.from (get_or cuts k 0) (get_or cuts (k + 1) 0)
-          c.loop-k.count lane.count c.loop-k.ends (quarter k first) c.append.new.ends i.listed
-          (AreListed-lane c.args.table block (get_or cuts k 0) (get_or cuts (k + 1) 0) n lane (quarter k first) is.lane is.from chunk
-          (omega (arith, length-quarter first k c.loop-k-test.true, part)) known)
-          (omega (
-            arith,
-            i.room,
-            few,
-            quarter_within n (length c.args.ends.now) refl k c.loop-k-test.true,
-            c.append.ensures.len,
-            c.loop-k.auto.ends,
-            c.four_lanes-lanes.ensures.len,
-          ))
-          (c.append.ensures.listed ∙ ap (λ m. take c.loop-k.count c.loop-k.ends ++ take m (drop (k * n) c.loop-k.ends)) size
-          ∙ ap (λ xs. take c.loop-k.count c.loop-k.ends ++ xs) (pending-quarter c.loop-k.ends first k n part lane.count few i.pending));
-      room = omega (arith, i.room, few);
-      pending = pending-more c.append.new.ends c.loop-k.ends first (k * n) lane.count n ((k + 1) * n) few next c.append.ensures.rest i.pending;
-      rises = omega (arith, i.rises, c.add-in-loop-k.ensures);
-      work = omega (arith, i.work, c.add-in-loop-k.ensures);
-    }
+    elim c.if-lane-unknown.branch [
+      | then-lane-unknown w ↦
+          let e = w.list_ends-count.ensures in
+          let own = w.list_ends-count.new.ends in
+          let more = w.list_ends-count.result in
+          let low : count ≤ stop = omega (arith, i.room, next) in
+          let size = w.list_ends-count.auto.ends in
+          let is : c.if-lane-unknown.ends ≡ take count old ++ (own ++ drop (stop - count) (drop count old)) = w.ends-is in
+          let listed : AreListed (λ has_match. Decides has_match t) block x y more own =
+          subst (λ tree. AreListed (λ has_match. Decides has_match tree) block x y more own) i.same e.listed in
+          let all : length c.if-lane-unknown.ends ≡ length old = filled-len old own c.if-lane-unknown.ends count stop low high size is in
+          let len : length own ≡ stop - count = own-len old own c.if-lane-unknown.ends count stop low high size is in
+          let steps = ap (λ (s : Steps). s.count) w.steps-is in
+          record {
+            listed = subst (λ m. AreListed (λ has_match. Decides has_match t) block c.args.from y m c.if-lane-unknown.ends) (sym w.count-is)
+                (AreListed-append (λ has_match. Decides has_match t) block c.args.from x y count more old own c.if-lane-unknown.ends i.listed listed
+                (omega (arith, listed.room, len, all, high, low))
+                (filled old own c.if-lane-unknown.ends count stop low high size is more listed.room));
+            room = omega (arith, w.count-is, listed.room, len, low);
+            pending = filled-rest old own c.if-lane-unknown.ends count stop low high size is ∙ pending-far old first (k * n) n stop next i.pending;
+            right = subst g.D.OneLane.is_right (sym w.dfa-is) e.right;
+            same = ap g.D.OneLane.tree w.dfa-is ∙ e.same ∙ i.same;
+            rises = omega (arith, steps, e.work.0, i.rises);
+            work = work-more (byte_work t + 1) c.args.from x y c.add.new.self.count c.loop-k.steps.count c.if-lane-unknown.steps.count
+                i.listed.lines.low chunk.lines.low i.work
+                (subst (λ s. s ≤ c.loop-k.steps.count + (byte_work t + 1) * (y - x)) (sym steps)
+                (filled-work (byte_work t) (byte_work (g.D.OneLane.tree c.loop-k.dfa)) (y - x) c.loop-k.steps.count
+                w.list_ends-count.new.steps.count (ap (λ tree. byte_work tree) i.same) e.work.1));
+          }
+      | else-lane-unknown w ↦
+          let is = c.four_lanes-lanes.ensures.lanes k other c.loop-k-test.true in
+          let lane : Lane = slice_index_or c.four_lanes-lanes.result k other in
+          let part : length first / 4 ≡ n = ap (λ len. len / 4) c.four_lanes-lanes.ensures.len in
+          let seen : lane.count ≤ newlines_between block x y = omega (arith, is.lane.few, ap (λ f. newlines_between block f y) is.from) in
+          let few : lane.count ≤ n = omega (arith, seen, chunk.few) in
+          let size : k * n + lane.count - k * n ≡ lane.count = omega arith in
+          let known : lane.number ≢ unknown c.table-table.result = λ e. w.if-lane-unknown.false (e ∙ sym c.unknown-unknown.ensures) in
+          let own : AreListed (λ has_match. Decides has_match t) block x y lane.count (quarter k first) =
+          AreListed-kind (λ has_match. TellsLines has_match c.table-table.result) (λ has_match. Decides has_match t) c.table-table.ensures.tells
+          block x y lane.count (quarter k first) (AreListed-lane c.table-table.result block x y n lane (quarter k first) is.lane is.from chunk
+          (omega (arith, length-quarter first k c.loop-k-test.true, part)) known) in
+          let steps = ap (λ (s : Steps). s.count) w.steps-is in
+          record {
+            listed = subst (λ m. AreListed (λ has_match. Decides has_match t) block c.args.from y m c.if-lane-unknown.ends) (sym w.count-is)
+                (subst (λ ends. AreListed (λ has_match. Decides has_match t) block c.args.from y (count + lane.count) ends) (sym w.ends-is)
+                (AreListed-append (λ has_match. Decides has_match t) block c.args.from x y count lane.count old (quarter k first) w.append.new.ends
+                i.listed own (omega (arith, i.room, few, next, high, w.append.ensures.len))
+                (w.append.ensures.listed ∙ ap (λ m. take count old ++ take m (drop (k * n) old)) size
+                ∙ ap (λ xs. take count old ++ xs) (pending-quarter old first k n part lane.count few i.pending))));
+            room = omega (arith, w.count-is, i.room, few, next);
+            pending = ap (drop stop) w.ends-is
+                ∙ pending-more w.append.new.ends old first (k * n) lane.count n stop few next w.append.ensures.rest i.pending;
+            right = subst g.D.OneLane.is_right (sym w.dfa-is) i.right;
+            same = ap g.D.OneLane.tree w.dfa-is ∙ i.same;
+            rises = omega (arith, steps, w.add-else-lane-unknown.ensures, i.rises);
+            work = work-more (byte_work t + 1) c.args.from x y c.add.new.self.count c.loop-k.steps.count c.if-lane-unknown.steps.count
+                i.listed.lines.low chunk.lines.low i.work
+                (moved-work (byte_work t) (y - x) lane.count c.loop-k.steps.count c.if-lane-unknown.steps.count
+                (steps ∙ w.add-else-lane-unknown.ensures) (omega (arith, seen, newlines_within block x y)));
+          }
+    ]

@@ -55,8 +55,19 @@ impl<'a> Index<'a> {
         ensures decodes { IfOk result (DecodesAs bytes.now) }
         ensures fails { IfErr result (Fails bytes.now) }
     {
-        match split(bytes) {
-            Ok(slices) => read(bytes, slices),
+        let slices = match split(bytes) {
+            Ok(slices) => slices,
+            Err(fault) => return Err(fault),
+        };
+        let room = slices.postings.len();
+        match test_sections(
+            slices.paths,
+            slices.names,
+            slices.name_index,
+            slices.list_index,
+            room,
+        ) {
+            Ok(()) => Ok(Index { bytes, slices }),
             Err(fault) => Err(fault),
         }
     }
@@ -198,26 +209,6 @@ impl<'a> Index<'a> {
         }
         postings_of(&self.slices.postings[offset..], entry, self.len())
     }
-}
-
-/// Tests the sections and makes them an index.
-fn read<'a>(bytes: &'a [u8], slices: SectionSlices<'a>) -> Result<Index<'a>, IndexFault>
-    requires split { split_of bytes.now ≡ Ok (borrowed_sections slices) }
-    requires names { length slices.name_index.now < 2 ^ 32 }
-    requires lists { length slices.list_index.now < 2 ^ 32 }
-    ensures { result ≡ read_sections (borrowed_sections slices.entry) }
-{
-    let room = slices.postings.len();
-    if let Err(fault) = test_sections(
-        slices.paths,
-        slices.names,
-        slices.name_index,
-        slices.list_index,
-        room,
-    ) {
-        return Err(fault);
-    }
-    Ok(Index { bytes, slices })
 }
 
 /// Tests the sections, in the order of the variants of `IndexFault`. The posting lists are not

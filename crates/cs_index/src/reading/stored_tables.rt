@@ -64,11 +64,29 @@ impl StoredTables {
         ensures store { KeepsStore S.model S.size S.failed store.old store.new result }
     {
         // The sections are tested in pieces before they are read as a whole, so a damaged index of any length is
-        // refused without much memory.
-        match StoredIndex::open(alloc, store)? {
-            Ok(index) => read_tables(alloc, store, index.starts),
-            Err(fault) => Ok(Err(fault)),
-        }
+        // refused without much memory. They are tested again, since the store may have changed.
+        let starts = match StoredIndex::open(alloc, store)? {
+            Ok(index) => index.starts,
+            Err(fault) => return Ok(Err(fault)),
+        };
+        let paths = read_part(alloc, store, starts.paths, starts.names - starts.paths)?;
+        let names = read_part(alloc, store, starts.names, starts.postings - starts.names)?;
+        let len = starts.list_index - starts.name_index;
+        let name_index = read_part(alloc, store, starts.name_index, len)?;
+        let len = starts.trailer - starts.list_index;
+        let list_index = read_part(alloc, store, starts.list_index, len)?;
+        let room = starts.name_index - starts.postings;
+        let answer = match test_sections(&paths, &names, &name_index, &list_index, room) {
+            Ok(()) => Ok(StoredTables {
+                paths,
+                names,
+                name_index,
+                list_index,
+                starts,
+            }),
+            Err(fault) => Err(fault),
+        };
+        Ok(answer)
     }
 
     /// The paths, in the order of the index.
@@ -141,37 +159,4 @@ impl StoredTables {
     {
         self.starts
     }
-}
-
-/// Reads all sections except the posting lists, and tests them again, since the store may have changed.
-fn read_tables<S: Store>(
-    alloc: Global,
-    store: &mut S,
-    starts: SectionOffsets,
-) -> Result<Result<StoredTables, IndexFault>, IoFault>
-    requires { AreAscendingOffsets starts }
-    ensures opens { IfSome (S.model store.old) (λ bytes.
-        (paths : List (List ℕ)) (count : ℕ) (parts : Parts) →
-        StandsIn bytes (record { paths = paths; name_count = count; starts = starts }) parts →
-        IfOk result (OpensAsTables bytes)) }
-    ensures store { KeepsStore S.model S.size S.failed store.old store.new result }
-{
-    let paths = read_part(alloc, store, starts.paths, starts.names - starts.paths)?;
-    let names = read_part(alloc, store, starts.names, starts.postings - starts.names)?;
-    let len = starts.list_index - starts.name_index;
-    let name_index = read_part(alloc, store, starts.name_index, len)?;
-    let len = starts.trailer - starts.list_index;
-    let list_index = read_part(alloc, store, starts.list_index, len)?;
-    let room = starts.name_index - starts.postings;
-    let answer = match test_sections(&paths, &names, &name_index, &list_index, room) {
-        Ok(()) => Ok(StoredTables {
-            paths,
-            names,
-            name_index,
-            list_index,
-            starts,
-        }),
-        Err(fault) => Err(fault),
-    };
-    Ok(answer)
 }

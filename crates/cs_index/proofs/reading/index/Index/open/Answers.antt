@@ -1,27 +1,17 @@
-use Rattle.std.proofs.Common.{◌<◌, ◌∙◌, ap, sym, arith, ℕ, List, get_or}
+use Rattle.std.proofs.Common.{◌<◌, ◌∙◌, ap, length, refl, sym, arith, ℕ, List, get_or}
 use Rattle.cs_tree.specs.ByteList.{AreBytes}
 use Rattle.std.proofs.lemmas.List.Elements.{All-from_get_or}
+use Rattle.cs_index.specs.Encoding.{SectionBytes}
 use Rattle.cs_index.specs.Opening.{opening}
+use Rattle.cs_index.specs.SectionSlices.{borrowed_sections}
 use Rattle.cs_index.specs.ValidSections.{read_split}
-use Rattle.cs_index.proofs.decoding.FirstFailure.{fails_if_err, fails_so, decodes_if_ok}
+use Rattle.cs_index.proofs.decoding.DecodableBytesOpen.{opened_decodes}
+use Rattle.cs_index.proofs.decoding.FirstFailure.{fails_so}
+use Rattle.cs_index.proofs.stored.SectionReads.{tested}
 use Rattle.cs_index.proofs.reading.index.Index.open.Goals as goal
 
 bytes_fit : (bytes : List ℕ) → ((i : ℕ) → get_or bytes i 0 < 256) → AreBytes bytes
 bytes_fit bytes fit = All-from_get_or (λ b. b < 256) bytes 0 (λ i _. fit i)
-
-pub returns-in-Ok-clause-opens : goal.returns-in-Ok-clause-opens
-unfolding opening
-returns-in-Ok-clause-opens c = c.read.ensures ∙ sym (ap read_split c.in-Ok.ensures.value)
-
-pub returns-in-Ok-clause-decodes : goal.returns-in-Ok-clause-decodes
-returns-in-Ok-clause-decodes c =
-    decodes_if_ok c.args.bytes.now c.read.result (bytes_fit c.args.bytes.now (λ i. omega (arith, c.type_inv.bytes i)))
-    (returns-in-Ok-clause-opens c)
-
-pub returns-in-Ok-clause-fails : goal.returns-in-Ok-clause-fails
-returns-in-Ok-clause-fails c =
-    fails_if_err c.args.bytes.now c.read.result (bytes_fit c.args.bytes.now (λ i. omega (arith, c.type_inv.bytes i)))
-    (returns-in-Ok-clause-opens c)
 
 pub returns-in-Err-clause-opens : goal.returns-in-Err-clause-opens
 unfolding opening
@@ -31,3 +21,26 @@ pub returns-in-Err-clause-fails : goal.returns-in-Err-clause-fails
 returns-in-Err-clause-fails c =
     fails_so c.args.bytes.now c.in-Err.fault (bytes_fit c.args.bytes.now (λ i. omega (arith, c.type_inv.bytes i)))
     (sym (returns-in-Err-clause-opens c))
+
+pub returns-in-Ok-test_sections-clause-opens : goal.returns-in-Ok-test_sections-clause-opens
+unfolding opening
+returns-in-Ok-test_sections-clause-opens c =
+    let s : SectionBytes = borrowed_sections c.in-Ok.slices in
+    sym (ap read_split c.in-Ok.ensures.value
+    ∙ tested s.paths s.names s.name_index s.list_index s.postings (length s.postings) refl c.in-Ok-test_sections.ensures.read)
+
+pub returns-in-Ok-test_sections-clause-decodes : goal.returns-in-Ok-test_sections-clause-decodes
+returns-in-Ok-test_sections-clause-decodes c =
+    opened_decodes c.args.bytes.now _ (bytes_fit c.args.bytes.now (λ i. omega (arith, c.type_inv.bytes i)))
+    (sym (returns-in-Ok-test_sections-clause-opens c))
+
+pub returns-in-Err-test_sections-clause-opens : goal.returns-in-Err-test_sections-clause-opens
+unfolding opening
+returns-in-Err-test_sections-clause-opens c =
+    sym (ap read_split c.in-Ok.ensures.value ∙ c.in-Err-test_sections.ensures.fault c.in-Ok.slices.postings.now refl)
+
+pub returns-in-Err-test_sections-clause-fails : goal.returns-in-Err-test_sections-clause-fails
+returns-in-Err-test_sections-clause-fails c =
+    fails_so c.args.bytes.now c.in-Err-test_sections.fault
+    (bytes_fit c.args.bytes.now (λ i. omega (arith, c.type_inv.bytes i)))
+    (sym (returns-in-Err-test_sections-clause-opens c))

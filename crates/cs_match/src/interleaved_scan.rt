@@ -7,7 +7,7 @@ ghost use Rattle.cs_match.specs.NoNewline.{HasNoNewline};
 ghost use Rattle.cs_match.specs.Skipped.{AreSkipped};
 ghost use Rattle.cs_match.specs.Skipping.{AreWholeLines};
 ghost use Rattle.cs_match.specs.Scan.{RulesOutLines};
-ghost use Rattle.cs_match.specs.Table.{number_after, start, IsRow, HasRows};
+ghost use Rattle.cs_match.specs.Table.{next_number, number_after, start, IsRow, HasRows};
 ghost use Rattle.cs_match.specs.Work.{most_batch};
 ghost use Rattle.cs_prefilter.specs.CountsAtMost.{CountsAtMost};
 
@@ -27,6 +27,17 @@ pub(crate) const BATCH: usize = 3072;
 /// The most bytes of a batch that is scanned. What a scan reads in vain, as the first chunk has a match, is bounded by it.
 const MOST_BATCH: usize = 98304;
 
+/// The number of the state after one more byte.
+#[inline(always)]
+fn next(table: Table<'_>, number: u16, byte: u8) -> u16
+    requires rows { HasRows table }
+    requires row { IsRow table number }
+    ensures value { result ≡ next_number table.entry number byte }
+    ensures row { IsRow table.entry result }
+{
+    table.next(number, byte)
+}
+
 /// The state after the text.
 fn scan(table: Table<'_>, from: u16, text: &[u8]) -> u16
     requires rows { HasRows table }
@@ -35,7 +46,7 @@ fn scan(table: Table<'_>, from: u16, text: &[u8]) -> u16
 {
     let mut state = from;
     for byte in text {
-        state = table.next(state, *byte);
+        state = next(table, state, *byte);
     }
     state
 }
@@ -122,12 +133,12 @@ fn six_lanes(table: Table<'_>, chunks: Chunks) -> [u16; 6]
     let mut w = table.start();
     let mut x = table.start();
     for i in 0..n {
-        s = table.next(s, a[i]);
-        t = table.next(t, b[i]);
-        u = table.next(u, c[i]);
-        v = table.next(v, d[i]);
-        w = table.next(w, e[i]);
-        x = table.next(x, f[i]);
+        s = next(table, s, a[i]);
+        t = next(table, t, b[i]);
+        u = next(table, u, c[i]);
+        v = next(table, v, d[i]);
+        w = next(table, w, e[i]);
+        x = next(table, x, f[i]);
     }
     s = scan(table, s, &a[n..]);
     t = scan(table, t, &b[n..]);

@@ -43,8 +43,7 @@ impl<'a> Table<'a> {
     pub(crate) fn next(self, number: u16, byte: u8) -> u16
         requires rows { HasRows self }
         requires row { IsRow self number }
-        ensures value { result ≡ next_number self.entry number byte }
-        ensures row { IsRow self.entry result }
+        ensures { result ≡ next_number self.entry number byte }
     {
         let column = &self.cells[self.of[byte as usize] as usize..];
         column[number as usize]

@@ -28,7 +28,7 @@ loop-to-preserved c =
     let high : 4 * count_in s ≤ next = omega (arith, c.if-next-start.false, c.start-start.ensures.number) in
     let some = some_classes t s.states.classes right.classes in
     let moves : HasTransition s m b next =
-    subst (λ x. HasTransition s m b x) (sym c.next-next.ensures.value) (c.table-table.ensures.next c.loop-to.number b m byte given.at) in
+    subst (λ x. HasTransition s m b x) (sym c.next-next.ensures) (c.table-table.ensures.next c.loop-to.number b m byte given.at) in
     let leads = known_leads t (count_in s) s.states.cached.items m b next moves (λ e. omega (arith, e, high, some)) in
     let on = leads_on t (count_in s) s.states.cached.items b next m leads (λ e. omega (arith, e, high, some)) in
     record {

@@ -11,3 +11,12 @@ mod Examples
 mod LayerExamples
 mod ListingExamples
 pub mod ListingLemmas
+pub mod KeyLemmas
+pub mod WalkLemmas
+pub mod OrderLemmas
+pub mod TakenLemmas
+pub mod FolderLemmas
+pub mod VisitLemmas
+pub mod StepLemmas
+pub mod WeightLemmas
+pub mod BeginLemmas

@@ -7,7 +7,7 @@ use Rattle.cs_tree.specs.Snapshot.{Item, folder, file, other, bad, missing}
 use Rattle.cs_listing.specs.Listing.{Settings, TreeItems, is_listed}
 
 abbrev settings : Settings
-settings = record { global = []; takes_hidden = false; excludes = λ above. [] }
+settings = record { global = []; takes_hidden = false }
 
 abbrev tree : List (List ℕ × Item)
 tree =

@@ -11,6 +11,9 @@ pub mod Layers
 pub mod LayersWork
 pub mod Listing
 pub mod Models
+pub mod FolderReads
+pub mod Entries
+pub mod Walk
 -- Definitions that only private contracts cite.
 pub mod Matching
 pub mod Reading

@@ -1,6 +1,6 @@
 -- The tokens, elements, rules and folders that the values of the code stand for.
 use denote.Ref.{Bor}
-use Rattle.std.specs.Prelude.{ℕ, ◌≡◌, List, map, length, Option, Some, None}
+use Rattle.std.specs.Prelude.{ℕ, ◌≡◌, List, map, length, drop, string_bytes, Option, Some, None}
 use Rattle.cs_listing.specs.Globs.{GlobToken, byte, any, class, star, Element, folders, one}
 use Rattle.cs_listing.specs.Rules.{Rule}
 use Rattle.cs_listing.specs.Layers.{FolderRules, Repository}
@@ -51,6 +51,17 @@ folders_of all = map folder_of all
 -- the folders that the layers stand for, from the top down
 abbrev pub folders_in : Layers → List FolderRules
 folders_in layers = folders_of layers.folders.items
+
+abbrev pub folder_name : OwnFolder → List ℕ
+folder_name folder = string_bytes folder.name
+
+-- the names of the folders, from the top down
+abbrev pub all_names : Layers → List (List ℕ)
+all_names layers = map folder_name layers.folders.items
+
+-- the names of the folders below the topmost one
+abbrev pub names_in : Layers → List (List ℕ)
+names_in layers = drop 1 (all_names layers)
 
 -- the rules and the choice of the user stay
 abbrev pub KeepsChoices : Layers → Layers → Type 0

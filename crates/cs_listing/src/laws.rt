@@ -1,7 +1,13 @@
 // Laws of the definitions. These functions do nothing.
 ghost use Rattle.cs_listing.specs.Listing.{ListsAsBelow};
+ghost use Rattle.cs_listing.specs.Walk.{GivesInOrder};
 
 /// Below a folder that it enters, a search lists what a search of that folder lists.
 pub fn lists_as_below()
     ensures { ListsAsBelow }
+{}
+
+/// What a walk gives from its beginning to its end is ascending, and exactly the files that were left at its beginning.
+pub fn gives_in_order()
+    ensures { GivesInOrder }
 {}

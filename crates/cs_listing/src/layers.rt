@@ -1,10 +1,10 @@
 // What all rule files along a path say together.
-ghost use Rattle.std.specs.Prelude.{◌≡◌, ◌≤◌, ◌++◌, [], ◌∷◌, length, IfOk, OnOk, OnErr, IfSome, IsSome, is_some, ◌↔◌, ◌<◌, ◌||◌};
+ghost use Rattle.std.specs.Prelude.{◌≡◌, ◌≤◌, ◌++◌, [], ◌∷◌, drop, length, IfOk, OnOk, OnErr, IfSome, IsSome, is_some, ◌↔◌, ◌<◌, ◌||◌};
 ghost use Rattle.std.specs.Option.{option_to_list};
 ghost use Rattle.cs_prefilter.specs.CountsAtMost.{CountsAtMost};
 ghost use Rattle.cs_listing.specs.Layers.{rules_at, deepest as deepest', repository_of as repository_of', repository_says, says as says', last_name as last_name', is_left_out as is_left_out', is_left_out_by as is_left_out_by'};
 ghost use Rattle.cs_listing.specs.LayersWork.{files_work, repository_work};
-ghost use Rattle.cs_listing.specs.Models.{names, rules_in, folder_of, folders_of, folders_in, KeepsChoices, IsInDeepest, work_for, repository_in};
+ghost use Rattle.cs_listing.specs.Models.{names, names_in, rules_in, folder_of, folders_of, folders_in, KeepsChoices, IsInDeepest, work_for, repository_in};
 
 use crate::classes::begins_with;
 use crate::rules::{Decision, Rules};
@@ -15,6 +15,8 @@ use std::marker::Model;
 /// The rule files of a folder. A file that is not there is one without rules.
 #[derive(Debug, Drop)]
 pub struct FolderRules {
+    /// The name of the folder; of `/` it counts nowhere.
+    pub name: String,
     /// The rules of `.ignore`, which come before all others.
     pub ignore: Rules,
     /// The rules of `.gitignore`.
@@ -165,6 +167,7 @@ impl Layers {
         ensures entered { OnOk result
             (folders_in self.new ≡ folders_in self.old ++ folder_of folder ∷ []) }
         ensures unchanged { OnErr result (folders_in self.new ≡ folders_in self.old) }
+        ensures all { OnOk result (self.new.folders.items ≡ self.old.folders.items ++ folder ∷ []) }
         ensures choices { KeepsChoices self.old self.new }
     {
         self.folders.push(folder)?;
@@ -175,9 +178,32 @@ impl Layers {
     pub fn leave(&mut self) -> Option<FolderRules>
         ensures left { folders_in self.old ≡ folders_in self.new ++ folders_of (option_to_list result) }
         ensures some { IsSome result ↔ (0 < length (folders_in self.old)) }
+        ensures all { self.old.folders.items ≡ self.new.folders.items ++ option_to_list result }
         ensures choices { KeepsChoices self.old self.new }
     {
         self.folders.pop()
+    }
+
+    /// The names of the folders below the topmost one: the path of the deepest folder.
+    pub(crate) fn names(&self, alloc: Global) -> Result<Vec<&[u8]>, AllocError>
+        ensures { IfOk result (λ path. names path.items ≡ names_in self.now) }
+    {
+        let mut path = Vec::new(alloc);
+        let below = self.below();
+        'folders: for folder in below {
+            path.push(folder.name.as_bytes())?;
+        }
+        Ok(path)
+    }
+
+    /// The folders below the topmost one.
+    fn below(&self) -> &[FolderRules]
+        ensures { result.now ≡ drop 1 self.now.folders.items }
+    {
+        match self.folders.split_first() {
+            Some((_, below)) => below,
+            None => &[],
+        }
     }
 
     /// What all rule files along a path say of it.

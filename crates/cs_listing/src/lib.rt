@@ -1,7 +1,7 @@
-//! Which files are a project's: those that no rule file leaves out, as gitignore(5) says. So far the rules of one file, and what
-//! the rule files of all folders along a path say together. Read `specs/Globs.antt`, `specs/Rules.antt` and `specs/Layers.antt`
-//! first, then `specs/RuleFiles.antt`: how the bytes of a rule file are read. `specs/Listing.antt` says which files of a tree a
-//! search of a folder is to list; the walk that finds them is not written yet.
+//! Which files are a project's: those that no rule file leaves out, as gitignore(5) says. Read `specs/Globs.antt`,
+//! `specs/Rules.antt` and `specs/Layers.antt` first: the rules of one file, and what the rule files of all folders along a path
+//! say together; then `specs/RuleFiles.antt`: how the bytes of a rule file are read. `specs/Listing.antt` says which files of a
+//! tree a search of a folder lists, and `specs/Walk.antt` what the walk gives that finds them.
 //!
 //! A *glob* is a list of elements, one for each name of a path, or `**` for any number of folders; an element
 //! is a list of tokens; the token `*` takes any bytes. A rule without a slash begins with `**`, and a `**` at
@@ -18,11 +18,12 @@
 //! is an entry of the deepest folder, by the names along its path: the rules of the first folder see all of
 //! them, those of the second all but the first, and so on. Each kind of file is asked from the deepest folder
 //! up, and the first that says anything counts. Whether a path is left out does not depend on where a walk
-//! began, but only on the folders above. That a folder which is left out is not entered is for the walk to see
-//! to.
+//! began, but only on the folders above. The walk does not enter a folder that is left out.
 #![tactic(auto)]
 
 mod classes;
+mod entries;
+mod fault;
 mod glob;
 mod glob_parsing;
 pub mod laws;
@@ -30,6 +31,9 @@ mod layers;
 mod rule_files;
 mod rule_lines;
 mod rules;
+mod walk;
 
+pub use fault::{ListFault, Unread};
 pub use layers::{FolderRules, Layers};
 pub use rules::{Decision, Rules};
+pub use walk::{File, Found, Walk};

@@ -1,5 +1,5 @@
 // The rules of one file, and what the last of them says that applies to a path.
-ghost use Rattle.std.specs.Prelude.{◌≡◌, IfOk, OnOk};
+ghost use Rattle.std.specs.Prelude.{◌≡◌, [], IfOk, OnOk};
 ghost use Rattle.cs_prefilter.specs.CountsAtMost.{CountsAtMost};
 ghost use Rattle.cs_listing.specs.Rules.{applies as applies', decide as decide'};
 ghost use Rattle.cs_listing.specs.MatchWork.{path_work, rules_work};
@@ -38,6 +38,15 @@ pub struct Rules {
 }
 
 impl Rules {
+    /// No rules.
+    pub fn none(alloc: Global) -> Rules
+        ensures { rules_in result ≡ [] }
+    {
+        Rules {
+            rules: Vec::new(alloc),
+        }
+    }
+
     /// The rules of a file's bytes.
     pub fn parse(alloc: Global, bytes: &[u8]) -> Result<Rules, AllocError>
         ensures { IfOk result (λ rules. rules_in rules ≡ rules_of bytes.now) }

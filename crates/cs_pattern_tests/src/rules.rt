@@ -33,11 +33,13 @@ fn layers_decide(rt: HostRuntime) -> Result<(), Fail> {
     let user = Rules::parse(rt.alloc(), b"*~\n")?;
     let mut layers = Layers::new(rt.alloc(), user, false);
     layers.enter(FolderRules {
+        name: String::new(rt.alloc()),
         ignore: Rules::parse(rt.alloc(), b"")?,
         gitignore: Rules::parse(rt.alloc(), b"*.o\n/build/\n")?,
         exclude: Some(Rules::parse(rt.alloc(), b"notes\n")?),
     })?;
     layers.enter(FolderRules {
+        name: String::from_str(rt.alloc(), "src")?,
         ignore: Rules::parse(rt.alloc(), b"!a.o\n")?,
         gitignore: Rules::parse(rt.alloc(), b"")?,
         exclude: None,

@@ -7,6 +7,7 @@ abbrev pub invariant-file : goal.invariant-file
 invariant-file g l = record {
   consumed : Consumes (g.S.Source.model l.fn.source) (g.S.Source.model l.source) l.bytes.items;
   within : length l.bytes.items ≤ l.limit;
+  kept : g.S.Source.Keeps l.fn.source l.source;
 }
 
 abbrev pub decreases-file : goal.decreases-file

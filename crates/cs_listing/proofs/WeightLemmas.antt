@@ -1,0 +1,81 @@
+-- A walk ends: each step that goes on makes it lighter.
+use Rattle.std.proofs.Common.{◌≡◌, ℕ, ◌+◌, ◌-◌, ◌*◌, ◌^◌, ◌<◌, ◌≤◌, ◌⊎◌, inl, inr, List, [], ◌∷◌, ◌++◌, length, ap, ◌∙◌, arith, pow_pos, pow-add}
+use Rattle.std.proofs.Math.Nat.{mul-lt-mul_of_pos_right}
+use Rattle.std.proofs.lemmas.List.{length-append}
+use Rattle.cs_tree.specs.Clean.{longest_path}
+use Rattle.cs_listing.specs.Walk.{weight}
+use Rattle.cs_listing.specs.declared.walk.Frame.{Frame}
+
+-- what an entry of a folder weighs at a level
+abbrev unit_at : ℕ → ℕ
+unit_at level = 2 ^ (65 * (4097 - level))
+
+weight-append : (level : ℕ) (xs ys : List Frame) → weight level (xs ++ ys) ≡ weight level xs + weight (level + length xs) ys
+weight-append level [] ys =
+    let same : level ≡ level + length {A = Frame} [] = omega arith in
+    omega (arith, ap (λ n. weight n ys) same)
+weight-append level (x ∷ xs) ys =
+    let rest = weight-append (level + 1) xs ys in
+    let same : level + 1 + length xs ≡ level + length (x ∷ xs) = omega arith in
+    omega (arith, rest, ap (λ n. weight n ys) same)
+
+last_weight : (xs : List Frame) (x : Frame) → weight 0 (xs ++ x ∷ []) ≡ weight 0 xs + (length x.entries.items + 1) * unit_at (length xs)
+last_weight xs x =
+    let same : 0 + length xs ≡ length xs = omega arith in
+    omega (arith, weight-append 0 xs (x ∷ []), ap (λ n. weight n (x ∷ [])) same)
+
+once_more : (n u : ℕ) → (n + 1) * u ≡ n * u + u
+once_more n u = omega arith
+
+-- a folder is left
+pub leaves_lighter : (xs all : List Frame) (x : Frame) → all ≡ xs ++ x ∷ [] → weight 0 xs < weight 0 all
+leaves_lighter xs all x is =
+    omega (
+      arith,
+      ap (weight 0) is,
+      last_weight xs x,
+      once_more (length x.entries.items) (unit_at (length xs)),
+      pow_pos (65 * (4097 - length xs)),
+    )
+
+-- an entry is taken
+takes_lighter : (xs : List Frame) (x y : Frame) → length x.entries.items ≡ length y.entries.items + 1 →
+    weight 0 (xs ++ y ∷ []) + unit_at (length xs) ≡ weight 0 (xs ++ x ∷ [])
+takes_lighter xs x y less =
+    omega (
+      arith,
+      last_weight xs x,
+      last_weight xs y,
+      ap (λ n. (n + 1) * unit_at (length xs)) less,
+      once_more (length y.entries.items + 1) (unit_at (length xs)),
+    )
+
+-- a folder has fewer entries than an entry of the folder above weighs
+opens_lighter : (level n : ℕ) → n < 2 ^ 64 → level + 1 ≤ 4097 → (n + 1) * unit_at (level + 1) < unit_at level
+opens_lighter level n few within =
+    let wide : unit_at level ≡ 2 ^ 65 * unit_at (level + 1) =
+    ap (λ k. 2 ^ k) (let e : 65 * (4097 - level) ≡ 65 + 65 * (4097 - (level + 1)) = omega (arith, within) in e)
+    ∙ pow-add 2 65 (65 * (4097 - (level + 1))) in
+    let bound : n + 1 < 2 ^ 65 = omega (arith, few) in
+    omega (arith, wide, mul-lt-mul_of_pos_right bound (pow_pos (65 * (4097 - (level + 1)))))
+
+pub visits_lighter : (xs all mid later : List Frame) (x y : Frame) → all ≡ xs ++ x ∷ [] → mid ≡ xs ++ y ∷ [] →
+    length x.entries.items ≡ length y.entries.items + 1 →
+    (later ≡ mid) ⊎ ((length mid ≤ longest_path) × ((z : Frame) × (later ≡ mid ++ z ∷ []))) → weight 0 later < weight 0 all
+visits_lighter xs all mid later x y is at less (inl same) =
+    omega (arith, ap (weight 0) is, ap (weight 0) (same ∙ at), takes_lighter xs x y less, pow_pos (65 * (4097 - length xs)))
+visits_lighter xs all mid later x y is at less (inr opened) =
+    let count : length mid ≡ length xs + 1 = omega (arith, ap length at, length-append xs (y ∷ [])) in
+    omega (
+      arith,
+      ap (weight 0) is,
+      ap (weight 0) opened.1.1,
+      last_weight mid opened.1.0,
+      ap (weight 0) at,
+      takes_lighter xs x y less,
+      ap (λ n. (length opened.1.0.entries.items + 1) * unit_at n) count,
+      opens_lighter (length xs) (length opened.1.0.entries.items) (few opened.1.0) (omega (arith, count, opened.0)),
+    )
+  where
+    few : (z : Frame) → length z.entries.items < 2 ^ 64
+    few z = omega (arith, z.entries.ok.0, z.entries.ok.1, z.entries.small)

@@ -1,0 +1,16 @@
+use Rattle.std.proofs.Common.{◌≡◌}
+use Rattle.cs_listing.specs.FolderReads.{InTree}
+use Rattle.cs_listing.specs.Walk.{IsWalkIn, StepGives, settings_in, walk_weight}
+use Rattle.cs_listing.specs.declared.walk.Step.TheVariants.{More}
+use Rattle.cs_listing.proofs.walk.Walk.next.Given as goal
+
+-- the steps so far have told nothing
+abbrev pub invariant-steps : goal.invariant-steps
+invariant-steps g l = record {
+  steps : InTree (g.T.Tree.snapshot l.initial.tree) (λ items. IsWalkIn items l.initial.self → StepGives items l.initial.self l.self More);
+  settings : settings_in l.self ≡ settings_in l.initial.self;
+  kept : g.T.Tree.snapshot l.tree ≡ g.T.Tree.snapshot l.initial.tree;
+}
+
+abbrev pub decreases-steps : goal.decreases-steps
+decreases-steps g l = walk_weight l.self

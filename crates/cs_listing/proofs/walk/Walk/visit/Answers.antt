@@ -1,0 +1,27 @@
+use Rattle.std.proofs.Common.{map, arith, sym, subst}
+use Rattle.std.specs.Prelude.{string_bytes}
+use Rattle.cs_listing.specs.FolderReads.{InTree}
+use Rattle.cs_listing.specs.Walk.{Enters}
+use Rattle.cs_listing.proofs.StepLemmas.{refused, visited_in, opens_one}
+use Rattle.cs_listing.proofs.walk.Walk.visit.Goals as goal
+
+pub returns-then-len-gt-LONGEST_PATH-clause-visits : goal.returns-then-len-gt-LONGEST_PATH-clause-visits
+returns-then-len-gt-LONGEST_PATH-clause-visits g c =
+    refused (g.T.Tree.snapshot c.args.tree.now) c.args.name.now c.args.path c.args.self.now
+    (record c.args.self.now { reader = c.note.new.self }) c.note.result (omega arith)
+
+pub returns-clause-visits : goal.returns-clause-visits
+returns-clause-visits g c =
+    visited_in (g.T.Tree.snapshot c.args.tree.now) (g.T.Tree.snapshot c.enter.new.tree) c.args.name.now c.args.path
+    (map string_bytes c.deref.result.now) c.args.self.now c.enter.new.self c.open.new.self c.open.result c.in_ok-names.ensures.keeps
+    (subst (λ names. InTree (g.T.Tree.snapshot c.args.tree.now) (λ items. Enters items (string_bytes c.args.path)
+    (map string_bytes names) c.args.self.now c.enter.new.self)) (sym c.deref.ensures.value)
+    (subst (λ stem. InTree (g.T.Tree.snapshot c.args.tree.now) (λ items. Enters items stem
+    (map string_bytes c.in_ok-names.names.items) c.args.self.now c.enter.new.self)) c.as_str-2.ensures.value c.in_ok-names.ensures.enters))
+    c.in_ok-names.ensures.names c.in_ok-names.ensures.frames c.in_ok-names.ensures.settings c.open.ensures.layers
+    c.open.ensures.opens
+
+pub returns-clause-frames : goal.returns-clause-frames
+returns-clause-frames g c =
+    opens_one (g.T.Tree.snapshot c.enter.new.tree) c.args.path (map string_bytes c.deref.result.now) c.args.self.now c.enter.new.self
+    c.open.new.self c.open.result c.in_ok-names.ensures.frames (omega arith) c.open.ensures.opens

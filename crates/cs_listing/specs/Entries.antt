@@ -1,0 +1,33 @@
+-- The entries of a folder, as the code has them.
+use denote.Ref.{Bor}
+use Rattle.std.specs.Prelude.{ℕ, ◌≡◌, Bool, true, List, map, reverse, string_bytes}
+use Rattle.cs_tree.specs.Elements.{is_among, is_element}
+use Rattle.cs_listing.specs.Layers.{is_left_out}
+use Rattle.cs_listing.specs.Models.{names, rules_in, folders_in}
+use Rattle.cs_listing.specs.FolderReads.{key_of}
+use Rattle.cs_listing.specs.declared.entries.Entry.{Entry}
+use Rattle.cs_listing.specs.declared.entries.Taken.{Taken}
+use Rattle.cs_listing.specs.declared.layers.Layers.{Layers}
+
+abbrev pub taken_folder : Taken → Bool
+taken_folder taken = taken.is_folder
+
+abbrev pub entry_key : Entry → List ℕ
+entry_key entry = string_bytes entry.key
+
+-- the keys of entries that are popped from the end
+abbrev pub entry_keys : List Entry → List (List ℕ)
+entry_keys entries = map entry_key (reverse entries)
+
+-- whether the layers leave out the path, as a folder or as a file
+abbrev pub left_out_by : Layers → List (Bor (List ℕ)) → Bool → Bool
+left_out_by layers path is_folder =
+    is_left_out layers.takes_hidden (rules_in layers.global) is_folder (folders_in layers) (names path)
+
+-- the same keys, in whatever order
+abbrev pub AreKeysOf : List (List ℕ) → List (List ℕ) → Type 0
+AreKeysOf keys others = (key : List ℕ) → is_among keys key ≡ is_among others key
+
+-- the name of an entry, whether it is a folder or a file
+abbrev pub IsNameOf : List ℕ → List ℕ → Type 0
+IsNameOf key name = (is_folder : Bool) (own : List ℕ) → key ≡ key_of is_folder own → is_element own ≡ true → name ≡ own

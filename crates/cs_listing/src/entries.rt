@@ -1,0 +1,349 @@
+// Reading a folder: what it lists, its rule files, and which of its entries are taken.
+ghost use Rattle.std.specs.Prelude.{◌≡◌, ◌<◌, ◌+◌, ◌∷◌, ◌++◌, [], true, false, reverse, map, length, option_map, string_bytes, IfOk, OnOk};
+ghost use Rattle.std.specs.Option.{option_to_list};
+ghost use Rattle.cs_tree.specs.Elements.{are_elements};
+ghost use Rattle.cs_tree.specs.Folders.{names_listed};
+ghost use Rattle.cs_tree.specs.NamesAscending.{are_ascending};
+ghost use Rattle.cs_tree.specs.Looks.{kind_seen};
+ghost use Rattle.cs_tree.specs.Elements.{is_among};
+ghost use Rattle.cs_listing.specs.Models.{names, names_in, rules_in, rules_if, folder_of, folders_in, IsInDeepest};
+ghost use Rattle.cs_listing.specs.Layers.{is_left_out, last_name};
+ghost use Rattle.cs_listing.specs.Listing.{TreeItems, rules_of_item};
+ghost use Rattle.cs_listing.specs.FolderReads.{InTree, folder_path as folder_path', entry_path, rules_among, exclude_read, folder_read, kind_at, taken_as, key_of, key_taken, keys_taken};
+ghost use Rattle.cs_listing.specs.Entries.{taken_folder, entry_key, entry_keys, left_out_by, AreKeysOf, IsNameOf};
+
+use crate::fault::{ListFault, Unread};
+use crate::layers::{FolderRules, Layers};
+use crate::rule_files::FileRules;
+use crate::rules::Rules;
+use cs_prefilter::Steps;
+use cs_tree::{Kind, LONGEST_PATH, Look, Seen, Stamp, Tree, TreeFault};
+use std::alloc::{AllocError, Global};
+
+/// An entry that is still to come.
+#[derive(Debug, Drop)]
+pub(crate) struct Entry {
+    /// The name, and a slash after that of a folder, so that the order of entries is that of the paths below them.
+    pub(crate) key: String,
+    pub(crate) stamp: Option<Stamp>,
+}
+
+/// How an entry is taken.
+#[derive(Clone, Copy)]
+struct Taken {
+    is_folder: bool,
+    stamp: Option<Stamp>,
+}
+
+impl Entry {
+    /// The name, without the slash.
+    pub(crate) fn name(&self) -> &str
+        ensures { IsNameOf (entry_key self.now) result.now }
+    {
+        self.key.strip_suffix('/').unwrap_or(self.key.as_str())
+    }
+}
+
+/// A folder whose entries are read: its rule files and those of the folders above, and the text before the slash in the paths of
+/// its entries, which is empty for `/`.
+#[derive(Clone, Copy)]
+pub(crate) struct Place<'a> {
+    pub(crate) layers: &'a Layers,
+    pub(crate) stem: &'a str,
+}
+
+/// Reads folders and their rule files, and notes what cannot be read.
+#[derive(Debug, Drop)]
+pub(crate) struct FolderReader {
+    alloc: Global,
+    pub(crate) unread: Vec<Unread>,
+}
+
+/// The path of an entry.
+pub(crate) fn child_path(alloc: Global, stem: &str, name: &str) -> Result<String, AllocError>
+    ensures { IfOk result (λ path. string_bytes path ≡ entry_path stem.now name.now) }
+{
+    let mut path = String::from_str(alloc, stem)?;
+    path.push('/')?;
+    path.push_str(name)?;
+    Ok(path)
+}
+
+/// The path of a folder.
+fn folder_path(stem: &str) -> &str
+    ensures { result.now ≡ folder_path' stem.now }
+{
+    if stem.is_empty() { "/" } else { stem }
+}
+
+/// Whether a folder lists the name.
+fn is_listed(names: &[String], name: &str) -> bool
+    ensures { result ≡ is_among (map string_bytes names.now) name.now }
+{
+    names.iter().any(|one| one.as_str() == name)
+}
+
+/// Adds the entry, if there is one.
+fn push_if_some(entries: &mut Vec<Entry>, entry: Option<Entry>) -> Result<(), AllocError>
+    ensures { OnOk result (entries.new.items ≡ entries.old.items ++ option_to_list entry) }
+{
+    if let Some(entry) = entry {
+        entries.push(entry)?;
+    }
+    Ok(())
+}
+
+/// Sorts the entries so that the first one is last, and keeps one for each key.
+fn order_entries(entries: &mut Vec<Entry>)
+    ensures ascend { are_ascending (map entry_key (reverse entries.new.items)) ≡ true }
+    ensures same { AreKeysOf (map entry_key (reverse entries.new.items)) (map entry_key entries.old.items) }
+{
+    entries.sort_unstable_by(|a, b| a.key.cmp(&b.key));
+    entries.dedup_by(|a, b| a.key == b.key);
+    entries.reverse();
+}
+
+/// Whether an entry is left out as what it is, if one knows whether it is left out as a file.
+fn is_out(layers: &Layers, path: &[&[u8]], is_folder: bool, file_is_out: bool) -> bool
+    requires deepest { IsInDeepest layers.now path.now }
+    requires file { file_is_out ≡ left_out_by layers.now path.now false }
+    ensures { result ≡ left_out_by layers.now path.now is_folder }
+{
+    if is_folder {
+        layers.is_left_out(path, true, &mut Steps::new())
+    } else {
+        file_is_out
+    }
+}
+
+impl FolderReader {
+    pub(crate) fn new(alloc: Global) -> FolderReader {
+        FolderReader {
+            alloc,
+            unread: Vec::new(alloc),
+        }
+    }
+
+    /// Notes that a path could not be read.
+    pub(crate) fn note(&mut self, path: &str, fault: ListFault) -> Result<(), AllocError> {
+        let path = String::from_str(self.alloc, path)?;
+        self.unread.push(Unread { path, fault })?;
+        Ok(())
+    }
+
+    /// The names that a folder lists. None if it cannot be listed.
+    pub(crate) fn list<T: Tree>(
+        &mut self,
+        tree: &mut T,
+        stem: &str,
+    ) -> Result<Vec<String>, AllocError>
+        ensures names { IfOk result (λ names. are_elements (map string_bytes names.items) ≡ true) }
+        ensures listed { IfOk result (λ names. InTree (T.snapshot tree.old)
+            (λ items. map string_bytes names.items ≡ names_listed (items (folder_path' stem.now)))) }
+        ensures keeps { T.snapshot tree.new ≡ T.snapshot tree.old }
+    {
+        let path = folder_path(stem);
+        match tree.entries(self.alloc, path) {
+            Ok(listing) => {
+                if listing.unnamed {
+                    self.note(path, ListFault::Unnamed)?;
+                }
+                Ok(listing.names)
+            }
+            Err(TreeFault::Memory) => Err(AllocError),
+            Err(fault) => {
+                self.note(path, ListFault::Tree(fault))?;
+                Ok(Vec::new(self.alloc))
+            }
+        }
+    }
+
+    /// The rule files of a folder that lists these names.
+    pub(crate) fn rules<T: Look>(
+        &mut self,
+        tree: &mut T,
+        stem: &str,
+        names: &[String],
+        name: String,
+    ) -> Result<FolderRules, AllocError>
+        ensures rules { IfOk result (λ rules. InTree (T.snapshot tree.old)
+            (λ items. folder_of rules ≡ folder_read items stem.now (map string_bytes names.now))) }
+        ensures name { IfOk result (λ rules. rules.name ≡ name) }
+        ensures keeps { T.snapshot tree.new ≡ T.snapshot tree.old }
+    {
+        let ignore = self.rules_among(tree, stem, names, ".ignore")?;
+        let gitignore = self.rules_among(tree, stem, names, ".gitignore")?;
+        let exclude = self.exclude(tree, stem, names)?;
+        Ok(FolderRules {
+            name,
+            ignore,
+            gitignore,
+            exclude,
+        })
+    }
+
+    /// The rules of the file with this name, if it is among the names of the folder.
+    fn rules_among<T: Look>(
+        &mut self,
+        tree: &mut T,
+        stem: &str,
+        names: &[String],
+        name: &str,
+    ) -> Result<Rules, AllocError>
+        ensures rules { IfOk result (λ rules. InTree (T.snapshot tree.old)
+            (λ items. rules_in rules ≡ rules_among items stem.now (map string_bytes names.now) name.now)) }
+        ensures keeps { T.snapshot tree.new ≡ T.snapshot tree.old }
+    {
+        if is_listed(names, name) {
+            return self.rules_at(tree, stem, name);
+        }
+        Ok(Rules::none(self.alloc))
+    }
+
+    /// The rules that a repository has for itself, if one begins in a folder that lists these names.
+    fn exclude<T: Look>(
+        &mut self,
+        tree: &mut T,
+        stem: &str,
+        names: &[String],
+    ) -> Result<Option<Rules>, AllocError>
+        ensures rules { IfOk result (λ exclude. InTree (T.snapshot tree.old)
+            (λ items. rules_if exclude ≡ exclude_read items stem.now (map string_bytes names.now))) }
+        ensures keeps { T.snapshot tree.new ≡ T.snapshot tree.old }
+    {
+        if !is_listed(names, ".git") {
+            return Ok(None);
+        }
+        let rules = self.rules_at(tree, stem, ".git/info/exclude")?;
+        Ok(Some(rules))
+    }
+
+    /// The rules of a file below a folder.
+    fn rules_at<T: Look>(
+        &mut self,
+        tree: &mut T,
+        stem: &str,
+        name: &str,
+    ) -> Result<Rules, AllocError>
+        ensures rules { IfOk result (λ rules. InTree (T.snapshot tree.old)
+            (λ items. rules_in rules ≡ rules_of_item (items (entry_path stem.now name.now)))) }
+        ensures keeps { T.snapshot tree.new ≡ T.snapshot tree.old }
+    {
+        let path = child_path(self.alloc, stem, name)?;
+        let read = FileRules::read(self.alloc, tree, path.as_str())?;
+        if let Some(fault) = read.fault {
+            self.note(path.as_str(), fault)?;
+        }
+        Ok(read.rules)
+    }
+
+    /// The entries of the folder that are taken, the first one last.
+    pub(crate) fn entries<T: Look>(
+        &mut self,
+        tree: &mut T,
+        place: &Place<'_>,
+        names: &[String],
+    ) -> Result<Vec<Entry>, AllocError>
+        requires { 0 < length (folders_in place.now.layers.now) }
+        ensures taken { IfOk result (λ entries. InTree (T.snapshot tree.old) (λ items. AreKeysOf (entry_keys entries.items)
+            (keys_taken place.now.layers.now items place.now.stem.now (map string_bytes names.now)))) }
+        ensures ascend { IfOk result (λ entries. are_ascending (entry_keys entries.items) ≡ true) }
+        ensures keeps { T.snapshot tree.new ≡ T.snapshot tree.old }
+    {
+        let mut path = place.layers.names(self.alloc)?;
+        let mut entries = Vec::new(self.alloc);
+        'names: for name in names {
+            let entry = self.entry(tree, place, &mut path, name.as_str())?;
+            push_if_some(&mut entries, entry)?;
+        }
+        order_entries(&mut entries);
+        Ok(entries)
+    }
+
+    /// The entry with this name, if it is taken. The path is that of the folder.
+    fn entry<'n, T: Look>(
+        &mut self,
+        tree: &mut T,
+        place: &Place<'_>,
+        path: &mut Vec<&'n [u8]>,
+        name: &'n str,
+    ) -> Result<Option<Entry>, AllocError>
+        requires deepest { length (folders_in place.now.layers.now) ≡ length path.old.items + 1 }
+        requires path { names path.old.items ≡ names_in place.now.layers.now }
+        ensures key { IfOk result (λ entry. InTree (T.snapshot tree.old) (λ items. option_map entry_key entry
+            ≡ key_taken place.now.layers.now items place.now.stem.now name.now)) }
+        ensures path { OnOk result (names path.new.items ≡ names_in place.now.layers.now) }
+        ensures keeps { T.snapshot tree.new ≡ T.snapshot tree.old }
+    {
+        path.push(name.as_bytes())?;
+        let at = child_path(self.alloc, place.stem, name)?;
+        let taken = self.taken(tree, place.layers, path, at.as_str())?;
+        path.pop();
+        let Some(taken) = taken else {
+            return Ok(None);
+        };
+        let mut key = String::from_str(self.alloc, name)?;
+        if taken.is_folder {
+            key.push('/')?;
+        }
+        Ok(Some(Entry {
+            key,
+            stamp: taken.stamp,
+        }))
+    }
+
+    /// How the entry is taken that has this path, given by its elements and as a text.
+    fn taken<T: Look>(
+        &mut self,
+        tree: &mut T,
+        layers: &Layers,
+        path: &[&[u8]],
+        at: &str,
+    ) -> Result<Option<Taken>, AllocError>
+        requires { IsInDeepest layers.now path.now }
+        ensures taken { IfOk result (λ taken. InTree (T.snapshot tree.old) (λ items. option_map taken_folder taken
+            ≡ taken_as (left_out_by layers.now path.now) (kind_at items at.now))) }
+        ensures keeps { T.snapshot tree.new ≡ T.snapshot tree.old }
+    {
+        let file_is_out = layers.is_left_out(path, false, &mut Steps::new());
+        if file_is_out && layers.is_left_out(path, true, &mut Steps::new()) {
+            return Ok(None);
+        }
+        let Some(seen) = self.look(tree, at)? else {
+            return Ok(None);
+        };
+        let is_folder = match seen.kind {
+            Kind::Folder => true,
+            Kind::File => false,
+            Kind::Other => return Ok(None),
+        };
+        if is_out(layers, path, is_folder, file_is_out) {
+            return Ok(None);
+        }
+        Ok(Some(Taken {
+            is_folder,
+            stamp: seen.stamp,
+        }))
+    }
+
+    /// What is at a path. What is gone by now is not noted.
+    fn look<T: Look>(&mut self, tree: &mut T, path: &str) -> Result<Option<Seen>, AllocError>
+        ensures seen { IfOk result (λ seen. InTree (T.snapshot tree.old)
+            (λ items. option_map kind_seen seen ≡ kind_at items path.now)) }
+        ensures keeps { T.snapshot tree.new ≡ T.snapshot tree.old }
+    {
+        if path.len() > LONGEST_PATH {
+            self.note(path, ListFault::LongPath)?;
+            return Ok(None);
+        }
+        match tree.look(path) {
+            Ok(seen) => Ok(Some(seen)),
+            Err(TreeFault::Memory) => Err(AllocError),
+            Err(TreeFault::Missing) => Ok(None),
+            Err(fault) => {
+                self.note(path, ListFault::Tree(fault))?;
+                Ok(None)
+            }
+        }
+    }
+}

@@ -1,0 +1,192 @@
+// The walk of a project: its files one after another, in the order of their paths. A stack has the open folders; each is listed
+// once, when the walk comes to it, and its entries are sorted by their names, with a slash after those of folders, so that a
+// depth-first walk goes in the order of whole paths.
+ghost use Rattle.std.specs.Prelude.{◌≡◌, ◌<◌, ◌∷◌, ◌++◌, [], map, length, string_bytes, IfOk, OnOk};
+ghost use Rattle.cs_listing.specs.Models.{rules_in, folders_in, all_names};
+ghost use Rattle.cs_listing.specs.FolderReads.{InTree};
+ghost use Rattle.cs_listing.specs.Walk.{settings_in, IsWalkIn, Gives, Begins, StepGives, IsLighter, IsVisit, Visits, OpensAtMostOne, Enters, Opens};
+
+use crate::entries::{Entry, FolderReader, Place, child_path};
+use crate::fault::{ListFault, Unread};
+use crate::layers::Layers;
+use crate::rules::Rules;
+use cs_tree::{LONGEST_PATH, Look, Stamp};
+use std::alloc::{AllocError, Global};
+
+/// A file of the project.
+#[derive(Debug, Drop)]
+pub struct File {
+    /// The path, from `/` on.
+    pub path: String,
+    pub stamp: Option<Stamp>,
+}
+
+/// What a walk comes to.
+#[derive(Debug, Drop)]
+pub enum Found {
+    File(File),
+    /// What could not be read. The walk goes on.
+    Unread(Unread),
+}
+
+/// What one step of a walk comes to.
+#[derive(Drop)]
+enum Step {
+    /// Something to tell, or the end.
+    Done(Option<Found>),
+    /// A folder was entered or left.
+    More,
+}
+
+/// A folder whose entries are still to come.
+#[derive(Debug, Drop)]
+struct Frame {
+    /// The text before the slash in the paths of its entries, which is empty for `/`.
+    stem: String,
+    /// The entries, the next one last.
+    entries: Vec<Entry>,
+}
+
+/// A walk of the files of a project below a folder.
+#[derive(Debug, Drop)]
+pub struct Walk {
+    alloc: Global,
+    /// The rule files of the folders from `/` down to the deepest open one.
+    layers: Layers,
+    /// The open folders, the deepest last.
+    frames: Vec<Frame>,
+    reader: FolderReader,
+}
+
+impl Walk {
+    /// The walk below the folder that these names lead to from `/`, by the rules of the user and of all folders along it.
+    pub fn begin<T: Look>(
+        alloc: Global,
+        tree: &mut T,
+        global: Rules,
+        takes_hidden: bool,
+        start: &[String],
+    ) -> Result<Walk, AllocError>
+        ensures begins { IfOk result (λ walk. InTree (T.snapshot tree.old)
+            (λ items. Begins items (map string_bytes start.now) walk)) }
+        ensures settings { IfOk result (λ walk. settings_in walk
+            ≡ record { global = rules_in global; takes_hidden = takes_hidden }) }
+        ensures keeps { T.snapshot tree.new ≡ T.snapshot tree.old }
+    {
+        let mut walk = Walk {
+            alloc,
+            layers: Layers::new(alloc, global, takes_hidden),
+            frames: Vec::new(alloc),
+            reader: FolderReader::new(alloc),
+        };
+        let mut stem = String::new(alloc);
+        let mut names = walk.enter(tree, "", stem.as_str())?;
+        'start: for name in start {
+            stem = child_path(alloc, stem.as_str(), name.as_str())?;
+            names = walk.enter(tree, name.as_str(), stem.as_str())?;
+        }
+        walk.open(tree, stem, &names)?;
+        Ok(walk)
+    }
+
+    /// The next file, or the next path that could not be read. None at the end.
+    pub fn next<T: Look>(&mut self, tree: &mut T) -> Result<Option<Found>, AllocError>
+        ensures gives { IfOk result (λ found. InTree (T.snapshot tree.old)
+            (λ items. IsWalkIn items self.old → Gives items self.old self.new found)) }
+        ensures settings { OnOk result (settings_in self.new ≡ settings_in self.old) }
+        ensures keeps { T.snapshot tree.new ≡ T.snapshot tree.old }
+    {
+        'steps: loop {
+            if let Step::Done(found) = self.step(tree)? {
+                return Ok(found);
+            }
+        }
+    }
+
+    /// One step: something is told, or a folder is entered or left.
+    fn step<T: Look>(&mut self, tree: &mut T) -> Result<Step, AllocError>
+        ensures steps { IfOk result (λ step. InTree (T.snapshot tree.old)
+            (λ items. IsWalkIn items self.old → StepGives items self.old self.new step)) }
+        ensures settings { OnOk result (settings_in self.new ≡ settings_in self.old) }
+        ensures lighter { IfOk result (λ step. IsLighter self.old self.new step) }
+        ensures keeps { T.snapshot tree.new ≡ T.snapshot tree.old }
+    {
+        if let Some(unread) = self.reader.unread.pop() {
+            return Ok(Step::Done(Some(Found::Unread(unread))));
+        }
+        let Some(mut frame) = self.frames.pop() else {
+            return Ok(Step::Done(None));
+        };
+        let Some(entry) = frame.entries.pop() else {
+            self.layers.leave();
+            return Ok(Step::More);
+        };
+        let name = entry.name();
+        let path = child_path(self.alloc, frame.stem.as_str(), name)?;
+        self.frames.push(frame)?;
+        if name.len() == entry.key.len() {
+            let stamp = entry.stamp;
+            return Ok(Step::Done(Some(Found::File(File { path, stamp }))));
+        }
+        self.visit(tree, name, path)?;
+        Ok(Step::More)
+    }
+
+    /// Visits a folder of the deepest one. One that is deeper than a path is long is not entered.
+    fn visit<T: Look>(&mut self, tree: &mut T, name: &str, path: String) -> Result<(), AllocError>
+        ensures visits { OnOk result (InTree (T.snapshot tree.old)
+            (λ items. IsVisit items name.now path self.old → Visits items name.now self.old self.new)) }
+        ensures settings { OnOk result (settings_in self.new ≡ settings_in self.old) }
+        ensures frames { OnOk result (OpensAtMostOne self.old self.new) }
+        ensures keeps { T.snapshot tree.new ≡ T.snapshot tree.old }
+    {
+        if self.frames.len() > LONGEST_PATH {
+            return self.reader.note(path.as_str(), ListFault::LongPath);
+        }
+        let names = self.enter(tree, name, path.as_str())?;
+        self.open(tree, path, &names)
+    }
+
+    /// Enters a folder of the deepest one, and returns what it lists.
+    fn enter<T: Look>(
+        &mut self,
+        tree: &mut T,
+        name: &str,
+        stem: &str,
+    ) -> Result<Vec<String>, AllocError>
+        ensures enters { IfOk result (λ names. InTree (T.snapshot tree.old)
+            (λ items. Enters items stem.now (map string_bytes names.items) self.old self.new)) }
+        ensures names { OnOk result (all_names self.new.layers ≡ all_names self.old.layers ++ name.now ∷ []) }
+        ensures frames { self.new.frames ≡ self.old.frames }
+        ensures settings { OnOk result (settings_in self.new ≡ settings_in self.old) }
+        ensures keeps { T.snapshot tree.new ≡ T.snapshot tree.old }
+    {
+        let names = self.reader.list(tree, stem)?;
+        let name = String::from_str(self.alloc, name)?;
+        let rules = self.reader.rules(tree, stem, &names, name)?;
+        self.layers.enter(rules)?;
+        Ok(names)
+    }
+
+    /// Makes the entries of the deepest folder the next ones to come.
+    fn open<T: Look>(
+        &mut self,
+        tree: &mut T,
+        stem: String,
+        names: &[String],
+    ) -> Result<(), AllocError>
+        requires { 0 < length (folders_in self.old.layers) }
+        ensures opens { OnOk result (Opens (T.snapshot tree.old) stem (map string_bytes names.now)
+            self.old self.new) }
+        ensures layers { self.new.layers ≡ self.old.layers }
+        ensures keeps { T.snapshot tree.new ≡ T.snapshot tree.old }
+    {
+        let place = Place {
+            layers: &self.layers,
+            stem: stem.as_str(),
+        };
+        let entries = self.reader.entries(tree, &place, names)?;
+        self.frames.push(Frame { stem, entries })?;
+        Ok(())
+    }
+}

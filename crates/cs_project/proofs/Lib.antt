@@ -5,3 +5,4 @@ mod SpacingLemmas
 mod SearchLemmas
 mod TextLemmas
 mod CountLemmas
+mod SpanListLemmas

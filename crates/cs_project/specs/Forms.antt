@@ -1,5 +1,5 @@
 -- How a line is printed, after rg: NAME:NUMBER:COLUMN:LINE, and NAME-NUMBER-LINE for a line around a match.
-use Rattle.std.specs.Prelude.{ℕ, ◌+◌, ◌∷◌, ◌++◌, Bool, nat_lt, if◌then◌else◌, List, [], drop, filter, slice_range, codes, decimal, Option, Some, None}
+use Rattle.std.specs.Prelude.{ℕ, ◌+◌, ◌∷◌, ◌++◌, Bool, nat_lt, if◌then◌else◌, List, [], drop, slice_range, codes, decimal, Option, Some, None, ◌||◌}
 use Rattle.std.specs.List.{flat_map}
 use Rattle.cs_match.specs.Lines.{newline}
 use Rattle.cs_project.specs.Contexts.{Row}
@@ -11,9 +11,8 @@ use Rattle.cs_project.specs.declared.form.LineForm.{LineForm}
 abbrev pub Span : Type 0
 Span = ℕ × ℕ
 
--- the matches that are not empty
-abbrev pub filled : List Span → List Span
-filled spans = filter (λ (span : Span). nat_lt span.0 span.1) spans
+abbrev pub is_filled : Span → Bool
+is_filled span = nat_lt span.0 span.1
 
 -- the column of the first match, which may be empty; the first column is 1
 abbrev pub first_column : List Span → Option ℕ
@@ -55,36 +54,36 @@ abbrev pub prefix_of : LineForm → List ℕ → Row → Option ℕ → List ℕ
 prefix_of form name row column =
     name_part form name row.marked ++ (number_part form row.number row.marked ++ column_part form row.marked column)
 
--- the line from an offset on, its matches dyed
+-- the line from an offset on, its matches dyed that are not empty
 abbrev pub painted_from : LineForm → List ℕ → ℕ → List Span → List ℕ
 painted_from form line at [] = drop at line
 painted_from form line at (span ∷ spans) =
-    slice_range line at span.0 ++ (dyed form (codes "1;31") (slice_range line span.0 span.1) ++ painted_from form line span.1 spans)
+    if is_filled span
+    then slice_range line at span.0 ++ (dyed form (codes "1;31") (slice_range line span.0 span.1) ++ painted_from form line span.1 spans)
+    else painted_from form line at spans
 
 -- a line with its matches dyed
 abbrev pub painted : LineForm → List ℕ → List Span → List ℕ
-painted form line spans = if form.colour then painted_from form line 0 (filled spans) else line
+painted form line spans = if form.colour then painted_from form line 0 spans else line
 
 -- the line after its prefix, by its first match
 abbrev pub whole_bytes : LineForm → List ℕ → Row → List Span → List ℕ
 whole_bytes form name row spans =
     prefix_of form name row (first_column spans) ++ (painted form row.line spans ++ newline ∷ [])
 
--- one match by itself (-o)
-abbrev pub match_bytes : LineForm → List ℕ → Row → Span → List ℕ
-match_bytes form name row span =
-    prefix_of form name row (Some (span.0 + 1)) ++ (dyed form (codes "1;31") (slice_range row.line span.0 span.1) ++ newline ∷ [])
-
--- the line for one of its matches (--vimgrep)
-abbrev pub line_bytes : LineForm → List ℕ → Row → List Span → Span → List ℕ
-line_bytes form name row spans span =
-    prefix_of form name row (Some (span.0 + 1)) ++ (painted form row.line spans ++ newline ∷ [])
+-- a match: by itself (-o) unless it is empty, else its line (--vimgrep)
+abbrev pub match_bytes : LineForm → List ℕ → Row → List Span → Span → List ℕ
+match_bytes form name row spans span =
+    if form.only
+    then (if is_filled span
+    then prefix_of form name row (Some (span.0 + 1)) ++ (dyed form (codes "1;31") (slice_range row.line span.0 span.1) ++ newline ∷ [])
+    else [])
+    else prefix_of form name row (Some (span.0 + 1)) ++ (painted form row.line spans ++ newline ∷ [])
 
 -- A marked line, whose matches are `spans`. With -v it has none.
 abbrev pub marked_bytes : LineForm → List ℕ → Row → List Span → List ℕ
 marked_bytes form name row spans =
-    if form.only then flat_map (match_bytes form name row) (filled spans)
-    else (if form.each then flat_map (line_bytes form name row spans) spans else whole_bytes form name row spans)
+    if form.only || form.each then flat_map (match_bytes form name row spans) spans else whole_bytes form name row spans
 
 -- a line as it is printed
 abbrev pub row_bytes : LineForm → List ℕ → Row → List Span → List ℕ

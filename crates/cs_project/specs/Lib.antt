@@ -8,3 +8,4 @@ pub mod Printed
 pub mod Spacing
 pub mod Scans
 pub mod Blocks
+pub mod Ordered

@@ -3,6 +3,7 @@
 #![tactic(auto)]
 
 mod form;
+mod found;
 mod lines;
 mod row;
 mod rows;

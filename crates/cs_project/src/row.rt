@@ -40,7 +40,11 @@ impl LineForm {
     }
 
     /// What ends a part of the prefix: a colon if the line is marked, else a hyphen.
-    fn print_separator<O: Output>(&self, marked: bool, out: &mut O) -> Result<(), AllocError>
+    pub(crate) fn print_separator<O: Output>(
+        &self,
+        marked: bool,
+        out: &mut O,
+    ) -> Result<(), AllocError>
         ensures { Prints (O.given out.old) (O.given out.new) (dyed self.now (codes "36") (separator marked)) result }
     {
         if marked {
@@ -67,7 +71,12 @@ impl LineForm {
     }
 
     /// The name, unless the form is bare.
-    fn print_name<O: Output>(&self, name: &str, marked: bool, out: &mut O) -> Result<(), AllocError>
+    pub(crate) fn print_name<O: Output>(
+        &self,
+        name: &str,
+        marked: bool,
+        out: &mut O,
+    ) -> Result<(), AllocError>
         ensures { Prints (O.given out.old) (O.given out.new) (name_part self.now name.now marked) result }
     {
         if self.bare {
@@ -83,7 +92,7 @@ impl LineForm {
     }
 
     /// The number, if the form has numbers.
-    fn print_number<O: Output>(
+    pub(crate) fn print_number<O: Output>(
         &self,
         number: u64,
         marked: bool,

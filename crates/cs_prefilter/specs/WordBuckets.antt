@@ -3,6 +3,7 @@ use Rattle.std.specs.Prelude.{◌≡◌, ℕ, ◌+◌, ◌-◌, ◌*◌, ◌/◌
 use Rattle.std.specs.Int.{bit_at}
 use Rattle.cs_prefilter.specs.declared.word.Word.{Word}
 use Rattle.cs_prefilter.specs.WordAt.{WordAt}
+use Rattle.cs_prefilter.specs.OffsetWork.{word_work}
 
 -- the bucket of a word of a list of so many
 abbrev pub bucket_of : ℕ → ℕ → ℕ
@@ -12,9 +13,9 @@ bucket_of index len = index * 8 / len
 abbrev pub first_in : ℕ → ℕ → ℕ
 first_in bucket len = (bucket * len + 7) / 8
 
--- the number of words in the bucket
-abbrev pub bucket_len : ℕ → ℕ → ℕ
-bucket_len bucket len = first_in (bucket + 1) len - first_in bucket len
+-- the most steps where the words of the bucket are compared
+abbrev pub bucket_work : ℕ → List Word → ℕ
+bucket_work bucket words = (first_in (bucket + 1) (length words) - first_in bucket (length words)) * word_work
 
 -- each word of the list is found in its bucket
 abbrev pub AreFound : (ℕ → Word → Type 0) → List Word → Type 0

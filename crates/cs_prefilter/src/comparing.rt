@@ -2,7 +2,7 @@
 ghost use Rattle.std.specs.Prelude.{◌≡◌, ◌≤◌, ◌<◌, ◌↔◌, ◌+◌, ◌*◌, ◌-◌, false, length, slice_index_or, vec_len, Any, IfOk, IsTrue};
 ghost use Rattle.cs_prefilter.specs.declared.word.Word.{Word};
 ghost use Rattle.cs_prefilter.specs.WordAt.{WordAt};
-ghost use Rattle.cs_prefilter.specs.WordBuckets.{AreInBuckets, NoneOfBucket, bucket_len};
+ghost use Rattle.cs_prefilter.specs.WordBuckets.{AreInBuckets, NoneOfBucket, bucket_work};
 ghost use Rattle.cs_prefilter.specs.OffsetWork.{most_words, most_sets, word_work, candidate_work};
 ghost use Rattle.cs_prefilter.specs.CountsAtMost.{CountsAtMost};
 
@@ -14,6 +14,7 @@ use crate::word_list::WordList;
 use std::alloc::{AllocError, Global};
 
 impl WordList {
+    /// The words with their fronts.
     pub(crate) fn of(alloc: Global, words: Vec<Word>) -> Result<WordList, AllocError>
         requires { vec_len words ≤ most_words }
         ensures { IfOk result (λ list. list.words ≡ words) }
@@ -52,7 +53,7 @@ impl WordList {
         requires within { offset + 8 ≤ length text.now }
         ensures found { IsTrue result → Any (WordAt text.now offset) self.now.words.items }
         ensures none { result ≡ false → NoneOfBucket self.now.words.items bucket text.now offset }
-        ensures work { CountsAtMost (bucket_len bucket (length self.now.words.items) * word_work) steps.old steps.new }
+        ensures work { CountsAtMost (bucket_work bucket self.now.words.items) steps.old steps.new }
     {
         let len = self.words.len();
         for i in first_in(bucket, len)..first_in(bucket + 1, len) {

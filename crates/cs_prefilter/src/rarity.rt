@@ -6,7 +6,7 @@ use cs_syntax::ByteSet;
 /// The largest number of sets of a word.
 pub(crate) const MOST_SETS: usize = 32;
 
-/// The frequency of a byte in source text, per 10,000 bytes.
+/// The frequency of a byte in source text, per 10,000 bytes. These are round estimates, one for each class of bytes.
 fn frequency(byte: u8) -> u64 {
     match byte {
         b' ' => 1500,
@@ -34,7 +34,8 @@ pub(crate) fn nibble_frequencies() -> [u64; 16] {
     frequencies
 }
 
-/// Common trigrams, which are far more frequent in source text than the frequencies of their bytes suggest.
+/// Common trigrams, which are far more frequent in source text than the frequencies of their bytes suggest: parts of
+/// keywords and of usual names.
 const COMMON: [[u8; 3]; 44] = [
     *b"def", *b"efi", *b"fin", *b"ine", *b"int", *b"ion", *b"tio", *b"ing", *b"con", *b"ons",
     *b"nst", *b"str", *b"tru", *b"ruc", *b"uct", *b"ret", *b"etu", *b"tur", *b"urn", *b"the",
@@ -104,7 +105,7 @@ const MOST_PAIRS: u64 = 1_000_000;
 const NO_SECOND: u64 = 30_000;
 
 /// How rare two neighbouring letters of source text are, the underscore as the last: `a` is 1, and each further letter
-/// half as frequent.
+/// half as frequent. They were counted in a text that is 60 % Linux, and Python modules and C headers for the rest.
 const BIGRAMS: [[u8; 27]; 27] = [
     *b"pkjjpnkpkpmijipksijhllollpn",
     *b"lpnojqqqlmsjpplosmnokssslso",

@@ -180,7 +180,7 @@ fn merge_old<S: Store, W: Output>(
         return Ok(Err(CindexFault::Memory));
     };
     if !replaced {
-        return match merge_stored(alloc, store, old, &index, new) {
+        return match merge_stored(alloc, store, u32::MAX, old, &index, new) {
             Ok(Ok(index)) => Ok(Ok(index)),
             Ok(Err(fault)) => Ok(Err(merge_refusal(fault))),
             Err(IoFault::Memory) => Ok(Err(CindexFault::Memory)),

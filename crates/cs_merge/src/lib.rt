@@ -61,5 +61,5 @@ mod replacing;
 mod sorted_names;
 
 pub use fault::MergeFault;
-pub use merging::{merge, merge_stored, merge_stored_within, merge_within};
+pub use merging::{merge, merge_stored, merge_within};
 pub use replacing::{is_replaced, is_replaced_stored, is_whole_stored};

@@ -68,30 +68,11 @@ pub fn merge_within(
 
 /// Does what `merge` does, with an old index in a store: only its tables are in memory. Each of its lists is
 /// read once and to its end, in the order of the list index, so that each byte is read once. The merged index
-/// is sent to an output as it is made.
+/// is sent to an output as it is made, and has at most `most` bytes.
 ///
 /// A failed read is an error of its own, and so is an allocation that fails while a list is read. Both come after the
 /// tests for `Unsorted` and `Uncovered`.
 pub fn merge_stored<S: Store, O: Output>(
-    alloc: Global,
-    store: &mut S,
-    old: &StoredTables,
-    newer: &Index<'_>,
-    out: &mut O,
-) -> Result<Result<Sent, MergeFault>, IoFault>
-    ensures merged { (bytes : List ℕ) → S.model store.old ≡ Some bytes → (parts : Parts) →
-        TablesIn bytes old.now parts → IfOk result (IsMergeAnswer parts newer.now most_bytes) }
-    ensures tested { (bytes : List ℕ) → S.model store.old ≡ Some bytes → (parts : Parts) →
-        TablesIn bytes old.now parts → IfErr result (λ _. AreTested parts newer.now) }
-    ensures given { IfOk result (IsGivenIndex (O.given out.old) (O.given out.new)) }
-    ensures keeps_out { O.Keeps out.old out.new }
-    ensures store { KeepsStore S.model S.size S.failed store.old store.new result }
-{
-    merge_stored_within(alloc, store, u32::MAX, old, newer, out)
-}
-
-/// `merge_stored` with a maximum length of the index, in bytes, as a parameter.
-pub fn merge_stored_within<S: Store, O: Output>(
     alloc: Global,
     store: &mut S,
     most: u32,

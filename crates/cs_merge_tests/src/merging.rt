@@ -3,7 +3,7 @@ use cs_fakes::{ChangingStore, Files, ONE_FILE, UNSORTED, changed, index_of, one_
 use cs_index::{Index, IndexFault, StoredTables};
 use cs_merge::{
     MergeFault, is_replaced, is_replaced_stored, is_whole_stored, merge, merge_stored,
-    merge_stored_within, merge_within,
+    merge_within,
 };
 use cs_output::Sent;
 use cs_tree::{IoFault, MemStore, Store};
@@ -287,7 +287,7 @@ fn merges_alike(
         == is_replaced(alloc, &older, &later)?;
     let whole = is_whole_stored(alloc, &mut store, &tables)? == has_whole_lists(&older);
     let mut index = Vec::new(alloc);
-    let stored = merge_stored_within(alloc, &mut store, most, &tables, &later, &mut index)?;
+    let stored = merge_stored(alloc, &mut store, most, &tables, &later, &mut index)?;
     let merged = match (merge_within(alloc, most, &older, &later), stored) {
         (Ok(want), Ok(_sent)) => index.as_slice() == want.as_slice(),
         (Err(want), Err(fault)) => fault == want,
@@ -329,7 +329,14 @@ fn merge_failing(
         Err(fault) => return Ok(Err(MergeFault::Index(fault))),
     };
     match Index::open(newer) {
-        Ok(newer) => merge_stored(alloc, store, &tables, &newer, &mut Vec::new(alloc)),
+        Ok(newer) => merge_stored(
+            alloc,
+            store,
+            u32::MAX,
+            &tables,
+            &newer,
+            &mut Vec::new(alloc),
+        ),
         Err(fault) => Ok(Err(MergeFault::Index(fault))),
     }
 }

@@ -40,7 +40,7 @@ impl WordList {
     {
         let cost = CANDIDATE_COST + WORD_COST * self.words.len();
         let mut wasted = 0usize;
-        let mut offset = skip_quiet(probe, text, from, steps);
+        let mut offset = from;
         'strides: while text.len() - offset >= REACH {
             let stop = self.first_in_stride(probe, text, offset, steps);
             wasted = wasted.saturating_add(cost.saturating_mul(stop.wasted));

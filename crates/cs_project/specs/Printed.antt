@@ -1,8 +1,7 @@
 -- The effect of printing a text on an output.
 use Rattle.std.specs.Prelude.{ℕ, ◌≡◌, Bool, List, ◌++◌}
-use Rattle.cs_match.specs.Deciding.{Decides}
 use Rattle.cs_syntax.specs.Matching.{Tree}
-use Rattle.cs_project.specs.Shown.{Finding, following, has_groups, line_gap, line_groups, text_rows, between, text_groups}
+use Rattle.cs_project.specs.Shown.{Finding, IsFoundBy, following, has_groups, line_gap, line_groups, text_rows, between, text_groups}
 use Rattle.cs_project.specs.declared.rows.Page.{Page}
 
 -- the groups of lines of a text
@@ -11,20 +10,20 @@ page_groups page finding text =
     line_groups page.options.now finding page.name.now (text_rows page.options.now finding text)
 
 -- The lines of the text were printed, by each test that decides which lines match.
-abbrev pub PrintsLines : Tree → Page → List ℕ → List ℕ → List ℕ → Type 0
-PrintsLines tree page text given later = (finding : Finding) → Decides finding.has_match tree →
+abbrev pub PrintsLines : Tree → Tree → Page → List ℕ → List ℕ → List ℕ → Type 0
+PrintsLines tree pattern page text given later = (finding : Finding) → IsFoundBy finding tree pattern →
     later ≡ given ++ following (line_gap page.options.now) page.begun (page_groups page finding text)
 
 -- whether a line of the text is shown
-abbrev pub HasLines : Tree → Page → List ℕ → Bool → Type 0
-HasLines tree page text some = (finding : Finding) → Decides finding.has_match tree → some ≡ has_groups (page_groups page finding text)
+abbrev pub HasLines : Tree → Tree → Page → List ℕ → Bool → Type 0
+HasLines tree pattern page text some = (finding : Finding) → IsFoundBy finding tree pattern → some ≡ has_groups (page_groups page finding text)
 
 -- The text was printed, by each test that decides which lines match.
-abbrev pub PrintsText : Tree → Page → List ℕ → List ℕ → List ℕ → Type 0
-PrintsText tree page text given later = (finding : Finding) → Decides finding.has_match tree →
+abbrev pub PrintsText : Tree → Tree → Page → List ℕ → List ℕ → List ℕ → Type 0
+PrintsText tree pattern page text given later = (finding : Finding) → IsFoundBy finding tree pattern →
     later ≡ given ++ following (between page.options.now) page.begun (text_groups page.options.now finding page.name.now text)
 
 -- whether something is printed for the text
-abbrev pub HasGroups : Tree → Page → List ℕ → Bool → Type 0
-HasGroups tree page text some = (finding : Finding) → Decides finding.has_match tree →
+abbrev pub HasGroups : Tree → Tree → Page → List ℕ → Bool → Type 0
+HasGroups tree pattern page text some = (finding : Finding) → IsFoundBy finding tree pattern →
     some ≡ has_groups (text_groups page.options.now finding page.name.now text)

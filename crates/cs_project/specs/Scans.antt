@@ -1,12 +1,11 @@
 -- The rows of a text, line by line: the definition that the search of a text is proved from.
 use Rattle.std.specs.Prelude.{ℕ, ◌≡◌, ◌≤◌, ◌+◌, ◌-◌, Bool, true, false, ◌&&◌, nat_lt, if◌then◌else◌, List, [], ◌∷◌, ◌++◌, length, drop, take, slice_range, Option, MatchOption}
-use Rattle.cs_match.specs.Deciding.{Decides}
 use Rattle.cs_match.specs.Lines.{terminated_lines}
 use Rattle.cs_match.specs.Skipping.{AreWholeLines}
 use Rattle.cs_match.specs.declared.matcher.Line.{Line}
 use Rattle.cs_syntax.specs.Matching.{Tree}
 use Rattle.cs_project.specs.Contexts.{Row, row_at, is_open, one_less}
-use Rattle.cs_project.specs.Shown.{Finding, is_wanted}
+use Rattle.cs_project.specs.Shown.{Finding, IsFoundBy, is_wanted}
 use Rattle.cs_project.specs.Spacing.{printed_by, progress_of}
 use Rattle.cs_project.specs.declared.rows.Rows.{Rows}
 
@@ -85,12 +84,12 @@ IsNextMark rows has_match block from next = let wanted = is_wanted rows.page.opt
 
 -- Lines were searched, and `held'` are held now: what is to be printed of them and of any lines after them was printed, but for
 -- what is to be printed now.
-abbrev pub Searches : Tree → Rows → Rows → List ℕ → List ℕ → List (List ℕ) → List (List ℕ) → List (List ℕ) → Type 0
-Searches tree old new given given' held lines held' = (finding : Finding) (later : List (List ℕ)) → Decides finding.has_match tree →
+abbrev pub Searches : Tree → Tree → Rows → Rows → List ℕ → List ℕ → List (List ℕ) → List (List ℕ) → List (List ℕ) → Type 0
+Searches tree pattern old new given given' held lines held' = (finding : Finding) (later : List (List ℕ)) → IsFoundBy finding tree pattern →
     printed_by old.page finding (progress_of old given) (rows_by old finding held (lines ++ later))
     ≡ printed_by new.page finding (progress_of new given') (rows_by new finding held' later)
 
 -- The last lines were searched: what is to be printed of them was printed.
-abbrev pub SearchesLast : Tree → Rows → Rows → List ℕ → List ℕ → List (List ℕ) → List (List ℕ) → Type 0
-SearchesLast tree old new given given' held lines = (finding : Finding) → Decides finding.has_match tree →
+abbrev pub SearchesLast : Tree → Tree → Rows → Rows → List ℕ → List ℕ → List (List ℕ) → List (List ℕ) → Type 0
+SearchesLast tree pattern old new given given' held lines = (finding : Finding) → IsFoundBy finding tree pattern →
     progress_of new given' ≡ printed_by old.page finding (progress_of old given) (rows_by old finding held lines)

@@ -1,6 +1,9 @@
 -- What is printed for a text, and for texts one after another.
 use Rattle.std.specs.Prelude.{Option, None, ℕ, ◌+◌, Bool, true, false, not, nat_lt, nat_eq, if◌then◌else◌, List, [], ◌∷◌, ◌++◌, map, take, codes, decimal, min, count_by, Some}
 use Rattle.std.specs.List.{flat_map, list_any}
+use Rattle.cs_syntax.specs.Matching.{Tree}
+use Rattle.cs_match.specs.Deciding.{Decides}
+use Rattle.cs_match.specs.Span.{AreSpans}
 use Rattle.cs_match.specs.Lines.{newline, lines}
 use Rattle.cs_project.specs.declared.form.Mode.{Mode}
 use Rattle.cs_project.specs.declared.form.Mode.TheVariants.{Lines, Counts, Names, Others}
@@ -12,6 +15,10 @@ use Rattle.cs_project.specs.Forms.{Span, row_bytes, dyed}
 pub record Finding : Type 0 where
   pub has_match : List ℕ → Bool
   pub spans : List ℕ → List Span
+
+-- the lines that match are those of one tree, and the matches are those of another
+abbrev pub IsFoundBy : Finding → Tree → Tree → Type 0
+IsFoundBy finding tree pattern = Decides finding.has_match tree × ((line : List ℕ) → AreSpans pattern line (finding.spans line))
 
 -- as git: a NUL is among the first 8000 bytes
 abbrev pub is_binary : List ℕ → Bool

@@ -1,6 +1,8 @@
 -- Rows one after another, with what is printed before each: the definition that the printing of a text is proved from.
 use Rattle.std.specs.Prelude.{ℕ, ◌≡◌, ◌+◌, Bool, true, false, nat_eq, if◌then◌else◌, List, [], ◌∷◌, ◌++◌, Result, OnOk}
 use Rattle.cs_project.specs.Contexts.{Row}
+use Rattle.cs_project.specs.Forms.{Span}
+use Rattle.cs_project.specs.Printing.{needs_spans}
 use Rattle.cs_project.specs.Shown.{Finding, shown_bytes, heading, gap, line_gap}
 use Rattle.cs_project.specs.declared.rows.Page.{Page}
 use Rattle.cs_project.specs.declared.rows.Rows.{Rows}
@@ -48,10 +50,27 @@ fresh_rows page = record { page = page; number = 1; most = page.options.now.most
 abbrev pub progress_of : Rows → List ℕ → Progress
 progress_of rows given = record { given = given; shown = rows.shown; next = rows.number }
 
+-- the finding has these matches in a marked line, if they are needed
+abbrev pub HasSpans : Page → Finding → Row → List Span → Type 0
+HasSpans page finding row spans =
+    row.marked ≡ true → needs_spans page.options.now.form ≡ true → finding.spans row.line ≡ spans
+
 -- these rows were printed
 abbrev pub IsPrinted : Rows → Rows → List ℕ → List ℕ → List Row → Type 0
 IsPrinted old new given later rows =
     ((finding : Finding) → progress_of new later ≡ printed_by old.page finding (progress_of old given) rows) × (new.page ≡ old.page)
+
+-- these rows were printed, of which the last is a marked line with these matches
+abbrev pub IsMarkPrinted : Rows → Rows → List ℕ → List ℕ → List ℕ → List Span → List Row → Type 0
+IsMarkPrinted old new given later line spans rows = ((finding : Finding) →
+    (needs_spans old.page.options.now.form ≡ true → finding.spans line ≡ spans) →
+    progress_of new later ≡ printed_by old.page finding (progress_of old given) rows) × (new.page ≡ old.page)
+
+-- This row was printed, if the finding has these matches in its line and they are needed. The rest of the state stays.
+abbrev pub ShowsRow : {A E : Type 0} → Rows → Rows → List ℕ → List ℕ → Row → List Span → Result A E → Type 0
+ShowsRow old new given later row spans result = OnOk result (((finding : Finding) → HasSpans old.page finding row spans →
+    progress_of new later ≡ printed_by old.page finding (progress_of old given) (row ∷ []))
+    × (new.page ≡ old.page) × (new.most ≡ old.most) × (new.left ≡ old.left))
 
 -- On success these rows were printed. The rest of the state stays.
 abbrev pub ShowsRows : {A E : Type 0} → Rows → Rows → List ℕ → List ℕ → List Row → Result A E → Type 0

@@ -7,9 +7,11 @@ mod found;
 mod lines;
 mod row;
 mod rows;
+mod search;
 mod searching;
 mod text;
 
 pub use form::{LineForm, Mode, ShowOptions};
 pub use rows::Page;
+pub use search::Search;
 pub use text::{print_lines, print_text};

@@ -107,35 +107,4 @@ impl LineForm {
         self.print_separated(marked, b"32", digits.format(number).as_bytes(), out)?;
         Ok(())
     }
-
-    /// The name and the number, as far as the form has them.
-    fn print_prefix<O: Output>(
-        &self,
-        name: &str,
-        row: &LineRow<'_>,
-        out: &mut O,
-    ) -> Result<(), AllocError>
-        ensures { Prints (O.given out.old) (O.given out.new) (prefix_of self.now name.now (row_of row.now) None) result }
-    {
-        self.print_name(name, row.marked, out)?;
-        self.print_number(row.number, row.marked, out)?;
-        Ok(())
-    }
-
-    /// A line after its prefix.
-    pub(crate) fn print_row<O: Output>(
-        &self,
-        name: &str,
-        row: &LineRow<'_>,
-        out: &mut O,
-    ) -> Result<(), AllocError>
-        requires plain { needs_spans self.now ≡ false }
-        ensures { (spans : List Span) →
-            Prints (O.given out.old) (O.given out.new) (row_bytes self.now name.now (row_of row.now) spans) result }
-    {
-        self.print_prefix(name, row, out)?;
-        out.append(row.line)?;
-        out.append(b"\n")?;
-        Ok(())
-    }
 }

@@ -4,15 +4,18 @@ ghost use Rattle.cs_match.specs.Lines.{newline, terminated_lines};
 ghost use Rattle.cs_match.specs.Skipping.{AreWholeLines};
 ghost use Rattle.cs_project.specs.Contexts.{is_open, one_less, row_at};
 ghost use Rattle.cs_project.specs.Forms.{dyed};
-ghost use Rattle.cs_project.specs.Printing.{Prints, row_of, needs_spans};
+ghost use Rattle.cs_project.specs.Printing.{Prints, row_of};
+ghost use Rattle.cs_project.specs.Ordered.{AreOrdered, pairs};
 ghost use Rattle.cs_project.specs.Scans.{rows_at, last_rows, scan_of, scan_marked, Fits, IsPassed};
 ghost use Rattle.cs_project.specs.Shown.{gap, line_gap, heading, name_bytes};
 ghost use Rattle.cs_project.specs.Blocks.{IsFirstLines};
-ghost use Rattle.cs_project.specs.Spacing.{ShowsRows, IsPrinted, before_row, opening_of, fresh_rows};
+ghost use Rattle.cs_project.specs.Spacing.{ShowsRow, ShowsRows, IsPrinted, IsMarkPrinted, before_row, opening_of, fresh_rows};
 
 use crate::form::ShowOptions;
+use crate::found::FoundRow;
 use crate::lines::{last_lines, line_count, line_end};
 use crate::row::LineRow;
+use cs_match::Span;
 use cs_output::Output;
 use std::alloc::AllocError;
 
@@ -142,14 +145,24 @@ impl<'a> Rows<'a> {
         Ok(())
     }
 
-    /// Shows the next line.
-    fn show<O: Output>(&mut self, row: &LineRow<'_>, out: &mut O) -> Result<(), AllocError>
+    /// Shows the next line; if it is marked, with these matches.
+    fn show<O: Output>(
+        &mut self,
+        row: &LineRow<'_>,
+        spans: &[Span],
+        out: &mut O,
+    ) -> Result<(), AllocError>
         requires number { row.now.number + 1 < 2 ^ 64 }
-        requires plain { needs_spans self.old.page.options.now.form ≡ false }
-        ensures { ShowsRows self.old self.new (O.given out.old) (O.given out.new) (row_of row.now ∷ []) result }
+        requires ordered { AreOrdered 0 (length row.now.line.now) (pairs spans.now) }
+        ensures { ShowsRow self.old self.new (O.given out.old) (O.given out.new) (row_of row.now) (pairs spans.now) result }
     {
         self.print_before(row.number, out)?;
-        self.page.options.form.print_row(self.page.name, row, out)?;
+        let found = FoundRow {
+            name: self.page.name,
+            row: *row,
+            spans,
+        };
+        self.page.options.form.print_found(&found, out)?;
         self.number = row.number + 1;
         self.shown = true;
         Ok(())
@@ -165,7 +178,6 @@ impl<'a> Rows<'a> {
     ) -> Result<Passed, AllocError>
         requires whole { AreWholeLines block.now }
         requires room { number + length block.now < 2 ^ 64 }
-        requires plain { needs_spans self.old.page.options.now.form ≡ false }
         ensures rows { ShowsRows self.old self.new (O.given out.old) (O.given out.new)
             (rows_at number (take count (terminated_lines block.now))) result }
         ensures count { IfOk result (λ passed. passed.count ≡ length (take count (terminated_lines block.now))) }
@@ -181,7 +193,7 @@ impl<'a> Rows<'a> {
                 line: &block[offset..end],
                 marked: false,
             };
-            self.show(&row, out)?;
+            self.show(&row, &[], out)?;
             next += 1;
             left -= 1;
             offset = end + 1;
@@ -205,7 +217,6 @@ impl<'a> Rows<'a> {
         requires whole { AreWholeLines (drop held block.now) × AreWholeLines (slice_range block.now held from) }
         requires fits { Fits (terminated_lines (slice_range block.now held from)) self.old.left }
         requires room { self.old.number + (length block.now - from) < 2 ^ 64 }
-        requires plain { needs_spans self.old.page.options.now.form ≡ false }
         ensures rows { OnOk result (IsPrinted self.old self.new (O.given out.old) (O.given out.new)
             (rows_at self.old.number (take self.old.left (terminated_lines (drop from block.now))))) }
         ensures passed { IfOk result (λ held'. IsPassed self.old self.new block.now held from held') }
@@ -227,7 +238,6 @@ impl<'a> Rows<'a> {
         out: &mut O,
     ) -> Result<(), AllocError>
         requires room { self.old.number + 1 < 2 ^ 64 }
-        requires plain { needs_spans self.old.page.options.now.form ≡ false }
         ensures rows { OnOk result (IsPrinted self.old self.new (O.given out.old) (O.given out.new)
             (rows_at self.old.number (take self.old.left (line.now ∷ [])))) }
     {
@@ -239,7 +249,7 @@ impl<'a> Rows<'a> {
             line,
             marked: false,
         };
-        self.show(&row, out)?;
+        self.show(&row, &[], out)?;
         self.left -= 1;
         Ok(())
     }
@@ -249,13 +259,14 @@ impl<'a> Rows<'a> {
         &mut self,
         held: &[u8],
         line: &[u8],
+        spans: &[Span],
         out: &mut O,
     ) -> Result<(), AllocError>
         requires whole { AreWholeLines held.now }
         requires room { self.old.number + length held.now + 1 < 2 ^ 64 }
+        requires ordered { AreOrdered 0 (length line.now) (pairs spans.now) }
         requires open { is_open self.old.most ≡ true }
-        requires plain { needs_spans self.old.page.options.now.form ≡ false }
-        ensures rows { OnOk result (IsPrinted self.old self.new (O.given out.old) (O.given out.new)
+        ensures rows { OnOk result (IsMarkPrinted self.old self.new (O.given out.old) (O.given out.new) line.now (pairs spans.now)
             (last_rows self.old.page.options.now.before self.old.number (terminated_lines held.now)
             ++ row_at (self.old.number + length (terminated_lines held.now)) line.now true ∷ [])) }
         ensures scan { OnOk result (scan_of self.new ≡ scan_marked self.old (terminated_lines held.now)) }
@@ -269,7 +280,7 @@ impl<'a> Rows<'a> {
             line,
             marked: true,
         };
-        self.show(&row, out)?;
+        self.show(&row, spans, out)?;
         self.left = self.page.options.after;
         self.most = one_less(self.most);
         Ok(())

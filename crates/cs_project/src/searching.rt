@@ -7,13 +7,13 @@ ghost use Rattle.cs_match.specs.NoNewline.{HasNoNewline};
 ghost use Rattle.cs_match.specs.Skipping.{AreWholeLines, NoneMatch, IsLineAfter};
 ghost use Rattle.cs_project.specs.Blocks.{IsNext};
 ghost use Rattle.cs_project.specs.Contexts.{is_open};
-ghost use Rattle.cs_project.specs.Printing.{needs_spans};
 ghost use Rattle.cs_project.specs.Scans.{Fits, Searches, SearchesLast, IsNextMark};
 ghost use Rattle.cs_project.specs.Shown.{is_wanted};
 
 use crate::form::ShowOptions;
 use crate::lines::line_end;
 use crate::rows::Rows;
+use crate::search::Search;
 use cs_match::{Line, Matcher};
 use cs_output::Output;
 use std::alloc::AllocError;
@@ -100,29 +100,30 @@ impl Rows<'_> {
         &mut self,
         block: &[u8],
         from: usize,
-        matcher: &mut Matcher<'_>,
+        search: &mut Search<'_>,
         out: &mut O,
     ) -> Result<usize, AllocError>
         requires within { from ≤ length block.now }
         requires whole { AreWholeLines (take from block.now) × AreWholeLines (drop from block.now) }
         requires fits { Fits (terminated_lines (take from block.now)) self.old.left }
         requires room { self.old.number + length block.now < 2 ^ 64 }
-        requires plain { needs_spans self.old.page.options.now.form ≡ false }
         ensures within { IfOk result (λ held. held ≤ length block.now) }
         ensures whole { IfOk result (λ held. AreWholeLines (drop held block.now)) }
         ensures fits { IfOk result (λ held. Fits (terminated_lines (drop held block.now)) self.new.left) }
         ensures room { IfOk result (λ held. self.new.number ≤ self.old.number + held) }
         ensures page { OnOk result (self.new.page ≡ self.old.page) }
-        ensures rows { IfOk result (λ held. Searches matcher.old.tree self.old self.new (O.given out.old) (O.given out.new)
+        ensures rows { IfOk result (λ held. Searches search.old.matcher.tree search.old.finder self.old self.new (O.given out.old) (O.given out.new)
             (terminated_lines (take from block.now)) (terminated_lines (drop from block.now))
             (terminated_lines (drop held block.now))) }
-        ensures same { matcher.new.tree ≡ matcher.old.tree }
+        ensures same { (search.new.matcher.tree ≡ search.old.matcher.tree) × (search.new.finder ≡ search.old.finder) }
     {
         let mut held = 0;
         let mut offset = from;
-        'marks: while let Some(line) = self.next_mark(block, offset, matcher) {
+        'marks: while let Some(line) = self.next_mark(block, offset, &mut search.matcher) {
             held = self.pass(&block[..line.start], held, offset, out)?;
-            self.show_mark(&block[held..line.start], &block[line.start..line.end], out)?;
+            let bytes = &block[line.start..line.end];
+            search.find(&self.page.options.form, bytes)?;
+            self.show_mark(&block[held..line.start], bytes, &search.spans, out)?;
             offset = line.end + 1;
             held = offset;
         }
@@ -148,22 +149,22 @@ impl Rows<'_> {
         &mut self,
         held: &[u8],
         last: &[u8],
-        matcher: &mut Matcher<'_>,
+        search: &mut Search<'_>,
         out: &mut O,
     ) -> Result<(), AllocError>
         requires whole { AreWholeLines held.now }
         requires fits { Fits (terminated_lines held.now) self.old.left }
         requires room { self.old.number + length held.now + 1 < 2 ^ 64 }
-        requires plain { needs_spans self.old.page.options.now.form ≡ false }
-        ensures rows { OnOk result (SearchesLast matcher.old.tree self.old self.new (O.given out.old) (O.given out.new)
+        ensures rows { OnOk result (SearchesLast search.old.matcher.tree search.old.finder self.old self.new (O.given out.old) (O.given out.new)
             (terminated_lines held.now) (last_line last.now)) }
-        ensures same { matcher.new.tree ≡ matcher.old.tree }
+        ensures same { (search.new.matcher.tree ≡ search.old.matcher.tree) × (search.new.finder ≡ search.old.finder) }
     {
         if last.is_empty() {
             return Ok(());
         }
-        if self.is_marked(last, matcher) {
-            self.show_mark(held, last, out)?;
+        if self.is_marked(last, &mut search.matcher) {
+            search.find(&self.page.options.form, last)?;
+            self.show_mark(held, last, &search.spans, out)?;
         } else {
             self.show_last(last, out)?;
         }

@@ -6,12 +6,12 @@ ghost use Rattle.cs_match.specs.LastPart.{last_line};
 ghost use Rattle.cs_match.specs.Lines.{terminated_lines};
 ghost use Rattle.cs_match.specs.Skipping.{AreWholeLines};
 ghost use Rattle.cs_match.specs.Deciding.{Decides};
-ghost use Rattle.cs_project.specs.Printing.{needs_spans};
 ghost use Rattle.cs_project.specs.Printed.{PrintsText, HasGroups, PrintsLines, HasLines};
 
 use crate::form::{Mode, ShowOptions};
 use crate::lines::line_count;
 use crate::rows::{Page, Rows};
+use crate::search::Search;
 use crate::searching::{is_wanted, next_wanted};
 use cs_match::{Matcher, whole_lines_len};
 use cs_output::Output;
@@ -22,19 +22,18 @@ use std::alloc::AllocError;
 pub fn print_lines<O: Output>(
     page: &Page<'_>,
     text: &[u8],
-    matcher: &mut Matcher<'_>,
+    search: &mut Search<'_>,
     out: &mut O,
 ) -> Result<bool, AllocError>
-    requires plain { needs_spans page.now.options.now.form ≡ false }
-    ensures lines { OnOk result (PrintsLines matcher.old.tree page.now text.now (O.given out.old) (O.given out.new)) }
-    ensures some { IfOk result (λ some. HasLines matcher.old.tree page.now text.now some) }
-    ensures same { matcher.new.tree ≡ matcher.old.tree }
+    ensures lines { OnOk result (PrintsLines search.old.matcher.tree search.old.finder page.now text.now (O.given out.old) (O.given out.new)) }
+    ensures some { IfOk result (λ some. HasLines search.old.matcher.tree search.old.finder page.now text.now some) }
+    ensures same { (search.new.matcher.tree ≡ search.old.matcher.tree) × (search.new.finder ≡ search.old.finder) }
 {
     let mut rows = Rows::new(*page);
     let end = whole_lines_len(text);
     let block = &text[..end];
-    let held = rows.search_block(block, 0, matcher, out)?;
-    rows.search_last(&block[held..], &text[end..], matcher, out)?;
+    let held = rows.search_block(block, 0, search, out)?;
+    rows.search_last(&block[held..], &text[end..], search, out)?;
     Ok(rows.shown)
 }
 
@@ -154,27 +153,26 @@ impl Page<'_> {
 pub fn print_text<O: Output>(
     page: &Page<'_>,
     text: &[u8],
-    matcher: &mut Matcher<'_>,
+    search: &mut Search<'_>,
     out: &mut O,
 ) -> Result<bool, AllocError>
-    requires plain { needs_spans page.now.options.now.form ≡ false }
-    ensures text { OnOk result (PrintsText matcher.old.tree page.now text.now (O.given out.old) (O.given out.new)) }
-    ensures some { IfOk result (λ some. HasGroups matcher.old.tree page.now text.now some) }
-    ensures same { matcher.new.tree ≡ matcher.old.tree }
+    ensures text { OnOk result (PrintsText search.old.matcher.tree search.old.finder page.now text.now (O.given out.old) (O.given out.new)) }
+    ensures some { IfOk result (λ some. HasGroups search.old.matcher.tree search.old.finder page.now text.now some) }
+    ensures same { (search.new.matcher.tree ≡ search.old.matcher.tree) × (search.new.finder ≡ search.old.finder) }
 {
     match page.options.mode {
-        Mode::Lines => print_lines(page, text, matcher, out),
+        Mode::Lines => print_lines(page, text, search, out),
         Mode::Counts => {
-            let wanted = count_wanted(page.options, text, matcher);
+            let wanted = count_wanted(page.options, text, &mut search.matcher);
             let some = page.print_count(page.options.at_most(wanted), out)?;
             Ok(some)
         }
         Mode::Names => {
-            let here = page.has_mark(text, matcher);
+            let here = page.has_mark(text, &mut search.matcher);
             page.print_listed(here, out)
         }
         Mode::Others => {
-            let here = page.has_mark(text, matcher);
+            let here = page.has_mark(text, &mut search.matcher);
             page.print_listed(!here, out)
         }
     }

@@ -2,10 +2,11 @@ use Rattle.std.proofs.Common.{◌≡◌, ◌-◌, ◌++◌, [], ℕ, List, lengt
 use Rattle.std.proofs.lemmas.List.{take_rest}
 use Rattle.cs_match.specs.Deciding.{Decides}
 use Rattle.cs_match.specs.LastPart.{last_line}
+use Rattle.cs_match.specs.Span.{AreSpans}
 use Rattle.cs_match.specs.Lines.{terminated_lines, lines}
 use Rattle.cs_match.proofs.SkippedLineLemmas.{whole_none}
 use Rattle.cs_project.specs.Scans.{rows_by}
-use Rattle.cs_project.specs.Shown.{Finding, gap, is_wanted, shown_bytes, text_rows}
+use Rattle.cs_project.specs.Shown.{Finding, IsFoundBy, gap, is_wanted, shown_bytes, text_rows}
 use Rattle.cs_project.specs.Spacing.{printed_by, progress_of, opening_of, fresh_rows}
 use Rattle.cs_project.proofs.ScanLemmas.{rows_are_scanned}
 use Rattle.cs_project.proofs.SpacingLemmas.{printed_given}
@@ -20,7 +21,7 @@ none_of = refl
 pub search_block-requires-clause-whole : goal.search_block-requires-clause-whole
 search_block-requires-clause-whole g c = (whole_none, c.whole_lines_len-end.ensures.whole)
 
-all_rows : (g : Over) (c : goal.In_ok-search_last g) (finding : Finding) → Decides finding.has_match c.args.matcher.now.tree →
+all_rows : (g : Over) (c : goal.In_ok-search_last g) (finding : Finding) → IsFoundBy finding c.args.search.now.matcher.tree c.args.search.now.finder →
     progress_of c.search_last.new.self (g.O.Output.given c.search_last.new.out)
     ≡ printed_by c.args.page.now finding (progress_of (fresh_rows c.args.page.now) (g.O.Output.given c.args.out.now))
     (text_rows c.args.page.now.options.now finding c.args.text.now)
@@ -36,7 +37,10 @@ all_rows g c finding decides =
     let given = g.O.Output.given c.args.out.now in
     let p1 = progress_of rows1 (g.O.Output.given c.search_block.new.out) in
     let last = last_line (drop end text) in
-    c.in_ok-search_last.ensures.rows finding (subst (Decides finding.has_match) (sym c.in_ok-held.ensures.same) decides)
+    c.in_ok-search_last.ensures.rows finding (
+      subst (Decides finding.has_match) (sym c.in_ok-held.ensures.same.0) decides.0,
+      λ line. subst (λ t. AreSpans t line (finding.spans line)) (sym c.in_ok-held.ensures.same.1) (decides.1 line),
+    )
     ∙ ap (λ (rest : List ℕ). printed_by rows1.page finding p1 (rows_by rows1 finding (terminated_lines rest) (last_line (take (length text - end) (drop end text)))))
     (take_rest block held)
     ∙ ap (λ (rest : List ℕ). printed_by rows1.page finding p1 (rows_by rows1 finding (terminated_lines (drop held block)) (last_line rest))) (take_rest text end)

@@ -10,6 +10,9 @@ use Rattle.cs_project.specs.Contexts.{is_open, one_less, row_at}
 use Rattle.cs_project.specs.Scans.{Scan, Fits, rows_at, rows_by, scan_rows, scan_of, last_rows}
 use Rattle.cs_project.specs.Shown.{gap, is_wanted, shown_bytes}
 use Rattle.cs_project.specs.Spacing.{printed_by, progress_of, opening_of}
+use Rattle.cs_match.specs.Span.{AreSpans}
+use Rattle.cs_project.specs.Ordered.{pairs}
+use Rattle.cs_project.proofs.SpanListLemmas.{spans_unique}
 use Rattle.cs_project.proofs.SearchLemmas.{pass_step, mark_step, cut_size, cut_rest, cut_part, lines_to}
 use Rattle.cs_project.proofs.rows.Rows.search_block.Goals as goal
 
@@ -38,6 +41,7 @@ marks-init g c =
       rows = λ finding later decides. ap (λ n. printed_by c.args.self.now.page finding (progress_of c.args.self.now (g.O.Output.given c.args.out.now))
           (rows_by c.args.self.now finding (terminated_lines (take n block)) (terminated_lines (drop c.args.from block) ++ later))) zero;
       same = refl;
+      pattern = refl;
     }
 
 pub pass-requires-clause-within : goal.pass-requires-clause-within
@@ -169,7 +173,7 @@ marks-preserved g c =
       );
       page = page ∙ i.page;
       rows = λ finding later decides.
-          let mark = c.in-Some.ensures.mark finding.has_match (subst (Decides finding.has_match) (sym i.same) decides) in
+          let mark = c.in-Some.ensures.mark finding.has_match (subst (Decides finding.has_match) (sym i.same) decides.0) in
           let wanted = is_wanted options finding.has_match in
           let more = terminated_lines rest ++ later in
           let r = progress_of new given2 in
@@ -181,7 +185,8 @@ marks-preserved g c =
           (passed.rows.0 finding ∙ ap (λ (text : List ℕ). printed_by cur.page finding (progress_of cur given) (rows_at cur.number (take cur.left (terminated_lines text)))) same)
           ∙ mark_step (opening_of cur.page) (gap options) (shown_bytes options finding cur.page.name.now) options.before options.after wanted cur.most
           line more h' mid.number mid.left (progress_of mid given1) r mark.0
-          (shown.rows.0 finding ∙ ap (λ page. printed_by page finding (progress_of mid given1)
+          (shown.rows.0 finding (λ needs. spans_unique c.args.search.now.finder line (finding.spans line) (pairs c.find.new.self.spans.items) 0 0
+          (decides.1 line) (subst (λ t. AreSpans t line (pairs c.find.new.self.spans.items)) i.pattern (c.in_ok-find.ensures.spans needs)) ∙ sym (ap pairs c.deref.ensures.value)) ∙ ap (λ page. printed_by page finding (progress_of mid given1)
           (last_rows page.options.now.before mid.number h' ++ row_at (mid.number + length h') line true ∷ [])) passed.rows.1)
           ∙ ap (λ scan. printed_by cur.page finding r (scan_rows options.before options.after wanted scan [] more))
           (sym (shown.scan ∙ ap (λ page. let s : Scan = record { number = mid.number + length h' + 1; most = one_less mid.most; left = page.options.now.after } in s) passed.rows.1
@@ -189,7 +194,8 @@ marks-preserved g c =
           ∙ ap (λ page. printed_by page finding r (scan_rows page.options.now.before page.options.now.after
           (is_wanted page.options.now finding.has_match) (scan_of new) [] more)) (sym page)
           ∙ ap (λ (ls : List (List ℕ)). printed_by new.page finding r (rows_by new finding ls more)) (sym (nothing rest (end + 1)));
-      same = c.in-Some.ensures.same ∙ i.same;
+      same = ap (λ m. m.tree) c.in_ok-find.ensures.matcher ∙ c.in-Some.ensures.same ∙ i.same;
+      pattern = c.in_ok-find.ensures.finder ∙ i.pattern;
     }
 
 pub pass-requires-2-clause-room : goal.pass-requires-2-clause-room
@@ -205,7 +211,7 @@ returns-clause-rows g c = λ finding later decides.
     let p = c.in_ok-held-2.ensures.passed in
     let options = cur.page.options.now in
     let wanted = is_wanted options finding.has_match in
-    let none = c.in_default.ensures.mark finding.has_match (subst (Decides finding.has_match) (sym i.same) decides) in
+    let none = c.in_default.ensures.mark finding.has_match (subst (Decides finding.has_match) (sym i.same) decides.0) in
     let held = terminated_lines (take (c.marks.offset - c.marks.held) (drop c.marks.held block)) in
     let now = terminated_lines (drop c.in_ok-held-2.held block) in
     let r = progress_of new (g.O.Output.given c.pass-2.new.out) in

@@ -1,9 +1,8 @@
 use Rattle.std.proofs.Common.{◌≡◌, ◌≤◌, ◌+◌, ◌-◌, ◌++◌, ℕ, List, length, take, drop}
-use Rattle.cs_match.specs.Deciding.{Decides}
 use Rattle.cs_match.specs.Lines.{terminated_lines}
 use Rattle.cs_match.specs.Skipping.{AreWholeLines}
 use Rattle.cs_project.specs.Scans.{Fits, rows_by}
-use Rattle.cs_project.specs.Shown.{Finding}
+use Rattle.cs_project.specs.Shown.{Finding, IsFoundBy}
 use Rattle.cs_project.specs.Spacing.{printed_by, progress_of}
 use Rattle.cs_project.proofs.rows.Rows.search_block.Given as goal
 
@@ -17,12 +16,13 @@ invariant-marks g l = record {
   fits : Fits (terminated_lines (take (l.offset - l.held) (drop l.held l.block))) l.self.left;
   room : l.self.number ≤ l.fn.self.number + l.held;
   page : l.self.page ≡ l.fn.self.page;
-  rows : (finding : Finding) (later : List (List ℕ)) → Decides finding.has_match l.fn.matcher.tree →
+  rows : (finding : Finding) (later : List (List ℕ)) → IsFoundBy finding l.fn.search.matcher.tree l.fn.search.finder →
       printed_by l.fn.self.page finding (progress_of l.fn.self (g.O.Output.given l.fn.out))
       (rows_by l.fn.self finding (terminated_lines (take l.from l.block)) (terminated_lines (drop l.from l.block) ++ later))
       ≡ printed_by l.self.page finding (progress_of l.self (g.O.Output.given l.out))
       (rows_by l.self finding (terminated_lines (take (l.offset - l.held) (drop l.held l.block))) (terminated_lines (drop l.offset l.block) ++ later));
-  same : l.matcher.tree ≡ l.fn.matcher.tree;
+  same : l.search.matcher.tree ≡ l.fn.search.matcher.tree;
+  pattern : l.search.finder ≡ l.fn.search.finder;
 }
 
 abbrev pub decreases-marks : goal.decreases-marks

@@ -1,5 +1,6 @@
 use Rattle.std.proofs.Common.{◌<◌, ◌∙◌, ap, sym, List, ℕ, arith}
 use Rattle.std.proofs.lemmas.Bool.Decides.{nat_tests}
+use Rattle.std.proofs.lemmas.Bool.{false≢true}
 use Rattle.cs_project.specs.Scans.{rows_at}
 use Rattle.cs_project.specs.Spacing.{printed_by, progress_of}
 use Rattle.cs_project.proofs.SpacingLemmas.{take_one}
@@ -13,9 +14,9 @@ returns g c =
     let some : 0 < self.left = grind (arith, nat_tests, c.if-self-eq0.false) in
     record {
       rows = (
-        λ finding. e.0.0 finding
+        λ finding. e.0 finding (λ marked. absurd (false≢true marked))
             ∙ ap (λ (ls : List (List ℕ)). printed_by self.page finding (progress_of self (g.O.Output.given c.args.out.now)) (rows_at self.number ls))
             (sym (take_one self.left line some)),
-        e.0.1,
+        e.1,
       );
     }

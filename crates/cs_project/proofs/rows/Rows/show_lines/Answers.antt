@@ -1,5 +1,6 @@
 use Rattle.std.proofs.Common.{◌≡◌, ◌<◌, ◌+◌, ◌-◌, ◌∷◌, ◌⊎◌, inl, inr, [], ℕ, List, length, take, drop, refl, sym, ap, ◌∙◌, arith}
 use Rattle.std.proofs.lemmas.List.{drop_all}
+use Rattle.std.proofs.lemmas.Bool.{false≢true}
 use Rattle.cs_match.specs.Lines.{terminated_lines}
 use Rattle.cs_match.proofs.SkippedLineLemmas.{whole_none}
 use Rattle.cs_match.proofs.WholeLineLemmas.{whole_from, whole_line}
@@ -63,11 +64,11 @@ lines-preserved g c =
       rows = λ finding.
           i.rows finding
           ∙ ap (λ (l : List (List ℕ)). printed_by self.page finding (progress_of self given) (rows_at c.lines.next l)) t
-          ∙ ap (λ p. printed_by self.page finding p rest) (sym (shown.0.0 finding))
-          ∙ ap (λ page. printed_by page finding (progress_of c.show.new.self (g.O.Output.given c.show.new.out)) rest) (sym shown.0.1);
-      page = shown.0.1 ∙ i.page;
-      most = shown.1 ∙ i.most;
-      left = shown.2 ∙ i.left;
+          ∙ ap (λ p. printed_by self.page finding p rest) (sym (shown.0 finding (λ marked. absurd (false≢true marked))))
+          ∙ ap (λ page. printed_by page finding (progress_of c.show.new.self (g.O.Output.given c.show.new.out)) rest) (sym shown.1);
+      page = shown.1 ∙ i.page;
+      most = shown.2 ∙ i.most;
+      left = shown.3 ∙ i.left;
     }
 
 pub returns-clause-rows : goal.returns-clause-rows

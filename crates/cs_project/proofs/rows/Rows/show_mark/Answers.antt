@@ -1,19 +1,18 @@
-use Rattle.std.proofs.Common.{◌≡◌, ◌+◌, ◌-◌, ◌∷◌, [], ℕ, List, false, true, length, take, drop, sym, ap, subst, ◌∙◌, arith, length-take, length-drop}
+use Rattle.std.proofs.Common.{◌≡◌, ◌+◌, ◌-◌, ◌∷◌, [], ℕ, List, false, true, length, take, drop, sym, ap, subst, ◌∙◌, arith, length-take, length-drop, refl}
 use Rattle.std.proofs.lemmas.List.{take_rest}
 use Rattle.cs_match.specs.Lines.{terminated_lines}
 use Rattle.cs_match.specs.Skipping.{AreWholeLines}
 use Rattle.cs_match.proofs.WholeLineLemmas.{whole_drop}
 use Rattle.cs_project.specs.Contexts.{row_at, one_less}
-use Rattle.cs_project.specs.Shown.{Finding, shown_bytes, gap}
+use Rattle.cs_project.specs.Ordered.{pairs}
+use Rattle.cs_project.specs.Printing.{needs_spans}
+use Rattle.cs_project.specs.Shown.{shown_bytes, gap}
 use Rattle.cs_project.specs.Scans.{rows_at, last_rows}
 use Rattle.cs_project.specs.Spacing.{printed_by, progress_of, opening_of}
 use Rattle.cs_project.proofs.BlockLemmas.{first_count, last_lines_are, last_count, count_within}
 use Rattle.cs_project.proofs.ScanLemmas.{scan_same}
 use Rattle.cs_project.proofs.SpacingLemmas.{printed_append}
 use Rattle.cs_project.proofs.rows.Rows.show_mark.Goals as goal
-
-nothing : Finding
-nothing = record { has_match = λ line. false; spans = λ line. [] }
 
 pub show_lines-requires-clause-whole : goal.show_lines-requires-clause-whole
 show_lines-requires-clause-whole g c =
@@ -78,14 +77,14 @@ returns-clause-rows g c =
     ∙ ap (λ (l : List (List ℕ)). rows_at (old.number + (length lines - before)) l) (last_lines_are held start before last.whole last.last) in
     let at : first + c.in_ok-passed.passed.count ≡ old.number + length lines =
     omega (arith, c.line_count.ensures.exact, e.count, last_count held start before last.whole last.last) in (
-      λ finding. f.0.0 finding
+      λ finding same. f.0 finding (λ marked needs. same (subst (λ page. needs_spans page.options.now.form ≡ true) e.rows.0.1 needs))
           ∙ ap (λ page. printed_by page finding p1 (row_at (first + c.in_ok-passed.passed.count) line true ∷ [])) e.rows.0.1
           ∙ ap (λ p. printed_by old.page finding p (row_at (first + c.in_ok-passed.passed.count) line true ∷ [])) (e.rows.0.0 finding)
           ∙ ap (λ rs. printed_by old.page finding (printed_by old.page finding p0 rs) (row_at (first + c.in_ok-passed.passed.count) line true ∷ [])) rows
           ∙ ap (λ n. printed_by old.page finding (printed_by old.page finding p0 (last_rows before old.number lines)) (row_at n line true ∷ [])) at
           ∙ sym (printed_append (opening_of old.page) (gap old.page.options.now) (shown_bytes old.page.options.now finding old.page.name.now)
           (last_rows before old.number lines) (row_at (old.number + length lines) line true ∷ []) p0),
-      f.0.1 ∙ e.rows.0.1,
+      f.1 ∙ e.rows.0.1,
     )
 
 pub returns-clause-scan : goal.returns-clause-scan
@@ -97,7 +96,7 @@ returns-clause-scan g c =
     let e = c.in_ok-passed.ensures in
     let f = c.in_ok-show.ensures in
     scan_same _ _
-    (ap (λ p. p.next) (f.0.0 nothing)
+    (ap (λ p. p.next) (f.0 (record { has_match = λ line. false; spans = λ line. pairs c.args.spans.now }) (λ marked needs. refl))
     ∙ omega (arith, c.line_count.ensures.exact, e.count, last_count held start old.page.options.now.before last.whole last.last))
-    (c.one_less-self.ensures ∙ ap one_less (f.1 ∙ e.rows.1))
-    (ap (λ page. page.options.now.after) (f.0.1 ∙ e.rows.0.1))
+    (c.one_less-self.ensures ∙ ap one_less (f.2 ∙ e.rows.1))
+    (ap (λ page. page.options.now.after) (f.1 ∙ e.rows.0.1))

@@ -1,4 +1,4 @@
--- The work of a search for spans, in steps (`Work`). One search is a few passes over the line: linear, but for a logarithm.
+-- The work of a search for spans, in steps (`Work`). One search is a few scans of the line: linear, times a logarithm.
 -- docs/PROMISES.md, "Work".
 use Rattle.std.specs.Prelude.{ℕ, ◌≡◌, ◌+◌, ◌*◌, ◌^◌, ◌<◌, ◌≤◌, refl}
 use Rattle.std.specs.Coded.{Coded, code_by, coded_ℕ, coded×}

@@ -1,5 +1,5 @@
-// Where in a line a match is: the leftmost one, and of those that begin there the longest. A program is searched in passes
-// over the line (`pass`).
+// Where in a line a match is: the leftmost one, and of those that begin there the longest. Passes of the automaton find it
+// (`pass`).
 ghost use Rattle.std.specs.Prelude.{◌≡◌, ◌≤◌, ◌+◌, IfOk, MatchOption, length, true, false};
 ghost use Rattle.cs_match.specs.Passes.{IsPassOf};
 ghost use Rattle.cs_match.specs.Span.{IsFirstOf, HasNoMatchOf, IsFirstSpan, HasNoMatchFrom};

@@ -1,5 +1,5 @@
 /* Answers patterns from standard input, over an index that stays open: for each line of input the matching lines of the
- * indexed files, as csearch -n prints them, and then how many there are.
+ * indexed files, as csearch -n prints them, with each match between brackets, and then how many lines there are.
  *
  *     cc server.c $(pkg-config --cflags --libs codesearch) -o server
  *     ./server ~/.csearchindex
@@ -39,9 +39,10 @@ static void unmap_file(mapped *file) {
     file->len = 0;
 }
 
-/* A search: the index, the file that is searched, its name, and how many lines have matched. */
+/* A search: the index, the pattern, the file that is searched, its name, and how many lines have matched. */
 typedef struct {
     mapped index, file;
+    cs_pattern pattern;
     char name[4096];
     size_t matches;
 } search;
@@ -62,28 +63,42 @@ static int32_t read_file(void *context, uint32_t id, const uint8_t **text, size_
     return now->file.bytes != 0;
 }
 
+/* Prints a line. A search for its matches that reads 64 KB ends there, and the rest of the line has no brackets. */
 static int32_t print_line(void *context, uint32_t id, size_t number, const uint8_t *text, cs_line line) {
+    enum { ROOM = 64, BUDGET = 1 << 16 };
     search *now = context;
+    cs_span spans[ROOM];
+    size_t count = 0, from = 0, len = line.end - line.start;
+    const uint8_t *bytes = text + line.start;
+    int32_t code = cs_pattern_spans(&now->pattern, bytes, len, BUDGET, spans, ROOM, &count);
     (void)id;
+    if (code < 0 && code != CS_STOPPED) return code;
     now->matches++;
     printf("%s:%zu:", now->name, number);
-    fwrite(text + line.start, 1, line.end - line.start, stdout);
+    for (size_t i = 0; i < count; i++) {
+        if (spans[i].start == spans[i].end) continue;
+        fwrite(bytes + from, 1, spans[i].start - from, stdout);
+        putchar('[');
+        fwrite(bytes + spans[i].start, 1, spans[i].end - spans[i].start, stdout);
+        putchar(']');
+        from = spans[i].end;
+    }
+    fwrite(bytes + from, 1, len - from, stdout);
     putchar('\n');
     return 0;
 }
 
 /* Answers one pattern. */
 static void answer(search *now, const char *pattern, size_t len) {
-    cs_pattern slot = CS_EMPTY;
     size_t at = 0;
-    int32_t code = cs_pattern_compile((const uint8_t *)pattern, len, false, &slot, &at);
+    int32_t code = cs_pattern_compile((const uint8_t *)pattern, len, false, &now->pattern, &at);
     if (code < 0) {
         printf("error: %s, at byte %zu\n", cs_error_text(code), at);
         return;
     }
     now->matches = 0;
-    code = cs_search(&slot, now->index.bytes, now->index.len, read_file, print_line, now);
-    cs_pattern_free(&slot);
+    code = cs_search(&now->pattern, now->index.bytes, now->index.len, read_file, print_line, now);
+    cs_pattern_free(&now->pattern);
     unmap_file(&now->file);
     if (code < 0)
         printf("error: %s\n", cs_error_text(code));
@@ -92,7 +107,7 @@ static void answer(search *now, const char *pattern, size_t len) {
 }
 
 int main(int argc, char **argv) {
-    search now = {{0, 0}, {0, 0}, "", 0};
+    search now = {{0, 0}, {0, 0}, CS_EMPTY, "", 0};
     char *line = 0;
     size_t room = 0;
     ssize_t len;

@@ -11,11 +11,11 @@
  *          filled slot is not a second one, and only one of them may be used.
  * Results  0 or more: done. Below 0: a code. Each call says what it then leaves as it was.
  * Buffers  A call that copies says how much there is, and copies if all fits. Else the answer is CS_ROOM, and the buffer
- *          stays as it was: call again with enough room.
+ *          stays as it was: call again with enough room. A call with a budget answers what it has, or else CS_STOPPED.
  * Threads  There is no state outside slots. Any number of threads may use the same index bytes at once. A slot is in one
  *          call at a time, and stays on its thread: each thread compiles a pattern of its own (48 us on average).
- * Memory   malloc, realloc and free of the process. A call that is refused memory answers CS_MEMORY. No call may be made in
- *          a signal handler.
+ * Memory   malloc, realloc and free of the process. A call that is refused memory answers CS_MEMORY. The calls for spans take
+ *          none: theirs is that of the pattern. No call may be made in a signal handler.
  * Aliasing What a call writes (slots, buffers, counts) overlaps nothing else that the call is given.
  *
  * Proved   Each call that is given what it wants ends, stays within its buffers, and answers and leaves what is said at it:
@@ -45,7 +45,8 @@ enum {
     CS_NOT_UTF8 = -2, /* a pattern, a name or a path is not UTF-8 */
     CS_ROOM = -3,     /* the buffer is too small: the length says how much is wanted */
     CS_NO_ENTRY = -4, /* no name, path or byte has this number */
-    CS_MISUSE = -5,   /* the slot is empty, is filled, or holds something of another kind */
+    CS_MISUSE = -5,   /* the slot is empty, is filled, or holds something of another kind; or an offset is after the line */
+    CS_STOPPED = -6,  /* the budget or the room is used up: what is answered is right, and there may be more */
     /* a text is no pattern: the offset says where */
     CS_P_NO_OPERAND = -20,     /* *a */
     CS_P_STACKED_REPEAT = -21, /* a** */
@@ -96,6 +97,11 @@ enum { CS_COUNT = 1 /* -c */, CS_LIST = 2 /* -l */, CS_NUMBER = 4 /* -n */, CS_B
 typedef struct cs_line {
     size_t start, end;
 } cs_line;
+
+/* The bytes of a match are those from start to before end. A match may be empty. */
+typedef struct cs_span {
+    size_t start, end;
+} cs_span;
 
 /* Slots. The two fields are the library's own: a caller sets them by CS_EMPTY, and may read `filled`. */
 typedef struct cs_pattern {
@@ -154,10 +160,42 @@ int32_t cs_pattern_lines(cs_pattern *slot, const uint8_t *block, size_t len, cs_
 /* The number of matching lines of a block: faster than cs_pattern_lines. CS_MEMORY and CS_MISUSE leave the count. */
 int32_t cs_pattern_count(cs_pattern *slot, const uint8_t *block, size_t len, uint64_t *count);
 
+/* ---- where in a line a pattern matches
+ * The first match is the leftmost one, and of those that begin there the longest (POSIX, grep -o). The line is bytes without its
+ * newline, and look-around (^, $, \b) sees all of it, whatever the offset. To find all matches, begin at 0 and go on with
+ * cs_pattern_find_after, which leaves out an empty match at the end of the last one: x* in axxb is 0-0, 1-3 and 4-4.
+ * A search reads a line of n bytes at most log2(n) + 4 times; all matches of a line may take n searches, so cs_pattern_spans has
+ * a budget. No call takes memory. */
+
+/* 1 and the first match that begins at `from` or later; 0 if there is none, which leaves `span`. CS_MISUSE leaves it too: the slot,
+ * or `from` is above `len`. */
+int32_t cs_pattern_find(cs_pattern *slot, const uint8_t *line, size_t len, size_t from, cs_span *span);
+
+/* The same of the first match that begins at the end of `last` or later, and ends after it. CS_MISUSE: the slot, or last->end is
+ * above `len`. */
+int32_t cs_pattern_find_after(cs_pattern *slot, const uint8_t *line, size_t len, const cs_span *last, cs_span *span);
+
+/* All matches of a line in their order, and how many there are. CS_OK; or CS_STOPPED, and the first `count` of them: the room is
+ * used up, or the search has read `budget` bytes, and has finished the match that it was at. To go on, call
+ * cs_pattern_find_after with the last one, or cs_pattern_find at 0 if there is none. CS_MISUSE leaves all. */
+int32_t cs_pattern_spans(cs_pattern *slot, const uint8_t *line, size_t len, size_t budget, cs_span *spans, size_t room,
+                         size_t *count);
+
+/* The same three of matches that are whole words: no word byte (an ASCII letter or digit, or _) stands before the match, and none
+ * after it (grep -w). The first one is the leftmost such match, and of those that begin there the longest. */
+int32_t cs_pattern_find_word(cs_pattern *slot, const uint8_t *line, size_t len, size_t from, cs_span *span);
+int32_t cs_pattern_find_word_after(cs_pattern *slot, const uint8_t *line, size_t len, const cs_span *last, cs_span *span);
+int32_t cs_pattern_word_spans(cs_pattern *slot, const uint8_t *line, size_t len, size_t budget, cs_span *spans, size_t room,
+                              size_t *count);
+
 /* The ids of the names whose text may have a matching line, ascending, and how many there are. No text that was indexed under
  * another name has one. CS_OK, CS_ROOM; CS_I_LIST, CS_MEMORY and CS_MISUSE leave all. */
 int32_t cs_pattern_candidates(cs_pattern *slot, const uint8_t *index, size_t len, uint32_t *ids, size_t room,
                               size_t *count);
+
+/* The number of newlines of a text from one offset to another: the number of the line at `to`, if `from` begins line 0. CS_OK, or
+ * CS_MISUSE, which leaves the count: not from <= to <= len. */
+int32_t cs_count_lines(const uint8_t *text, size_t len, size_t from, size_t to, size_t *count);
 
 /* ---- reports */
 
@@ -219,7 +257,8 @@ static inline const char *cs_error_text(int32_t code) {
     case CS_NOT_UTF8: return "not UTF-8";
     case CS_ROOM: return "the buffer is too small";
     case CS_NO_ENTRY: return "no such entry";
-    case CS_MISUSE: return "the slot is empty, filled, or of another kind";
+    case CS_MISUSE: return "the slot is empty, filled, or of another kind, or an offset is after the line";
+    case CS_STOPPED: return "the budget or the room is used up";
     case CS_P_NO_OPERAND: return "nothing to repeat";
     case CS_P_STACKED_REPEAT: return "a repeat of a repeat";
     case CS_P_BAD_REPEAT: return "a bad count of a repeat";

@@ -126,6 +126,93 @@ static void lines(void) {
     cs_pattern_free(&slot);
 }
 
+/* the matches of a line, as offsets */
+static const char *spans_of(const char *text, const char *line, bool whole) {
+    static char out[400];
+    cs_pattern slot = CS_EMPTY;
+    size_t at;
+    cs_span span = {99, 99};
+    CHECK(CS_OK, cs_pattern_compile(BYTES(text), false, &slot, &at));
+    int32_t found = (whole ? cs_pattern_find_word : cs_pattern_find)(&slot, BYTES(line), 0, &span);
+    for (out[0] = 0; found == 1;) {
+        cs_span last = span;
+        sprintf(out + strlen(out), "%zu-%zu ", span.start, span.end);
+        found = (whole ? cs_pattern_find_word_after : cs_pattern_find_after)(&slot, BYTES(line), &last, &span);
+    }
+    CHECK(0, found);
+    cs_pattern_free(&slot);
+    return out;
+}
+
+static void spans(void) {
+    static const struct {
+        const char *text, *line, *all, *words;
+    } rows[] = {
+        {"a|ab|aab", "xaab aab", "1-4 5-8 ", "5-8 "},
+        {"x*", "axxb", "0-0 1-3 4-4 ", ""},
+        {"x*", "", "0-0 ", "0-0 "},
+        {"^", "ab", "0-0 ", ""},
+        {"$", "ab ", "3-3 ", "3-3 "},
+        {"\\b", "ab c", "0-0 2-2 3-3 4-4 ", ""},
+        {"\xc3\xa9|.", "\xc3\xa9\xff" "b", "0-2 3-4 ", "0-2 3-4 "},
+        {"a+?", "aaa", "0-3 ", "0-3 "},
+        {"a|a-b", "a-bc", "0-3 ", "0-1 "},
+        {"-", " - a-a", "1-2 4-5 ", "1-2 "},
+        {"[a-z]+", "ab_c de", "0-2 3-4 5-7 ", "5-7 "},
+    };
+    for (size_t i = 0; i < sizeof rows / sizeof *rows; i++) {
+        CHECK(0, strcmp(rows[i].all, spans_of(rows[i].text, rows[i].line, false)));
+        CHECK(0, strcmp(rows[i].words, spans_of(rows[i].text, rows[i].line, true)));
+    }
+
+    cs_pattern slot = CS_EMPTY;
+    size_t at, count = 99;
+    cs_span span = {7, 8}, other = {1, 4}, many[4] = {{9, 9}, {9, 9}, {9, 9}, {9, 9}};
+    CHECK(CS_MISUSE, cs_pattern_find(&slot, BYTES("a"), 0, &span));
+    CHECK(CS_MISUSE, cs_pattern_find_after(&slot, BYTES("a"), &other, &span));
+    CHECK(CS_MISUSE, cs_pattern_spans(&slot, BYTES("a"), 9, many, 4, &count));
+    CHECK(99, count);
+    CHECK(CS_OK, cs_pattern_compile(BYTES("b$"), false, &slot, &at));
+    CHECK(1, cs_pattern_find(&slot, BYTES("abab"), 0, &span));
+    CHECK(3, span.start);
+    CHECK(4, span.end);
+    CHECK(0, cs_pattern_find(&slot, BYTES("abab"), 4, &span));
+    CHECK(CS_MISUSE, cs_pattern_find(&slot, BYTES("abab"), 5, &span));
+    CHECK(CS_MISUSE, cs_pattern_find_word(&slot, BYTES("abab"), SIZE_MAX, &span));
+    other.end = 5;
+    CHECK(CS_MISUSE, cs_pattern_find_after(&slot, BYTES("abab"), &other, &span));
+    other.end = SIZE_MAX;
+    CHECK(CS_MISUSE, cs_pattern_find_word_after(&slot, BYTES("abab"), &other, &span));
+    CHECK(3, span.start);
+    cs_pattern_free(&slot);
+
+    CHECK(CS_OK, cs_pattern_compile(BYTES("a"), false, &slot, &at));
+    CHECK(CS_OK, cs_pattern_spans(&slot, BYTES("a aba"), SIZE_MAX, many, 4, &count));
+    CHECK(3, count);
+    CHECK(4, many[2].start);
+    CHECK(9, many[3].start);
+    CHECK(CS_STOPPED, cs_pattern_spans(&slot, BYTES("a aba"), SIZE_MAX, many, 2, &count));
+    CHECK(2, count);
+    CHECK(CS_STOPPED, cs_pattern_spans(&slot, BYTES("a aba"), 0, many, 4, &count));
+    CHECK(0, count);
+    CHECK(CS_STOPPED, cs_pattern_spans(&slot, BYTES("a aba"), 1, many, 4, &count));
+    CHECK(1, count);
+    CHECK(CS_OK, cs_pattern_word_spans(&slot, BYTES("a aba"), SIZE_MAX, many, 4, &count));
+    CHECK(1, count);
+    CHECK(1, many[0].end);
+    cs_pattern_free(&slot);
+
+    CHECK(CS_OK, cs_count_lines(BYTES("a\n\nb\n"), 0, 5, &count));
+    CHECK(3, count);
+    CHECK(CS_OK, cs_count_lines(BYTES("a\n\nb\n"), 2, 4, &count));
+    CHECK(1, count);
+    CHECK(CS_OK, cs_count_lines(BYTES("a"), 1, 1, &count));
+    CHECK(0, count);
+    CHECK(CS_MISUSE, cs_count_lines(BYTES("a"), 1, 2, &count));
+    CHECK(CS_MISUSE, cs_count_lines(BYTES("ab"), 2, 1, &count));
+    CHECK(0, count);
+}
+
 static const char *const texts[] = {"alpha\nmarker here\n", "beta\n", "gamma\nmarker\nmarkers"};
 
 static int32_t read_text(void *context, uint32_t id, const uint8_t **text, size_t *len) {
@@ -354,6 +441,7 @@ static void reports(void) {
 int main(void) {
     patterns();
     lines();
+    spans();
     indexes();
     building();
     merging();

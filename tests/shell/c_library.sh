@@ -1,7 +1,8 @@
 #!/bin/sh
 # Tests the library for C and Rust: C programs under ASan and UBSan, the example of docs/USE.md, and the Rust crate.
 # usage: tests/shell/c_library.sh PROGRAM
-# RANDOM_PATTERNS is the number of random patterns and texts that the library and the program are both asked (now 1000).
+# RANDOM_PATTERNS is the number of random patterns and texts that the library and the program are both asked (now 1000), and
+# RANDOM_SPANS that of the patterns whose matches are compared with brute force (now 20000).
 
 . "$(dirname -- "$0")/library.sh"
 
@@ -45,15 +46,22 @@ printf 'marker\n\nmarkers' > "$fresh/src/b.c"
 holds "CSEARCHINDEX='$fresh/index' '$program' cindex '$fresh/src'"
 printf 'marker\nx(\n^$\n' | "$fresh/server" "$fresh/index" > "$fresh/came" 2>&1
 cat > "$fresh/wanted" <<END
-$fresh/src/a.c:2:a marker here
-$fresh/src/b.c:1:marker
-$fresh/src/b.c:3:markers
+$fresh/src/a.c:2:a [marker] here
+$fresh/src/b.c:1:[marker]
+$fresh/src/b.c:3:[marker]s
 3 lines
 error: a group is not closed, at byte 1
 $fresh/src/b.c:2:
 1 lines
 END
 same came wanted
+
+# ---- where in a line a match is ------------------------------------------------------------------------------------------------
+if command -v python3 > /dev/null; then
+    holds "tests/runs/spans.py '$built/libcodesearch.so' ${RANDOM_SPANS:-20000}"
+else
+    skipped 'random patterns beside brute force: python3 is not installed'
+fi
 
 # ---- the Rust crate -----------------------------------------------------------------------------------------------------------
 if command -v cargo > /dev/null; then

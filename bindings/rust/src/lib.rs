@@ -183,6 +183,57 @@ impl Pattern {
         Ok(count)
     }
 
+    /// The first match of a line that begins at an offset or later: the leftmost one, and of those that begin there the longest.
+    /// There is none after the line.
+    pub fn find(&mut self, line: &[u8], from: usize) -> Option<Range<usize>> {
+        let mut span = sys::Span::default();
+        let found = unsafe { sys::cs_pattern_find(&mut self.slot, line.as_ptr(), line.len(), from, &mut span) };
+        (found == 1).then_some(span.start..span.end)
+    }
+
+    /// The first match that begins at the end of another or later, and ends after it.
+    pub fn find_after(&mut self, line: &[u8], last: &Range<usize>) -> Option<Range<usize>> {
+        let (last, mut span) = (sys::Span { start: last.start, end: last.end }, sys::Span::default());
+        let found = unsafe { sys::cs_pattern_find_after(&mut self.slot, line.as_ptr(), line.len(), &last, &mut span) };
+        (found == 1).then_some(span.start..span.end)
+    }
+
+    /// The first match that begins at an offset or later and is a whole word: no word byte (an ASCII letter or digit, or `_`)
+    /// stands before it, and none after it.
+    pub fn find_word(&mut self, line: &[u8], from: usize) -> Option<Range<usize>> {
+        let mut span = sys::Span::default();
+        let found = unsafe { sys::cs_pattern_find_word(&mut self.slot, line.as_ptr(), line.len(), from, &mut span) };
+        (found == 1).then_some(span.start..span.end)
+    }
+
+    /// The first whole word that begins at the end of another match or later, and ends after it.
+    pub fn find_word_after(&mut self, line: &[u8], last: &Range<usize>) -> Option<Range<usize>> {
+        let (last, mut span) = (sys::Span { start: last.start, end: last.end }, sys::Span::default());
+        let found = unsafe { sys::cs_pattern_find_word_after(&mut self.slot, line.as_ptr(), line.len(), &last, &mut span) };
+        (found == 1).then_some(span.start..span.end)
+    }
+
+    /// The matches of a line in their order.
+    pub fn spans<'p, 'b>(&'p mut self, line: &'b [u8]) -> Spans<'p, 'b> {
+        Spans { pattern: self, line, whole: false, last: None, is_over: false }
+    }
+
+    /// Those that are whole words.
+    pub fn words<'p, 'b>(&'p mut self, line: &'b [u8]) -> Spans<'p, 'b> {
+        Spans { pattern: self, line, whole: true, last: None, is_over: false }
+    }
+
+    /// At most `room` of the matches of a line, and whether there may be more: all of them may take time that is quadratic in the
+    /// line, so the search stops after the match at which it has read as many bytes as the budget. With `whole` those that are
+    /// whole words.
+    pub fn spans_within(&mut self, line: &[u8], whole: bool, budget: usize, room: usize) -> (Vec<Range<usize>>, bool) {
+        let call = if whole { sys::cs_pattern_word_spans } else { sys::cs_pattern_spans };
+        let (mut spans, mut count) = (vec![sys::Span::default(); room], 0);
+        // SAFETY: the buffer is as long as said.
+        let code = unsafe { call(&mut self.slot, line.as_ptr(), line.len(), budget, spans.as_mut_ptr(), room, &mut count) };
+        (spans[..count].iter().map(|span| span.start..span.end).collect(), code < 0)
+    }
+
     /// The ids of the names whose text may have a matching line, ascending.
     pub fn candidates(&mut self, index: &Index<'_>) -> Result<Vec<u32>, Error> {
         let bytes = index.bytes;
@@ -234,6 +285,42 @@ impl<'b> Iterator for Lines<'_, 'b> {
             }
         }
     }
+}
+
+/// The matches of a line, in order.
+pub struct Spans<'p, 'b> {
+    pattern: &'p mut Pattern,
+    line: &'b [u8],
+    whole: bool,
+    last: Option<Range<usize>>,
+    is_over: bool,
+}
+
+impl Iterator for Spans<'_, '_> {
+    type Item = Range<usize>;
+
+    fn next(&mut self) -> Option<Self::Item> {
+        if self.is_over {
+            return None;
+        }
+        let next = match (&self.last, self.whole) {
+            (None, false) => self.pattern.find(self.line, 0),
+            (None, true) => self.pattern.find_word(self.line, 0),
+            (Some(last), false) => self.pattern.find_after(self.line, last),
+            (Some(last), true) => self.pattern.find_word_after(self.line, last),
+        };
+        self.is_over = next.is_none();
+        self.last = next.clone();
+        next
+    }
+}
+
+/// The number of newlines of a text in a range, or `None` if that is not within the text.
+pub fn count_lines(text: &[u8], range: Range<usize>) -> Option<usize> {
+    let mut count = 0;
+    // SAFETY: the pointer and the length are those of the slice.
+    let code = unsafe { sys::cs_count_lines(text.as_ptr(), text.len(), range.start, range.end, &mut count) };
+    (code == 0).then_some(count)
 }
 
 /// Why an index takes no text, if so.

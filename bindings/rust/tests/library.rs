@@ -1,4 +1,5 @@
-use codesearch::{scan, BuildFault, Builder, Error, Index, IndexFault, MergeFault, Pattern, PatternFault, Skip, Style};
+use codesearch::{count_lines, scan, BuildFault, Builder, Error, Index, IndexFault, MergeFault, Pattern, PatternFault, Skip, Style};
+use std::ops::Range;
 
 fn built(paths: &[&str], files: &[(&str, &str)]) -> Vec<u8> {
     let mut builder = Builder::new(paths).unwrap();
@@ -36,6 +37,27 @@ fn patterns_match_lines() {
     assert_eq!(Pattern::new("x(a", false).err(), Some(Error::Pattern(PatternFault::OpenGroup, 1)));
     assert_eq!(Pattern::new("a**", false).err().unwrap().to_string(), "bad pattern at byte 2: a repeat of a repeat");
     assert_eq!(Pattern::new("É", true).unwrap().is_match("É".as_bytes()), Ok(true));
+}
+
+#[test]
+fn matches_have_offsets() {
+    let mut pattern = Pattern::new("a|ab|aab", false).unwrap();
+    assert_eq!((pattern.find(b"xaab", 0), pattern.find(b"xaab", 2), pattern.find(b"xaab", 4)), (Some(1..4), Some(2..4), None));
+    assert_eq!((pattern.find(b"xaab", 5), pattern.find_after(b"xaab", &(0..9))), (None, None));
+    let mut letters = Pattern::new("x*", false).unwrap();
+    assert_eq!(letters.spans(b"axxb").collect::<Vec<_>>(), [0..0, 1..3, 4..4]);
+    assert_eq!(letters.words(b"x xx-ax").collect::<Vec<_>>(), [0..1, 2..4]);
+    let mut shorter = Pattern::new("a|a-b", false).unwrap();
+    assert_eq!((shorter.find(b"a-bc", 0), shorter.find_word(b"a-bc", 0)), (Some(0..3), Some(0..1)));
+    assert_eq!(shorter.spans_within(b"a a a a", false, usize::MAX, 2), (vec![0..1, 2..3], true));
+    assert_eq!(shorter.spans_within(b"a a", true, usize::MAX, 9), (vec![0..1, 2..3], false));
+    assert_eq!(shorter.spans_within(b"a a", false, 0, 9), (vec![], true));
+}
+
+#[test]
+fn newlines_are_counted() {
+    assert_eq!((count_lines(b"a\n\nb\n", 0..5), count_lines(b"a\n\nb\n", 2..4), count_lines(b"", 0..0)), (Some(3), Some(1), Some(0)));
+    assert_eq!((count_lines(b"a\n", 1..3), count_lines(b"a\n", Range { start: 2, end: 1 })), (None, None));
 }
 
 #[test]

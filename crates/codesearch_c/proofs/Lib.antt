@@ -1,4 +1,5 @@
 pub mod Boxes
 pub mod MatchingLineLemmas
 pub mod BuildingLemmas
+pub mod SpanLemmas
 mod Examples

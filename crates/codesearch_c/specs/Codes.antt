@@ -1,5 +1,5 @@
 -- The codes of errors: the numbers of `codesearch.h`.
-use Rattle.std.specs.Prelude.{ℤ, pos, negsuc}
+use Rattle.std.specs.Prelude.{ℤ, pos, negsuc, Bool, if◌then◌else◌}
 use Rattle.cs_syntax.specs.declared.fault.PatternFault.{PatternFault}
 use Rattle.cs_syntax.specs.declared.fault.PatternFault.TheVariants as pattern
 use Rattle.cs_index.specs.declared.fault.IndexFault.{IndexFault}
@@ -28,6 +28,13 @@ no_entry = negsuc 3
 
 abbrev pub misuse : ℤ
 misuse = negsuc 4
+
+abbrev pub stopped : ℤ
+stopped = negsuc 5
+
+-- of a list of spans
+abbrev pub list_code : Bool → ℤ
+list_code is_stopped = if is_stopped then stopped else done
 
 -- -20 and below
 abbrev pub pattern_code : PatternFault → ℤ

@@ -4,6 +4,8 @@ pub mod Codes
 pub mod Copies
 pub mod MatchingLines
 pub mod Patterns
+pub mod Spans
+pub mod FindsSpans
 pub mod Reports
 pub mod Building
 pub mod Merging

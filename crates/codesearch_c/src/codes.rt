@@ -1,6 +1,6 @@
 // The codes of errors: the numbers of `codesearch.h`.
 ghost use Rattle.std.specs.Prelude.{◌≡◌};
-ghost use Rattle.codesearch_c.specs.Codes.{pattern_code, index_code, build_code, merge_code, reason_code};
+ghost use Rattle.codesearch_c.specs.Codes.{list_code, pattern_code, index_code, build_code, merge_code, reason_code};
 
 use cs_index::{BuildFault, IndexFault};
 use cs_merge::MergeFault;
@@ -19,6 +19,15 @@ pub(crate) const ROOM: i32 = -3;
 pub(crate) const NO_ENTRY: i32 = -4;
 /// The slot is empty, filled, or holds something else.
 pub(crate) const MISUSE: i32 = -5;
+/// The budget or the room is used up.
+pub(crate) const STOPPED: i32 = -6;
+
+/// The code of a list of spans.
+pub(crate) fn list_code(is_stopped: bool) -> i32
+    ensures { result ≡ list_code is_stopped }
+{
+    if is_stopped { STOPPED } else { OK }
+}
 
 /// The code of a pattern's error: -20 and below, in the order of the variants.
 pub(crate) fn pattern_code(fault: PatternFault) -> i32

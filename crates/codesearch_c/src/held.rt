@@ -2,18 +2,19 @@
 ghost use Rattle.std.specs.Prelude.{◌≡◌};
 
 use cs_index::Builder;
-use cs_match::{Cache, Program};
+use cs_match::{Cache, Pass, Program};
 use cs_syntax::Pattern;
 use cs_trigram::{Query, Scanner};
 use std::marker::Model;
 
-/// A pattern, its query and its program. The cache is that of the last matcher; it is made at the first match. Contracts
-/// see the pattern and the query.
+/// A pattern, its query and its program. The cache is that of the last matcher; it is made at the first match. The pass is
+/// the memory of a finder, made with the program; only a call takes it out. Contracts see the pattern and the query.
 pub struct HeldPattern {
     pub(crate) pattern: Pattern,
     pub(crate) query: Query,
     pub(crate) program: Program,
     pub(crate) cache: Option<Cache>,
+    pub(crate) pass: Option<Pass>,
 }
 
 // A body that owns a held pattern or builder drops it by a call. A derived `drop` would stand there with each field.
@@ -24,6 +25,7 @@ impl Drop for HeldPattern {
             query: _query,
             program: _program,
             cache: _cache,
+            pass: _pass,
         } = self;
     }
 }
@@ -39,11 +41,13 @@ impl Model for HeldPattern {
     ghost use Rattle.cs_match.specs.Cached.{IsCacheOf};
     ghost use Rattle.cs_match.specs.SameLines.{MatchSameLines};
     ghost use Rattle.cs_trigram.specs.QueryOf.{IsQueryOf};
+    ghost use Rattle.codesearch_c.specs.FindsSpans.{FindsSpans};
 
     ghost view = { λ held. record { pattern = held.pattern; query = held.query } };
 
     ghost invariant = { λ held. MatchSameLines held.program held.pattern
-        × IsQueryOf false held.pattern held.query × IfSome held.cache (IsCacheOf held.program) };
+        × IsQueryOf false held.pattern held.query × IfSome held.cache (IsCacheOf held.program)
+        × FindsSpans held.program held.pattern held.pass };
 }
 
 /// An index under construction, and the scanner of its texts.

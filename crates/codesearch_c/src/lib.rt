@@ -1,8 +1,8 @@
 //! The library for callers in C and Rust (`include/codesearch.h`). An index is bytes of the caller's own; a pattern, a
 //! builder and bytes that the library made are held in slots of the caller's own. Each export calls functions of the
 //! crates below, and states in their words what it answers and leaves. Read `specs/Slots.antt` first, then
-//! `specs/Codes.antt`, `specs/Copies.antt`, `specs/MatchingLines.antt`, `specs/Patterns.antt`, `specs/Reports.antt`,
-//! `specs/Building.antt` and `specs/Merging.antt`.
+//! `specs/Codes.antt`, `specs/Copies.antt`, `specs/MatchingLines.antt`, `specs/Patterns.antt`, `specs/Spans.antt`,
+//! `specs/Reports.antt`, `specs/Building.antt` and `specs/Merging.antt`.
 //!
 //! An index is bytes of the caller, opened anew in constant time by each call (`Index::reopen`), whose contract
 //! requires that they have opened before; only a merge, which reads all of both indexes, opens any bytes.
@@ -34,6 +34,7 @@
 mod building;
 mod codes;
 mod copying;
+mod finding;
 mod held;
 mod indexing;
 mod lines;
@@ -42,4 +43,5 @@ mod merging;
 mod patterns;
 mod reports;
 mod slot;
+mod spans;
 mod texts;

@@ -11,7 +11,7 @@ use crate::codes::{MEMORY, MISUSE, NOT_UTF8, OK, pattern_code};
 use crate::held::{Held, HeldPattern};
 use crate::lines::Line;
 use crate::slot::Slot;
-use cs_match::Program;
+use cs_match::{Pass, Program};
 use cs_syntax::{Pattern, parse};
 use cs_trigram::query;
 use std::alloc::{AllocError, Global};
@@ -84,11 +84,13 @@ fn prepared(alloc: Global, pattern: Pattern) -> Result<Box<Held>, AllocError>
 {
     let query = query(alloc, &pattern)?;
     let program = Program::compile(alloc, &pattern)?;
+    let pass = Pass::new(alloc, &program)?;
     let held = HeldPattern {
         pattern,
         query,
         program,
         cache: None,
+        pass: Some(pass),
     };
     match Box::new(alloc, Held::Pattern(held)) {
         Ok(held) => Ok(held),

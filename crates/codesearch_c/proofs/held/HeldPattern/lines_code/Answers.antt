@@ -9,6 +9,7 @@ invariant_of-self-2 c = (
   c.self.invariant.0,
   c.self.invariant.1,
   λ program same. c.into_cache.ensures program (same ∙ sym (c.list_lines-found.ensures.same ∙ c.in-Ok.ensures.tree)),
+  c.self.invariant.3,
 )
 
 pub returns-clause-code : goal.returns-clause-code

@@ -33,6 +33,7 @@ invariant_of-self-in-Ok-answer c = (
   c.self.invariant.1,
   λ program same. c.into_cache.ensures program
       (same ∙ sym (c.grep_text-answer.ensures.same ∙ c.in-Ok-matcher_of.ensures.tree)),
+  c.self.invariant.3,
 )
 
 pub invariant_of-self-2 : goal.invariant_of-self-2
@@ -41,6 +42,7 @@ invariant_of-self-2 c = (
   c.self.invariant.1,
   λ program same. c.into_cache.ensures program
       (same ∙ sym (c.grep_text-answer.ensures.same ∙ c.in-Ok-matcher_of.ensures.tree)),
+  c.self.invariant.3,
 )
 
 pub returns-in-Ok-answer-clause-code : goal.returns-in-Ok-answer-clause-code

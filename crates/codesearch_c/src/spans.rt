@@ -1,0 +1,209 @@
+// Exports that say where in a line a pattern matches.
+ghost use Rattle.std.specs.Prelude.{◌≡◌, ◌+◌, true, false, nat_eq, count_by};
+ghost use Rattle.cs_match.specs.Lines.{newline};
+ghost use Rattle.codesearch_c.specs.Slots.{OnPattern};
+ghost use Rattle.codesearch_c.specs.Patterns.{IsMisuse, Keeps};
+ghost use Rattle.codesearch_c.specs.Spans.{IsSpanCode, IsSpansCode, IsNewlinesCode};
+
+use crate::codes::{MISUSE, OK};
+use crate::finding::Order;
+use crate::held::Held;
+use crate::slot::Slot;
+use cs_match::{Span, Wanted};
+use std::alloc::Global;
+
+/// The first match of a line from an offset on: 1, 0 if there is none, or a code.
+#[unsafe(no_mangle)]
+pub extern "C" fn cs_pattern_find(
+    alloc: Global,
+    slot: &mut Slot,
+    line: &[u8],
+    from: usize,
+    span: &mut Span,
+) -> i32
+    ensures { OnPattern slot.old.handle.value
+        (IsMisuse slot.old.handle.value slot.new.handle.value result × (span.new ≡ span.old))
+        (λ held. IsSpanCode false held.pattern line.now from from span.old span.new result
+        × Keeps held slot.new.handle.value) }
+{
+    let Some(mut held) = slot.take(alloc) else {
+        return MISUSE;
+    };
+    let wanted = Wanted {
+        whole: false,
+        from,
+        least: from,
+    };
+    let code = match &mut *held {
+        Held::Pattern(pattern) => pattern.find_code(line, wanted, span),
+        _ => MISUSE,
+    };
+    slot.fill(held);
+    code
+}
+
+/// The first match from the end of another on that ends after it: 1, 0 if there is none, or a code.
+#[unsafe(no_mangle)]
+pub extern "C" fn cs_pattern_find_after(
+    alloc: Global,
+    slot: &mut Slot,
+    line: &[u8],
+    last: &Span,
+    span: &mut Span,
+) -> i32
+    ensures { OnPattern slot.old.handle.value
+        (IsMisuse slot.old.handle.value slot.new.handle.value result × (span.new ≡ span.old))
+        (λ held. IsSpanCode false held.pattern line.now last.now.end (last.now.end + 1)
+        span.old span.new result
+        × Keeps held slot.new.handle.value) }
+{
+    let Some(mut held) = slot.take(alloc) else {
+        return MISUSE;
+    };
+    let code = match &mut *held {
+        Held::Pattern(pattern) => pattern.after_code(line, false, *last, span),
+        _ => MISUSE,
+    };
+    slot.fill(held);
+    code
+}
+
+/// The matches of a line, as far as room and budget go, and how many are listed.
+#[unsafe(no_mangle)]
+pub extern "C" fn cs_pattern_spans(
+    alloc: Global,
+    slot: &mut Slot,
+    line: &[u8],
+    budget: usize,
+    spans: &mut [Span],
+    count: &mut usize,
+) -> i32
+    ensures { OnPattern slot.old.handle.value
+        (IsMisuse slot.old.handle.value slot.new.handle.value result
+        × (spans.new ≡ spans.old) × (count.new ≡ count.old))
+        (λ held. IsSpansCode false held.pattern line.now spans.old spans.new count.new result
+        × Keeps held slot.new.handle.value) }
+{
+    let Some(mut held) = slot.take(alloc) else {
+        return MISUSE;
+    };
+    let order = Order {
+        whole: false,
+        budget,
+    };
+    let code = match &mut *held {
+        Held::Pattern(pattern) => pattern.spans_code(line, order, spans, count),
+        _ => MISUSE,
+    };
+    slot.fill(held);
+    code
+}
+
+/// The first match from an offset on that is a whole word: 1, 0 if there is none, or a code.
+#[unsafe(no_mangle)]
+pub extern "C" fn cs_pattern_find_word(
+    alloc: Global,
+    slot: &mut Slot,
+    line: &[u8],
+    from: usize,
+    span: &mut Span,
+) -> i32
+    ensures { OnPattern slot.old.handle.value
+        (IsMisuse slot.old.handle.value slot.new.handle.value result × (span.new ≡ span.old))
+        (λ held. IsSpanCode true held.pattern line.now from from span.old span.new result
+        × Keeps held slot.new.handle.value) }
+{
+    let Some(mut held) = slot.take(alloc) else {
+        return MISUSE;
+    };
+    let word = Wanted {
+        whole: true,
+        from,
+        least: from,
+    };
+    let code = match &mut *held {
+        Held::Pattern(pattern) => pattern.find_code(line, word, span),
+        _ => MISUSE,
+    };
+    slot.fill(held);
+    code
+}
+
+/// The first such match from the end of another on that ends after it: 1, 0 if there is none, or a code.
+#[unsafe(no_mangle)]
+pub extern "C" fn cs_pattern_find_word_after(
+    alloc: Global,
+    slot: &mut Slot,
+    line: &[u8],
+    last: &Span,
+    span: &mut Span,
+) -> i32
+    ensures { OnPattern slot.old.handle.value
+        (IsMisuse slot.old.handle.value slot.new.handle.value result × (span.new ≡ span.old))
+        (λ held. IsSpanCode true held.pattern line.now last.now.end (last.now.end + 1)
+        span.old span.new result
+        × Keeps held slot.new.handle.value) }
+{
+    let Some(mut held) = slot.take(alloc) else {
+        return MISUSE;
+    };
+    let code = match &mut *held {
+        Held::Pattern(pattern) => pattern.after_code(line, true, *last, span),
+        _ => MISUSE,
+    };
+    slot.fill(held);
+    code
+}
+
+/// The matches of a line that are whole words, as far as room and budget go, and how many are listed.
+#[unsafe(no_mangle)]
+pub extern "C" fn cs_pattern_word_spans(
+    alloc: Global,
+    slot: &mut Slot,
+    line: &[u8],
+    budget: usize,
+    spans: &mut [Span],
+    count: &mut usize,
+) -> i32
+    ensures { OnPattern slot.old.handle.value
+        (IsMisuse slot.old.handle.value slot.new.handle.value result
+        × (spans.new ≡ spans.old) × (count.new ≡ count.old))
+        (λ held. IsSpansCode true held.pattern line.now spans.old spans.new count.new result
+        × Keeps held slot.new.handle.value) }
+{
+    let Some(mut held) = slot.take(alloc) else {
+        return MISUSE;
+    };
+    let words = Order {
+        whole: true,
+        budget,
+    };
+    let code = match &mut *held {
+        Held::Pattern(pattern) => pattern.spans_code(line, words, spans, count),
+        _ => MISUSE,
+    };
+    slot.fill(held);
+    code
+}
+
+/// The number of newlines between two offsets of a text.
+#[unsafe(no_mangle)]
+pub extern "C" fn cs_count_lines(text: &[u8], from: usize, to: usize, count: &mut usize) -> i32
+    ensures { IsNewlinesCode text.now from to count.old count.new result }
+{
+    if to < from {
+        return MISUSE;
+    }
+    if text.len() < to {
+        return MISUSE;
+    }
+    *count = newlines(&text[from..to]);
+    OK
+}
+
+/// The number of newlines of a text.
+fn newlines(text: &[u8]) -> usize
+    ensures { result ≡ count_by (λ b. nat_eq b newline) text.now }
+{
+    text.iter().filter(|byte| **byte == b'\n').count()
+}

@@ -103,7 +103,7 @@ impl Walk {
         }
     }
 
-    /// One step: something is told, or a folder is entered or left.
+    /// One step: an answer is found, or a folder is entered or left.
     fn step<T: Look>(&mut self, tree: &mut T) -> Result<Step, AllocError>
         ensures steps { IfOk result (λ step. InTree (T.snapshot tree.old)
             (λ items. IsWalkIn items self.old → StepGives items self.old self.new step)) }

@@ -127,8 +127,8 @@ module _ (n : ℕ) (p q r s rest : List ℕ) (at-p : length p ≡ n) (at-q : len
   part : length parts / 4 ≡ n
   part = omega (arith, all, few)
 
-  front : (xs ys : List ℕ) → length xs ≡ n → take n (xs ++ ys) ≡ xs
-  front xs ys e = ap (λ k. take k (xs ++ ys)) (sym e) ∙ take-append_seam xs ys
+  prefix : (xs ys : List ℕ) → length xs ≡ n → take n (xs ++ ys) ≡ xs
+  prefix xs ys e = ap (λ k. take k (xs ++ ys)) (sym e) ∙ take-append_seam xs ys
 
   back : (xs ys : List ℕ) → length xs ≡ n → drop n (xs ++ ys) ≡ ys
   back xs ys e = ap (λ k. drop k (xs ++ ys)) (sym e) ∙ drop-append_seam xs ys
@@ -141,7 +141,7 @@ module _ (n : ℕ) (p q r s rest : List ℕ) (at-p : length p ≡ n) (at-q : len
   pub quarter-a : quarter 0 parts ≡ p
   quarter-a =
       let at : 0 * n ≡ 0 = omega arith in
-      quarter-is 0 ∙ ap (λ m. take n (drop m parts)) at ∙ front p (q ++ (r ++ (s ++ rest))) at-p
+      quarter-is 0 ∙ ap (λ m. take n (drop m parts)) at ∙ prefix p (q ++ (r ++ (s ++ rest))) at-p
 
   after_p : drop n parts ≡ q ++ (r ++ (s ++ rest))
   after_p = back p (q ++ (r ++ (s ++ rest))) at-p
@@ -149,7 +149,7 @@ module _ (n : ℕ) (p q r s rest : List ℕ) (at-p : length p ≡ n) (at-q : len
   pub quarter-b : quarter 1 parts ≡ q
   quarter-b =
       let at : 1 * n ≡ n = omega arith in
-      quarter-is 1 ∙ ap (λ m. take n (drop m parts)) at ∙ ap (take n) after_p ∙ front q (r ++ (s ++ rest)) at-q
+      quarter-is 1 ∙ ap (λ m. take n (drop m parts)) at ∙ ap (take n) after_p ∙ prefix q (r ++ (s ++ rest)) at-q
 
   after_q : drop (n + n) parts ≡ r ++ (s ++ rest)
   after_q = sym (drop-drop n n parts) ∙ ap (drop n) after_p ∙ back q (r ++ (s ++ rest)) at-q
@@ -157,7 +157,7 @@ module _ (n : ℕ) (p q r s rest : List ℕ) (at-p : length p ≡ n) (at-q : len
   pub quarter-c : quarter 2 parts ≡ r
   quarter-c =
       let at : 2 * n ≡ n + n = omega arith in
-      quarter-is 2 ∙ ap (λ m. take n (drop m parts)) at ∙ ap (take n) after_q ∙ front r (s ++ rest) at-r
+      quarter-is 2 ∙ ap (λ m. take n (drop m parts)) at ∙ ap (take n) after_q ∙ prefix r (s ++ rest) at-r
 
   after_r : drop (n + n + n) parts ≡ s ++ rest
   after_r = sym (drop-drop n (n + n) parts) ∙ ap (drop n) after_q ∙ back r (s ++ rest) at-r
@@ -165,7 +165,7 @@ module _ (n : ℕ) (p q r s rest : List ℕ) (at-p : length p ≡ n) (at-q : len
   pub quarter-d : quarter 3 parts ≡ s
   quarter-d =
       let at : 3 * n ≡ n + n + n = omega arith in
-      quarter-is 3 ∙ ap (λ m. take n (drop m parts)) at ∙ ap (take n) after_r ∙ front s rest at-s
+      quarter-is 3 ∙ ap (λ m. take n (drop m parts)) at ∙ ap (take n) after_r ∙ prefix s rest at-s
 
 pub length-quarter : (ends : List ℕ) (k : ℕ) → k < 4 → length (quarter k ends) ≡ length ends / 4
 length-quarter ends k low =

@@ -23,7 +23,7 @@ use Rattle.cs_match.specs.declared.state.State.{State}
 use Rattle.cs_match.specs.ByteClasses.{AreAlike}
 use Rattle.cs_match.specs.declared.byte_classes.ByteClasses.{ByteClasses}
 use Rattle.cs_match.specs.declared.table.Table.{Table}
-use Rattle.cs_match.specs.LazyDfa.{first_cell}
+use Rattle.cs_match.specs.LazyDfa.{first_transition}
 use Rattle.cs_match.specs.Table.{number_after}
 use Rattle.cs_match.specs.Size.{nodes}
 use Rattle.cs_match.specs.Work.{words, byte_work}
@@ -99,7 +99,7 @@ whole_of_two = refl
 -- a table with a class for each of two bytes
 abbrev two_classes : Table
 two_classes = record {
-  cells = record { ref_ptr = (0, 0); now = 0 ∷ 2 ∷ 5 ∷ [] };
+  transitions = record { ref_ptr = (0, 0); now = 0 ∷ 2 ∷ 5 ∷ [] };
   of = record { ref_ptr = (0, 0); now = 0 ∷ 1 ∷ [] };
   count = 2;
 }
@@ -143,18 +143,18 @@ end_before_a_newline = refl
 no_end_before_a_letter : accepts_before line_end (state line_end []) 97 ≡ false
 no_end_before_a_letter = refl
 
--- three classes, of which the second is that of the newline
+-- three classes; the second is that of the newline
 abbrev three_classes : ByteClasses
 three_classes = record { of = 0 ∷ 0 ∷ 0 ∷ 0 ∷ 0 ∷ 0 ∷ 0 ∷ 0 ∷ 0 ∷ 0 ∷ 1 ∷ []; firsts = []; count = 3 }
 
--- the transitions of the first state are unknown, the match state is absorbing, and the dead one but for the newline
-first_is_unknown : (first_cell three_classes 0 ≡ 3) × (first_cell three_classes 12 ≡ 3)
+-- the transitions of the first state are unknown, the match state is absorbing, and the dead one except the newline
+first_is_unknown : (first_transition three_classes 0 ≡ 3) × (first_transition three_classes 12 ≡ 3)
 first_is_unknown = (refl, refl)
 
-match_is_absorbing : first_cell three_classes 7 ≡ 6
+match_is_absorbing : first_transition three_classes 7 ≡ 6
 match_is_absorbing = refl
 
-dead_ends_with_its_line : (first_cell three_classes 9 ≡ 9) × (first_cell three_classes 10 ≡ 12)
+dead_ends_with_its_line : (first_transition three_classes 9 ≡ 9) × (first_transition three_classes 10 ≡ 12)
 dead_ends_with_its_line = (refl, refl)
 
 -- of a run the first position is entered with it, and each other one after the position before it

@@ -23,23 +23,23 @@ use Rattle.cs_match.proofs.DfaLineLemmas.{NeverAccepts, never_found}
 use Rattle.cs_match.proofs.ScanLemmas.{IsByte}
 use Rattle.cs_match.proofs.TransitionLemmas.{row_in, some_classes, stands_slot, stands_start, transition, unknown_slot, no_first, first_unknown, first_match}
 
-module _ (t : Tree) (classes : ByteClasses) (states : StateList) (cells : List ℕ) (are : AreClasses t classes)
-    (right : AreStates t classes.count states) (correct : IsTable t classes states.items cells)
-    (r : Table) (cells_is : r.cells.now ≡ cells) (of_is : r.of.now ≡ classes.of) (count_is : r.count ≡ classes.count) where
+module _ (t : Tree) (classes : ByteClasses) (states : StateList) (transitions : List ℕ) (are : AreClasses t classes)
+    (right : AreStates t classes.count states) (correct : IsTable t classes states.items transitions)
+    (r : Table) (transitions_is : r.transitions.now ≡ transitions) (of_is : r.of.now ≡ classes.of) (count_is : r.count ≡ classes.count) where
   some : 0 < classes.count
   some = some_classes t classes are
 
   class_is : (b : ℕ) → class_of r b ≡ get_or classes.of b 0
   class_is b = ap (λ xs. get_or xs b 0) of_is
 
-  next_is : (number b : ℕ) → next_number r number b ≡ get_or cells (number + get_or classes.of b 0) 0
-  next_is number b = ap (λ xs. get_or xs (number + class_of r b) 0) cells_is ∙ ap (λ k. get_or cells (number + k) 0) (class_is b)
+  next_is : (number b : ℕ) → next_number r number b ≡ get_or transitions (number + get_or classes.of b 0) 0
+  next_is number b = ap (λ xs. get_or xs (number + class_of r b) 0) transitions_is ∙ ap (λ k. get_or transitions (number + k) 0) (class_is b)
 
   row_of : (slot number : ℕ) → slot < length states.items → number ≡ slot * classes.count → IsRow r number
   row_of slot number lt is = record {
     slot = slot;
     is = is ∙ ap (λ k. slot * k) (sym count_is);
-    within = omega (arith, is, count_is, row_in classes.count slot (length states.items) lt, correct.rows, ap length cells_is);
+    within = omega (arith, is, count_is, row_in classes.count slot (length states.items) lt, correct.rows, ap length transitions_is);
   }
 
   pub has_rows : HasRows r
@@ -48,17 +48,17 @@ module _ (t : Tree) (classes : ByteClasses) (states : StateList) (cells : List �
     class = λ b lt. omega (arith, class_is b, are.range b lt, count_is);
     first = row_of 4 (table.start r) (omega (arith, right.first)) (ap (λ k. 4 * k) count_is);
     closed = λ number b row lt.
-        let within : number + get_or classes.of b 0 < length cells =
-        omega (arith, row.within, are.range b lt, count_is, ap length cells_is) in
+        let within : number + get_or classes.of b 0 < length transitions =
+        omega (arith, row.within, are.range b lt, count_is, ap length transitions_is) in
         let at = correct.numbers (number + get_or classes.of b 0) within in
         row_of at.0 (next_number r number b) at.1 (next_is number b ∙ at.2);
     ends = λ number b row lt none.
         let number_is : number ≡ row.slot * classes.count = row.is ∙ ap (λ k. row.slot * k) count_is in
         let low : suc row.slot * classes.count ≤ length states.items * classes.count =
-        omega (arith, row.within, number_is, count_is, correct.rows, ap length cells_is) in
+        omega (arith, row.within, number_is, count_is, correct.rows, ap length transitions_is) in
         let lt_slot : row.slot < length states.items = omega (arith, le_of_mul-le-mul_right low some) in
-        absurd (no_first t classes states cells are right correct row.slot b lt_slot lt
-        (sym (ap (λ k. get_or cells (k + get_or classes.of b 0) 0) number_is) ∙ sym (next_is number b) ∙ none));
+        absurd (no_first t classes states transitions are right correct row.slot b lt_slot lt
+        (sym (ap (λ k. get_or transitions (k + get_or classes.of b 0) 0) number_is) ∙ sym (next_is number b) ∙ none));
   }
 
   pub stands_row : (number : ℕ) (n : State) → StandsFor t classes.count states.items number n → IsRow r number
@@ -70,20 +70,20 @@ module _ (t : Tree) (classes : ByteClasses) (states : StateList) (cells : List �
       IsTransition t classes.count states.items n b (next_number r number b)
   stands_next number b n lt stands =
       subst (λ x. IsTransition t classes.count states.items n b x) (sym (next_is number b))
-      (transition t classes states cells are right correct number n b stands lt)
+      (transition t classes states transitions are right correct number n b stands lt)
 
   pub stands_unknown : (number b : ℕ) (n : State) → b < 256 → StandsFor t classes.count states.items number n →
       next_number r number b ≡ classes.count →
       IsSlot states.items (number / classes.count) × (state_at t states.items (number / classes.count) ≡ n)
   stands_unknown number b n lt stands e =
-      unknown_slot t classes states cells are right correct number n b stands lt (sym (next_is number b) ∙ e)
+      unknown_slot t classes states transitions are right correct number n b stands lt (sym (next_is number b) ∙ e)
 
   -- the unknown state and the match state are absorbing
   at_unknown : (b : ℕ) → b < 256 → next_number r (table.unknown r) b ≡ table.unknown r
   at_unknown b lt =
       let k = classes.count + get_or classes.of b 0 in
       let within = are.range b lt in
-      next_is (table.unknown r) b ∙ ap (λ n. get_or cells (n + get_or classes.of b 0) 0) count_is
+      next_is (table.unknown r) b ∙ ap (λ n. get_or transitions (n + get_or classes.of b 0) 0) count_is
       ∙ correct.special k (omega arith) (omega (arith, within))
       ∙ first_unknown classes some (are.range 10 (omega arith)) k (inl (omega (arith, within))) ∙ sym count_is
 
@@ -91,7 +91,7 @@ module _ (t : Tree) (classes : ByteClasses) (states : StateList) (cells : List �
   at_match b lt =
       let k = 2 * classes.count + get_or classes.of b 0 in
       let within = are.range b lt in
-      next_is (matched r) b ∙ ap (λ n. get_or cells (2 * n + get_or classes.of b 0) 0) count_is
+      next_is (matched r) b ∙ ap (λ n. get_or transitions (2 * n + get_or classes.of b 0) 0) count_is
       ∙ correct.special k (omega (arith, some)) (omega (arith, within))
       ∙ first_match classes some (are.range 10 (omega arith)) k (omega arith) (omega (arith, within)) ∙ ap (λ n. 2 * n) (sym count_is)
 

@@ -15,18 +15,18 @@ use Rattle.cs_match.specs.CachedStates.{StateList}
 use Rattle.cs_match.specs.States.{start, successor, accepts_before, next_state, IsDead}
 use Rattle.cs_match.proofs.PositionCountLemmas.{scaled}
 use Rattle.cs_match.proofs.StateLemmas.{block_start}
-use Rattle.cs_match.specs.LazyDfa.{unknown_number, match_number, dead_number, start_number, state_at, IsSlot, StandsFor, cached, dead, Leads, found, next, IsTransition, unknown, known, first_cell, AreFirstRows, AreFirstStates, AreStates, IsTable}
+use Rattle.cs_match.specs.LazyDfa.{unknown_number, match_number, dead_number, start_number, state_at, IsSlot, StandsFor, cached, dead, Leads, found, next, IsTransition, unknown, known, first_transition, AreFirstRows, AreFirstStates, AreStates, IsTable}
 
 -- rows do not overlap
-pub same_cell : (count s r c d : ℕ) → c < count → d < count → s * count + c ≡ r * count + d → (s ≡ r) × (c ≡ d)
-same_cell count s r c d low high e =
+pub same_transition : (count s r c d : ℕ) → c < count → d < count → s * count + c ≡ r * count + d → (s ≡ r) × (c ≡ d)
+same_transition count s r c d low high e =
     let same : s ≡ r = sym (div-mul-add s count c low) ∙ ap (λ k. k / count) e ∙ div-mul-add r count d high in
     (same, omega (arith, e, ap (λ k. k * count) same))
 
 pub same_row : (count s r : ℕ) → 0 < count → s * count ≡ r * count → s ≡ r
-same_row count s r some e = (same_cell count s r 0 0 some some (omega (arith, e))).0
+same_row count s r some e = (same_transition count s r 0 0 some some (omega (arith, e))).0
 
--- a cell of a row is in the table
+-- a transition of a row is in the table
 pub in_rows : (count slot rows c : ℕ) → slot < rows → c < count → slot * count + c < rows * count
 in_rows count slot rows c low within = omega (arith, mul-add-lt slot count c rows low within)
 
@@ -126,9 +126,9 @@ leads_start t count states n b some right e stays =
     next stays (subst (λ (m : State). StandsFor t count states.items (start_number count) m) (sym (rw (eq-eqb b 10 e) refl))
     (stands_start t count states right)) (λ zero_count. omega (arith, some, zero_count)) (λ _. refl)
 
--- the cells of the special states
+-- the transitions of the special states
 module _ (classes : ByteClasses) (some : 0 < classes.count) (line : get_or classes.of 10 0 < classes.count) where
-  pub first_unknown : (k : ℕ) → (k < 2 * classes.count) ⊎ (4 * classes.count ≤ k) → first_cell classes k ≡ classes.count
+  pub first_unknown : (k : ℕ) → (k < 2 * classes.count) ⊎ (4 * classes.count ≤ k) → first_transition classes k ≡ classes.count
   first_unknown k (inl low) =
       rw (ne_eqb k (3 * classes.count + get_or classes.of 10 0) (λ e. omega (arith, e, low)), lt-ltb k (2 * classes.count) low) refl
   first_unknown k (inr high) =
@@ -140,7 +140,7 @@ module _ (classes : ByteClasses) (some : 0 < classes.count) (line : get_or class
         le-ltb k (4 * classes.count) high,
       ) refl
 
-  pub first_match : (k : ℕ) → 2 * classes.count ≤ k → k < 3 * classes.count → first_cell classes k ≡ 2 * classes.count
+  pub first_match : (k : ℕ) → 2 * classes.count ≤ k → k < 3 * classes.count → first_transition classes k ≡ 2 * classes.count
   first_match k low high =
       rw (
         ne_eqb k (3 * classes.count + get_or classes.of 10 0) (λ e. omega (arith, e, high)),
@@ -148,11 +148,11 @@ module _ (classes : ByteClasses) (some : 0 < classes.count) (line : get_or class
         lt-ltb k (3 * classes.count) high,
       ) refl
 
-  first_start : first_cell classes (3 * classes.count + get_or classes.of 10 0) ≡ 4 * classes.count
+  first_start : first_transition classes (3 * classes.count + get_or classes.of 10 0) ≡ 4 * classes.count
   first_start = rw (eq-eqb (3 * classes.count + get_or classes.of 10 0) (3 * classes.count + get_or classes.of 10 0) refl) refl
 
   first_dead : (k : ℕ) → 3 * classes.count ≤ k → k < 4 * classes.count → k ≢ 3 * classes.count + get_or classes.of 10 0 →
-      first_cell classes k ≡ 3 * classes.count
+      first_transition classes k ≡ 3 * classes.count
   first_dead k low high other =
       rw (
         ne_eqb k (3 * classes.count + get_or classes.of 10 0) other,
@@ -162,7 +162,7 @@ module _ (classes : ByteClasses) (some : 0 < classes.count) (line : get_or class
       ) refl
 
   -- each has the number of a row
-  pub first_slot : (k : ℕ) → (slot : ℕ) × (slot < 5) × (first_cell classes k ≡ slot * classes.count) × (1 ≤ slot)
+  pub first_slot : (k : ℕ) → (slot : ℕ) × (slot < 5) × (first_transition classes k ≡ slot * classes.count) × (1 ≤ slot)
   first_slot k =
       elim (cases_lt k (2 * classes.count)) [
         | inl low ↦ (1, omega arith, first_unknown k (inl low) ∙ omega arith, omega arith)
@@ -174,7 +174,7 @@ module _ (classes : ByteClasses) (some : 0 < classes.count) (line : get_or class
                     | inr high ↦ (1, omega arith, first_unknown k (inr high) ∙ omega arith, omega arith)
                     | inl low ↦
                         elim (cases_eq k (3 * classes.count + get_or classes.of 10 0)) [
-                          | inl e ↦ (4, omega arith, ap (first_cell classes) e ∙ first_start, omega arith)
+                          | inl e ↦ (4, omega arith, ap (first_transition classes) e ∙ first_start, omega arith)
                           | inr other ↦ (3, omega arith, first_dead k past low other, omega arith)
                         ]
                   ]
@@ -182,8 +182,8 @@ module _ (classes : ByteClasses) (some : 0 < classes.count) (line : get_or class
       ]
 
 -- the transitions of a correct table
-module _ (t : Tree) (classes : ByteClasses) (states : StateList) (cells : List ℕ) (are : AreClasses t classes)
-    (right : AreStates t classes.count states) (table : IsTable t classes states.items cells) where
+module _ (t : Tree) (classes : ByteClasses) (states : StateList) (transitions : List ℕ) (are : AreClasses t classes)
+    (right : AreStates t classes.count states) (table : IsTable t classes states.items transitions) where
   some : 0 < classes.count
   some = some_classes t classes are
 
@@ -191,56 +191,56 @@ module _ (t : Tree) (classes : ByteClasses) (states : StateList) (cells : List �
   line = are.range 10 (omega arith)
 
   dead_leads : (n : State) (b : ℕ) → IsDead t n → b < 256 →
-      Leads t classes.count states.items n b (get_or cells (3 * classes.count + get_or classes.of b 0) 0)
+      Leads t classes.count states.items n b (get_or transitions (3 * classes.count + get_or classes.of b 0) 0)
   dead_leads n b gone lt =
       let k = 3 * classes.count + get_or classes.of b 0 in
       let within : get_or classes.of b 0 < classes.count = are.range b lt in
-      let cell : get_or cells k 0 ≡ first_cell classes k = table.special k (omega (arith, some)) (omega (arith, within)) in
+      let transition : get_or transitions k 0 ≡ first_transition classes k = table.special k (omega (arith, some)) (omega (arith, within)) in
       elim (cases_eq b 10) [
         | inl e ↦
-            let is : get_or cells k 0 ≡ 4 * classes.count =
-            cell ∙ ap (λ c. first_cell classes (3 * classes.count + get_or classes.of c 0)) e ∙ first_start classes some line in
+            let is : get_or transitions k 0 ≡ 4 * classes.count =
+            transition ∙ ap (λ c. first_transition classes (3 * classes.count + get_or classes.of c 0)) e ∙ first_start classes some line in
             subst (λ number. Leads t classes.count states.items n b number) (sym is)
             (leads_start t classes.count states n b some right e (gone [] b))
         | inr other ↦
-            let is : get_or cells k 0 ≡ 3 * classes.count =
-            cell ∙ first_dead classes some line k (omega arith) (omega (arith, within))
+            let is : get_or transitions k 0 ≡ 3 * classes.count =
+            transition ∙ first_dead classes some line k (omega arith) (omega (arith, within))
             (λ e. other (newline_alone t classes are b lt (omega (arith, e)))) in
             let moved : successor t n b ≡ next_state t n b = rw (ne_eqb b 10 other) refl in
             let after : IsDead t (next_state t n b) = λ bytes c. gone (b ∷ bytes) c in
-            next (gone [] b) (dead is (subst (IsDead t) (sym moved) after)) (λ zero_cell. omega (arith, some, is, zero_cell))
+            next (gone [] b) (dead is (subst (IsDead t) (sym moved) after)) (λ zero_transition. omega (arith, some, is, zero_transition))
             (λ e. absurd (other e))
       ]
 
-  -- the cell of a state and a byte
+  -- the transition of a state and a byte
   pub transition : (number : ℕ) (n : State) (b : ℕ) → StandsFor t classes.count states.items number n → b < 256 →
-      IsTransition t classes.count states.items n b (get_or cells (number + get_or classes.of b 0) 0)
+      IsTransition t classes.count states.items n b (get_or transitions (number + get_or classes.of b 0) 0)
   transition number n b (cached slot is at same) lt =
-      subst (λ k. IsTransition t classes.count states.items n b (get_or cells (k + get_or classes.of b 0) 0)) (sym is)
-      (subst (λ (m : State). IsTransition t classes.count states.items m b (get_or cells (slot * classes.count + get_or classes.of b 0) 0))
+      subst (λ k. IsTransition t classes.count states.items n b (get_or transitions (k + get_or classes.of b 0) 0)) (sym is)
+      (subst (λ (m : State). IsTransition t classes.count states.items m b (get_or transitions (slot * classes.count + get_or classes.of b 0) 0))
       same (table.right slot b at lt))
   transition number n b (dead is gone) lt =
-      subst (λ k. IsTransition t classes.count states.items n b (get_or cells (k + get_or classes.of b 0) 0)) (sym is)
+      subst (λ k. IsTransition t classes.count states.items n b (get_or transitions (k + get_or classes.of b 0) 0)) (sym is)
       (known (dead_leads n b gone lt))
 
   -- the slot of a state with an unknown transition
   pub unknown_slot : (number : ℕ) (n : State) (b : ℕ) → StandsFor t classes.count states.items number n → b < 256 →
-      get_or cells (number + get_or classes.of b 0) 0 ≡ classes.count →
+      get_or transitions (number + get_or classes.of b 0) 0 ≡ classes.count →
       IsSlot states.items (number / classes.count) × (state_at t states.items (number / classes.count) ≡ n)
   unknown_slot number n b (cached slot is at same) lt e =
       let whole : slot * classes.count + 0 ≡ number = omega (arith, is) in
       let here : slot ≡ number / classes.count = sym (div-mul-add slot classes.count 0 some) ∙ ap (λ k. k / classes.count) whole in
       (subst (IsSlot states.items) here at, subst (λ k. state_at t states.items k ≡ n) here same)
   unknown_slot number n b (dead is gone) lt e =
-      absurd (leads_known t classes.count states.items n b (get_or cells (3 * classes.count + get_or classes.of b 0) 0) some
-      (dead_leads n b gone lt) (ap (λ k. get_or cells (k + get_or classes.of b 0) 0) (sym is) ∙ e))
+      absurd (leads_known t classes.count states.items n b (get_or transitions (3 * classes.count + get_or classes.of b 0) 0) some
+      (dead_leads n b gone lt) (ap (λ k. get_or transitions (k + get_or classes.of b 0) 0) (sym is) ∙ e))
 
-  -- no cell has the number of the first row
-  pub no_first : (slot b : ℕ) → slot < length states.items → b < 256 → get_or cells (slot * classes.count + get_or classes.of b 0) 0 ≢ 0
+  -- no transition has the number of the first row
+  pub no_first : (slot b : ℕ) → slot < length states.items → b < 256 → get_or transitions (slot * classes.count + get_or classes.of b 0) 0 ≢ 0
   no_first slot b lt byte e =
       let k = slot * classes.count + get_or classes.of b 0 in
       let row : IsSlot states.items slot → ⊥ = λ at.
-      transition_other t classes.count states.items (state_at t states.items slot) b (get_or cells k 0) some (table.right slot b at byte) e in
+      transition_other t classes.count states.items (state_at t states.items slot) b (get_or transitions k 0) some (table.right slot b at byte) e in
       elim (cases_lt slot 4) [
         | inr high ↦ row (record { within = lt; ordinary = inr high })
         | inl low ↦ elim (cases_eq slot 0) [
@@ -254,64 +254,64 @@ module _ (t : Tree) (classes : ByteClasses) (states : StateList) (cells : List �
       ]
 
   -- it is in the table
-  pub cell_within : (number : ℕ) (n : State) (b : ℕ) → StandsFor t classes.count states.items number n → b < 256 →
-      number + get_or classes.of b 0 < length cells
-  cell_within number n b stands lt =
+  pub transition_within : (number : ℕ) (n : State) (b : ℕ) → StandsFor t classes.count states.items number n → b < 256 →
+      number + get_or classes.of b 0 < length transitions
+  transition_within number n b stands lt =
       let at = stands_slot t classes.count states.items number n right.first stands in
       omega (arith, at.2, table.rows, in_rows classes.count at.0 (length states.items) (get_or classes.of b 0) at.1 (are.range b lt))
 
   -- the transition of the state in a slot is stored for the bytes of a class
   module _ (slot byte number : ℕ) (at : IsSlot states.items slot) (low : byte < 256)
       (leads : Leads t classes.count states.items (state_at t states.items slot) byte number) where
-    abbrev cell : ℕ
-    cell = slot * classes.count + get_or classes.of byte 0
+    abbrev transition : ℕ
+    transition = slot * classes.count + get_or classes.of byte 0
 
-    pub cell_in : cell < length cells
-    cell_in = omega (arith, table.rows, in_rows classes.count slot (length states.items) (get_or classes.of byte 0) at.within (are.range byte low))
+    pub transition_in : transition < length transitions
+    transition_in = omega (arith, table.rows, in_rows classes.count slot (length states.items) (get_or classes.of byte 0) at.within (are.range byte low))
 
-    ordinary_cell : (k : ℕ) → unknown_number classes.count ≤ k → k < start_number classes.count → k ≢ cell
-    ordinary_cell k from to e =
+    ordinary_transition : (k : ℕ) → unknown_number classes.count ≤ k → k < start_number classes.count → k ≢ transition
+    ordinary_transition k from to e =
         elim at.ordinary [
           | inl zero_slot ↦ omega (arith, from, e, are.range byte low, ap (λ s. s * classes.count) zero_slot)
           | inr high ↦ omega (arith, to, e, scaled 4 slot classes.count high)
         ]
 
     right_there : (r b : ℕ) → IsSlot states.items r → b < 256 →
-        IsTransition t classes.count states.items (state_at t states.items r) b (get_or (set cells cell number) (r * classes.count + get_or classes.of b 0) 0)
+        IsTransition t classes.count states.items (state_at t states.items r) b (get_or (set transitions transition number) (r * classes.count + get_or classes.of b 0) 0)
     right_there r b there lt =
-        elim (cases_eq (r * classes.count + get_or classes.of b 0) cell) [
+        elim (cases_eq (r * classes.count + get_or classes.of b 0) transition) [
           | inl e ↦
-              let same = same_cell classes.count r slot (get_or classes.of b 0) (get_or classes.of byte 0) (are.range b lt) (are.range byte low) e in
+              let same = same_transition classes.count r slot (get_or classes.of b 0) (get_or classes.of byte 0) (are.range b lt) (are.range byte low) e in
               let alike = are.alike byte b low lt (sym same.1) (state_at t states.items slot) (right.blocks slot) in
-              let is : get_or (set cells cell number) (r * classes.count + get_or classes.of b 0) 0 ≡ number =
-              ap (λ k. get_or (set cells cell number) k 0) e ∙ get_or-set_same cells cell number 0 cell_in in
+              let is : get_or (set transitions transition number) (r * classes.count + get_or classes.of b 0) 0 ≡ number =
+              ap (λ k. get_or (set transitions transition number) k 0) e ∙ get_or-set_same transitions transition number 0 transition_in in
               subst (λ x. IsTransition t classes.count states.items (state_at t states.items r) b x) (sym is)
               (subst (λ s. IsTransition t classes.count states.items (state_at t states.items s) b number) (sym same.0)
               (known (leads_alike t classes.count states.items (state_at t states.items slot) byte b number alike leads)))
           | inr other ↦
               subst (λ x. IsTransition t classes.count states.items (state_at t states.items r) b x)
-              (sym (get_or-set_other cells cell (r * classes.count + get_or classes.of b 0) number 0 other)) (table.right r b there lt)
+              (sym (get_or-set_other transitions transition (r * classes.count + get_or classes.of b 0) number 0 other)) (table.right r b there lt)
         ]
 
-    pub put_transition : IsTable t classes states.items (set cells cell number)
+    pub put_transition : IsTable t classes states.items (set transitions transition number)
     put_transition = record {
-      rows = length-set cells cell number ∙ table.rows;
-      numbers = λ k lt. elim (cases_eq k cell) [
+      rows = length-set transitions transition number ∙ table.rows;
+      numbers = λ k lt. elim (cases_eq k transition) [
         | inl e ↦
             let of_leads = leads_slot t classes.count states.items (state_at t states.items slot) byte number right.first leads in
-            (of_leads.0, of_leads.1, ap (λ i. get_or (set cells cell number) i 0) e ∙ get_or-set_same cells cell number 0 cell_in ∙ of_leads.2)
+            (of_leads.0, of_leads.1, ap (λ i. get_or (set transitions transition number) i 0) e ∙ get_or-set_same transitions transition number 0 transition_in ∙ of_leads.2)
         | inr other ↦
-            let before = table.numbers k (omega (arith, lt, length-set cells cell number)) in
-            (before.0, before.1, get_or-set_other cells cell k number 0 other ∙ before.2)
+            let before = table.numbers k (omega (arith, lt, length-set transitions transition number)) in
+            (before.0, before.1, get_or-set_other transitions transition k number 0 other ∙ before.2)
       ];
-      special = λ k from to. get_or-set_other cells cell k number 0 (ordinary_cell k from to) ∙ table.special k from to;
+      special = λ k from to. get_or-set_other transitions transition k number 0 (ordinary_transition k from to) ∙ table.special k from to;
       right = right_there;
     }
 
   -- a state is added
-  module _ (state : State) (more : List ℕ) (long : length more ≡ length cells + classes.count)
-      (same : (k : ℕ) → k < length cells → get_or more k 0 ≡ get_or cells k 0)
-      (blank : (k : ℕ) → length cells ≤ k → k < length more → get_or more k 0 ≡ classes.count) where
+  module _ (state : State) (more : List ℕ) (long : length more ≡ length transitions + classes.count)
+      (same : (k : ℕ) → k < length transitions → get_or more k 0 ≡ get_or transitions k 0)
+      (blank : (k : ℕ) → length transitions ≤ k → k < length more → get_or more k 0 ≡ classes.count) where
     abbrev more_states : List State
     more_states = states.items ++ state ∷ []
 
@@ -353,13 +353,13 @@ module _ (t : Tree) (classes : ByteClasses) (states : StateList) (cells : List �
         let k = slot * classes.count + get_or classes.of b 0 in
         elim (cases_lt slot (length states.items)) [
           | inl old ↦
-              let within : k < length cells = omega (arith, table.rows, in_rows classes.count slot (length states.items) (get_or classes.of b 0) old (are.range b lt)) in
-              let before = kept_transition (state_at t states.items slot) b (get_or cells k 0)
+              let within : k < length transitions = omega (arith, table.rows, in_rows classes.count slot (length states.items) (get_or classes.of b 0) old (are.range b lt)) in
+              let before = kept_transition (state_at t states.items slot) b (get_or transitions k 0)
               (table.right slot b (record { within = old; ordinary = at.ordinary }) lt) in
               subst (λ x. IsTransition t classes.count more_states (state_at t more_states slot) b x) (sym (same k within))
-              (subst (λ (n : State). IsTransition t classes.count more_states n b (get_or cells k 0)) (sym (kept_state slot old)) before)
+              (subst (λ (n : State). IsTransition t classes.count more_states n b (get_or transitions k 0)) (sym (kept_state slot old)) before)
           | inr new ↦
-              let low : length cells ≤ k = omega (arith, table.rows, scaled (length states.items) slot classes.count new) in
+              let low : length transitions ≤ k = omega (arith, table.rows, scaled (length states.items) slot classes.count new) in
               let high : k < length more =
               omega (
                 arith,
@@ -375,7 +375,7 @@ module _ (t : Tree) (classes : ByteClasses) (states : StateList) (cells : List �
     pub added_table : IsTable t classes more_states more
     added_table = record {
       rows = omega (arith, long, table.rows, ap (λ n. n * classes.count) length_more);
-      numbers = λ k lt. elim (cases_lt k (length cells)) [
+      numbers = λ k lt. elim (cases_lt k (length transitions)) [
         | inl old ↦ let before = table.numbers k old in (before.0, omega (arith, before.1, length_more), same k old ∙ before.2)
         | inr new ↦ (1, omega (arith, right.first, length_more), blank k new lt ∙ omega arith)
       ];
@@ -415,9 +415,9 @@ module _ (t : Tree) (classes : ByteClasses) (states : StateList) (cells : List �
     }
 
 -- the table of the first rows
-pub first_table : (t : Tree) (classes : ByteClasses) (states : List State) (cells : List ℕ) → AreClasses t classes → length states ≡ 5 →
-    AreFirstRows classes cells → IsTable t classes states cells
-first_table t classes states cells are five rows =
+pub first_table : (t : Tree) (classes : ByteClasses) (states : List State) (transitions : List ℕ) → AreClasses t classes → length states ≡ 5 →
+    AreFirstRows classes transitions → IsTable t classes states transitions
+first_table t classes states transitions are five rows =
     let some = some_classes t classes are in
     let line = are.range 10 (omega arith) in
     record {
@@ -427,7 +427,7 @@ first_table t classes states cells are five rows =
       right = λ slot b at lt.
           let within = are.range b lt in
           let k = slot * classes.count + get_or classes.of b 0 in
-          let in_table : k < length cells = omega (arith, rows.all, in_rows classes.count slot 5 (get_or classes.of b 0) (omega (arith, at.within, five)) within) in
+          let in_table : k < length transitions = omega (arith, rows.all, in_rows classes.count slot 5 (get_or classes.of b 0) (omega (arith, at.within, five)) within) in
           let low : (k < 2 * classes.count) ⊎ (4 * classes.count ≤ k) = elim at.ordinary [
             | inl zero_slot ↦ inl (omega (arith, within, ap (λ s. s * classes.count) zero_slot))
             | inr high ↦ inr (omega (arith, scaled 4 slot classes.count high))

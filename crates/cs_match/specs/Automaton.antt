@@ -20,6 +20,6 @@ automaton_code =
     code_by (Tree × (ℕ × ℕ)) (coded× tree_code (coded× coded_ℕ coded_ℕ)) (λ a. (a.tree, (a.states, a.steps)))
     (λ p. record { tree = p.0; states = p.1.0; steps = p.1.1 }) (λ _. refl)
 
--- The most cached states: each has a row of at least one cell in the transition table, which has at most 65536.
+-- The most cached states: each has a row of at least one transition in the transition table, which has at most 65536.
 abbrev pub most_states : ℕ
 most_states = 65536

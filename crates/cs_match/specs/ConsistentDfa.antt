@@ -27,8 +27,8 @@ pub record IsConsistent (t : LazyDfa) : Type 0 where
   pub expanded : IsExpanded (tree_in t)
   pub classes : AreClasses (tree_in t) t.states.classes
   pub cached : dfa.AreStates (tree_in t) (count_in t) t.states.cached
-  pub table : dfa.IsTable (tree_in t) t.states.classes t.states.cached.items t.states.cells.items
-  pub capacity : 65536 ≤ vec_capacity t.states.cells
+  pub table : dfa.IsTable (tree_in t) t.states.classes t.states.cached.items t.states.transitions.items
+  pub capacity : 65536 ≤ vec_capacity t.states.transitions
   pub room : length t.states.scratch.positions ≡ position_count (tree_in t)
   pub memory : IsScratch (tree_in t) t.states.memory
 

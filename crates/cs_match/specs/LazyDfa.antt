@@ -1,5 +1,5 @@
--- The lazy DFA (RE2): the cached states and the transition table, a row of cells for each state and a cell in it for each
--- class of bytes. The number of a state is the index of the first cell of its row. The first rows are those of a start
+-- The lazy DFA (RE2): the cached states and the transition table, a row of transitions for each state and a transition in it for each
+-- class of bytes. The number of a state is the index of the first transition of its row. The first rows are those of a start
 -- state, of three special states (a transition that is unknown, a match, a dead state) and of the start state.
 use Rattle.std.specs.Prelude.{ℕ, ◌≡◌, ◌≢◌, ◌+◌, ◌*◌, ◌<◌, ◌≤◌, ◌⊎◌, true, false, List, length, replicate, slice_index, slice_index_or, nat_eq, nat_lt, if◌then◌else◌}
 use Rattle.cs_syntax.specs.Matching.{Tree}
@@ -51,19 +51,19 @@ pub data IsTransition (t : Tree) (count : ℕ) (states : List State) (state : St
   unknown : transition ≡ unknown_number count → IsTransition t count states state b transition
   known : Leads t count states state b transition → IsTransition t count states state b transition
 
--- The cell at an index of the first rows, while no transition is known. The match and the unknown state are absorbing,
+-- The transition at an index of the first rows, while no transition is known. The match and the unknown state are absorbing,
 -- and the dead one up to the end of the line.
-abbrev pub first_cell : ByteClasses → ℕ → ℕ
-first_cell classes k =
+abbrev pub first_transition : ByteClasses → ℕ → ℕ
+first_transition classes k =
     if nat_eq k (dead_number classes.count + slice_index classes.of newline) then start_number classes.count
     else (if nat_lt k (match_number classes.count) then unknown_number classes.count
     else (if nat_lt k (dead_number classes.count) then match_number classes.count
     else (if nat_lt k (start_number classes.count) then dead_number classes.count else unknown_number classes.count)))
 
 -- the table of the first rows
-pub record AreFirstRows (classes : ByteClasses) (cells : List ℕ) : Type 0 where
-  pub all : length cells ≡ 5 * classes.count
-  pub each : (k : ℕ) → k < length cells → slice_index cells k ≡ first_cell classes k
+pub record AreFirstRows (classes : ByteClasses) (transitions : List ℕ) : Type 0 where
+  pub all : length transitions ≡ 5 * classes.count
+  pub each : (k : ℕ) → k < length transitions → slice_index transitions k ≡ first_transition classes k
 
 -- five times the start state, with room for one more state, and for the row of each
 pub record AreFirstStates (count : ℕ) (first : State) (states : StateList) : Type 0 where
@@ -85,11 +85,11 @@ pub record AreStates (t : Tree) (count : ℕ) (states : StateList) : Type 0 wher
   pub positions : (slot : ℕ) → length (state_at t states.items slot).positions ≡ position_count t
   pub blocks : (slot : ℕ) → IsBlock (cuts_of t) (state_at t states.items slot).unfinished
 
--- each state has a row, each cell has the number of a row, the rows of the special states are as at first, and each
+-- each state has a row, each transition has the number of a row, the rows of the special states are as at first, and each
 -- transition of the others is unknown or correct
-pub record IsTable (t : Tree) (classes : ByteClasses) (states : List State) (cells : List ℕ) : Type 0 where
-  pub rows : length cells ≡ length states * classes.count
-  pub numbers : (k : ℕ) → k < length cells → (slot : ℕ) × (slot < length states) × (slice_index cells k ≡ slot * classes.count)
-  pub special : (k : ℕ) → unknown_number classes.count ≤ k → k < start_number classes.count → slice_index cells k ≡ first_cell classes k
+pub record IsTable (t : Tree) (classes : ByteClasses) (states : List State) (transitions : List ℕ) : Type 0 where
+  pub rows : length transitions ≡ length states * classes.count
+  pub numbers : (k : ℕ) → k < length transitions → (slot : ℕ) × (slot < length states) × (slice_index transitions k ≡ slot * classes.count)
+  pub special : (k : ℕ) → unknown_number classes.count ≤ k → k < start_number classes.count → slice_index transitions k ≡ first_transition classes k
   pub right : (slot b : ℕ) → IsSlot states slot → b < 256 →
-      IsTransition t classes.count states (state_at t states slot) b (slice_index cells (slot * classes.count + slice_index classes.of b))
+      IsTransition t classes.count states (state_at t states slot) b (slice_index transitions (slot * classes.count + slice_index classes.of b))

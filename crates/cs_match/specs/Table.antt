@@ -11,7 +11,7 @@ class_of t b = slice_index t.of.now b
 
 -- the transition of a state over a byte
 abbrev pub next_number : Table → ℕ → ℕ → ℕ
-next_number t number b = slice_index t.cells.now (number + class_of t b)
+next_number t number b = slice_index t.transitions.now (number + class_of t b)
 
 -- the state number after a text
 unfoldable pub number_after : Table → ℕ → List ℕ → ℕ
@@ -34,7 +34,7 @@ start t = 4 * t.count
 pub record IsRow (t : Table) (number : ℕ) : Type 0 where
   pub slot : ℕ
   pub is : number ≡ slot * t.count
-  pub within : number + t.count ≤ length t.cells.now
+  pub within : number + t.count ≤ length t.transitions.now
 
 -- The start state has a row, each transition leads to a row, and to *found* over the newline alone.
 pub record HasRows (t : Table) : Type 0 where

@@ -37,7 +37,7 @@ pub(crate) fn cut(block: &[u8], from: usize, size: usize, steps: &mut Steps) -> 
     line_end(block, from + size, steps) + 1
 }
 
-/// Four chunks of the block, of which the first begins at `from`. They are empty past the end of the block.
+/// Four chunks of the block, from `from` on. They are empty past the end of the block.
 pub(crate) fn four_chunks(block: &[u8], from: usize, size: usize, steps: &mut Steps) -> [usize; 5]
     requires within { from ≤ length block.now }
     requires whole { AreWholeLines (drop from block.now) }

@@ -13,7 +13,7 @@ ghost use Rattle.cs_match.specs.Glushkov.{position_count, cuts_of};
 ghost use Rattle.cs_match.specs.Digits.{IsBlock};
 ghost use Rattle.cs_match.specs.Masks.{IsScratch};
 ghost use Rattle.cs_match.specs.States.{start, successor, accepts_before, IsDead};
-ghost use Rattle.cs_match.specs.LazyDfa.{first_cell, AreFirstRows, AreFirstStates, match_number, dead_number, start_number};
+ghost use Rattle.cs_match.specs.LazyDfa.{first_transition, AreFirstRows, AreFirstStates, match_number, dead_number, start_number};
 ghost use Rattle.cs_match.specs.declared.state.State.{State};
 ghost use Rattle.cs_match.specs.ConsistentDfa.{IsConsistent, HasSlot, IsInSlot, HasState, HasTransition, LeadsIn, tree_in, count_in, state_in};
 ghost use Rattle.cs_prefilter.specs.CountsAtMost.{CountsAtMost};
@@ -28,8 +28,8 @@ use crate::table::Table;
 use cs_prefilter::Steps;
 use std::alloc::{AllocError, Global};
 
-/// The most cells of the transition table: 128 KB.
-const CELLS: usize = 65536;
+/// The most transitions of the transition table: 128 KB.
+const TRANSITIONS: usize = 65536;
 /// The first states: a start state, three special ones, and the start state.
 const FIRST: usize = 5;
 /// The slot of the start state.
@@ -49,8 +49,8 @@ struct Scanned {
 /// The cached states and their transitions.
 #[derive(Drop)]
 pub(crate) struct StateCache {
-    /// The transition table: a row for each state, with a cell for each class of bytes.
-    pub(crate) cells: Vec<u16>,
+    /// The transition table: a row for each state, with a transition for each class of bytes.
+    pub(crate) transitions: Vec<u16>,
     /// The classes of the program.
     pub(crate) classes: ByteClasses,
     /// The cached states.
@@ -76,7 +76,7 @@ fn most_states(classes: usize, words: usize) -> usize
     ensures more { 6 ≤ result }
     ensures slots { result < 65536 }
 {
-    let rows = (CELLS / classes).min(u16::MAX as usize);
+    let rows = (TRANSITIONS / classes).min(u16::MAX as usize);
     rows.min((MOST_WORDS / words.max(1)).max(LEAST_STATES))
 }
 
@@ -96,10 +96,10 @@ fn first_states(alloc: Global, classes: usize, start: &State) -> Result<CachedSt
     Ok(states)
 }
 
-/// The cell at an index of the first rows.
-fn first_cell(classes: &ByteClasses, index: usize) -> u16
+/// The transition at an index of the first rows.
+fn first_transition(classes: &ByteClasses, index: usize) -> u16
     requires { classes.now.count ≤ 256 }
-    ensures { result ≡ first_cell classes.now index }
+    ensures { result ≡ first_transition classes.now index }
 {
     let count = classes.count as usize;
     let newline = classes.of[b'\n' as usize] as usize;
@@ -118,15 +118,15 @@ fn first_cell(classes: &ByteClasses, index: usize) -> u16
 }
 
 /// Makes this the table of the first rows, in which no transition is known.
-fn write_first(cells: &mut Vec<u16>, classes: &ByteClasses)
+fn write_first(transitions: &mut Vec<u16>, classes: &ByteClasses)
     requires few { classes.now.count ≤ 256 }
-    requires room { 65536 ≤ vec_capacity cells.old }
-    ensures rows { AreFirstRows classes.now cells.new.items }
-    ensures room { 65536 ≤ vec_capacity cells.new }
+    requires room { 65536 ≤ vec_capacity transitions.old }
+    ensures rows { AreFirstRows classes.now transitions.new.items }
+    ensures room { 65536 ≤ vec_capacity transitions.new }
 {
-    cells.clear();
+    transitions.clear();
     for index in 0..FIRST * classes.count as usize {
-        cells.push(first_cell(classes, index)).unwrap();
+        transitions.push(first_transition(classes, index)).unwrap();
     }
 }
 
@@ -161,10 +161,10 @@ impl<'a> LazyDfa<'a> {
         let scratch = State::new(alloc, program)?;
         let cached = first_states(alloc, classes.count as usize, &scratch)?;
         let memory = Scratch::new(alloc, program)?;
-        let mut cells = Vec::with_capacity(alloc, CELLS)?;
-        write_first(&mut cells, &classes);
+        let mut transitions = Vec::with_capacity(alloc, TRANSITIONS)?;
+        write_first(&mut transitions, &classes);
         let states = StateCache {
-            cells,
+            transitions,
             classes,
             cached,
             scratch,
@@ -187,7 +187,7 @@ impl<'a> LazyDfa<'a> {
         ensures skips { (has_match : List ℕ → Bool) → Decides has_match (tree_in self.now) → RulesOutLines has_match result }
     {
         Table {
-            cells: &self.states.cells,
+            transitions: &self.states.transitions,
             of: &self.states.classes.of,
             count: self.states.classes.count as usize,
         }
@@ -430,8 +430,8 @@ impl<'a> LazyDfa<'a> {
         ensures same { tree_in self.new ≡ tree_in self.old }
     {
         let class = self.states.classes.of[byte as usize] as usize;
-        let cell = slot * self.states.classes.count as usize + class;
-        self.states.cells[cell] = next;
+        let transition = slot * self.states.classes.count as usize + class;
+        self.states.transitions[transition] = next;
     }
 
     /// Caches the state under construction, and returns its number.
@@ -449,8 +449,8 @@ impl<'a> LazyDfa<'a> {
         let count = self.states.classes.count;
         let slot = self.states.cached.len();
         self.states.cached.push(&self.states.scratch, place);
-        let len = self.states.cells.len() + count as usize;
-        self.states.cells.resize(len, count).unwrap();
+        let len = self.states.transitions.len() + count as usize;
+        self.states.transitions.resize(len, count).unwrap();
         (slot * count as usize) as u16
     }
 
@@ -463,6 +463,6 @@ impl<'a> LazyDfa<'a> {
         ensures same { tree_in self.new ≡ tree_in self.old }
     {
         self.states.cached.truncate(FIRST);
-        write_first(&mut self.states.cells, &self.states.classes);
+        write_first(&mut self.states.transitions, &self.states.classes);
     }
 }

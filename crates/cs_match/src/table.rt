@@ -2,13 +2,13 @@
 ghost use Rattle.std.specs.Prelude.{◌≡◌};
 ghost use Rattle.cs_match.specs.Table.{next_number, unknown, start, IsRow, HasRows};
 
-/// A transition table: a row for each state, with a cell for each class of bytes. The number of a state is the index of
-/// its row's first cell. The first rows are those of special states: found, the start state after a line that has a match;
+/// A transition table: a row for each state, with a transition for each class of bytes. The number of a state is the index of
+/// its row's first transition. The first rows are those of special states: found, the start state after a line that has a match;
 /// unknown, the transition is not computed yet; match, the line has a match, whatever follows in it; dead, no rest of the
 /// line makes one. The next is that of the start state.
 #[derive(Clone, Copy)]
 pub(crate) struct Table<'a> {
-    pub(crate) cells: &'a [u16],
+    pub(crate) transitions: &'a [u16],
     /// The class of each byte. The newline is alone in its class.
     pub(crate) of: &'a [u8; 256],
     /// The number of classes.
@@ -45,7 +45,7 @@ impl<'a> Table<'a> {
         requires row { IsRow self number }
         ensures { result ≡ next_number self.entry number byte }
     {
-        let column = &self.cells[self.of[byte as usize] as usize..];
+        let column = &self.transitions[self.of[byte as usize] as usize..];
         column[number as usize]
     }
 }

@@ -7,7 +7,7 @@ use Rattle.cs_prefilter.specs.Buckets.{buckets, buckets_of}
 use Rattle.std.specs.Prelude.{true, false, codes}
 use Rattle.cs_prefilter.specs.Pairs.{test_lane}
 use Rattle.cs_prefilter.specs.WordBuckets.{bucket_of, first_in}
-use Rattle.cs_prefilter.specs.Fronts.{eight}
+use Rattle.cs_prefilter.specs.Prefixes.{eight}
 
 -- a table of sixteen entries, all 0 except one
 entry : ℕ → ℕ → List ℕ

@@ -7,5 +7,5 @@ mod PairLemmas
 mod BitLemmas
 mod ByteTestLemmas
 mod WordBucketLemmas
-mod FrontLemmas
+mod PrefixLemmas
 mod ScanLemmas

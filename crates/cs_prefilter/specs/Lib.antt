@@ -13,6 +13,6 @@ pub mod Buckets
 pub mod Search
 pub mod Probe
 pub mod WordBuckets
-pub mod Fronts
+pub mod Prefixes
 pub mod Stop
 pub mod Sufficient

@@ -7,23 +7,23 @@ ghost use Rattle.cs_prefilter.specs.OffsetWork.{most_words, most_sets, word_work
 ghost use Rattle.cs_prefilter.specs.CountsAtMost.{CountsAtMost};
 
 use crate::buckets::{BUCKETS, first_in};
-use crate::front::{Front, eight_at};
+use crate::prefix::{Prefix, eight_at};
 use crate::steps::Steps;
 use crate::word::Word;
 use crate::word_list::WordList;
 use std::alloc::{AllocError, Global};
 
 impl WordList {
-    /// The words with their fronts.
+    /// The words with their prefixes.
     pub(crate) fn of(alloc: Global, words: Vec<Word>) -> Result<WordList, AllocError>
         requires { vec_len words ≤ most_words }
         ensures { IfOk result (λ list. list.words ≡ words) }
     {
-        let mut fronts = Vec::new(alloc);
+        let mut prefixes = Vec::new(alloc);
         for word in &words {
-            fronts.push(Front::of(word))?;
+            prefixes.push(Prefix::of(word))?;
         }
-        Ok(WordList { words, fronts })
+        Ok(WordList { words, prefixes })
     }
 
     /// Whether a word occurs at the offset. Only the words of some buckets are compared, those of all words that occur
@@ -64,7 +64,7 @@ impl WordList {
         false
     }
 
-    /// Whether the word of this index occurs at the offset. Its front is compared first.
+    /// Whether the word of this index occurs at the offset. Its prefix is compared first.
     #[inline(always)]
     fn occurs_at(&self, index: usize, text: &[u8], offset: usize, steps: &mut Steps) -> bool
         requires index { index < length self.now.words.items }
@@ -74,11 +74,11 @@ impl WordList {
         ensures work { CountsAtMost word_work steps.old steps.new }
     {
         steps.add(1);
-        let front = &self.fronts[index];
-        if !front.passes(eight_at(text, offset)) {
+        let prefix = &self.prefixes[index];
+        if !prefix.passes(eight_at(text, offset)) {
             return false;
         }
-        if front.is_whole {
+        if prefix.is_whole {
             return true;
         }
         self.words[index].occurs(text, offset, steps)

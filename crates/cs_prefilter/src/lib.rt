@@ -4,7 +4,7 @@
 //! shufti nibble masks: a probe tests 64 offsets at once, and words are compared where it may have found one. Read
 //! `specs/WordAt.antt` first, and `specs/OffsetWork.antt` (what a step is); `specs/Runs.antt` defines what a walk over a tree
 //! knows, `specs/Probe.antt` what a probe says, `specs/Pairs.antt` the pairs, `specs/Buckets.antt` the nibble masks and
-//! `specs/Fronts.antt` how words are compared.
+//! `specs/Prefixes.antt` how words are compared.
 //!
 //! One walk over the tree collects *runs*: the byte sets that neighbouring bytes of each match are in, from
 //! left to right. An assertion or an empty part does not interrupt a run. A repeat of at least one iteration
@@ -36,12 +36,12 @@
 mod buckets;
 mod byte_test;
 mod comparing;
-mod front;
 mod lanes;
 mod masks;
 mod pair;
 mod pairs;
 mod prefilter;
+mod prefix;
 mod probe;
 mod rarity;
 mod required;

@@ -31,7 +31,7 @@ pub(crate) trait Probe {
 
 /// Whether none of the next 64 offsets passes.
 #[inline(always)]
-pub(crate) fn is_quiet<P: Probe>(probe: &P, text: &[u8], offset: usize) -> bool
+pub(crate) fn none_passes<P: Probe>(probe: &P, text: &[u8], offset: usize) -> bool
     requires { offset + REACH ≤ length text.now }
     ensures { IsTrue result → NoneFrom (P.Finds probe.now) text.now offset (offset + STRIDE) }
 {

@@ -7,7 +7,7 @@ ghost use Rattle.cs_prefilter.specs.OffsetWork.{offset_work};
 ghost use Rattle.cs_prefilter.specs.CountsAtMost.{CountsAtMost};
 
 use crate::comparing::occurs;
-use crate::probe::{Probe, REACH, STRIDE, is_quiet, marks};
+use crate::probe::{Probe, REACH, STRIDE, marks, none_passes};
 use crate::steps::Steps;
 use crate::stop::Stop;
 use crate::word_list::WordList;
@@ -52,7 +52,7 @@ impl WordList {
                     wasted,
                 };
             }
-            offset = skip_quiet(probe, text, stop.offset, steps);
+            offset = skip_strides(probe, text, stop.offset, steps);
         }
         let stop = self.first_in_rest(probe, text, offset, steps);
         Stop {
@@ -168,7 +168,7 @@ fn before_zeros(bytes: &[u8]) -> [u8; LAST]
 
 /// Skips strides in which no offset passes.
 #[inline(always)]
-fn skip_quiet<P: Probe>(probe: &P, text: &[u8], from: usize, steps: &mut Steps) -> usize
+fn skip_strides<P: Probe>(probe: &P, text: &[u8], from: usize, steps: &mut Steps) -> usize
     requires { from ≤ length text.now }
     ensures low { from ≤ result }
     ensures high { result ≤ length text.now }
@@ -176,7 +176,7 @@ fn skip_quiet<P: Probe>(probe: &P, text: &[u8], from: usize, steps: &mut Steps) 
     ensures work { steps.new.count ≡ steps.old.count + (result - from) }
 {
     let mut offset = from;
-    'strides: while text.len() - offset >= REACH && is_quiet(probe, text, offset) {
+    'strides: while text.len() - offset >= REACH && none_passes(probe, text, offset) {
         steps.add(STRIDE);
         offset += STRIDE;
     }

@@ -16,12 +16,12 @@ pub record Scan : Type 0 where
   pub most : Option ℕ
   pub left : ℕ
 
--- lines that are not marked, the first of which has this number
+-- lines that are not marked; the first has this number
 abbrev pub rows_at : ℕ → List (List ℕ) → List Row
 rows_at number [] = []
 rows_at number (line ∷ lines) = row_at number line false ∷ rows_at (number + 1) lines
 
--- the last `count` of these lines, the first of which has this number
+-- the last `count` of these lines; the first of all has this number
 abbrev pub last_rows : ℕ → ℕ → List (List ℕ) → List Row
 last_rows count number lines = rows_at (number + (length lines - count)) (drop (length lines - count) lines)
 
@@ -82,7 +82,7 @@ IsNextMark rows has_match block from next = let wanted = is_wanted rows.page.opt
     (λ line. ((wanted (slice_range block line.start line.end) && is_open rows.most) ≡ true)
     × NoneMarked wanted rows.most (terminated_lines (slice_range block from line.start)))
 
--- Lines were searched, and `held'` are held now: what is to be printed of them and of any lines after them was printed, but for
+-- Lines were searched, and `held'` are held now: what is to be printed of them and of any lines after them was printed, except
 -- what is to be printed now.
 abbrev pub Searches : Tree → Tree → Rows → Rows → List ℕ → List ℕ → List (List ℕ) → List (List ℕ) → List (List ℕ) → Type 0
 Searches tree pattern old new given given' held lines held' = (finding : Finding) (later : List (List ℕ)) → IsFoundBy finding tree pattern →

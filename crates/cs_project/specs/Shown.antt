@@ -109,7 +109,7 @@ module _ (options : ShowOptions) (finding : Finding) where
     abbrev pub text_groups : List ℕ → List (List ℕ)
     text_groups text = groups_by options.mode text
 
--- the groups of a text after those of others, of which some were printed or none
+-- the groups of a text after those of others, if any were printed
 abbrev pub following : List ℕ → Bool → List (List ℕ) → List ℕ
 following between begun [] = []
 following between begun (group ∷ groups) = (if begun then between else []) ++ joined between (group ∷ groups)

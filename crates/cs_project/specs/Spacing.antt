@@ -60,7 +60,7 @@ abbrev pub IsPrinted : Rows → Rows → List ℕ → List ℕ → List Row → 
 IsPrinted old new given later rows =
     ((finding : Finding) → progress_of new later ≡ printed_by old.page finding (progress_of old given) rows) × (new.page ≡ old.page)
 
--- these rows were printed, of which the last is a marked line with these matches
+-- these rows were printed; the last is a marked line with these matches
 abbrev pub IsMarkPrinted : Rows → Rows → List ℕ → List ℕ → List ℕ → List Span → List Row → Type 0
 IsMarkPrinted old new given later line spans rows = ((finding : Finding) →
     (needs_spans old.page.options.now.form ≡ true → finding.spans line ≡ spans) →

@@ -4,7 +4,7 @@ use Rattle.cs_listing.specs.Walk.{IsWalkIn, StepGives, settings_in, walk_weight}
 use Rattle.cs_listing.specs.declared.walk.Step.TheVariants.{More}
 use Rattle.cs_listing.proofs.walk.Walk.next.Given as goal
 
--- the steps so far have told nothing
+-- the steps so far have found no answer
 abbrev pub invariant-steps : goal.invariant-steps
 invariant-steps g l = record {
   steps : InTree (g.T.Tree.snapshot l.initial.tree) (λ items. IsWalkIn items l.initial.self → StepGives items l.initial.self l.self More);

@@ -25,8 +25,8 @@ returns-clause-right c =
       expanded = right.expanded;
       classes = right.classes;
       cached = subst (AreStates (tree_in s) (count_in s)) (sym c.truncate.ensures) (emptied_states (tree_in s) (count_in s) s.states.cached right.cached);
-      table = subst (λ (states : StateList). IsTable (tree_in s) s.states.classes states.items c.write_first.new.cells.items) (sym c.truncate.ensures)
-          (first_table (tree_in s) s.states.classes (take 5 s.states.cached.items) c.write_first.new.cells.items right.classes
+      table = subst (λ (states : StateList). IsTable (tree_in s) s.states.classes states.items c.write_first.new.transitions.items) (sym c.truncate.ensures)
+          (first_table (tree_in s) s.states.classes (take 5 s.states.cached.items) c.write_first.new.transitions.items right.classes
           (length-take-le 5 s.states.cached.items right.cached.first) c.write_first.ensures.rows);
       capacity = c.write_first.ensures.room;
       room = right.room;

@@ -1,6 +1,6 @@
 use Rattle.std.proofs.Common.{◌≡◌, ◌+◌, ◌*◌, ℕ, List, set, get_or, sym, ◌∙◌, ap, subst, arith}
 use Rattle.cs_match.specs.ConsistentDfa.{tree_in, count_in, state_in}
-use Rattle.cs_match.proofs.TransitionLemmas.{cell_in, put_transition}
+use Rattle.cs_match.proofs.TransitionLemmas.{transition_in, put_transition}
 use Rattle.cs_match.proofs.dfa.LazyDfa.put.Goals as goal
 
 pub index_mut-requires : goal.index_mut-requires
@@ -9,9 +9,9 @@ index_mut-requires c =
     let right = c.requires.right in
     omega (
       arith,
-      cell_in (tree_in s) s.states.classes s.states.cached s.states.cells.items right.classes right.cached right.table c.args.slot
+      transition_in (tree_in s) s.states.classes s.states.cached s.states.transitions.items right.classes right.cached right.table c.args.slot
           c.args.byte c.args.next c.requires.slot (omega arith) c.requires.leads,
-      s.states.cells.ok.0,
+      s.states.transitions.ok.0,
     )
 
 pub returns-clause-right : goal.returns-clause-right
@@ -22,7 +22,7 @@ returns-clause-right c =
       expanded = right.expanded;
       classes = right.classes;
       cached = right.cached;
-      table = put_transition (tree_in s) s.states.classes s.states.cached s.states.cells.items right.classes right.cached right.table
+      table = put_transition (tree_in s) s.states.classes s.states.cached s.states.transitions.items right.classes right.cached right.table
           c.args.slot c.args.byte c.args.next c.requires.slot (omega arith) c.requires.leads;
       capacity = right.capacity;
       room = right.room;

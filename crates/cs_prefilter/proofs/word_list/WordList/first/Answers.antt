@@ -9,14 +9,14 @@ strides-preserved g c =
     let before = c.strides.invariant in
     let stop = c.first_in_stride-stop.result in
     let this = c.first_in_stride-stop.ensures in
-    let skipped = c.skip_quiet-offset.ensures in
+    let skipped = c.skip_strides-offset.ensures in
     let no_word = ap (λ (b : Bool). stop.offset - c.strides.offset + cond b 1 0) c.if-has_word.false in
     record {
       low = omega (arith, before.low, this.stop.low, skipped.low);
       high = skipped.high;
-      none = none_joined words text c.args.from stop.offset c.skip_quiet-offset.result
+      none = none_joined words text c.args.from stop.offset c.skip_strides-offset.result
           (none_joined words text c.args.from c.strides.offset stop.offset before.none this.stop.none)
-          (none_found words text (g.P.Probe.Finds c.args.probe.now) c.requires.finds stop.offset c.skip_quiet-offset.result skipped.none);
+          (none_found words text (g.P.Probe.Finds c.args.probe.now) c.requires.finds stop.offset c.skip_strides-offset.result skipped.none);
       rises = omega (arith, before.rises, this.work.0, skipped.work);
       work = omega (arith, before.work, before.low, this.stop.low, this.work.1, no_word, skipped.low, skipped.work);
     }

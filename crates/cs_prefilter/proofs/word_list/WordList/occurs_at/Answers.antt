@@ -2,30 +2,30 @@ use Rattle.std.proofs.Common.{ap, sym, subst, ◌∙◌, ◌↔◌, get_or, bit_
 use Rattle.std.specs.Prelude.{IsTrue}
 use Rattle.std.proofs.lemmas.List.{get_or_default}
 use Rattle.cs_prefilter.specs.declared.word.Word.{Word}
-use Rattle.cs_prefilter.specs.declared.front.Front.{Front}
+use Rattle.cs_prefilter.specs.declared.prefix.Prefix.{Prefix}
 use Rattle.cs_prefilter.specs.WordAt.{WordAt}
-use Rattle.cs_prefilter.specs.Fronts.{IsFrontOf}
+use Rattle.cs_prefilter.specs.Prefixes.{IsPrefixOf}
 use Rattle.cs_prefilter.proofs.word_list.WordList.occurs_at.Goals as goal
 
 pub returns-then-not-passes-clause-found : goal.returns-then-not-passes-clause-found
 returns-then-not-passes-clause-found c d =
     let words = c.args.self.now.words.items in
-    let front = c.index-front.result.now in
-    let is : IsFrontOf (get_or words c.args.index d) front = subst (λ (f : Front). IsFrontOf (get_or words c.args.index d) f)
-    (sym c.index-front.ensures) (c.args.self.now.fronted.each c.args.index d front c.requires.index) in (
+    let prefix = c.index-prefix.result.now in
+    let is : IsPrefixOf (get_or words c.args.index d) prefix = subst (λ (f : Prefix). IsPrefixOf (get_or words c.args.index d) f)
+    (sym c.index-prefix.ensures) (c.args.self.now.prefixed.each c.args.index d prefix c.requires.index) in (
       λ f. absurd (true≢false (sym f)),
-      λ occurs. sym c.if-not-passes.true ∙ c.passes.ensures.1 (ap (λ n. bit_or n front.mask) c.eight_at.ensures
+      λ occurs. sym c.if-not-passes.true ∙ c.passes.ensures.1 (ap (λ n. bit_or n prefix.mask) c.eight_at.ensures
           ∙ is.passes c.args.text.now c.args.offset (λ i. (c.type_inv.text i).fits) occurs),
     )
 
-pub returns-then-front-clause-found : goal.returns-then-front-clause-found
-returns-then-front-clause-found c d =
+pub returns-then-prefix-clause-found : goal.returns-then-prefix-clause-found
+returns-then-prefix-clause-found c d =
     let words = c.args.self.now.words.items in
-    let front = c.index-front.result.now in
-    let is : IsFrontOf (get_or words c.args.index d) front = subst (λ (f : Front). IsFrontOf (get_or words c.args.index d) f)
-    (sym c.index-front.ensures) (c.args.self.now.fronted.each c.args.index d front c.requires.index) in (
-      λ t. is.whole c.if-front.true c.args.text.now c.args.offset (λ i. (c.type_inv.text i).fits) c.requires.within
-          (ap (λ n. bit_or n front.mask) (sym c.eight_at.ensures) ∙ c.passes.ensures.0 c.if-not-passes.false),
+    let prefix = c.index-prefix.result.now in
+    let is : IsPrefixOf (get_or words c.args.index d) prefix = subst (λ (f : Prefix). IsPrefixOf (get_or words c.args.index d) f)
+    (sym c.index-prefix.ensures) (c.args.self.now.prefixed.each c.args.index d prefix c.requires.index) in (
+      λ t. is.whole c.if-prefix.true c.args.text.now c.args.offset (λ i. (c.type_inv.text i).fits) c.requires.within
+          (ap (λ n. bit_or n prefix.mask) (sym c.eight_at.ensures) ∙ c.passes.ensures.0 c.if-not-passes.false),
       λ t. refl,
     )
 

@@ -1,6 +1,6 @@
 use Rattle.std.proofs.Common.{◌≡◌, ◌+◌, ◌-◌, ◌≤◌, length}
 use Rattle.cs_prefilter.specs.Probe.{NoneFrom}
-use Rattle.cs_prefilter.proofs.scan.skip_quiet.Given as goal
+use Rattle.cs_prefilter.proofs.scan.skip_strides.Given as goal
 
 abbrev pub invariant-strides : goal.invariant-strides
 invariant-strides g l = record {

@@ -1,4 +1,4 @@
--- Eight bytes as one number, and the fronts of words.
+-- Eight bytes as one number, and the prefixes of words.
 use Rattle.std.proofs.Common.{◌≡◌, ℕ, zero, suc, ◌+◌, ◌*◌, ◌<◌, ◌≤◌, ◌^◌, List, [], ◌∷◌, length, get_or, inl, inr, ◌++◌, ap, sym, subst, ◌∙◌, add-zero, true, refl, bit_or, w64, arith}
 use Rattle.std.specs.Int.{from_le_bytes}
 use Rattle.std.specs.Int.Bits.{or_zero_r}
@@ -8,12 +8,12 @@ use Rattle.std.proofs.Math.Seq.{get_or-append_seam}
 use Rattle.std.specs.Simd.Lanes.{zip2}
 use Rattle.std.proofs.lemmas.Nat.{or_block, or_of_8}
 use Rattle.cs_prefilter.specs.declared.word.Word.{Word}
-use Rattle.cs_prefilter.specs.declared.front.Front.{Front}
-use Rattle.cs_prefilter.specs.declared.front.FrontByte.{FrontByte}
+use Rattle.cs_prefilter.specs.declared.prefix.Prefix.{Prefix}
+use Rattle.cs_prefilter.specs.declared.prefix.PrefixByte.{PrefixByte}
 use Rattle.cs_prefilter.specs.WordAt.{WordAt}
-use Rattle.cs_prefilter.specs.Fronts.{eight, TestsByte, IsFrontOf}
+use Rattle.cs_prefilter.specs.Prefixes.{eight, TestsByte, IsPrefixOf}
 
--- the number of which these are the bytes, the first as the lowest
+-- the number with these bytes, the first as the lowest
 abbrev pub joined : List ℕ → ℕ
 joined [] = 0
 joined (b ∷ bs) = joined bs * 2 ^ 8 + b
@@ -64,8 +64,8 @@ list_of_eight f = f 0 ∷ f 1 ∷ f 2 ∷ f 3 ∷ f 4 ∷ f 5 ∷ f 6 ∷ f 7 �
 small_eight : (f : ℕ → ℕ) → ((i : ℕ) → f i < 256) → AreSmall (list_of_eight f)
 small_eight f small = (small 0, (small 1, (small 2, (small 3, (small 4, (small 5, (small 6, (small 7, tt))))))))
 
--- the front that eight tests make
-module _ (word : Word) (byte : ℕ → FrontByte) (tests : (i : ℕ) → i < 8 → TestsByte word i (byte i)) where
+-- the prefix that eight tests make
+module _ (word : Word) (byte : ℕ → PrefixByte) (tests : (i : ℕ) → i < 8 → TestsByte word i (byte i)) where
   abbrev mask_at : ℕ → ℕ
   mask_at i = (byte i).test.mask
 
@@ -131,19 +131,19 @@ module _ (word : Word) (byte : ℕ → FrontByte) (tests : (i : ℕ) → i < 8 �
         s : (i : ℕ) → i < 8 → masked i < 2 ^ 8
         s i lt = or_of_8 (text_at i) (mask_at i) (bytes (k + i)) (tests i lt).small.0
 
-  pub front_of : (front : Front) → front.mask ≡ joined (list_of_eight mask_at) → front.bytes ≡ joined (list_of_eight byte_at)
-      → (front.is_whole ≡ true → (length word.sets.items ≤ 8) × ((i : ℕ) → i < 8 → (byte i).is_exact ≡ true)) → IsFrontOf word front
-  front_of front mask_is bytes_is whole_is = record {
+  pub prefix_of : (prefix : Prefix) → prefix.mask ≡ joined (list_of_eight mask_at) → prefix.bytes ≡ joined (list_of_eight byte_at)
+      → (prefix.is_whole ≡ true → (length word.sets.items ≤ 8) × ((i : ℕ) → i < 8 → (byte i).is_exact ≡ true)) → IsPrefixOf word prefix
+  prefix_of prefix mask_is bytes_is whole_is = record {
     passes = λ text k bytes occurs.
         let e = passes_where text k bytes occurs in
-        masked_is text k bytes front.mask mask_is
+        masked_is text k bytes prefix.mask mask_is
         ∙ (λ i. joined (
         e 0 (omega arith) i ∷ e 1 (omega arith) i ∷ e 2 (omega arith) i ∷ e 3 (omega arith) i ∷ e 4 (omega arith) i
         ∷ e 5 (omega arith) i ∷ e 6 (omega arith) i ∷ e 7 (omega arith) i ∷ []))
         ∙ sym bytes_is;
     whole = λ is_whole text k bytes within pass.
         let same : list_of_eight (masked text k bytes) ≡ list_of_eight byte_at =
-        joined_same _ _ refl (small_masked text k bytes) small_bytes (sym (masked_is text k bytes front.mask mask_is) ∙ pass ∙ bytes_is) in
+        joined_same _ _ refl (small_masked text k bytes) small_bytes (sym (masked_is text k bytes prefix.mask mask_is) ∙ pass ∙ bytes_is) in
         let each = below_eight (λ i. masked text k bytes i ≡ byte_at i)
         (ap (λ l. get_or l 0 0) same) (ap (λ l. get_or l 1 0) same) (ap (λ l. get_or l 2 0) same) (ap (λ l. get_or l 3 0) same)
         (ap (λ l. get_or l 4 0) same) (ap (λ l. get_or l 5 0) same) (ap (λ l. get_or l 6 0) same) (ap (λ l. get_or l 7 0) same) in
@@ -156,18 +156,18 @@ module _ (word : Word) (byte : ℕ → FrontByte) (tests : (i : ℕ) → i < 8 �
         };
   }
 
--- one more word with its front
-pub fronts_more : (words : List Word) (fronts : List Front) (n : ℕ) (word : Word) (front : Front) → length fronts ≡ n
-    → ((i : ℕ) (d : Word) (e : Front) → i < n → IsFrontOf (get_or words i d) (get_or fronts i e))
-    → ((d : Word) → get_or words n d ≡ word) → IsFrontOf word front
-    → (i : ℕ) (d : Word) (e : Front) → i < n + 1 → IsFrontOf (get_or words i d) (get_or (fronts ++ front ∷ []) i e)
-fronts_more words fronts n word front long each last is i d e lt = elim (cases_lt i n) [
-  | inl before ↦ subst (λ (f : Front). IsFrontOf (get_or words i d) f)
-      (sym (get_or_append_left fronts (front ∷ []) e i (omega (arith, before, long)))) (each i d e before)
+-- one more word with its prefix
+pub prefixes_more : (words : List Word) (prefixes : List Prefix) (n : ℕ) (word : Word) (prefix : Prefix) → length prefixes ≡ n
+    → ((i : ℕ) (d : Word) (e : Prefix) → i < n → IsPrefixOf (get_or words i d) (get_or prefixes i e))
+    → ((d : Word) → get_or words n d ≡ word) → IsPrefixOf word prefix
+    → (i : ℕ) (d : Word) (e : Prefix) → i < n + 1 → IsPrefixOf (get_or words i d) (get_or (prefixes ++ prefix ∷ []) i e)
+prefixes_more words prefixes n word prefix long each last is i d e lt = elim (cases_lt i n) [
+  | inl before ↦ subst (λ (f : Prefix). IsPrefixOf (get_or words i d) f)
+      (sym (get_or_append_left prefixes (prefix ∷ []) e i (omega (arith, before, long)))) (each i d e before)
   | inr after ↦
       let here : n ≡ i = omega (arith, lt, after) in
-      let at : get_or (fronts ++ front ∷ []) i e ≡ front =
-      ap (λ k. get_or (fronts ++ front ∷ []) k e) (let same : i ≡ length fronts = omega (arith, here, long) in same) ∙ get_or-append_seam fronts front [] e in
-      subst (λ (f : Front). IsFrontOf (get_or words i d) f) (sym at)
-      (subst (λ (w : Word). IsFrontOf w front) (sym (last d) ∙ ap (λ k. get_or words k d) here) is)
+      let at : get_or (prefixes ++ prefix ∷ []) i e ≡ prefix =
+      ap (λ k. get_or (prefixes ++ prefix ∷ []) k e) (let same : i ≡ length prefixes = omega (arith, here, long) in same) ∙ get_or-append_seam prefixes prefix [] e in
+      subst (λ (f : Prefix). IsPrefixOf (get_or words i d) f) (sym at)
+      (subst (λ (w : Word). IsPrefixOf w prefix) (sym (last d) ∙ ap (λ k. get_or words k d) here) is)
 ]

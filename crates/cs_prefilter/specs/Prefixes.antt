@@ -1,11 +1,11 @@
--- Fronts: what the first eight bytes are where a word occurs.
+-- Prefixes: what the first eight bytes are where a word occurs.
 use Rattle.std.specs.Prelude.{◌≡◌, ℕ, ◌+◌, ◌<◌, ◌≤◌, Bool, true, List, [], ◌∷◌, length, slice_index, slice_index_or, bit_or}
 use Rattle.std.specs.Int.{from_le_bytes}
 use Rattle.std.proofs.Common.{w64}
 use Rattle.cs_syntax.specs.Matching.{member}
 use Rattle.cs_prefilter.specs.declared.word.Word.{Word}
-use Rattle.cs_prefilter.specs.declared.front.Front.{Front}
-use Rattle.cs_prefilter.specs.declared.front.FrontByte.{FrontByte}
+use Rattle.cs_prefilter.specs.declared.prefix.Prefix.{Prefix}
+use Rattle.cs_prefilter.specs.declared.prefix.PrefixByte.{PrefixByte}
 use Rattle.cs_prefilter.specs.WordAt.{WordAt}
 
 -- the eight bytes from offset k on, the first as the lowest
@@ -19,23 +19,23 @@ abbrev pub MayHave : Word → ℕ → ℕ → Type 0
 MayHave word index b = (d : List Bool) → index < length word.sets.items → member (slice_index_or word.sets.items index d) b ≡ true
 
 -- the bytes that the word may have at the index pass the test; if it is exact, no others do
-pub record TestsByte (word : Word) (index : ℕ) (byte : FrontByte) : Type 0 where
+pub record TestsByte (word : Word) (index : ℕ) (byte : PrefixByte) : Type 0 where
   pub small : (byte.test.mask < 256) × (byte.test.byte < 256)
   pub passes : (b : ℕ) → b < 256 → MayHave word index b → bit_or b byte.test.mask ≡ byte.test.byte
   pub exact : byte.is_exact ≡ true → (b : ℕ) → b < 256 → bit_or b byte.test.mask ≡ byte.test.byte → MayHave word index b
 
 -- the eight bytes at an offset pass
-abbrev pub Passes : Front → List ℕ → ℕ → Type 0
-Passes front text k = bit_or (eight text k) front.mask ≡ front.bytes
+abbrev pub Passes : Prefix → List ℕ → ℕ → Type 0
+Passes prefix text k = bit_or (eight text k) prefix.mask ≡ prefix.bytes
 
--- where the word occurs, the eight bytes pass; if the front is whole, only there
-pub record IsFrontOf (word : Word) (front : Front) : Type 0 where
-  pub passes : (text : List ℕ) (k : ℕ) → ((i : ℕ) → slice_index text i < 256) → WordAt text k word → Passes front text k
-  pub whole : front.is_whole ≡ true → (text : List ℕ) (k : ℕ) → ((i : ℕ) → slice_index text i < 256)
-      → k + 8 ≤ length text → Passes front text k → WordAt text k word
+-- where the word occurs, the eight bytes pass; if the prefix is whole, only there
+pub record IsPrefixOf (word : Word) (prefix : Prefix) : Type 0 where
+  pub passes : (text : List ℕ) (k : ℕ) → ((i : ℕ) → slice_index text i < 256) → WordAt text k word → Passes prefix text k
+  pub whole : prefix.is_whole ≡ true → (text : List ℕ) (k : ℕ) → ((i : ℕ) → slice_index text i < 256)
+      → k + 8 ≤ length text → Passes prefix text k → WordAt text k word
 
--- each word has a front
-pub record HaveFronts (words : List Word) (fronts : List Front) : Type 0 where
-  pub same : length fronts ≡ length words
-  pub each : (i : ℕ) (d : Word) (e : Front) → i < length words
-      → IsFrontOf (slice_index_or words i d) (slice_index_or fronts i e)
+-- each word has a prefix
+pub record HavePrefixes (words : List Word) (prefixes : List Prefix) : Type 0 where
+  pub same : length prefixes ≡ length words
+  pub each : (i : ℕ) (d : Word) (e : Prefix) → i < length words
+      → IsPrefixOf (slice_index_or words i d) (slice_index_or prefixes i e)

@@ -1,6 +1,6 @@
 use Rattle.std.proofs.Common.{◌≡◌, ◌<◌, ℕ, sym, bit_or, true≢false, arith}
 use Rattle.std.proofs.lemmas.Nat.{le_or_r, or_of_8}
-use Rattle.cs_prefilter.proofs.front.front_byte.Goals as goal
+use Rattle.cs_prefilter.proofs.prefix.prefix_byte.Goals as goal
 
 -- all bytes pass the test of all bits
 all_pass : (b : ℕ) → b < 256 → bit_or b 255 ≡ 255

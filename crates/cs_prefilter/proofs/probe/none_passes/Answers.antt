@@ -4,7 +4,7 @@ use Rattle.std.proofs.lemmas.Nat.{le_or_l, le_or_r}
 use Rattle.std.proofs.lemmas.Nat.Bits.{bit_at-zero}
 use Rattle.std.specs.Int.{bit_at}
 use Rattle.cs_prefilter.specs.WordAt.{WordAt}
-use Rattle.cs_prefilter.proofs.probe.is_quiet.Goals as goal
+use Rattle.cs_prefilter.proofs.probe.none_passes.Goals as goal
 
 pub returns : goal.returns
 returns g c is k bucket word low high has occurs =

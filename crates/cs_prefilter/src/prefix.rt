@@ -1,13 +1,13 @@
-// Fronts: the first eight bytes of a word, for one comparison.
+// Prefixes: the first eight bytes of a word, for one comparison.
 ghost use Rattle.std.specs.Prelude.{◌≡◌, ◌+◌, ◌≤◌, ℕ, length, IsTrue, ◌↔◌, bit_or};
-ghost use Rattle.cs_prefilter.specs.Fronts.{IsFrontOf, TestsByte, eight};
+ghost use Rattle.cs_prefilter.specs.Prefixes.{IsPrefixOf, TestsByte, eight};
 
 use crate::byte_test::ByteTest;
 use crate::word::Word;
 
 /// Where the word occurs, the next eight bytes, with the bits of the mask set, are `bytes`.
 #[derive(Clone, Copy, Drop)]
-pub(crate) struct Front {
+pub(crate) struct Prefix {
     mask: u64,
     bytes: u64,
     /// Whether the word occurs wherever these bytes do.
@@ -16,24 +16,24 @@ pub(crate) struct Front {
 
 /// A test of a byte of a word, and whether only bytes that the word may have there pass it.
 #[derive(Clone, Copy, Drop)]
-pub(crate) struct FrontByte {
+pub(crate) struct PrefixByte {
     test: ByteTest,
     is_exact: bool,
 }
 
-impl Front {
-    pub(crate) fn of(word: &Word) -> Front
-        ensures { IsFrontOf word.now result }
+impl Prefix {
+    pub(crate) fn of(word: &Word) -> Prefix
+        ensures { IsPrefixOf word.now result }
     {
-        let b0 = front_byte(word, 0);
-        let b1 = front_byte(word, 1);
-        let b2 = front_byte(word, 2);
-        let b3 = front_byte(word, 3);
-        let b4 = front_byte(word, 4);
-        let b5 = front_byte(word, 5);
-        let b6 = front_byte(word, 6);
-        let b7 = front_byte(word, 7);
-        Front {
+        let b0 = prefix_byte(word, 0);
+        let b1 = prefix_byte(word, 1);
+        let b2 = prefix_byte(word, 2);
+        let b3 = prefix_byte(word, 3);
+        let b4 = prefix_byte(word, 4);
+        let b5 = prefix_byte(word, 5);
+        let b6 = prefix_byte(word, 6);
+        let b7 = prefix_byte(word, 7);
+        Prefix {
             mask: u64::from_le_bytes([
                 b0.test.mask,
                 b1.test.mask,
@@ -75,7 +75,7 @@ impl Front {
     }
 }
 
-/// Whether a front covers the word.
+/// Whether a prefix covers the word.
 fn is_short(word: &Word) -> bool
     ensures { IsTrue result → length word.now.sets.items ≤ 8 }
 {
@@ -83,7 +83,7 @@ fn is_short(word: &Word) -> bool
 }
 
 /// The test of the byte at this index of the word. Behind its end each byte passes.
-fn front_byte(word: &Word, index: usize) -> FrontByte
+fn prefix_byte(word: &Word, index: usize) -> PrefixByte
     ensures { TestsByte word.now index result }
 {
     let any = ByteTest {
@@ -92,16 +92,16 @@ fn front_byte(word: &Word, index: usize) -> FrontByte
     };
     match word.sets.get(index) {
         Some(set) => match ByteTest::of(set) {
-            Some(test) => FrontByte {
+            Some(test) => PrefixByte {
                 test,
                 is_exact: true,
             },
-            None => FrontByte {
+            None => PrefixByte {
                 test: any,
                 is_exact: false,
             },
         },
-        None => FrontByte {
+        None => PrefixByte {
             test: any,
             is_exact: true,
         },

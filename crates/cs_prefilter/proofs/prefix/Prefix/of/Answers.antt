@@ -1,11 +1,11 @@
 use Rattle.std.proofs.Common.{◌≡◌, ℕ, zero, suc, ◌∙◌, ◌<◌, ◌&&◌, Bool, true, false, true≢false, sym, refl}
-use Rattle.cs_prefilter.specs.declared.front.FrontByte.{FrontByte}
-use Rattle.cs_prefilter.specs.Fronts.{TestsByte}
-use Rattle.cs_prefilter.proofs.FrontLemmas.{of_eight, below_eight, front_of}
-use Rattle.cs_prefilter.proofs.front.Front.of.Goals as goal
+use Rattle.cs_prefilter.specs.declared.prefix.PrefixByte.{PrefixByte}
+use Rattle.cs_prefilter.specs.Prefixes.{TestsByte}
+use Rattle.cs_prefilter.proofs.PrefixLemmas.{of_eight, below_eight, prefix_of}
+use Rattle.cs_prefilter.proofs.prefix.Prefix.of.Goals as goal
 
 -- one of eight tests
-abbrev one_of_eight : FrontByte → FrontByte → FrontByte → FrontByte → FrontByte → FrontByte → FrontByte → FrontByte → ℕ → FrontByte
+abbrev one_of_eight : PrefixByte → PrefixByte → PrefixByte → PrefixByte → PrefixByte → PrefixByte → PrefixByte → PrefixByte → ℕ → PrefixByte
 one_of_eight a b c d e f g h zero = a
 one_of_eight a b c d e f g h (suc zero) = b
 one_of_eight a b c d e f g h (suc (suc zero)) = c
@@ -22,12 +22,12 @@ both_true false b e = absurd (true≢false (sym e))
 
 pub returns : goal.returns
 returns c =
-    let byte = one_of_eight c.front_byte-b0.result c.front_byte-b1.result c.front_byte-b2.result c.front_byte-b3.result
-    c.front_byte-b4.result c.front_byte-b5.result c.front_byte-b6.result c.front_byte-b7.result in
+    let byte = one_of_eight c.prefix_byte-b0.result c.prefix_byte-b1.result c.prefix_byte-b2.result c.prefix_byte-b3.result
+    c.prefix_byte-b4.result c.prefix_byte-b5.result c.prefix_byte-b6.result c.prefix_byte-b7.result in
     let tests : (i : ℕ) → i < 8 → TestsByte c.args.word.now i (byte i) = below_eight (λ i. TestsByte c.args.word.now i (byte i))
-    c.front_byte-b0.ensures c.front_byte-b1.ensures c.front_byte-b2.ensures c.front_byte-b3.ensures c.front_byte-b4.ensures
-    c.front_byte-b5.ensures c.front_byte-b6.ensures c.front_byte-b7.ensures in
-    front_of c.args.word.now byte tests _ (c.from_le_bytes.ensures ∙ of_eight _ _ _ _ _ _ _ _)
+    c.prefix_byte-b0.ensures c.prefix_byte-b1.ensures c.prefix_byte-b2.ensures c.prefix_byte-b3.ensures c.prefix_byte-b4.ensures
+    c.prefix_byte-b5.ensures c.prefix_byte-b6.ensures c.prefix_byte-b7.ensures in
+    prefix_of c.args.word.now byte tests _ (c.from_le_bytes.ensures ∙ of_eight _ _ _ _ _ _ _ _)
     (c.from_le_bytes-2.ensures ∙ of_eight _ _ _ _ _ _ _ _) (λ e.
     let s7 = both_true _ _ e in
     let s6 = both_true _ _ s7.0 in

@@ -52,6 +52,14 @@ pub(crate) struct Place<'a> {
     pub(crate) stem: &'a str,
 }
 
+/// What a folder lists.
+#[derive(Drop)]
+pub(crate) struct Listed {
+    pub(crate) names: Vec<String>,
+    /// Why the folder, or the name of one of its entries, cannot be read.
+    pub(crate) fault: Option<ListFault>,
+}
+
 /// Reads folders and their rule files, and notes what cannot be read.
 #[derive(Debug, Drop)]
 pub(crate) struct FolderReader {
@@ -131,31 +139,36 @@ impl FolderReader {
         Ok(())
     }
 
-    /// The names that a folder lists. None if it cannot be listed.
-    pub(crate) fn list<T: Tree>(
-        &mut self,
-        tree: &mut T,
-        stem: &str,
-    ) -> Result<Vec<String>, AllocError>
-        ensures names { IfOk result (λ names. are_elements (map string_bytes names.items) ≡ true) }
-        ensures listed { IfOk result (λ names. InTree (T.snapshot tree.old)
-            (λ items. map string_bytes names.items ≡ names_listed (items (folder_path' stem.now)))) }
+    /// What a folder lists: no names if it cannot be listed.
+    pub(crate) fn list<T: Tree>(&self, tree: &mut T, stem: &str) -> Result<Listed, AllocError>
+        ensures names { IfOk result (λ listed. are_elements (map string_bytes listed.names.items) ≡ true) }
+        ensures listed { IfOk result (λ listed. InTree (T.snapshot tree.old)
+            (λ items. map string_bytes listed.names.items ≡ names_listed (items (folder_path' stem.now)))) }
         ensures keeps { T.snapshot tree.new ≡ T.snapshot tree.old }
     {
-        let path = folder_path(stem);
-        match tree.entries(self.alloc, path) {
-            Ok(listing) => {
-                if listing.unnamed {
-                    self.note(path, ListFault::Unnamed)?;
-                }
-                Ok(listing.names)
-            }
+        match tree.entries(self.alloc, folder_path(stem)) {
+            Ok(listing) => Ok(Listed {
+                names: listing.names,
+                fault: if listing.unnamed {
+                    Some(ListFault::Unnamed)
+                } else {
+                    None
+                },
+            }),
             Err(TreeFault::Memory) => Err(AllocError),
-            Err(fault) => {
-                self.note(path, ListFault::Tree(fault))?;
-                Ok(Vec::new(self.alloc))
-            }
+            Err(fault) => Ok(Listed {
+                names: Vec::new(self.alloc),
+                fault: Some(ListFault::Tree(fault)),
+            }),
         }
+    }
+
+    /// Notes what of a folder could not be listed.
+    pub(crate) fn note_listed(&mut self, stem: &str, listed: &Listed) -> Result<(), AllocError> {
+        if let Some(fault) = listed.fault {
+            self.note(folder_path(stem), fault)?;
+        }
+        Ok(())
     }
 
     /// The rule files of a folder that lists these names.

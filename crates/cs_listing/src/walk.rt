@@ -6,7 +6,7 @@ ghost use Rattle.cs_listing.specs.Models.{rules_in, folders_in, all_names};
 ghost use Rattle.cs_listing.specs.FolderReads.{InTree};
 ghost use Rattle.cs_listing.specs.Walk.{settings_in, IsWalkIn, Gives, Begins, StepGives, IsLighter, IsVisit, Visits, OpensAtMostOne, Enters, Opens};
 
-use crate::entries::{Entry, FolderReader, Place, child_path};
+use crate::entries::{Entry, FolderReader, Listed, Place, child_path};
 use crate::fault::{ListFault, Unread};
 use crate::layers::Layers;
 use crate::rules::Rules;
@@ -80,12 +80,12 @@ impl Walk {
             reader: FolderReader::new(alloc),
         };
         let mut stem = String::new(alloc);
-        let mut names = walk.enter(tree, "", stem.as_str())?;
+        let mut listed = walk.enter(tree, "", stem.as_str())?;
         'start: for name in start {
             stem = child_path(alloc, stem.as_str(), name.as_str())?;
-            names = walk.enter(tree, name.as_str(), stem.as_str())?;
+            listed = walk.enter(tree, name.as_str(), stem.as_str())?;
         }
-        walk.open(tree, stem, &names)?;
+        walk.open(tree, stem, &listed)?;
         Ok(walk)
     }
 
@@ -143,29 +143,24 @@ impl Walk {
         if self.frames.len() > LONGEST_PATH {
             return self.reader.note(path.as_str(), ListFault::LongPath);
         }
-        let names = self.enter(tree, name, path.as_str())?;
-        self.open(tree, path, &names)
+        let listed = self.enter(tree, name, path.as_str())?;
+        self.open(tree, path, &listed)
     }
 
     /// Enters a folder of the deepest one, and returns what it lists.
-    fn enter<T: Look>(
-        &mut self,
-        tree: &mut T,
-        name: &str,
-        stem: &str,
-    ) -> Result<Vec<String>, AllocError>
-        ensures enters { IfOk result (λ names. InTree (T.snapshot tree.old)
-            (λ items. Enters items stem.now (map string_bytes names.items) self.old self.new)) }
+    fn enter<T: Look>(&mut self, tree: &mut T, name: &str, stem: &str) -> Result<Listed, AllocError>
+        ensures enters { IfOk result (λ listed. InTree (T.snapshot tree.old)
+            (λ items. Enters items stem.now (map string_bytes listed.names.items) self.old self.new)) }
         ensures names { OnOk result (all_names self.new.layers ≡ all_names self.old.layers ++ name.now ∷ []) }
         ensures frames { self.new.frames ≡ self.old.frames }
         ensures settings { OnOk result (settings_in self.new ≡ settings_in self.old) }
         ensures keeps { T.snapshot tree.new ≡ T.snapshot tree.old }
     {
-        let names = self.reader.list(tree, stem)?;
+        let listed = self.reader.list(tree, stem)?;
         let name = String::from_str(self.alloc, name)?;
-        let rules = self.reader.rules(tree, stem, &names, name)?;
+        let rules = self.reader.rules(tree, stem, &listed.names, name)?;
         self.layers.enter(rules)?;
-        Ok(names)
+        Ok(listed)
     }
 
     /// Makes the entries of the deepest folder the next ones to come.
@@ -173,19 +168,21 @@ impl Walk {
         &mut self,
         tree: &mut T,
         stem: String,
-        names: &[String],
+        listed: &Listed,
     ) -> Result<(), AllocError>
         requires { 0 < length (folders_in self.old.layers) }
-        ensures opens { OnOk result (Opens (T.snapshot tree.old) stem (map string_bytes names.now)
+        ensures opens { OnOk result (Opens (T.snapshot tree.old) stem (map string_bytes listed.now.names.items)
             self.old self.new) }
         ensures layers { self.new.layers ≡ self.old.layers }
         ensures keeps { T.snapshot tree.new ≡ T.snapshot tree.old }
     {
+        let text = stem.as_str();
+        self.reader.note_listed(text, listed)?;
         let place = Place {
             layers: &self.layers,
-            stem: stem.as_str(),
+            stem: text,
         };
-        let entries = self.reader.entries(tree, &place, names)?;
+        let entries = self.reader.entries(tree, &place, &listed.names)?;
         self.frames.push(Frame { stem, entries })?;
         Ok(())
     }

@@ -13,46 +13,44 @@ pub start-init : goal.start-init
 start-init g c =
     let before : Walk = record { alloc = c.args.alloc; layers = c.new.result; frames = c.new-2.result; reader = c.new-3.result } in
     record {
-      entered = enters_root (g.T.Tree.snapshot c.args.tree.now) (map string_bytes c.in_ok-names.names.items) (string_bytes c.new-stem.result)
+      entered = enters_root (g.T.Tree.snapshot c.args.tree.now) (map string_bytes c.in_ok-listed.listed.names.items) (string_bytes c.new-stem.result)
           before c.enter.new.self (no_names c.new.result c.new.ensures.folders) c.new.ensures.folders c.new-2.ensures.items
           c.new-stem.ensures.bytes
           (subst (λ stem. InTree (g.T.Tree.snapshot c.args.tree.now) (λ items. Enters items stem
-          (map string_bytes c.in_ok-names.names.items) before c.enter.new.self)) c.as_str.ensures.value c.in_ok-names.ensures.enters)
-          c.in_ok-names.ensures.names c.in_ok-names.ensures.frames;
+          (map string_bytes c.in_ok-listed.listed.names.items) before c.enter.new.self)) c.as_str.ensures.value c.in_ok-listed.ensures.enters)
+          c.in_ok-listed.ensures.names c.in_ok-listed.ensures.frames;
       settings = refl;
-      kept = c.in_ok-names.ensures.keeps;
+      kept = c.in_ok-listed.ensures.keeps;
     }
 
 pub start-preserved : goal.start-preserved
 start-preserved g c =
     let name = string_bytes c.name-item.result in
-    let listed = map string_bytes c.in_ok-names-2.names.items in
+    let listed = map string_bytes c.in_ok-listed-2.listed.names.items in
     record {
       entered =
           subst (λ ns. HasEntered (g.T.Tree.snapshot c.args.tree.now) ns c.enter-in-start.new.self (string_bytes c.in_ok-stem.stem) listed)
           (sym (mapped_more string_bytes c.args.start.now c.start.name-index c.name-item.result (omega arith) c.name-item.is))
           (enters_more (g.T.Tree.snapshot c.args.tree.now) (g.T.Tree.snapshot c.start.tree)
           (map string_bytes (take c.start.name-index c.args.start.now)) name (string_bytes c.start.stem) (string_bytes c.in_ok-stem.stem)
-          (map string_bytes c.start.names.items) listed c.start.walk c.enter-in-start.new.self c.start.invariant.kept
+          (map string_bytes c.start.listed.names.items) listed c.start.walk c.enter-in-start.new.self c.start.invariant.kept
           c.start.invariant.entered
           (c.in_ok-stem.ensures
           ∙ ap (λ t. entry_path t c.as_str-in-start-2.result.now) c.as_str-in-start.ensures.value
           ∙ ap (λ n. entry_path (string_bytes c.start.stem) n) c.as_str-in-start-2.ensures.value)
           (subst (λ stem. InTree (g.T.Tree.snapshot c.start.tree) (λ items. Enters items stem listed c.start.walk c.enter-in-start.new.self))
-          c.as_str-in-start-4.ensures.value c.in_ok-names-2.ensures.enters)
-          (c.in_ok-names-2.ensures.names ∙ ap (λ n. all_names c.start.walk.layers ++ n ∷ []) c.as_str-in-start-3.ensures.value)
-          c.in_ok-names-2.ensures.frames);
-      settings = c.in_ok-names-2.ensures.settings ∙ c.start.invariant.settings;
-      kept = c.in_ok-names-2.ensures.keeps ∙ c.start.invariant.kept;
+          c.as_str-in-start-4.ensures.value c.in_ok-listed-2.ensures.enters)
+          (c.in_ok-listed-2.ensures.names ∙ ap (λ n. all_names c.start.walk.layers ++ n ∷ []) c.as_str-in-start-3.ensures.value)
+          c.in_ok-listed-2.ensures.frames);
+      settings = c.in_ok-listed-2.ensures.settings ∙ c.start.invariant.settings;
+      kept = c.in_ok-listed-2.ensures.keeps ∙ c.start.invariant.kept;
     }
 
 pub returns-clause-begins : goal.returns-clause-begins
 returns-clause-begins g c =
     let all : take c.start.name-index c.args.start.now ≡ c.args.start.now = take_all c.start.name-index c.args.start.now (omega arith) in
     begins (g.T.Tree.snapshot c.args.tree.now) (g.T.Tree.snapshot c.start.tree) (map string_bytes c.args.start.now) c.start.stem
-    (map string_bytes c.deref.result.now) c.start.walk c.open.new.self c.start.invariant.kept
-    (subst (λ ns. HasEntered (g.T.Tree.snapshot c.args.tree.now) (map string_bytes c.args.start.now) c.start.walk (string_bytes c.start.stem)
-    (map string_bytes ns)) (sym c.deref.ensures.value)
+    (map string_bytes c.start.listed.names.items) c.start.walk c.open.new.self c.start.invariant.kept
     (subst (λ ns. HasEntered (g.T.Tree.snapshot c.args.tree.now) (map string_bytes ns) c.start.walk (string_bytes c.start.stem)
-    (map string_bytes c.start.names.items)) all c.start.invariant.entered))
+    (map string_bytes c.start.listed.names.items)) all c.start.invariant.entered)
     c.in_ok-open.ensures.opens c.open.ensures.layers

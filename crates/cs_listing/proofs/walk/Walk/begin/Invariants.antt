@@ -8,7 +8,7 @@ use Rattle.cs_listing.proofs.walk.Walk.begin.Given as goal
 abbrev pub invariant-start : goal.invariant-start
 invariant-start g l = record {
   entered : HasEntered (g.T.Tree.snapshot l.fn.tree) (map string_bytes (take l.name-index l.start)) l.walk (string_bytes l.stem)
-      (map string_bytes l.names.items);
+      (map string_bytes l.listed.names.items);
   settings : settings_in l.walk ≡ settings_in l.initial.walk;
   kept : g.T.Tree.snapshot l.tree ≡ g.T.Tree.snapshot l.fn.tree;
 }

@@ -10,7 +10,9 @@ returns-clause-opens g c = (
   c.in_ok-push.ensures.items,
   refl,
   c.in_ok-entries.ensures.ascend,
-  subst (λ stem. InTree (g.T.Tree.snapshot c.args.tree.now) (λ items. AreKeysOf (entry_keys c.in_ok-entries.entries.items)
-      (keys_taken c.args.self.now.layers items stem (map string_bytes c.args.names.now)))) c.as_str.ensures.value
-      c.in_ok-entries.ensures.taken,
+  subst (λ names. InTree (g.T.Tree.snapshot c.args.tree.now) (λ items. AreKeysOf (entry_keys c.in_ok-entries.entries.items)
+      (keys_taken c.args.self.now.layers items (string_bytes c.args.stem) (map string_bytes names)))) c.deref.ensures.value
+      (subst (λ stem. InTree (g.T.Tree.snapshot c.args.tree.now) (λ items. AreKeysOf (entry_keys c.in_ok-entries.entries.items)
+      (keys_taken c.args.self.now.layers items stem (map string_bytes c.deref.result.now)))) c.as_str-text.ensures.value
+      c.in_ok-entries.ensures.taken),
 )

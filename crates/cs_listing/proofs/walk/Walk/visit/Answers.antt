@@ -1,4 +1,4 @@
-use Rattle.std.proofs.Common.{map, arith, sym, subst}
+use Rattle.std.proofs.Common.{map, arith, subst}
 use Rattle.std.specs.Prelude.{string_bytes}
 use Rattle.cs_listing.specs.FolderReads.{InTree}
 use Rattle.cs_listing.specs.Walk.{Enters}
@@ -13,15 +13,15 @@ returns-then-len-gt-LONGEST_PATH-clause-visits g c =
 pub returns-clause-visits : goal.returns-clause-visits
 returns-clause-visits g c =
     visited_in (g.T.Tree.snapshot c.args.tree.now) (g.T.Tree.snapshot c.enter.new.tree) c.args.name.now c.args.path
-    (map string_bytes c.deref.result.now) c.args.self.now c.enter.new.self c.open.new.self c.open.result c.in_ok-names.ensures.keeps
-    (subst (λ names. InTree (g.T.Tree.snapshot c.args.tree.now) (λ items. Enters items (string_bytes c.args.path)
-    (map string_bytes names) c.args.self.now c.enter.new.self)) (sym c.deref.ensures.value)
+    (map string_bytes c.in_ok-listed.listed.names.items) c.args.self.now c.enter.new.self c.open.new.self c.open.result
+    c.in_ok-listed.ensures.keeps
     (subst (λ stem. InTree (g.T.Tree.snapshot c.args.tree.now) (λ items. Enters items stem
-    (map string_bytes c.in_ok-names.names.items) c.args.self.now c.enter.new.self)) c.as_str-2.ensures.value c.in_ok-names.ensures.enters))
-    c.in_ok-names.ensures.names c.in_ok-names.ensures.frames c.in_ok-names.ensures.settings c.open.ensures.layers
+    (map string_bytes c.in_ok-listed.listed.names.items) c.args.self.now c.enter.new.self)) c.as_str-2.ensures.value
+    c.in_ok-listed.ensures.enters)
+    c.in_ok-listed.ensures.names c.in_ok-listed.ensures.frames c.in_ok-listed.ensures.settings c.open.ensures.layers
     c.open.ensures.opens
 
 pub returns-clause-frames : goal.returns-clause-frames
 returns-clause-frames g c =
-    opens_one (g.T.Tree.snapshot c.enter.new.tree) c.args.path (map string_bytes c.deref.result.now) c.args.self.now c.enter.new.self
-    c.open.new.self c.open.result c.in_ok-names.ensures.frames (omega arith) c.open.ensures.opens
+    opens_one (g.T.Tree.snapshot c.enter.new.tree) c.args.path (map string_bytes c.in_ok-listed.listed.names.items) c.args.self.now
+    c.enter.new.self c.open.new.self c.open.result c.in_ok-listed.ensures.frames (omega arith) c.open.ensures.opens

@@ -1,6 +1,6 @@
 -- The effect of printing a text on an output.
 use Rattle.std.specs.Prelude.{ℕ, ◌≡◌, Bool, List, ◌++◌}
-use Rattle.cs_syntax.specs.Matching.{Tree}
+use Rattle.cs_project.specs.declared.search.Search.{Search}
 use Rattle.cs_project.specs.Shown.{Finding, IsFoundBy, following, has_groups, line_gap, line_groups, text_rows, between, text_groups}
 use Rattle.cs_project.specs.declared.rows.Page.{Page}
 
@@ -10,20 +10,24 @@ page_groups page finding text =
     line_groups page.options.now finding page.name.now (text_rows page.options.now finding text)
 
 -- The lines of the text were printed, by each test that decides which lines match.
-abbrev pub PrintsLines : Tree → Tree → Page → List ℕ → List ℕ → List ℕ → Type 0
-PrintsLines tree pattern page text given later = (finding : Finding) → IsFoundBy finding tree pattern →
+abbrev pub PrintsLines : Search → Page → List ℕ → List ℕ → List ℕ → Type 0
+PrintsLines search page text given later = (finding : Finding) → IsFoundBy finding search.matcher.tree search.finder →
     later ≡ given ++ following (line_gap page.options.now) page.begun (page_groups page finding text)
 
 -- whether a line of the text is shown
-abbrev pub HasLines : Tree → Tree → Page → List ℕ → Bool → Type 0
-HasLines tree pattern page text some = (finding : Finding) → IsFoundBy finding tree pattern → some ≡ has_groups (page_groups page finding text)
+abbrev pub HasLines : Search → Page → List ℕ → Bool → Type 0
+HasLines search page text some = (finding : Finding) → IsFoundBy finding search.matcher.tree search.finder → some ≡ has_groups (page_groups page finding text)
 
 -- The text was printed, by each test that decides which lines match.
-abbrev pub PrintsText : Tree → Tree → Page → List ℕ → List ℕ → List ℕ → Type 0
-PrintsText tree pattern page text given later = (finding : Finding) → IsFoundBy finding tree pattern →
+abbrev pub PrintsText : Search → Page → List ℕ → List ℕ → List ℕ → Type 0
+PrintsText search page text given later = (finding : Finding) → IsFoundBy finding search.matcher.tree search.finder →
     later ≡ given ++ following (between page.options.now) page.begun (text_groups page.options.now finding page.name.now text)
 
 -- whether something is printed for the text
-abbrev pub HasGroups : Tree → Tree → Page → List ℕ → Bool → Type 0
-HasGroups tree pattern page text some = (finding : Finding) → IsFoundBy finding tree pattern →
+abbrev pub HasGroups : Search → Page → List ℕ → Bool → Type 0
+HasGroups search page text some = (finding : Finding) → IsFoundBy finding search.matcher.tree search.finder →
     some ≡ has_groups (text_groups page.options.now finding page.name.now text)
+
+-- the search is for the same
+abbrev pub KeepsTrees : Search → Search → Type 0
+KeepsTrees old new = (new.matcher.tree ≡ old.matcher.tree) × (new.finder ≡ old.finder)

@@ -92,7 +92,8 @@ impl LineForm {
         out: &mut O,
     ) -> Result<(), AllocError>
         requires ordered { AreOrdered from (length line.now) (pairs spans.now) }
-        ensures { Prints (O.given out.old) (O.given out.new) (painted_from self.now line.now from (pairs spans.now)) result }
+        ensures { Prints (O.given out.old) (O.given out.new) (painted_from self.now line.now from
+            (pairs spans.now)) result }
     {
         let mut at = from;
         for span in spans {
@@ -110,7 +111,8 @@ impl LineForm {
         out: &mut O,
     ) -> Result<(), AllocError>
         requires ordered { AreOrdered 0 (length line.now) (pairs spans.now) }
-        ensures { Prints (O.given out.old) (O.given out.new) (painted self.now line.now (pairs spans.now)) result }
+        ensures { Prints (O.given out.old) (O.given out.new) (painted self.now line.now
+            (pairs spans.now)) result }
     {
         if self.colour {
             self.print_from(line, 0, spans, out)?;
@@ -146,7 +148,8 @@ impl LineForm {
         requires within { (span.start ≤ span.end) × (span.end ≤ length found.now.row.line.now) }
         requires ordered { AreOrdered 0 (length found.now.row.line.now) (pairs found.now.spans.now) }
         ensures { Prints (O.given out.old) (O.given out.new)
-            (match_bytes self.now found.now.name.now (row_of found.now.row) (pairs found.now.spans.now) (span.start, span.end))
+            (match_bytes self.now found.now.name.now (row_of found.now.row) (pairs found.now.spans.now)
+            (span.start, span.end))
             result }
     {
         if self.only && span.start >= span.end {
@@ -167,7 +170,8 @@ impl LineForm {
     fn print_matches<O: Output>(&self, found: &FoundRow<'_>, out: &mut O) -> Result<(), AllocError>
         requires ordered { AreOrdered 0 (length found.now.row.line.now) (pairs found.now.spans.now) }
         ensures { Prints (O.given out.old) (O.given out.new)
-            (flat_map (match_bytes self.now found.now.name.now (row_of found.now.row) (pairs found.now.spans.now))
+            (flat_map (match_bytes self.now found.now.name.now (row_of found.now.row)
+            (pairs found.now.spans.now))
             (pairs found.now.spans.now)) result }
     {
         let spans = found.spans;
@@ -181,7 +185,8 @@ impl LineForm {
     fn print_whole<O: Output>(&self, found: &FoundRow<'_>, out: &mut O) -> Result<(), AllocError>
         requires ordered { AreOrdered 0 (length found.now.row.line.now) (pairs found.now.spans.now) }
         ensures { Prints (O.given out.old) (O.given out.new)
-            (whole_bytes self.now found.now.name.now (row_of found.now.row) (pairs found.now.spans.now)) result }
+            (whole_bytes self.now found.now.name.now (row_of found.now.row)
+            (pairs found.now.spans.now)) result }
     {
         self.print_start(found, first_column(found.spans), out)?;
         self.print_painted(found.row.line, found.spans, out)?;
@@ -197,7 +202,8 @@ impl LineForm {
     ) -> Result<(), AllocError>
         requires ordered { AreOrdered 0 (length found.now.row.line.now) (pairs found.now.spans.now) }
         ensures { Prints (O.given out.old) (O.given out.new)
-            (row_bytes self.now found.now.name.now (row_of found.now.row) (pairs found.now.spans.now)) result }
+            (row_bytes self.now found.now.name.now (row_of found.now.row)
+            (pairs found.now.spans.now)) result }
     {
         if found.row.marked {
             if self.only || self.each {

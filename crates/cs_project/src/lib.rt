@@ -2,6 +2,7 @@
 //! is printed) and `specs/Shown.antt` (a text, and texts one after another).
 #![tactic(auto)]
 
+mod binary;
 mod form;
 mod found;
 mod lines;
@@ -11,6 +12,7 @@ mod search;
 mod searching;
 mod text;
 
+pub use binary::is_binary;
 pub use form::{LineForm, Mode, ShowOptions};
 pub use rows::Page;
 pub use search::Search;

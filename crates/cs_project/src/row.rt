@@ -45,7 +45,8 @@ impl LineForm {
         marked: bool,
         out: &mut O,
     ) -> Result<(), AllocError>
-        ensures { Prints (O.given out.old) (O.given out.new) (dyed self.now (codes "36") (separator marked)) result }
+        ensures { Prints (O.given out.old) (O.given out.new) (dyed self.now (codes "36")
+            (separator marked)) result }
     {
         if marked {
             self.print_dyed(b"36", b":", out)?;
@@ -63,7 +64,8 @@ impl LineForm {
         text: &[u8],
         out: &mut O,
     ) -> Result<(), AllocError>
-        ensures { Prints (O.given out.old) (O.given out.new) (separated self.now marked colour.now text.now) result }
+        ensures { Prints (O.given out.old) (O.given out.new)
+            (separated self.now marked colour.now text.now) result }
     {
         self.print_dyed(colour, text, out)?;
         self.print_separator(marked, out)?;

@@ -94,7 +94,8 @@ impl Page<'_> {
 
     /// The name above the lines, under `--heading`.
     fn print_heading<O: Output>(&self, out: &mut O) -> Result<(), AllocError>
-        ensures { Prints (O.given out.old) (O.given out.new) (heading self.now.options.now self.now.name.now) result }
+        ensures { Prints (O.given out.old) (O.given out.new)
+            (heading self.now.options.now self.now.name.now) result }
     {
         if !self.options.heading {
             return Ok(());
@@ -132,7 +133,8 @@ impl<'a> Rows<'a> {
     /// What is before the line with this number.
     fn print_before<O: Output>(&self, number: u64, out: &mut O) -> Result<(), AllocError>
         ensures { Prints (O.given out.old) (O.given out.new)
-            (before_row (opening_of self.now.page) (gap self.now.page.options.now) self.now.shown self.now.number number)
+            (before_row (opening_of self.now.page) (gap self.now.page.options.now) self.now.shown
+            self.now.number number)
             result }
     {
         if !self.shown {
@@ -154,7 +156,8 @@ impl<'a> Rows<'a> {
     ) -> Result<(), AllocError>
         requires number { row.now.number + 1 < 2 ^ 64 }
         requires ordered { AreOrdered 0 (length row.now.line.now) (pairs spans.now) }
-        ensures { ShowsRow self.old self.new (O.given out.old) (O.given out.new) (row_of row.now) (pairs spans.now) result }
+        ensures { ShowsRow self.old self.new (O.given out.old) (O.given out.new) (row_of row.now)
+            (pairs spans.now) result }
     {
         self.print_before(row.number, out)?;
         let found = FoundRow {
@@ -180,7 +183,8 @@ impl<'a> Rows<'a> {
         requires room { number + length block.now < 2 ^ 64 }
         ensures rows { ShowsRows self.old self.new (O.given out.old) (O.given out.new)
             (rows_at number (take count (terminated_lines block.now))) result }
-        ensures count { IfOk result (λ passed. passed.count ≡ length (take count (terminated_lines block.now))) }
+        ensures count { IfOk result (λ passed. passed.count ≡ length (take count
+            (terminated_lines block.now))) }
         ensures len { IfOk result (λ passed. IsFirstLines count block.now passed.len) }
     {
         let mut offset = 0;
@@ -214,7 +218,8 @@ impl<'a> Rows<'a> {
         out: &mut O,
     ) -> Result<usize, AllocError>
         requires within { (held ≤ from) × (from ≤ length block.now) }
-        requires whole { AreWholeLines (drop held block.now) × AreWholeLines (slice_range block.now held from) }
+        requires whole { AreWholeLines (drop held block.now) × AreWholeLines
+            (slice_range block.now held from) }
         requires fits { Fits (terminated_lines (slice_range block.now held from)) self.old.left }
         requires room { self.old.number + (length block.now - from) < 2 ^ 64 }
         ensures rows { OnOk result (IsPrinted self.old self.new (O.given out.old) (O.given out.new)
@@ -266,7 +271,8 @@ impl<'a> Rows<'a> {
         requires room { self.old.number + length held.now + 1 < 2 ^ 64 }
         requires ordered { AreOrdered 0 (length line.now) (pairs spans.now) }
         requires open { is_open self.old.most ≡ true }
-        ensures rows { OnOk result (IsMarkPrinted self.old self.new (O.given out.old) (O.given out.new) line.now (pairs spans.now)
+        ensures rows { OnOk result (IsMarkPrinted self.old self.new (O.given out.old)
+            (O.given out.new) line.now (pairs spans.now)
             (last_rows self.old.page.options.now.before self.old.number (terminated_lines held.now)
             ++ row_at (self.old.number + length (terminated_lines held.now)) line.now true ∷ [])) }
         ensures scan { OnOk result (scan_of self.new ≡ scan_marked self.old (terminated_lines held.now)) }

@@ -7,6 +7,7 @@ ghost use Rattle.cs_match.specs.NoNewline.{HasNoNewline};
 ghost use Rattle.cs_match.specs.Skipping.{AreWholeLines, NoneMatch, IsLineAfter};
 ghost use Rattle.cs_project.specs.Blocks.{IsNext};
 ghost use Rattle.cs_project.specs.Contexts.{is_open};
+ghost use Rattle.cs_project.specs.Printed.{KeepsTrees};
 ghost use Rattle.cs_project.specs.Scans.{Fits, Searches, SearchesLast, IsNextMark};
 ghost use Rattle.cs_project.specs.Shown.{is_wanted};
 
@@ -84,7 +85,8 @@ impl Rows<'_> {
     fn next_mark(&self, block: &[u8], from: usize, matcher: &mut Matcher<'_>) -> Option<Line>
         requires within { from ≤ length block.now }
         requires whole { AreWholeLines (drop from block.now) }
-        ensures line { IfSome result (λ line. IsLineAfter block.now from line.start line.end × (is_open self.now.most ≡ true)) }
+        ensures line { IfSome result (λ line. IsLineAfter block.now from line.start line.end ×
+            (is_open self.now.most ≡ true)) }
         ensures mark { (has_match : List ℕ → Bool) → Decides has_match matcher.old.tree →
             IsNextMark self.now has_match block.now from result }
         ensures same { matcher.new.tree ≡ matcher.old.tree }
@@ -112,10 +114,11 @@ impl Rows<'_> {
         ensures fits { IfOk result (λ held. Fits (terminated_lines (drop held block.now)) self.new.left) }
         ensures room { IfOk result (λ held. self.new.number ≤ self.old.number + held) }
         ensures page { OnOk result (self.new.page ≡ self.old.page) }
-        ensures rows { IfOk result (λ held. Searches search.old.matcher.tree search.old.finder self.old self.new (O.given out.old) (O.given out.new)
+        ensures rows { IfOk result (λ held. Searches search.old self.old self.new (O.given out.old)
+            (O.given out.new)
             (terminated_lines (take from block.now)) (terminated_lines (drop from block.now))
             (terminated_lines (drop held block.now))) }
-        ensures same { (search.new.matcher.tree ≡ search.old.matcher.tree) × (search.new.finder ≡ search.old.finder) }
+        ensures same { KeepsTrees search.old search.new }
     {
         let mut held = 0;
         let mut offset = from;
@@ -155,9 +158,10 @@ impl Rows<'_> {
         requires whole { AreWholeLines held.now }
         requires fits { Fits (terminated_lines held.now) self.old.left }
         requires room { self.old.number + length held.now + 1 < 2 ^ 64 }
-        ensures rows { OnOk result (SearchesLast search.old.matcher.tree search.old.finder self.old self.new (O.given out.old) (O.given out.new)
+        ensures rows { OnOk result (SearchesLast search.old self.old self.new (O.given out.old)
+            (O.given out.new)
             (terminated_lines held.now) (last_line last.now)) }
-        ensures same { (search.new.matcher.tree ≡ search.old.matcher.tree) × (search.new.finder ≡ search.old.finder) }
+        ensures same { KeepsTrees search.old search.new }
     {
         if last.is_empty() {
             return Ok(());

@@ -6,7 +6,7 @@ ghost use Rattle.cs_match.specs.LastPart.{last_line};
 ghost use Rattle.cs_match.specs.Lines.{terminated_lines};
 ghost use Rattle.cs_match.specs.Skipping.{AreWholeLines};
 ghost use Rattle.cs_match.specs.Deciding.{Decides};
-ghost use Rattle.cs_project.specs.Printed.{PrintsText, HasGroups, PrintsLines, HasLines};
+ghost use Rattle.cs_project.specs.Printed.{KeepsTrees, PrintsText, HasGroups, PrintsLines, HasLines};
 
 use crate::form::{Mode, ShowOptions};
 use crate::lines::line_count;
@@ -25,9 +25,10 @@ pub fn print_lines<O: Output>(
     search: &mut Search<'_>,
     out: &mut O,
 ) -> Result<bool, AllocError>
-    ensures lines { OnOk result (PrintsLines search.old.matcher.tree search.old.finder page.now text.now (O.given out.old) (O.given out.new)) }
-    ensures some { IfOk result (λ some. HasLines search.old.matcher.tree search.old.finder page.now text.now some) }
-    ensures same { (search.new.matcher.tree ≡ search.old.matcher.tree) × (search.new.finder ≡ search.old.finder) }
+    ensures lines { OnOk result (PrintsLines search.old page.now text.now (O.given out.old)
+        (O.given out.new)) }
+    ensures some { IfOk result (λ some. HasLines search.old page.now text.now some) }
+    ensures same { KeepsTrees search.old search.new }
 {
     let mut rows = Rows::new(*page);
     let end = whole_lines_len(text);
@@ -110,7 +111,8 @@ impl Page<'_> {
     fn print_count<O: Output>(&self, count: u64, out: &mut O) -> Result<bool, AllocError>
         ensures count { Prints (O.given out.old) (O.given out.new)
             (following [] self.now.begun (count_groups self.now.options.now self.now.name.now count)) result }
-        ensures some { IfOk result (λ some. some ≡ has_groups (count_groups self.now.options.now self.now.name.now count)) }
+        ensures some { IfOk result (λ some. some ≡ has_groups
+            (count_groups self.now.options.now self.now.name.now count)) }
     {
         if count == 0 {
             return Ok(false);
@@ -128,7 +130,8 @@ impl Page<'_> {
     fn print_listed<O: Output>(&self, here: bool, out: &mut O) -> Result<bool, AllocError>
         ensures name { Prints (O.given out.old) (O.given out.new)
             (following [] self.now.begun (name_groups self.now.options.now self.now.name.now here)) result }
-        ensures some { IfOk result (λ some. some ≡ has_groups (name_groups self.now.options.now self.now.name.now here)) }
+        ensures some { IfOk result (λ some. some ≡ has_groups
+            (name_groups self.now.options.now self.now.name.now here)) }
     {
         if here {
             self.print_name(b"\n", out)?;
@@ -156,9 +159,9 @@ pub fn print_text<O: Output>(
     search: &mut Search<'_>,
     out: &mut O,
 ) -> Result<bool, AllocError>
-    ensures text { OnOk result (PrintsText search.old.matcher.tree search.old.finder page.now text.now (O.given out.old) (O.given out.new)) }
-    ensures some { IfOk result (λ some. HasGroups search.old.matcher.tree search.old.finder page.now text.now some) }
-    ensures same { (search.new.matcher.tree ≡ search.old.matcher.tree) × (search.new.finder ≡ search.old.finder) }
+    ensures text { OnOk result (PrintsText search.old page.now text.now (O.given out.old) (O.given out.new)) }
+    ensures some { IfOk result (λ some. HasGroups search.old page.now text.now some) }
+    ensures same { KeepsTrees search.old search.new }
 {
     match page.options.mode {
         Mode::Lines => print_lines(page, text, search, out),

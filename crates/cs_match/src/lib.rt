@@ -64,7 +64,9 @@
 //! the loads of one do not wait for those of another. Each lists the offset of each newline over which it
 //! enters the state *found*, which has number 0. A chunk ends after the first newline at least so many bytes
 //! on, so a quarter of the list has room for its lines. A lane that meets an unknown transition stays in the
-//! state *unknown*. The lanes know no states: `specs/Table.antt` says what they need of the table.
+//! state *unknown*: its chunk is listed once more by one lane that computes the transitions (`OneLane`), and
+//! the lists of the other three are kept. The lanes know no states: `specs/Table.antt` says what they need of
+//! the table, and `specs/MatchingEnds.antt` what is listed.
 //!
 //! *Spans.* A `Finder` simulates the position automaton without the DFA, in *passes* in which a match may begin
 //! in a part of the line only. The first pass, over the rest of the line, finds an end of a match, and the last

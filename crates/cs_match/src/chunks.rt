@@ -16,7 +16,7 @@ const LEAST: usize = 64;
 
 /// How many ends of matching lines are listed, and the offset up to which.
 #[derive(Clone, Copy)]
-pub(crate) struct Listed {
+pub(crate) struct ListedLines {
     pub(crate) count: usize,
     pub(crate) to: usize,
 }
@@ -73,7 +73,7 @@ pub(crate) fn list_chunks<D: OneLane>(
     from: usize,
     ends: &mut [usize],
     steps: &mut Steps,
-) -> Listed
+) -> ListedLines
     requires right { D.is_right dfa.old }
     requires within { from ≤ length block.now }
     requires whole { AreWholeLines (drop from block.now) }
@@ -103,5 +103,5 @@ pub(crate) fn list_chunks<D: OneLane>(
             count += lane.count;
         }
     }
-    Listed { count, to: cuts[4] }
+    ListedLines { count, to: cuts[4] }
 }

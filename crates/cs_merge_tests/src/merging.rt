@@ -2,8 +2,7 @@
 use cs_fakes::{ChangingStore, Files, ONE_FILE, UNSORTED, changed, index_of, one_file_until};
 use cs_index::{Index, IndexFault, StoredTables};
 use cs_merge::{
-    MergeFault, is_replaced, is_replaced_stored, is_whole_stored, merge, merge_stored,
-    merge_within,
+    MergeFault, is_replaced, is_replaced_stored, is_whole_stored, merge, merge_stored, merge_within,
 };
 use cs_output::Sent;
 use cs_tree::{IoFault, MemStore, Store};

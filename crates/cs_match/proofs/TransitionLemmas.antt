@@ -263,13 +263,13 @@ module _ (t : Tree) (classes : ByteClasses) (states : StateList) (transitions : 
   -- the transition of the state in a slot is stored for the bytes of a class
   module _ (slot byte number : ℕ) (at : IsSlot states.items slot) (low : byte < 256)
       (leads : Leads t classes.count states.items (state_at t states.items slot) byte number) where
-    abbrev transition : ℕ
-    transition = slot * classes.count + get_or classes.of byte 0
+    abbrev place : ℕ
+    place = slot * classes.count + get_or classes.of byte 0
 
-    pub transition_in : transition < length transitions
+    pub transition_in : place < length transitions
     transition_in = omega (arith, table.rows, in_rows classes.count slot (length states.items) (get_or classes.of byte 0) at.within (are.range byte low))
 
-    ordinary_transition : (k : ℕ) → unknown_number classes.count ≤ k → k < start_number classes.count → k ≢ transition
+    ordinary_transition : (k : ℕ) → unknown_number classes.count ≤ k → k < start_number classes.count → k ≢ place
     ordinary_transition k from to e =
         elim at.ordinary [
           | inl zero_slot ↦ omega (arith, from, e, are.range byte low, ap (λ s. s * classes.count) zero_slot)
@@ -277,34 +277,34 @@ module _ (t : Tree) (classes : ByteClasses) (states : StateList) (transitions : 
         ]
 
     right_there : (r b : ℕ) → IsSlot states.items r → b < 256 →
-        IsTransition t classes.count states.items (state_at t states.items r) b (get_or (set transitions transition number) (r * classes.count + get_or classes.of b 0) 0)
+        IsTransition t classes.count states.items (state_at t states.items r) b (get_or (set transitions place number) (r * classes.count + get_or classes.of b 0) 0)
     right_there r b there lt =
-        elim (cases_eq (r * classes.count + get_or classes.of b 0) transition) [
+        elim (cases_eq (r * classes.count + get_or classes.of b 0) place) [
           | inl e ↦
               let same = same_transition classes.count r slot (get_or classes.of b 0) (get_or classes.of byte 0) (are.range b lt) (are.range byte low) e in
               let alike = are.alike byte b low lt (sym same.1) (state_at t states.items slot) (right.blocks slot) in
-              let is : get_or (set transitions transition number) (r * classes.count + get_or classes.of b 0) 0 ≡ number =
-              ap (λ k. get_or (set transitions transition number) k 0) e ∙ get_or-set_same transitions transition number 0 transition_in in
+              let is : get_or (set transitions place number) (r * classes.count + get_or classes.of b 0) 0 ≡ number =
+              ap (λ k. get_or (set transitions place number) k 0) e ∙ get_or-set_same transitions place number 0 transition_in in
               subst (λ x. IsTransition t classes.count states.items (state_at t states.items r) b x) (sym is)
               (subst (λ s. IsTransition t classes.count states.items (state_at t states.items s) b number) (sym same.0)
               (known (leads_alike t classes.count states.items (state_at t states.items slot) byte b number alike leads)))
           | inr other ↦
               subst (λ x. IsTransition t classes.count states.items (state_at t states.items r) b x)
-              (sym (get_or-set_other transitions transition (r * classes.count + get_or classes.of b 0) number 0 other)) (table.right r b there lt)
+              (sym (get_or-set_other transitions place (r * classes.count + get_or classes.of b 0) number 0 other)) (table.right r b there lt)
         ]
 
-    pub put_transition : IsTable t classes states.items (set transitions transition number)
+    pub put_transition : IsTable t classes states.items (set transitions place number)
     put_transition = record {
-      rows = length-set transitions transition number ∙ table.rows;
-      numbers = λ k lt. elim (cases_eq k transition) [
+      rows = length-set transitions place number ∙ table.rows;
+      numbers = λ k lt. elim (cases_eq k place) [
         | inl e ↦
             let of_leads = leads_slot t classes.count states.items (state_at t states.items slot) byte number right.first leads in
-            (of_leads.0, of_leads.1, ap (λ i. get_or (set transitions transition number) i 0) e ∙ get_or-set_same transitions transition number 0 transition_in ∙ of_leads.2)
+            (of_leads.0, of_leads.1, ap (λ i. get_or (set transitions place number) i 0) e ∙ get_or-set_same transitions place number 0 transition_in ∙ of_leads.2)
         | inr other ↦
-            let before = table.numbers k (omega (arith, lt, length-set transitions transition number)) in
-            (before.0, before.1, get_or-set_other transitions transition k number 0 other ∙ before.2)
+            let before = table.numbers k (omega (arith, lt, length-set transitions place number)) in
+            (before.0, before.1, get_or-set_other transitions place k number 0 other ∙ before.2)
       ];
-      special = λ k from to. get_or-set_other transitions transition k number 0 (ordinary_transition k from to) ∙ table.special k from to;
+      special = λ k from to. get_or-set_other transitions place k number 0 (ordinary_transition k from to) ∙ table.special k from to;
       right = right_there;
     }
 

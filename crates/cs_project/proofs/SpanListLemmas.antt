@@ -8,7 +8,7 @@ use Rattle.cs_project.specs.Printing.{needs_spans}
 use Rattle.cs_project.specs.declared.form.LineForm.{LineForm}
 use Rattle.std.proofs.lemmas.List.{at_drop_more}
 use Rattle.cs_syntax.specs.Matching.{Tree}
-use Rattle.cs_match.specs.Span.{AreSpansFrom, IsMatchFrom}
+use Rattle.cs_match.specs.Span.{AreSpansFrom, IsMatchOf}
 use Rattle.cs_match.specs.declared.spans.Span.{Span as A_span}
 use Rattle.cs_project.specs.Forms.{Span, column_part, dyed, first_column, marked_bytes, match_bytes, name_part, number_part, painted, painted_from, prefix_of, row_bytes, separator, whole_bytes}
 use Rattle.cs_project.specs.Ordered.{pair_of, pairs, AreOrdered}
@@ -25,7 +25,7 @@ pub ordered_before : (from at size : ℕ) (spans : List Span) → from ≤ at �
 ordered_before from at size [] low h = omega arith
 ordered_before from at size (span ∷ spans) low h = (omega (arith, h.0), h.1, h.2)
 
-pub spans_ordered : (t : Tree) (s : List ℕ) (spans : List Span) (from least : ℕ) → from ≤ length s → AreSpansFrom t s from least spans →
+pub spans_ordered : (t : Tree) (s : List ℕ) (spans : List Span) (from least : ℕ) → from ≤ length s → AreSpansFrom true false t s from least spans →
     AreOrdered from (length s) spans
 spans_ordered t s [] from least within h = within
 spans_ordered t s (span ∷ spans) from least within h =
@@ -54,16 +54,16 @@ span_within spans i from size d low h =
 -- ---- the matches of a line are unique
 
 module _ (t : Tree) (s : List ℕ) where
-  pub spans_unique : (a b : List Span) (from least : ℕ) → AreSpansFrom t s from least a → AreSpansFrom t s from least b → a ≡ b
+  pub spans_unique : (a b : List Span) (from least : ℕ) → AreSpansFrom true false t s from least a → AreSpansFrom true false t s from least b → a ≡ b
   spans_unique [] [] from least h k = refl
-  spans_unique [] (y ∷ b) from least h k = absurd (h y.0 y.1 k.0.is)
-  spans_unique (x ∷ a) [] from least h k = absurd (k x.0 x.1 h.0.is)
+  spans_unique [] (y ∷ b) from least h k = absurd (h refl y.0 y.1 k.0.is)
+  spans_unique (x ∷ a) [] from least h k = absurd (k refl x.0 x.1 h.0.is)
   spans_unique (x ∷ a) (y ∷ b) from least h k =
       let start : x.0 ≡ y.0 = omega (arith, h.0.leftmost y.0 y.1 k.0.is, k.0.leftmost x.0 x.1 h.0.is) in
-      let low = h.0.longest y.1 (subst (λ i. IsMatchFrom t s from least i y.1) (sym start) k.0.is) in
-      let high = k.0.longest x.1 (subst (λ i. IsMatchFrom t s from least i x.1) start h.0.is) in
+      let low = h.0.longest y.1 (subst (λ i. IsMatchOf false t s from least i y.1) (sym start) k.0.is) in
+      let high = k.0.longest x.1 (subst (λ i. IsMatchOf false t s from least i x.1) start h.0.is) in
       let end : x.1 ≡ y.1 = omega (arith, low, high) in
-      let more = subst (λ e. AreSpansFrom t s e (suc e) b) (sym end) k.1 in
+      let more = subst (λ e. AreSpansFrom true false t s e (suc e) b) (sym end) k.1 in
       ap (λ i. let p : Span = (i, x.1) in p ∷ a) start ∙ ap (λ e. let p : Span = (y.0, e) in p ∷ a) end
       ∙ ap (λ (rest : List Span). y ∷ rest) (spans_unique a b x.1 (suc x.1) h.1 more)
 

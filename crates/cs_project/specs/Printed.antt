@@ -11,23 +11,23 @@ page_groups page finding text =
 
 -- The lines of the text were printed, by each test that decides which lines match.
 abbrev pub PrintsLines : Search → Page → List ℕ → List ℕ → List ℕ → Type 0
-PrintsLines search page text given later = (finding : Finding) → IsFoundBy finding search.matcher.tree search.finder →
+PrintsLines search page text given later = (finding : Finding) → IsFoundBy finding search.matcher.tree search.finder.tree →
     later ≡ given ++ following (line_gap page.options.now) page.begun (page_groups page finding text)
 
 -- whether a line of the text is shown
 abbrev pub HasLines : Search → Page → List ℕ → Bool → Type 0
-HasLines search page text some = (finding : Finding) → IsFoundBy finding search.matcher.tree search.finder → some ≡ has_groups (page_groups page finding text)
+HasLines search page text some = (finding : Finding) → IsFoundBy finding search.matcher.tree search.finder.tree → some ≡ has_groups (page_groups page finding text)
 
 -- The text was printed, by each test that decides which lines match.
 abbrev pub PrintsText : Search → Page → List ℕ → List ℕ → List ℕ → Type 0
-PrintsText search page text given later = (finding : Finding) → IsFoundBy finding search.matcher.tree search.finder →
+PrintsText search page text given later = (finding : Finding) → IsFoundBy finding search.matcher.tree search.finder.tree →
     later ≡ given ++ following (between page.options.now) page.begun (text_groups page.options.now finding page.name.now text)
 
 -- whether something is printed for the text
 abbrev pub HasGroups : Search → Page → List ℕ → Bool → Type 0
-HasGroups search page text some = (finding : Finding) → IsFoundBy finding search.matcher.tree search.finder →
+HasGroups search page text some = (finding : Finding) → IsFoundBy finding search.matcher.tree search.finder.tree →
     some ≡ has_groups (text_groups page.options.now finding page.name.now text)
 
 -- the search is for the same
 abbrev pub KeepsTrees : Search → Search → Type 0
-KeepsTrees old new = (new.matcher.tree ≡ old.matcher.tree) × (new.finder ≡ old.finder)
+KeepsTrees old new = (new.matcher.tree ≡ old.matcher.tree) × (new.finder.tree ≡ old.finder.tree)

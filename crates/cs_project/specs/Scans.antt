@@ -85,11 +85,11 @@ IsNextMark rows has_match block from next = let wanted = is_wanted rows.page.opt
 -- Lines were searched, and `held'` are held now: what is to be printed of them and of any lines after them was printed, except
 -- what is to be printed now.
 abbrev pub Searches : Search → Rows → Rows → List ℕ → List ℕ → List (List ℕ) → List (List ℕ) → List (List ℕ) → Type 0
-Searches search old new given given' held lines held' = (finding : Finding) (later : List (List ℕ)) → IsFoundBy finding search.matcher.tree search.finder →
+Searches search old new given given' held lines held' = (finding : Finding) (later : List (List ℕ)) → IsFoundBy finding search.matcher.tree search.finder.tree →
     printed_by old.page finding (progress_of old given) (rows_by old finding held (lines ++ later))
     ≡ printed_by new.page finding (progress_of new given') (rows_by new finding held' later)
 
 -- The last lines were searched: what is to be printed of them was printed.
 abbrev pub SearchesLast : Search → Rows → Rows → List ℕ → List ℕ → List (List ℕ) → List (List ℕ) → Type 0
-SearchesLast search old new given given' held lines = (finding : Finding) → IsFoundBy finding search.matcher.tree search.finder →
+SearchesLast search old new given given' held lines = (finding : Finding) → IsFoundBy finding search.matcher.tree search.finder.tree →
     progress_of new given' ≡ printed_by old.page finding (progress_of old given) (rows_by old finding held lines)

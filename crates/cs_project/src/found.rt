@@ -27,8 +27,8 @@ pub(crate) fn find_spans(
     line: &[u8],
     spans: &mut Vec<Span>,
 ) -> Result<(), AllocError>
-    ensures spans { OnOk result (AreSpans finder.old line.now (pairs spans.new.items)) }
-    ensures same { finder.new ≡ finder.old }
+    ensures spans { OnOk result (AreSpans finder.old.tree line.now (pairs spans.new.items)) }
+    ensures same { finder.new.tree ≡ finder.old.tree }
 {
     spans.clear();
     let mut next = finder.find(line, 0);

@@ -22,7 +22,7 @@ impl<'a> Search<'a> {
     /// A search for the program.
     pub fn new(alloc: Global, program: &'a Program) -> Result<Search<'a>, AllocError>
         ensures lines { IfOk result (λ search. search.matcher.tree ≡ program.now) }
-        ensures spans { IfOk result (λ search. search.finder ≡ program.now) }
+        ensures spans { IfOk result (λ search. search.finder.tree ≡ program.now) }
     {
         let matcher = Matcher::new(alloc, program)?;
         let finder = Finder::new(alloc, program)?;
@@ -36,9 +36,9 @@ impl<'a> Search<'a> {
     /// The matches of a line, if the form needs them.
     pub(crate) fn find(&mut self, form: &LineForm, line: &[u8]) -> Result<(), AllocError>
         ensures spans { OnOk result (needs_spans form.now ≡ true →
-            AreSpans self.old.finder line.now (pairs self.new.spans.items)) }
+            AreSpans self.old.finder.tree line.now (pairs self.new.spans.items)) }
         ensures ordered { OnOk result (AreOrdered 0 (length line.now) (pairs self.new.spans.items)) }
-        ensures finder { self.new.finder ≡ self.old.finder }
+        ensures finder { self.new.finder.tree ≡ self.old.finder.tree }
         ensures matcher { self.new.matcher ≡ self.old.matcher }
     {
         if !form.needs_spans() {

@@ -21,7 +21,7 @@ none_of = refl
 pub search_block-requires-clause-whole : goal.search_block-requires-clause-whole
 search_block-requires-clause-whole g c = (whole_none, c.whole_lines_len-end.ensures.whole)
 
-all_rows : (g : Over) (c : goal.In_ok-search_last g) (finding : Finding) → IsFoundBy finding c.args.search.now.matcher.tree c.args.search.now.finder →
+all_rows : (g : Over) (c : goal.In_ok-search_last g) (finding : Finding) → IsFoundBy finding c.args.search.now.matcher.tree c.args.search.now.finder.tree →
     progress_of c.search_last.new.self (g.O.Output.given c.search_last.new.out)
     ≡ printed_by c.args.page.now finding (progress_of (fresh_rows c.args.page.now) (g.O.Output.given c.args.out.now))
     (text_rows c.args.page.now.options.now finding c.args.text.now)

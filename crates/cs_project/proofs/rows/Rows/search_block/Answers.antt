@@ -185,7 +185,7 @@ marks-preserved g c =
           (passed.rows.0 finding ∙ ap (λ (text : List ℕ). printed_by cur.page finding (progress_of cur given) (rows_at cur.number (take cur.left (terminated_lines text)))) same)
           ∙ mark_step (opening_of cur.page) (gap options) (shown_bytes options finding cur.page.name.now) options.before options.after wanted cur.most
           line more h' mid.number mid.left (progress_of mid given1) r mark.0
-          (shown.rows.0 finding (λ needs. spans_unique c.args.search.now.finder line (finding.spans line) (pairs c.find.new.self.spans.items) 0 0
+          (shown.rows.0 finding (λ needs. spans_unique c.args.search.now.finder.tree line (finding.spans line) (pairs c.find.new.self.spans.items) 0 0
           (decides.1 line) (subst (λ t. AreSpans t line (pairs c.find.new.self.spans.items)) i.pattern (c.in_ok-find.ensures.spans needs)) ∙ sym (ap pairs c.deref.ensures.value)) ∙ ap (λ page. printed_by page finding (progress_of mid given1)
           (last_rows page.options.now.before mid.number h' ++ row_at (mid.number + length h') line true ∷ [])) passed.rows.1)
           ∙ ap (λ scan. printed_by cur.page finding r (scan_rows options.before options.after wanted scan [] more))

@@ -16,13 +16,13 @@ invariant-marks g l = record {
   fits : Fits (terminated_lines (take (l.offset - l.held) (drop l.held l.block))) l.self.left;
   room : l.self.number ≤ l.fn.self.number + l.held;
   page : l.self.page ≡ l.fn.self.page;
-  rows : (finding : Finding) (later : List (List ℕ)) → IsFoundBy finding l.fn.search.matcher.tree l.fn.search.finder →
+  rows : (finding : Finding) (later : List (List ℕ)) → IsFoundBy finding l.fn.search.matcher.tree l.fn.search.finder.tree →
       printed_by l.fn.self.page finding (progress_of l.fn.self (g.O.Output.given l.fn.out))
       (rows_by l.fn.self finding (terminated_lines (take l.from l.block)) (terminated_lines (drop l.from l.block) ++ later))
       ≡ printed_by l.self.page finding (progress_of l.self (g.O.Output.given l.out))
       (rows_by l.self finding (terminated_lines (take (l.offset - l.held) (drop l.held l.block))) (terminated_lines (drop l.offset l.block) ++ later));
   same : l.search.matcher.tree ≡ l.fn.search.matcher.tree;
-  pattern : l.search.finder ≡ l.fn.search.finder;
+  pattern : l.search.finder.tree ≡ l.fn.search.finder.tree;
 }
 
 abbrev pub decreases-marks : goal.decreases-marks

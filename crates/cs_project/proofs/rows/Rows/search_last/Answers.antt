@@ -43,4 +43,4 @@ returns-in_ok-show_mark-clause-rows g c = λ finding decides.
     ∙ mark_step (opening_of old.page) (gap options) (shown_bytes options finding old.page.name.now) options.before options.after wanted old.most
     line [] held old.number old.left p (progress_of c.show_mark.new.self (g.O.Output.given c.show_mark.new.out)) marked
     (c.in_ok-show_mark.ensures.rows.0 finding
-    (λ needs. spans_unique c.args.search.now.finder line (finding.spans line) spans 0 0 (decides.1 line) (c.in_ok-find.ensures.spans needs) ∙ sym (ap pairs c.deref.ensures.value))))
+    (λ needs. spans_unique c.args.search.now.finder.tree line (finding.spans line) spans 0 0 (decides.1 line) (c.in_ok-find.ensures.spans needs) ∙ sym (ap pairs c.deref.ensures.value))))

@@ -5,4 +5,4 @@ use Rattle.cs_project.proofs.search.Search.find.Goals as goal
 
 pub returns-clause-ordered : goal.returns-clause-ordered
 returns-clause-ordered c =
-    spans_ordered c.args.self.now.finder c.args.line.now (pairs c.find_spans.new.spans.items) 0 0 (omega arith) c.in_ok-find_spans.ensures.spans
+    spans_ordered c.args.self.now.finder.tree c.args.line.now (pairs c.find_spans.new.spans.items) 0 0 (omega arith) c.in_ok-find_spans.ensures.spans

@@ -17,7 +17,7 @@ or another type, refuses nothing: the check is made again without that answer. T
 goal is false if the check has found values at which it is, or if a person has read it and the mutant has a line `false: GOAL`; a
 mutant without a false goal has to be read. So has one of a definition, which some proof refuses.
 
-must-fail/judged.txt has the mutants of a crate that were refused by a false goal, each with a sum of the mutant and of the contracts
+judged.txt of a crate has its mutants that were refused by a false goal, each with a sum of the mutant and of the contracts
 of the functions that it changes (of the file, for a mutant of a definition). The script keeps it; after a change of a contract the
 line no longer counts, and scripts/promises.py lists the mutant as one that is not judged on the present contract."""
 import hashlib
@@ -102,7 +102,7 @@ def contract_sum(crate, mutant):
 
 def judged(crate):
     """The mutants of a crate that were refused by a false goal, each with the sum that it had then."""
-    path = crate / "must-fail/judged.txt"
+    path = crate / "judged.txt"
     return dict(line.split() for line in path.read_text().splitlines()) if path.exists() else {}
 
 
@@ -111,7 +111,7 @@ def is_judged(crate, mutant):
 
 
 def note_judged(crate, verdicts):
-    """Keeps in must-fail/judged.txt which mutants are refused by a false goal, of those with a verdict."""
+    """Keeps in judged.txt of the crate which mutants are refused by a false goal, of those with a verdict."""
     listed = {it.name: it for it in mutants(crate)}
     kept = {name: total for name, total in judged(crate).items() if name in listed}
     for name, verdict in verdicts.items():
@@ -119,7 +119,7 @@ def note_judged(crate, verdicts):
         if verdict == "refused":
             kept[name] = contract_sum(crate, listed[name])
     lines = "".join(f"{name} {total}\n" for name, total in sorted(kept.items()))
-    (crate / "must-fail/judged.txt").write_text(lines)
+    (crate / "judged.txt").write_text(lines)
 
 
 def mutants(crate):

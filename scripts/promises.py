@@ -3,7 +3,7 @@
 make promises writes the list to out/promises.md.
 usage: scripts/promises.py [--check]
 
-The promises of a crate are in must-fail/promises.txt, one in each paragraph: what is promised; `by:`, the functions, each with the
+The promises of a crate are in its promises.txt, one in each paragraph: what is promised; `by:`, the functions, each with the
 names of the clauses that state it (none: the whole contract), or of the fields of a record that such a clause states; `refused:`,
 the mutants; and `not proved:`. A name of another crate has the crate before it, as in cs_tree/covers. The list of clauses,
 definitions and files is made from src and specs/.
@@ -134,7 +134,7 @@ def unnamed(page, listed):
 
 def listing(all_promises):
     """The list, in Markdown."""
-    yield "# Promises, clause by clause\n\nMade by scripts/promises.py from must-fail/, src and specs/ of each crate.\n"
+    yield "# Promises, clause by clause\n\nMade by scripts/promises.py from promises.txt, must-fail/, src and specs/ of each crate.\n"
     for crate, listed in all_promises.items():
         yield f"\n## {crate}\n"
         for it in listed:
@@ -156,7 +156,7 @@ def listing(all_promises):
 
 
 def main():
-    texts = {it.parent.parent.name: it.read_text() for it in sorted(crates.glob("*/must-fail/promises.txt"))}
+    texts = {it.parent.name: it.read_text() for it in sorted(crates.glob("*/promises.txt"))}
     for wrong in [
         "It is so.\nby: covers_nothing\nrefused: covers_by_text_prefix",
         "It is so.\nby: covers: lost\nrefused: covers_by_text_prefix",

@@ -1,7 +1,8 @@
 /* codesearch.h - search trees of source code by regular expressions, through an index of trigrams.
  *
- * The library is the part of codesearch that is proved, without its tools: patterns, lines, reports, candidates of an index,
- * the scan of a text, and the building and merging of indexes. It opens no file, prints nothing and starts no thread.
+ * The library is the part of codesearch that is proved, without its tools: patterns, lines and the matches in them, reports,
+ * candidates of an index, the scan of a text, and the building and merging of indexes. It opens no file, prints nothing and
+ * starts no thread.
  *
  * Bytes    An index, a pattern, a name, a line, a block, a text are a pointer and a length, and belong to the caller.
  *          The library keeps nothing of them after a call. No pointer is null, also where the length is 0.
@@ -11,7 +12,8 @@
  *          filled slot is not a second one, and only one of them may be used.
  * Results  0 or more: done. Below 0: a code. Each call says what it then leaves as it was.
  * Buffers  A call that copies says how much there is, and copies if all fits. Else the answer is CS_ROOM, and the buffer
- *          stays as it was: call again with enough room. A call with a budget answers what it has, or else CS_STOPPED.
+ *          stays as it was: call again with enough room. A call with a budget copies what it has found; CS_STOPPED says that
+ *          there may be more.
  * Threads  There is no state outside slots. Any number of threads may use the same index bytes at once. A slot is in one
  *          call at a time, and stays on its thread: each thread compiles a pattern of its own (48 us on average).
  * Memory   malloc, realloc and free of the process. A call that is refused memory answers CS_MEMORY. The calls for spans take
@@ -19,7 +21,8 @@
  * Aliasing What a call writes (slots, buffers, counts) overlaps nothing else that the call is given.
  *
  * Proved   Each call that is given what it wants ends, stays within its buffers, and answers and leaves what is said at it:
- *          docs/PROMISES.md has each promise. The functions in C below are tested only. Of what a call wants, it tests slots
+ *          docs/PROMISES.md has each promise. The functions in C below are tested only, and so is that CS_STOPPED comes only
+ *          if room or budget are used up, and that the calls for spans take no memory. Of what a call wants, it tests slots
  *          alone.
  * Trusted  This header against those contracts, the static inline functions below, malloc (blocks aligned to 16), a stack
  *          of 256 KB or more, and index bytes that do not change after cs_index_check.
@@ -171,13 +174,14 @@ int32_t cs_pattern_count(cs_pattern *slot, const uint8_t *block, size_t len, uin
  * or `from` is above `len`. */
 int32_t cs_pattern_find(cs_pattern *slot, const uint8_t *line, size_t len, size_t from, cs_span *span);
 
-/* The same of the first match that begins at the end of `last` or later, and ends after it. CS_MISUSE: the slot, or last->end is
- * above `len`. */
+/* The same of the first match that begins at the end of `last` or later, and ends after it. `last` and `span` are two variables.
+ * CS_MISUSE: the slot, or last->end is above `len`. */
 int32_t cs_pattern_find_after(cs_pattern *slot, const uint8_t *line, size_t len, const cs_span *last, cs_span *span);
 
 /* All matches of a line in their order, and how many there are. CS_OK; or CS_STOPPED, and the first `count` of them: the room is
- * used up, or the search has read `budget` bytes, and has finished the match that it was at. To go on, call
- * cs_pattern_find_after with the last one, or cs_pattern_find at 0 if there is none. CS_MISUSE leaves all. */
+ * used up, or the search has read `budget` bytes, and has finished the match that it was at. So there may be no more where the
+ * matches fill the room exactly, and a budget of 0 finds none. To go on without a budget, call cs_pattern_find_after with the
+ * last one, or cs_pattern_find at 0 if there is none (after cs_pattern_word_spans, the calls for words). CS_MISUSE leaves all. */
 int32_t cs_pattern_spans(cs_pattern *slot, const uint8_t *line, size_t len, size_t budget, cs_span *spans, size_t room,
                          size_t *count);
 

@@ -213,7 +213,7 @@ impl Pattern {
         (found == 1).then_some(span.start..span.end)
     }
 
-    /// The matches of a line in their order.
+    /// The matches of a line in their order. All of them may take time that is quadratic in the line.
     pub fn spans<'p, 'b>(&'p mut self, line: &'b [u8]) -> Spans<'p, 'b> {
         Spans { pattern: self, line, whole: false, last: None, is_over: false }
     }
@@ -228,6 +228,8 @@ impl Pattern {
     /// whole words.
     pub fn spans_within(&mut self, line: &[u8], whole: bool, budget: usize, room: usize) -> (Vec<Range<usize>>, bool) {
         let call = if whole { sys::cs_pattern_word_spans } else { sys::cs_pattern_spans };
+        // (a line has no more matches than these)
+        let room = room.min(line.len() + 1);
         let (mut spans, mut count) = (vec![sys::Span::default(); room], 0);
         // SAFETY: the buffer is as long as said.
         let code = unsafe { call(&mut self.slot, line.as_ptr(), line.len(), budget, spans.as_mut_ptr(), room, &mut count) };

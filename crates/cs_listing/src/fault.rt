@@ -8,7 +8,7 @@ pub enum ListFault {
     Tree(TreeFault),
     /// A folder has an entry whose name is not text. Its other entries are listed.
     Unnamed,
-    /// The path has more than 4095 bytes. The tree is not called with it.
+    /// The path of an entry has more than 4095 bytes. The entry is not looked at.
     LongPath,
     /// A rule file has more than 1 MB. It counts as one without rules.
     LongRules,

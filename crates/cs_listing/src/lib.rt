@@ -22,7 +22,7 @@
 //!
 //! `Walk` has two stacks: `Layers`, the rule files of the folders from `/` down, and frames, the entries of the
 //! open folders that are still to come, the next one last. `begin` lists each folder along the path of the
-//! start for its rule files, and opens the last; one that cannot be listed has no rules, and is reported. `next`
+//! start for its rule files, and opens the last; one that cannot be listed has no rules, and the start is reported. `next`
 //! takes the last entry of the last frame: a file is given; a folder is listed, its rule files are read, its
 //! names are asked about (`entries.rt`), what is not left out is looked at once, and the rest is sorted by
 //! names, with a slash after those of folders, which is byte order of whole paths. `specs/Walk.antt` says which

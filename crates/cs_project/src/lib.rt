@@ -1,5 +1,9 @@
-//! What `cs` prints. Read `specs/Contexts.antt` first (which lines of a text are shown), then `specs/Forms.antt` (a line as it
-//! is printed) and `specs/Shown.antt` (a text, and texts one after another).
+//! What a `cs` to come prints of a text. Read `specs/Contexts.antt` first (which lines are shown), then `specs/Forms.antt` (a line
+//! as it is printed) and `specs/Shown.antt` (a text, and texts one after another).
+//!
+//! A text in memory is searched for its next line to show, by the matcher of cs_match. `Rows` holds the lines before it that may
+//! still be shown, and how many after the last one are to be. A line is printed with its matches (`Finder`) if the form needs
+//! them. `Page` is what earlier texts leave to be printed between groups.
 #![tactic(auto)]
 
 mod binary;

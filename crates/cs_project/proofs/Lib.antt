@@ -6,3 +6,5 @@ mod SearchLemmas
 mod TextLemmas
 mod CountLemmas
 mod SpanListLemmas
+mod WordLemmas
+mod WordExamples

@@ -4,6 +4,8 @@ pub mod Forms
 pub mod Shown
 pub mod Printing
 pub mod Printed
+pub mod Named
+pub mod Words
 -- Definitions that only private contracts cite.
 pub mod Spacing
 pub mod Scans

@@ -10,14 +10,18 @@ mod binary;
 mod form;
 mod found;
 mod lines;
+mod named;
 mod row;
 mod rows;
 mod search;
 mod searching;
 mod text;
+mod words;
 
 pub use binary::is_binary;
 pub use form::{LineForm, Mode, ShowOptions};
+pub use named::{Named, Switch, Valued};
 pub use rows::Page;
 pub use search::Search;
 pub use text::{print_lines, print_text};
+pub use words::{Item, WordFault, read_words};

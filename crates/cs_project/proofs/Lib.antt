@@ -8,3 +8,4 @@ mod CountLemmas
 mod SpanListLemmas
 mod WordLemmas
 mod WordExamples
+mod CaseLemmas

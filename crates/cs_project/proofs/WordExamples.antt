@@ -1,8 +1,10 @@
 -- Worked rows of what words are read as.
-use Rattle.std.proofs.Common.{◌≡◌, List, [], ◌∷◌, refl, codes}
+use Rattle.std.proofs.Common.{◌≡◌, [], ◌∷◌, refl, codes}
 use Rattle.std.specs.Prelude.{Ok, Err}
 use Rattle.cs_project.specs.Words.{after_letters, items_after, items_of}
-use Rattle.cs_project.specs.declared.named.Switch.TheVariants.{Number, Fold, Words, Count}
+use Rattle.cs_project.specs.LetterCase.{case_after, case_of}
+use Rattle.cs_project.specs.declared.letter_case.LetterCase.TheVariants.{Smart as Is_smart, Exact as Is_exact}
+use Rattle.cs_project.specs.declared.named.Switch.TheVariants.{Number, Fold, Smart, Exact, Words, Count}
 use Rattle.cs_project.specs.declared.named.Valued.TheVariants.{Pattern, After, Colour}
 use Rattle.cs_project.specs.declared.words.Item.TheVariants.{Switch, Value, Operand}
 use Rattle.cs_project.specs.declared.words.WordFault.TheVariants.{Unknown, LeftOut, ExtraValue, NoValue}
@@ -48,3 +50,11 @@ value_of_a_switch = refl
 no_value : items_of (codes "p" ∷ codes "-nA" ∷ []) ≡ Err (NoValue 2)
 unfolding after_letters items_after
 no_value = refl
+
+last_of_three_holds : case_of (Switch Fold ∷ Operand 1 ∷ Switch Smart ∷ Switch Number ∷ []) ≡ Is_smart
+unfolding case_after
+last_of_three_holds = refl
+
+exact_after_fold : case_of (Switch Fold ∷ Switch Exact ∷ []) ≡ Is_exact
+unfolding case_after
+exact_after_fold = refl

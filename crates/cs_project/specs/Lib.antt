@@ -6,6 +6,7 @@ pub mod Printing
 pub mod Printed
 pub mod Named
 pub mod Words
+pub mod LetterCase
 -- Definitions that only private contracts cite.
 pub mod Spacing
 pub mod Scans

@@ -1,11 +1,10 @@
 -- The letters and the names of the options of `cs`: those of rg and grep.
-use Rattle.std.specs.Prelude.{ℕ, nat_eq, List, [], ◌∷◌, Option, Some, None, unwrap_or, codes, bytes_eq}
+use Rattle.std.specs.Prelude.{ℕ, nat_eq, List, [], ◌∷◌, Option, unwrap_or, codes, bytes_eq}
 use Rattle.std.specs.List.{zip}
 use Rattle.std.specs.Map.{lookup}
 use Rattle.std.specs.Option.{option_or}
 use Rattle.cs_project.specs.declared.named.Named.{Named}
 use Rattle.cs_project.specs.declared.named.Named.TheVariants.{Switch as A_switch, Valued, LeftOut, Unknown}
-use Rattle.cs_project.specs.declared.named.Switch.{Switch}
 use Rattle.cs_project.specs.declared.named.Switch.TheVariants.{Literal, Fold, Smart, Exact, Words, Lines, Invert, Count, Names, Others, Only, Silent, Text, Number, NoNumber, WithName, Bare, Nul, Column, Each, Heading, Files, TypeList, Unrestricted, Hidden, Update, NoUpdate, NoState}
 use Rattle.cs_project.specs.declared.named.Valued.TheVariants.{Pattern, After, Before, Around, Most, Colour, Glob, NotType, Depth, FileType}
 

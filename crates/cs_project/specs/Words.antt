@@ -1,11 +1,10 @@
 -- What the words of the command line of `cs` are read as: options and operands in any order, as rg and grep read them.
 -- Words are lists of bytes.
-use Rattle.std.specs.Prelude.{ℕ, ◌+◌, ◌-◌, ◌==◌, nat_eq, Bool, true, false, List, [], ◌∷◌, ◌++◌, length, drop, position, Option, Some, None, Result, Ok, Err, codes, bytes_eq, if◌then◌else◌}
+use Rattle.std.specs.Prelude.{ℕ, ◌+◌, ◌==◌, nat_eq, List, [], ◌∷◌, ◌++◌, drop, position, Some, None, Result, Ok, Err, codes, bytes_eq, if◌then◌else◌}
 use Rattle.std.specs.List.{starts_with, before_first}
 use Rattle.cs_project.specs.Named.{letter_option, name_option}
 use Rattle.cs_project.specs.declared.named.Named.{Named}
 use Rattle.cs_project.specs.declared.named.Named.TheVariants.{Switch as A_switch, Valued as A_valued, LeftOut as Is_left_out, Unknown as Is_unknown}
-use Rattle.cs_project.specs.declared.named.Switch.{Switch}
 use Rattle.cs_project.specs.declared.named.Valued.{Valued}
 use Rattle.cs_project.specs.declared.words.Item.{Item}
 use Rattle.cs_project.specs.declared.words.Item.TheVariants.{Switch as On, Value, Operand}

@@ -9,6 +9,7 @@
 mod binary;
 mod form;
 mod found;
+mod letter_case;
 mod lines;
 mod named;
 mod row;
@@ -20,6 +21,7 @@ mod words;
 
 pub use binary::is_binary;
 pub use form::{LineForm, Mode, ShowOptions};
+pub use letter_case::{LetterCase, case_of};
 pub use named::{Named, Switch, Valued};
 pub use rows::Page;
 pub use search::Search;

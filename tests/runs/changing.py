@@ -8,12 +8,10 @@ status 2 its last line names an error, and the index file is the one before, wit
 line of the file that it names. `cindex` leaves the old index, or one that opens and that `csearch` can search."""
 import os
 import re
-import shutil
-import subprocess
 import sys
 
 import running
-from running import complain, home, leave, read, run, tests, write
+from running import build_preloaded, complain, home, leave, read, run, write
 
 GIGABYTE = 1 << 30
 # How the bytes change: they are those of another index at each second read, a flipped bit in 61 bytes, another byte, other letters,
@@ -23,15 +21,6 @@ CHANGES = ["other", "bits", "byte", "texts", "zeros", "ones", "end", "grow"]
 READS = 60
 ERROR = re.compile(rb"^c\w+: (bad index: [a-z ]+|index holds a name twice|cannot read \S+|too large|out of memory)$")
 runs = 0
-
-
-def build_changer():
-    """Builds the library that changes what is read. Without a compiler the test ends here."""
-    compiler = shutil.which("cc")
-    if compiler is None:
-        print("skipped: an index that changes: there is no cc")
-        sys.exit(0)
-    subprocess.run([compiler, "-O2", "-shared", "-fPIC", "-o", "change_reads.so", tests + "/change_reads.c", "-ldl"], check=True)
 
 
 def changed(args, change, first):
@@ -87,7 +76,7 @@ def each_change(args, index):
 
 
 def main():
-    build_changer()
+    build_preloaded("change_reads", "an index that changes")
     os.makedirs("t/d")
     os.makedirs("u")
     for number in range(2400):

@@ -60,13 +60,18 @@ def run(args, given=b"", environment={}, seconds=60, space=None):
     return status, read("out"), read("err")
 
 
-def build_failer():
-    """Builds the library that lets allocations fail. Without a compiler the tests end here."""
+def build_preloaded(name, test):
+    """Builds the library of this name, which a run loads first. Without a compiler the test ends here."""
     compiler = shutil.which("cc")
     if compiler is None:
-        print("skipped: failing allocations: there is no cc")
+        print(f"skipped: {test}: there is no cc")
         sys.exit(0)
-    subprocess.run([compiler, "-O2", "-shared", "-fPIC", "-o", "fail_allocations.so", tests + "/fail_allocations.c", "-ldl"], check=True)
+    subprocess.run([compiler, "-O2", "-shared", "-fPIC", "-o", name + ".so", f"{tests}/{name}.c", "-ldl"], check=True)
+
+
+def build_failer():
+    """Builds the library that lets allocations fail."""
+    build_preloaded("fail_allocations", "failing allocations")
 
 
 def failing_run(args, number, given=b""):

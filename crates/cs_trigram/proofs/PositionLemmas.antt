@@ -9,7 +9,7 @@ use Rattle.cs_trigram.specs.declared.limits.Limits.{Limits}
 use Rattle.cs_trigram.specs.declared.scan.Reason.{Reason}
 use Rattle.cs_trigram.specs.Text.{last_byte, line_so_far, rule_broken, first_broken}
 use Rattle.std.specs.Option.{option_or}
-use Rattle.cs_trigram.specs.declared.position.Position.{Position}
+use Rattle.cs_trigram.specs.declared.position.TextPosition.{TextPosition}
 use Rattle.cs_trigram.specs.Position.{IsPositionAfter, Validates}
 
 pub last_byte-push : (prefix : List ℕ) (b : ℕ) → last_byte (prefix ++ b ∷ []) ≡ b
@@ -50,7 +50,7 @@ first_broken-append most prefix (x ∷ xs) ys =
     option_or_assoc (Some r) b c = refl
 
 -- the position after one more byte
-pub IsPositionAfter-push : (position : Position) (prefix : List ℕ) (b : ℕ) → IsPositionAfter position prefix →
+pub IsPositionAfter-push : (position : TextPosition) (prefix : List ℕ) (b : ℕ) → IsPositionAfter position prefix →
     IsPositionAfter (record {
       count = position.count + 1;
       column = cond (nat_eq b 10) 0 (position.column + 1);
@@ -64,7 +64,7 @@ IsPositionAfter-push position prefix b is_after = record {
 }
 
 -- bytes that break no rule, and then some more
-pub Validates-append : (most : Limits) (prefix xs ys : List ℕ) (answer : Result Position Reason) →
+pub Validates-append : (most : Limits) (prefix xs ys : List ℕ) (answer : Result TextPosition Reason) →
     first_broken most prefix xs ≡ None → Validates most (prefix ++ xs) ys answer →
     Validates most prefix (xs ++ ys) answer
 Validates-append most prefix xs ys (Ok next) first then = (
@@ -81,7 +81,7 @@ Validates-stop most prefix xs ys reason first = first_broken-append most prefix 
     ∙ ap (λ r. option_or r (first_broken most (prefix ++ xs) ys)) first
 
 -- the bytes before an index and the byte there
-pub Validates-more : (most : Limits) (prefix bytes : List ℕ) (i : ℕ) (answer : Result Position Reason) →
+pub Validates-more : (most : Limits) (prefix bytes : List ℕ) (i : ℕ) (answer : Result TextPosition Reason) →
     i < length bytes → first_broken most prefix (take i bytes) ≡ None → Validates most (prefix ++ take i bytes)
     (get_or bytes i 0 ∷ []) answer → Validates most prefix (take (i + 1) bytes) answer
 Validates-more most prefix bytes i answer within first then =
@@ -94,7 +94,7 @@ first_broken-on_the_way most prefix bytes i reason first =
     ap (first_broken most prefix) (sym (take-append-drop i bytes)) ∙ Validates-stop most prefix (take i bytes) (drop i bytes) reason first
 
 -- the bytes before an offset and a chunk from there on
-pub Validates-chunk : (most : Limits) (prefix bytes : List ℕ) (offset end : ℕ) (answer : Result Position Reason) →
+pub Validates-chunk : (most : Limits) (prefix bytes : List ℕ) (offset end : ℕ) (answer : Result TextPosition Reason) →
     offset ≤ end → first_broken most prefix (take offset bytes) ≡ None → Validates most (prefix ++ take offset bytes)
     (take (end - offset) (drop offset bytes)) answer → Validates most prefix (take end bytes) answer
 Validates-chunk most prefix bytes offset end answer order first then =

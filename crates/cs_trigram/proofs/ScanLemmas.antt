@@ -6,7 +6,7 @@ use Rattle.cs_trigram.specs.Scans.{skipped_or, scan_outcome_of, text, skipped_fo
 use Rattle.cs_tree.specs.StreamModels.{SourceModel, Ending, ends, fails}
 use Rattle.cs_tree.proofs.ConsumesLemmas.{Consumes_few}
 use Rattle.cs_trigram.specs.declared.limits.Limits.{Limits}
-use Rattle.cs_trigram.specs.declared.position.Position.{Position}
+use Rattle.cs_trigram.specs.declared.position.TextPosition.{TextPosition}
 use Rattle.cs_trigram.specs.declared.seen_trigrams.SeenTrigrams.{SeenTrigrams}
 use Rattle.cs_trigram.specs.declared.scan.Reason.{Reason}
 use Rattle.cs_trigram.specs.declared.scan.Scan.TheVariants as answer
@@ -21,7 +21,7 @@ use Rattle.cs_trigram.proofs.SplitTrigramLemmas.{sequence-append, Carries-same}
 
 -- The bytes read so far break no rule, the position is the one after them, their trigrams are collected, and
 -- the buffer has the last two of them.
-pub record HasReadText (most : Limits) (model later : Option SourceModel) (position : Position) (found : SeenTrigrams)
+pub record HasReadText (most : Limits) (model later : Option SourceModel) (position : TextPosition) (found : SeenTrigrams)
     (buffer : List ℕ) : Type 0 where
   pub prefix : List ℕ
   pub unbroken : first_broken most [] prefix ≡ None
@@ -37,7 +37,7 @@ Consumes-chain (Some a) (Some b) None xs ys h k = absurd k
 Consumes-chain (Some a) (Some b) (Some c) xs ys h k = (h.0 ∙ ap (λ rest. xs ++ rest) k.0 ∙ sym (append_assoc xs ys c.bytes), h.1 ∙ k.1)
 
 -- one more block that breaks no rule; its bytes follow the last two before it
-pub HasReadText-more : (most : Limits) (model mid later : Option SourceModel) (position next : Position)
+pub HasReadText-more : (most : Limits) (model mid later : Option SourceModel) (position next : TextPosition)
     (found more : SeenTrigrams) (buffer filled carried block bytes : List ℕ) →
     HasReadText most model mid position found buffer → Consumes mid later block → take 2 filled ≡ take 2 buffer →
     ((prefix : List ℕ) → IsPositionAfter position prefix → Validates most prefix block (Ok next)) →
@@ -70,7 +70,7 @@ skipped_for-broken most bytes fails reason broken = sym (ap (λ r. skipped_or r 
 
 -- a block that breaks a rule
 pub IsScanOf-broken : {T : Type 0} (set : T → List ℕ) (most : Limits) (model mid later : Option SourceModel)
-    (position : Position) (found : SeenTrigrams) (buffer block : List ℕ) (reason : Reason) →
+    (position : TextPosition) (found : SeenTrigrams) (buffer block : List ℕ) (reason : Reason) →
     HasReadText most model mid position found buffer → Consumes mid later block →
     ((prefix : List ℕ) → IsPositionAfter position prefix → Validates most prefix block (Err reason)) →
     IsScanOf most model (Ok (answer.Skip reason)) set
@@ -87,7 +87,7 @@ IsScanOf-broken set most (Some model) (Some mid) (Some later) position found buf
     ∙ Validates-stop most [] (prefix ++ block) later.bytes reason here)
 
 -- a scan that stops at a block has consumed at most one byte more than the limit
-pub ConsumesAtMost-more : (most : Limits) (model mid later : Option SourceModel) (position : Position)
+pub ConsumesAtMost-more : (most : Limits) (model mid later : Option SourceModel) (position : TextPosition)
     (found : SeenTrigrams) (buffer numbers block : List ℕ) →
     HasReadText most model mid position found buffer → Consumes mid later block → position.count + length block
     ≤ most.bytes + 1 → ConsumesAtMost (most.bytes + 1) model later

@@ -3,11 +3,11 @@ use Rattle.std.specs.Prelude.{◌≡◌, ◌+◌, length}
 use Rattle.cs_trigram.specs.declared.limits.Limits.{Limits}
 use Rattle.cs_trigram.specs.declared.seen_trigrams.TheConstants.{WITH_TWO}
 use Rattle.cs_trigram.specs.declared.gatherer.Gatherer.{Gatherer}
-use Rattle.cs_trigram.specs.Position.{IsSmall}
+use Rattle.cs_trigram.specs.Position.{AreSmallLimits}
 use Rattle.cs_trigram.specs.SeenTrigrams.{IsSound}
 
 pub record IsPrepared (gatherer : Gatherer) : Type 0 where
-  pub small : IsSmall gatherer.limits
+  pub small : AreSmallLimits gatherer.limits
   pub block : length gatherer.buffer.items ≡ WITH_TWO
   pub list : length gatherer.found.list.items ≡ gatherer.limits.trigrams + WITH_TWO
   pub sound : IsSound gatherer.found

@@ -2,11 +2,11 @@
 // chunk that fails is tested byte by byte.
 ghost use Rattle.std.specs.Prelude.{◌≡◌, ◌+◌, ◌-◌, ◌<◌, ◌≤◌, ◌^◌, length, IsTrue, IfSome, IfOk, Ok};
 ghost use Rattle.std.specs.List.{AllByRecursion};
-ghost use Rattle.cs_trigram.specs.Position.{IsSmall, IsAdvancedBy, ValidatesFrom};
+ghost use Rattle.cs_trigram.specs.Position.{AreSmallLimits, IsAdvancedBy, ValidatesFrom};
 ghost use Rattle.cs_trigram.specs.FastPath.{LinesFit, column_after, AreValidPairs};
 
 use crate::limits::Limits;
-use crate::position::{Position, valid_utf8_pair, validate_bytes};
+use crate::position::{TextPosition, valid_utf8_pair, validate_bytes};
 use crate::scan::Reason;
 use memchr::{memchr, memrchr};
 
@@ -74,8 +74,8 @@ fn last_column(column: usize, bytes: &[u8]) -> usize
 
 /// The position after the bytes, if they pass the fast tests. Bytes that fail these may still break
 /// no rule.
-fn validate_fast(limits: &Limits, position: Position, bytes: &[u8]) -> Option<Position>
-    requires small { IsSmall limits.now }
+fn validate_fast(limits: &Limits, position: TextPosition, bytes: &[u8]) -> Option<TextPosition>
+    requires small { AreSmallLimits limits.now }
     requires count { position.count ≤ limits.now.bytes }
     requires column { position.column ≤ limits.now.line }
     ensures rule { IfSome result (λ next. ValidatesFrom limits.now position bytes.now (Ok next)) }
@@ -88,7 +88,7 @@ fn validate_fast(limits: &Limits, position: Position, bytes: &[u8]) -> Option<Po
         return None;
     }
     let column = column_after(limits.line, position.column, bytes)?;
-    Some(Position {
+    Some(TextPosition {
         count,
         column,
         before: *last,
@@ -96,8 +96,8 @@ fn validate_fast(limits: &Limits, position: Position, bytes: &[u8]) -> Option<Po
 }
 
 /// The position after a chunk, or the first broken rule.
-fn validate_chunk(limits: &Limits, position: Position, bytes: &[u8]) -> Result<Position, Reason>
-    requires small { IsSmall limits.now }
+fn validate_chunk(limits: &Limits, position: TextPosition, bytes: &[u8]) -> Result<TextPosition, Reason>
+    requires small { AreSmallLimits limits.now }
     requires count { position.count ≤ limits.now.bytes }
     requires column { position.column ≤ limits.now.line }
     ensures rule { ValidatesFrom limits.now position bytes.now result }
@@ -116,10 +116,10 @@ const CHUNK: usize = 1024;
 /// The position after some more bytes, or the first broken rule.
 pub(crate) fn validate(
     limits: &Limits,
-    position: Position,
+    position: TextPosition,
     bytes: &[u8],
-) -> Result<Position, Reason>
-    requires small { IsSmall limits.now }
+) -> Result<TextPosition, Reason>
+    requires small { AreSmallLimits limits.now }
     requires count { position.count ≤ limits.now.bytes }
     requires column { position.column ≤ limits.now.line }
     ensures rule { ValidatesFrom limits.now position bytes.now result }

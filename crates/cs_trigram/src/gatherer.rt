@@ -7,14 +7,14 @@ ghost use Rattle.cs_trigram.specs.Scans.{AreDistinctTrigrams, IfText, IsScanOf, 
 ghost use Rattle.cs_trigram.specs.Text.{first_broken};
 ghost use Rattle.cs_trigram.specs.Trigram.{set_of_numbers};
 ghost use Rattle.cs_trigram.specs.TrigramSets.{AreDistinct};
-ghost use Rattle.cs_trigram.specs.Position.{IsSmall};
+ghost use Rattle.cs_trigram.specs.Position.{AreSmallLimits};
 ghost use Rattle.cs_trigram.specs.declared.seen_trigrams.TheConstants.{WITH_TWO};
 ghost use Rattle.cs_trigram.specs.SeenTrigrams.{HasSeenBytes, IsSound, numbers_of};
 
 use crate::blocks::{block, carry, read_block, with_two_before};
 use crate::fast_path::validate;
 use crate::limits::Limits;
-use crate::position::Position;
+use crate::position::TextPosition;
 use crate::scan::{Reason, Scan, ScanFault};
 use crate::seen_trigrams::{BLOCK, SeenTrigrams};
 use cs_tree::{IoFault, Source};
@@ -46,7 +46,7 @@ fn read_to_end<R: Source>(
     found: &mut SeenTrigrams,
     source: &mut R,
 ) -> Result<Scan<()>, ScanFault>
-    requires small { IsSmall limits.now }
+    requires small { AreSmallLimits limits.now }
     requires room { length buffer.old ≡ WITH_TWO }
     requires empty { HasSeenBytes limits.now.trigrams found.old [] }
     ensures model { IsScanOf limits.now (R.model source.old) result
@@ -60,7 +60,7 @@ fn read_to_end<R: Source>(
     ensures sound { IsSound found.new }
     ensures list { length found.new.list.items ≡ limits.now.trigrams + WITH_TWO }
 {
-    let mut position = Position::START;
+    let mut position = TextPosition::START;
     'chunks: loop {
         let room = (limits.bytes + 1 - position.count).min(BLOCK as u64) as usize;
         let n = match read_block(buffer, room, source) {
@@ -113,7 +113,7 @@ impl Gatherer {
 
     /// A gatherer with its buffer and its bitmap, about 2.6 MB in all.
     pub(crate) fn new(alloc: Global, limits: Limits) -> Result<Gatherer, AllocError>
-        requires { IsSmall limits }
+        requires { AreSmallLimits limits }
         ensures { IfOk result (IsPreparedFor limits) }
     {
         Ok(Gatherer {

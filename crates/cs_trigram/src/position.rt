@@ -1,7 +1,7 @@
 // The text rules, byte by byte.
 ghost use Rattle.std.specs.Prelude.{◌≡◌, ◌+◌, ◌<◌, ◌≤◌, ◌^◌, ◌&&◌, nat_le, ℕ, List, [], ◌∷◌, ◌++◌, None, length, IfOk};
 ghost use Rattle.cs_trigram.specs.Text.{valid_utf8_pair, rule_broken};
-ghost use Rattle.cs_trigram.specs.Position.{IsSmall, IsPositionAfter, IsAdvancedBy, ValidatesFrom};
+ghost use Rattle.cs_trigram.specs.Position.{AreSmallLimits, IsPositionAfter, IsAdvancedBy, ValidatesFrom};
 
 use crate::limits::Limits;
 use crate::scan::Reason;
@@ -9,15 +9,15 @@ use crate::scan::Reason;
 /// The state of a scan at an offset of a file: the number of bytes before it in the file and in its
 /// line, and the last byte before it (00 at the start).
 #[derive(Clone, Copy)]
-pub(crate) struct Position {
+pub(crate) struct TextPosition {
     pub(crate) count: u64,
     pub(crate) column: usize,
     pub(crate) before: u8,
 }
 
-impl Position {
+impl TextPosition {
     /// The start of a file.
-    pub(crate) const START: Position = Position {
+    pub(crate) const START: TextPosition = TextPosition {
         count: 0,
         column: 0,
         before: 0,
@@ -48,7 +48,7 @@ pub(crate) fn valid_utf8_pair(before: u8, byte: u8) -> bool
 }
 
 /// The rule that a byte breaks at this position.
-fn rule_broken(limits: &Limits, position: Position, byte: u8) -> Option<Reason>
+fn rule_broken(limits: &Limits, position: TextPosition, byte: u8) -> Option<Reason>
     ensures rule { (prefix : List ℕ) → IsPositionAfter position prefix →
         result ≡ rule_broken limits.now prefix byte }
     ensures within { result ≡ None →
@@ -68,7 +68,7 @@ fn rule_broken(limits: &Limits, position: Position, byte: u8) -> Option<Reason>
 }
 
 /// The position after one more byte.
-fn advance(position: Position, byte: u8) -> Position
+fn advance(position: TextPosition, byte: u8) -> TextPosition
     requires count { position.count < 2 ^ 32 }
     requires column { position.column < 2 ^ 32 }
     ensures is_after { (prefix : List ℕ) → IsPositionAfter position prefix
@@ -76,7 +76,7 @@ fn advance(position: Position, byte: u8) -> Position
     ensures count { result.count ≡ position.count + 1 }
     ensures column { result.column ≤ position.column + 1 }
 {
-    Position {
+    TextPosition {
         count: position.count + 1,
         column: if byte == b'\n' {
             0
@@ -88,8 +88,8 @@ fn advance(position: Position, byte: u8) -> Position
 }
 
 /// The position after one more byte, or the rule that the byte breaks.
-fn step(limits: &Limits, position: Position, byte: u8) -> Result<Position, Reason>
-    requires { IsSmall limits.now }
+fn step(limits: &Limits, position: TextPosition, byte: u8) -> Result<TextPosition, Reason>
+    requires { AreSmallLimits limits.now }
     ensures rule { ValidatesFrom limits.now position (byte ∷ []) result }
     ensures count { IfOk result (IsAdvancedBy limits.now position 1) }
     ensures column { IfOk result (λ next. next.column ≤ limits.now.line) }
@@ -103,10 +103,10 @@ fn step(limits: &Limits, position: Position, byte: u8) -> Result<Position, Reaso
 /// The position after some more bytes, or the first broken rule. Tests byte by byte.
 pub(crate) fn validate_bytes(
     limits: &Limits,
-    position: Position,
+    position: TextPosition,
     bytes: &[u8],
-) -> Result<Position, Reason>
-    requires small { IsSmall limits.now }
+) -> Result<TextPosition, Reason>
+    requires small { AreSmallLimits limits.now }
     requires count { position.count ≤ limits.now.bytes }
     requires column { position.column ≤ limits.now.line }
     ensures rule { ValidatesFrom limits.now position bytes.now result }

@@ -1,9 +1,9 @@
 -- Cached states in flat vectors: one is read, one is added, and all but the first are forgotten.
-use Rattle.std.proofs.Common.{◌≡◌, ℕ, zero, suc, ◌+◌, ◌-◌, ◌*◌, ◌<◌, ◌≤◌, Bool, List, [], ◌∷◌, ◌++◌, take, drop, length, get_or, refl, sym, ◌∙◌, ap, subst, arith, length-take, length-drop}
-use Rattle.std.proofs.lemmas.List.{drop-drop, drop-take, take-take, take-append-le, drop-append-le, take_all, drop_all, get_or_default}
+use Rattle.std.proofs.Common.{◌≡◌, ℕ, zero, suc, ◌+◌, ◌*◌, ◌<◌, ◌≤◌, List, [], ◌∷◌, ◌++◌, take, drop, length, get_or, refl, ◌∙◌, ap, subst, arith, length-take, length-drop}
+use Rattle.std.proofs.lemmas.List.{drop-drop, drop-take, take-take, take-append-le, drop-append-le, take_all, drop_all}
 use Rattle.cs_match.specs.declared.cached_states.Behind.{Behind}
 use Rattle.cs_match.specs.declared.state.State.{State}
-use Rattle.cs_match.specs.CachedStates.{behind_of, with_positions, states_of, AreSets}
+use Rattle.cs_match.specs.CachedStates.{with_positions, states_of, AreSets}
 use Rattle.cs_match.specs.PositionSet.{positions_of, IsPositionSet}
 use Rattle.cs_match.specs.Work.{words}
 use Rattle.cs_match.proofs.PositionCountLemmas.{scaled}

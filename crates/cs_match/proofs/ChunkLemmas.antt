@@ -1,11 +1,13 @@
 -- Chunks, and the lists of the lanes made one.
-use Rattle.std.proofs.Common.{◌≡◌, ◌≢◌, ℕ, zero, suc, ◌+◌, ◌-◌, ◌*◌, ◌/◌, ◌<◌, ◌≤◌, Bool, true, false, cond, nat_eq, List, [], ◌∷◌, ◌++◌, length, take, drop, get_or, refl, sym, ap, ap₂, subst, ◌∙◌, arith, length-take, length-drop, length-append, drop-drop, take-take}
+use Rattle.std.proofs.Common.{◌≡◌, ◌≢◌, inl, inr, ℕ, zero, suc, ◌+◌, ◌-◌, ◌*◌, ◌/◌, ◌<◌, ◌≤◌, Bool, true, false, cond, nat_eq, List, [], ◌∷◌, ◌++◌, length, take, drop, get_or, refl, sym, ap, ap₂, subst, ◌∙◌, arith, length-take, length-drop, length-append, drop-drop, take-take}
 use Rattle.std.proofs.Math.Seq.{take-append_seam, drop-append_seam, take-append-add, drop-append-add}
-use Rattle.std.proofs.lemmas.List.{take-append-le}
+use Rattle.std.proofs.lemmas.Bool.{cases_eq}
+use Rattle.std.proofs.lemmas.List.{take-append-le, drop-take}
 use Rattle.std.specs.List.{count_by}
-use Rattle.std.proofs.lemmas.List.Sums.{count_by-le-length}
+use Rattle.std.proofs.lemmas.List.Sums.{count_by-le-length, sum_by-append}
 use Rattle.cs_match.specs.Lines.{newline}
 use Rattle.cs_match.specs.NoNewline.{HasNoNewline}
+use Rattle.cs_match.specs.Skipped.{AreLinesBetween}
 use Rattle.cs_match.specs.Skipping.{AreWholeLines}
 use Rattle.cs_match.specs.declared.table.Table.{Table}
 use Rattle.cs_match.specs.declared.lanes.Lane.{Lane}
@@ -13,7 +15,7 @@ use Rattle.cs_match.specs.Table.{unknown, TellsLines}
 use Rattle.cs_match.specs.MatchingEnds.{matching_ends, newlines_between}
 use Rattle.cs_match.specs.Lanes.{IsLane, IsChunk, AreChunks, AreListed, quarter}
 use Rattle.cs_match.proofs.MatchingEndLemmas.{newlines-append, newlines-more, ends-none, ends-append}
-use Rattle.cs_match.proofs.WholeLineLemmas.{whole_between, whole_line, whole_rest}
+use Rattle.cs_match.proofs.WholeLineLemmas.{whole_between, whole_line, whole_rest, whole_drop}
 
 -- each of four
 pub four : (P : ℕ → Type 0) → P 0 → P 1 → P 2 → P 3 → (k : ℕ) → k < 4 → P k
@@ -281,3 +283,40 @@ module _ (ends own later : List ℕ) (count stop : ℕ) (low : count ≤ stop) (
       ∙ drop-append-add (take count ends) (own ++ behind) (stop - count)
       ∙ ap (λ n. drop n (own ++ behind)) (sym own-len) ∙ drop-append_seam own behind
       ∙ drop-drop (stop - count) count ends ∙ ap (λ n. drop n ends) there
+
+-- whole lines have a newline
+some_newline : (text : List ℕ) → AreWholeLines text → 0 < length text → 1 ≤ count_by (λ b. nat_eq b newline) text
+unfolding AreWholeLines
+some_newline [] whole some = absurd (omega (arith, some))
+some_newline (b ∷ []) whole some = rw whole (omega arith)
+some_newline (b ∷ c ∷ text) whole some =
+    let p : ℕ → Bool = λ x. nat_eq x newline in
+    let split : count_by p (b ∷ c ∷ text) ≡ count_by p (b ∷ []) + count_by p (c ∷ text) =
+    sum_by-append (λ x. cond (nat_eq x newline) 1 0) (b ∷ []) (c ∷ text) in
+    omega (arith, split, some_newline (c ∷ text) whole (omega arith))
+
+-- a list with room for each line is not full before the end
+pub lists_all : (IsKind : (List ℕ → Bool) → Type 0) (block : List ℕ) (from to end count : ℕ) (ends : List ℕ) → AreLinesBetween block from end →
+    newlines_between block from end ≤ length ends → AreListed IsKind block from to count ends → to ≤ end →
+    (to ≢ end → count ≡ length ends) → to ≡ end
+lists_all IsKind block from to end count ends lines room listed high all =
+    elim (cases_eq to end) [
+      | inl e ↦ e
+      | inr other ↦
+          let size : end - from ≡ (to - from) + (end - to) = omega (arith, listed.lines.low, high) in
+          let at : from + (to - from) ≡ to = omega (arith, listed.lines.low) in
+          let behind : drop (to - from) (take (end - from) (drop from block)) ≡ take (end - to) (drop to block) =
+          ap (λ n. drop (to - from) (take n (drop from block))) size ∙ drop-take (to - from) (end - to) (drop from block)
+          ∙ ap (take (end - to)) (drop-drop (to - from) from block ∙ ap (λ k. drop k block) at) in
+          let whole = subst AreWholeLines behind (whole_drop (to - from) (take (end - from) (drop from block)) lines.whole) in
+          let more : 0 < length (take (end - to) (drop to block)) =
+          omega (arith, length-take (end - to) (drop to block), length-drop to block, lines.high, high, other) in
+          absurd (omega (
+            arith,
+            all other,
+            listed.few,
+            room,
+            newlines-append block from to end listed.lines.low high,
+            some_newline (take (end - to) (drop to block)) whole more,
+          ))
+    ]

@@ -1,7 +1,7 @@
 -- Dead states: an anchored tree accepts nothing more from a state without positions, so that a scan may go on at the next line.
-use Rattle.std.proofs.Common.{◌≡◌, ℕ, zero, suc, ◌+◌, ◌-◌, ◌<◌, ◌≤◌, Bool, true, false, not, nat_eq, List, [], ◌∷◌, ◌++◌, take, drop, length, replicate, get_or, refl, sym, ◌∙◌, ap, subst, arith, drop-cons, add-one, inl, inr}
+use Rattle.std.proofs.Common.{◌≡◌, ℕ, ◌+◌, Bool, true, false, not, nat_eq, List, [], ◌∷◌, ◌++◌, take, drop, length, replicate, refl, sym, ◌∙◌, ap, inl, inr}
 use Rattle.std.proofs.lemmas.Bool.{and_parts, cases_Bool, not-true}
-use Rattle.std.proofs.lemmas.List.{take_at, drop_at, get_or-drop, length-replicate, replicate-append-replicate}
+use Rattle.std.proofs.lemmas.List.{take_at, drop_at, length-replicate, replicate-append-replicate}
 use Rattle.cs_syntax.specs.Matching.{Tree, Trees, empty, one_of, one_char, cat, alt, rep, line_start, line_end, word_edge, not_word_edge, none, more}
 use Rattle.cs_syntax.specs.declared.char_step.CharStep.{CharStep}
 use Rattle.cs_syntax.specs.declared.char_step.CharStep.TheVariants.{Nothing, Single, Begins, Inside, Completes}
@@ -9,14 +9,10 @@ use Rattle.cs_match.specs.declared.input.Input.{Input}
 use Rattle.cs_match.specs.declared.look_around.LookAround.{LookAround}
 use Rattle.cs_match.specs.declared.state.State.{State}
 use Rattle.cs_match.specs.Anchored.{is_anchored, begins_anchored, are_anchored}
-use Rattle.cs_match.specs.FirstMatch.{AreScanned}
-use Rattle.cs_match.specs.Glushkov.{position_count, position_count_of, nullable, nullable_all, nullable_some, is_final, is_final_all, is_final_some, accepts, step_chars, step, step_all, step_each, IsExpanded}
-use Rattle.cs_match.specs.LastPart.{last_part}
+use Rattle.cs_match.specs.Glushkov.{position_count, position_count_of, nullable, nullable_all, nullable_some, is_final, is_final_all, is_final_some, accepts, step_chars, step, step_all, step_each}
 use Rattle.cs_match.specs.Lines.{newline}
-use Rattle.cs_match.specs.NoNewline.{HasNoNewline}
 use Rattle.cs_match.specs.PositionSet.{intersect}
-use Rattle.cs_match.specs.States.{start, ahead, input, before, next_state, state, successor, accepts_before, IsDead}
-use Rattle.cs_match.proofs.FirstMatchLemmas.{scanned_on, state_on}
+use Rattle.cs_match.specs.States.{ahead, input, before, next_state, accepts_before, IsDead}
 
 -- a set that has no position in common with itself is empty
 pub intersect_self : (ms : List Bool) → intersect ms ms ≡ false → ms ≡ replicate (length ms) false
@@ -167,23 +163,3 @@ module _ (t : Tree) (anchored : is_anchored t ≡ true) where
   is_dead n blank later (c ∷ bytes) b =
       let moved = ap (λ ms. step t true ms (ahead t n c) (input t n c)) blank ∙ stays_empty (ahead t n c) later (input t n c) t anchored in
       is_dead (next_state t n c) moved refl bytes b
-
--- a scan that has reached a dead state
-module _ (t : Tree) (expanded : IsExpanded t) (text : List ℕ) where
-  abbrev state_at : ℕ → State
-  state_at i = state t (last_part (take i text))
-
-  -- is in one up to the end of the line
-  pub dead_on : (n i end : ℕ) → i + n ≡ end → end ≤ length text → HasNoNewline (take n (drop i text)) → AreScanned t text i → IsDead t (state_at i) →
-      AreScanned t text end × IsDead t (state_at end)
-  dead_on zero i end e within part scanned dead =
-      let same : i ≡ end = omega arith in
-      (subst (AreScanned t text) same scanned, subst (λ k. IsDead t (state_at k)) same dead)
-  dead_on (suc n) i end e within part scanned dead =
-      let lt : i < length text = omega arith in
-      let b = get_or text i 0 in
-      let parts = subst (λ bytes. HasNoNewline (take (suc n) bytes)) (drop-cons text i 0 lt) part in
-      let next : IsDead t (next_state t (state_at i) b) = λ bytes c. dead (b ∷ bytes) c in
-      let moved : successor t (state_at i) b ≡ next_state t (state_at i) b = rw parts.0 refl in
-      dead_on n (i + 1) end (omega arith) within (subst (λ k. HasNoNewline (take n (drop k text))) (sym (add-one i)) parts.1)
-      (scanned_on t text i lt expanded scanned (dead [] b)) (subst (IsDead t) (sym moved ∙ state_on t text i lt) next)

@@ -1,5 +1,5 @@
 -- Lines in which the automaton accepts, or never does.
-use Rattle.std.proofs.Common.{◌≡◌, ℕ, zero, suc, ◌+◌, ◌-◌, ◌/◌, ◌<◌, ◌≤◌, Bool, true, false, List, [], ◌∷◌, ◌++◌, take, length, get_or, refl, sym, ap, subst, ◌∙◌, arith, inl, inr}
+use Rattle.std.proofs.Common.{◌≡◌, ℕ, zero, suc, ◌<◌, ◌≤◌, true, false, List, [], ◌∷◌, ◌++◌, take, length, sym, ap, subst, ◌∙◌, arith, inl, inr}
 use Rattle.std.specs.Prelude.{slice_index, ◌≢◌}
 use Rattle.std.proofs.lemmas.Bool.{both_ways, cases_lt, eqb-false}
 use Rattle.cs_syntax.specs.Matching.{Tree, HasMatch}
@@ -7,7 +7,7 @@ use Rattle.cs_match.specs.declared.state.State.{State}
 use Rattle.cs_match.specs.Lines.{newline}
 use Rattle.cs_match.specs.NoNewline.{HasNoNewline}
 use Rattle.cs_match.specs.Glushkov.{accepts_in, IsExpanded}
-use Rattle.cs_match.specs.States.{start, next_state, state_through, successor, accepts_before}
+use Rattle.cs_match.specs.States.{start, next_state, state_through, accepts_before}
 use Rattle.cs_match.proofs.StateLemmas.{accepts_in_line, accepts_at_end}
 use Rattle.cs_match.proofs.GlushkovLemmas.{match_where_accepted}
 

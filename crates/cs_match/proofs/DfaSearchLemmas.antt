@@ -1,5 +1,5 @@
 -- A search of a line by state numbers.
-use Rattle.std.proofs.Common.{◌≡◌, ℕ, ◌+◌, ◌*◌, ◌<◌, ◌≤◌, true, false, List, length, take, sym, ◌∙◌, ap, subst, eqb, inl, inr}
+use Rattle.std.proofs.Common.{◌≡◌, ℕ, ◌+◌, ◌<◌, ◌≤◌, true, false, List, length, take, sym, ◌∙◌, ap, subst, eqb, inl, inr}
 use Rattle.std.specs.Prelude.{slice_index, ◌≢◌}
 use Rattle.std.proofs.lemmas.List.{take_all}
 use Rattle.std.proofs.lemmas.Bool.{cases_eq, eq-eqb, ne_eqb}
@@ -7,8 +7,8 @@ use Rattle.cs_syntax.specs.Matching.{Tree}
 use Rattle.cs_match.specs.declared.state.State.{State}
 use Rattle.cs_match.specs.Glushkov.{accepts_in}
 use Rattle.cs_match.specs.States.{state, successor, accepts_before}
-use Rattle.cs_match.specs.LazyDfa.{match_number, StandsFor, Leads}
-use Rattle.cs_match.proofs.TransitionLemmas.{leads_to_found, leads_on}
+use Rattle.cs_match.specs.LazyDfa.{match_number, accepted_number, StandsFor, Leads}
+use Rattle.cs_match.proofs.TransitionLemmas.{accepted_in_line, leads_to_found, leads_on}
 use Rattle.cs_match.proofs.StateLemmas.{beyond_more, accepts_in_line, accepts_at_end}
 
 module _ (t u : Tree) (count : ℕ) (states : List State) (number : ℕ) (same : u ≡ t) (some : 0 < count) where
@@ -20,10 +20,13 @@ module _ (t u : Tree) (count : ℕ) (states : List State) (number : ℕ) (same :
 
     pub scan_found : i < length s → b ≡ slice_index s i → b ≢ 10 → number ≡ match_number count → accepts_in s t i ≡ true
     scan_found lt byte other e =
-        sym (accepts_here lt byte other) ∙ leads_to_found u count states b number (state t (take i s)) some leads e
+        sym (accepts_here lt byte other) ∙ leads_to_found u count states b number (state t (take i s)) some leads
+        (e ∙ sym (accepted_in_line count b other))
 
     pub scan_stays : i < length s → b ≡ slice_index s i → b ≢ 10 → number ≢ match_number count → accepts_in s t i ≡ false
-    scan_stays lt byte other e = sym (accepts_here lt byte other) ∙ (leads_on u count states b number (state t (take i s)) leads e).0
+    scan_stays lt byte other e =
+        sym (accepts_here lt byte other)
+        ∙ (leads_on u count states b number (state t (take i s)) leads (λ f. e (f ∙ accepted_in_line count b other))).0
 
     pub scan_next : i < length s → b ≡ slice_index s i → b ≢ 10 → number ≢ match_number count →
         StandsFor u count states number (state t (take (i + 1) s))
@@ -31,14 +34,15 @@ module _ (t u : Tree) (count : ℕ) (states : List State) (number : ℕ) (same :
         subst (λ (x : State). StandsFor u count states number x)
         (ap (λ x. successor x (state t (take i s)) b) same ∙ ap (successor t (state t (take i s))) byte
         ∙ beyond_more t s i lt (λ f. other (byte ∙ f)))
-        (leads_on u count states b number (state t (take i s)) leads e).1
+        (leads_on u count states b number (state t (take i s)) leads (λ f. e (f ∙ accepted_in_line count b other))).1
 
-    pub scan_ends : length s ≤ i → b ≡ 10 → eqb number (match_number count) ≡ accepts_in s t (length s)
+    pub scan_ends : length s ≤ i → b ≡ 10 → eqb number 0 ≡ accepts_in s t (length s)
     scan_ends le byte =
         let n = state t (take i s) in
         let all = ap (λ x. accepts_before x n b) same ∙ ap (λ x. accepts_before t x b) (ap (state t) (take_all i s le))
         ∙ ap (accepts_before t (state t s)) byte ∙ accepts_at_end t s in
-        elim (cases_eq number (match_number count)) [
-          | inl e ↦ eq-eqb number (match_number count) e ∙ sym (leads_to_found u count states b number n some leads e) ∙ all
-          | inr e ↦ ne_eqb number (match_number count) e ∙ sym (leads_on u count states b number n leads e).0 ∙ all
+        let found : accepted_number count b ≡ 0 = ap (accepted_number count) byte in
+        elim (cases_eq number 0) [
+          | inl e ↦ eq-eqb number 0 e ∙ sym (leads_to_found u count states b number n some leads (e ∙ sym found)) ∙ all
+          | inr e ↦ ne_eqb number 0 e ∙ sym (leads_on u count states b number n leads (λ f. e (f ∙ found))).0 ∙ all
         ]

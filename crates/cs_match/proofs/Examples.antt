@@ -1,9 +1,9 @@
 -- Worked examples of the definitions, by computation.
-use Rattle.std.proofs.Common.{◌≡◌, ◌≤◌, ℕ, zero, suc, List, true, false, [], ◌∷◌, inl, inr, refl, ap, subst, arith, codes}
-use Rattle.std.specs.Prelude.{None, slice_index}
+use Rattle.std.proofs.Common.{◌≡◌, true, false, [], ◌∷◌, refl, ap, codes}
+use Rattle.std.specs.Prelude.{None}
 use mathlib.Core.Bool.{xor}
-use Rattle.std.proofs.lemmas.Bool.{both_ways, cases_eq, false≢true}
-use Rattle.cs_syntax.specs.Matching.{Tree, MatchesSpan, Chain, member, empty, one_of, one_char, cat, alt, rep, none, more, word_edge, line_start, line_end}
+use Rattle.std.proofs.lemmas.Bool.{both_ways}
+use Rattle.cs_syntax.specs.Matching.{Tree, empty, one_of, one_char, cat, alt, rep, none, more, word_edge, line_start, line_end}
 use Rattle.cs_syntax.specs.ByteSet.{union}
 use Rattle.cs_match.specs.Anchored.{is_anchored}
 use Rattle.cs_match.specs.Expansion.{expansion, optional}
@@ -23,7 +23,7 @@ use Rattle.cs_match.specs.declared.state.State.{State}
 use Rattle.cs_match.specs.ByteClasses.{AreAlike}
 use Rattle.cs_match.specs.declared.byte_classes.ByteClasses.{ByteClasses}
 use Rattle.cs_match.specs.declared.table.Table.{Table}
-use Rattle.cs_match.specs.LazyDfa.{first_transition}
+use Rattle.cs_match.specs.LazyDfa.{accepted_number, first_transition}
 use Rattle.cs_match.specs.Table.{number_after}
 use Rattle.cs_match.specs.Size.{nodes}
 use Rattle.cs_match.specs.Work.{words, byte_work}
@@ -147,15 +147,19 @@ no_end_before_a_letter = refl
 abbrev three_classes : ByteClasses
 three_classes = record { of = 0 ∷ 0 ∷ 0 ∷ 0 ∷ 0 ∷ 0 ∷ 0 ∷ 0 ∷ 0 ∷ 0 ∷ 1 ∷ []; firsts = []; count = 3 }
 
--- the transitions of the first state are unknown, the match state is absorbing, and the dead one except the newline
+-- the transitions of the first state are unknown; the match and the dead state are left over the newline alone
 first_is_unknown : (first_transition three_classes 0 ≡ 3) × (first_transition three_classes 12 ≡ 3)
 first_is_unknown = (refl, refl)
 
-match_is_absorbing : first_transition three_classes 7 ≡ 6
-match_is_absorbing = refl
+match_ends_with_its_line : (first_transition three_classes 6 ≡ 6) × (first_transition three_classes 7 ≡ 0)
+match_ends_with_its_line = (refl, refl)
 
 dead_ends_with_its_line : (first_transition three_classes 9 ≡ 9) × (first_transition three_classes 10 ≡ 12)
 dead_ends_with_its_line = (refl, refl)
+
+-- an accepting state leads to the match state, and over the newline to the first row
+accepted_before_a_letter : (accepted_number 3 97 ≡ 6) × (accepted_number 3 10 ≡ 0)
+accepted_before_a_letter = (refl, refl)
 
 -- of a run the first position is entered with it, and each other one after the position before it
 entries_of_a_run : entered (run 3) true (true ∷ false ∷ true ∷ [])

@@ -23,7 +23,7 @@ range-append a (suc m) n =
     ap (range_with_len a) more
     ∙ ap (λ (xs : List ℕ). a ∷ xs) (range-append (a + 1) m n ∙ ap (λ b. range_with_len (a + 1) m ++ range_with_len b n) here)
 
-filter-same : (p q : ℕ → Bool) (a n : ℕ) → ((k : ℕ) → a ≤ k → k < a + n → p k ≡ q k) → filter p (range_with_len a n) ≡ filter q (range_with_len a n)
+pub filter-same : (p q : ℕ → Bool) (a n : ℕ) → ((k : ℕ) → a ≤ k → k < a + n → p k ≡ q k) → filter p (range_with_len a n) ≡ filter q (range_with_len a n)
 filter-same p q a zero same = refl
 filter-same p q a (suc n) same =
     ap₂ (λ b (xs : List ℕ). cond b (a ∷ xs) xs) (same a (omega arith) (omega arith))

@@ -1,7 +1,7 @@
 -- What a scan sees of a correct table.
-use Rattle.std.proofs.Common.{◌≡◌, ℕ, suc, ◌+◌, ◌*◌, ◌/◌, ◌<◌, ◌≤◌, ◌⊎◌, inl, inr, Bool, false, nat_eq, List, [], ◌∷◌, ◌++◌, length, get_or, refl, sym, ◌∙◌, ap, subst, arith}
+use Rattle.std.proofs.Common.{◌≡◌, ◌≢◌, ℕ, suc, ◌+◌, ◌*◌, ◌/◌, ◌<◌, ◌≤◌, ◌⊎◌, inl, inr, Bool, true, false, nat_eq, List, [], ◌∷◌, ◌++◌, length, get_or, refl, sym, ◌∙◌, ap, subst, arith}
 use Rattle.std.proofs.Math.Nat.{le_of_mul-le-mul_right}
-use Rattle.std.proofs.lemmas.Bool.{false_from_ne_true}
+use Rattle.std.proofs.lemmas.Bool.{false_from_ne_true, eqb-false}
 use Rattle.std.proofs.lemmas.List.Elements.{All-nil, All-cons, All-head, All-tail, All-append}
 use Rattle.cs_syntax.specs.Matching.{Tree}
 use Rattle.cs_tree.specs.ByteList.{AreBytes}
@@ -14,14 +14,15 @@ use Rattle.cs_match.specs.Deciding.{Decides}
 use Rattle.cs_match.specs.Glushkov.{IsExpanded}
 use Rattle.cs_match.specs.Lines.{newline}
 use Rattle.cs_match.specs.NoNewline.{HasNoNewline}
-use Rattle.cs_match.specs.Scan.{matched, EndsLine, to_unknown, to_match, to_start, RulesOutLines}
-use Rattle.cs_match.specs.States.{start, next_state, successor, accepts_before}
+use Rattle.cs_match.specs.States.{start, next_state, successor}
 use Rattle.cs_match.specs.Table as table
-use Rattle.cs_match.specs.Table.{class_of, next_number, number_after, IsRow, HasRows}
-use Rattle.cs_match.specs.LazyDfa.{state_at, IsSlot, StandsFor, Leads, found, next, IsTransition, unknown, known, AreStates, IsTable}
-use Rattle.cs_match.proofs.DfaLineLemmas.{NeverAccepts, never_found}
-use Rattle.cs_match.proofs.ScanLemmas.{IsByte}
-use Rattle.cs_match.proofs.TransitionLemmas.{row_in, some_classes, stands_slot, stands_start, transition, unknown_slot, no_first, first_unknown, first_match}
+use Rattle.cs_match.specs.Table.{class_of, next_number, number_after, IsRow, HasRows, BeginsLine, TellsLines}
+use Rattle.cs_match.specs.LazyDfa.{state_at, IsSlot, StandsFor, found, next, IsTransition, unknown, known, AreStates, IsTable}
+use Rattle.cs_match.proofs.DfaLineLemmas.{NeverAccepts, never_found, AcceptsAt, accepts_match}
+use Rattle.cs_match.proofs.TransitionLemmas.{row_in, some_classes, newline_alone, accepted_in_line, stands_slot, stands_start, stands_first, transition, unknown_slot, ends_line, first_unknown, first_match, first_found, first_start, first_dead}
+
+abbrev IsByte : ℕ → Type 0
+IsByte b = b < 256
 
 module _ (t : Tree) (classes : ByteClasses) (states : StateList) (transitions : List ℕ) (are : AreClasses t classes)
     (right : AreStates t classes.count states) (correct : IsTable t classes states.items transitions)
@@ -57,8 +58,8 @@ module _ (t : Tree) (classes : ByteClasses) (states : StateList) (transitions : 
         let low : suc row.slot * classes.count ≤ length states.items * classes.count =
         omega (arith, row.within, number_is, count_is, correct.rows, ap length transitions_is) in
         let lt_slot : row.slot < length states.items = omega (arith, le_of_mul-le-mul_right low some) in
-        absurd (no_first t classes states transitions are right correct row.slot b lt_slot lt
-        (sym (ap (λ k. get_or transitions (k + get_or classes.of b 0) 0) number_is) ∙ sym (next_is number b) ∙ none));
+        ends_line t classes states transitions are right correct row.slot b lt_slot lt
+        (sym (ap (λ k. get_or transitions (k + get_or classes.of b 0) 0) number_is) ∙ sym (next_is number b) ∙ none);
   }
 
   pub stands_row : (number : ℕ) (n : State) → StandsFor t classes.count states.items number n → IsRow r number
@@ -78,7 +79,7 @@ module _ (t : Tree) (classes : ByteClasses) (states : StateList) (transitions : 
   stands_unknown number b n lt stands e =
       unknown_slot t classes states transitions are right correct number n b stands lt (sym (next_is number b) ∙ e)
 
-  -- the unknown state and the match state are absorbing
+  -- the unknown state is absorbing, and so is the match state up to the end of the line
   at_unknown : (b : ℕ) → b < 256 → next_number r (table.unknown r) b ≡ table.unknown r
   at_unknown b lt =
       let k = classes.count + get_or classes.of b 0 in
@@ -87,50 +88,88 @@ module _ (t : Tree) (classes : ByteClasses) (states : StateList) (transitions : 
       ∙ correct.special k (omega arith) (omega (arith, within))
       ∙ first_unknown classes some (are.range 10 (omega arith)) k (inl (omega (arith, within))) ∙ sym count_is
 
-  at_match : (b : ℕ) → b < 256 → next_number r (matched r) b ≡ matched r
-  at_match b lt =
+  in_match : (number b : ℕ) → number ≡ 2 * classes.count → b < 256 → b ≢ newline → next_number r number b ≡ 2 * classes.count
+  in_match number b is lt other =
       let k = 2 * classes.count + get_or classes.of b 0 in
       let within = are.range b lt in
-      next_is (matched r) b ∙ ap (λ n. get_or transitions (2 * n + get_or classes.of b 0) 0) count_is
+      next_is number b ∙ ap (λ n. get_or transitions (n + get_or classes.of b 0) 0) is
       ∙ correct.special k (omega (arith, some)) (omega (arith, within))
-      ∙ first_match classes some (are.range 10 (omega arith)) k (omega arith) (omega (arith, within)) ∙ ap (λ n. 2 * n) (sym count_is)
+      ∙ first_match classes some (are.range 10 (omega arith)) k (omega arith) (omega (arith, within))
+      (λ e. other (newline_alone t classes are b lt (omega (arith, e))))
 
-  after_unknown : (number : ℕ) (text : List ℕ) → AreBytes text → number ≡ table.unknown r → number_after r number text ≡ table.unknown r
+  match_ends : (number : ℕ) → number ≡ 2 * classes.count → next_number r number newline ≡ table.found
+  match_ends number is =
+      let k = 2 * classes.count + get_or classes.of 10 0 in
+      let within = are.range 10 (omega arith) in
+      next_is number newline ∙ ap (λ n. get_or transitions (n + get_or classes.of 10 0) 0) is
+      ∙ correct.special k (omega (arith, some)) (omega (arith, within)) ∙ first_found classes some within
+
+  pub after_unknown : (number : ℕ) (text : List ℕ) → AreBytes text → number ≡ table.unknown r → number_after r number text ≡ table.unknown r
   unfolding number_after
   after_unknown number [] bytes is = is
   after_unknown number (b ∷ text) bytes is =
       after_unknown (next_number r number b) text (All-tail IsByte b text bytes)
       (ap (λ k. next_number r k b) is ∙ at_unknown b (All-head IsByte b text bytes))
 
-  after_match : (number : ℕ) (text : List ℕ) → AreBytes text → number ≡ matched r → number_after r number text ≡ matched r
+  pub after_match : (number : ℕ) (line : List ℕ) → AreBytes (line ++ newline ∷ []) → HasNoNewline line → number ≡ 2 * classes.count →
+      number_after r number (line ++ newline ∷ []) ≡ table.found
   unfolding number_after
-  after_match number [] bytes is = is
-  after_match number (b ∷ text) bytes is =
-      after_match (next_number r number b) text (All-tail IsByte b text bytes)
-      (ap (λ k. next_number r k b) is ∙ at_match b (All-head IsByte b text bytes))
+  after_match number [] bytes part is = match_ends number is
+  after_match number (b ∷ line) bytes part is =
+      after_match (next_number r number b) line (All-tail IsByte b (line ++ newline ∷ []) bytes) part.1
+      (in_match number b is (All-head IsByte b (line ++ newline ∷ []) bytes) (eqb-false b newline part.0))
+
+  -- so is the dead state
+  in_dead : (number b : ℕ) → number ≡ 3 * classes.count → b < 256 → b ≢ newline → next_number r number b ≡ 3 * classes.count
+  in_dead number b is lt other =
+      let k = 3 * classes.count + get_or classes.of b 0 in
+      let within = are.range b lt in
+      next_is number b ∙ ap (λ n. get_or transitions (n + get_or classes.of b 0) 0) is
+      ∙ correct.special k (omega (arith, some)) (omega (arith, within))
+      ∙ first_dead classes some (are.range 10 (omega arith)) k (omega arith) (omega (arith, within))
+      (λ e. other (newline_alone t classes are b lt (omega (arith, e))))
+
+  dead_ends : (number : ℕ) → number ≡ 3 * classes.count → next_number r number newline ≡ 4 * classes.count
+  dead_ends number is =
+      let k = 3 * classes.count + get_or classes.of 10 0 in
+      let within = are.range 10 (omega arith) in
+      next_is number newline ∙ ap (λ n. get_or transitions (n + get_or classes.of 10 0) 0) is
+      ∙ correct.special k (omega (arith, some)) (omega (arith, within)) ∙ first_start classes some within
+
+  pub after_dead : (number : ℕ) (line : List ℕ) → AreBytes (line ++ newline ∷ []) → HasNoNewline line → number ≡ 3 * classes.count →
+      number_after r number (line ++ newline ∷ []) ≡ 4 * classes.count
+  unfolding number_after
+  after_dead number [] bytes part is = dead_ends number is
+  after_dead number (b ∷ line) bytes part is =
+      after_dead (next_number r number b) line (All-tail IsByte b (line ++ newline ∷ []) bytes) part.1
+      (in_dead number b is (All-head IsByte b (line ++ newline ∷ []) bytes) (eqb-false b newline part.0))
+
+  -- the tree accepts somewhere in the line
+  abbrev AcceptsIn : State → List ℕ → Type 0
+  AcceptsIn n line = (i : ℕ) × (i ≤ length line) × AcceptsAt t n line i
 
   -- the number after a line from a state
   abbrev Ends : State → List ℕ → ℕ → Type 0
-  Ends n line x = (x ≡ table.unknown r) ⊎ ((x ≡ matched r) ⊎ ((x ≡ table.start r) × NeverAccepts t n line))
+  Ends n line x = (x ≡ table.unknown r) ⊎ (((x ≡ table.found) × AcceptsIn n line) ⊎ ((x ≡ table.start r) × NeverAccepts t n line))
 
   last_byte : (n : State) (x : ℕ) → IsTransition t classes.count states.items n 10 x → Ends n [] x
   last_byte n x (unknown is) = inl (is ∙ sym count_is)
-  last_byte n x (known (found is h)) = inr (inl (is ∙ ap (λ k. 2 * k) (sym count_is)))
+  last_byte n x (known (found is h)) = inr (inl (is, (0, omega arith, h)))
   last_byte n x (known (next h stands other line)) = inr (inr (line refl ∙ ap (λ k. 4 * k) (sym count_is), h))
 
-  more_bytes : (n : State) (b x : ℕ) (line : List ℕ) → nat_eq b newline ≡ false → AreBytes (line ++ newline ∷ []) →
+  more_bytes : (n : State) (b x : ℕ) (line : List ℕ) → nat_eq b newline ≡ false → HasNoNewline line → AreBytes (line ++ newline ∷ []) →
       IsTransition t classes.count states.items n b x →
       (StandsFor t classes.count states.items x (next_state t n b) → Ends (next_state t n b) line (number_after r x (line ++ newline ∷ []))) →
       Ends n (b ∷ line) (number_after r x (line ++ newline ∷ []))
-  more_bytes n b x line part bytes (unknown is) rest = inl (after_unknown x (line ++ newline ∷ []) bytes (is ∙ sym count_is))
-  more_bytes n b x line part bytes (known (found is h)) rest =
-      inr (inl (after_match x (line ++ newline ∷ []) bytes (is ∙ ap (λ k. 2 * k) (sym count_is))))
-  more_bytes n b x line part bytes (known (next h stands other back)) rest =
+  more_bytes n b x line part others bytes (unknown is) rest = inl (after_unknown x (line ++ newline ∷ []) bytes (is ∙ sym count_is))
+  more_bytes n b x line part others bytes (known (found is h)) rest =
+      inr (inl (after_match x line bytes others (is ∙ accepted_in_line classes.count b (eqb-false b newline part)), (0, omega arith, h)))
+  more_bytes n b x line part others bytes (known (next h stands other back)) rest =
       let moves : successor t n b ≡ next_state t n b = rw part refl in
       elim (rest (subst (λ (m : State). StandsFor t classes.count states.items x m) moves stands)) [
         | inl u ↦ inl u
         | inr v ↦ inr (elim v [
-          | inl m ↦ inl m
+          | inl m ↦ inl (m.0, (suc m.1.0, omega (arith, m.1.1), m.1.2))
           | inr p ↦ inr (p.0, (h, p.1))
         ])
       ]
@@ -141,25 +180,33 @@ module _ (t : Tree) (classes : ByteClasses) (states : StateList) (transitions : 
   line_ends n number [] bytes part stands = last_byte n (next_number r number newline) (stands_next number newline n (omega arith) stands)
   line_ends n number (b ∷ line) bytes part stands =
       let more = All-tail IsByte b (line ++ newline ∷ []) bytes in
-      more_bytes n b (next_number r number b) line part.0 more
+      more_bytes n b (next_number r number b) line part.0 part.1 more
       (stands_next number b n (All-head IsByte b (line ++ newline ∷ []) bytes) stands)
       (λ after. line_ends (next_state t n b) (next_number r number b) line more part.1 after)
 
-  -- the table rules out lines
-  pub rules_out : IsExpanded t → (has_match : List ℕ → Bool) → Decides has_match t → RulesOutLines has_match r
-  rules_out expanded has_match decides = record {
-    some = omega (arith, some, count_is);
-    at_unknown = at_unknown;
-    at_match = at_match;
-    ends = λ line bytes part.
+  -- a line begins in the start state
+  begins : (number : ℕ) → BeginsLine r number → StandsFor t classes.count states.items number (start t)
+  begins number (inl is) =
+      subst (λ k. StandsFor t classes.count states.items k (start t)) (sym is) (stands_first t classes.count states right)
+  begins number (inr is) =
+      subst (λ k. StandsFor t classes.count states.items k (start t)) (sym (is ∙ ap (λ k. 4 * k) count_is))
+      (stands_start t classes.count states right)
+
+  -- the table tells which lines match
+  pub tells_lines : IsExpanded t → (has_match : List ℕ → Bool) → Decides has_match t → TellsLines has_match r
+  tells_lines expanded has_match decides = record {
+    absorbs = at_unknown;
+    tells = λ number line at bytes part.
         let terminated = All-append IsByte line (newline ∷ []) bytes (All-cons IsByte newline [] (omega arith) (All-nil IsByte)) in
-        let first = subst (λ k. StandsFor t classes.count states.items (4 * k) (start t)) (sym count_is)
-        (stands_start t classes.count states right) in
-        elim (line_ends (start t) (table.start r) line terminated part first) [
-          | inl u ↦ to_unknown u
-          | inr v ↦ elim v [
-            | inl m ↦ to_match m
-            | inr p ↦ to_start p.0 (false_from_ne_true (has_match line) (λ e. never_found t line expanded part p.1 ((decides line).0 e)))
-          ]
+        elim (line_ends (start t) number line terminated part (begins number at)) [
+          | inl u ↦ inl u
+          | inr v ↦ inr (elim v [
+            | inl m ↦
+                let match : has_match line ≡ true = (decides line).1 (accepts_match t line expanded part m.1.0 m.1.1 m.1.2) in
+                m.0 ∙ sym (rw match refl)
+            | inr p ↦
+                let none = false_from_ne_true (has_match line) (λ e. never_found t line expanded part p.1 ((decides line).0 e)) in
+                p.0 ∙ sym (rw none refl)
+          ])
         ];
   }

@@ -1,6 +1,6 @@
 -- The states and the table stay correct if a transition is stored, a state is added, or the cache is cleared.
 use Rattle.std.proofs.Common.{true, ◌≡◌, ℕ, ◌+◌, ◌-◌, ◌*◌, ◌/◌, ◌<◌, ◌≤◌, ◌⊎◌, inl, inr, false, List, [], ◌∷◌, ◌++◌, length, set, refl, sym, ◌∙◌, ap, subst, arith, get_or, get_or-set_same, get_or-set_other, length-append, take}
-use Rattle.std.specs.Prelude.{◌≢◌, nat_eq, nat_lt, replicate, if◌then◌else◌}
+use Rattle.std.specs.Prelude.{◌≢◌, nat_eq, replicate, if◌then◌else◌}
 use Rattle.std.proofs.Math.ListN.{length-set}
 use Rattle.std.proofs.lemmas.Bool.{cases_eq, cases_lt, cases_Bool, eq-eqb, eqb-true, ne_eqb, le-ltb, lt-ltb}
 use Rattle.std.proofs.lemmas.List.{length-replicate, get_or-replicate, get_or_past, get_or_append_left, get_or-append_right, get_or-take, length-take-le}
@@ -15,7 +15,7 @@ use Rattle.cs_match.specs.CachedStates.{StateList}
 use Rattle.cs_match.specs.States.{start, successor, accepts_before, next_state, IsDead}
 use Rattle.cs_match.proofs.PositionCountLemmas.{scaled}
 use Rattle.cs_match.proofs.StateLemmas.{block_start}
-use Rattle.cs_match.specs.LazyDfa.{unknown_number, match_number, dead_number, start_number, state_at, IsSlot, StandsFor, cached, dead, Leads, found, next, IsTransition, unknown, known, first_transition, AreFirstRows, AreFirstStates, AreStates, IsTable}
+use Rattle.cs_match.specs.LazyDfa.{unknown_number, match_number, dead_number, start_number, accepted_number, state_at, IsSlot, StandsFor, cached, dead, Leads, found, next, IsTransition, unknown, known, first_transition, AreFirstRows, AreFirstStates, AreStates, IsTable}
 
 -- rows do not overlap
 pub same_transition : (count s r c d : ℕ) → c < count → d < count → s * count + c ≡ r * count + d → (s ≡ r) × (c ≡ d)
@@ -43,10 +43,25 @@ pub newline_alone : (t : Tree) (classes : ByteClasses) → AreClasses t classes 
 newline_alone t classes are b lt same =
     eqb-true b 10 (are.alike b 10 lt (omega arith) same (start t) (block_start t)).newline
 
+-- the transition over a byte before which a state accepts
+pub accepted_slot : (count b : ℕ) → (slot : ℕ) × (slot < 5) × (accepted_number count b ≡ slot * count) × ((slot ≡ 0 → b ≡ 10) × (slot ≢ 1))
+accepted_slot count b =
+    elim (cases_Bool (nat_eq b 10)) [
+      | inl e ↦ (0, omega arith, rw e (omega arith), ((λ _. eqb-true b 10 e), (λ one. omega (arith, one))))
+      | inr e ↦ (2, omega arith, rw e refl, ((λ none. absurd (omega (arith, none))), (λ one. omega (arith, one))))
+    ]
+
+pub accepted_low : (count b : ℕ) → accepted_number count b ≤ 2 * count
+accepted_low count b = elim (cases_Bool (nat_eq b 10)) [ inl e ↦ rw e (omega arith) | inr e ↦ rw e (omega arith) ]
+
+pub accepted_in_line : (count b : ℕ) → b ≢ 10 → accepted_number count b ≡ match_number count
+accepted_in_line count b other = rw (ne_eqb b 10 other) refl
+
 -- a correct transition over a byte is correct over the bytes of its class
 pub leads_alike : (t : Tree) (count : ℕ) (states : List State) (state : State) (b c number : ℕ) → AreAlike t state b c →
     Leads t count states state b number → Leads t count states state c number
-leads_alike t count states state b c number alike (found is h) = found is (sym alike.accepts ∙ h)
+leads_alike t count states state b c number alike (found is h) =
+    found (is ∙ ap (λ line. if line then 0 else match_number count) alike.newline) (sym alike.accepts ∙ h)
 leads_alike t count states state b c number alike (next h stands other line) =
     next (sym alike.accepts ∙ h) (subst (λ (n : State). StandsFor t count states number n) alike.successor stands) other
     (λ e. line (eqb-true b 10 (alike.newline ∙ eq-eqb c 10 e)))
@@ -65,7 +80,9 @@ stands_slot t count states number n some (dead is gone) = (3, omega (arith, some
 
 pub leads_slot : (t : Tree) (count : ℕ) (states : List State) (n : State) (b number : ℕ) → 5 ≤ length states →
     Leads t count states n b number → (slot : ℕ) × (slot < length states) × (number ≡ slot * count)
-leads_slot t count states n b number some (found is h) = (2, omega (arith, some), is)
+leads_slot t count states n b number some (found is h) =
+    let at = accepted_slot count b in
+    (at.0, omega (arith, some, at.1), is ∙ at.2)
 leads_slot t count states n b number some (next h stands other line) =
     stands_slot t count states number (successor t n b) some stands
 
@@ -77,15 +94,18 @@ stands_no_match t count states number n some (cached slot is at same) e =
     elim at.ordinary [ inl zero_slot ↦ omega (arith, two, zero_slot) | inr high ↦ omega (arith, two, high) ]
 stands_no_match t count states number n some (dead is gone) e = omega (arith, some, is, e)
 
--- a state accepts before the byte if its correct transition is the match state
+-- a state accepts before the byte if and only if its correct transition says so
 pub leads_to_found : (t : Tree) (count : ℕ) (states : List State) (b number : ℕ) (n : State) → 0 < count →
-    Leads t count states n b number → number ≡ match_number count → accepts_before t n b ≡ true
+    Leads t count states n b number → number ≡ accepted_number count b → accepts_before t n b ≡ true
 leads_to_found t count states b number n some (found is h) e = h
 leads_to_found t count states b number n some (next h stands other line) e =
-    absurd (stands_no_match t count states number (successor t n b) some stands e)
+    elim (cases_Bool (nat_eq b 10)) [
+      | inl at_end ↦ absurd (other (e ∙ rw at_end refl))
+      | inr in_line ↦ absurd (stands_no_match t count states number (successor t n b) some stands (e ∙ rw in_line refl))
+    ]
 
 pub leads_on : (t : Tree) (count : ℕ) (states : List State) (b number : ℕ) (n : State) → Leads t count states n b number →
-    (number ≡ match_number count → ⊥) →
+    (number ≡ accepted_number count b → ⊥) →
     (accepts_before t n b ≡ false) × StandsFor t count states number (successor t n b)
 leads_on t count states b number n (found is h) e = absurd (e is)
 leads_on t count states b number n (next h stands other line) e = (h, stands)
@@ -98,26 +118,35 @@ dead_state t count states number n some (cached slot is at same) e =
     elim at.ordinary [ inl zero_slot ↦ absurd (omega (arith, three, zero_slot)) | inr high ↦ absurd (omega (arith, three, high)) ]
 dead_state t count states number n some (dead is gone) e = gone
 
--- a known transition leads to no unknown state, and none leads to the first row
+-- a known transition leads to no unknown state, and to the first row over the newline alone
 pub leads_known : (t : Tree) (count : ℕ) (states : List State) (n : State) (b number : ℕ) → 0 < count →
     Leads t count states n b number → number ≢ unknown_number count
-leads_known t count states n b number some (found is h) e = omega (arith, some, is, e)
+leads_known t count states n b number some (found is h) e =
+    let at = accepted_slot count b in
+    at.3.1 (same_row count at.0 1 some (sym (is ∙ at.2) ∙ e ∙ omega arith))
 leads_known t count states n b number some (next h (cached slot is at same) other line) e =
     let one : slot ≡ 1 = same_row count slot 1 some (sym is ∙ e ∙ omega arith) in
     elim at.ordinary [ inl zero_slot ↦ omega (arith, one, zero_slot) | inr high ↦ omega (arith, one, high) ]
 leads_known t count states n b number some (next h (dead is gone) other line) e = omega (arith, some, is, e)
 
-pub transition_other : (t : Tree) (count : ℕ) (states : List State) (n : State) (b number : ℕ) → 0 < count →
-    IsTransition t count states n b number → number ≢ 0
-transition_other t count states n b number some (unknown is) e = omega (arith, some, is, e)
-transition_other t count states n b number some (known (found is h)) e = omega (arith, some, is, e)
-transition_other t count states n b number some (known (next h stands other line)) e = other e
+pub transition_ends : (t : Tree) (count : ℕ) (states : List State) (n : State) (b number : ℕ) → 0 < count →
+    IsTransition t count states n b number → number ≡ 0 → b ≡ 10
+transition_ends t count states n b number some (unknown is) e = absurd (omega (arith, some, is, e))
+transition_ends t count states n b number some (known (found is h)) e =
+    let at = accepted_slot count b in
+    at.3.0 (same_row count at.0 0 some (sym (is ∙ at.2) ∙ e ∙ omega arith))
+transition_ends t count states n b number some (known (next h stands other line)) e = absurd (other e)
 
 -- the start state has its number
 pub stands_start : (t : Tree) (count : ℕ) (states : StateList) → AreStates t count states →
     StandsFor t count states.items (start_number count) (start t)
 stands_start t count states right =
     cached 4 refl (record { within = omega (arith, right.first); ordinary = inr (omega arith) }) right.begin
+
+-- so has the first row
+pub stands_first : (t : Tree) (count : ℕ) (states : StateList) → AreStates t count states → StandsFor t count states.items 0 (start t)
+stands_first t count states right =
+    cached 0 (omega arith) (record { within = omega (arith, right.first); ordinary = inl refl }) right.found
 
 -- a correct transition to the start state
 pub leads_start : (t : Tree) (count : ℕ) (states : StateList) (n : State) (b : ℕ) → 0 < count → AreStates t count states →
@@ -128,54 +157,72 @@ leads_start t count states n b some right e stays =
 
 -- the transitions of the special states
 module _ (classes : ByteClasses) (some : 0 < classes.count) (line : get_or classes.of 10 0 < classes.count) where
+  abbrev match_end : ℕ
+  match_end = 2 * classes.count + get_or classes.of 10 0
+
+  abbrev dead_end : ℕ
+  dead_end = 3 * classes.count + get_or classes.of 10 0
+
   pub first_unknown : (k : ℕ) → (k < 2 * classes.count) ⊎ (4 * classes.count ≤ k) → first_transition classes k ≡ classes.count
   first_unknown k (inl low) =
-      rw (ne_eqb k (3 * classes.count + get_or classes.of 10 0) (λ e. omega (arith, e, low)), lt-ltb k (2 * classes.count) low) refl
+      rw (
+        ne_eqb k match_end (λ e. omega (arith, e, low)),
+        ne_eqb k dead_end (λ e. omega (arith, e, low)),
+        lt-ltb k (2 * classes.count) low,
+      ) refl
   first_unknown k (inr high) =
       rw (
-        ne_eqb k (3 * classes.count + get_or classes.of 10 0) (λ e. omega (arith, e, high, line)),
-        le-ltb k (2 * classes.count)
-            (omega (arith, high)),
+        ne_eqb k match_end (λ e. omega (arith, e, high, line)),
+        ne_eqb k dead_end (λ e. omega (arith, e, high, line)),
+        le-ltb k (2 * classes.count) (omega (arith, high)),
         le-ltb k (3 * classes.count) (omega (arith, high)),
         le-ltb k (4 * classes.count) high,
       ) refl
 
-  pub first_match : (k : ℕ) → 2 * classes.count ≤ k → k < 3 * classes.count → first_transition classes k ≡ 2 * classes.count
-  first_match k low high =
+  pub first_match : (k : ℕ) → 2 * classes.count ≤ k → k < 3 * classes.count → k ≢ match_end → first_transition classes k ≡ 2 * classes.count
+  first_match k low high other =
       rw (
-        ne_eqb k (3 * classes.count + get_or classes.of 10 0) (λ e. omega (arith, e, high)),
+        ne_eqb k match_end other,
+        ne_eqb k dead_end (λ e. omega (arith, e, high)),
         le-ltb k (2 * classes.count) low,
         lt-ltb k (3 * classes.count) high,
       ) refl
 
-  first_start : first_transition classes (3 * classes.count + get_or classes.of 10 0) ≡ 4 * classes.count
-  first_start = rw (eq-eqb (3 * classes.count + get_or classes.of 10 0) (3 * classes.count + get_or classes.of 10 0) refl) refl
+  pub first_found : first_transition classes match_end ≡ 0
+  first_found = rw (eq-eqb match_end match_end refl) refl
 
-  first_dead : (k : ℕ) → 3 * classes.count ≤ k → k < 4 * classes.count → k ≢ 3 * classes.count + get_or classes.of 10 0 →
-      first_transition classes k ≡ 3 * classes.count
+  pub first_start : first_transition classes dead_end ≡ 4 * classes.count
+  first_start = rw (ne_eqb dead_end match_end (λ e. omega (arith, e, some)), eq-eqb dead_end dead_end refl) refl
+
+  pub first_dead : (k : ℕ) → 3 * classes.count ≤ k → k < 4 * classes.count → k ≢ dead_end → first_transition classes k ≡ 3 * classes.count
   first_dead k low high other =
       rw (
-        ne_eqb k (3 * classes.count + get_or classes.of 10 0) other,
+        ne_eqb k match_end (λ e. omega (arith, e, low, line)),
+        ne_eqb k dead_end other,
         le-ltb k (2 * classes.count) (omega (arith, low)),
         le-ltb k (3 * classes.count) low,
         lt-ltb k (4 * classes.count) high,
       ) refl
 
-  -- each has the number of a row
-  pub first_slot : (k : ℕ) → (slot : ℕ) × (slot < 5) × (first_transition classes k ≡ slot * classes.count) × (1 ≤ slot)
+  -- each has the number of a row, and only the end of the match row that of the first one
+  pub first_slot : (k : ℕ) → (slot : ℕ) × (slot < 5) × (first_transition classes k ≡ slot * classes.count) × ((1 ≤ slot) ⊎ (k ≡ match_end))
   first_slot k =
       elim (cases_lt k (2 * classes.count)) [
-        | inl low ↦ (1, omega arith, first_unknown k (inl low) ∙ omega arith, omega arith)
+        | inl low ↦ (1, omega arith, first_unknown k (inl low) ∙ omega arith, inl (omega arith))
         | inr from ↦
             elim (cases_lt k (3 * classes.count)) [
-              | inl low ↦ (2, omega arith, first_match k from low, omega arith)
+              | inl low ↦
+                  elim (cases_eq k match_end) [
+                    | inl e ↦ (0, omega arith, ap (first_transition classes) e ∙ first_found ∙ omega arith, inr e)
+                    | inr other ↦ (2, omega arith, first_match k from low other, inl (omega arith))
+                  ]
               | inr past ↦
                   elim (cases_lt k (4 * classes.count)) [
-                    | inr high ↦ (1, omega arith, first_unknown k (inr high) ∙ omega arith, omega arith)
+                    | inr high ↦ (1, omega arith, first_unknown k (inr high) ∙ omega arith, inl (omega arith))
                     | inl low ↦
-                        elim (cases_eq k (3 * classes.count + get_or classes.of 10 0)) [
-                          | inl e ↦ (4, omega arith, ap (first_transition classes) e ∙ first_start, omega arith)
-                          | inr other ↦ (3, omega arith, first_dead k past low other, omega arith)
+                        elim (cases_eq k dead_end) [
+                          | inl e ↦ (4, omega arith, ap (first_transition classes) e ∙ first_start, inl (omega arith))
+                          | inr other ↦ (3, omega arith, first_dead k past low other, inl (omega arith))
                         ]
                   ]
             ]
@@ -235,12 +282,12 @@ module _ (t : Tree) (classes : ByteClasses) (states : StateList) (transitions : 
       absurd (leads_known t classes.count states.items n b (get_or transitions (3 * classes.count + get_or classes.of b 0) 0) some
       (dead_leads n b gone lt) (ap (λ k. get_or transitions (k + get_or classes.of b 0) 0) (sym is) ∙ e))
 
-  -- no transition has the number of the first row
-  pub no_first : (slot b : ℕ) → slot < length states.items → b < 256 → get_or transitions (slot * classes.count + get_or classes.of b 0) 0 ≢ 0
-  no_first slot b lt byte e =
+  -- a transition to the first row is over the newline
+  pub ends_line : (slot b : ℕ) → slot < length states.items → b < 256 → get_or transitions (slot * classes.count + get_or classes.of b 0) 0 ≡ 0 → b ≡ 10
+  ends_line slot b lt byte e =
       let k = slot * classes.count + get_or classes.of b 0 in
-      let row : IsSlot states.items slot → ⊥ = λ at.
-      transition_other t classes.count states.items (state_at t states.items slot) b (get_or transitions k 0) some (table.right slot b at byte) e in
+      let row : IsSlot states.items slot → b ≡ 10 = λ at.
+      transition_ends t classes.count states.items (state_at t states.items slot) b (get_or transitions k 0) some (table.right slot b at byte) e in
       elim (cases_lt slot 4) [
         | inr high ↦ row (record { within = lt; ordinary = inr high })
         | inl low ↦ elim (cases_eq slot 0) [
@@ -249,7 +296,11 @@ module _ (t : Tree) (classes : ByteClasses) (states : StateList) (transitions : 
               let from : classes.count ≤ k = omega (arith, scaled 1 slot classes.count (omega (arith, other))) in
               let to : k < 4 * classes.count = omega (arith, row_in classes.count slot 4 low, are.range b byte) in
               let at = first_slot classes some line k in
-              omega (arith, some, e, table.special k from to, at.2, scaled 1 at.0 classes.count at.3)
+              elim at.3 [
+                | inl high ↦ absurd (omega (arith, some, e, table.special k from to, at.2, scaled 1 at.0 classes.count high))
+                | inr end ↦ newline_alone t classes are b byte
+                    (same_transition classes.count slot 2 (get_or classes.of b 0) (get_or classes.of 10 0) (are.range b byte) line end).1
+              ]
         ]
       ]
 

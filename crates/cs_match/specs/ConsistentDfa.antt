@@ -1,5 +1,5 @@
 -- The invariant of the lazy DFA.
-use Rattle.std.specs.Prelude.{ℕ, ◌≡◌, ◌≤◌, ◌-◌, length, vec_capacity}
+use Rattle.std.specs.Prelude.{ℕ, ◌≡◌, ◌≢◌, List, ◌<◌, ◌≤◌, ◌-◌, ◌/◌, length, vec_capacity}
 use Rattle.cs_syntax.specs.Matching.{Tree}
 use Rattle.cs_match.specs.declared.state.State.{State}
 use Rattle.cs_match.specs.declared.dfa.LazyDfa.{LazyDfa}
@@ -8,6 +8,8 @@ use Rattle.cs_match.specs.ByteClasses.{AreClasses}
 use Rattle.cs_match.specs.Glushkov.{position_count, IsExpanded}
 use Rattle.cs_match.specs.Masks.{IsScratch}
 use Rattle.cs_match.specs.LazyDfa as dfa
+use Rattle.cs_match.specs.Table.{next_number, number_after, unknown, IsRow}
+use Rattle.cs_match.specs.declared.table.Table.{Table}
 use Rattle.cs_prefilter.specs.declared.steps.Steps.{Steps}
 
 -- the tree of the DFA, and the number of its byte classes
@@ -55,3 +57,25 @@ HasTransition t state b transition = dfa.IsTransition (tree_in t) (count_in t) t
 -- the slot is that of this state
 abbrev pub IsInSlot : LazyDfa → ℕ → State → Type 0
 IsInSlot t slot state = HasSlot t slot × (state_in t slot ≡ state)
+
+-- the table of the DFA
+abbrev pub table_in : LazyDfa → Table
+table_in t = record {
+  transitions = record { ref_ptr = (0, 0); now = t.states.transitions.items };
+  of = record { ref_ptr = (0, 0); now = t.states.classes.of };
+  count = count_in t;
+}
+
+-- a scan of the bytes from a state meets known transitions alone, since it would not leave the state *unknown*
+abbrev pub IsKnown : LazyDfa → ℕ → List ℕ → Type 0
+IsKnown t number bytes = number_after (table_in t) number bytes ≢ unknown (table_in t)
+
+-- The table is that of the DFA: a state has a row, its transitions are unknown or correct, and the slot of a state with an
+-- unknown one is known.
+pub record IsTableOf (t : LazyDfa) (table : Table) : Type 0 where
+  pub count : table.count ≡ count_in t
+  pub same : (number b : ℕ) → next_number table number b ≡ next_number (table_in t) number b
+  pub row : (number : ℕ) (state : State) → HasState t number state → IsRow table number
+  pub next : (number b : ℕ) (state : State) → b < 256 → HasState t number state → HasTransition t state b (next_number table number b)
+  pub slot : (number b : ℕ) (state : State) → b < 256 → HasState t number state →
+      next_number table number b ≡ count_in t → IsInSlot t (number / count_in t) state

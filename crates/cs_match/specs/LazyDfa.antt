@@ -1,7 +1,7 @@
 -- The lazy DFA (RE2): the cached states and the transition table, a row of transitions for each state and a transition in it for each
 -- class of bytes. The number of a state is the index of the first transition of its row. The first rows are those of a start
 -- state, of three special states (a transition that is unknown, a match, a dead state) and of the start state.
-use Rattle.std.specs.Prelude.{ℕ, ◌≡◌, ◌≢◌, ◌+◌, ◌*◌, ◌<◌, ◌≤◌, ◌⊎◌, true, false, List, length, replicate, slice_index, slice_index_or, nat_eq, nat_lt, if◌then◌else◌}
+use Rattle.std.specs.Prelude.{ℕ, ◌≡◌, ◌≢◌, ◌+◌, ◌*◌, ◌<◌, ◌≤◌, ◌⊎◌, ◌/◌, min, max, true, false, List, length, replicate, slice_index, slice_index_or, nat_eq, nat_lt, if◌then◌else◌}
 use Rattle.cs_syntax.specs.Matching.{Tree}
 use Rattle.cs_match.specs.declared.byte_classes.ByteClasses.{ByteClasses}
 use Rattle.cs_match.specs.declared.state.State.{State}
@@ -10,6 +10,7 @@ use Rattle.cs_match.specs.Lines.{newline}
 use Rattle.cs_match.specs.Glushkov.{position_count, cuts_of}
 use Rattle.cs_match.specs.Digits.{IsBlock}
 use Rattle.cs_match.specs.States.{start, successor, accepts_before, IsDead}
+use Rattle.cs_match.specs.Work.{words}
 
 -- the numbers of the special states and of the start state, for so many classes
 abbrev pub unknown_number : ℕ → ℕ
@@ -23,6 +24,10 @@ dead_number count = 3 * count
 
 abbrev pub start_number : ℕ → ℕ
 start_number count = 4 * count
+
+-- the transition over a byte before which a state accepts: the match state, or the first row if the line ends there
+abbrev pub accepted_number : ℕ → ℕ → ℕ
+accepted_number count b = if nat_eq b newline then 0 else match_number count
 
 -- the state in a slot
 abbrev pub state_at : Tree → List State → ℕ → State
@@ -39,10 +44,11 @@ pub data StandsFor (t : Tree) (count : ℕ) (states : List State) (number : ℕ)
       StandsFor t count states number state
   dead : number ≡ dead_number count → IsDead t state → StandsFor t count states number state
 
--- A correct transition of a state over the byte b: the match state if the state accepts before the byte; otherwise a
--- number that stands for its successor, which is the start state over a newline. No transition leads to the first row.
+-- A correct transition of a state over the byte b: the match state, or the first row if the line ends there, if the state accepts
+-- before the byte; otherwise a number that stands for its successor, which is that of the start state over a newline, and
+-- never that of the first row.
 pub data Leads (t : Tree) (count : ℕ) (states : List State) (state : State) (b number : ℕ) : Type 0 where
-  found : number ≡ match_number count → accepts_before t state b ≡ true → Leads t count states state b number
+  found : number ≡ accepted_number count b → accepts_before t state b ≡ true → Leads t count states state b number
   next : accepts_before t state b ≡ false → StandsFor t count states number (successor t state b) → number ≢ 0 →
       (b ≡ newline → number ≡ start_number count) → Leads t count states state b number
 
@@ -51,23 +57,29 @@ pub data IsTransition (t : Tree) (count : ℕ) (states : List State) (state : St
   unknown : transition ≡ unknown_number count → IsTransition t count states state b transition
   known : Leads t count states state b transition → IsTransition t count states state b transition
 
--- The transition at an index of the first rows, while no transition is known. The match and the unknown state are absorbing,
--- and the dead one up to the end of the line.
+-- The transition at an index of the first rows, while no transition is known. The unknown state is absorbing, and the match and
+-- the dead state are up to the end of the line.
 abbrev pub first_transition : ByteClasses → ℕ → ℕ
 first_transition classes k =
-    if nat_eq k (dead_number classes.count + slice_index classes.of newline) then start_number classes.count
+    if nat_eq k (match_number classes.count + slice_index classes.of newline) then 0
+    else (if nat_eq k (dead_number classes.count + slice_index classes.of newline) then start_number classes.count
     else (if nat_lt k (match_number classes.count) then unknown_number classes.count
     else (if nat_lt k (dead_number classes.count) then match_number classes.count
-    else (if nat_lt k (start_number classes.count) then dead_number classes.count else unknown_number classes.count)))
+    else (if nat_lt k (start_number classes.count) then dead_number classes.count else unknown_number classes.count))))
 
 -- the table of the first rows
 pub record AreFirstRows (classes : ByteClasses) (transitions : List ℕ) : Type 0 where
   pub all : length transitions ≡ 5 * classes.count
   pub each : (k : ℕ) → k < length transitions → slice_index transitions k ≡ first_transition classes k
 
--- five times the start state, with room for one more state, and for the row of each
+-- the most states for so many classes and so many words of a set: 65,536 transitions and, beyond 254 states, 262,144 words
+abbrev pub most_rows : ℕ → ℕ → ℕ
+most_rows count words = min (min (65536 / count) 65535) (max (262144 / max words 1) 254)
+
+-- five times the start state, with room for as many states as there can be, and for the row of each
 pub record AreFirstStates (count : ℕ) (first : State) (states : StateList) : Type 0 where
   pub all : states.items ≡ replicate 5 first
+  pub most : states.most ≡ most_rows count (words (length first.positions))
   pub more : 6 ≤ states.most
   pub fits : states.most * count ≤ 65536
   pub sized : states.positions ≡ length first.positions

@@ -32,27 +32,22 @@ byte_work t = step_work t + 12 * (words (position_count t) + 1) + 6 * 256
 abbrev pub line_work : Tree → ℕ → ℕ
 line_work t bytes = 2 * ((bytes + 1) * byte_work t)
 
--- the most bytes of a batch of six chunks that the lanes of an interleaved scan read
-abbrev pub most_batch : ℕ
-most_batch = 98304
+-- the most steps of a list of matching lines over a byte: an offset of the prefilter and a byte of a line around a candidate,
+-- and a byte of a line that is scanned, at most twice
+abbrev pub listed_byte_work : Tree → ℕ
+listed_byte_work t = byte_work t + 2 * offset_work
 
--- the most steps of the search of a block over a byte: an offset of the prefilter, and a byte of a line that is tested;
--- twice both, as a line that is tested is scanned twice at most
+-- the most steps of the list of the matching lines of so many bytes
+abbrev pub list_work : Tree → ℕ → ℕ
+list_work t bytes = bytes * listed_byte_work t
+
+-- the most steps of the search for the next matching line over a byte, which is read once more for the start of the line
 abbrev pub searched_byte_work : Tree → ℕ
-searched_byte_work t = 2 * (byte_work t + offset_work)
-
--- A batch whose first chunk has a match is read in vain, at most twice: by the searches for the ends of its chunks, and
--- by the lanes. This takes at most as many steps as so many bytes that are searched.
-abbrev pub search_overhead : ℕ
-search_overhead = 34
+searched_byte_work t = listed_byte_work t + 1
 
 -- the most steps of the search for the next matching line over so many bytes
 abbrev pub search_work : Tree → ℕ → ℕ
-search_work t bytes = (bytes + search_overhead) * searched_byte_work t
-
--- the most steps of the search for all matching lines of so many bytes
-abbrev pub count_work : Tree → ℕ → ℕ → ℕ
-count_work t bytes matches = (bytes + (matches + 1) * search_overhead) * searched_byte_work t
+search_work t bytes = bytes * searched_byte_work t
 
 -- the bytes that are searched from an offset on: up to the end of the line that is found, with its newline, or up to
 -- another offset if none is found

@@ -1,16 +1,19 @@
 // The states that a lazy DFA has cached, in flat vectors, and a hash table in which they are looked for.
-ghost use Rattle.std.specs.Prelude.{◌≡◌, ◌<◌, ◌≤◌, ◌∷◌, ◌++◌, [], IfOk, IfSome, length, take, slice_index_or, true};
+ghost use Rattle.std.specs.Prelude.{◌≡◌, ◌+◌, ◌*◌, ◌<◌, ◌≤◌, ◌∷◌, ◌++◌, [], IfOk, IfSome, length, take, slice_index_or, true};
 ghost use Rattle.cs_match.specs.declared.state.State.{State};
 ghost use Rattle.cs_match.specs.CachedStates.{behind_of};
 ghost use Rattle.cs_match.specs.PositionSet.{positions_of, IsPositionSet};
+ghost use Rattle.cs_match.specs.Work.{words};
+ghost use Rattle.cs_prefilter.specs.CountsAtMost.{CountsAtMost};
 
 use crate::state::State;
+use cs_prefilter::Steps;
 use cs_syntax::Unfinished;
 use std::alloc::{AllocError, Global};
 use std::marker::Model;
 
 /// The most places at which a state is looked for.
-pub(crate) const MOST_PROBES: usize = 8;
+const MOST_PROBES: usize = 8;
 
 /// What a state keeps of the bytes before the offset, besides its positions.
 #[derive(Clone, Copy, Drop)]
@@ -151,13 +154,17 @@ impl CachedStates {
     }
 
     /// Looks for the state, and for its place.
-    pub(crate) fn find(&self, state: &State) -> Found
+    pub(crate) fn find(&self, state: &State, steps: &mut Steps) -> Found
         requires { length state.now.positions ≡ self.now.positions }
-        ensures { IfSome result.slot (λ slot. (slot < length self.now.items)
+        ensures found { IfSome result.slot (λ slot. (slot < length self.now.items)
             × (slice_index_or self.now.items slot state.now ≡ state.now)) }
+        ensures work { CountsAtMost ((MOST_PROBES + 1) * (words self.now.positions + 1)) steps.old steps.new }
     {
+        let words = self.count.div_ceil(64);
+        steps.add(words + 1);
         let home = state.hash() as usize;
         for probe in 0..MOST_PROBES {
+            steps.add(words + 1);
             let place = home.wrapping_add(probe) % self.slots.len();
             let slot = self.slots[place] as usize;
             if slot >= self.len() || self.places[slot] as usize != place {

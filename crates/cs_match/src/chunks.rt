@@ -6,20 +6,13 @@ ghost use Rattle.cs_match.specs.Work.{byte_work};
 ghost use Rattle.cs_match.specs.Lanes.{IsCut, IsChunk, AreCuts, AreChunks, AreListed};
 ghost use Rattle.cs_prefilter.specs.CountsAtMost.{CountsAtMost};
 
-use crate::interleaved_scan::line_end;
 use crate::lanes::four_lanes;
-use crate::one_lane::OneLane;
+use crate::lines::line_end;
+use crate::one_lane::{ListedLines, OneLane};
 use cs_prefilter::Steps;
 
 /// The least size of a chunk in bytes, except at the end of a block.
 const LEAST: usize = 64;
-
-/// How many ends of matching lines are listed, and the offset up to which.
-#[derive(Clone, Copy)]
-pub(crate) struct ListedLines {
-    pub(crate) count: usize,
-    pub(crate) to: usize,
-}
 
 /// The end of the chunk that begins at `from`: after the first newline at least so many bytes on, or the end of the block.
 /// It has at most one line more than these bytes.
@@ -96,7 +89,8 @@ pub(crate) fn list_chunks<D: OneLane>(
         let lane = lanes[k];
         if lane.number == unknown {
             let own = &mut ends[count..(k + 1) * quarter];
-            count += dfa.list_ends(block, cuts[k]..cuts[k + 1], own, steps);
+            let listed = dfa.list_ends(block, cuts[k]..cuts[k + 1], own, steps);
+            count += listed.count;
         } else {
             steps.add(lane.count);
             append(ends, count, k * quarter, lane.count);

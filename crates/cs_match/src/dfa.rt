@@ -1,32 +1,33 @@
 // Lazy DFA (RE2): subset construction on demand over Glushkov positions (`specs/Glushkov.antt`), with a bounded cache
 // of states that is cleared when it is full.
-ghost use Rattle.std.specs.Prelude.{◌≡◌, ◌≢◌, ◌↔◌, ◌+◌, ◌-◌, ◌<◌, ◌≤◌, ◌*◌, ◌/◌, ℕ, Bool, List, IfOk, IsTrue, MatchOption, nat_eq, length, vec_capacity, true, false};
+ghost use Rattle.std.specs.Prelude.{◌≡◌, ◌≢◌, ◌↔◌, ◌+◌, ◌-◌, ◌<◌, ◌≤◌, ◌*◌, ℕ, Bool, List, IfOk, IsTrue, MatchOption, nat_eq, length, drop, vec_capacity, true, false};
 ghost use Rattle.cs_syntax.specs.Matching.{HasMatch};
 ghost use Rattle.cs_match.specs.Work.{words, step_work, byte_work, line_work};
 ghost use Rattle.cs_match.specs.Deciding.{Decides};
-ghost use Rattle.cs_match.specs.Scan.{RulesOutLines};
-ghost use Rattle.cs_match.specs.Table.{next_number, IsRow, HasRows};
-ghost use Rattle.cs_match.specs.FirstMatch.{AcceptsFirst, AreScanned, HasScanned, scanned_bytes};
+ghost use Rattle.cs_match.specs.Table.{next_number, number_after, start as table_start, unknown, HasRows, TellsLines};
+ghost use Rattle.cs_match.specs.Scanned.{HasScanned, FollowsKnown, ListsLine, PassesLines};
 ghost use Rattle.cs_match.specs.Lines.{newline};
 ghost use Rattle.cs_match.specs.Skipping.{AreWholeLines};
 ghost use Rattle.cs_match.specs.Glushkov.{position_count, cuts_of};
 ghost use Rattle.cs_match.specs.Digits.{IsBlock};
 ghost use Rattle.cs_match.specs.Masks.{IsScratch};
 ghost use Rattle.cs_match.specs.States.{start, successor, accepts_before, IsDead};
-ghost use Rattle.cs_match.specs.LazyDfa.{first_transition, AreFirstRows, AreFirstStates, match_number, dead_number, start_number};
+ghost use Rattle.cs_match.specs.LazyDfa.{first_transition, accepted_number, most_rows, AreFirstRows, AreFirstStates, match_number, dead_number, start_number};
 ghost use Rattle.cs_match.specs.declared.state.State.{State};
-ghost use Rattle.cs_match.specs.ConsistentDfa.{IsConsistent, HasSlot, IsInSlot, HasState, HasTransition, LeadsIn, tree_in, count_in, state_in};
+ghost use Rattle.cs_match.specs.ConsistentDfa.{IsConsistent, IsKnown, IsTableOf, table_in, HasSlot, HasState, LeadsIn, tree_in, count_in, state_in};
 ghost use Rattle.cs_prefilter.specs.CountsAtMost.{CountsAtMost};
 
 use crate::byte_classes::ByteClasses;
-use crate::cached_states::{CachedStates, MOST_PROBES};
+use crate::cached_states::CachedStates;
 use crate::glushkov::Scratch;
-use crate::interleaved_scan::line_end;
+use crate::lines::line_end;
+use crate::one_lane::{ListedLines, OneLane};
 use crate::program::Program;
 use crate::state::State;
 use crate::table::Table;
 use cs_prefilter::Steps;
 use std::alloc::{AllocError, Global};
+use std::ops::Range;
 
 /// The most transitions of the transition table: 128 KB.
 const TRANSITIONS: usize = 65536;
@@ -39,9 +40,10 @@ const LEAST_STATES: usize = 254;
 /// The most words of the position sets of more states: 2 MB.
 const MOST_WORDS: usize = 262144;
 
-/// The end of the scanned bytes, and the number of the state there.
+/// A scan of some lines of a text: where they begin, how far it has come, and the number of the state there.
 #[derive(Clone, Copy)]
-struct Scanned {
+struct Scan {
+    from: usize,
     to: usize,
     number: u16,
 }
@@ -72,6 +74,7 @@ pub(crate) struct LazyDfa<'a> {
 fn most_states(classes: usize, words: usize) -> usize
     requires some { 0 < classes }
     requires few { classes ≤ 256 }
+    ensures exact { result ≡ most_rows classes words }
     ensures room { result * classes ≤ 65536 }
     ensures more { 6 ≤ result }
     ensures slots { result < 65536 }
@@ -89,7 +92,7 @@ fn first_states(alloc: Global, classes: usize, start: &State) -> Result<CachedSt
     let count = start.positions.len();
     let most = most_states(classes, count.div_ceil(64));
     let mut states = CachedStates::new(alloc, most, count)?;
-    let place = states.find(start).place;
+    let place = start.hash() as usize;
     for slot in 0..FIRST {
         states.push(start, place);
     }
@@ -103,7 +106,9 @@ fn first_transition(classes: &ByteClasses, index: usize) -> u16
 {
     let count = classes.count as usize;
     let newline = classes.of[b'\n' as usize] as usize;
-    let slot = if index == 3 * count + newline {
+    let slot = if index == 2 * count + newline {
+        0
+    } else if index == 3 * count + newline {
         START
     } else if index < 2 * count {
         1
@@ -173,26 +178,6 @@ impl<'a> LazyDfa<'a> {
         Ok(LazyDfa { program, states })
     }
 
-    /// The transition table.
-    #[inline(always)]
-    pub(crate) fn table(&self) -> Table<'_>
-        requires { IsConsistent self.now }
-        ensures rows { HasRows result }
-        ensures count { result.count ≡ count_in self.now }
-        ensures row { (number : ℕ) (state : State) → HasState self.now number state → IsRow result number }
-        ensures next { (number b : ℕ) (state : State) → b < 256 → HasState self.now number state →
-            HasTransition self.now state b (next_number result number b) }
-        ensures slot { (number b : ℕ) (state : State) → b < 256 → HasState self.now number state →
-            next_number result number b ≡ count_in self.now → IsInSlot self.now (number / count_in self.now) state }
-        ensures skips { (has_match : List ℕ → Bool) → Decides has_match (tree_in self.now) → RulesOutLines has_match result }
-    {
-        Table {
-            transitions: &self.states.transitions,
-            of: &self.states.classes.of,
-            count: self.states.classes.count as usize,
-        }
-    }
-
     /// The transition of a state over a byte, computed first if it is unknown. A newline is the end of the line.
     #[inline(always)]
     fn next(&mut self, from: u16, byte: u8, steps: &mut Steps) -> u16
@@ -202,6 +187,8 @@ impl<'a> LazyDfa<'a> {
         ensures right { IsConsistent self.new }
         ensures same { tree_in self.new ≡ tree_in self.old }
         ensures work { CountsAtMost (byte_work (tree_in self.old) - 1) steps.old steps.new }
+        ensures known { next_number (table_in self.old) from byte ≢ count_in self.old → (self.new ≡ self.old)
+            × (result ≡ next_number (table_in self.old) from byte) × (steps.new.count ≡ steps.old.count + 1) }
     {
         steps.add(1);
         let next = self.table().next(from, byte);
@@ -230,12 +217,12 @@ impl<'a> LazyDfa<'a> {
                     .search(self.program, &mut self.states.memory, line, steps);
             }
             number = self.next(number, *b, steps);
-            if self.is_found(number) {
+            if self.is_matched(number) {
                 return true;
             }
         }
         let last = self.next(number, b'\n', steps);
-        self.is_found(last)
+        last == Table::FOUND
     }
 
     /// The number of the start state.
@@ -250,7 +237,7 @@ impl<'a> LazyDfa<'a> {
 
     /// Whether the number is that of the match state.
     #[inline(always)]
-    fn is_found(&self, number: u16) -> bool
+    fn is_matched(&self, number: u16) -> bool
         requires { IsConsistent self.now }
         ensures { result ≡ nat_eq number (match_number (count_in self.now)) }
     {
@@ -266,85 +253,100 @@ impl<'a> LazyDfa<'a> {
         number == 3 * self.states.classes.count
     }
 
-    /// The offset of the byte before which the automaton accepts first, in a scan over the lines of a text.
-    pub(crate) fn first_accepted(&mut self, text: &[u8], steps: &mut Steps) -> Option<usize>
+    /// Moves on by known transitions and, unless the text ends there, over the byte whose transition is special or unknown. If
+    /// it leads to the match state or the dead one, moves over the rest of the line too.
+    #[inline(always)]
+    fn advance(&mut self, text: &[u8], scan: Scan, steps: &mut Steps) -> Scan
         requires right { IsConsistent self.old }
-        requires whole { AreWholeLines text.now }
-        ensures found { MatchOption result
-            (AreScanned (tree_in self.old) text.now (length text.now))
-            (AcceptsFirst (tree_in self.old) text.now) }
+        requires within { scan.to < length text.now }
+        requires whole { AreWholeLines (drop scan.from text.now) }
+        requires scanned { HasScanned self.old text.now scan }
+        ensures lists { ListsLine (tree_in self.old) text.now scan result }
+        ensures scanned { HasScanned self.new text.now result }
         ensures right { IsConsistent self.new }
         ensures same { tree_in self.new ≡ tree_in self.old }
-        ensures work { CountsAtMost (scanned_bytes (length text.now) result * byte_work (tree_in self.old))
+        ensures work { CountsAtMost (byte_work (tree_in self.old) * (result.to - scan.to))
             steps.old steps.new }
+        ensures known { IsKnown self.old scan.number (drop scan.to text.now) →
+            FollowsKnown self.old self.new text.now scan result steps.old steps.new }
     {
-        let mut to = 0;
-        let mut number = self.start();
-        'scan: while to < text.len() {
-            let known = self.scan_lines(text, Scanned { to, number }, steps);
-            if known.to == text.len() {
-                return None;
-            }
-            number = self.next(known.number, text[known.to], steps);
-            if self.is_found(number) {
-                return Some(known.to);
-            }
-            to = known.to + 1;
+        let known = self.follow_known(text, scan);
+        steps.add(known.to - scan.to);
+        if known.to == text.len() {
+            return known;
         }
-        None
-    }
-
-    /// Scans up to the first byte whose transition is special, or from a dead state to the end of its line.
-    fn scan_lines(&self, text: &[u8], from: Scanned, steps: &mut Steps) -> Scanned
-        requires right { IsConsistent self.now }
-        requires whole { AreWholeLines text.now }
-        requires from { HasScanned self.now text.now from.to from.number }
-        ensures low { from.to ≤ result.to }
-        ensures scanned { HasScanned self.now text.now result.to result.number }
-        ensures work { CountsAtMost (result.to + 1 - from.to) steps.old steps.new }
-    {
-        let known = self.scan_known(text, from);
-        steps.add(known.to - from.to);
-        if known.to < text.len() && self.is_dead(known.number) {
-            return Scanned {
-                to: line_end(text, known.to, steps),
-                number: known.number,
+        let number = self.next(known.number, text[known.to], steps);
+        let to = known.to + 1;
+        if self.is_matched(number) {
+            return Scan {
+                to: line_end(text, to, steps) + 1,
+                number: Table::FOUND,
+                ..known
             };
         }
-        known
+        if self.is_dead(number) {
+            return Scan {
+                to: line_end(text, to, steps) + 1,
+                number: self.start(),
+                ..known
+            };
+        }
+        Scan {
+            to,
+            number,
+            ..known
+        }
     }
 
-    /// Scans up to the first byte whose transition is special.
+    /// Moves on by known transitions, up to the byte whose transition is special or unknown.
     #[inline(always)]
-    fn scan_known(&self, text: &[u8], from: Scanned) -> Scanned
+    fn follow_known(&self, text: &[u8], scan: Scan) -> Scan
         requires right { IsConsistent self.now }
-        requires from { HasScanned self.now text.now from.to from.number }
-        ensures low { from.to ≤ result.to }
-        ensures scanned { HasScanned self.now text.now result.to result.number }
+        requires scanned { HasScanned self.now text.now scan }
+        ensures low { scan.to ≤ result.to }
+        ensures scanned { HasScanned self.now text.now result }
+        ensures passes { PassesLines (tree_in self.now) text.now scan result }
+        ensures known { IsKnown self.now scan.number (drop scan.to text.now) →
+            IsKnown self.now result.number (drop result.to text.now) }
     {
         let table = self.table();
         let start = self.start();
-        let mut number = from.number;
-        for to in from.to..text.len() {
+        let mut number = scan.number;
+        for to in scan.to..text.len() {
             let next = table.next(number, text[to]);
             if next < start {
-                return Scanned { to, number };
+                return Scan { to, number, ..scan };
             }
             number = next;
         }
-        Scanned {
+        Scan {
             to: text.len(),
             number,
+            ..scan
         }
     }
 
-    /// Computes an unknown transition and stores it.
+    /// The transition over a byte before which the state accepts.
+    fn accepted(&self, byte: u8) -> u16
+        requires { IsConsistent self.now }
+        ensures { result ≡ accepted_number (count_in self.now) byte }
+    {
+        if byte == b'\n' {
+            Table::FOUND
+        } else {
+            2 * self.states.classes.count
+        }
+    }
+
+    /// Computes an unknown transition, and stores it unless the cache is full.
     #[cold]
     #[inline(never)]
     fn fill(&mut self, slot: usize, byte: u8, steps: &mut Steps) -> u16
         requires right { IsConsistent self.old }
         requires slot { HasSlot self.old slot }
         ensures leads { LeadsIn self.new (state_in self.old slot) byte result }
+        ensures stored { length self.old.states.cached.items < self.old.states.cached.most →
+            next_number (table_in self.new) (slot * count_in self.old) byte ≡ result }
         ensures right { IsConsistent self.new }
         ensures same { tree_in self.new ≡ tree_in self.old }
         ensures work { CountsAtMost (byte_work (tree_in self.old) - 2) steps.old steps.new }
@@ -358,7 +360,7 @@ impl<'a> LazyDfa<'a> {
             byte,
             steps,
         ) {
-            let found = 2 * self.states.classes.count;
+            let found = self.accepted(byte);
             self.put(slot, byte, found);
             return found;
         }
@@ -379,19 +381,21 @@ impl<'a> LazyDfa<'a> {
         requires stays { accepts_before (tree_in self.old) (state_in self.old slot) byte ≡ false }
         requires scratch { self.old.states.scratch ≡ successor (tree_in self.old) (state_in self.old slot) byte }
         ensures leads { LeadsIn self.new (state_in self.old slot) byte result }
+        ensures stored { length self.old.states.cached.items < self.old.states.cached.most →
+            next_number (table_in self.new) (slot * count_in self.old) byte ≡ result }
         ensures right { IsConsistent self.new }
         ensures same { tree_in self.new ≡ tree_in self.old }
         ensures work { CountsAtMost (11 * words (position_count (tree_in self.old)) + 10 + 6 * 256) steps.old steps.new }
     {
         let count = self.states.classes.count;
         let words = self.states.scratch.positions.len().div_ceil(64);
-        steps.add((MOST_PROBES + 2) * (words + 1) + (FIRST + 1) * count as usize);
+        steps.add(words + 1 + (FIRST + 1) * count as usize);
         if self.is_lost(steps) {
             let dead = 3 * count;
             self.put(slot, byte, dead);
             return dead;
         }
-        let found = self.states.cached.find(&self.states.scratch);
+        let found = self.states.cached.find(&self.states.scratch, steps);
         if let Some(other) = found.slot
             && other >= START
         {
@@ -426,6 +430,7 @@ impl<'a> LazyDfa<'a> {
         requires slot { HasSlot self.old slot }
         requires leads { LeadsIn self.old (state_in self.old slot) byte next }
         ensures leads { LeadsIn self.new (state_in self.old slot) byte next }
+        ensures stored { next_number (table_in self.new) (slot * count_in self.old) byte ≡ next }
         ensures right { IsConsistent self.new }
         ensures same { tree_in self.new ≡ tree_in self.old }
     {
@@ -441,6 +446,7 @@ impl<'a> LazyDfa<'a> {
         requires block { IsBlock (cuts_of (tree_in self.old)) self.old.states.scratch.unfinished }
         ensures number { HasState self.new result self.old.states.scratch }
         ensures other { result ≢ 0 }
+        ensures count { count_in self.new ≡ count_in self.old }
         ensures kept { (slot : ℕ) → HasSlot self.old slot
             → HasSlot self.new slot × (state_in self.new slot ≡ state_in self.old slot) }
         ensures right { IsConsistent self.new }
@@ -464,5 +470,57 @@ impl<'a> LazyDfa<'a> {
     {
         self.states.cached.truncate(FIRST);
         write_first(&mut self.states.transitions, &self.states.classes);
+    }
+}
+
+impl<'a> OneLane for LazyDfa<'a> {
+    ghost use Rattle.cs_match.specs.ConsistentDfa.{IsConsistent, IsKnown, tree_in, count_in};
+    ghost use Rattle.cs_match.specs.LazyDfa.{start_number};
+
+    ghost tree = { λ dfa. tree_in dfa };
+
+    ghost is_right = { IsConsistent };
+
+    ghost is_known = { λ dfa lines. IsKnown dfa (start_number (count_in dfa)) lines };
+
+    #[inline(always)]
+    fn table(&self) -> Table<'_>
+        requires { IsConsistent self.now }
+        ensures rows { HasRows result }
+        ensures tells { (has_match : List ℕ → Bool) → Decides has_match (tree_in self.now) →
+            TellsLines has_match result }
+        ensures known { (lines : List ℕ) → number_after result (table_start result) lines ≢ unknown result →
+            IsKnown self.now (start_number (count_in self.now)) lines }
+        ensures states { IsTableOf self.now result }
+    {
+        Table {
+            transitions: &self.states.transitions,
+            of: &self.states.classes.of,
+            count: self.states.classes.count as usize,
+        }
+    }
+
+    fn list_ends(
+        &mut self,
+        block: &[u8],
+        part: Range<usize>,
+        ends: &mut [usize],
+        steps: &mut Steps,
+    ) -> ListedLines {
+        let text = &block[..part.end];
+        let mut scan = Scan {
+            from: part.start,
+            to: part.start,
+            number: self.start(),
+        };
+        let mut count = 0;
+        'scan: while scan.to < part.end && count < ends.len() {
+            scan = self.advance(text, scan, steps);
+            if scan.number == Table::FOUND {
+                ends[count] = scan.to - 1;
+                count += 1;
+            }
+        }
+        ListedLines { count, to: scan.to }
     }
 }

@@ -41,30 +41,31 @@
 //! each state, with a transition of 16 bits for each *class* of bytes (RE2's byte map): at most 65,536
 //! transitions, some 2,000 states at 30 classes. There is one partition of the bytes for all states, in which a
 //! continuation byte is a digit of base 64 of the character. The number of a state is the index of its row's
-//! first transition. The first five rows are those of the special states and of the start state, so a special
-//! transition is one below the start state's number. The cached states are flat vectors (`CachedStates`): the
+//! first transition. Row 0 is that of *found*, the start state after a matching line; the next three are those of
+//! the special states *unknown*, *match* and *dead*, and then comes the start state. So a transition on which a
+//! scan stops is one below the start state's number. The cached states are flat vectors (`CachedStates`): the
 //! words of their position sets, and what they keep of the bytes before. A state that was computed is looked
 //! for at eight places of a hash table; nothing depends on this table, since a state that is found is compared
 //! in full, and one that is not is cached again, so it is never cleared. When there is no room the cache is cut
 //! to the first five states, and their rows are written anew. If each match begins with `^`, a state without
-//! positions is *dead*, and a scan that reaches it goes on at the next newline, which `memchr` finds. A match
-//! is reported one byte late: the transition over a byte says whether the state accepts before it, and that
-//! over the newline whether it accepts at the end of the line, so that `$` and `\b` need no look-ahead. A type
-//! invariant says that each transition is unknown or correct.
+//! positions is *dead*; no rest of the line changes what a line in the match state or a dead one is, so that a
+//! scan goes on at the next newline, which `memchr` finds. A match is reported one byte late: the transition
+//! over a byte says whether the state accepts before it, and that over the newline whether it accepts at the end
+//! of the line, so that `$` and `\b` need no look-ahead. A type invariant says that each transition is unknown or
+//! correct.
 //!
-//! *Searching.* `Matcher::next_match` searches a block in parts. A *prefilter* skips to a line with one of its
-//! words, which is tested alone, unless the prefilter is exact. The *interleaved scan* skips chunks of at least
-//! 512 bytes: six lanes over six chunks, if all end within 16 KiB, so that a search reads a constant number of
-//! bytes in vain. Special states are absorbing there, so a lane needs no branch for a byte, and a chunk whose
-//! scan ends in an *ordinary* state contains no match. A *single scan* reads the chunk at which it stops.
-//! `Pacing` counts outcomes and chooses the method for each part; no contract depends on it. `Matcher::count`
-//! is a loop over `next_match`.
+//! *Searching.* `Matcher::list_lines` lists the ends of the matching lines of a block in parts, until the block
+//! ends or the list may have no room for another part. A *prefilter* skips to a line with one of its words, which
+//! is listed at once if the prefilter is exact, else tested by one lane. Without a prefilter, or while it is not
+//! worth its cost (`Pacing`, on which no contract depends), four lanes list the lines of four chunks; one lane
+//! lists those of the rest of the block if the list is short, or if each match begins with `^`, since such a
+//! lane leaves most lines early. `Matcher::count` is a loop over lists, and `Matcher::next_match` a list of one.
 //!
-//! *Lanes* (`lanes.rt`, `chunks.rt`), which no search calls yet: four scans of four chunks of a block, so that
+//! *Lanes* (`lanes.rt`, `chunks.rt`) are four scans of four chunks of a block, so that
 //! the loads of one do not wait for those of another. Each lists the offset of each newline over which it
 //! enters the state *found*, which has number 0. A chunk ends after the first newline at least so many bytes
 //! on, so a quarter of the list has room for its lines. A lane that meets an unknown transition stays in the
-//! state *unknown*: its chunk is listed once more by one lane that computes the transitions (`OneLane`), and
+//! state *unknown*: its chunk is listed once more by one lane, the lazy DFA, that computes the transitions, and
 //! the lists of the other three are kept. The lanes know no states: `specs/Table.antt` says what they need of
 //! the table, and `specs/MatchingEnds.antt` what is listed.
 //!
@@ -83,9 +84,10 @@ mod dfa;
 mod expand;
 mod glushkov;
 mod input;
-mod interleaved_scan;
 mod lanes;
 pub mod laws;
+mod lines;
+mod listing;
 mod look_around;
 mod masks;
 mod matcher;
@@ -102,6 +104,7 @@ mod state;
 mod table;
 
 pub use matcher::{Cache, Line, Matcher};
+pub use one_lane::ListedLines;
 pub use program::Program;
 pub use skipping::whole_lines_len;
 pub use spans::{Finder, Listed, Pass, Span, Wanted};

@@ -7,7 +7,7 @@ ghost use Rattle.cs_match.specs.Work.{searched_bytes};
 ghost use Rattle.cs_prefilter.specs.OffsetWork.{offset_work};
 ghost use Rattle.cs_prefilter.specs.CountsAtMost.{CountsAtMost};
 
-use crate::interleaved_scan::line_end;
+use crate::lines::line_end;
 use crate::matcher::Line;
 use cs_prefilter::{Prefilter, Steps};
 use memchr::memrchr;

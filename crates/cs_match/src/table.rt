@@ -3,9 +3,9 @@ ghost use Rattle.std.specs.Prelude.{◌≡◌};
 ghost use Rattle.cs_match.specs.Table.{next_number, unknown, start, IsRow, HasRows};
 
 /// A transition table: a row for each state, with a transition for each class of bytes. The number of a state is the index of
-/// its row's first transition. The first rows are those of special states: found, the start state after a line that has a match;
-/// unknown, the transition is not computed yet; match, the line has a match, whatever follows in it; dead, no rest of the
-/// line makes one. The next is that of the start state.
+/// its row's first transition. Row 0 is that of *found*, the start state after a matching line. The next three are special:
+/// *unknown*, the transition is not computed yet; *match*, the line matches whatever follows in it; *dead*, it does not. The
+/// next is that of the start state.
 #[derive(Clone, Copy)]
 pub(crate) struct Table<'a> {
     pub(crate) transitions: &'a [u16],

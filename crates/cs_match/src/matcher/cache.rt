@@ -5,6 +5,7 @@ ghost use Rattle.cs_match.specs.Cached.{IsCacheOf};
 
 use super::Matcher;
 use crate::dfa::{LazyDfa, StateCache};
+use crate::listing::Ways;
 use crate::pacing::Pacing;
 use crate::program::Program;
 use cs_prefilter::Steps;
@@ -15,6 +16,7 @@ use std::alloc::{AllocError, Global};
 pub struct Cache {
     pub(crate) states: StateCache,
     pacing: Pacing,
+    pub(crate) ends: Vec<usize>,
     steps: Steps,
 }
 
@@ -36,12 +38,13 @@ impl<'a> Matcher<'a> {
         let Cache {
             states,
             pacing,
+            ends,
             steps,
         } = cache;
         Matcher {
             dfa: LazyDfa { program, states },
-            prefilter: program.prefilter(),
-            pacing,
+            ways: Ways::new(program, pacing),
+            ends,
             steps,
         }
     }
@@ -52,14 +55,15 @@ impl<'a> Matcher<'a> {
     {
         let Matcher {
             dfa,
-            prefilter: _,
-            pacing,
+            ways,
+            ends,
             steps,
         } = self;
         let LazyDfa { program: _, states } = dfa;
         Cache {
             states,
-            pacing,
+            pacing: ways.pacing,
+            ends,
             steps,
         }
     }

@@ -7,7 +7,7 @@ use Rattle.cs_match.specs.Work.{byte_work}
 use Rattle.cs_match.specs.Table.{unknown, TellsLines}
 use Rattle.cs_match.specs.MatchingEnds.{newlines_between}
 use Rattle.cs_match.specs.Lanes.{AreListed, quarter}
-use Rattle.cs_match.proofs.ChunkLemmas.{newlines_within, chunk_within, pending-quarter, pending-more, quarter_within, length-quarter, room_between, work-more, filled-work, moved-work, pending-far, own-len, filled-len, filled, filled-rest, AreListed-none, AreListed-lane, AreListed-append, AreListed-kind}
+use Rattle.cs_match.proofs.ChunkLemmas.{newlines_within, chunk_within, pending-quarter, pending-more, quarter_within, length-quarter, room_between, work-more, filled-work, moved-work, pending-far, own-len, filled-len, filled, filled-rest, AreListed-none, AreListed-lane, AreListed-append, AreListed-kind, lists_all}
 use Rattle.cs_match.proofs.chunks.list_chunks.Goals as goal
 use Rattle.cs_match.proofs.chunks.list_chunks.Goals.{then-lane-unknown, else-lane-unknown}
 
@@ -27,19 +27,19 @@ loop-k-init g c = record {
   work = omega arith;
 }
 
-pub list_ends-count-requires-clause-lines : goal.list_ends-count-requires-clause-lines
-list_ends-count-requires-clause-lines g c = (c.four_chunks-cuts.ensures.chunks c.loop-k.k c.loop-k-test.true).lines
+pub list_ends-listed-requires-clause-lines : goal.list_ends-listed-requires-clause-lines
+list_ends-listed-requires-clause-lines g c = (c.four_chunks-cuts.ensures.chunks c.loop-k.k c.loop-k-test.true).lines
 
-pub list_ends-count-requires-clause-room : goal.list_ends-count-requires-clause-room
-list_ends-count-requires-clause-room g c =
+pub list_ends-listed-requires-clause-room : goal.list_ends-listed-requires-clause-room
+list_ends-listed-requires-clause-room g c =
     let k = c.loop-k.k in
     let n = length c.args.ends.now / 4 in
-    let cuts = c.four_chunks-cuts.result in
     let next : k * n + n ≡ (k + 1) * n = omega arith in
-    let few : newlines_between c.args.block.now (get_or cuts k 0) (get_or cuts (k + 1) 0) ≤ n =
-    omega (arith, (c.four_chunks-cuts.ensures.chunks k c.loop-k-test.true).few) in
-    room_between c.loop-k.ends c.loop-k.count ((k + 1) * n) _ (omega (arith, c.loop-k.invariant.room, next, few))
-    (omega (arith, next, quarter_within n (length c.args.ends.now) refl k c.loop-k-test.true, c.loop-k.auto.ends, c.four_lanes-lanes.ensures.len))
+    omega (
+      arith,
+      room_between c.loop-k.ends c.loop-k.count ((k + 1) * n) n (omega (arith, c.loop-k.invariant.room, next))
+          (omega (arith, next, quarter_within n (length c.args.ends.now) refl k c.loop-k-test.true, c.loop-k.auto.ends, c.four_lanes-lanes.ensures.len)),
+    )
 
 pub append-requires-clause-within : goal.append-requires-clause-within
 append-requires-clause-within g c =
@@ -98,16 +98,23 @@ loop-k-preserved g c =
     ) in
     elim c.if-lane-unknown.branch [
       | then-lane-unknown w ↦
-          let e = w.list_ends-count.ensures in
-          let own = w.list_ends-count.new.ends in
-          let more = w.list_ends-count.result in
+          let e = w.list_ends-listed.ensures in
+          let own = w.list_ends-listed.new.ends in
+          let more = w.list_ends-listed.result.count in
+          let to = w.list_ends-listed.result.to in
           let low : count ≤ stop = omega (arith, i.room, next) in
-          let size = w.list_ends-count.auto.ends in
+          let size = w.list_ends-listed.auto.ends in
           let is : c.if-lane-unknown.ends ≡ take count old ++ (own ++ drop (stop - count) (drop count old)) = w.ends-is in
-          let listed : AreListed (λ has_match. Decides has_match t) block x y more own =
-          subst (λ tree. AreListed (λ has_match. Decides has_match tree) block x y more own) i.same e.listed in
+          let listed_to : AreListed (λ has_match. Decides has_match t) block x to more own =
+          subst (λ tree. AreListed (λ has_match. Decides has_match tree) block x to more own) i.same e.listed in
           let all : length c.if-lane-unknown.ends ≡ length old = filled-len old own c.if-lane-unknown.ends count stop low high size is in
           let len : length own ≡ stop - count = own-len old own c.if-lane-unknown.ends count stop low high size is in
+          let full : to ≡ y = lists_all (λ has_match. Decides has_match t) block x to y more own chunk.lines
+          (omega (arith, chunk.few, len, i.room, next)) listed_to e.most (λ other. e.all other ∙ sym size) in
+          let listed : AreListed (λ has_match. Decides has_match t) block x y more own =
+          subst (λ k. AreListed (λ has_match. Decides has_match t) block x k more own) full listed_to in
+          let work : w.list_ends-listed.new.steps.count ≤ c.loop-k.steps.count + byte_work (g.D.OneLane.tree c.loop-k.dfa) * (y - x) =
+          subst (λ k. w.list_ends-listed.new.steps.count ≤ c.loop-k.steps.count + byte_work (g.D.OneLane.tree c.loop-k.dfa) * (k - x)) full e.work.1 in
           let steps = ap (λ (s : Steps). s.count) w.steps-is in
           record {
             listed = subst (λ m. AreListed (λ has_match. Decides has_match t) block c.args.from y m c.if-lane-unknown.ends) (sym w.count-is)
@@ -123,7 +130,7 @@ loop-k-preserved g c =
                 i.listed.lines.low chunk.lines.low i.work
                 (subst (λ s. s ≤ c.loop-k.steps.count + (byte_work t + 1) * (y - x)) (sym steps)
                 (filled-work (byte_work t) (byte_work (g.D.OneLane.tree c.loop-k.dfa)) (y - x) c.loop-k.steps.count
-                w.list_ends-count.new.steps.count (ap (λ tree. byte_work tree) i.same) e.work.1));
+                w.list_ends-listed.new.steps.count (ap (λ tree. byte_work tree) i.same) work));
           }
       | else-lane-unknown w ↦
           let is = c.four_lanes-lanes.ensures.lanes k other c.loop-k-test.true in

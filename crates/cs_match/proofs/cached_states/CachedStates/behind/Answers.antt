@@ -1,4 +1,4 @@
-use Rattle.std.proofs.Common.{◌≡◌, ◌<◌, length, get_or, sym, ◌∙◌, ap, arith}
+use Rattle.std.proofs.Common.{◌<◌, length, get_or, sym, ◌∙◌, ap, arith}
 use Rattle.cs_match.specs.CachedStates.{StateList, behind_of}
 use Rattle.cs_match.proofs.CachedStateLemmas.{length-states_of, state_is}
 use Rattle.cs_match.proofs.cached_states.CachedStates.behind.Goals as goal

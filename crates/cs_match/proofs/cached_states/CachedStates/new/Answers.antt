@@ -1,4 +1,4 @@
-use Rattle.std.proofs.Common.{◌≡◌, ◌*◌, ◌≤◌, [], refl, sym, ◌∙◌, ap, subst, arith}
+use Rattle.std.proofs.Common.{◌≡◌, ◌*◌, refl, ap, arith}
 use Rattle.cs_match.specs.CachedStates.{states_of, AreSets}
 use Rattle.cs_match.specs.Work.{words}
 use Rattle.cs_match.proofs.cached_states.CachedStates.new.Goals as goal

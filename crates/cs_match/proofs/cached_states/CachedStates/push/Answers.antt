@@ -1,8 +1,8 @@
-use Rattle.std.proofs.Common.{◌≡◌, ◌+◌, ◌*◌, ◌<◌, ◌≤◌, ◌++◌, ◌∷◌, [], ℕ, Bool, List, length, refl, sym, ◌∙◌, ap, subst, arith}
-use Rattle.std.specs.Prelude.{vec_capacity, Result, Ok, Err, IsOk, is_ok, if◌then◌else◌}
+use Rattle.std.proofs.Common.{◌≡◌, ◌+◌, ◌<◌, ◌++◌, ◌∷◌, [], Bool, List, length, sym, ◌∙◌, ap, subst, arith}
+use Rattle.std.specs.Prelude.{Result, Ok, is_ok, if◌then◌else◌}
 use Rattle.cs_match.specs.declared.cached_states.Behind.{Behind}
 use Rattle.cs_match.specs.declared.state.State.{State}
-use Rattle.cs_match.specs.CachedStates.{StateList, behind_of, with_positions, states_of, AreSets}
+use Rattle.cs_match.specs.CachedStates.{StateList, behind_of, with_positions, states_of}
 use Rattle.cs_match.specs.PositionSet.{positions_of, IsPositionSet}
 use Rattle.cs_match.specs.Work.{words}
 use Rattle.cs_match.proofs.CachedStateLemmas.{length-states_of, length-sets, pushed_states, pushed_sets}

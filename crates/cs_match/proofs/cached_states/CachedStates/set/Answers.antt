@@ -1,6 +1,6 @@
 use Rattle.std.proofs.Common.{◌≡◌, ◌+◌, ◌-◌, ◌*◌, ◌<◌, ◌≤◌, List, ℕ, length, take, drop, get_or, sym, ◌∙◌, ap, subst, arith}
 use Rattle.cs_match.specs.declared.state.State.{State}
-use Rattle.cs_match.specs.CachedStates.{StateList, behind_of, AreSets}
+use Rattle.cs_match.specs.CachedStates.{StateList, behind_of}
 use Rattle.cs_match.specs.PositionSet.{positions_of, IsPositionSet}
 use Rattle.cs_match.specs.Work.{words}
 use Rattle.cs_match.proofs.CachedStateLemmas.{length-states_of, set_within, state_is, set_is, set_at}

@@ -1,6 +1,5 @@
-use Rattle.std.proofs.Common.{◌≡◌, ◌+◌, ◌*◌, ◌<◌, ◌≤◌, ℕ, List, take, length, sym, ◌∙◌, ap, ap₂, subst, arith}
-use Rattle.cs_match.specs.declared.cached_states.Behind.{Behind}
-use Rattle.cs_match.specs.CachedStates.{StateList, states_of, AreSets}
+use Rattle.std.proofs.Common.{◌≡◌, ◌*◌, ◌≤◌, List, take, length, ◌∙◌, ap, arith}
+use Rattle.cs_match.specs.CachedStates.{StateList, states_of}
 use Rattle.cs_match.specs.Work.{words}
 use Rattle.cs_match.proofs.CachedStateLemmas.{length-states_of, length-sets, first_states, first_sets}
 use Rattle.cs_match.proofs.PositionCountLemmas.{scaled}

@@ -1,8 +1,7 @@
-use Rattle.std.proofs.Common.{◌≡◌, ◌+◌, ◌*◌, ◌<◌, ◌≤◌, ◌++◌, ◌∷◌, [], ℕ, List, length, get_or, refl, sym, ◌∙◌, ap, subst, arith}
+use Rattle.std.proofs.Common.{◌≡◌, ◌+◌, ◌*◌, ◌<◌, ◌≤◌, ◌++◌, ◌∷◌, [], ℕ, length, get_or, sym, ◌∙◌, ap, subst, arith}
 use Rattle.std.specs.Prelude.{Result, Ok, is_ok, if◌then◌else◌}
-use Rattle.cs_match.specs.declared.state.State.{State}
 use Rattle.cs_match.specs.CachedStates.{StateList}
-use Rattle.cs_match.specs.ConsistentDfa.{IsConsistent, HasState, HasSlot, tree_in, count_in, state_in}
+use Rattle.cs_match.specs.ConsistentDfa.{tree_in, count_in, state_in}
 use Rattle.cs_match.specs.LazyDfa.{AreStates, IsTable, StandsFor, IsSlot, state_at}
 use Rattle.cs_match.proofs.PositionCountLemmas.{scaled}
 use Rattle.cs_match.proofs.TransitionLemmas.{some_classes, kept_state, kept_slot, added_stands, added_table, added_states}

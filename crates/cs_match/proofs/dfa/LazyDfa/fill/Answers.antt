@@ -62,10 +62,23 @@ next_number-requires-clause-right c =
       memory = c.step_over.ensures.memory;
     }
 
+pub accepted-found-requires : goal.accepted-found-requires
+accepted-found-requires c =
+    let s = c.args.self.now in
+    record {
+      expanded = c.requires.right.expanded;
+      classes = c.requires.right.classes;
+      cached = c.requires.right.cached;
+      table = c.requires.right.table;
+      capacity = c.requires.right.capacity;
+      room = ap (λ (n : State). length n.positions) c.step_over.ensures.moved ∙ length-successor (tree_in s) c.load.new.state c.args.byte;
+      memory = c.step_over.ensures.memory;
+    }
+
 pub put-requires-clause-leads : goal.put-requires-clause-leads
 put-requires-clause-leads c =
     let s = c.args.self.now in
-    found (omega arith) (sym (sym c.if-step_over.true ∙ c.step_over.ensures.accepting
+    found c.accepted-found.ensures (sym (sym c.if-step_over.true ∙ c.step_over.ensures.accepting
     ∙ ap (λ (n : State). accepts_before (tree_in s) n c.args.byte) (c.load.ensures (start (tree_in s)))))
 
 pub start-start-requires : goal.start-start-requires

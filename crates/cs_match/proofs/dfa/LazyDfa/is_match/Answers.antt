@@ -1,7 +1,6 @@
 use Rattle.std.proofs.Common.{◌≡◌, ◌≢◌, ◌<◌, ◌≤◌, ◌+◌, ◌*◌, length, get_or, refl, sym, ap, ◌∙◌, arith, below_more}
 use Rattle.std.proofs.lemmas.Bool.{eqb-true, false≢true, eq-eqb}
 use Rattle.cs_match.specs.LazyDfa.{match_number}
-use Rattle.cs_match.specs.States.{state}
 use Rattle.cs_match.specs.Work.{step_work, byte_work}
 use Rattle.cs_match.specs.ConsistentDfa.{tree_in, count_in}
 use Rattle.cs_match.proofs.DecidabilityLemmas.{found_at, found_last}
@@ -20,8 +19,8 @@ loop-b-init c = record {
   none = λ k lt. absurd (omega arith);
 }
 
-pub returns-then-is_found-clause-found : goal.returns-then-is_found-clause-found
-returns-then-is_found-clause-found c =
+pub returns-then-is_matched-clause-found : goal.returns-then-is_matched-clause-found
+returns-then-is_matched-clause-found c =
     let t = tree_in c.args.self.now in
     let line = c.args.line.now in
     let i = c.loop-b.b-index in
@@ -30,7 +29,7 @@ returns-then-is_found-clause-found c =
     let lt : i < length line = omega arith in
     let some = some_classes (tree_in new) new.states.classes c.next-number.ensures.right.classes in
     let is : c.next-number.result ≡ match_number (count_in new) =
-    eqb-true c.next-number.result (match_number (count_in new)) (sym c.is_found.ensures ∙ c.if-is_found.true) in
+    eqb-true c.next-number.result (match_number (count_in new)) (sym c.is_matched.ensures ∙ c.if-is_matched.true) in
     let accepting = scan_found t (tree_in new) (count_in new) new.states.cached.items c.next-number.result
     (c.next-number.ensures.same ∙ given.same) some line i (get_or line i 0)
     (c.next-number.ensures.leads _ given.number) lt refl c.if-b-eq10.false is in
@@ -48,7 +47,7 @@ loop-b-preserved c =
     let same = c.next-number.ensures.same ∙ given.same in
     let some = some_classes (tree_in new) new.states.classes c.next-number.ensures.right.classes in
     let other : c.next-number.result ≢ match_number (count_in new) =
-    λ e. false≢true (sym c.if-is_found.false ∙ c.is_found.ensures ∙ eq-eqb c.next-number.result (match_number (count_in new)) e) in
+    λ e. false≢true (sym c.if-is_matched.false ∙ c.is_matched.ensures ∙ eq-eqb c.next-number.result (match_number (count_in new)) e) in
     record {
       rises = omega (arith, given.rises, c.next-number.ensures.work.0);
       work = omega (arith, given.work, c.next-number.ensures.work.1, ap byte_work given.same);
@@ -72,7 +71,7 @@ returns-clause-found c =
     let ends = scan_ends t (tree_in new) (count_in new) new.states.cached.items c.next-last.result
     (c.next-last.ensures.same ∙ given.same) some line i 10
     (c.next-last.ensures.leads _ given.number) (omega arith) refl in
-    found_last t line c.requires.right.expanded _ (c.is_found-2.ensures ∙ ends) (λ k lt. given.none k (omega arith))
+    found_last t line c.requires.right.expanded _ ends (λ k lt. given.none k (omega arith))
 
 pub returns-then-b-eq10-clause-work : goal.returns-then-b-eq10-clause-work
 returns-then-b-eq10-clause-work c =
@@ -93,8 +92,8 @@ returns-then-b-eq10-clause-work c =
       ),
     )
 
-pub returns-then-is_found-clause-work : goal.returns-then-is_found-clause-work
-returns-then-is_found-clause-work c =
+pub returns-then-is_matched-clause-work : goal.returns-then-is_matched-clause-work
+returns-then-is_matched-clause-work c =
     let t = tree_in c.args.self.now in
     let i = c.loop-b.b-index in
     let n = length c.args.line.now in (

@@ -1,4 +1,4 @@
-use Rattle.std.proofs.Common.{◌≡◌, ◌≢◌, ◌+◌, ◌*◌, ◌/◌, ◌<◌, ◌≤◌, ◌∙◌, ℕ, List, false, length, get_or, inr, refl, sym, ap, subst, arith}
+use Rattle.std.proofs.Common.{◌≡◌, ◌≢◌, ◌*◌, ◌<◌, ◌∙◌, ℕ, List, false, length, get_or, inr, refl, sym, ap, subst, arith}
 use Rattle.std.specs.Prelude.{IfSome}
 use Rattle.std.proofs.lemmas.List.{get_or_default}
 use Rattle.std.proofs.lemmas.Bool.{ne_eqb}
@@ -7,10 +7,10 @@ use Rattle.cs_match.specs.declared.dfa.LazyDfa.{LazyDfa}
 use Rattle.cs_match.specs.declared.state.State.{State}
 use Rattle.cs_match.specs.Digits.{IsBlock}
 use Rattle.cs_match.specs.Glushkov.{cuts_of}
-use Rattle.cs_match.specs.LazyDfa.{StandsFor, cached, dead, Leads, next, IsSlot, state_at}
-use Rattle.cs_match.specs.States.{start, successor, accepts_before, IsDead}
-use Rattle.cs_match.specs.Work.{words}
-use Rattle.cs_match.specs.ConsistentDfa.{IsConsistent, HasSlot, HasState, LeadsIn, tree_in, count_in, state_in}
+use Rattle.cs_match.specs.LazyDfa.{StandsFor, cached, dead, Leads, next}
+use Rattle.cs_match.specs.States.{start, successor, accepts_before}
+use Rattle.cs_match.specs.Table.{next_number}
+use Rattle.cs_match.specs.ConsistentDfa.{IsConsistent, LeadsIn, table_in, tree_in, count_in, state_in}
 use Rattle.cs_match.proofs.PositionCountLemmas.{scaled}
 use Rattle.cs_match.proofs.StateLemmas.{block_successor}
 use Rattle.cs_match.proofs.TransitionLemmas.{some_classes}
@@ -67,7 +67,7 @@ put-requires-2-clause-leads c =
     let items = old.states.cached.items in
     let other = c.in-Some.other in
     let found = subst (λ o. IfSome o (λ k. (k < length items) × (get_or items k old.states.scratch ≡ old.states.scratch))) c.in-Some.is
-    c.find-found.ensures in
+    c.find-found.ensures.found in
     let some = some_classes t old.states.classes c.requires.right.classes in
     leads_to t t (count_in old) items (state_in old c.args.slot) (state_in old c.args.slot) old.states.scratch c.args.byte
     (other * count_in old) refl refl c.requires.within c.requires.stays c.requires.scratch
@@ -100,3 +100,7 @@ pub returns-2-clause-leads : goal.returns-2-clause-leads
 returns-2-clause-leads c =
     subst (λ (n : State). LeadsIn c.put-3.new.self n c.args.byte c.add-next.result) (c.add-next.ensures.kept c.args.slot c.requires.slot).1
     c.put-3.ensures.leads
+
+pub returns-2-clause-stored : goal.returns-2-clause-stored
+returns-2-clause-stored c = λ room.
+    subst (λ n. next_number (table_in c.put-3.new.self) (c.args.slot * n) c.args.byte ≡ c.add-next.result) c.add-next.ensures.count c.put-3.ensures.stored

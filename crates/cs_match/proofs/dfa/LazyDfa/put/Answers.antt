@@ -1,5 +1,5 @@
-use Rattle.std.proofs.Common.{◌≡◌, ◌+◌, ◌*◌, ℕ, List, set, get_or, sym, ◌∙◌, ap, subst, arith}
-use Rattle.cs_match.specs.ConsistentDfa.{tree_in, count_in, state_in}
+use Rattle.std.proofs.Common.{◌+◌, ◌*◌, get_or, get_or-set_same, arith}
+use Rattle.cs_match.specs.ConsistentDfa.{tree_in, count_in}
 use Rattle.cs_match.proofs.TransitionLemmas.{transition_in, put_transition}
 use Rattle.cs_match.proofs.dfa.LazyDfa.put.Goals as goal
 
@@ -28,3 +28,11 @@ returns-clause-right c =
       room = right.room;
       memory = right.memory;
     }
+
+pub returns-clause-stored : goal.returns-clause-stored
+returns-clause-stored c =
+    let s = c.args.self.now in
+    let right = c.requires.right in
+    get_or-set_same s.states.transitions.items (c.args.slot * count_in s + get_or s.states.classes.of c.args.byte 0) c.args.next 0
+    (transition_in (tree_in s) s.states.classes s.states.cached s.states.transitions.items right.classes right.cached right.table c.args.slot
+    c.args.byte c.args.next c.requires.slot (omega arith) c.requires.leads)

@@ -10,8 +10,9 @@ use Rattle.cs_match.proofs.matcher.Matcher.is_match.Goals as goal
 pub invariant_of-self : goal.invariant_of-self
 invariant_of-self c = (
   c.is_match.ensures.right,
-  subst (λ (t : Tree). IfSome c.self.inside.prefilter (λ prefilter. IsPrefilterOf t prefilter.now)) (sym c.is_match.ensures.same)
+  subst (λ (t : Tree). IfSome c.self.inside.ways.prefilter (λ prefilter. IsPrefilterOf t prefilter.now)) (sym c.is_match.ensures.same)
       c.self.invariant.1,
+  c.self.invariant.2,
 )
 
 pub returns-clause-found : goal.returns-clause-found

@@ -1,134 +1,68 @@
-use Rattle.std.proofs.Common.{◌≡◌, ◌≤◌, ◌+◌, ◌*◌, ◌-◌, ℕ, List, length, take, drop, arith, refl, sym, ap, subst, ◌∙◌, Option, Some}
+use Rattle.std.proofs.Common.{◌≡◌, ℕ, Bool, true, ◌-◌, ◌≤◌, List, [], length, take, drop, sym, ap, subst, ◌∙◌, arith}
+use Rattle.std.specs.Prelude.{slice_index}
 use Rattle.std.proofs.lemmas.List.{take_rest}
-use Rattle.cs_syntax.specs.Matching.{Tree}
-use Rattle.cs_match.specs.declared.matcher.Line.{Line}
-use Rattle.cs_match.specs.Automaton.{Automaton}
-use Rattle.cs_match.specs.Deciding.{Decides}
-use Rattle.cs_match.specs.FirstMatch.{IsSearched}
+use Rattle.cs_match.specs.LastPart.{last_part}
 use Rattle.cs_match.specs.Lines.{terminated_lines}
-use Rattle.cs_match.specs.Skipped.{AreSkipped}
+use Rattle.cs_match.specs.MatchingEnds.{matching_ends}
 use Rattle.cs_match.specs.Skipping.{NoneMatch}
-use Rattle.cs_match.specs.PartWork.{part_work}
-use Rattle.cs_match.specs.Work.{WorksWithin, search_overhead, searched_byte_work}
-use Rattle.cs_match.proofs.PositionCountLemmas.{scaled}
-use Rattle.cs_match.proofs.SearchWorkLemmas.{parts_on, parts_found, with_overhead}
-use Rattle.cs_match.proofs.WholeLineLemmas.{whole_from}
-use Rattle.cs_match.proofs.ScanLemmas.{skipped_none}
-use Rattle.cs_match.proofs.FirstMatchLemmas.{searched_after}
+use Rattle.cs_match.proofs.DecidabilityLemmas.{matching_is_decidable}
+use Rattle.cs_match.proofs.ListingLemmas.{IsFirstEnd, first_end, first_taken, none_listed, last_is_line, lines_before}
 use Rattle.cs_match.proofs.matcher.Matcher.next_match.Goals as goal
 
--- a search after skipped lines, by an equal tree
-behind : (tree now : Tree) (block : List ℕ) (from offset to : ℕ) (found other : Option Line) → now ≡ tree → found
-    ≡ other → AreSkipped (λ has_match. Decides has_match tree) block from offset → IsSearched now block offset to found
-    → IsSearched tree block from to other
-behind tree now block from offset to found other same is skipped searched =
-    searched_after tree block from offset to other skipped
-    (subst (IsSearched tree block offset to) is (subst (λ t. IsSearched t block offset to found) same searched))
+pub returns-then-listed-eq0-clause-none : goal.returns-then-listed-eq0-clause-none
+returns-then-listed-eq0-clause-none c = λ has_match decides.
+    let block = c.args.block.now in
+    let e = c.list_lines-listed.ensures in
+    let all : c.list_lines-listed.result.to ≡ length block = e.all c.if-listed-eq0.true in
+    let none = sym (e.listed has_match decides) ∙ ap (λ n. take n c.list_lines-listed.new.ends) c.if-listed-eq0.true in
+    subst (λ text. NoneMatch has_match (terminated_lines text))
+    (ap (λ n. take (n - c.args.from) (drop c.args.from block)) all ∙ take_rest block c.args.from)
+    (none_listed has_match block c.args.from c.list_lines-listed.result.to e.lines.low e.lines.high none)
 
-pub parts-init : goal.parts-init
-parts-init c = record {
-  skipped = skipped_none (λ has_match. Decides has_match c.args.self.now.tree) c.args.block.now
-      c.args.from c.requires.within;
-  same = refl;
-  work = (omega arith, omega arith);
-}
+-- the list is the end of the first matching line
+first_of : (has_match : List ℕ → Bool) (block : List ℕ) (from to count : ℕ) (ends : List ℕ) → from ≤ to → to ≤ length block →
+    length ends ≡ 1 → count ≤ length ends → (count ≡ 0 → ⊥) → take count ends ≡ matching_ends has_match block from to →
+    IsFirstEnd has_match block from to (slice_index ends 0) []
+first_of has_match block from to count ends low high len room some listed =
+    let one : count ≡ 1 = omega (arith, len, room, some) in
+    first_end has_match block from to (slice_index ends 0) [] low high
+    (sym listed ∙ ap (λ n. take n ends) one ∙ first_taken ends (omega (arith, len)))
 
-pub search_part-searched-requires-clause-whole : goal.search_part-searched-requires-clause-whole
-search_part-searched-requires-clause-whole c = whole_from c.args.block.now c.args.from c.parts.offset
-    c.parts.invariant.skipped.lines.low c.requires.whole
+pub line_to-line-requires-clause-low : goal.line_to-line-requires-clause-low
+line_to-line-requires-clause-low c =
+    let e = c.list_lines-listed.ensures in
+    let decided = matching_is_decidable c.args.self.now.tree in
+    (first_of decided.0 c.args.block.now c.args.from c.list_lines-listed.result.to c.list_lines-listed.result.count c.list_lines-listed.new.ends
+    e.lines.low e.lines.high c.list_lines-listed.auto.ends e.room c.if-listed-eq0.false (e.listed decided.0 decided.1)).low
 
-pub returns-in-Some-clause-line : goal.returns-in-Some-clause-line
-returns-in-Some-clause-line c =
-    let i = c.parts.invariant in
-    let searched = c.search_part-searched.result in
-    (behind c.args.self.now.tree c.parts.self.tree c.args.block.now c.args.from c.parts.offset searched.to searched.line
-    (Some c.in-Some.line) i.same c.in-Some.is i.skipped c.search_part-searched.ensures.found).line
+pub line_to-line-requires-clause-newline : goal.line_to-line-requires-clause-newline
+line_to-line-requires-clause-newline c =
+    let e = c.list_lines-listed.ensures in
+    let decided = matching_is_decidable c.args.self.now.tree in
+    (first_of decided.0 c.args.block.now c.args.from c.list_lines-listed.result.to c.list_lines-listed.result.count c.list_lines-listed.new.ends
+    e.lines.low e.lines.high c.list_lines-listed.auto.ends e.room c.if-listed-eq0.false (e.listed decided.0 decided.1)).newline
 
-pub returns-in-Some-clause-found : goal.returns-in-Some-clause-found
-returns-in-Some-clause-found c =
-    let i = c.parts.invariant in
-    let searched = c.search_part-searched.result in
-    (behind c.args.self.now.tree c.parts.self.tree c.args.block.now c.args.from c.parts.offset searched.to searched.line
-    (Some c.in-Some.line) i.same c.in-Some.is i.skipped c.search_part-searched.ensures.found).found
-
-pub returns-in-Some-clause-none : goal.returns-in-Some-clause-none
-returns-in-Some-clause-none c =
-    let i = c.parts.invariant in
-    let searched = c.search_part-searched.result in
-    (behind c.args.self.now.tree c.parts.self.tree c.args.block.now c.args.from c.parts.offset searched.to searched.line
-    (Some c.in-Some.line) i.same c.in-Some.is i.skipped c.search_part-searched.ensures.found).skipped.none
-
-pub returns-in-Some-clause-same : goal.returns-in-Some-clause-same
-returns-in-Some-clause-same c = ap (λ (a : Automaton). a.tree) c.note_part.ensures
-    ∙ c.search_part-searched.ensures.same ∙ c.parts.invariant.same
-
-pub parts-preserved : goal.parts-preserved
-parts-preserved c =
-    let i = c.parts.invariant in
-    let e = c.search_part-searched.ensures in
-    let searched = c.search_part-searched.result in
-    record {
-      skipped = behind c.args.self.now.tree c.parts.self.tree c.args.block.now c.args.from c.parts.offset searched.to
-          searched.line _ i.same c.in-None.is i.skipped e.found;
-      same = ap (λ (a : Automaton). a.tree) c.note_part.ensures ∙ e.same ∙ i.same;
-      work =
-          let w = searched_byte_work c.args.self.now.tree in
-          let new = c.search_part-searched.new.self in
-          let part = subst (λ (found : Option Line). new.steps
-          ≤ c.parts.self.steps + part_work c.args.self.now.tree c.parts.offset searched.to found) c.in-None.is
-          (subst (λ (t : Tree). new.steps ≤ c.parts.self.steps + part_work t c.parts.offset searched.to searched.line)
-          i.same e.work.1) in
-          subst (λ (a : Automaton). WorksWithin ((searched.to - c.args.from) * w) c.args.self.now a) (sym c.note_part.ensures) (
-            omega (arith, i.work.0, e.work.0),
-            omega (
-              arith,
-              i.work.1,
-              part,
-              parts_on c.args.from c.parts.offset searched.to w i.skipped.lines.low (omega (arith, e.moves)),
-            ),
-          );
-    }
+pub returns-clause-found : goal.returns-clause-found
+returns-clause-found c =
+    let e = c.list_lines-listed.ensures in
+    let block = c.args.block.now in
+    let l = c.line_to-line.ensures in
+    let start = c.line_to-line.result.start in
+    let decided = matching_is_decidable c.args.self.now.tree in
+    let first = first_of decided.0 block c.args.from c.list_lines-listed.result.to c.list_lines-listed.result.count c.list_lines-listed.new.ends
+    e.lines.low e.lines.high c.list_lines-listed.auto.ends e.room c.if-listed-eq0.false (e.listed decided.0 decided.1) in
+    let matches = subst (λ end. decided.0 (last_part (take (end - c.args.from) (drop c.args.from block))) ≡ true) (sym l.end) first.matches in
+    let line = take (c.line_to-line.result.end - start) (drop start block) in
+    (decided.1 line).0 (subst (λ part. decided.0 part ≡ true) (last_is_line block c.args.from start c.line_to-line.result.end l.line) matches)
 
 pub returns-clause-none : goal.returns-clause-none
 returns-clause-none c = λ has_match decides.
-    let i = c.parts.invariant in
+    let e = c.list_lines-listed.ensures in
     let block = c.args.block.now in
-    let all : c.parts.offset ≡ length block = omega (arith, i.skipped.lines.high, c.parts-test.false) in
-    subst (λ text. NoneMatch has_match (terminated_lines text)) (take_rest block c.args.from)
-    (subst (λ n. NoneMatch has_match (terminated_lines (take (n - c.args.from) (drop c.args.from block)))) all
-    (i.skipped.none has_match decides))
-
-pub returns-in-Some-clause-work : goal.returns-in-Some-clause-work
-returns-in-Some-clause-work c =
-    let i = c.parts.invariant in
-    let e = c.search_part-searched.ensures in
-    let searched = c.search_part-searched.result in
-    let line = c.in-Some.line in
-    let found = subst (λ (f : Option Line). IsSearched c.parts.self.tree c.args.block.now c.parts.offset searched.to f)
-    c.in-Some.is e.found in
-    let w = searched_byte_work c.args.self.now.tree in
-    let new = c.search_part-searched.new.self in
-    let part = subst (λ (f : Option Line). new.steps
-    ≤ c.parts.self.steps + part_work c.args.self.now.tree c.parts.offset searched.to f) c.in-Some.is
-    (subst (λ (t : Tree). new.steps ≤ c.parts.self.steps + part_work t c.parts.offset searched.to searched.line)
-    i.same e.work.1) in
-    subst (λ (a : Automaton). WorksWithin ((line.end + 1 - c.args.from + search_overhead) * w) c.args.self.now a)
-    (sym c.note_part.ensures) (
-      omega (arith, i.work.0, e.work.0),
-      omega (
-        arith,
-        i.work.1,
-        part,
-        parts_found c.args.from c.parts.offset line.end w i.skipped.lines.low
-            (omega (arith, found.line.low, found.line.order)),
-      ),
-    )
-
-pub returns-clause-work : goal.returns-clause-work
-returns-clause-work c =
-    let i = c.parts.invariant in
-    let n = length c.args.block.now - c.args.from in
-    let w = searched_byte_work c.args.self.now.tree in (
-      i.work.0,
-      omega (arith, i.work.1, scaled (c.parts.offset - c.args.from) n w (omega (arith, i.skipped.lines.high)), with_overhead n w),
-    )
+    let l = c.line_to-line.ensures in
+    let first = first_of has_match block c.args.from c.list_lines-listed.result.to c.list_lines-listed.result.count c.list_lines-listed.new.ends
+    e.lines.low e.lines.high c.list_lines-listed.auto.ends e.room c.if-listed-eq0.false (e.listed has_match decides) in
+    let none = none_listed has_match block c.args.from (slice_index c.list_lines-listed.new.ends 0) first.low
+    (omega (arith, first.high, e.lines.high)) first.none in
+    subst (λ lines. NoneMatch has_match lines) (lines_before block c.args.from c.line_to-line.result.start c.line_to-line.result.end l.line)
+    (subst (λ end. NoneMatch has_match (terminated_lines (take (end - c.args.from) (drop c.args.from block)))) (sym l.end) none)

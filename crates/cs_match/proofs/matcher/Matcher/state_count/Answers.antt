@@ -1,4 +1,4 @@
-use Rattle.std.proofs.Common.{length, arith}
+use Rattle.std.proofs.Common.{arith}
 use Rattle.cs_match.specs.ConsistentDfa.{tree_in, count_in}
 use Rattle.cs_match.proofs.PositionCountLemmas.{mul_both}
 use Rattle.cs_match.proofs.TransitionLemmas.{some_classes}

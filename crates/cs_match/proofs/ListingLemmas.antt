@@ -1,0 +1,303 @@
+-- Lists of matching lines: lines without a match, a line with one, and a list behind a list.
+use Rattle.std.proofs.Common.{◌≡◌, ℕ, zero, suc, ◌+◌, ◌-◌, ◌<◌, ◌≤◌, inl, inr, Bool, true, false, cond, ◌&&◌, nat_eq, List, [], ◌∷◌, ◌++◌, length, take, drop, get_or, refl, sym, ap, ap₂, subst, ◌∙◌, arith, drop-cons, length-take, length-drop, length-take-le, zero-add, append-nil}
+use Rattle.std.specs.Prelude.{slice_set, slice_index, count_by}
+use Rattle.std.specs.List.{filter, range_with_len, AllByRecursion}
+use Rattle.std.proofs.lemmas.Bool.{cases_lt, eqb-true}
+use Rattle.std.proofs.lemmas.List.Elements.{All-nil, All-from_recursion, recursion_from_All}
+use Rattle.cs_syntax.specs.Matching.{Tree, HasMatch}
+use Rattle.cs_match.specs.Deciding.{Decides}
+use Rattle.cs_match.specs.LastPart.{last_part}
+use Rattle.cs_match.specs.Lines.{newline, terminated_lines}
+use Rattle.cs_match.specs.NoNewline.{HasNoNewline}
+use Rattle.cs_match.specs.Skipped.{AreLinesBetween, AreSkipped}
+use Rattle.cs_match.specs.Skipping.{AreWholeLines, IsLineAfter, NoneMatch}
+use Rattle.cs_match.specs.MatchingEnds.{is_matching_end, matching_ends}
+use Rattle.cs_match.specs.Lanes.{AreListed}
+use Rattle.cs_match.specs.Listing.{ListsLines}
+use Rattle.cs_match.specs.declared.one_lane.ListedLines.{ListedLines}
+use Rattle.cs_match.proofs.CandidateLemmas.{line_around}
+use Rattle.cs_match.proofs.ChunkLemmas.{AreListed-append}
+use Rattle.cs_match.proofs.CountingLemmas.{count_cons, none_counted}
+use Rattle.cs_match.proofs.LinesLemmas.{terminated_lines-part, last_part-part, last_part-append}
+use Rattle.cs_match.proofs.MatchingEndLemmas.{ends-append, ends-more, newlines-more, length-matching_ends}
+use Rattle.cs_match.proofs.WholeLineLemmas.{between_by, whole_between, whole_line, whole_part, whole_is_terminated, terminated_lines-whole}
+
+pub both : (a b : Bool) → a && b ≡ true → (a ≡ true) × (b ≡ true)
+both true b e = (refl, e)
+both false b e = cc
+
+all_miss : (has_match : List ℕ → Bool) (lines : List (List ℕ)) → count_by has_match lines ≡ 0 →
+    AllByRecursion (λ line. has_match line ≡ false) lines
+all_miss has_match [] none = tt
+all_miss has_match (line ∷ lines) none =
+    let first = count_cons has_match line lines (has_match line) refl in
+    let no : cond {A = ℕ} (has_match line) 1 0 ≡ 0 = omega (arith, first, none) in (
+      misses (has_match line) no,
+      all_miss has_match lines (omega (arith, first, none)),
+    )
+  where
+    misses : (t : Bool) → cond {A = ℕ} t 1 0 ≡ 0 → t ≡ false
+    misses true e = let no : ⊥ = omega (arith, e) in absurd no
+    misses false e = refl
+
+no_items : (xs : List ℕ) → length xs ≡ 0 → xs ≡ []
+no_items [] none = refl
+no_items (x ∷ xs) none = let no : ⊥ = omega (arith, none) in absurd no
+
+-- the byte at a newline
+pub newline_at : (block : List ℕ) (end : ℕ) → end < length block → drop end block ≡ newline ∷ drop (end + 1) block → get_or block end 0 ≡ newline
+newline_at block end high here = let is = drop-cons block end 0 high in cc
+
+pub newline_here : (block : List ℕ) (end : ℕ) → end < length block → get_or block end 0 ≡ newline → drop end block ≡ newline ∷ drop (end + 1) block
+newline_here block end high here =
+    let next : suc end ≡ end + 1 = omega arith in
+    drop-cons block end 0 high ∙ ap₂ (λ (b n : ℕ). b ∷ drop n block) here next
+
+module _ (has_match : List ℕ → Bool) (block : List ℕ) where
+  -- lines without a match have no ends
+  pub no_ends : (from to : ℕ) → from ≤ to → to ≤ length block →
+      NoneMatch has_match (terminated_lines (take (to - from) (drop from block))) → matching_ends has_match block from to ≡ []
+  no_ends from to low high none =
+      let lines = terminated_lines (take (to - from) (drop from block)) in
+      no_items (matching_ends has_match block from to) (length-matching_ends has_match block from to low high
+      ∙ none_counted has_match lines (recursion_from_All (λ line. has_match line ≡ false) lines none))
+
+  -- and lines without ends have no match
+  pub none_listed : (from to : ℕ) → from ≤ to → to ≤ length block → matching_ends has_match block from to ≡ [] →
+      NoneMatch has_match (terminated_lines (take (to - from) (drop from block)))
+  none_listed from to low high none =
+      let lines = terminated_lines (take (to - from) (drop from block)) in
+      let count : count_by has_match lines ≡ 0 = sym (length-matching_ends has_match block from to low high) ∙ ap (λ (xs : List ℕ). length xs) none in
+      All-from_recursion (λ line. has_match line ≡ false) lines (all_miss has_match lines count)
+
+  -- one matching line
+  pub line_end : (start end : ℕ) → start ≤ end → end < length block → HasNoNewline (take (end - start) (drop start block)) →
+      get_or block end 0 ≡ newline → has_match (take (end - start) (drop start block)) ≡ true →
+      matching_ends has_match block start (end + 1) ≡ end ∷ []
+  line_end start end low high part here matches =
+      let line = take (end - start) (drop start block) in
+      let none : NoneMatch has_match (terminated_lines line) =
+      subst (NoneMatch has_match) (sym (terminated_lines-part line part)) (All-nil (λ line. has_match line ≡ false)) in
+      let is : is_matching_end has_match block start end ≡ true =
+      ap₂ (λ (b : ℕ) (l : List ℕ). nat_eq b newline && has_match l) here (last_part-part line part) ∙ matches in
+      ends-more has_match block start end low
+      ∙ ap₂ (λ (xs : List ℕ) (b : Bool). xs ++ cond b (end ∷ []) []) (no_ends start end low (omega arith) none) is
+
+-- lines behind lines
+pub lines_append : (block : List ℕ) (from middle to : ℕ) → AreLinesBetween block from middle → AreLinesBetween block middle to →
+    AreLinesBetween block from to
+lines_append block from middle to p q = record {
+  low = omega (arith, p.low, q.low);
+  high = q.high;
+  whole = whole_between block from middle to p.low q.low p.whole q.whole;
+}
+
+-- as many are listed as match
+pub listed_count : (IsKind : (List ℕ → Bool) → Type 0) (has_match : List ℕ → Bool) (block : List ℕ) (from to count : ℕ) (ends : List ℕ) →
+    AreListed IsKind block from to count ends → IsKind has_match →
+    count ≡ count_by has_match (terminated_lines (take (to - from) (drop from block)))
+listed_count IsKind has_match block from to count ends a is =
+    sym (length-take-le count ends a.room) ∙ ap (λ (xs : List ℕ). length xs) (a.listed has_match is)
+    ∙ length-matching_ends has_match block from to a.lines.low a.lines.high
+
+module _ (t : Tree) (block : List ℕ) where
+  pub AreListed-skipped : (from to : ℕ) (ends : List ℕ) → AreSkipped (λ has_match. Decides has_match t) block from to →
+      AreListed (λ has_match. Decides has_match t) block from to 0 ends
+  AreListed-skipped from to ends s = record {
+    lines = s.lines;
+    few = omega arith;
+    room = omega arith;
+    listed = λ has_match is. sym (no_ends has_match block from to s.lines.low s.lines.high (s.none has_match is));
+  }
+
+  module _ (start end : ℕ) (line : IsLineAfter block start start end) where
+    pub line_lines : AreLinesBetween block start (end + 1)
+    line_lines = record {
+      low = omega (arith, line.order);
+      high = omega (arith, line.high);
+      whole = whole_line block start end line.order line.newline;
+    }
+
+    pub AreListed-line : (ends : List ℕ) → HasMatch t (take (end - start) (drop start block)) → 1 ≤ length ends → take 1 ends ≡ end ∷ [] →
+        AreListed (λ has_match. Decides has_match t) block start (end + 1) 1 ends
+    AreListed-line ends matches room taken =
+        let here = newline_at block end line.high line.newline in
+        let one : cond {A = ℕ} (nat_eq (get_or block end 0) newline) 1 0 ≡ 1 = ap (λ b. cond {A = ℕ} (nat_eq b newline) 1 0) here in
+        record {
+          lines = line_lines;
+          few = omega (arith, newlines-more block start end line.order line.high, one);
+          room = room;
+          listed = λ has_match is. taken ∙ sym (line_end has_match block start end line.order line.high line.part here
+              ((is (take (end - start) (drop start block))).1 matches));
+        }
+
+    -- whole lines from the start of the line on have all of it
+    pub whole_past : (to : ℕ) → start < to → to ≤ end + 1 → AreWholeLines (take (to - start) (drop start block)) → to ≡ end + 1
+    whole_past to moves most whole =
+        elim (cases_lt to (end + 1)) [
+          | inr all ↦ omega (arith, most, all)
+          | inl before ↦
+              let low : start ≤ to = omega (arith, moves) in
+              let high : to ≤ end = omega (arith, before) in
+              let some : 0 < length (take (to - start) (drop start block)) = omega (
+                arith,
+                length-take (to - start) (drop start block),
+                length-drop start block,
+                moves,
+                high,
+                line.high,
+              ) in
+              absurd (no_part (take (to - start) (drop start block)) (take (end - to) (drop to block)) some whole
+              (subst HasNoNewline (between_by block start to end low high) line.part))
+        ]
+      where
+        prefix_part : (a b : List ℕ) → HasNoNewline (a ++ b) → HasNoNewline a
+        prefix_part [] b part = tt
+        prefix_part (x ∷ a) b part = (part.0, prefix_part a b part.1)
+
+        no_part : (a b : List ℕ) → 0 < length a → AreWholeLines a → HasNoNewline (a ++ b) → ⊥
+        no_part [] b some whole part = omega (arith, some)
+        no_part (x ∷ a) b some whole part = whole_part x a whole (prefix_part (x ∷ a) b part)
+
+  -- the line of a candidate, seen from its own start
+  pub line_alone : (from start end : ℕ) → IsLineAfter block from start end → IsLineAfter block start start end
+  unfolding AreWholeLines
+  line_alone from start end line =
+      let none : 0 ≡ start - start = omega arith in
+      record {
+        low = omega arith;
+        order = line.order;
+        high = line.high;
+        before = subst (λ n. AreWholeLines (take n (drop start block))) none tt;
+        part = line.part;
+        newline = line.newline;
+      }
+
+  -- lines without a match, and a list of those after them
+  pub ListsLines-skipped : (from start : ℕ) (lines : ListedLines) (ends : List ℕ) →
+      AreSkipped (λ has_match. Decides has_match t) block from start → start < length block → ListsLines t block start lines ends →
+      ListsLines t block from lines ends
+  ListsLines-skipped from start lines ends skipped within l = record {
+    listed =
+        let same : 0 + lines.count ≡ lines.count = zero-add lines.count in
+        subst (λ n. AreListed (λ has_match. Decides has_match t) block from lines.to n ends) same
+        (AreListed-append (λ has_match. Decides has_match t) block from start lines.to 0 lines.count ends ends ends
+        (AreListed-skipped from start ends skipped) l.listed (omega (arith, l.listed.room)) (ap (λ n. take n ends) same));
+    moves = λ low. omega (arith, skipped.lines.low, l.moves within);
+    one = l.one;
+  }
+
+-- the first of a range that passes a test
+first_passes : (p : ℕ → Bool) (a n e : ℕ) (es : List ℕ) → filter p (range_with_len a n) ≡ e ∷ es →
+    (a ≤ e) × (e < a + n) × (p e ≡ true) × (filter p (range_with_len a (e - a)) ≡ [])
+first_passes p a zero e es is = cc
+first_passes p a (suc n) e es is = here (p a) refl (first_passes p (a + 1) n e es) is
+  where
+    here : (t : Bool) → p a ≡ t →
+        (filter p (range_with_len (a + 1) n) ≡ e ∷ es →
+        (a + 1 ≤ e) × (e < a + 1 + n) × (p e ≡ true) × (filter p (range_with_len (a + 1) (e - (a + 1))) ≡ [])) →
+        cond t (a ∷ filter p (range_with_len (a + 1) n)) (filter p (range_with_len (a + 1) n)) ≡ e ∷ es →
+        (a ≤ e) × (e < a + suc n) × (p e ≡ true) × (filter p (range_with_len a (e - a)) ≡ [])
+    here true passes more is =
+        let same : a ≡ e = cc in
+        let none : 0 ≡ e - a = omega (arith, same) in (
+          omega (arith, same),
+          omega (arith, same),
+          ap p (sym same) ∙ passes,
+          sym (ap (λ k. filter p (range_with_len a k)) none),
+        )
+    here false fails more is =
+        let later = more is in
+        let one : suc (e - (a + 1)) ≡ e - a = omega (arith, later.0) in (
+          omega (arith, later.0),
+          omega (arith, later.1),
+          later.2,
+          ap (λ k. filter p (range_with_len a k)) (sym one)
+              ∙ ap (λ t. cond t (a ∷ filter p (range_with_len (a + 1) (e - (a + 1)))) (filter p (range_with_len (a + 1) (e - (a + 1))))) fails
+              ∙ later.3,
+        )
+
+-- The first matching line of a list: no line before it matches, and the list goes on behind it.
+pub record IsFirstEnd (has_match : List ℕ → Bool) (block : List ℕ) (from to end : ℕ) (ends : List ℕ) : Type 0 where
+  pub low : from ≤ end
+  pub high : end < to
+  pub newline : get_or block end 0 ≡ newline
+  pub matches : has_match (last_part (take (end - from) (drop from block))) ≡ true
+  pub none : matching_ends has_match block from end ≡ []
+  pub rest : matching_ends has_match block (end + 1) to ≡ ends
+
+pub first_end : (has_match : List ℕ → Bool) (block : List ℕ) (from to end : ℕ) (ends : List ℕ) → from ≤ to → to ≤ length block →
+    matching_ends has_match block from to ≡ end ∷ ends → IsFirstEnd has_match block from to end ends
+unfolding matching_ends
+first_end has_match block from to end ends low high is =
+    let first = first_passes (is_matching_end has_match block from) from (to - from) end ends is in
+    let flags = both (nat_eq (get_or block end 0) newline) (has_match (last_part (take (end - from) (drop from block)))) first.2 in
+    let within : end < to = omega (arith, first.1, low) in
+    let here : get_or block end 0 ≡ newline = eqb-true (get_or block end 0) newline flags.0 in
+    let line = newline_here block end (omega (arith, within, high)) here in
+    let whole = whole_line block from end first.0 line in
+    record {
+      low = first.0;
+      high = within;
+      newline = here;
+      matches = flags.1;
+      none = first.3;
+      rest = same_rest (matching_ends has_match block (end + 1) to)
+          (sym (ap₂ (λ (xs : List ℕ) (t : Bool). (xs ++ cond t (end ∷ []) []) ++ matching_ends has_match block (end + 1) to) first.3 first.2)
+          ∙ sym (ap (λ (xs : List ℕ). xs ++ matching_ends has_match block (end + 1) to) (ends-more has_match block from end first.0))
+          ∙ sym (ends-append has_match block from (end + 1) to (omega (arith, first.0)) (omega (arith, within)) whole) ∙ is);
+    }
+  where
+    same_rest : (xs : List ℕ) → end ∷ xs ≡ end ∷ ends → xs ≡ ends
+    same_rest xs e = cc
+
+-- the line around an end, and the lines before it
+module _ (block : List ℕ) (from start end : ℕ) (line : IsLineAfter block from start end) where
+  abbrev before : List ℕ
+  before = take (start - from) (drop from block)
+
+  abbrev own : List ℕ
+  own = take (end - start) (drop start block)
+
+  pub last_is_line : last_part (take (end - from) (drop from block)) ≡ own
+  last_is_line =
+      ap last_part (between_by block from start end line.low line.order) ∙ last_part-append before own
+      ∙ ap (λ part. last_part (part ++ own)) ((whole_is_terminated before).0 line.before) ∙ last_part-part own line.part
+
+  pub lines_before : terminated_lines (take (end - from) (drop from block)) ≡ terminated_lines before
+  lines_before =
+      ap terminated_lines (between_by block from start end line.low line.order) ∙ terminated_lines-whole own before line.before
+      ∙ ap (λ lines. terminated_lines before ++ lines) (terminated_lines-part own line.part) ∙ append-nil (terminated_lines before)
+
+-- the line that ends at a newline, after the whole lines before it
+pub line_at : (block : List ℕ) (from size end : ℕ) → from ≤ end → end < length block → get_or block end 0 ≡ newline →
+    size ≤ length (take (end - from) (drop from block)) → AreWholeLines (take size (take (end - from) (drop from block))) →
+    HasNoNewline (drop size (take (end - from) (drop from block))) → IsLineAfter block from (from + size) end
+line_at block from size end low high here within whole part =
+    let none : 0 ≡ end - (from + (end - from)) = omega arith in
+    line_around block from (end - from) size end within whole part (omega arith) high
+    (subst (λ n. HasNoNewline (take n (drop (from + (end - from)) block))) none tt) (newline_here block end high here)
+
+-- a first element is written
+pub first_set : (xs : List ℕ) (x : ℕ) → 0 < length xs → take 1 (slice_set xs 0 x) ≡ x ∷ []
+first_set [] x some = let no : ⊥ = omega (arith, some) in absurd no
+first_set (y ∷ xs) x some = refl
+
+pub first_of_set : (xs : List ℕ) (x : ℕ) → 0 < length xs → slice_index (slice_set xs 0 x) 0 ≡ x
+first_of_set [] x some = let no : ⊥ = omega (arith, some) in absurd no
+first_of_set (y ∷ xs) x some = refl
+
+pub length_of_set : (xs : List ℕ) (x : ℕ) → 0 < length xs → length (slice_set xs 0 x) ≡ length xs
+length_of_set [] x some = let no : ⊥ = omega (arith, some) in absurd no
+length_of_set (y ∷ xs) x some = refl
+
+pub first_taken : (xs : List ℕ) → 0 < length xs → take 1 xs ≡ slice_index xs 0 ∷ []
+first_taken [] some = let no : ⊥ = omega (arith, some) in absurd no
+first_taken (x ∷ xs) some = refl
+
+-- the first element of a list that is written from its start on
+pub first_of_rest : (old own : List ℕ) (count : ℕ) → count ≡ 0 → 0 < length own →
+    slice_index (take count old ++ (own ++ drop (length old - count) (drop count old))) 0 ≡ slice_index own 0
+first_of_rest old [] count none some = let no : ⊥ = omega (arith, some) in absurd no
+first_of_rest old (x ∷ own) zero none some = refl
+first_of_rest old (x ∷ own) (suc count) none some = let no : ⊥ = omega (arith, none) in absurd no

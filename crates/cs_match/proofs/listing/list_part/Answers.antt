@@ -1,0 +1,101 @@
+use Rattle.std.proofs.Common.{◌≡◌, ◌+◌, ◌-◌, length, take, drop, sym, ap, subst, ◌∙◌, arith}
+use Rattle.std.specs.Prelude.{IfSome, List, ℕ}
+use Rattle.cs_prefilter.specs.declared.steps.Steps.{Steps}
+use Rattle.cs_prefilter.specs.WordAt.{IsPrefilterOf}
+use Rattle.cs_match.specs.Candidates.{IsCandidate}
+use Rattle.cs_match.specs.Listing.{ListsLines}
+use Rattle.cs_match.specs.Work.{byte_work, list_work, searched_bytes}
+use Rattle.cs_match.specs.declared.one_lane.ListedLines.{ListedLines}
+use Rattle.cs_match.proofs.CandidateLemmas.{word_is_match, no_candidate, before_candidate}
+use Rattle.cs_match.proofs.ListingLemmas.{both, AreListed-skipped, line_alone, ListsLines-skipped}
+use Rattle.cs_match.proofs.SearchWorkLemmas.{candidate_cost, skipped_cost}
+use Rattle.cs_match.proofs.listing.list_part.Goals as goal
+use Rattle.cs_match.proofs.listing.list_part.Goals.{in-Some-line, in-None}
+
+pub list_line-listed-requires-clause-line : goal.list_line-listed-requires-clause-line
+list_line-listed-requires-clause-line g c =
+    let e = subst (λ line. IsCandidate c.in-Some.prefilter.now.0 c.args.block.now c.args.from line
+    c.next_candidate-candidate.result.has_word) c.in-Some-line.is c.next_candidate-candidate.ensures.candidate in
+    line_alone (g.D.OneLane.tree c.args.dfa.now) c.args.block.now c.args.from c.in-Some-line.line.start c.in-Some-line.line.end e.line
+
+pub list_line-listed-requires-clause-matches : goal.list_line-listed-requires-clause-matches
+list_line-listed-requires-clause-matches g c = λ matches.
+    let tree = g.D.OneLane.tree c.args.dfa.now in
+    let words = c.in-Some.prefilter.now.0 in
+    let start = c.in-Some-line.line.start in
+    let end = c.in-Some-line.line.end in
+    let e = subst (λ line. IsCandidate words c.args.block.now c.args.from line c.next_candidate-candidate.result.has_word)
+    c.in-Some-line.is c.next_candidate-candidate.ensures.candidate in
+    let is : IsPrefilterOf tree c.in-Some.prefilter.now =
+    subst (λ s. IfSome s (λ prefilter. IsPrefilterOf tree prefilter.now)) c.in-Some.ensures.is c.requires.prefilter in
+    let flags = both c.next_candidate-candidate.result.has_word c.is_exact.result matches in
+    let all = is.sufficient (sym c.is_exact.ensures ∙ flags.1) in
+    word_is_match tree words (take (end - start) (drop start c.args.block.now)) all (e.has flags.0 (λ k d low. (all k d low).in_line))
+
+pub returns-clause-lists : goal.returns-clause-lists
+returns-clause-lists g c =
+    let tree = g.D.OneLane.tree c.args.dfa.now in
+    let words = c.in-Some.prefilter.now.0 in
+    let block = c.args.block.now in
+    let has_word = c.next_candidate-candidate.result.has_word in
+    let is : IsPrefilterOf tree c.in-Some.prefilter.now =
+    subst (λ s. IfSome s (λ prefilter. IsPrefilterOf tree prefilter.now)) c.in-Some.ensures.is c.requires.prefilter in
+    elim c.match-candidate.branch [
+      | in-Some-line w ↦
+          let line = w.in-Some-line.line in
+          let e = subst (λ line. IsCandidate words block c.args.from line has_word) w.in-Some-line.is c.next_candidate-candidate.ensures.candidate in
+          subst (λ (listed : ListedLines). ListsLines tree block c.args.from listed c.match-candidate.ends) (sym w.listed-is)
+          (subst (λ (ends : List ℕ). ListsLines tree block c.args.from w.list_line-listed.result ends) (sym w.ends-is)
+          (ListsLines-skipped tree block c.args.from line.start w.list_line-listed.result w.list_line-listed.new.ends
+          (before_candidate tree words block c.args.from line.start line.end has_word is.required e) (omega (arith, e.line.order, e.line.high))
+          w.list_line-listed.ensures.lists))
+      | in-None w ↦
+          let skipped = no_candidate tree words block c.args.from (omega (arith, c.requires.within)) c.requires.whole is.required
+          (subst (λ line. IsCandidate words block c.args.from line has_word) w.in-None.is c.next_candidate-candidate.ensures.candidate) in
+          subst (λ (listed : ListedLines). ListsLines tree block c.args.from listed c.match-candidate.ends) (sym w.listed-is) (record {
+            listed = AreListed-skipped tree block c.args.from (length block) c.match-candidate.ends skipped;
+            moves = λ low. low;
+            one = λ len none. let no : ⊥ = omega (arith, none) in absurd no;
+          })
+    ]
+
+pub returns-clause-work : goal.returns-clause-work
+returns-clause-work g c =
+    let tree = g.D.OneLane.tree c.args.dfa.now in
+    let words = c.in-Some.prefilter.now.0 in
+    let block = c.args.block.now in
+    let candidate = c.next_candidate-candidate.ensures in
+    elim c.match-candidate.branch [
+      | in-Some-line w ↦
+          let line = w.in-Some-line.line in
+          let e = subst (λ line. IsCandidate words block c.args.from line c.next_candidate-candidate.result.has_word) w.in-Some-line.is candidate.candidate in
+          let bytes = ap (searched_bytes c.args.from (length block)) w.in-Some-line.is in
+          let steps = ap (λ (s : Steps). s.count) w.steps-is in
+          let to : c.match-candidate.listed.to ≡ line.end + 1 = ap (λ (l : ListedLines). l.to) w.listed-is ∙ w.list_line-listed.ensures.all in
+          let cost = candidate_cost c.args.from line.start line.end (byte_work tree) e.line.low e.line.order in (
+            omega (arith, steps, candidate.work.0, w.list_line-listed.ensures.work.0),
+            omega (
+              arith,
+              steps,
+              bytes,
+              candidate.work.1,
+              w.list_line-listed.ensures.work.1,
+              cost,
+              ap (λ n. list_work tree (n - c.args.from)) to,
+            ),
+          )
+      | in-None w ↦
+          let bytes = ap (searched_bytes c.args.from (length block)) w.in-None.is in
+          let steps = ap (λ (s : Steps). s.count) w.steps-is in
+          let to : c.match-candidate.listed.to ≡ length block = ap (λ (l : ListedLines). l.to) w.listed-is in (
+            omega (arith, steps, candidate.work.0),
+            omega (
+              arith,
+              steps,
+              bytes,
+              candidate.work.1,
+              skipped_cost (length block - c.args.from) (byte_work tree),
+              ap (λ n. list_work tree (n - c.args.from)) to,
+            ),
+          )
+    ]

@@ -1,0 +1,174 @@
+// Lists of the matching lines of a block. The search of a block is a loop over such lists.
+ghost use Rattle.std.specs.Prelude.{◌≡◌, ◌≤◌, ◌<◌, ◌+◌, ◌-◌, ◌*◌, true, IfSome, length, drop, slice_range};
+ghost use Rattle.cs_syntax.specs.Matching.{HasMatch};
+ghost use Rattle.cs_match.specs.Skipping.{AreWholeLines, IsLineAfter};
+ghost use Rattle.cs_match.specs.Listing.{ListsLines};
+ghost use Rattle.cs_match.specs.Work.{byte_work, list_work};
+ghost use Rattle.cs_prefilter.specs.WordAt.{IsPrefilterOf};
+ghost use Rattle.cs_prefilter.specs.CountsAtMost.{CountsAtMost};
+
+use crate::chunks::list_chunks;
+use crate::matcher::Line;
+use crate::one_lane::{ListedLines, OneLane};
+use crate::pacing::Pacing;
+use crate::program::Program;
+use crate::skipping::next_candidate;
+use cs_prefilter::{Prefilter, Steps};
+
+/// The shortest list that the lanes fill.
+const SHORT: usize = 256;
+
+/// The ways to search for the matching lines of a program, and the counters that choose between them.
+#[derive(Drop)]
+pub(crate) struct Ways<'a> {
+    /// The prefilter of the program, if it has one.
+    pub(crate) prefilter: Option<&'a Prefilter>,
+    /// One lane is faster than four, since it leaves most lines early.
+    pub(crate) one_lane: bool,
+    pub(crate) pacing: Pacing,
+}
+
+impl<'a> Ways<'a> {
+    /// The ways for a program. In a program whose matches begin at the start of the line, most lines are dead early.
+    pub(crate) fn new(program: &'a Program, pacing: Pacing) -> Ways<'a>
+        ensures { IfSome result.prefilter (λ prefilter. IsPrefilterOf program.now prefilter.now) }
+    {
+        Ways {
+            prefilter: program.prefilter(),
+            one_lane: program.is_anchored(),
+            pacing,
+        }
+    }
+
+    /// The prefilter, if it is used for the next part.
+    fn next_prefilter(&mut self) -> Option<&'a Prefilter>
+        ensures is { IfSome result (λ prefilter. self.old.prefilter ≡ Some prefilter) }
+        ensures same { self.new.prefilter ≡ self.old.prefilter }
+    {
+        if self.pacing.uses_prefilter() {
+            self.prefilter
+        } else {
+            None
+        }
+    }
+}
+
+/// Lists the ends of the matching lines from an offset on: part by part, up to the end of the block or until the list
+/// may have no room for another part.
+pub(crate) fn list_lines<D: OneLane>(
+    dfa: &mut D,
+    ways: &mut Ways<'_>,
+    block: &[u8],
+    from: usize,
+    ends: &mut [usize],
+    steps: &mut Steps,
+) -> ListedLines
+    requires right { D.is_right dfa.old }
+    requires prefilter { IfSome ways.old.prefilter (λ prefilter. IsPrefilterOf (D.tree dfa.old) prefilter.now) }
+    requires within { from ≤ length block.now }
+    requires whole { AreWholeLines (drop from block.now) }
+    requires room { 0 < length ends.old }
+    ensures lists { ListsLines (D.tree dfa.old) block.now from result ends.new }
+    ensures all { result.count ≡ 0 → result.to ≡ length block.now }
+    ensures dfa { D.is_right dfa.new × (D.tree dfa.new ≡ D.tree dfa.old) }
+    ensures same { ways.new.prefilter ≡ ways.old.prefilter }
+    ensures work { CountsAtMost (list_work (D.tree dfa.old) (result.to - from)) steps.old steps.new }
+{
+    let room = (ends.len() / 2).max(1);
+    let mut to = from;
+    let mut count = 0;
+    'parts: while to < block.len() && count < room {
+        let part = list_part(dfa, ways, block, to, &mut ends[count..], steps);
+        to = part.to;
+        count += part.count;
+    }
+    ListedLines { count, to }
+}
+
+/// Lists those of the next part: the lines up to a candidate of the prefilter, or what is scanned at once.
+fn list_part<D: OneLane>(
+    dfa: &mut D,
+    ways: &mut Ways<'_>,
+    block: &[u8],
+    from: usize,
+    ends: &mut [usize],
+    steps: &mut Steps,
+) -> ListedLines
+    requires right { D.is_right dfa.old }
+    requires prefilter { IfSome ways.old.prefilter (λ prefilter. IsPrefilterOf (D.tree dfa.old) prefilter.now) }
+    requires within { from < length block.now }
+    requires whole { AreWholeLines (drop from block.now) }
+    requires room { 0 < length ends.old }
+    ensures lists { ListsLines (D.tree dfa.old) block.now from result ends.new }
+    ensures dfa { D.is_right dfa.new × (D.tree dfa.new ≡ D.tree dfa.old) }
+    ensures same { ways.new.prefilter ≡ ways.old.prefilter }
+    ensures work { CountsAtMost (list_work (D.tree dfa.old) (result.to - from)) steps.old steps.new }
+{
+    let Some(prefilter) = ways.next_prefilter() else {
+        return scan_part(dfa, ways.one_lane, block, from, ends, steps);
+    };
+    let candidate = next_candidate(prefilter, block, from, steps);
+    let listed = match candidate.line {
+        Some(line) => {
+            let is_match = candidate.has_word & prefilter.is_exact();
+            list_line(dfa, is_match, block, line, ends, steps)
+        }
+        None => ListedLines {
+            count: 0,
+            to: block.len(),
+        },
+    };
+    ways.pacing.note_candidate(from, candidate, listed);
+    listed
+}
+
+/// Lists the end of a line, if it matches. It is scanned unless it is known to match.
+fn list_line<D: OneLane>(
+    dfa: &mut D,
+    is_match: bool,
+    block: &[u8],
+    line: Line,
+    ends: &mut [usize],
+    steps: &mut Steps,
+) -> ListedLines
+    requires right { D.is_right dfa.old }
+    requires line { IsLineAfter block.now line.start line.start line.end }
+    requires matches { is_match ≡ true → HasMatch (D.tree dfa.old) (slice_range block.now line.start line.end) }
+    requires room { 0 < length ends.old }
+    ensures lists { ListsLines (D.tree dfa.old) block.now line.start result ends.new }
+    ensures all { result.to ≡ line.end + 1 }
+    ensures dfa { D.is_right dfa.new × (D.tree dfa.new ≡ D.tree dfa.old) }
+    ensures work { CountsAtMost (byte_work (D.tree dfa.old) * (line.end + 1 - line.start)) steps.old steps.new }
+{
+    if is_match {
+        ends[0] = line.end;
+        return ListedLines {
+            count: 1,
+            to: line.end + 1,
+        };
+    }
+    dfa.list_ends(block, line.start..line.end + 1, ends, steps)
+}
+
+/// Lists those of the next lines without a prefilter: of four chunks by four lanes, or of the rest of the block by one.
+fn scan_part<D: OneLane>(
+    dfa: &mut D,
+    one_lane: bool,
+    block: &[u8],
+    from: usize,
+    ends: &mut [usize],
+    steps: &mut Steps,
+) -> ListedLines
+    requires right { D.is_right dfa.old }
+    requires within { from ≤ length block.now }
+    requires whole { AreWholeLines (drop from block.now) }
+    requires room { 0 < length ends.old }
+    ensures lists { ListsLines (D.tree dfa.old) block.now from result ends.new }
+    ensures dfa { D.is_right dfa.new × (D.tree dfa.new ≡ D.tree dfa.old) }
+    ensures work { CountsAtMost ((byte_work (D.tree dfa.old) + 3) * (result.to - from)) steps.old steps.new }
+{
+    if one_lane || ends.len() < SHORT {
+        return dfa.list_ends(block, from..block.len(), ends, steps);
+    }
+    list_chunks(dfa, block, from, ends, steps)
+}

@@ -1,5 +1,6 @@
 -- Worked examples: the buckets of bytes and words, tests of a letter, and eight bytes.
-use Rattle.std.proofs.Common.{◌≡◌, ℕ, ◌-◌, List, ◌∷◌, ◌++◌, replicate, refl}
+use Rattle.std.proofs.Common.{◌≡◌, ℕ, ◌-◌, List, [], ◌∷◌, ◌++◌, replicate, get_or, inl, inr, refl, ap, arith}
+use Rattle.std.proofs.lemmas.Bool.{cases_lt}
 use Rattle.cs_prefilter.specs.declared.byte_test.ByteTest.{ByteTest}
 use Rattle.cs_prefilter.specs.declared.masks.NibbleMasks.{NibbleMasks}
 use Rattle.cs_prefilter.specs.declared.masks.TrigramMasks.{TrigramMasks}
@@ -8,6 +9,10 @@ use Rattle.std.specs.Prelude.{true, false, codes}
 use Rattle.cs_prefilter.specs.Pairs.{test_lane}
 use Rattle.cs_prefilter.specs.WordBuckets.{bucket_of, first_in}
 use Rattle.cs_prefilter.specs.Prefixes.{eight}
+use Rattle.cs_prefilter.specs.declared.word.Word.{Word}
+use Rattle.cs_prefilter.specs.WordAt.{WordAt}
+use Rattle.cs_prefilter.specs.Listed.{EndsLineWithWord}
+use Rattle.cs_prefilter.specs.OffsetWork.{list_work}
 
 -- a table of sixteen entries, all 0 except one
 entry : ℕ → ℕ → List ℕ
@@ -51,6 +56,32 @@ capital_needs_the_mask = refl
 -- three words have the buckets 0, 2 and 5, and bucket 2 has the word 1 alone
 three_words : (bucket_of 0 3 ≡ 0) × (bucket_of 1 3 ≡ 2) × (bucket_of 2 3 ≡ 5) × (first_in 2 3 ≡ 1) × (first_in 3 3 ≡ 2)
 three_words = (refl, refl, refl, refl, refl)
+
+-- the list of no bytes: two strides are probed; the list of ten bytes with one line: two more, and each byte decided
+lists_of_lines : (list_work 0 0 ≡ 128) × (list_work 10 1 ≡ 21396)
+lists_of_lines = (refl, refl)
+
+-- two lines, which end at 3 and 6
+lines : List ℕ
+lines = codes "xab\ncd\n"
+
+-- a word that begins at 1 begins in the first
+first_line : (word : Word) → WordAt lines 1 word → EndsLineWithWord (word ∷ []) lines 3
+unfolding lines
+first_line word occurs = record {
+  here = refl;
+  at = 1;
+  low = omega arith;
+  in_line = λ k low high. elim (cases_lt k 2) [
+    | inl before ↦
+        let is : k ≡ 1 = omega (arith, low, before) in
+        λ ends. absurd (omega (arith, ends, ap (λ n. get_or lines n 0) is))
+    | inr after ↦
+        let is : k ≡ 2 = omega (arith, high, after) in
+        λ ends. absurd (omega (arith, ends, ap (λ n. get_or lines n 0) is))
+  ];
+  occurs = (0, word, omega arith, refl, occurs);
+}
 
 -- the eight bytes of `12345678`
 digits : eight (codes "12345678") 0 ≡ 0x3837363534333231

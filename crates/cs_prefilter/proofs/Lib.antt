@@ -9,3 +9,4 @@ mod ByteTestLemmas
 mod WordBucketLemmas
 mod PrefixLemmas
 mod ScanLemmas
+mod ListedLemmas

@@ -21,3 +21,12 @@ candidate_work = most_words * word_work
 -- the most steps at an offset, which is skipped or is a candidate
 abbrev pub offset_work : ℕ
 offset_work = 1 + candidate_work
+
+-- the offsets of a stride, which are probed at once
+abbrev pub stride : ℕ
+stride = 64
+
+-- The most steps of the list of so many lines of so many bytes. Each offset is decided, and each byte searched for the end
+-- of a line. Two strides are probed again for each line, and two at the end of the text.
+abbrev pub list_work : ℕ → ℕ → ℕ
+list_work bytes lines = bytes * (offset_work + 1) + (lines + 1) * (2 * stride)

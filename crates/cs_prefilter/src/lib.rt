@@ -37,6 +37,7 @@ mod buckets;
 mod byte_test;
 mod comparing;
 mod lanes;
+mod listing;
 mod masks;
 mod pair;
 mod pairs;
@@ -56,6 +57,7 @@ mod word_choice;
 mod word_list;
 mod words;
 
+pub use listing::Listed;
 pub use prefilter::Prefilter;
 pub use steps::Steps;
 pub use stop::Stop;

@@ -1,11 +1,13 @@
 // The prefilter: a search for candidates, then verification.
-ghost use Rattle.std.specs.Prelude.{◌≡◌, ◌≤◌, ◌<◌, ◌↔◌, ◌+◌, ◌*◌, ◌-◌, true, ℕ, List, length, vec_len, Any, IfOk, IfSome, IsTrue};
+ghost use Rattle.std.specs.Prelude.{◌≡◌, ◌≢◌, ◌≤◌, ◌<◌, ◌↔◌, ◌+◌, ◌*◌, ◌-◌, true, false, ℕ, List, length, slice_index, vec_len, Any, IfOk, IfSome, IsTrue};
 ghost use Rattle.cs_syntax.specs.Node.{tree_of};
 ghost use Rattle.cs_prefilter.specs.WordAt.{AreSufficient, HasWord, IsPrefilterOf, NoWordFrom, WordAt};
-ghost use Rattle.cs_prefilter.specs.OffsetWork.{most_words, word_work, offset_work};
+ghost use Rattle.cs_prefilter.specs.Listed.{IsFull, IsListFrom, IsLineStart};
+ghost use Rattle.cs_prefilter.specs.OffsetWork.{most_words, word_work, list_work, offset_work};
 ghost use Rattle.cs_prefilter.specs.CountsAtMost.{CountsAtMost};
 ghost use Rattle.cs_prefilter.specs.Words.{HasWordOf};
 
+use crate::listing::Listed;
 use crate::required::best;
 use crate::search::{Kind, Search};
 use crate::steps::Steps;
@@ -112,6 +114,23 @@ impl Prefilter {
         ensures work { CountsAtMost ((result.offset - from + 1) * offset_work) steps.old steps.new }
     {
         self.search.first(&self.list, text, from, steps)
+    }
+
+    /// Lists the ends of the lines from `from` on that have a word, until the list is full, unless too many candidates are
+    /// no words. The text is whole lines from there on. If the search is not given up, it ends at the start of a line.
+    pub fn list(&self, text: &[u8], from: usize, ends: &mut [usize], steps: &mut Steps) -> Listed
+        requires within { from ≤ length text.now }
+        requires whole { IsLineStart text.now from (length text.now) }
+        requires room { 0 < length ends.old }
+        ensures low { from ≤ result.to }
+        ensures ends { IsListFrom self.now.0 text.now from result ends.new }
+        ensures start { result.is_given_up ≡ false → IsLineStart text.now from result.to }
+        ensures all { result.is_given_up ≡ false → result.to ≢ length text.now → IsFull result ends.old }
+        ensures stops { IsFull result ends.old → result.to ≡ slice_index ends.new (result.count - 1) + 1 }
+        ensures moves { from < length text.now → from < result.to }
+        ensures work { CountsAtMost (list_work (result.to - from) result.count) steps.old steps.new }
+    {
+        self.search.list(&self.list, text, from, ends, steps)
     }
 }
 

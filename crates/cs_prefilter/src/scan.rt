@@ -18,9 +18,9 @@ const CANDIDATE_COST: usize = 20;
 const WORD_COST: usize = 2;
 
 /// A search is given up when candidates that are no words cost so many bytes more than are skipped.
-const MOST_WASTED: usize = 4096;
+pub(crate) const MOST_WASTED: usize = 4096;
 
-/// The number of bytes at the end of a text that are copied before zeros, for two strides.
+/// The length of a copy of the last bytes of a text and zeros behind them, in which two strides are probed.
 const LAST: usize = 2 * STRIDE + 32;
 
 impl WordList {
@@ -38,7 +38,7 @@ impl WordList {
         ensures stop { IsStop self.now.words.items text.now from result }
         ensures work { CountsAtMost ((result.offset - from + 1) * offset_work) steps.old steps.new }
     {
-        let cost = CANDIDATE_COST + WORD_COST * self.words.len();
+        let cost = self.candidate_cost();
         let mut wasted = 0usize;
         let mut offset = from;
         'strides: while text.len() - offset >= REACH {
@@ -62,9 +62,14 @@ impl WordList {
         }
     }
 
+    /// How many bytes the DFA scans in the time of a candidate that is no word.
+    pub(crate) fn candidate_cost(&self) -> usize {
+        CANDIDATE_COST + WORD_COST * self.words.len()
+    }
+
     /// The first word in a stride, or its end. What is wasted is the number of candidates that are no words.
     #[inline(always)]
-    fn first_in_stride<P: Probe>(
+    pub(crate) fn first_in_stride<P: Probe>(
         &self,
         probe: &P,
         text: &[u8],
@@ -103,7 +108,7 @@ impl WordList {
 
     /// The first word in the last bytes of the text, or its end. The bytes are copied before zeros and probed there.
     #[inline(never)]
-    fn first_in_rest<P: Probe>(
+    pub(crate) fn first_in_rest<P: Probe>(
         &self,
         probe: &P,
         text: &[u8],
@@ -114,6 +119,7 @@ impl WordList {
         requires short { length text.now < from + REACH }
         requires finds { AreFound (P.Finds probe.now) self.now.words.items }
         ensures stop { IsStop self.now.words.items text.now from result }
+        ensures by { StopsBy (length text.now) result }
         ensures work { CountsAtMost (decided from result * offset_work) steps.old steps.new }
     {
         let last = before_zeros(&text[from..]);
@@ -168,7 +174,12 @@ fn before_zeros(bytes: &[u8]) -> [u8; LAST]
 
 /// Skips strides in which no offset passes.
 #[inline(always)]
-fn skip_strides<P: Probe>(probe: &P, text: &[u8], from: usize, steps: &mut Steps) -> usize
+pub(crate) fn skip_strides<P: Probe>(
+    probe: &P,
+    text: &[u8],
+    from: usize,
+    steps: &mut Steps,
+) -> usize
     requires { from ≤ length text.now }
     ensures low { from ≤ result }
     ensures high { result ≤ length text.now }

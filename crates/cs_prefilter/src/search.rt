@@ -1,11 +1,13 @@
 // The kinds of search for words, and the probes that they use.
-ghost use Rattle.std.specs.Prelude.{◌≡◌, ◌≤◌, ◌+◌, ◌*◌, ◌-◌, length, IfSome, vec_len};
+ghost use Rattle.std.specs.Prelude.{◌≡◌, ◌≢◌, ◌≤◌, ◌<◌, ◌+◌, ◌*◌, ◌-◌, false, length, slice_index, IfSome, vec_len};
 ghost use Rattle.cs_prefilter.specs.Search.{Finds};
 ghost use Rattle.cs_prefilter.specs.WordBuckets.{AreFound};
 ghost use Rattle.cs_prefilter.specs.Stop.{IsStop};
-ghost use Rattle.cs_prefilter.specs.OffsetWork.{most_words, offset_work};
+ghost use Rattle.cs_prefilter.specs.Listed.{IsFull, IsListFrom, IsLineStart};
+ghost use Rattle.cs_prefilter.specs.OffsetWork.{most_words, list_work, offset_work};
 ghost use Rattle.cs_prefilter.specs.CountsAtMost.{CountsAtMost};
 
+use crate::listing::Listed;
 use crate::masks::{Nibbles, TrigramMasks};
 use crate::pair::Pair;
 use crate::pairs::Pairs;
@@ -133,6 +135,38 @@ impl Search {
             Search::TwoFoldedPairs(probe) => words.first(probe, text, from, steps),
             Search::LowNibbles(probe) => words.first(probe, text, from, steps),
             Search::AllNibbles(probe) => words.first(probe, text, from, steps),
+        }
+    }
+
+    /// Lists the ends of the lines from `from` on that have a word, until the list is full or the search is given up.
+    #[inline(always)]
+    pub(crate) fn list(
+        &self,
+        words: &WordList,
+        text: &[u8],
+        from: usize,
+        ends: &mut [usize],
+        steps: &mut Steps,
+    ) -> Listed
+        requires within { from ≤ length text.now }
+        requires whole { IsLineStart text.now from (length text.now) }
+        requires room { 0 < length ends.old }
+        requires finds { AreFound (Finds self.now) words.now.words.items }
+        ensures low { from ≤ result.to }
+        ensures ends { IsListFrom words.now.words.items text.now from result ends.new }
+        ensures start { result.is_given_up ≡ false → IsLineStart text.now from result.to }
+        ensures all { result.is_given_up ≡ false → result.to ≢ length text.now → IsFull result ends.old }
+        ensures stops { IsFull result ends.old → result.to ≡ slice_index ends.new (result.count - 1) + 1 }
+        ensures moves { from < length text.now → from < result.to }
+        ensures work { CountsAtMost (list_work (result.to - from) result.count) steps.old steps.new }
+    {
+        match self {
+            Search::Pair(probe) => words.list(probe, text, from, ends, steps),
+            Search::FoldedPair(probe) => words.list(probe, text, from, ends, steps),
+            Search::TwoPairs(probe) => words.list(probe, text, from, ends, steps),
+            Search::TwoFoldedPairs(probe) => words.list(probe, text, from, ends, steps),
+            Search::LowNibbles(probe) => words.list(probe, text, from, ends, steps),
+            Search::AllNibbles(probe) => words.list(probe, text, from, ends, steps),
         }
     }
 }

@@ -152,7 +152,8 @@ impl Masks {
         requires { AreMasks positions.now self.old }
         ensures masks { AreMasks positions.now self.new }
         ensures within { result < length self.new.slots.items }
-        ensures mask { (other : Mask) → IsMask positions.now (slice_index_or self.new.slots.items result other) }
+        ensures mask { (other : Mask) →
+            IsMask positions.now (slice_index_or self.new.slots.items result other) }
         ensures input { (other : Mask) → (slice_index_or self.new.slots.items result other).input ≡ input }
         ensures cost { CountsAtMost (length positions.now) steps.old steps.new }
     {

@@ -86,7 +86,8 @@ fn sequence_of(alloc: Global, nodes: &[Node]) -> Result<Part, AllocError>
 fn add_part(parts: &mut Vec<Part>, last: Part, part: Part) -> Result<Part, AllocError>
     requires { position_count (shape_of last) + position_count (shape_of part) < 2 ^ 64 }
     ensures shape { IfOk result (λ new_last. (ts : Trees) →
-        HaveSameShape (cat (append (shapes_of parts.old.items) (more (shape_of last) (more (shape_of part) ts))))
+        HaveSameShape
+        (cat (append (shapes_of parts.old.items) (more (shape_of last) (more (shape_of part) ts))))
         (cat (append (shapes_of parts.new.items) (more (shape_of new_last) ts)))) }
     ensures size { IfOk result (λ new_last. sizes_of parts.new.items + size_of new_last
         ≤ sizes_of parts.old.items + (size_of last + size_of part)) }

@@ -99,7 +99,8 @@ fn add_all_positions(
     parts: &[Node],
     positions: &mut Vec<Position>,
 ) -> Result<(), AllocError>
-    ensures { OnOk result (positions.new.items ≡ positions.old.items ++ position_list_of (trees_of parts.now)) }
+    ensures { OnOk result
+        (positions.new.items ≡ positions.old.items ++ position_list_of (trees_of parts.now)) }
 {
     for part in parts {
         add_positions(alloc, part, positions)?;

@@ -243,7 +243,8 @@ fn word_at(words: &[u64], index: usize) -> u64
 
 /// The word with these bits set or cleared.
 fn with_bits(word: u64, bits: u64, on: bool) -> u64
-    ensures { (i : ℕ) → i < 64 → (bit_at result i == 1) ≡ (if bit_at bits i == 1 then on else bit_at word i == 1) }
+    ensures { (i : ℕ) → i < 64 →
+        (bit_at result i == 1) ≡ (if bit_at bits i == 1 then on else bit_at word i == 1) }
 {
     if on {
         word | bits

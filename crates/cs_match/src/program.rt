@@ -188,9 +188,11 @@ impl Tables {
         requires { position_count (tree_of root.now) < 2 ^ 64 }
         ensures shape { IfOk result (λ tables. HaveSameShape (tree_of root.now) (shape_of tables.part)) }
         ensures size { IfOk result (λ tables. size_of tables.part ≤ nodes (tree_of root.now)) }
-        ensures positions { IfOk result (λ tables. tables.positions.items ≡ position_list (tree_of root.now)) }
+        ensures positions { IfOk result (λ tables.
+            tables.positions.items ≡ position_list (tree_of root.now)) }
         ensures cuts { IfOk result (λ tables. AreCutsOf (tree_of root.now) tables.cuts) }
-        ensures prefilter { IfOk result (λ tables. IfSome tables.prefilter (IsPrefilterOf (tree_of root.now))) }
+        ensures prefilter { IfOk result (λ tables.
+            IfSome tables.prefilter (IsPrefilterOf (tree_of root.now))) }
     {
         let positions = positions_of(alloc, root)?;
         let cuts = Cuts::of_tree(alloc, root)?;

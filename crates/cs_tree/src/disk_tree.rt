@@ -187,7 +187,8 @@ pub(crate) fn fault_of(error: &io::Error) -> TreeFault
         (error_kind error.now ≡ ErrorKind.NotFound) ⊎ (error_kind error.now ≡ ErrorKind.NotADirectory) }
     ensures denied { result ≡ TreeFault.Denied → error_kind error.now ≡ ErrorKind.PermissionDenied }
     ensures failed { result ≡ TreeFault.Failed → (error_kind error.now ≢ ErrorKind.NotFound)
-        × (error_kind error.now ≢ ErrorKind.PermissionDenied) × (error_kind error.now ≢ ErrorKind.OutOfMemory) }
+        × (error_kind error.now ≢ ErrorKind.PermissionDenied)
+        × (error_kind error.now ≢ ErrorKind.OutOfMemory) }
     ensures memory { result ≡ TreeFault.Memory → (error_kind error.now ≡ ErrorKind.OutOfMemory)
         ⊎ ((raw_os_error error.now ≡ Some (pos 23)) ⊎ (raw_os_error error.now ≡ Some (pos 24))) }
     ensures output { result ≢ TreeFault.Output }
@@ -274,7 +275,8 @@ fn list_name(alloc: Global, listing: &mut Listing, name: &str) -> Result<(), All
     ensures elements { OnOk result (list_all is_element' (listing_names listing.new) ≡ true) }
     ensures added { OnOk result (listing_names listing.new ≡ (if is_element' name.now
         then listing_names listing.old ++ name.now ∷ [] else listing_names listing.old)) }
-    ensures unnamed { OnOk result (listing.new.unnamed ≡ (listing.old.unnamed || not (is_element' name.now))) }
+    ensures unnamed { OnOk result
+        (listing.new.unnamed ≡ (listing.old.unnamed || not (is_element' name.now))) }
 {
     if is_element(name) {
         listing.names.push(String::from_str(alloc, name)?)?;

@@ -7,6 +7,7 @@ use Rattle.cs_index.specs.Built.{are_paths, is_above, is_storable}
 use Rattle.cs_tree.specs.Cover.{is_alone}
 use Rattle.cs_index.specs.Gathering.{lists_from}
 use Rattle.cs_index.specs.Buckets.{base_after, ids_in_buckets, postings_from, with_file, without_file}
+use Rattle.cs_index.specs.ShortDeltas.{are_short, second_bytes, short_deltas}
 use Rattle.cs_index.specs.Sending.{all_sent, bytes_in, with_bytes, IsSentOn}
 use Rattle.cs_index.specs.Written.{Written, entries_written, last_ids, with_last_id, with_list}
 
@@ -45,6 +46,26 @@ nine_names = refl
 two_bytes : flat_map varint (deltas_from 0 (127 ∷ 255 ∷ [])) ++ 0 ∷ [] ≡ 0x80 ∷ 0x01 ∷ 0x80 ∷ 0x01 ∷ 0x00 ∷ []
 unfolding varint
 two_bytes = refl
+
+-- the deltas 5 and 128, and one that is begun
+short : short_deltas 0 (0x05 ∷ 0x80 ∷ 0x01 ∷ 0x81 ∷ []) ≡ 5 ∷ 128 ∷ []
+short = refl
+
+begun_last : are_short 0 (0x05 ∷ 0x80 ∷ 0x01 ∷ 0x81 ∷ []) ≡ true
+begun_last = refl
+
+second : second_bytes 0 (0x05 ∷ 0x80 ∷ 0x01 ∷ 0x81 ∷ []) ≡ 0 ∷ 0 ∷ 1 ∷ 0 ∷ []
+second = refl
+
+-- a delta of three bytes, one with a byte too many, and the end of a list
+three_bytes : are_short 0 (0x80 ∷ 0x80 ∷ 0x01 ∷ []) ≡ false
+three_bytes = refl
+
+padded : are_short 0 (0x85 ∷ 0x00 ∷ 0x01 ∷ []) ≡ false
+padded = refl
+
+ended : are_short 0 (0x05 ∷ 0x00 ∷ []) ≡ false
+ended = refl
 
 -- two names with two trigrams each, below `/a/b` and `/a/bc`
 two_names : length (encoding_of (codes "/a/b" ∷ codes "/a/bc" ∷ [])

@@ -1,5 +1,7 @@
 pub mod EncodedRuns
 pub mod IteratorSteps
 pub mod ListAtEntry
+pub mod Prefixes
 pub mod ReadStep
+pub mod ShortBytes
 pub mod StreamPush

@@ -1,11 +1,24 @@
 // Encoded runs: ids that are copied from one posting list to another as encoded varints.
-ghost use Rattle.std.specs.Prelude.{◌≡◌, ◌<◌, ◌≤◌, ◌+◌, ◌^◌, ◌++◌, [], true, length, sum, take};
+ghost use Rattle.std.specs.Prelude.{◌≡◌, ◌<◌, ◌≤◌, ◌+◌, ◌++◌, [], true, length, sum, take};
 ghost use Rattle.std.specs.List.{AllByRecursion};
 ghost use Rattle.cs_index.specs.Encoding.{varint, stream_of};
 ghost use Rattle.cs_index.specs.AscendingIds.{max_ids, next_after, AscendWithin};
-ghost use Rattle.cs_index.specs.IdStream.{ids_from, ids_in, IsMarked, IsStream};
+ghost use Rattle.cs_index.specs.IdStream.{ids_from, ids_in, IsMarked};
+ghost use Rattle.cs_index.specs.Prefixes.{IsPrefix};
 
+use crate::short_deltas::sixteen;
 use std::marker::Model;
+
+/// The most ids that are taken one by one before sixteen bytes are tried again.
+const FEW: u32 = 8;
+
+/// A prefix of varint deltas: its length, its number of ids, and one more than its last id.
+#[derive(Drop)]
+pub(crate) struct Prefix {
+    pub(crate) len: usize,
+    pub(crate) count: u32,
+    pub(crate) next: u32,
+}
 
 /// Consecutive ids of a posting list, still encoded as varint deltas. Each id is relative to the id
 /// before the run: 0 is the id right after that one.
@@ -47,12 +60,12 @@ impl<'a> EncodedRun<'a> {
         ensures bound { length result.0 ≤ limit }
         ensures below { next_after 0 result.0 ≤ room }
     {
-        let (len, count, next) = extent(bytes, limit, room, &mut [], 0, false);
-        let (prefix, rest) = bytes.split_at(len);
+        let ids = extent(bytes, limit, room);
+        let (prefix, rest) = bytes.split_at(ids.len);
         let ids = EncodedRun {
             bytes: prefix,
-            count,
-            next,
+            count: ids.count,
+            next: ids.next,
         };
         (ids, rest)
     }
@@ -79,80 +92,145 @@ impl<'a> EncodedRun<'a> {
     }
 }
 
-/// The length of the prefix that `EncodedRun::prefix` returns, its number of ids, and one more than its last id. If
-/// `marks`, sets the flag of each id in a row, where the id 0 has the flag `at`.
+/// The prefix that `EncodedRun::prefix` returns.
 #[inline(always)]
-pub(crate) fn extent(
+pub(crate) fn extent(bytes: &[u8], limit: u32, room: u32) -> Prefix
+    requires { room ≤ max_ids }
+    ensures { IsPrefix bytes.now limit room result }
+{
+    let mut len = 0;
+    let mut count = 0;
+    let mut next = 0;
+    'ids: while count < limit {
+        let more = part(&bytes[len..], limit - count, room - next);
+        if more.count == 0 {
+            return Prefix { len, count, next };
+        }
+        len += more.len;
+        count += more.count;
+        next += more.next;
+    }
+    Prefix { len, count, next }
+}
+
+/// One step of `extent`: sixteen bytes at a time, or else a few ids one by one.
+#[inline(always)]
+fn part(bytes: &[u8], limit: u32, room: u32) -> Prefix
+    requires { room ≤ max_ids }
+    ensures { IsPrefix bytes.now limit room result }
+{
+    let whole = by_sixteen(bytes, limit, room);
+    if whole.count > 0 {
+        return whole;
+    }
+    one_by_one(bytes, limit.min(FEW), room)
+}
+
+/// Deltas of one or two bytes, as long as sixteen bytes have no others.
+#[inline(always)]
+fn by_sixteen(bytes: &[u8], limit: u32, room: u32) -> Prefix
+    requires { room ≤ max_ids }
+    ensures { IsPrefix bytes.now limit room result }
+{
+    let mut len = 0;
+    let mut count = 0;
+    let mut next = 0;
+    'ids: while bytes.len() - len >= 16 && limit - count >= 16 {
+        let more = sixteen(&bytes[len..]);
+        if more.count == 0 || more.next > room - next {
+            return Prefix { len, count, next };
+        }
+        len += more.len;
+        count += more.count;
+        next += more.next;
+    }
+    Prefix { len, count, next }
+}
+
+/// Deltas of one or two bytes.
+#[inline(always)]
+fn one_by_one(bytes: &[u8], limit: u32, room: u32) -> Prefix
+    requires { room ≤ max_ids }
+    ensures { IsPrefix bytes.now limit room result }
+{
+    let mut len = 0;
+    let mut count = 0;
+    let mut next = 0;
+    'ids: while count < limit {
+        let (delta, size) = short_delta(&bytes[len..]);
+        if delta == 0 || delta > room - next {
+            return Prefix { len, count, next };
+        }
+        len += size;
+        count += 1;
+        next += delta;
+    }
+    Prefix { len, count, next }
+}
+
+/// `extent`, which sets the flag of each id in a row, where the id 0 has the flag `at`.
+#[inline(always)]
+pub(crate) fn marked_extent(
     bytes: &[u8],
     limit: u32,
     room: u32,
     row: &mut [bool],
     at: usize,
-    marks: bool,
-) -> (usize, u32, u32)
+) -> Prefix
     requires bound { room ≤ max_ids }
-    requires fits { at + room < 2 ^ 64 }
-    requires within { marks ≡ true → at + room ≤ length row.old }
-    ensures stream { IsStream (take result.0 bytes.now) result.1 result.2 }
-    ensures within { result.0 ≤ length bytes.now }
-    ensures bound { result.1 ≤ limit }
-    ensures below { result.2 ≤ room }
-    ensures marks { marks ≡ true →
-        IsMarked at (ids_in (take result.0 bytes.now) result.1) row.old row.new }
+    requires within { at + room ≤ length row.old }
+    ensures prefix { IsPrefix bytes.now limit room result }
+    ensures marks { IsMarked at (ids_in (take result.len bytes.now) result.count) row.old row.new }
 {
     let mut len = 0;
     let mut count = 0;
     let mut next = 0;
     'ids: while count < limit {
         let first = at + next as usize;
-        let (size, ids, end) = part(&bytes[len..], limit - count, room - next, row, first, marks);
-        if ids == 0 {
-            return (len, count, next);
+        let more = marked_part(&bytes[len..], limit - count, room - next, row, first);
+        if more.count == 0 {
+            return Prefix { len, count, next };
         }
-        len += size;
-        count += ids;
-        next += end;
+        len += more.len;
+        count += more.count;
+        next += more.next;
     }
-    (len, count, next)
+    Prefix { len, count, next }
 }
 
-/// One step of `extent`: eight ids if each delta is a single byte, else one id.
+/// One step of `marked_extent`: eight ids if each delta is a single byte, else one id.
 #[inline(always)]
-fn part(
-    bytes: &[u8],
-    limit: u32,
-    room: u32,
-    row: &mut [bool],
-    at: usize,
-    marks: bool,
-) -> (usize, u32, u32)
+fn marked_part(bytes: &[u8], limit: u32, room: u32, row: &mut [bool], at: usize) -> Prefix
     requires bound { room ≤ max_ids }
-    requires fits { at + room < 2 ^ 64 }
-    requires within { marks ≡ true → at + room ≤ length row.old }
-    ensures stream { IsStream (take result.0 bytes.now) result.1 result.2 }
-    ensures within { result.0 ≤ length bytes.now }
-    ensures bound { result.1 ≤ limit }
-    ensures below { result.2 ≤ room }
-    ensures marks { marks ≡ true →
-        IsMarked at (ids_in (take result.0 bytes.now) result.1) row.old row.new }
+    requires within { at + room ≤ length row.old }
+    ensures prefix { IsPrefix bytes.now limit room result }
+    ensures marks { IsMarked at (ids_in (take result.len bytes.now) result.count) row.old row.new }
 {
     if bytes.len() >= 8 && limit >= 8 {
         let sum = sum_of_short(&bytes[..8]);
         if sum > 0 && sum <= room {
-            if marks {
-                mark_deltas(&bytes[..8], row, at);
-            }
-            return (8, 8, sum);
+            mark_deltas(&bytes[..8], row, at);
+            return Prefix {
+                len: 8,
+                count: 8,
+                next: sum,
+            };
         }
     }
     let (delta, size) = short_delta(bytes);
     if delta == 0 || delta > room || limit == 0 {
-        return (0, 0, 0);
+        return Prefix {
+            len: 0,
+            count: 0,
+            next: 0,
+        };
     }
-    if marks {
-        row[at + delta as usize - 1] = true;
+    row[at + delta as usize - 1] = true;
+    Prefix {
+        len: size,
+        count: 1,
+        next: delta,
     }
-    (size, 1, delta)
 }
 
 /// Sets the flag of each id in a row, where the id 0 has the flag `at`.

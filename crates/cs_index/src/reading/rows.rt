@@ -97,7 +97,7 @@ fn list_row<S: Store>(
         }
         // Only a store whose bytes change can have an id below the window.
         row[id.saturating_sub(window.start) as usize] = true;
-        list.take_short(&mut row, window.start, window.end, true);
+        list.mark_short(&mut row, window.start, window.end);
     }
     Ok(row)
 }

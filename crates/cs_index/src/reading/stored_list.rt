@@ -9,7 +9,7 @@ ghost use Rattle.cs_index.specs.StoredEntries.{entry_read};
 ghost use Rattle.cs_index.specs.Rows.{RowSoFar};
 ghost use Rattle.cs_index.specs.StoredLists.{GivesBelow, Holds, IsReady, SkipsBelow, IsSection, ids_left, with_piece};
 
-use crate::encoded_run::extent;
+use crate::encoded_run::{extent, marked_extent};
 use crate::reading::list_decoder::{ListDecoder, Step};
 use crate::reading::stored_entries::Entry;
 use cs_tree::{IoFault, Store, read_part};
@@ -205,18 +205,38 @@ impl StoredList {
         ensures store { KeepsStore S.model S.size S.failed store.old store.new result }
     {
         'ids: while let Some(_id) = self.next_below(alloc, store, end)? {
-            self.take_short(&mut [], 0, end, false);
+            self.skip_short(end);
         }
         Ok(())
     }
 
-    /// Takes ids of the piece that are less than `end`, eight at a time if each delta is a single byte, up to the first
-    /// delta that is longer than two bytes. If `marks`, sets their flags in the row of the window from `start` to `end`.
+    /// Skips ids of the piece that are less than `end`, up to the first delta that is longer than two bytes.
     #[inline(always)]
-    pub(crate) fn take_short(&mut self, row: &mut [bool], start: u32, end: u32, marks: bool)
-        requires { marks ≡ true → start + length row.old ≡ end }
+    fn skip_short(&mut self, end: u32)
         ensures skips { (bytes : List ℕ) → Holds bytes self.old → SkipsBelow bytes end self.old self.new }
-        ensures row { marks ≡ true → (bytes : List ℕ) (list : Ids) → Holds bytes self.old →
+        ensures left { self.new.left ≤ self.old.left }
+        ensures names { self.new.name_count ≡ self.old.name_count }
+    {
+        if self.has_ended {
+            return;
+        }
+        let end = end.min(self.decoder.name_count);
+        if end < self.decoder.next {
+            return;
+        }
+        let piece = &self.piece[self.used..];
+        let ids = extent(piece, self.decoder.left, end - self.decoder.next);
+        self.used += ids.len;
+        self.decoder.left -= ids.count;
+        self.decoder.next += ids.next;
+    }
+
+    /// `skip_short`, which sets the flags of the ids in the row of the window from `start` to `end`.
+    #[inline(always)]
+    pub(crate) fn mark_short(&mut self, row: &mut [bool], start: u32, end: u32)
+        requires { start + length row.old ≡ end }
+        ensures skips { (bytes : List ℕ) → Holds bytes self.old → SkipsBelow bytes end self.old self.new }
+        ensures row { (bytes : List ℕ) (list : Ids) → Holds bytes self.old →
             RowSoFar start end list row.old (ids_left bytes self.old) →
             RowSoFar start end list row.new (ids_left bytes self.new) }
         ensures width { length row.new ≡ length row.old }
@@ -232,17 +252,10 @@ impl StoredList {
         }
         let at = (self.decoder.next - start) as usize;
         let piece = &self.piece[self.used..];
-        let (len, count, next) = extent(
-            piece,
-            self.decoder.left,
-            end - self.decoder.next,
-            row,
-            at,
-            marks,
-        );
-        self.used += len;
-        self.decoder.left -= count;
-        self.decoder.next += next;
+        let ids = marked_extent(piece, self.decoder.left, end - self.decoder.next, row, at);
+        self.used += ids.len;
+        self.decoder.left -= ids.count;
+        self.decoder.next += ids.next;
     }
 
     /// Reads the next piece if the one that is there may end inside a varint.

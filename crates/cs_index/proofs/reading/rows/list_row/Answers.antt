@@ -46,13 +46,13 @@ ids-preserved g c =
           (long, λ k. ap (λ (v : Vec Bool Global). get_or v.items k false) w.row-is)
     ] in
     let one : List Bool = set wide c.saturating_sub.result true in
-    let marked : List Bool = c.take_short.new.row in
+    let marked : List Bool = c.mark_short.new.row in
     let back : take c.if-is_empty.row.len (marked ++ drop (length marked) one) ≡ marked =
     taken_back c.if-is_empty.row.len marked (drop (length marked) one)
-    (sym (c.take_short.ensures.width ∙ c.deref_mut.ensures.len)) in
+    (sym (c.mark_short.ensures.width ∙ c.deref_mut.ensures.len)) in
     record {
       width = subst (λ (r : List Bool). (length r ≡ 0) ⊎ (length r ≡ end - start)) (sym back)
-          (inr (c.take_short.ensures.width ∙ ap length c.deref_mut.ensures.value ∙ length-set wide c.saturating_sub.result true ∙ flags.0));
+          (inr (c.mark_short.ensures.width ∙ ap length c.deref_mut.ensures.value ∙ length-set wide c.saturating_sub.result true ∙ flags.0));
       so_far = λ bytes is held.
           let list : Ids = ids_left bytes c.args.list.now in
           let before = i.so_far bytes is held in
@@ -62,11 +62,11 @@ ids-preserved g c =
           (sym c.saturating_sub.ensures)
           (row_more start end list row wide (ids_left bytes c.ids.list) (ids_left bytes c.next_below.new.self) c.in-Some.id before.1
           (ap (λ (ids : Ids). ids.ids) given.1) (sym (ap (λ (ids : Ids). ids.whole) given.1)) given.2 flags.0 flags.1) in
-          let more = c.take_short.ensures.row refl bytes list given.0
+          let more = c.mark_short.ensures.row bytes list given.0
           (subst (λ (r : List Bool). RowSoFar start end list r (ids_left bytes c.next_below.new.self))
           (sym c.deref_mut.ensures.value) first) in (
-            (c.take_short.ensures.skips bytes given.0).0,
-            subst (λ (r : List Bool). RowSoFar start end list r (ids_left bytes c.take_short.new.self)) (sym back) more,
+            (c.mark_short.ensures.skips bytes given.0).0,
+            subst (λ (r : List Bool). RowSoFar start end list r (ids_left bytes c.mark_short.new.self)) (sym back) more,
           );
       keeps = c.next_below.ensures.store.0 ∙ i.keeps;
       size = c.next_below.ensures.store.1 ∙ i.size;

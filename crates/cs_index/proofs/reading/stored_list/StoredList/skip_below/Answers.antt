@@ -11,9 +11,9 @@ ids-preserved g c =
           let so_far = i.skips bytes m holds in
           let given = subst (GivesBelow bytes c.args.end c.ids.self c.next_below.new.self) c.in-Some.is
           (c.in_ok-_id.ensures.gives bytes (i.keeps ∙ m) so_far.0) in
-          skips_on bytes c.args.end c.in-Some._id c.args.self.now c.ids.self c.next_below.new.self c.take_short.new.self
-          so_far given (c.take_short.ensures.skips bytes given.0);
-      names = c.take_short.ensures.names ∙ c.next_below.ensures.names ∙ i.names;
+          skips_on bytes c.args.end c.in-Some._id c.args.self.now c.ids.self c.next_below.new.self c.skip_short.new.self
+          so_far given (c.skip_short.ensures.skips bytes given.0);
+      names = c.skip_short.ensures.names ∙ c.next_below.ensures.names ∙ i.names;
       keeps = c.next_below.ensures.store.0 ∙ i.keeps;
       size = c.next_below.ensures.store.1 ∙ i.size;
       failed = c.in_ok-_id.ensures.store.2 ∙ i.failed;

@@ -5,20 +5,20 @@ use Rattle.cs_index.specs.StoredLists.{SkipsBelow, ids_left, state_of}
 use Rattle.cs_index.specs.Rows.{RowSoFar}
 use Rattle.cs_index.proofs.candidates.WindowRows.{row_taken}
 use Rattle.cs_index.proofs.stored.ListPieces.{ids_skipped, moved, piece_is, run_taken}
-use Rattle.cs_index.proofs.reading.stored_list.StoredList.take_short.Goals as goal
+use Rattle.cs_index.proofs.reading.stored_list.StoredList.mark_short.Goals as goal
 
 pub returns-clause-skips : goal.returns-clause-skips
 returns-clause-skips c bytes holds =
     let s = c.self.inside in
-    let e = c.extent-len.ensures in
-    let len : ℕ = c.extent-len.result.0 in
+    let e = c.marked_extent-ids.ensures.prefix in
+    let len : ℕ = c.marked_extent-ids.result.len in
     let piece : List ℕ = c.deref.result.now in
     let part : List ℕ = take (length piece - s.used) (drop s.used piece) in
-    let ids : List ℕ = ids_in (take len part) c.extent-len.result.1 in
+    let ids : List ℕ = ids_in (take len part) c.marked_extent-ids.result.count in
     let size = length-take len part in
     let written = ap length e.stream.written in
     subst (λ n. SkipsBelow bytes c.args.end c.args.self.now
-    (state_of (moved s len (s.decoder.left - n) (s.decoder.next + c.extent-len.result.2)))) (sym e.stream.counted)
+    (state_of (moved s len (s.decoder.left - n) (s.decoder.next + c.marked_extent-ids.result.next)))) (sym e.stream.counted)
     (subst (λ n. SkipsBelow bytes c.args.end c.args.self.now
     (state_of (moved s len (s.decoder.left - length ids) (s.decoder.next + n)))) (sym e.stream.follows)
     (ids_skipped bytes c.args.end _ c.args.self.now _
@@ -30,13 +30,13 @@ returns-clause-skips c bytes holds =
     (omega (arith, e.stream.follows, e.below, c.min-end.ensures, c.if-end-self.false)) holds)))
 
 pub returns-clause-row : goal.returns-clause-row
-returns-clause-row c marked bytes list holds so_far =
+returns-clause-row c bytes list holds so_far =
     let s = c.self.inside in
-    let e = c.extent-len.ensures in
-    let len : ℕ = c.extent-len.result.0 in
+    let e = c.marked_extent-ids.ensures.prefix in
+    let len : ℕ = c.marked_extent-ids.result.len in
     let piece : List ℕ = c.deref.result.now in
     let part : List ℕ = take (length piece - s.used) (drop s.used piece) in
-    let ids : List ℕ = ids_in (take len part) c.extent-len.result.1 in
+    let ids : List ℕ = ids_in (take len part) c.marked_extent-ids.result.count in
     let size = length-take len part in
     let written = ap length e.stream.written in
     let t = run_taken bytes c.args.end len ids (drop len part) s c.args.self.now c.self.view_is c.if-self.false c.self.invariant
@@ -45,11 +45,11 @@ returns-clause-row c marked bytes list holds so_far =
     (omega (arith, size, written, e.within)) e.stream.rise (omega (arith, e.stream.counted, e.bound))
     (omega (arith, e.stream.follows, e.below, c.min-end.ensures, c.if-end-self.false))
     (omega (arith, e.stream.follows, e.below, c.min-end.ensures, c.if-end-self.false)) holds in
-    subst (λ n. RowSoFar c.args.start c.args.end list c.extent-len.new.row
-    (ids_left bytes (state_of (moved s len (s.decoder.left - n) (s.decoder.next + c.extent-len.result.2)))))
+    subst (λ n. RowSoFar c.args.start c.args.end list c.marked_extent-ids.new.row
+    (ids_left bytes (state_of (moved s len (s.decoder.left - n) (s.decoder.next + c.marked_extent-ids.result.next)))))
     (sym e.stream.counted)
-    (subst (λ n. RowSoFar c.args.start c.args.end list c.extent-len.new.row
+    (subst (λ n. RowSoFar c.args.start c.args.end list c.marked_extent-ids.new.row
     (ids_left bytes (state_of (moved s len (s.decoder.left - length ids) (s.decoder.next + n)))))
     (sym e.stream.follows)
-    (row_taken c.args.start c.args.end s.decoder.next list (ids_left bytes c.args.self.now) _ c.args.row.now c.extent-len.new.row ids
-    c.if-self-start.false so_far t.left t.below (e.marks marked)))
+    (row_taken c.args.start c.args.end s.decoder.next list (ids_left bytes c.args.self.now) _ c.args.row.now c.marked_extent-ids.new.row ids
+    c.if-self-start.false so_far t.left t.below c.marked_extent-ids.ensures.marks))

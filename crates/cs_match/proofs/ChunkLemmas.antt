@@ -13,9 +13,9 @@ use Rattle.cs_match.specs.declared.table.Table.{Table}
 use Rattle.cs_match.specs.declared.lanes.Lane.{Lane}
 use Rattle.cs_match.specs.Table.{unknown, TellsLines}
 use Rattle.cs_match.specs.MatchingEnds.{matching_ends, newlines_between}
-use Rattle.cs_match.specs.Lanes.{IsLane, IsChunk, AreChunks, AreListed, quarter}
+use Rattle.cs_match.specs.Lanes.{IsLane, IsChunk, AreListed, quarter}
 use Rattle.cs_match.proofs.MatchingEndLemmas.{newlines-append, newlines-more, ends-none, ends-append}
-use Rattle.cs_match.proofs.WholeLineLemmas.{whole_between, whole_line, whole_rest, whole_drop}
+use Rattle.cs_match.proofs.WholeLineLemmas.{whole_between, whole_line, whole_drop}
 
 -- each of four
 pub four : (P : ℕ → Type 0) → P 0 → P 1 → P 2 → P 3 → (k : ℕ) → k < 4 → P k
@@ -40,12 +40,6 @@ newlines_part (b ∷ part) p = rw p.0 (newlines_part part p.1)
 
 -- a chunk is whole lines, and has at most one line more than `size`
 module _ (block : List ℕ) (size from : ℕ) (within : from ≤ length block) (whole : AreWholeLines (drop from block)) where
-  pub rest_chunk : length block ≤ from + size → IsChunk block (size + 1) from (length block)
-  rest_chunk low = record {
-    lines = record { low = within; high = omega arith; whole = whole_rest block from whole };
-    few = omega (arith, newlines_within block from (length block), low);
-  }
-
   pub line_chunk : (end : ℕ) → from + size ≤ end → end < length block → HasNoNewline (take (end - (from + size)) (drop (from + size) block)) →
       drop end block ≡ newline ∷ drop (end + 1) block → IsChunk block (size + 1) from (end + 1)
   line_chunk end low high part here =
@@ -189,16 +183,6 @@ pending-quarter ends first k n part count low same =
     ap (take count) same ∙ sym (take-take count n (drop (k * n) first) low)
     ∙ ap (λ m. take count (take m (drop (k * n) first))) (sym size)
     ∙ ap (λ m. take count (take ((k + 1) * m - k * m) (drop (k * m) first))) (sym part)
-
--- the offsets rise, and chunk k begins where k quarters are scanned
-module _ (block cuts : List ℕ) (most : ℕ) (chunks : AreChunks block most cuts) where
-  pub cuts_rise : (k : ℕ) → k < 4 → get_or cuts k 0 ≤ get_or cuts 4 0
-  cuts_rise =
-      let a = (chunks 0 (omega arith)).lines.low in
-      let b = (chunks 1 (omega arith)).lines.low in
-      let c = (chunks 2 (omega arith)).lines.low in
-      let d = (chunks 3 (omega arith)).lines.low in
-      four (λ k. get_or cuts k 0 ≤ get_or cuts 4 0) (omega (arith, a, b, c, d)) (omega (arith, b, c, d)) (omega (arith, c, d)) (omega (arith, d))
 
 -- what is behind a quarter stays
 pub pending-more : (new old first : List ℕ) (at more n next : ℕ) → more ≤ n → at + n ≡ next → drop (at + more) new ≡ drop (at + more) old →

@@ -8,7 +8,7 @@ use Rattle.cs_match.specs.declared.state.State.{State}
 use Rattle.cs_match.specs.ConsistentDfa.{IsConsistent, HasState, LeadsIn, tree_in, count_in}
 use Rattle.cs_match.specs.Deciding.{Decides}
 use Rattle.cs_match.specs.LastPart.{last_part}
-use Rattle.cs_match.specs.LazyDfa.{match_number, dead_number, start_number, accepted_number, found, next}
+use Rattle.cs_match.specs.LazyDfa.{match_number, dead_number, start_number, accepted_number, accepting, next}
 use Rattle.cs_match.specs.Lines.{newline}
 use Rattle.cs_match.specs.MatchingEnds.{matching_ends}
 use Rattle.cs_match.specs.NoNewline.{HasNoNewline}
@@ -136,7 +136,7 @@ module _ (dfa : LazyDfa) (right : IsConsistent dfa) (text : List ℕ) (scan : Sc
   -- over a byte, to another state than the match state
   pub stepped : (number : ℕ) → LeadsIn dfa here b number → number ≢ match_number (count_in dfa) →
       HasScanned dfa text (on (scan.to + 1) number) × ListsLine t text scan (on (scan.to + 1) number)
-  stepped number (found is h) other =
+  stepped number (accepting is h) other =
       elim (cases_Bool (nat_eq b newline)) [
         | inl e ↦
             let at_end : b ≡ newline = eqb-true b newline e in
@@ -153,7 +153,7 @@ module _ (dfa : LazyDfa) (right : IsConsistent dfa) (text : List ℕ) (scan : Sc
 
   -- the match state and the dead one are not reached over the newline
   pub in_line : (number : ℕ) → LeadsIn dfa here b number → number ≢ 0 → number ≢ start_number (count_in dfa) → b ≢ newline
-  in_line number (found is h) first last e = first (is ∙ ap (accepted_number (count_in dfa)) e)
+  in_line number (accepting is h) first last e = first (is ∙ ap (accepted_number (count_in dfa)) e)
   in_line number (next h stands other line) first last e = last (line e)
 
   -- over a byte and the rest of the line

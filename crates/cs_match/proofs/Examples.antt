@@ -23,7 +23,7 @@ use Rattle.cs_match.specs.declared.state.State.{State}
 use Rattle.cs_match.specs.ByteClasses.{AreAlike}
 use Rattle.cs_match.specs.declared.byte_classes.ByteClasses.{ByteClasses}
 use Rattle.cs_match.specs.declared.table.Table.{Table}
-use Rattle.cs_match.specs.LazyDfa.{accepted_number, first_transition}
+use Rattle.cs_match.specs.LazyDfa.{accepted_number, until_newline}
 use Rattle.cs_match.specs.Table.{number_after}
 use Rattle.cs_match.specs.Size.{nodes}
 use Rattle.cs_match.specs.Work.{words, byte_work}
@@ -147,14 +147,8 @@ no_end_before_a_letter = refl
 abbrev three_classes : ByteClasses
 three_classes = record { of = 0 ∷ 0 ∷ 0 ∷ 0 ∷ 0 ∷ 0 ∷ 0 ∷ 0 ∷ 0 ∷ 0 ∷ 1 ∷ []; firsts = []; count = 3 }
 
--- the transitions of the first state are unknown; the match and the dead state are left over the newline alone
-first_is_unknown : (first_transition three_classes 0 ≡ 3) × (first_transition three_classes 12 ≡ 3)
-first_is_unknown = (refl, refl)
-
-match_ends_with_its_line : (first_transition three_classes 6 ≡ 6) × (first_transition three_classes 7 ≡ 0)
-match_ends_with_its_line = (refl, refl)
-
-dead_ends_with_its_line : (first_transition three_classes 9 ≡ 9) × (first_transition three_classes 10 ≡ 12)
+-- the dead state stays until the newline, the second class
+dead_ends_with_its_line : (until_newline three_classes 9 12 0 ≡ 9) × (until_newline three_classes 9 12 1 ≡ 12)
 dead_ends_with_its_line = (refl, refl)
 
 -- an accepting state leads to the match state, and over the newline to the first row

@@ -1,8 +1,9 @@
 -- Lists of matching lines: lines without a match, a line with one, and a list behind a list.
-use Rattle.std.proofs.Common.{◌≡◌, ℕ, zero, suc, ◌+◌, ◌-◌, ◌<◌, ◌≤◌, inl, inr, Bool, true, false, cond, ◌&&◌, nat_eq, List, [], ◌∷◌, ◌++◌, length, take, drop, get_or, refl, sym, ap, ap₂, subst, ◌∙◌, arith, drop-cons, length-take, length-drop, length-take-le, zero-add, append-nil}
+use Rattle.std.proofs.Common.{◌≡◌, ℕ, zero, suc, ◌+◌, ◌-◌, ◌<◌, ◌≤◌, inl, inr, Bool, true, false, cond, ◌&&◌, nat_eq, List, [], ◌∷◌, ◌++◌, length, take, drop, get_or, refl, sym, ap, ap₂, subst, ◌∙◌, arith, drop-cons, length-take, length-drop, zero-add, append-nil}
 use Rattle.std.specs.Prelude.{slice_set, slice_index, count_by}
 use Rattle.std.specs.List.{filter, range_with_len, AllByRecursion}
 use Rattle.std.proofs.lemmas.Bool.{cases_lt, eqb-true}
+use Rattle.std.proofs.lemmas.List.Sums.{count_by-le-length}
 use Rattle.std.proofs.lemmas.List.Elements.{All-nil, All-from_recursion, recursion_from_All}
 use Rattle.cs_syntax.specs.Matching.{Tree, HasMatch}
 use Rattle.cs_match.specs.Deciding.{Decides}
@@ -18,7 +19,7 @@ use Rattle.cs_match.specs.declared.one_lane.ListedLines.{ListedLines}
 use Rattle.cs_match.proofs.CandidateLemmas.{line_around}
 use Rattle.cs_match.proofs.ChunkLemmas.{AreListed-append}
 use Rattle.cs_match.proofs.CountingLemmas.{count_cons, none_counted}
-use Rattle.cs_match.proofs.LinesLemmas.{terminated_lines-part, last_part-part, last_part-append}
+use Rattle.cs_match.proofs.LinesLemmas.{lines_within, terminated_lines-part, last_part-part, last_part-append}
 use Rattle.cs_match.proofs.MatchingEndLemmas.{ends-append, ends-more, newlines-more, length-matching_ends}
 use Rattle.cs_match.proofs.WholeLineLemmas.{between_by, whole_between, whole_line, whole_part, whole_is_terminated, terminated_lines-whole}
 
@@ -92,13 +93,16 @@ lines_append block from middle to p q = record {
   whole = whole_between block from middle to p.low q.low p.whole q.whole;
 }
 
--- as many are listed as match
-pub listed_count : (IsKind : (List ℕ → Bool) → Type 0) (has_match : List ℕ → Bool) (block : List ℕ) (from to count : ℕ) (ends : List ℕ) →
-    AreListed IsKind block from to count ends → IsKind has_match →
-    count ≡ count_by has_match (terminated_lines (take (to - from) (drop from block)))
-listed_count IsKind has_match block from to count ends a is =
-    sym (length-take-le count ends a.room) ∙ ap (λ (xs : List ℕ). length xs) (a.listed has_match is)
-    ∙ length-matching_ends has_match block from to a.lines.low a.lines.high
+-- as many are listed as match, at most one for each byte
+module _ (has_match : List ℕ → Bool) (block : List ℕ) (from to : ℕ) (ends : List ℕ) (lines : AreLinesBetween block from to)
+    (is : ends ≡ matching_ends has_match block from to) where
+  pub listed_count : length ends ≡ count_by has_match (terminated_lines (take (to - from) (drop from block)))
+  listed_count = ap (λ (xs : List ℕ). length xs) is ∙ length-matching_ends has_match block from to lines.low lines.high
+
+  pub listed_few : length ends ≤ to - from
+  listed_few =
+      let slice = take (to - from) (drop from block) in
+      omega (arith, listed_count, count_by-le-length has_match (terminated_lines slice), lines_within slice, length-take (to - from) (drop from block))
 
 module _ (t : Tree) (block : List ℕ) where
   pub AreListed-skipped : (from to : ℕ) (ends : List ℕ) → AreSkipped (λ has_match. Decides has_match t) block from to →

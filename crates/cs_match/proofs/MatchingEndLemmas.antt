@@ -42,11 +42,6 @@ module _ (block : List ℕ) (from at : ℕ) (low : from ≤ at) (high : at < len
   newlines-more = ap (count_by (λ b. nat_eq b newline)) slice-more
       ∙ sum_by_push (λ b. cond (nat_eq b newline) 1 0) (take (at - from) (drop from block)) (get_or block at 0)
 
-pub newlines-none : (block : List ℕ) (from : ℕ) → newlines_between block from from ≡ 0
-newlines-none block from =
-    let none : from - from ≡ 0 = omega arith in
-    ap (λ n. count_by (λ b. nat_eq b newline) (take n (drop from block))) none
-
 pub newlines-append : (block : List ℕ) (from middle to : ℕ) → from ≤ middle → middle ≤ to →
     newlines_between block from to ≡ newlines_between block from middle + newlines_between block middle to
 newlines-append block from middle to low high =

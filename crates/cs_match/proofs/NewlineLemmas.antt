@@ -54,15 +54,3 @@ module _ (block : List ℕ) (from at : ℕ) where
                 ∙ ap (λ r. newline ∷ r) (drop-drop (at + 1) from block
                 ∙ ap (λ i. drop i block) (sym (add_assoc from at 1))),
           )
-
--- a newline that a search of a part of the block finds
-pub newline_within : (block : List ℕ) (from size at : ℕ) → at < length (take size (drop from block)) →
-    Passes (is_byte 10) (take size (drop from block)) at → drop (from + at) block ≡ newline ∷ drop (from + at + 1) block
-newline_within block from size at low e =
-    let cut = length-take size (drop from block) in
-    let size_of = length-drop from block in
-    let byte : get_or (take size (drop from block)) at 0 ≡ get_or block (from + at) 0 =
-    get_or-take size (drop from block) at 0 (omega arith) ∙ get_or-drop from block at 0 in
-    let ten : get_or block (from + at) 0 ≡ 10 = sym byte ∙ eqb-true (get_or (take size (drop from block)) at 0) 10 e in
-    drop-cons block (from + at) 0 (omega arith) ∙ ap (λ b. b ∷ drop (suc (from + at)) block) ten
-    ∙ ap (λ i. newline ∷ drop i block) (sym (add-one (from + at)))

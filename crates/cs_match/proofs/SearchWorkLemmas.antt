@@ -10,12 +10,6 @@ joined i k w low =
     let both : i * w + d * w ≡ (i + d) * w = omega arith in
     both ∙ ap (λ n. n * w) split
 
--- a step for each byte is less than the work of the bytes
-pub walked : (i k w : ℕ) → i ≤ k → 1 ≤ w → i * w + (k - i) ≤ k * w
-walked i k w low some =
-    let each : (k - i) * 1 ≤ (k - i) * w = mul_both (k - i) 1 (k - i) w (omega arith) some in
-    omega (arith, joined i k w low, each)
-
 -- a candidate whose line is tested
 pub candidate_cost : (from start end w : ℕ) → from ≤ start → start ≤ end →
     2 * 2113 * (end + 1 - from) + w * (end + 1 - start) ≤ (end + 1 - from) * (w + 2 * 2113)
@@ -38,7 +32,3 @@ work_on from offset to w low order =
     let split : p + q ≡ to - from = omega arith in
     let both : p * w + q * w ≡ (p + q) * w = omega arith in
     both ∙ ap (λ n. n * w) split
-
--- the bytes are read once more
-pub found_cost : (bytes w : ℕ) → bytes * w + bytes ≡ bytes * (w + 1)
-found_cost bytes w = omega arith

@@ -17,9 +17,9 @@ use Rattle.cs_match.specs.NoNewline.{HasNoNewline}
 use Rattle.cs_match.specs.States.{start, next_state, successor}
 use Rattle.cs_match.specs.Table as table
 use Rattle.cs_match.specs.Table.{class_of, next_number, number_after, IsRow, HasRows, BeginsLine, TellsLines}
-use Rattle.cs_match.specs.LazyDfa.{state_at, IsSlot, StandsFor, found, next, IsTransition, unknown, known, AreStates, IsTable}
+use Rattle.cs_match.specs.LazyDfa.{state_at, IsSlot, StandsFor, accepting, next, IsTransition, unknown, known, AreStates, IsTable}
 use Rattle.cs_match.proofs.DfaLineLemmas.{NeverAccepts, never_found, AcceptsAt, accepts_match}
-use Rattle.cs_match.proofs.TransitionLemmas.{row_in, some_classes, newline_alone, accepted_in_line, stands_slot, stands_start, stands_first, transition, unknown_slot, ends_line, first_unknown, first_match, first_found, first_start, first_dead}
+use Rattle.cs_match.proofs.TransitionLemmas.{row_in, some_classes, newline_alone, accepted_in_line, stands_slot, stands_start, stands_first, transition, unknown_slot, ends_line, stays_in_line, leaves_at_end}
 
 abbrev IsByte : ℕ → Type 0
 IsByte b = b < 256
@@ -82,27 +82,20 @@ module _ (t : Tree) (classes : ByteClasses) (states : StateList) (transitions : 
   -- the unknown state is absorbing, and so is the match state up to the end of the line
   at_unknown : (b : ℕ) → b < 256 → next_number r (table.unknown r) b ≡ table.unknown r
   at_unknown b lt =
-      let k = classes.count + get_or classes.of b 0 in
-      let within = are.range b lt in
       next_is (table.unknown r) b ∙ ap (λ n. get_or transitions (n + get_or classes.of b 0) 0) count_is
-      ∙ correct.special k (omega arith) (omega (arith, within))
-      ∙ first_unknown classes some (are.range 10 (omega arith)) k (inl (omega (arith, within))) ∙ sym count_is
+      ∙ correct.special.at_unknown (get_or classes.of b 0) (are.range b lt) ∙ sym count_is
 
   in_match : (number b : ℕ) → number ≡ 2 * classes.count → b < 256 → b ≢ newline → next_number r number b ≡ 2 * classes.count
   in_match number b is lt other =
-      let k = 2 * classes.count + get_or classes.of b 0 in
-      let within = are.range b lt in
       next_is number b ∙ ap (λ n. get_or transitions (n + get_or classes.of b 0) 0) is
-      ∙ correct.special k (omega (arith, some)) (omega (arith, within))
-      ∙ first_match classes some (are.range 10 (omega arith)) k (omega arith) (omega (arith, within))
-      (λ e. other (newline_alone t classes are b lt (omega (arith, e))))
+      ∙ correct.special.at_match (get_or classes.of b 0) (are.range b lt)
+      ∙ stays_in_line classes (2 * classes.count) 0 (get_or classes.of b 0) (λ e. other (newline_alone t classes are b lt e))
 
   match_ends : (number : ℕ) → number ≡ 2 * classes.count → next_number r number newline ≡ table.found
   match_ends number is =
-      let k = 2 * classes.count + get_or classes.of 10 0 in
-      let within = are.range 10 (omega arith) in
       next_is number newline ∙ ap (λ n. get_or transitions (n + get_or classes.of 10 0) 0) is
-      ∙ correct.special k (omega (arith, some)) (omega (arith, within)) ∙ first_found classes some within
+      ∙ correct.special.at_match (get_or classes.of 10 0) (are.range 10 (omega arith))
+      ∙ leaves_at_end classes (2 * classes.count) 0 (get_or classes.of 10 0) refl
 
   pub after_unknown : (number : ℕ) (text : List ℕ) → AreBytes text → number ≡ table.unknown r → number_after r number text ≡ table.unknown r
   unfolding number_after
@@ -122,19 +115,15 @@ module _ (t : Tree) (classes : ByteClasses) (states : StateList) (transitions : 
   -- so is the dead state
   in_dead : (number b : ℕ) → number ≡ 3 * classes.count → b < 256 → b ≢ newline → next_number r number b ≡ 3 * classes.count
   in_dead number b is lt other =
-      let k = 3 * classes.count + get_or classes.of b 0 in
-      let within = are.range b lt in
       next_is number b ∙ ap (λ n. get_or transitions (n + get_or classes.of b 0) 0) is
-      ∙ correct.special k (omega (arith, some)) (omega (arith, within))
-      ∙ first_dead classes some (are.range 10 (omega arith)) k (omega arith) (omega (arith, within))
-      (λ e. other (newline_alone t classes are b lt (omega (arith, e))))
+      ∙ correct.special.at_dead (get_or classes.of b 0) (are.range b lt)
+      ∙ stays_in_line classes (3 * classes.count) (4 * classes.count) (get_or classes.of b 0) (λ e. other (newline_alone t classes are b lt e))
 
   dead_ends : (number : ℕ) → number ≡ 3 * classes.count → next_number r number newline ≡ 4 * classes.count
   dead_ends number is =
-      let k = 3 * classes.count + get_or classes.of 10 0 in
-      let within = are.range 10 (omega arith) in
       next_is number newline ∙ ap (λ n. get_or transitions (n + get_or classes.of 10 0) 0) is
-      ∙ correct.special k (omega (arith, some)) (omega (arith, within)) ∙ first_start classes some within
+      ∙ correct.special.at_dead (get_or classes.of 10 0) (are.range 10 (omega arith))
+      ∙ leaves_at_end classes (3 * classes.count) (4 * classes.count) (get_or classes.of 10 0) refl
 
   pub after_dead : (number : ℕ) (line : List ℕ) → AreBytes (line ++ newline ∷ []) → HasNoNewline line → number ≡ 3 * classes.count →
       number_after r number (line ++ newline ∷ []) ≡ 4 * classes.count
@@ -154,7 +143,7 @@ module _ (t : Tree) (classes : ByteClasses) (states : StateList) (transitions : 
 
   last_byte : (n : State) (x : ℕ) → IsTransition t classes.count states.items n 10 x → Ends n [] x
   last_byte n x (unknown is) = inl (is ∙ sym count_is)
-  last_byte n x (known (found is h)) = inr (inl (is, (0, omega arith, h)))
+  last_byte n x (known (accepting is h)) = inr (inl (is, (0, omega arith, h)))
   last_byte n x (known (next h stands other line)) = inr (inr (line refl ∙ ap (λ k. 4 * k) (sym count_is), h))
 
   more_bytes : (n : State) (b x : ℕ) (line : List ℕ) → nat_eq b newline ≡ false → HasNoNewline line → AreBytes (line ++ newline ∷ []) →
@@ -162,7 +151,7 @@ module _ (t : Tree) (classes : ByteClasses) (states : StateList) (transitions : 
       (StandsFor t classes.count states.items x (next_state t n b) → Ends (next_state t n b) line (number_after r x (line ++ newline ∷ []))) →
       Ends n (b ∷ line) (number_after r x (line ++ newline ∷ []))
   more_bytes n b x line part others bytes (unknown is) rest = inl (after_unknown x (line ++ newline ∷ []) bytes (is ∙ sym count_is))
-  more_bytes n b x line part others bytes (known (found is h)) rest =
+  more_bytes n b x line part others bytes (known (accepting is h)) rest =
       inr (inl (after_match x line bytes others (is ∙ accepted_in_line classes.count b (eqb-false b newline part)), (0, omega arith, h)))
   more_bytes n b x line part others bytes (known (next h stands other back)) rest =
       let moves : successor t n b ≡ next_state t n b = rw part refl in

@@ -1,10 +1,11 @@
 -- The states and the table stay correct if a transition is stored, a state is added, or the cache is cleared.
-use Rattle.std.proofs.Common.{true, ◌≡◌, ℕ, ◌+◌, ◌-◌, ◌*◌, ◌/◌, ◌<◌, ◌≤◌, ◌⊎◌, inl, inr, false, List, [], ◌∷◌, ◌++◌, length, set, refl, sym, ◌∙◌, ap, subst, arith, get_or, get_or-set_same, get_or-set_other, length-append, take}
+use Rattle.std.proofs.Common.{true, ◌≡◌, ℕ, zero, suc, ◌+◌, ◌-◌, ◌*◌, ◌/◌, ◌%◌, ◌<◌, ◌≤◌, inl, inr, false, List, [], ◌∷◌, ◌++◌, length, set, refl, sym, ◌∙◌, ap, subst, arith, get_or, get_or-set_same, get_or-set_other, length-append, take}
 use Rattle.std.specs.Prelude.{◌≢◌, nat_eq, replicate, if◌then◌else◌}
 use Rattle.std.proofs.Math.ListN.{length-set}
-use Rattle.std.proofs.lemmas.Bool.{cases_eq, cases_lt, cases_Bool, eq-eqb, eqb-true, ne_eqb, le-ltb, lt-ltb}
+use Rattle.std.proofs.Math.Nat.{div-lt_iff_lt-mul, mod-add-div'}
+use Rattle.std.proofs.lemmas.Bool.{cases_eq, cases_lt, cases_Bool, eq-eqb, eqb-true, ne_eqb}
 use Rattle.std.proofs.lemmas.List.{length-replicate, get_or-replicate, get_or_past, get_or_append_left, get_or-append_right, get_or-take, length-take-le}
-use Rattle.std.proofs.lemmas.Nat.{div-mul-add, mul-add-lt}
+use Rattle.std.proofs.lemmas.Nat.{div-mul-add, mul-add-lt, mod_below}
 use Rattle.cs_syntax.specs.Matching.{Tree}
 use Rattle.cs_match.specs.declared.byte_classes.ByteClasses.{ByteClasses}
 use Rattle.cs_match.specs.declared.state.State.{State}
@@ -15,7 +16,7 @@ use Rattle.cs_match.specs.CachedStates.{StateList}
 use Rattle.cs_match.specs.States.{start, successor, accepts_before, next_state, IsDead}
 use Rattle.cs_match.proofs.PositionCountLemmas.{scaled}
 use Rattle.cs_match.proofs.StateLemmas.{block_start}
-use Rattle.cs_match.specs.LazyDfa.{unknown_number, match_number, dead_number, start_number, accepted_number, state_at, IsSlot, StandsFor, cached, dead, Leads, found, next, IsTransition, unknown, known, first_transition, AreFirstRows, AreFirstStates, AreStates, IsTable}
+use Rattle.cs_match.specs.LazyDfa.{unknown_number, match_number, dead_number, start_number, accepted_number, state_at, IsSlot, StandsFor, cached, dead, Leads, accepting, next, IsTransition, unknown, known, until_newline, AreSpecialRows, AreFirstRows, AreFirstStates, AreStates, IsTable}
 
 -- rows do not overlap
 pub same_transition : (count s r c d : ℕ) → c < count → d < count → s * count + c ≡ r * count + d → (s ≡ r) × (c ≡ d)
@@ -60,8 +61,8 @@ accepted_in_line count b other = rw (ne_eqb b 10 other) refl
 -- a correct transition over a byte is correct over the bytes of its class
 pub leads_alike : (t : Tree) (count : ℕ) (states : List State) (state : State) (b c number : ℕ) → AreAlike t state b c →
     Leads t count states state b number → Leads t count states state c number
-leads_alike t count states state b c number alike (found is h) =
-    found (is ∙ ap (λ line. if line then 0 else match_number count) alike.newline) (sym alike.accepts ∙ h)
+leads_alike t count states state b c number alike (accepting is h) =
+    accepting (is ∙ ap (λ line. if line then 0 else match_number count) alike.newline) (sym alike.accepts ∙ h)
 leads_alike t count states state b c number alike (next h stands other line) =
     next (sym alike.accepts ∙ h) (subst (λ (n : State). StandsFor t count states number n) alike.successor stands) other
     (λ e. line (eqb-true b 10 (alike.newline ∙ eq-eqb c 10 e)))
@@ -80,7 +81,7 @@ stands_slot t count states number n some (dead is gone) = (3, omega (arith, some
 
 pub leads_slot : (t : Tree) (count : ℕ) (states : List State) (n : State) (b number : ℕ) → 5 ≤ length states →
     Leads t count states n b number → (slot : ℕ) × (slot < length states) × (number ≡ slot * count)
-leads_slot t count states n b number some (found is h) =
+leads_slot t count states n b number some (accepting is h) =
     let at = accepted_slot count b in
     (at.0, omega (arith, some, at.1), is ∙ at.2)
 leads_slot t count states n b number some (next h stands other line) =
@@ -97,7 +98,7 @@ stands_no_match t count states number n some (dead is gone) e = omega (arith, so
 -- a state accepts before the byte if and only if its correct transition says so
 pub leads_to_found : (t : Tree) (count : ℕ) (states : List State) (b number : ℕ) (n : State) → 0 < count →
     Leads t count states n b number → number ≡ accepted_number count b → accepts_before t n b ≡ true
-leads_to_found t count states b number n some (found is h) e = h
+leads_to_found t count states b number n some (accepting is h) e = h
 leads_to_found t count states b number n some (next h stands other line) e =
     elim (cases_Bool (nat_eq b 10)) [
       | inl at_end ↦ absurd (other (e ∙ rw at_end refl))
@@ -107,7 +108,7 @@ leads_to_found t count states b number n some (next h stands other line) e =
 pub leads_on : (t : Tree) (count : ℕ) (states : List State) (b number : ℕ) (n : State) → Leads t count states n b number →
     (number ≡ accepted_number count b → ⊥) →
     (accepts_before t n b ≡ false) × StandsFor t count states number (successor t n b)
-leads_on t count states b number n (found is h) e = absurd (e is)
+leads_on t count states b number n (accepting is h) e = absurd (e is)
 leads_on t count states b number n (next h stands other line) e = (h, stands)
 
 -- the state of the dead number is dead
@@ -121,7 +122,7 @@ dead_state t count states number n some (dead is gone) e = gone
 -- a known transition leads to no unknown state, and to the first row over the newline alone
 pub leads_known : (t : Tree) (count : ℕ) (states : List State) (n : State) (b number : ℕ) → 0 < count →
     Leads t count states n b number → number ≢ unknown_number count
-leads_known t count states n b number some (found is h) e =
+leads_known t count states n b number some (accepting is h) e =
     let at = accepted_slot count b in
     at.3.1 (same_row count at.0 1 some (sym (is ∙ at.2) ∙ e ∙ omega arith))
 leads_known t count states n b number some (next h (cached slot is at same) other line) e =
@@ -132,7 +133,7 @@ leads_known t count states n b number some (next h (dead is gone) other line) e 
 pub transition_ends : (t : Tree) (count : ℕ) (states : List State) (n : State) (b number : ℕ) → 0 < count →
     IsTransition t count states n b number → number ≡ 0 → b ≡ 10
 transition_ends t count states n b number some (unknown is) e = absurd (omega (arith, some, is, e))
-transition_ends t count states n b number some (known (found is h)) e =
+transition_ends t count states n b number some (known (accepting is h)) e =
     let at = accepted_slot count b in
     at.3.0 (same_row count at.0 0 some (sym (is ∙ at.2) ∙ e ∙ omega arith))
 transition_ends t count states n b number some (known (next h stands other line)) e = absurd (other e)
@@ -155,78 +156,21 @@ leads_start t count states n b some right e stays =
     next stays (subst (λ (m : State). StandsFor t count states.items (start_number count) m) (sym (rw (eq-eqb b 10 e) refl))
     (stands_start t count states right)) (λ zero_count. omega (arith, some, zero_count)) (λ _. refl)
 
--- the transitions of the special states
-module _ (classes : ByteClasses) (some : 0 < classes.count) (line : get_or classes.of 10 0 < classes.count) where
-  abbrev match_end : ℕ
-  match_end = 2 * classes.count + get_or classes.of 10 0
+-- the rows of the special states stay if their transitions do
+pub special_kept : (classes : ByteClasses) (old new : List ℕ) → ((k : ℕ) → classes.count ≤ k → k < 4 * classes.count → get_or new k 0 ≡ get_or old k 0) →
+    AreSpecialRows classes old → AreSpecialRows classes new
+special_kept classes old new same rows = record {
+  at_unknown = λ c low. same (classes.count + c) (omega arith) (omega (arith, low)) ∙ rows.at_unknown c low;
+  at_match = λ c low. same (2 * classes.count + c) (omega arith) (omega (arith, low)) ∙ rows.at_match c low;
+  at_dead = λ c low. same (3 * classes.count + c) (omega arith) (omega (arith, low)) ∙ rows.at_dead c low;
+}
 
-  abbrev dead_end : ℕ
-  dead_end = 3 * classes.count + get_or classes.of 10 0
+-- a state that stays until the newline
+pub stays_in_line : (classes : ByteClasses) (stays ends c : ℕ) → c ≢ get_or classes.of 10 0 → until_newline classes stays ends c ≡ stays
+stays_in_line classes stays ends c other = rw (ne_eqb c (get_or classes.of 10 0) other) refl
 
-  pub first_unknown : (k : ℕ) → (k < 2 * classes.count) ⊎ (4 * classes.count ≤ k) → first_transition classes k ≡ classes.count
-  first_unknown k (inl low) =
-      rw (
-        ne_eqb k match_end (λ e. omega (arith, e, low)),
-        ne_eqb k dead_end (λ e. omega (arith, e, low)),
-        lt-ltb k (2 * classes.count) low,
-      ) refl
-  first_unknown k (inr high) =
-      rw (
-        ne_eqb k match_end (λ e. omega (arith, e, high, line)),
-        ne_eqb k dead_end (λ e. omega (arith, e, high, line)),
-        le-ltb k (2 * classes.count) (omega (arith, high)),
-        le-ltb k (3 * classes.count) (omega (arith, high)),
-        le-ltb k (4 * classes.count) high,
-      ) refl
-
-  pub first_match : (k : ℕ) → 2 * classes.count ≤ k → k < 3 * classes.count → k ≢ match_end → first_transition classes k ≡ 2 * classes.count
-  first_match k low high other =
-      rw (
-        ne_eqb k match_end other,
-        ne_eqb k dead_end (λ e. omega (arith, e, high)),
-        le-ltb k (2 * classes.count) low,
-        lt-ltb k (3 * classes.count) high,
-      ) refl
-
-  pub first_found : first_transition classes match_end ≡ 0
-  first_found = rw (eq-eqb match_end match_end refl) refl
-
-  pub first_start : first_transition classes dead_end ≡ 4 * classes.count
-  first_start = rw (ne_eqb dead_end match_end (λ e. omega (arith, e, some)), eq-eqb dead_end dead_end refl) refl
-
-  pub first_dead : (k : ℕ) → 3 * classes.count ≤ k → k < 4 * classes.count → k ≢ dead_end → first_transition classes k ≡ 3 * classes.count
-  first_dead k low high other =
-      rw (
-        ne_eqb k match_end (λ e. omega (arith, e, low, line)),
-        ne_eqb k dead_end other,
-        le-ltb k (2 * classes.count) (omega (arith, low)),
-        le-ltb k (3 * classes.count) low,
-        lt-ltb k (4 * classes.count) high,
-      ) refl
-
-  -- each has the number of a row, and only the end of the match row that of the first one
-  pub first_slot : (k : ℕ) → (slot : ℕ) × (slot < 5) × (first_transition classes k ≡ slot * classes.count) × ((1 ≤ slot) ⊎ (k ≡ match_end))
-  first_slot k =
-      elim (cases_lt k (2 * classes.count)) [
-        | inl low ↦ (1, omega arith, first_unknown k (inl low) ∙ omega arith, inl (omega arith))
-        | inr from ↦
-            elim (cases_lt k (3 * classes.count)) [
-              | inl low ↦
-                  elim (cases_eq k match_end) [
-                    | inl e ↦ (0, omega arith, ap (first_transition classes) e ∙ first_found ∙ omega arith, inr e)
-                    | inr other ↦ (2, omega arith, first_match k from low other, inl (omega arith))
-                  ]
-              | inr past ↦
-                  elim (cases_lt k (4 * classes.count)) [
-                    | inr high ↦ (1, omega arith, first_unknown k (inr high) ∙ omega arith, inl (omega arith))
-                    | inl low ↦
-                        elim (cases_eq k dead_end) [
-                          | inl e ↦ (4, omega arith, ap (first_transition classes) e ∙ first_start, inl (omega arith))
-                          | inr other ↦ (3, omega arith, first_dead k past low other, inl (omega arith))
-                        ]
-                  ]
-            ]
-      ]
+pub leaves_at_end : (classes : ByteClasses) (stays ends c : ℕ) → c ≡ get_or classes.of 10 0 → until_newline classes stays ends c ≡ ends
+leaves_at_end classes stays ends c e = rw (eq-eqb c (get_or classes.of 10 0) e) refl
 
 -- the transitions of a correct table
 module _ (t : Tree) (classes : ByteClasses) (states : StateList) (transitions : List ℕ) (are : AreClasses t classes)
@@ -240,19 +184,17 @@ module _ (t : Tree) (classes : ByteClasses) (states : StateList) (transitions : 
   dead_leads : (n : State) (b : ℕ) → IsDead t n → b < 256 →
       Leads t classes.count states.items n b (get_or transitions (3 * classes.count + get_or classes.of b 0) 0)
   dead_leads n b gone lt =
-      let k = 3 * classes.count + get_or classes.of b 0 in
-      let within : get_or classes.of b 0 < classes.count = are.range b lt in
-      let transition : get_or transitions k 0 ≡ first_transition classes k = table.special k (omega (arith, some)) (omega (arith, within)) in
+      let c = get_or classes.of b 0 in
+      let transition = table.special.at_dead c (are.range b lt) in
       elim (cases_eq b 10) [
         | inl e ↦
-            let is : get_or transitions k 0 ≡ 4 * classes.count =
-            transition ∙ ap (λ c. first_transition classes (3 * classes.count + get_or classes.of c 0)) e ∙ first_start classes some line in
+            let is : get_or transitions (3 * classes.count + c) 0 ≡ 4 * classes.count =
+            transition ∙ leaves_at_end classes (3 * classes.count) (4 * classes.count) c (ap (λ x. get_or classes.of x 0) e) in
             subst (λ number. Leads t classes.count states.items n b number) (sym is)
             (leads_start t classes.count states n b some right e (gone [] b))
         | inr other ↦
-            let is : get_or transitions k 0 ≡ 3 * classes.count =
-            transition ∙ first_dead classes some line k (omega arith) (omega (arith, within))
-            (λ e. other (newline_alone t classes are b lt (omega (arith, e)))) in
+            let is : get_or transitions (3 * classes.count + c) 0 ≡ 3 * classes.count =
+            transition ∙ stays_in_line classes (3 * classes.count) (4 * classes.count) c (λ e. other (newline_alone t classes are b lt e)) in
             let moved : successor t n b ≡ next_state t n b = rw (ne_eqb b 10 other) refl in
             let after : IsDead t (next_state t n b) = λ bytes c. gone (b ∷ bytes) c in
             next (gone [] b) (dead is (subst (IsDead t) (sym moved) after)) (λ zero_transition. omega (arith, some, is, zero_transition))
@@ -283,33 +225,40 @@ module _ (t : Tree) (classes : ByteClasses) (states : StateList) (transitions : 
       (dead_leads n b gone lt) (ap (λ k. get_or transitions (k + get_or classes.of b 0) 0) (sym is) ∙ e))
 
   -- a transition to the first row is over the newline
+  special_ends : (slot b : ℕ) → slot < 4 → slot ≢ 0 → b < 256 → get_or transitions (slot * classes.count + get_or classes.of b 0) 0 ≡ 0 → b ≡ 10
+  special_ends (suc zero) b low other lt e =
+      let c = get_or classes.of b 0 in
+      let at : 1 * classes.count + c ≡ classes.count + c = omega arith in
+      absurd (omega (arith, some, ap (λ k. get_or transitions k 0) at, e, table.special.at_unknown c (are.range b lt)))
+  special_ends (suc (suc zero)) b low other lt e =
+      let c = get_or classes.of b 0 in
+      let transition = table.special.at_match c (are.range b lt) in
+      elim (cases_eq c (get_or classes.of 10 0)) [
+        | inl end ↦ newline_alone t classes are b lt end
+        | inr in_line ↦ absurd (omega (arith, some, e, transition, stays_in_line classes (2 * classes.count) 0 c in_line))
+      ]
+  special_ends (suc (suc (suc zero))) b low other lt e =
+      let c = get_or classes.of b 0 in
+      let transition = table.special.at_dead c (are.range b lt) in
+      elim (cases_eq c (get_or classes.of 10 0)) [
+        | inl end ↦ newline_alone t classes are b lt end
+        | inr in_line ↦ absurd (omega (arith, some, e, transition, stays_in_line classes (3 * classes.count) (4 * classes.count) c in_line))
+      ]
+  special_ends zero b low other lt e = absurd (other refl)
+  special_ends (suc (suc (suc (suc slot)))) b low other lt e = absurd (omega (arith, low))
+
   pub ends_line : (slot b : ℕ) → slot < length states.items → b < 256 → get_or transitions (slot * classes.count + get_or classes.of b 0) 0 ≡ 0 → b ≡ 10
   ends_line slot b lt byte e =
-      let k = slot * classes.count + get_or classes.of b 0 in
       let row : IsSlot states.items slot → b ≡ 10 = λ at.
-      transition_ends t classes.count states.items (state_at t states.items slot) b (get_or transitions k 0) some (table.right slot b at byte) e in
+      transition_ends t classes.count states.items (state_at t states.items slot) b (get_or transitions (slot * classes.count + get_or classes.of b 0) 0)
+      some (table.right slot b at byte) e in
       elim (cases_lt slot 4) [
         | inr high ↦ row (record { within = lt; ordinary = inr high })
         | inl low ↦ elim (cases_eq slot 0) [
           | inl none ↦ row (record { within = lt; ordinary = inl none })
-          | inr other ↦
-              let from : classes.count ≤ k = omega (arith, scaled 1 slot classes.count (omega (arith, other))) in
-              let to : k < 4 * classes.count = omega (arith, row_in classes.count slot 4 low, are.range b byte) in
-              let at = first_slot classes some line k in
-              elim at.3 [
-                | inl high ↦ absurd (omega (arith, some, e, table.special k from to, at.2, scaled 1 at.0 classes.count high))
-                | inr end ↦ newline_alone t classes are b byte
-                    (same_transition classes.count slot 2 (get_or classes.of b 0) (get_or classes.of 10 0) (are.range b byte) line end).1
-              ]
+          | inr other ↦ special_ends slot b low other byte e
         ]
       ]
-
-  -- it is in the table
-  pub transition_within : (number : ℕ) (n : State) (b : ℕ) → StandsFor t classes.count states.items number n → b < 256 →
-      number + get_or classes.of b 0 < length transitions
-  transition_within number n b stands lt =
-      let at = stands_slot t classes.count states.items number n right.first stands in
-      omega (arith, at.2, table.rows, in_rows classes.count at.0 (length states.items) (get_or classes.of b 0) at.1 (are.range b lt))
 
   -- the transition of the state in a slot is stored for the bytes of a class
   module _ (slot byte number : ℕ) (at : IsSlot states.items slot) (low : byte < 256)
@@ -355,7 +304,8 @@ module _ (t : Tree) (classes : ByteClasses) (states : StateList) (transitions : 
             let before = table.numbers k (omega (arith, lt, length-set transitions place number)) in
             (before.0, before.1, get_or-set_other transitions place k number 0 other ∙ before.2)
       ];
-      special = λ k from to. get_or-set_other transitions place k number 0 (ordinary_transition k from to) ∙ table.special k from to;
+      special = special_kept classes transitions (set transitions place number)
+          (λ k from to. get_or-set_other transitions place k number 0 (ordinary_transition k from to)) table.special;
       right = right_there;
     }
 
@@ -380,7 +330,7 @@ module _ (t : Tree) (classes : ByteClasses) (states : StateList) (transitions : 
     kept_stands number n (dead is gone) = dead is gone
 
     kept_leads : (n : State) (b number : ℕ) → Leads t classes.count states.items n b number → Leads t classes.count more_states n b number
-    kept_leads n b number (found is h) = found is h
+    kept_leads n b number (accepting is h) = accepting is h
     kept_leads n b number (next h stands other line) = next h (kept_stands number (successor t n b) stands) other line
 
     kept_transition : (n : State) (b transition : ℕ) → IsTransition t classes.count states.items n b transition →
@@ -430,7 +380,8 @@ module _ (t : Tree) (classes : ByteClasses) (states : StateList) (transitions : 
         | inl old ↦ let before = table.numbers k old in (before.0, omega (arith, before.1, length_more), same k old ∙ before.2)
         | inr new ↦ (1, omega (arith, right.first, length_more), blank k new lt ∙ omega arith)
       ];
-      special = λ k from to. same k (omega (arith, to, table.rows, scaled 5 (length states.items) classes.count right.first)) ∙ table.special k from to;
+      special = special_kept classes transitions more
+          (λ k from to. same k (omega (arith, to, table.rows, scaled 5 (length states.items) classes.count right.first))) table.special;
       right = right_more;
     }
 
@@ -466,25 +417,61 @@ module _ (t : Tree) (classes : ByteClasses) (states : StateList) (transitions : 
     }
 
 -- the table of the first rows
-pub first_table : (t : Tree) (classes : ByteClasses) (states : List State) (transitions : List ℕ) → AreClasses t classes → length states ≡ 5 →
-    AreFirstRows classes transitions → IsTable t classes states transitions
-first_table t classes states transitions are five rows =
-    let some = some_classes t classes are in
-    let line = are.range 10 (omega arith) in
-    record {
-      rows = omega (arith, rows.all, ap (λ n. n * classes.count) five);
-      numbers = λ k lt. let at = first_slot classes some line k in (at.0, omega (arith, at.1, five), rows.each k lt ∙ at.2);
-      special = λ k from to. rows.each k (omega (arith, to, rows.all));
-      right = λ slot b at lt.
-          let within = are.range b lt in
-          let k = slot * classes.count + get_or classes.of b 0 in
-          let in_table : k < length transitions = omega (arith, rows.all, in_rows classes.count slot 5 (get_or classes.of b 0) (omega (arith, at.within, five)) within) in
-          let low : (k < 2 * classes.count) ⊎ (4 * classes.count ≤ k) = elim at.ordinary [
-            | inl zero_slot ↦ inl (omega (arith, within, ap (λ s. s * classes.count) zero_slot))
-            | inr high ↦ inr (omega (arith, scaled 4 slot classes.count high))
-          ] in
-          unknown (rows.each k in_table ∙ first_unknown classes some line k low);
-    }
+module _ (t : Tree) (classes : ByteClasses) (transitions : List ℕ) (are : AreClasses t classes) (rows : AreFirstRows classes transitions) where
+  abbrev HasNumber : ℕ → Type 0
+  HasNumber k = (slot : ℕ) × (slot < 5) × (get_or transitions k 0 ≡ slot * classes.count)
+
+  until : (k stays ends c : ℕ) → stays < 5 → ends < 5 →
+      get_or transitions k 0 ≡ until_newline classes (stays * classes.count) (ends * classes.count) c → HasNumber k
+  until k stays ends c low high is =
+      elim (cases_eq c (get_or classes.of 10 0)) [
+        | inl e ↦ (ends, high, is ∙ leaves_at_end classes (stays * classes.count) (ends * classes.count) c e)
+        | inr other ↦ (stays, low, is ∙ stays_in_line classes (stays * classes.count) (ends * classes.count) c other)
+      ]
+
+  -- the transition of a row
+  number : (slot c : ℕ) → slot < 5 → c < classes.count → HasNumber (slot * classes.count + c)
+  number zero c low lt =
+      let at : 0 * classes.count + c ≡ c = omega arith in
+      (1, omega arith, ap (λ k. get_or transitions k 0) at ∙ rows.at_found c lt ∙ omega arith)
+  number (suc zero) c low lt =
+      let at : 1 * classes.count + c ≡ classes.count + c = omega arith in
+      (1, omega arith, ap (λ k. get_or transitions k 0) at ∙ rows.special.at_unknown c lt ∙ omega arith)
+  number (suc (suc zero)) c low lt =
+      let none : 0 ≡ 0 * classes.count = omega arith in
+      until (2 * classes.count + c) 2 0 c (omega arith) (omega arith)
+      (rows.special.at_match c lt ∙ ap (λ ends. until_newline classes (2 * classes.count) ends c) none)
+  number (suc (suc (suc zero))) c low lt = until (3 * classes.count + c) 3 4 c (omega arith) (omega arith) (rows.special.at_dead c lt)
+  number (suc (suc (suc (suc zero)))) c low lt = (1, omega arith, rows.at_start c lt ∙ omega arith)
+  number (suc (suc (suc (suc (suc slot))))) c low lt = absurd (omega (arith, low))
+
+  some_class : 0 < classes.count
+  some_class = some_classes t classes are
+
+  numbers : (k : ℕ) → k < length transitions → HasNumber k
+  numbers k lt =
+      let within : k < 5 * classes.count = omega (arith, lt, rows.all) in
+      let low : k / classes.count < 5 = (div-lt_iff_lt-mul some_class).1 within in
+      let at : k / classes.count * classes.count + k % classes.count ≡ k = omega (arith, mod-add-div' k classes.count) in
+      subst HasNumber at (number (k / classes.count) (k % classes.count) low (mod_below k classes.count some_class))
+
+  pub first_table : (states : List State) → length states ≡ 5 → IsTable t classes states transitions
+  first_table states five = record {
+    rows = omega (arith, rows.all, ap (λ n. n * classes.count) five);
+    numbers = λ k lt. let at = numbers k lt in (at.0, omega (arith, at.1, five), at.2);
+    special = rows.special;
+    right = λ slot b at lt.
+        let c = get_or classes.of b 0 in
+        let within = are.range b lt in
+        elim at.ordinary [
+          | inl none ↦
+              let first : slot * classes.count + c ≡ c = omega (arith, ap (λ s. s * classes.count) none) in
+              unknown (ap (λ k. get_or transitions k 0) first ∙ rows.at_found c within)
+          | inr high ↦
+              let four : slot ≡ 4 = omega (arith, high, at.within, five) in
+              unknown (ap (λ s. get_or transitions (s * classes.count + c) 0) four ∙ rows.at_start c within)
+        ];
+  }
 
 -- all states but the first ones are forgotten
 pub emptied_states : (t : Tree) (count : ℕ) (states : StateList) → AreStates t count states →

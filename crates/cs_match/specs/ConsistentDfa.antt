@@ -19,10 +19,10 @@ tree_in dfa = dfa.program.now
 abbrev pub count_in : LazyDfa → ℕ
 count_in dfa = dfa.states.classes.count
 
--- what contracts see of the DFA with its counter; the first four states are no others than the start state
-abbrev pub automaton_of : LazyDfa → Steps → Automaton
-automaton_of dfa steps =
-    record { tree = tree_in dfa; states = length dfa.states.cached.items - 4; steps = steps.count }
+-- what contracts see of the DFA with a list and its counter; the first four states are no others than the start state
+abbrev pub automaton_of : LazyDfa → List ℕ → Steps → Automaton
+automaton_of dfa ends steps =
+    record { tree = tree_in dfa; states = length dfa.states.cached.items - 4; ends = ends; steps = steps.count }
 
 -- the tree is expanded, the classes, the states and the table are correct, and the memory has the right size
 pub record IsConsistent (t : LazyDfa) : Type 0 where

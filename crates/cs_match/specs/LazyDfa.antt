@@ -1,7 +1,7 @@
 -- The lazy DFA (RE2): the cached states and the transition table, a row of transitions for each state and a transition in it for each
 -- class of bytes. The number of a state is the index of the first transition of its row. The first rows are those of a start
 -- state, of three special states (a transition that is unknown, a match, a dead state) and of the start state.
-use Rattle.std.specs.Prelude.{ℕ, ◌≡◌, ◌≢◌, ◌+◌, ◌*◌, ◌<◌, ◌≤◌, ◌⊎◌, ◌/◌, min, max, true, false, List, length, replicate, slice_index, slice_index_or, nat_eq, nat_lt, if◌then◌else◌}
+use Rattle.std.specs.Prelude.{ℕ, ◌≡◌, ◌≢◌, ◌+◌, ◌*◌, ◌<◌, ◌≤◌, ◌⊎◌, ◌/◌, min, max, true, false, List, length, replicate, slice_index, slice_index_or, nat_eq, if◌then◌else◌}
 use Rattle.cs_syntax.specs.Matching.{Tree}
 use Rattle.cs_match.specs.declared.byte_classes.ByteClasses.{ByteClasses}
 use Rattle.cs_match.specs.declared.state.State.{State}
@@ -48,7 +48,7 @@ pub data StandsFor (t : Tree) (count : ℕ) (states : List State) (number : ℕ)
 -- before the byte; otherwise a number that stands for its successor, which is that of the start state over a newline, and
 -- never that of the first row.
 pub data Leads (t : Tree) (count : ℕ) (states : List State) (state : State) (b number : ℕ) : Type 0 where
-  found : number ≡ accepted_number count b → accepts_before t state b ≡ true → Leads t count states state b number
+  accepting : number ≡ accepted_number count b → accepts_before t state b ≡ true → Leads t count states state b number
   next : accepts_before t state b ≡ false → StandsFor t count states number (successor t state b) → number ≢ 0 →
       (b ≡ newline → number ≡ start_number count) → Leads t count states state b number
 
@@ -57,20 +57,24 @@ pub data IsTransition (t : Tree) (count : ℕ) (states : List State) (state : St
   unknown : transition ≡ unknown_number count → IsTransition t count states state b transition
   known : Leads t count states state b transition → IsTransition t count states state b transition
 
--- The transition at an index of the first rows, while no transition is known. The unknown state is absorbing, and the match and
--- the dead state are up to the end of the line.
-abbrev pub first_transition : ByteClasses → ℕ → ℕ
-first_transition classes k =
-    if nat_eq k (match_number classes.count + slice_index classes.of newline) then 0
-    else (if nat_eq k (dead_number classes.count + slice_index classes.of newline) then start_number classes.count
-    else (if nat_lt k (match_number classes.count) then unknown_number classes.count
-    else (if nat_lt k (dead_number classes.count) then match_number classes.count
-    else (if nat_lt k (start_number classes.count) then dead_number classes.count else unknown_number classes.count))))
+-- the transition over a class of a state that stays until the newline
+abbrev pub until_newline : ByteClasses → ℕ → ℕ → ℕ → ℕ
+until_newline classes stays ends c = if nat_eq c (slice_index classes.of newline) then ends else stays
 
--- the table of the first rows
+-- the rows of the special states: the unknown state stays, and the match and the dead state stay until the newline
+pub record AreSpecialRows (classes : ByteClasses) (transitions : List ℕ) : Type 0 where
+  pub at_unknown : (c : ℕ) → c < classes.count → slice_index transitions (unknown_number classes.count + c) ≡ unknown_number classes.count
+  pub at_match : (c : ℕ) → c < classes.count →
+      slice_index transitions (match_number classes.count + c) ≡ until_newline classes (match_number classes.count) 0 c
+  pub at_dead : (c : ℕ) → c < classes.count →
+      slice_index transitions (dead_number classes.count + c) ≡ until_newline classes (dead_number classes.count) (start_number classes.count) c
+
+-- the table of the first rows, in which no transition of the start state is known
 pub record AreFirstRows (classes : ByteClasses) (transitions : List ℕ) : Type 0 where
   pub all : length transitions ≡ 5 * classes.count
-  pub each : (k : ℕ) → k < length transitions → slice_index transitions k ≡ first_transition classes k
+  pub special : AreSpecialRows classes transitions
+  pub at_found : (c : ℕ) → c < classes.count → slice_index transitions c ≡ unknown_number classes.count
+  pub at_start : (c : ℕ) → c < classes.count → slice_index transitions (start_number classes.count + c) ≡ unknown_number classes.count
 
 -- the most states for so many classes and so many words of a set: 65,536 transitions and, beyond 254 states, 262,144 words
 abbrev pub most_rows : ℕ → ℕ → ℕ
@@ -102,6 +106,6 @@ pub record AreStates (t : Tree) (count : ℕ) (states : StateList) : Type 0 wher
 pub record IsTable (t : Tree) (classes : ByteClasses) (states : List State) (transitions : List ℕ) : Type 0 where
   pub rows : length transitions ≡ length states * classes.count
   pub numbers : (k : ℕ) → k < length transitions → (slot : ℕ) × (slot < length states) × (slice_index transitions k ≡ slot * classes.count)
-  pub special : (k : ℕ) → unknown_number classes.count ≤ k → k < start_number classes.count → slice_index transitions k ≡ first_transition classes k
+  pub special : AreSpecialRows classes transitions
   pub right : (slot b : ℕ) → IsSlot states slot → b < 256 →
       IsTransition t classes.count states (state_at t states slot) b (slice_index transitions (slot * classes.count + slice_index classes.of b))

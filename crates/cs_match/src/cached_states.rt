@@ -23,9 +23,9 @@ pub(crate) struct Behind {
     pub(crate) unfinished: Unfinished,
 }
 
-/// A cached state that equals another one, if it is found, and the place of the other one in the hash table.
+/// What a look-up gives: the slot of an equal cached state, if there is one there, and a place for the state in the hash table.
 #[derive(Clone, Copy)]
-pub(crate) struct Found {
+pub(crate) struct Lookup {
     pub(crate) slot: Option<usize>,
     pub(crate) place: usize,
 }
@@ -154,9 +154,9 @@ impl CachedStates {
     }
 
     /// Looks for the state, and for its place.
-    pub(crate) fn find(&self, state: &State, steps: &mut Steps) -> Found
+    pub(crate) fn find(&self, state: &State, steps: &mut Steps) -> Lookup
         requires { length state.now.positions ≡ self.now.positions }
-        ensures found { IfSome result.slot (λ slot. (slot < length self.now.items)
+        ensures equal { IfSome result.slot (λ slot. (slot < length self.now.items)
             × (slice_index_or self.now.items slot state.now ≡ state.now)) }
         ensures work { CountsAtMost ((MOST_PROBES + 1) * (words self.now.positions + 1)) steps.old steps.new }
     {
@@ -168,16 +168,16 @@ impl CachedStates {
             let place = home.wrapping_add(probe) % self.slots.len();
             let slot = self.slots[place] as usize;
             if slot >= self.len() || self.places[slot] as usize != place {
-                return Found { slot: None, place };
+                return Lookup { slot: None, place };
             }
             if self.is_at(slot, state) {
-                return Found {
+                return Lookup {
                     slot: Some(slot),
                     place,
                 };
             }
         }
-        Found {
+        Lookup {
             slot: None,
             place: home,
         }

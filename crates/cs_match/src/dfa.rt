@@ -1,6 +1,6 @@
 // Lazy DFA (RE2): subset construction on demand over Glushkov positions (`specs/Glushkov.antt`), with a bounded cache
 // of states that is cleared when it is full.
-ghost use Rattle.std.specs.Prelude.{◌≡◌, ◌≢◌, ◌↔◌, ◌+◌, ◌-◌, ◌<◌, ◌≤◌, ◌*◌, ℕ, Bool, List, IfOk, IsTrue, MatchOption, nat_eq, length, drop, vec_capacity, true, false};
+ghost use Rattle.std.specs.Prelude.{◌≡◌, ◌≢◌, ◌↔◌, ◌+◌, ◌-◌, ◌<◌, ◌≤◌, ◌*◌, ℕ, Bool, List, IfOk, IsTrue, nat_eq, length, drop, slice_index, vec_capacity, true, false};
 ghost use Rattle.cs_syntax.specs.Matching.{HasMatch};
 ghost use Rattle.cs_match.specs.Work.{words, step_work, byte_work, line_work};
 ghost use Rattle.cs_match.specs.Deciding.{Decides};
@@ -12,7 +12,7 @@ ghost use Rattle.cs_match.specs.Glushkov.{position_count, cuts_of};
 ghost use Rattle.cs_match.specs.Digits.{IsBlock};
 ghost use Rattle.cs_match.specs.Masks.{IsScratch};
 ghost use Rattle.cs_match.specs.States.{start, successor, accepts_before, IsDead};
-ghost use Rattle.cs_match.specs.LazyDfa.{first_transition, accepted_number, most_rows, AreFirstRows, AreFirstStates, match_number, dead_number, start_number};
+ghost use Rattle.cs_match.specs.LazyDfa.{until_newline, accepted_number, most_rows, AreFirstRows, AreFirstStates, match_number, dead_number, start_number};
 ghost use Rattle.cs_match.specs.declared.state.State.{State};
 ghost use Rattle.cs_match.specs.ConsistentDfa.{IsConsistent, IsKnown, IsTableOf, table_in, HasSlot, HasState, LeadsIn, tree_in, count_in, state_in};
 ghost use Rattle.cs_prefilter.specs.CountsAtMost.{CountsAtMost};
@@ -33,8 +33,12 @@ use std::ops::Range;
 const TRANSITIONS: usize = 65536;
 /// The first states: a start state, three special ones, and the start state.
 const FIRST: usize = 5;
-/// The slot of the start state.
-const START: usize = 4;
+/// The slots of the match state, the dead state and the start state.
+const MATCH: u16 = 2;
+
+const DEAD: u16 = 3;
+
+const START: u16 = 4;
 /// The least states, if the table has room for them.
 const LEAST_STATES: usize = 254;
 /// The most words of the position sets of more states: 2 MB.
@@ -99,27 +103,21 @@ fn first_states(alloc: Global, classes: usize, start: &State) -> Result<CachedSt
     Ok(states)
 }
 
-/// The transition at an index of the first rows.
-fn first_transition(classes: &ByteClasses, index: usize) -> u16
-    requires { classes.now.count ≤ 256 }
-    ensures { result ≡ first_transition classes.now index }
+/// Adds the row of a state that stays until the newline.
+fn push_row(transitions: &mut Vec<u16>, classes: &ByteClasses, stays: u16, ends: u16)
+    requires { length transitions.old.items + classes.now.count ≤ vec_capacity transitions.old }
+    ensures len { length transitions.new.items ≡ length transitions.old.items + classes.now.count }
+    ensures kept { (k : ℕ) → k < length transitions.old.items →
+        slice_index transitions.new.items k ≡ slice_index transitions.old.items k }
+    ensures row { (c : ℕ) → c < classes.now.count →
+        slice_index transitions.new.items (length transitions.old.items + c) ≡ until_newline classes.now stays ends c }
+    ensures room { vec_capacity transitions.old ≤ vec_capacity transitions.new }
 {
-    let count = classes.count as usize;
-    let newline = classes.of[b'\n' as usize] as usize;
-    let slot = if index == 2 * count + newline {
-        0
-    } else if index == 3 * count + newline {
-        START
-    } else if index < 2 * count {
-        1
-    } else if index < 3 * count {
-        2
-    } else if index < 4 * count {
-        3
-    } else {
-        1
-    };
-    (slot * count) as u16
+    let newline = u16::from(classes.of[b'\n' as usize]);
+    for class in 0..classes.count {
+        let next = if class == newline { ends } else { stays };
+        transitions.push(next).unwrap();
+    }
 }
 
 /// Makes this the table of the first rows, in which no transition is known.
@@ -129,10 +127,13 @@ fn write_first(transitions: &mut Vec<u16>, classes: &ByteClasses)
     ensures rows { AreFirstRows classes.now transitions.new.items }
     ensures room { 65536 ≤ vec_capacity transitions.new }
 {
+    let unknown = classes.count;
     transitions.clear();
-    for index in 0..FIRST * classes.count as usize {
-        transitions.push(first_transition(classes, index)).unwrap();
-    }
+    push_row(transitions, classes, unknown, unknown);
+    push_row(transitions, classes, unknown, unknown);
+    push_row(transitions, classes, MATCH * unknown, Table::FOUND);
+    push_row(transitions, classes, DEAD * unknown, START * unknown);
+    push_row(transitions, classes, unknown, unknown);
 }
 
 /// Makes the state its successor over a byte, and returns whether it accepts before the byte.
@@ -232,7 +233,7 @@ impl<'a> LazyDfa<'a> {
         ensures number { result ≡ start_number (count_in self.now) }
         ensures state { HasState self.now result (start (tree_in self.now)) }
     {
-        START as u16 * self.states.classes.count
+        START * self.states.classes.count
     }
 
     /// Whether the number is that of the match state.
@@ -241,7 +242,7 @@ impl<'a> LazyDfa<'a> {
         requires { IsConsistent self.now }
         ensures { result ≡ nat_eq number (match_number (count_in self.now)) }
     {
-        number == 2 * self.states.classes.count
+        number == MATCH * self.states.classes.count
     }
 
     /// Whether the number is that of the dead state.
@@ -250,7 +251,7 @@ impl<'a> LazyDfa<'a> {
         requires { IsConsistent self.now }
         ensures { result ≡ nat_eq number (dead_number (count_in self.now)) }
     {
-        number == 3 * self.states.classes.count
+        number == DEAD * self.states.classes.count
     }
 
     /// Moves on by known transitions and, unless the text ends there, over the byte whose transition is special or unknown. If
@@ -334,7 +335,7 @@ impl<'a> LazyDfa<'a> {
         if byte == b'\n' {
             Table::FOUND
         } else {
-            2 * self.states.classes.count
+            MATCH * self.states.classes.count
         }
     }
 
@@ -360,9 +361,9 @@ impl<'a> LazyDfa<'a> {
             byte,
             steps,
         ) {
-            let found = self.accepted(byte);
-            self.put(slot, byte, found);
-            return found;
+            let next = self.accepted(byte);
+            self.put(slot, byte, next);
+            return next;
         }
         if byte == b'\n' {
             let start = self.start();
@@ -391,13 +392,13 @@ impl<'a> LazyDfa<'a> {
         let words = self.states.scratch.positions.len().div_ceil(64);
         steps.add(words + 1 + (FIRST + 1) * count as usize);
         if self.is_lost(steps) {
-            let dead = 3 * count;
+            let dead = DEAD * count;
             self.put(slot, byte, dead);
             return dead;
         }
-        let found = self.states.cached.find(&self.states.scratch, steps);
-        if let Some(other) = found.slot
-            && other >= START
+        let lookup = self.states.cached.find(&self.states.scratch, steps);
+        if let Some(other) = lookup.slot
+            && other >= START as usize
         {
             let next = (other * count as usize) as u16;
             self.put(slot, byte, next);
@@ -406,9 +407,9 @@ impl<'a> LazyDfa<'a> {
         if self.states.cached.len() == self.states.cached.most() {
             // The slot is no longer that of the state, so the transition is not stored.
             self.empty();
-            return self.add(found.place);
+            return self.add(lookup.place);
         }
-        let next = self.add(found.place);
+        let next = self.add(lookup.place);
         self.put(slot, byte, next);
         next
     }

@@ -55,7 +55,7 @@
 //! correct.
 //!
 //! *Searching.* `Matcher::list_lines` lists the ends of the matching lines of a block in parts, until the block
-//! ends or the list may have no room for another part. A *prefilter* skips to a line with one of its words, which
+//! ends or the matcher's list may have no room for another part. A *prefilter* skips to a line with one of its words, which
 //! is listed at once if the prefilter is exact, else tested by one lane. Without a prefilter, or while it is not
 //! worth its cost (`Pacing`, on which no contract depends), four lanes list the lines of four chunks; one lane
 //! lists those of the rest of the block if the list is short, or if each match begins with `^`, since such a
@@ -104,7 +104,6 @@ mod state;
 mod table;
 
 pub use matcher::{Cache, Line, Matcher};
-pub use one_lane::ListedLines;
 pub use program::Program;
-pub use skipping::whole_lines_len;
+pub use skipping::{line_to, whole_lines_len};
 pub use spans::{Finder, Listed, Pass, Span, Wanted};

@@ -1,9 +1,9 @@
 // Matchers: a lazy DFA (RE2) with the prefilters of its program, and the counters that choose between them.
-ghost use Rattle.std.specs.Prelude.{◌≡◌, ◌≤◌, ◌<◌, ◌+◌, ◌*◌, ◌-◌, ◌↔◌, ℕ, Bool, List, IsTrue, IfOk, IfSome, MatchOption, length, take, slice_index, slice_range, drop, count_by};
+ghost use Rattle.std.specs.Prelude.{◌≡◌, ◌≤◌, ◌<◌, ◌+◌, ◌*◌, ◌-◌, ◌↔◌, ℕ, Bool, List, IsTrue, IfOk, IfSome, MatchOption, length, slice_range, drop, count_by};
 ghost use Rattle.cs_syntax.specs.Matching.{HasMatch};
 ghost use Rattle.cs_match.specs.Automaton.{after_steps, most_states};
 ghost use Rattle.cs_match.specs.Deciding.{Decides};
-ghost use Rattle.cs_match.specs.Lines.{newline, terminated_lines};
+ghost use Rattle.cs_match.specs.Lines.{terminated_lines};
 ghost use Rattle.cs_match.specs.MatchingEnds.{matching_ends};
 ghost use Rattle.cs_match.specs.Skipped.{AreLinesBetween};
 ghost use Rattle.cs_match.specs.Work.{WorksWithin, line_work, list_work, search_work, searched_bytes};
@@ -13,10 +13,9 @@ mod cache;
 
 use crate::dfa::LazyDfa;
 use crate::listing::{self, Ways};
-use crate::one_lane::ListedLines;
 use crate::pacing::Pacing;
 use crate::program::Program;
-use crate::skipping::whole_lines_len;
+use crate::skipping::line_to;
 pub use cache::Cache;
 use cs_prefilter::Steps;
 use std::alloc::{AllocError, Global};
@@ -32,13 +31,15 @@ pub struct Line {
     pub end: usize,
 }
 
-/// A program with its lazy DFA. Contracts see the program's tree, the number of cached states and the steps taken.
+/// A program with its lazy DFA. Contracts see the program's tree, the number of cached states, the list of matching lines
+/// that was made last, and the steps taken.
 #[derive(Drop)]
 pub struct Matcher<'a> {
     pub(crate) dfa: LazyDfa<'a>,
     ways: Ways<'a>,
-    /// A list of matching lines, for `count`.
+    /// The list of matching lines: the first `listed` of these.
     ends: Vec<usize>,
+    listed: usize,
     steps: Steps,
 }
 
@@ -49,15 +50,15 @@ impl<'a> Model for Matcher<'a> {
 
     ghost coded = { automaton_code };
 
-    ghost use Rattle.std.specs.Prelude.{IfSome, ◌<◌, length};
+    ghost use Rattle.std.specs.Prelude.{IfSome, ◌<◌, ◌≤◌, length, take};
     ghost use Rattle.cs_match.specs.ConsistentDfa.{IsConsistent, automaton_of, tree_in};
     ghost use Rattle.cs_prefilter.specs.WordAt.{IsPrefilterOf};
 
-    ghost view = { λ matcher. automaton_of matcher.dfa matcher.steps };
+    ghost view = { λ matcher. automaton_of matcher.dfa (take matcher.listed matcher.ends.items) matcher.steps };
 
     ghost invariant = { λ matcher. IsConsistent matcher.dfa
         × IfSome matcher.ways.prefilter (λ prefilter. IsPrefilterOf (tree_in matcher.dfa) prefilter.now)
-        × (0 < length matcher.ends.items) };
+        × (0 < length matcher.ends.items) × (matcher.listed ≤ length matcher.ends.items) };
 }
 
 impl<'a> Matcher<'a> {
@@ -73,6 +74,7 @@ impl<'a> Matcher<'a> {
             dfa,
             ways: Ways::new(program, Pacing::NEW),
             ends,
+            listed: 0,
             steps: Steps::new(),
         })
     }
@@ -120,58 +122,52 @@ impl<'a> Matcher<'a> {
             self.old self.new }
     {
         let mut ends = [0];
-        let listed = self.list_lines(block, from, &mut ends);
-        if listed.count == 0 {
-            return None;
-        }
-        let line = self.line_to(block, from, ends[0]);
-        Some(line)
-    }
-
-    /// The line that ends at an offset, such as one of a list. The steps are at most one for each byte from `from` on.
-    pub fn line_to(&mut self, block: &[u8], from: usize, end: usize) -> Line
-        requires low { from ≤ end }
-        requires within { end < length block.now }
-        requires newline { slice_index block.now end ≡ newline }
-        ensures line { IsLineAfter block.now from result.start result.end }
-        ensures end { result.end ≡ end }
-        ensures same { self.new.tree ≡ self.old.tree }
-        ensures work { WorksWithin (end + 1 - from) self.old self.new }
-    {
-        let len = whole_lines_len(&block[from..end]);
-        // The bytes of the line are read, and the newline before them.
-        self.steps.add(end - (from + len) + 1);
-        Line {
-            start: from + len,
-            end,
-        }
-    }
-
-    /// Lists the ends of the matching lines from an offset on, in their order: all up to the offset that is returned. It
-    /// is the end of the block if no line is listed; a longer list has more of them. The block is whole lines from there
-    /// on. The steps are at most `list_work` of the bytes.
-    pub fn list_lines(&mut self, block: &[u8], from: usize, ends: &mut [usize]) -> ListedLines
-        requires within { from ≤ length block.now }
-        requires whole { AreWholeLines (drop from block.now) }
-        requires room { 0 < length ends.old }
-        ensures lines { AreLinesBetween block.now from result.to }
-        ensures listed { (has_match : List ℕ → Bool) → Decides has_match self.old.tree →
-            take result.count ends.new ≡ matching_ends has_match block.now from result.to }
-        ensures room { result.count ≤ length ends.new }
-        ensures moves { from < length block.now → from < result.to }
-        ensures all { result.count ≡ 0 → result.to ≡ length block.now }
-        ensures one { length ends.old ≡ 1 → result.count ≡ 1 → result.to ≡ slice_index ends.new 0 + 1 }
-        ensures same { self.new.tree ≡ self.old.tree }
-        ensures work { WorksWithin (list_work self.old.tree (result.to - from)) self.old self.new }
-    {
-        listing::list_lines(
+        let listed = listing::list_lines(
             &mut self.dfa,
             &mut self.ways,
             block,
             from,
-            ends,
+            &mut ends,
             &mut self.steps,
-        )
+        );
+        if listed.count == 0 {
+            return None;
+        }
+        let line = line_to(block, from, ends[0]);
+        // The bytes of the line are read, and the newline before them.
+        self.steps.add(line.end - line.start + 1);
+        Some(line)
+    }
+
+    /// Lists the matching lines from an offset on, all up to the offset that it returns: the end of the block, unless the
+    /// list has no room for more. The block is whole lines from there on. The steps are at most `list_work` of the bytes.
+    pub fn list_lines(&mut self, block: &[u8], from: usize) -> usize
+        requires within { from < length block.now }
+        requires whole { AreWholeLines (drop from block.now) }
+        ensures lines { AreLinesBetween block.now from result }
+        ensures moves { from < result }
+        ensures listed { (has_match : List ℕ → Bool) → Decides has_match self.old.tree →
+            self.new.ends ≡ matching_ends has_match block.now from result }
+        ensures same { self.new.tree ≡ self.old.tree }
+        ensures work { WorksWithin (list_work self.old.tree (result - from)) self.old self.new }
+    {
+        let lines = listing::list_lines(
+            &mut self.dfa,
+            &mut self.ways,
+            block,
+            from,
+            &mut self.ends,
+            &mut self.steps,
+        );
+        self.listed = lines.count;
+        lines.to
+    }
+
+    /// The matching lines that were listed last, by the offsets of the newlines at their ends, in ascending order.
+    pub fn listed(&self) -> &[usize]
+        ensures { result.now ≡ self.now.ends }
+    {
+        &self.ends[..self.listed]
     }
 
     /// The number of matching lines in a block of whole lines. The steps are at most `list_work` of its bytes.
@@ -186,33 +182,9 @@ impl<'a> Matcher<'a> {
         let mut offset = 0;
         let mut matching_lines = 0u64;
         'lists: while offset < block.len() {
-            let listed = self.count_list(block, offset);
-            offset = listed.to;
-            matching_lines += listed.count as u64;
+            offset = self.list_lines(block, offset);
+            matching_lines += self.listed().len() as u64;
         }
         matching_lines
-    }
-
-    /// How many of the lines from an offset on match, at least of one line, and the offset up to which. They are listed in
-    /// the matcher's own list.
-    fn count_list(&mut self, block: &[u8], from: usize) -> ListedLines
-        requires within { from < length block.now }
-        requires whole { AreWholeLines (drop from block.now) }
-        ensures lines { AreLinesBetween block.now from result.to }
-        ensures moves { from < result.to }
-        ensures found { (has_match : List ℕ → Bool) → Decides has_match self.old.tree →
-            result.count ≡ count_by has_match (terminated_lines (slice_range block.now from result.to)) }
-        ensures bound { result.count ≤ result.to - from }
-        ensures same { self.new.tree ≡ self.old.tree }
-        ensures work { WorksWithin (list_work self.old.tree (result.to - from)) self.old self.new }
-    {
-        listing::list_lines(
-            &mut self.dfa,
-            &mut self.ways,
-            block,
-            from,
-            &mut self.ends,
-            &mut self.steps,
-        )
     }
 }

@@ -14,9 +14,9 @@ use std::ops::Range;
 
 /// How many ends of matching lines are listed, and the offset up to which.
 #[derive(Clone, Copy)]
-pub struct ListedLines {
-    pub count: usize,
-    pub to: usize,
+pub(crate) struct ListedLines {
+    pub(crate) count: usize,
+    pub(crate) to: usize,
 }
 
 /// A table with the means to fill it.

@@ -1,7 +1,8 @@
 // Skipping of lines that contain none of the required words.
-ghost use Rattle.std.specs.Prelude.{◌≤◌, ◌<◌, ◌+◌, ◌*◌, take, drop, length};
+ghost use Rattle.std.specs.Prelude.{◌≡◌, ◌≤◌, ◌<◌, ◌+◌, ◌*◌, take, drop, length, slice_index};
 ghost use Rattle.cs_match.specs.NoNewline.{HasNoNewline};
-ghost use Rattle.cs_match.specs.Skipping.{AreWholeLines};
+ghost use Rattle.cs_match.specs.Lines.{newline};
+ghost use Rattle.cs_match.specs.Skipping.{AreWholeLines, IsLineAfter};
 ghost use Rattle.cs_match.specs.Candidates.{IsCandidate};
 ghost use Rattle.cs_match.specs.Work.{searched_bytes};
 ghost use Rattle.cs_prefilter.specs.OffsetWork.{offset_work};
@@ -54,6 +55,21 @@ pub(crate) fn next_candidate(
         line: Some(line),
         has_word: stop.has_word,
         wasted: stop.wasted,
+    }
+}
+
+/// The line that ends at an offset, after whole lines from another offset on.
+pub fn line_to(block: &[u8], from: usize, end: usize) -> Line
+    requires low { from ≤ end }
+    requires within { end < length block.now }
+    requires newline { slice_index block.now end ≡ newline }
+    ensures line { IsLineAfter block.now from result.start result.end }
+    ensures end { result.end ≡ end }
+{
+    let len = whole_lines_len(&block[from..end]);
+    Line {
+        start: from + len,
+        end,
     }
 }
 

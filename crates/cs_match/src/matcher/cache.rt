@@ -45,6 +45,7 @@ impl<'a> Matcher<'a> {
             dfa: LazyDfa { program, states },
             ways: Ways::new(program, pacing),
             ends,
+            listed: 0,
             steps,
         }
     }
@@ -57,6 +58,7 @@ impl<'a> Matcher<'a> {
             dfa,
             ways,
             ends,
+            listed: _,
             steps,
         } = self;
         let LazyDfa { program: _, states } = dfa;

@@ -26,8 +26,8 @@ returns-clause-right c =
       classes = right.classes;
       cached = subst (AreStates (tree_in s) (count_in s)) (sym c.truncate.ensures) (emptied_states (tree_in s) (count_in s) s.states.cached right.cached);
       table = subst (λ (states : StateList). IsTable (tree_in s) s.states.classes states.items c.write_first.new.transitions.items) (sym c.truncate.ensures)
-          (first_table (tree_in s) s.states.classes (take 5 s.states.cached.items) c.write_first.new.transitions.items right.classes
-          (length-take-le 5 s.states.cached.items right.cached.first) c.write_first.ensures.rows);
+          (first_table (tree_in s) s.states.classes c.write_first.new.transitions.items right.classes c.write_first.ensures.rows
+          (take 5 s.states.cached.items) (length-take-le 5 s.states.cached.items right.cached.first));
       capacity = c.write_first.ensures.room;
       room = right.room;
       memory = right.memory;

@@ -2,7 +2,7 @@ use Rattle.std.proofs.Common.{◌≡◌, ◌∙◌, ap, sym, subst, length, fals
 use Rattle.cs_match.specs.declared.state.State.{State}
 use Rattle.cs_match.specs.Digits.{IsBlock}
 use Rattle.cs_match.specs.Glushkov.{cuts_of}
-use Rattle.cs_match.specs.LazyDfa.{found}
+use Rattle.cs_match.specs.LazyDfa.{accepting}
 use Rattle.cs_match.specs.Work.{words}
 use Rattle.cs_match.specs.States.{start, successor, accepts_before}
 use Rattle.cs_match.specs.ConsistentDfa.{LeadsIn, tree_in, count_in, state_in}
@@ -62,8 +62,8 @@ next_number-requires-clause-right c =
       memory = c.step_over.ensures.memory;
     }
 
-pub accepted-found-requires : goal.accepted-found-requires
-accepted-found-requires c =
+pub accepted-next-requires : goal.accepted-next-requires
+accepted-next-requires c =
     let s = c.args.self.now in
     record {
       expanded = c.requires.right.expanded;
@@ -78,7 +78,7 @@ accepted-found-requires c =
 pub put-requires-clause-leads : goal.put-requires-clause-leads
 put-requires-clause-leads c =
     let s = c.args.self.now in
-    found c.accepted-found.ensures (sym (sym c.if-step_over.true ∙ c.step_over.ensures.accepting
+    accepting c.accepted-next.ensures (sym (sym c.if-step_over.true ∙ c.step_over.ensures.accepting
     ∙ ap (λ (n : State). accepts_before (tree_in s) n c.args.byte) (c.load.ensures (start (tree_in s)))))
 
 pub start-start-requires : goal.start-start-requires

@@ -46,8 +46,8 @@ put-requires-clause-leads c =
     (3 * count_in old) refl refl c.requires.within c.requires.stays c.requires.scratch (λ e. omega (arith, e, some))
     (dead refl (c.is_lost.ensures.dead c.if-is_lost.true))
 
-pub find-found-requires : goal.find-found-requires
-find-found-requires c = c.requires.right.room ∙ sym c.requires.right.cached.sized
+pub find-lookup-requires : goal.find-lookup-requires
+find-lookup-requires c = c.requires.right.room ∙ sym c.requires.right.cached.sized
 
 pub add-requires-then-len-most-clause-block : goal.add-requires-then-len-most-clause-block
 add-requires-then-len-most-clause-block c =
@@ -67,12 +67,12 @@ put-requires-2-clause-leads c =
     let items = old.states.cached.items in
     let other = c.in-Some.other in
     let found = subst (λ o. IfSome o (λ k. (k < length items) × (get_or items k old.states.scratch ≡ old.states.scratch))) c.in-Some.is
-    c.find-found.ensures.found in
+    c.find-lookup.ensures.equal in
     let some = some_classes t old.states.classes c.requires.right.classes in
     leads_to t t (count_in old) items (state_in old c.args.slot) (state_in old c.args.slot) old.states.scratch c.args.byte
     (other * count_in old) refl refl c.requires.within c.requires.stays c.requires.scratch
-    (λ e. omega (arith, e, some, scaled 4 other (count_in old) c.if-other-ge-START.true))
-    (cached other refl (record { within = found.0; ordinary = inr c.if-other-ge-START.true })
+    (λ e. omega (arith, e, some, scaled 4 other (count_in old) c.if-other.true))
+    (cached other refl (record { within = found.0; ordinary = inr c.if-other.true })
     (get_or_default items other (start t) old.states.scratch found.0 ∙ found.1))
 
 pub returns-then-len-most-clause-leads : goal.returns-then-len-most-clause-leads

@@ -1,4 +1,4 @@
-use Rattle.std.proofs.Common.{◌-◌, ◌≡◌, [], length, refl, ap, sym, subst, ◌∙◌, arith}
+use Rattle.std.proofs.Common.{List, ℕ, ◌-◌, ◌≡◌, [], length, refl, ap, sym, subst, ◌∙◌, arith}
 use Rattle.std.specs.Prelude.{count_by}
 use Rattle.std.proofs.lemmas.List.{take_all}
 use Rattle.std.proofs.lemmas.List.Sums.{count_by-le-length}
@@ -8,7 +8,7 @@ use Rattle.cs_match.specs.Work.{list_work, listed_byte_work}
 use Rattle.cs_match.proofs.ChunkLemmas.{AreListed-none}
 use Rattle.cs_match.proofs.CountingLemmas.{count_between, count_none, count_on}
 use Rattle.cs_match.proofs.DecidabilityLemmas.{matching_is_decidable}
-use Rattle.cs_match.proofs.ListingLemmas.{lines_append}
+use Rattle.cs_match.proofs.ListingLemmas.{lines_append, listed_count, listed_few}
 use Rattle.cs_match.proofs.SearchWorkLemmas.{joined}
 use Rattle.cs_match.proofs.WholeLineLemmas.{whole_from}
 use Rattle.cs_match.proofs.matcher.Matcher.count.Goals as goal
@@ -24,24 +24,30 @@ lists-init c =
       work = (omega arith, omega arith);
     }
 
-pub count_list-listed-requires-clause-whole : goal.count_list-listed-requires-clause-whole
-count_list-listed-requires-clause-whole c = whole_from c.args.block.now 0 c.lists.offset (omega arith) c.requires.whole
+pub list_lines-offset-requires-clause-whole : goal.list_lines-offset-requires-clause-whole
+list_lines-offset-requires-clause-whole c = whole_from c.args.block.now 0 c.lists.offset (omega arith) c.requires.whole
 
 pub lists-preserved : goal.lists-preserved
 lists-preserved c =
     let block = c.args.block.now in
     let i = c.lists.invariant in
-    let e = c.count_list-listed.ensures in
+    let e = c.list_lines-offset.ensures in
     let offset = c.lists.offset in
-    let to = c.count_list-listed.result.to in
+    let to = c.list_lines-offset.result in
     let t = c.args.self.now.tree in
+    let decided = matching_is_decidable t in
+    let same : length c.listed.result.now ≡ length c.list_lines-offset.new.self.ends = ap (λ (xs : List ℕ). length xs) c.listed.ensures in
+    let few = listed_few decided.0 block offset to c.list_lines-offset.new.self.ends e.lines
+    (e.listed decided.0 (subst (Decides decided.0) (sym i.same) decided.1)) in
     record {
       lines = lines_append block 0 offset to i.lines e.lines;
-      bound = omega (arith, i.bound, e.bound, e.moves);
+      bound = omega (arith, i.bound, same, few, e.moves);
       count = λ has_match decides. omega (
         arith,
         i.count has_match decides,
-        e.found has_match (subst (Decides has_match) (sym i.same) decides),
+        same,
+        listed_count has_match block offset to c.list_lines-offset.new.self.ends e.lines
+            (e.listed has_match (subst (Decides has_match) (sym i.same) decides)),
         count_on has_match block offset to (omega (arith, e.moves)) i.lines.whole,
       );
       same = e.same ∙ i.same;

@@ -1,4 +1,4 @@
-use Rattle.std.proofs.Common.{◌↔◌, length, sym, subst}
+use Rattle.std.proofs.Common.{◌↔◌, length, take, sym, subst}
 use Rattle.std.specs.Prelude.{IsTrue, IfSome}
 use Rattle.cs_syntax.specs.Matching.{Tree, HasMatch}
 use Rattle.cs_prefilter.specs.WordAt.{IsPrefilterOf}
@@ -13,6 +13,7 @@ invariant_of-self c = (
   subst (λ (t : Tree). IfSome c.self.inside.ways.prefilter (λ prefilter. IsPrefilterOf t prefilter.now)) (sym c.is_match.ensures.same)
       c.self.invariant.1,
   c.self.invariant.2,
+  c.self.invariant.3,
 )
 
 pub returns-clause-found : goal.returns-clause-found
@@ -22,4 +23,4 @@ returns-clause-found c =
 pub returns-clause-work : goal.returns-clause-work
 returns-clause-work c =
     subst (λ (a : Automaton). WorksWithin (line_work a.tree (length c.args.line.now)) a
-    (automaton_of c.is_match.new.self c.is_match.new.steps)) c.self.view_is c.is_match.ensures.work
+    (automaton_of c.is_match.new.self (take c.self.inside.listed c.self.inside.ends.items) c.is_match.new.steps)) c.self.view_is c.is_match.ensures.work

@@ -10,4 +10,5 @@ invariant_of-result c =
       made.1,
       subst (λ (t : Tree). IfSome c.new-2.result.prefilter (λ prefilter. IsPrefilterOf t prefilter.now)) (sym made.0) c.new-2.ensures,
       search rules,
+      search rules,
     )

@@ -1,6 +1,8 @@
 use Rattle.std.proofs.Common.{◌≡◌, ℕ, Bool, true, ◌-◌, ◌≤◌, List, [], length, take, drop, sym, ap, subst, ◌∙◌, arith}
 use Rattle.std.specs.Prelude.{slice_index}
 use Rattle.std.proofs.lemmas.List.{take_rest}
+use Rattle.cs_match.specs.Automaton.{Automaton}
+use Rattle.cs_match.specs.Deciding.{Decides}
 use Rattle.cs_match.specs.LastPart.{last_part}
 use Rattle.cs_match.specs.Lines.{terminated_lines}
 use Rattle.cs_match.specs.MatchingEnds.{matching_ends}
@@ -12,9 +14,9 @@ use Rattle.cs_match.proofs.matcher.Matcher.next_match.Goals as goal
 pub returns-then-listed-eq0-clause-none : goal.returns-then-listed-eq0-clause-none
 returns-then-listed-eq0-clause-none c = λ has_match decides.
     let block = c.args.block.now in
-    let e = c.list_lines-listed.ensures in
-    let all : c.list_lines-listed.result.to ≡ length block = e.all c.if-listed-eq0.true in
-    let none = sym (e.listed has_match decides) ∙ ap (λ n. take n c.list_lines-listed.new.ends) c.if-listed-eq0.true in
+    let e = c.list_lines-listed.ensures.lists.listed in
+    let all : c.list_lines-listed.result.to ≡ length block = c.list_lines-listed.ensures.all c.if-listed-eq0.true in
+    let none = sym (e.listed has_match (subst (λ (a : Automaton). Decides has_match a.tree) (sym c.self.view_is) decides)) ∙ ap (λ n. take n c.list_lines-listed.new.ends) c.if-listed-eq0.true in
     subst (λ text. NoneMatch has_match (terminated_lines text))
     (ap (λ n. take (n - c.args.from) (drop c.args.from block)) all ∙ take_rest block c.args.from)
     (none_listed has_match block c.args.from c.list_lines-listed.result.to e.lines.low e.lines.high none)
@@ -30,38 +32,38 @@ first_of has_match block from to count ends low high len room some listed =
 
 pub line_to-line-requires-clause-low : goal.line_to-line-requires-clause-low
 line_to-line-requires-clause-low c =
-    let e = c.list_lines-listed.ensures in
+    let e = c.list_lines-listed.ensures.lists.listed in
     let decided = matching_is_decidable c.args.self.now.tree in
     (first_of decided.0 c.args.block.now c.args.from c.list_lines-listed.result.to c.list_lines-listed.result.count c.list_lines-listed.new.ends
-    e.lines.low e.lines.high c.list_lines-listed.auto.ends e.room c.if-listed-eq0.false (e.listed decided.0 decided.1)).low
+    e.lines.low e.lines.high c.list_lines-listed.auto.ends e.room c.if-listed-eq0.false (e.listed decided.0 (subst (λ (a : Automaton). Decides decided.0 a.tree) (sym c.self.view_is) decided.1))).low
 
 pub line_to-line-requires-clause-newline : goal.line_to-line-requires-clause-newline
 line_to-line-requires-clause-newline c =
-    let e = c.list_lines-listed.ensures in
+    let e = c.list_lines-listed.ensures.lists.listed in
     let decided = matching_is_decidable c.args.self.now.tree in
     (first_of decided.0 c.args.block.now c.args.from c.list_lines-listed.result.to c.list_lines-listed.result.count c.list_lines-listed.new.ends
-    e.lines.low e.lines.high c.list_lines-listed.auto.ends e.room c.if-listed-eq0.false (e.listed decided.0 decided.1)).newline
+    e.lines.low e.lines.high c.list_lines-listed.auto.ends e.room c.if-listed-eq0.false (e.listed decided.0 (subst (λ (a : Automaton). Decides decided.0 a.tree) (sym c.self.view_is) decided.1))).newline
 
 pub returns-clause-found : goal.returns-clause-found
 returns-clause-found c =
-    let e = c.list_lines-listed.ensures in
+    let e = c.list_lines-listed.ensures.lists.listed in
     let block = c.args.block.now in
     let l = c.line_to-line.ensures in
     let start = c.line_to-line.result.start in
     let decided = matching_is_decidable c.args.self.now.tree in
     let first = first_of decided.0 block c.args.from c.list_lines-listed.result.to c.list_lines-listed.result.count c.list_lines-listed.new.ends
-    e.lines.low e.lines.high c.list_lines-listed.auto.ends e.room c.if-listed-eq0.false (e.listed decided.0 decided.1) in
+    e.lines.low e.lines.high c.list_lines-listed.auto.ends e.room c.if-listed-eq0.false (e.listed decided.0 (subst (λ (a : Automaton). Decides decided.0 a.tree) (sym c.self.view_is) decided.1)) in
     let matches = subst (λ end. decided.0 (last_part (take (end - c.args.from) (drop c.args.from block))) ≡ true) (sym l.end) first.matches in
     let line = take (c.line_to-line.result.end - start) (drop start block) in
     (decided.1 line).0 (subst (λ part. decided.0 part ≡ true) (last_is_line block c.args.from start c.line_to-line.result.end l.line) matches)
 
 pub returns-clause-none : goal.returns-clause-none
 returns-clause-none c = λ has_match decides.
-    let e = c.list_lines-listed.ensures in
+    let e = c.list_lines-listed.ensures.lists.listed in
     let block = c.args.block.now in
     let l = c.line_to-line.ensures in
     let first = first_of has_match block c.args.from c.list_lines-listed.result.to c.list_lines-listed.result.count c.list_lines-listed.new.ends
-    e.lines.low e.lines.high c.list_lines-listed.auto.ends e.room c.if-listed-eq0.false (e.listed has_match decides) in
+    e.lines.low e.lines.high c.list_lines-listed.auto.ends e.room c.if-listed-eq0.false (e.listed has_match (subst (λ (a : Automaton). Decides has_match a.tree) (sym c.self.view_is) decides)) in
     let none = none_listed has_match block c.args.from (slice_index c.list_lines-listed.new.ends 0) first.low
     (omega (arith, first.high, e.lines.high)) first.none in
     subst (λ lines. NoneMatch has_match lines) (lines_before block c.args.from c.line_to-line.result.start c.line_to-line.result.end l.line)

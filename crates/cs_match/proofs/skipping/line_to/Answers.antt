@@ -1,5 +1,5 @@
 use Rattle.cs_match.proofs.ListingLemmas.{line_at}
-use Rattle.cs_match.proofs.matcher.Matcher.line_to.Goals as goal
+use Rattle.cs_match.proofs.skipping.line_to.Goals as goal
 
 pub returns-clause-line : goal.returns-clause-line
 returns-clause-line c =

@@ -5,12 +5,12 @@ use Rattle.cs_index.specs.PostingLists.{entries_of}
 use Rattle.cs_index.specs.declared.writing.builder.Builder.TheInside.{Inside}
 use Rattle.cs_index.specs.Encoding.{PostingList}
 use Rattle.cs_index.specs.Gathering.{lists_below}
-use Rattle.cs_index.specs.Buckets.{ids_in_buckets, postings_of, AreBuckets}
+use Rattle.cs_index.specs.Buckets.{ids_in_buckets, bucket_postings, AreBuckets}
 use Rattle.cs_index.specs.Built.{Built, IsBuilt}
 
 -- the posting lists of the buckets
 abbrev pub bucket_lists : Inside → List PostingList
-bucket_lists b = lists_below trigram_count (ids_in_buckets (postings_of b.buckets.items))
+bucket_lists b = lists_below trigram_count (ids_in_buckets (bucket_postings b.buckets.items))
 
 abbrev pub built_of : Inside → Built
 built_of b = record { paths = b.paths; entries = entries_of 0 b.names (bucket_lists b) }

@@ -16,9 +16,9 @@ pub record IsStream (stream : List ℕ) (count next : ℕ) : Type 0 where
   pub follows : next ≡ next_after 0 (ids_in stream count)
 
 -- the ids that deltas encode; `next` is one more than the id before
-abbrev pub ids_from : ℕ → List ℕ → List ℕ
-ids_from next [] = []
-ids_from next (delta ∷ deltas) = (next + delta - 1) ∷ ids_from (next + delta) deltas
+abbrev pub ids_by_deltas : ℕ → List ℕ → List ℕ
+ids_by_deltas next [] = []
+ids_by_deltas next (delta ∷ deltas) = (next + delta - 1) ∷ ids_by_deltas (next + delta) deltas
 
 -- The row with a flag for each of the ids, where the id 0 has the flag `at`.
 pub record IsMarked (at : ℕ) (ids : List ℕ) (row marked : List Bool) : Type 0 where

@@ -21,9 +21,9 @@ abbrev pub list_in : List ℕ → ℕ → ListEntry → Ids
 list_in bytes name_count e = read_list bytes name_count (record { trigram = e.trigram; count = e.count; offset = 0 })
 
 -- the ids of the list of an entry in the buffer; without an entry the list is damaged
-abbrev pub list_of : BufferState → TableParts → Option ListEntry → Ids
-list_of buffer tables None = damage
-list_of buffer tables (Some e) = list_in buffer.bytes (length tables.names) e
+abbrev pub buffered_list : BufferState → TableParts → Option ListEntry → Ids
+buffered_list buffer tables None = damage
+buffered_list buffer tables (Some e) = list_in buffer.bytes (length tables.names) e
 
 -- the buffer has the whole list of the entry at this position, if there is one
 abbrev pub HasList : BufferState → Parts → ℕ → Type 0

@@ -52,5 +52,5 @@ LacksId bits None = ⊥
 LacksId bits (Some at) = slice_index_or bits at false ≡ false
 
 -- whether each list is whole
-abbrev pub are_whole : List ℕ → List ListState → Bool
-are_whole bytes lists = list_all (λ (list : ListState). (ids_left bytes list).whole) lists
+abbrev pub lists_are_whole : List ℕ → List ListState → Bool
+lists_are_whole bytes lists = list_all (λ (list : ListState). (ids_left bytes list).whole) lists

@@ -3,7 +3,7 @@ ghost use Rattle.std.specs.Prelude.{◌≡◌, ◌<◌, ◌≤◌, ◌+◌, ◌+
 ghost use Rattle.std.specs.List.{AllByRecursion};
 ghost use Rattle.cs_index.specs.Encoding.{varint, stream_of};
 ghost use Rattle.cs_index.specs.AscendingIds.{max_ids, next_after, AscendWithin};
-ghost use Rattle.cs_index.specs.IdStream.{ids_from, ids_in, IsMarked};
+ghost use Rattle.cs_index.specs.IdStream.{ids_by_deltas, ids_in, IsMarked};
 ghost use Rattle.cs_index.specs.Prefixes.{IsPrefix};
 
 use crate::short_deltas::sixteen;
@@ -238,7 +238,7 @@ fn marked_part(bytes: &[u8], limit: u32, room: u32, row: &mut [bool], at: usize)
 fn mark_deltas(deltas: &[u8], row: &mut [bool], at: usize)
     requires short { AllByRecursion (λ delta. (0 < delta) × (delta < 128)) deltas.now }
     requires within { at + sum deltas.now ≤ length row.old }
-    ensures { IsMarked at (ids_from 0 deltas.now) row.old row.new }
+    ensures { IsMarked at (ids_by_deltas 0 deltas.now) row.old row.new }
 {
     let mut next = at;
     'deltas: for delta in deltas {

@@ -13,17 +13,17 @@ use Rattle.std.specs.List.{AllByRecursion, list_all, list_any}
 use Rattle.cs_trigram.specs.Trigram.{has, Ascends}
 use Rattle.cs_trigram.specs.Query.{matches_set}
 use Rattle.cs_trigram.specs.declared.queries.Query.{Query}
-use Rattle.cs_index.specs.declared.reading.form.Node.{Node}
+use Rattle.cs_index.specs.declared.reading.form.FormNode.{FormNode}
 use Rattle.cs_index.specs.Form.{members_match, node_matches, joined, queries_match, matched_from, matched, number_matches, numbers, Exist, IsRequired, IsWithin, IsForm, Grows, Gathers}
 
 -- ---- nodes one after the other
 
-pub matched-append : (known : List Bool) (ns : List Node) (n : Node) → matched_from known (ns ++ n ∷ [])
+pub matched-append : (known : List Bool) (ns : List FormNode) (n : FormNode) → matched_from known (ns ++ n ∷ [])
     ≡ matched_from known ns ++ node_matches (matched_from known ns) n ∷ []
 matched-append known [] n = refl
 matched-append known (m ∷ ns) n = matched-append (known ++ node_matches known m ∷ []) ns n
 
-pub length-matched : (known : List Bool) (ns : List Node) → length (matched_from known ns) ≡ length known + length ns
+pub length-matched : (known : List Bool) (ns : List FormNode) → length (matched_from known ns) ≡ length known + length ns
 length-matched known [] = omega arith
 length-matched known (n ∷ ns) = let tail = length-matched (known ++ node_matches known n ∷ []) ns in let one =
     length-append known (node_matches known n ∷ []) in omega (arith, tail, one)
@@ -46,13 +46,13 @@ pub members_alike : (is_and : Bool) (one other : List Bool) (ms : List ℕ) →
 members_alike true one other ms h = all_alike (λ m. get_or one m false) (λ m. get_or other m false) ms h
 members_alike false one other ms h = any_alike (λ m. get_or one m false) (λ m. get_or other m false) ms h
 
-pub exist_more : (lists : ℕ) (earlier later : List Node) (ms : List ℕ) → length earlier ≤ length later →
+pub exist_more : (lists : ℕ) (earlier later : List FormNode) (ms : List ℕ) → length earlier ≤ length later →
     Exist lists earlier ms → Exist lists later ms
 exist_more lists earlier later ms more h = all_weaker (λ m. m < numbers lists earlier) (λ m. m < numbers lists later)
     (λ m below. omega (arith, below, more)) ms h
 
 -- members match as before in a form that grew
-pub members_grown : (lists : ℕ) (earlier later : List Node) (g : Grows lists earlier later) (bits : List Bool) →
+pub members_grown : (lists : ℕ) (earlier later : List FormNode) (g : Grows lists earlier later) (bits : List Bool) →
     length bits ≡ lists → (is_and : Bool) (ms : List ℕ) → Exist lists earlier ms →
     members_match is_and (matched bits later) ms ≡ members_match is_and (matched bits earlier) ms
 members_grown lists earlier later g bits len is_and ms h = members_alike is_and (matched bits later)
@@ -60,22 +60,22 @@ members_grown lists earlier later g bits len is_and ms h = members_alike is_and 
     (λ m. get_or (matched bits later) m false ≡ get_or (matched bits earlier) m false) (g.same bits len) ms h)
 
 -- the members of a node exist
-node_exists : (lists : ℕ) (ns ms : List Node) (k : ℕ) (d : Node) →
-    AllByRecursion (λ (m : Node). Exist lists ns m.members.items) ms → k < length ms →
+node_exists : (lists : ℕ) (ns ms : List FormNode) (k : ℕ) (d : FormNode) →
+    AllByRecursion (λ (m : FormNode). Exist lists ns m.members.items) ms → k < length ms →
     Exist lists ns (get_or ms k d).members.items
-node_exists lists ns ms k d h below = list_each (λ (m : Node). Exist lists ns m.members.items) ms k d below h
+node_exists lists ns ms k d h below = list_each (λ (m : FormNode). Exist lists ns m.members.items) ms k d below h
 
 -- ---- a form grows
 
-pub grows_on : (lists : ℕ) (a b c : List Node) → Grows lists a b → Grows lists b c → Grows lists a c
+pub grows_on : (lists : ℕ) (a b c : List FormNode) → Grows lists a b → Grows lists b c → Grows lists a c
 grows_on lists a b c g h = record {
   form = h.form;
   more = omega (arith, g.more, h.more);
   same = λ bits len n below. h.same bits len n (omega (arith, below, g.more)) ∙ g.same bits len n below;
 }
 
-module _ (lists : ℕ) (ns : List Node) (form : IsForm lists ns) (n : Node) (there : Exist lists ns n.members.items) where
-  abbrev later : List Node
+module _ (lists : ℕ) (ns : List FormNode) (form : IsForm lists ns) (n : FormNode) (there : Exist lists ns n.members.items) where
+  abbrev later : List FormNode
   later = ns ++ n ∷ []
 
   long : (bits : List Bool) → length bits ≡ lists → length (matched bits ns) ≡ numbers lists ns
@@ -87,7 +87,7 @@ module _ (lists : ℕ) (ns : List Node) (form : IsForm lists ns) (n : Node) (the
       ap (λ known. get_or known k false) (matched-append (false ∷ true ∷ bits) ns n)
       ∙ get_or-append (matched bits ns) (node_matches (matched bits ns) n ∷ []) false k (omega (arith, below, long bits len))
 
-  alike : (bits : List Bool) → length bits ≡ lists → (m : Node) → Exist lists ns m.members.items →
+  alike : (bits : List Bool) → length bits ≡ lists → (m : FormNode) → Exist lists ns m.members.items →
       node_matches (matched bits later) m ≡ node_matches (matched bits ns) m
   alike bits len m h = members_alike m.is_and (matched bits later) (matched bits ns) m.members.items
       (all_weaker (λ k. k < numbers lists ns) (λ k. get_or (matched bits later) k false ≡ get_or (matched bits ns) k
@@ -102,8 +102,8 @@ module _ (lists : ℕ) (ns : List Node) (form : IsForm lists ns) (n : Node) (the
       ∙ get_or-append-add (matched bits ns) (node_matches (matched bits ns) n ∷ []) 0 false
       ∙ sym (alike bits len n there)
 
-  more_exist : (ms : List Node) → AllByRecursion (λ (m : Node). Exist lists ns m.members.items) ms →
-      AllByRecursion (λ (m : Node). Exist lists later m.members.items) (ms ++ n ∷ [])
+  more_exist : (ms : List FormNode) → AllByRecursion (λ (m : FormNode). Exist lists ns m.members.items) ms →
+      AllByRecursion (λ (m : FormNode). Exist lists later m.members.items) (ms ++ n ∷ [])
   more_exist [] h = (exist_more lists ns later n.members.items (let l = length-append ns (n ∷ []) in omega (arith, l)) there, tt)
   more_exist (m ∷ ms) h = (
     exist_more lists ns later m.members.items (let l = length-append ns (n ∷ []) in
@@ -127,7 +127,7 @@ module _ (lists : ℕ) (ns : List Node) (form : IsForm lists ns) (n : Node) (the
       split k below = let l = length-append ns (n ∷ []) in
           elim (cases_lt k (length ns)) [ inl less ↦ inl less | inr more ↦ inr (omega (arith, below, l, more)) ]
 
-      each : (bits : List Bool) → length bits ≡ lists → (k : ℕ) (d : Node) → k < length later →
+      each : (bits : List Bool) → length bits ≡ lists → (k : ℕ) (d : FormNode) → k < length later →
           (k < length ns) ⊎ (k ≡ length ns) → number_matches bits later (2 + lists + k)
           ≡ node_matches (matched bits later) (get_or later k d)
       each bits len k d below (inl less) =
@@ -166,7 +166,7 @@ queries-push false set qs q = list_any-append (λ k. matches_set k set) qs (q �
 
 module _ (trigrams : List ℕ) where
   -- a query more
-  pub gathers_step : (a b c : List Node) (n m m' : Node) (taken : List Query) (q : Query) →
+  pub gathers_step : (a b c : List FormNode) (n m m' : FormNode) (taken : List Query) (q : Query) →
       Exist (length trigrams) a n.members.items → Gathers trigrams a b n m (λ set. queries_match n.is_and set taken) →
       Gathers trigrams b c m m' (matches_set q) →
       Gathers trigrams a c n m' (λ set. queries_match n.is_and set (taken ++ q ∷ []))
@@ -190,7 +190,7 @@ module _ (trigrams : List ℕ) where
   }
 
   -- a number more
-  pub gathers_number : (a b : List Node) (n m : Node) (q : Query) (number : ℕ) → Grows (length trigrams) a b →
+  pub gathers_number : (a b : List FormNode) (n m : FormNode) (q : Query) (number : ℕ) → Grows (length trigrams) a b →
       ((set : ℕ → Bool) → IsWithin trigrams set → number_matches (map set trigrams) b number ≡ matches_set q set) →
       m.is_and ≡ n.is_and → Exist (length trigrams) b m.members.items
       → ((bits : List Bool) → length bits ≡ length trigrams → node_matches (matched bits b) m
@@ -205,7 +205,7 @@ module _ (trigrams : List ℕ) where
   }
 
   -- the gathered members match as the queries do
-  pub gathers_all : (a b : List Node) (n m : Node) (wanted : (ℕ → Bool) → Bool) → Gathers trigrams a b n m wanted →
+  pub gathers_all : (a b : List FormNode) (n m : FormNode) (wanted : (ℕ → Bool) → Bool) → Gathers trigrams a b n m wanted →
       n.members.items ≡ [] → (set : ℕ → Bool) → IsWithin trigrams set → node_matches (matched (map set trigrams) b) m
       ≡ joined n.is_and n.is_and (wanted set)
   gathers_all a b n m wanted g none set within = g.matches set within ∙ ap (λ v. joined n.is_and v (wanted set))
@@ -279,17 +279,17 @@ exist_same n xs ys same all = members_all (λ m. m < n) ys (λ g there. has_belo
 
 -- ---- numbers that are no nodes
 
-prefix_kept : (known : List Bool) (ns : List Node) (k : ℕ) → k < length known → get_or (matched_from known ns) k false
+prefix_kept : (known : List Bool) (ns : List FormNode) (k : ℕ) → k < length known → get_or (matched_from known ns) k false
     ≡ get_or known k false
 prefix_kept known [] k h = refl
 prefix_kept known (n ∷ ns) k h =
     let l = length-append known (node_matches known n ∷ []) in
     prefix_kept (known ++ node_matches known n ∷ []) ns k (omega (arith, l, h)) ∙ get_or-append known (node_matches known n ∷ []) false k h
 
-pub nothing_matches : (bits : List Bool) (ns : List Node) → number_matches bits ns 0 ≡ false
+pub nothing_matches : (bits : List Bool) (ns : List FormNode) → number_matches bits ns 0 ≡ false
 nothing_matches bits ns = prefix_kept (false ∷ true ∷ bits) ns 0 (omega arith)
 
-pub everything_matches : (bits : List Bool) (ns : List Node) → number_matches bits ns 1 ≡ true
+pub everything_matches : (bits : List Bool) (ns : List FormNode) → number_matches bits ns 1 ≡ true
 everything_matches bits ns = prefix_kept (false ∷ true ∷ bits) ns 1 (omega arith)
 
 at_map : (set : ℕ → Bool) (xs : List ℕ) (k : ℕ) → k < length xs → get_or (map set xs) k false ≡ set (get_or xs k 0)
@@ -297,7 +297,7 @@ at_map set [] k h = absurd (omega (arith, h))
 at_map set (x ∷ xs) zero h = refl
 at_map set (x ∷ xs) (suc k) h = at_map set xs k (omega (arith, h))
 
-pub list_matches : (set : ℕ → Bool) (trigrams : List ℕ) (ns : List Node) (k : ℕ) → k < length trigrams →
+pub list_matches : (set : ℕ → Bool) (trigrams : List ℕ) (ns : List FormNode) (k : ℕ) → k < length trigrams →
     number_matches (map set trigrams) ns (2 + k) ≡ set (get_or trigrams k 0)
 list_matches set trigrams ns k h =
     let l = length_map set trigrams in
@@ -305,12 +305,12 @@ list_matches set trigrams ns k h =
     prefix_kept (false ∷ true ∷ map set trigrams) ns (2 + k) (omega (arith, l, h))
     ∙ ap (λ n. get_or (false ∷ true ∷ map set trigrams) n false) two ∙ at_map set trigrams k h
 
-pub list_bit : (bits : List Bool) (ns : List Node) (k : ℕ) → k < length bits → number_matches bits ns (2 + k) ≡ get_or bits k false
+pub list_bit : (bits : List Bool) (ns : List FormNode) (k : ℕ) → k < length bits → number_matches bits ns (2 + k) ≡ get_or bits k false
 list_bit bits ns k h = let two : 2 + k ≡ suc (suc k) = omega arith in prefix_kept (false ∷ true ∷ bits) ns (2 + k)
     (omega (arith, h)) ∙ ap (λ n. get_or (false ∷ true ∷ bits) n false) two
 
 -- a list that is a member of what has to match
-pub required_member : (lists : ℕ) (ns : List Node) (n at : ℕ) (members : List ℕ) →
+pub required_member : (lists : ℕ) (ns : List FormNode) (n at : ℕ) (members : List ℕ) →
     ((bits : List Bool) → length bits ≡ lists → number_matches bits ns n ≡ members_match true (matched bits ns) members)
     → (at < lists) × (has members (2 + at) ≡ true) → IsRequired lists ns n at
 required_member lists ns n at members is there = (
@@ -320,7 +320,7 @@ required_member lists ns n at members is there = (
       ∙ all_at (λ m. get_or (matched bits ns) m false) members (2 + at) (sym (is bits long) ∙ holds) there.1,
 )
 
-pub one_member : (bits : List Bool) (ns : List Node) (n : ℕ) → number_matches bits ns n ≡ members_match true (matched bits ns) (n ∷ [])
+pub one_member : (bits : List Bool) (ns : List FormNode) (n : ℕ) → number_matches bits ns n ≡ members_match true (matched bits ns) (n ∷ [])
 one_member bits ns n = sym (joined-unit true (number_matches bits ns n))
 
 pub some_map : (o : Option ℕ) (P Q : ℕ → Type 0) → ((n : ℕ) → P n → Q n) → IfSome o P → IfSome o Q
@@ -362,7 +362,7 @@ not_between (x ∷ xs) g (suc i) low high =
     (λ k h b. low (suc k) (omega (arith, h)) (omega (arith, b)))
     (λ k h b. high (suc k) (omega (arith, h)) (omega (arith, b))) j)
 
-pub gathers_wanted : (trigrams : List ℕ) (a b : List Node) (n m : Node) (wanted wanted' : (ℕ → Bool) → Bool) →
+pub gathers_wanted : (trigrams : List ℕ) (a b : List FormNode) (n m : FormNode) (wanted wanted' : (ℕ → Bool) → Bool) →
     ((set : ℕ → Bool) → wanted set ≡ wanted' set) → Gathers trigrams a b n m wanted → Gathers trigrams a b n m wanted'
 gathers_wanted trigrams a b n m wanted wanted' same g = record {
   grows = g.grows;

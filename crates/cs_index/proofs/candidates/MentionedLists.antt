@@ -17,9 +17,9 @@ use Rattle.cs_index.specs.OpenedParts.{Parts, ids_read, lists_in, whole_ids}
 use Rattle.cs_index.specs.Candidates.{candidates_of, name_matches}
 use Rattle.cs_index.specs.Answerable.{mentions, is_answerable}
 use Rattle.cs_index.specs.Postings.{has_entry, read_for}
-use Rattle.cs_index.specs.declared.reading.form.Node.{Node}
+use Rattle.cs_index.specs.declared.reading.form.FormNode.{FormNode}
 use Rattle.cs_index.specs.Form.{number_matches, IsNumberOf}
-use Rattle.cs_index.specs.Rows.{are_whole, have_id, IsLeft}
+use Rattle.cs_index.specs.Rows.{lists_are_whole, have_id, IsLeft}
 use Rattle.cs_index.specs.StoredLists.{ListState, Holds, ids_left}
 use Rattle.cs_index.proofs.candidates.FormValues.{all_at, all_from}
 use Rattle.cs_index.proofs.candidates.QueryMembers.{answerable_as, answerable-Tri, candidates_are, list_rises, read_unlisted, is_mentioned-And, is_mentioned-Or, is_mentioned-Tri, matches_set-And, matches_set-Or, set_is}
@@ -160,7 +160,7 @@ module _ (parts : Parts) (up : rises parts.entries ≡ true) (query : Query) (tr
   lists_answer' = whole_all trigrams ∙ lists_answer
 
   -- the form matches an id as the query does
-  form_matches : (nodes : List Node) (root : ℕ) → IsNumberOf trigrams nodes query root →
+  form_matches : (nodes : List FormNode) (root : ℕ) → IsNumberOf trigrams nodes query root →
       ids_whole (map (read_for parts) trigrams) ≡ true → (id : ℕ) →
       number_matches (ids_have (map (read_for parts) trigrams) id) nodes root ≡ name_matches parts query id
   form_matches nodes root number whole id =
@@ -181,7 +181,7 @@ module _ (parts : Parts) (up : rises parts.entries ≡ true) (query : Query) (tr
       entry_decides true b h = refl
       entry_decides false b h = sym (h refl)
 
-  pub candidates_met : (nodes : List Node) (root : ℕ) (count : ℕ) (ids : List ℕ) → count ≡ length parts.names →
+  pub candidates_met : (nodes : List FormNode) (root : ℕ) (count : ℕ) (ids : List ℕ) → count ≡ length parts.names →
       IsNumberOf trigrams nodes query root → ids_whole (map (read_for parts) trigrams) ≡ true →
       ids ≡ filter (λ id. number_matches (ids_have (map (read_for parts) trigrams) id) nodes root)
       (range_with_len 0 count) → ids ≡ candidates_of parts query
@@ -204,7 +204,7 @@ module _ (bytes : List ℕ) where
   have_left [] id = refl
   have_left (l ∷ ls) id = ap (λ t. has (ids_left bytes l).ids id ∷ t) (have_left ls id)
 
-  whole_left : (lists : List ListState) → are_whole bytes lists ≡ ids_whole (map (ids_left bytes) lists)
+  whole_left : (lists : List ListState) → lists_are_whole bytes lists ≡ ids_whole (map (ids_left bytes) lists)
   whole_left [] = refl
   whole_left (l ∷ ls) = ap (λ b. (ids_left bytes l).whole && b) (whole_left ls)
 
@@ -222,11 +222,11 @@ module _ (bytes : List ℕ) where
         both_left lists held (subst (AllByRecursion (λ (list : Ids). AscendWithin max_ids 0 list.ids)) (sym is)
         (lists_ascend parts up query trigrams are few trigrams))
 
-    pub whole_answers : are_whole bytes lists ≡ is_answerable parts query
+    pub whole_answers : lists_are_whole bytes lists ≡ is_answerable parts query
     whole_answers = whole_left lists ∙ ap ids_whole is ∙ lists_answer' parts up query trigrams are
 
-    pub ids_are : (nodes : List Node) (root count : ℕ) (ids : List ℕ) → count ≡ length parts.names →
-        IsNumberOf trigrams nodes query root → are_whole bytes lists ≡ true
+    pub ids_are : (nodes : List FormNode) (root count : ℕ) (ids : List ℕ) → count ≡ length parts.names →
+        IsNumberOf trigrams nodes query root → lists_are_whole bytes lists ≡ true
         → ids ≡ filter (λ id. number_matches (have_id bytes lists id) nodes root) (range_with_len 0 count) → ids ≡ candidates_of parts query
     ids_are nodes root count ids names number whole found =
         candidates_met parts up query trigrams are nodes root count ids names number

@@ -15,8 +15,8 @@ use Rattle.cs_index.specs.AscendingIds.{AscendWithin, BeginsFrom, ids_onward, ma
 use Rattle.cs_index.specs.PostingLists.{Ids}
 use Rattle.cs_index.specs.IdStream.{IsMarked}
 use Rattle.cs_index.specs.Form.{IsRequired, number_matches}
-use Rattle.cs_index.specs.declared.reading.form.Node.{Node}
-use Rattle.cs_index.specs.Rows.{are_whole, column, have_id, HaveWidth, IsLeft, IsReadOn, IsReadTo, LacksId, RowSoFar}
+use Rattle.cs_index.specs.declared.reading.form.FormNode.{FormNode}
+use Rattle.cs_index.specs.Rows.{lists_are_whole, column, have_id, HaveWidth, IsLeft, IsReadOn, IsReadTo, LacksId, RowSoFar}
 use Rattle.cs_index.specs.StoredLists.{ListState, Holds, before, ids_left}
 use Rattle.cs_index.proofs.postings.IteratorSteps.{mark_step}
 
@@ -211,18 +211,18 @@ module _ (bytes : List ℕ) where
   have_alike end id (l ∷ ls) [] h r = absurd r
 
   pub whole_alike : (end : ℕ) (lists rests : List ListState) → AllZip (IsReadOn bytes end) lists rests →
-      are_whole bytes rests ≡ are_whole bytes lists
+      lists_are_whole bytes rests ≡ lists_are_whole bytes lists
   whole_alike end [] [] r = refl
   whole_alike end (l ∷ ls) (m ∷ ms) r = λ i. r.0.1.whole i && whole_alike end ls ms r.1 i
   whole_alike end [] (m ∷ ms) r = absurd r
   whole_alike end (l ∷ ls) [] r = absurd r
 
   -- all lists are whole if each of them is
-  pub whole-append : (lists : List ListState) (list : ListState) → are_whole bytes (lists ++ list ∷ [])
-      ≡ (are_whole bytes lists && (ids_left bytes list).whole)
+  pub whole-append : (lists : List ListState) (list : ListState) → lists_are_whole bytes (lists ++ list ∷ [])
+      ≡ (lists_are_whole bytes lists && (ids_left bytes list).whole)
   whole-append [] list = and-true (ids_left bytes list).whole
   whole-append (l ∷ ls) list = ap (λ b. (ids_left bytes l).whole && b) (whole-append ls list)
-      ∙ sym (and_assoc (ids_left bytes l).whole (are_whole bytes ls) (ids_left bytes list).whole)
+      ∙ sym (and_assoc (ids_left bytes l).whole (lists_are_whole bytes ls) (ids_left bytes list).whole)
 
   -- one list more
   pub have-push : (lists : List ListState) (list : ListState) (id : ℕ) → have_id bytes (lists ++ list ∷ []) id
@@ -287,7 +287,7 @@ window_none test start end ids h so_far none =
     ∙ ap (range_with_len 0) (let z : start + (end - start) ≡ end = omega (arith, h) in z))
 
 -- a required list lacks the id
-pub lacks_required : (nodes : List Node) (root : ℕ) (bits : List Bool) (rarest : Option ℕ) →
+pub lacks_required : (nodes : List FormNode) (root : ℕ) (bits : List Bool) (rarest : Option ℕ) →
     IfSome rarest (IsRequired (length bits) nodes root) → LacksId bits rarest → number_matches bits nodes root ≡ false
 lacks_required nodes root bits None required lacks = absurd lacks
 lacks_required nodes root bits (Some at) required lacks = elim (cases_Bool (number_matches bits nodes root)) [

@@ -8,7 +8,7 @@ use Rattle.std.specs.List.{AllByRecursion}
 use Rattle.std.specs.Prelude.{flat_map, fold, sum}
 use Rattle.cs_index.specs.Encoding.{varint, varint_within, deltas_from, stream_of}
 use Rattle.cs_trigram.specs.Trigram.{has}
-use Rattle.cs_index.specs.IdStream.{ids_from, ids_in, IsMarked, IsStream}
+use Rattle.cs_index.specs.IdStream.{ids_by_deltas, ids_in, IsMarked, IsStream}
 use Rattle.cs_index.specs.AscendingIds.{ids_onward, max_ids, next_after, AscendWithin}
 use Rattle.cs_index.specs.PostingLists.{Ids, read_ids}
 use Rattle.cs_index.specs.StoredLists.{before}
@@ -157,54 +157,54 @@ pub sum_more : (m : ℕ) (ns : List ℕ) → sum (m ∷ ns) ≡ m + sum ns
 sum_more m ns = fold_more (0 + m) ns ∙ (let z : 0 + m + sum ns ≡ m + sum ns = omega arith in z)
 
 ids_written : (next : ℕ) (deltas : List ℕ) → AllByRecursion (λ delta. (0 < delta) × (delta < 128)) deltas →
-    flat_map varint (deltas_from next (ids_from next deltas)) ≡ deltas
+    flat_map varint (deltas_from next (ids_by_deltas next deltas)) ≡ deltas
 ids_written next [] short = refl
 ids_written next (delta ∷ deltas) short =
     let here : next + delta - 1 + 1 - next ≡ delta = omega (arith, short.0.0) in
     let on : next + delta - 1 + 1 ≡ next + delta = omega (arith, short.0.0) in
-    (λ i. varint (here i) ++ flat_map varint (deltas_from (on i) (ids_from (next + delta) deltas)))
+    (λ i. varint (here i) ++ flat_map varint (deltas_from (on i) (ids_by_deltas (next + delta) deltas)))
     ∙ (λ i. short_varint delta short.0.1 i ++ ids_written (next + delta) deltas short.1 i)
 
 ids_last : (next : ℕ) (deltas : List ℕ) → AllByRecursion (λ delta. (0 < delta) × (delta < 128)) deltas →
-    next_after next (ids_from next deltas) ≡ next + sum deltas
+    next_after next (ids_by_deltas next deltas) ≡ next + sum deltas
 ids_last next [] short = (let z : next ≡ next + 0 = omega arith in z)
 ids_last next (delta ∷ deltas) short =
     let on : next + delta - 1 + 1 ≡ next + delta = omega (arith, short.0.0) in
-    ap (λ n. next_after n (ids_from (next + delta) deltas)) on
+    ap (λ n. next_after n (ids_by_deltas (next + delta) deltas)) on
     ∙ ids_last (next + delta) deltas short.1
     ∙ (let z : next + delta + sum deltas ≡ next + sum (delta ∷ deltas) = omega (arith, sum_more delta deltas) in z)
 
-ids_counted : (next : ℕ) (deltas : List ℕ) → length (ids_from next deltas) ≡ length deltas
+ids_counted : (next : ℕ) (deltas : List ℕ) → length (ids_by_deltas next deltas) ≡ length deltas
 ids_counted next [] = refl
 ids_counted next (delta ∷ deltas) = ap suc (ids_counted (next + delta) deltas)
 
 ids_rising : (next : ℕ) (deltas : List ℕ) → AllByRecursion (λ delta. (0 < delta) × (delta < 128)) deltas →
-    next + sum deltas ≤ max_ids → AscendWithin max_ids next (ids_from next deltas)
+    next + sum deltas ≤ max_ids → AscendWithin max_ids next (ids_by_deltas next deltas)
 ids_rising next [] short fits = tt
 ids_rising next (delta ∷ deltas) short fits =
     let on : next + delta - 1 + 1 ≡ next + delta = omega (arith, short.0.0) in (
       omega (arith, short.0.0),
       omega (arith, short.0.0, fits, sum_more delta deltas),
-      subst (λ n. AscendWithin max_ids n (ids_from (next + delta) deltas)) (sym on)
+      subst (λ n. AscendWithin max_ids n (ids_by_deltas (next + delta) deltas)) (sym on)
           (ids_rising (next + delta) deltas short.1 (omega (arith, fits, sum_more delta deltas))),
     )
 
 pub deltas_stream : (deltas : List ℕ) → AllByRecursion (λ delta. (0 < delta) × (delta < 128)) deltas →
     sum deltas ≤ max_ids → IsStream deltas (length deltas) (sum deltas)
 deltas_stream deltas short fits =
-    let is = stream_from (ids_from 0 deltas) (ids_rising 0 deltas short (omega (arith, fits))) in
-    let end : next_after 0 (ids_from 0 deltas) ≡ sum deltas = ids_last 0 deltas short
+    let is = stream_from (ids_by_deltas 0 deltas) (ids_rising 0 deltas short (omega (arith, fits))) in
+    let end : next_after 0 (ids_by_deltas 0 deltas) ≡ sum deltas = ids_last 0 deltas short
     ∙ (let z : 0 + sum deltas ≡ sum deltas = omega arith in z) in
     subst (IsStream deltas (length deltas)) end
-    (subst (λ n. IsStream deltas n (next_after 0 (ids_from 0 deltas))) (ids_counted 0 deltas)
-    (subst (λ s. IsStream s (length (ids_from 0 deltas)) (next_after 0 (ids_from 0 deltas))) (ids_written 0 deltas short) is))
+    (subst (λ n. IsStream deltas n (next_after 0 (ids_by_deltas 0 deltas))) (ids_counted 0 deltas)
+    (subst (λ s. IsStream s (length (ids_by_deltas 0 deltas)) (next_after 0 (ids_by_deltas 0 deltas))) (ids_written 0 deltas short) is))
 
 -- the ids of such a stream
 pub deltas_ids : (deltas : List ℕ) → AllByRecursion (λ delta. (0 < delta) × (delta < 128)) deltas →
-    sum deltas ≤ max_ids → ids_in deltas (length deltas) ≡ ids_from 0 deltas
+    sum deltas ≤ max_ids → ids_in deltas (length deltas) ≡ ids_by_deltas 0 deltas
 deltas_ids deltas short fits =
     (λ i. ids_in (sym (ids_written 0 deltas short) i) (sym (ids_counted 0 deltas) i))
-    ∙ decoded-stream_of (ids_from 0 deltas) (ids_rising 0 deltas short (omega (arith, fits)))
+    ∙ decoded-stream_of (ids_by_deltas 0 deltas) (ids_rising 0 deltas short (omega (arith, fits)))
 
 pub two_bytes : (first second : ℕ) → 128 ≤ first → first < 256 → 0 < second → second < 128 →
     first ∷ second ∷ [] ≡ varint (first - 128 + 128 * second)
@@ -249,12 +249,12 @@ run_skipped ended d last len on bytes rest ids now view off at bound up within c
 
 -- ids that are counted from another one
 pub from_onward : (at next : ℕ) (deltas : List ℕ) → AllByRecursion (λ delta. (0 < delta) × (delta < 128)) deltas →
-    ids_from (at + next) deltas ≡ ids_onward at (ids_from next deltas)
+    ids_by_deltas (at + next) deltas ≡ ids_onward at (ids_by_deltas next deltas)
 from_onward at next [] short = refl
 from_onward at next (delta ∷ deltas) short =
     let first : at + next + delta - 1 ≡ at + (next + delta - 1) = omega (arith, short.0.0) in
     let on : at + next + delta ≡ at + (next + delta) = omega arith in
-    λ i. first i ∷ (ap (λ n. ids_from n deltas) on ∙ from_onward at (next + delta) deltas short.1) i
+    λ i. first i ∷ (ap (λ n. ids_by_deltas n deltas) on ∙ from_onward at (next + delta) deltas short.1) i
 
 pub marked_none : (at : ℕ) (row : List Bool) → IsMarked at [] row row
 marked_none at row = record { width = refl; flags = λ k. sym (or-false (get_or row k false)) }

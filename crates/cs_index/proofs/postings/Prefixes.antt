@@ -9,7 +9,7 @@ use Rattle.std.proofs.lemmas.Simd.{below_from_Fits}
 use Rattle.std.specs.Int.RustNames.{count_ones}
 use Rattle.cs_index.specs.Encoding.{varint, deltas_from, stream_of}
 use Rattle.cs_index.specs.AscendingIds.{max_ids, next_after, AscendWithin}
-use Rattle.cs_index.specs.IdStream.{ids_from, IsStream}
+use Rattle.cs_index.specs.IdStream.{ids_by_deltas, IsStream}
 use Rattle.cs_index.specs.Prefixes.{IsPrefix}
 use Rattle.cs_index.specs.ShortDeltas.{are_short, is_first, second_bytes, short_deltas}
 use Rattle.cs_index.specs.declared.encoded_run.Prefix.{Prefix}
@@ -50,44 +50,44 @@ within_bounds bytes limit room limit' room' p is bound below =
 abbrev AllSome : List ℕ → Type 0
 AllSome deltas = AllByRecursion (λ d. 0 < d) deltas
 
-ids_written : (next : ℕ) (deltas : List ℕ) → AllSome deltas → flat_map varint (deltas_from next (ids_from next deltas)) ≡ flat_map varint deltas
+ids_written : (next : ℕ) (deltas : List ℕ) → AllSome deltas → flat_map varint (deltas_from next (ids_by_deltas next deltas)) ≡ flat_map varint deltas
 ids_written next [] some = refl
 ids_written next (delta ∷ deltas) some =
     let here : next + delta - 1 + 1 - next ≡ delta = omega (arith, some.0) in
     let on : next + delta - 1 + 1 ≡ next + delta = omega (arith, some.0) in
-    (λ i. varint (here i) ++ flat_map varint (deltas_from (on i) (ids_from (next + delta) deltas)))
+    (λ i. varint (here i) ++ flat_map varint (deltas_from (on i) (ids_by_deltas (next + delta) deltas)))
     ∙ ap (λ rest. varint delta ++ rest) (ids_written (next + delta) deltas some.1)
 
-ids_last : (next : ℕ) (deltas : List ℕ) → AllSome deltas → next_after next (ids_from next deltas) ≡ next + sum_l deltas
+ids_last : (next : ℕ) (deltas : List ℕ) → AllSome deltas → next_after next (ids_by_deltas next deltas) ≡ next + sum_l deltas
 ids_last next [] some = (let z : next ≡ next + 0 = omega arith in z)
 ids_last next (delta ∷ deltas) some =
     let on : next + delta - 1 + 1 ≡ next + delta = omega (arith, some.0) in
-    ap (λ n. next_after n (ids_from (next + delta) deltas)) on ∙ ids_last (next + delta) deltas some.1
+    ap (λ n. next_after n (ids_by_deltas (next + delta) deltas)) on ∙ ids_last (next + delta) deltas some.1
     ∙ (let z : next + delta + sum_l deltas ≡ next + (delta + sum_l deltas) = omega arith in z)
 
-ids_counted : (next : ℕ) (deltas : List ℕ) → length (ids_from next deltas) ≡ length deltas
+ids_counted : (next : ℕ) (deltas : List ℕ) → length (ids_by_deltas next deltas) ≡ length deltas
 ids_counted next [] = refl
 ids_counted next (delta ∷ deltas) = ap suc (ids_counted (next + delta) deltas)
 
-ids_rising : (next : ℕ) (deltas : List ℕ) → AllSome deltas → next + sum_l deltas ≤ max_ids → AscendWithin max_ids next (ids_from next deltas)
+ids_rising : (next : ℕ) (deltas : List ℕ) → AllSome deltas → next + sum_l deltas ≤ max_ids → AscendWithin max_ids next (ids_by_deltas next deltas)
 ids_rising next [] some fits = tt
 ids_rising next (delta ∷ deltas) some fits =
     let on : next + delta - 1 + 1 ≡ next + delta = omega (arith, some.0) in (
       omega (arith, some.0),
       omega (arith, some.0, fits),
-      subst (λ n. AscendWithin max_ids n (ids_from (next + delta) deltas)) (sym on)
+      subst (λ n. AscendWithin max_ids n (ids_by_deltas (next + delta) deltas)) (sym on)
           (ids_rising (next + delta) deltas some.1 (omega (arith, fits))),
     )
 
 pub stream_from_deltas : (deltas : List ℕ) → AllSome deltas → sum_l deltas ≤ max_ids →
     IsStream (flat_map varint deltas) (length deltas) (sum_l deltas)
 stream_from_deltas deltas some fits =
-    let is = stream_from (ids_from 0 deltas) (ids_rising 0 deltas some (omega (arith, fits))) in
-    let end : next_after 0 (ids_from 0 deltas) ≡ sum_l deltas = ids_last 0 deltas some
+    let is = stream_from (ids_by_deltas 0 deltas) (ids_rising 0 deltas some (omega (arith, fits))) in
+    let end : next_after 0 (ids_by_deltas 0 deltas) ≡ sum_l deltas = ids_last 0 deltas some
     ∙ (let z : 0 + sum_l deltas ≡ sum_l deltas = omega arith in z) in
     subst (IsStream (flat_map varint deltas) (length deltas)) end
-    (subst (λ n. IsStream (flat_map varint deltas) n (next_after 0 (ids_from 0 deltas))) (ids_counted 0 deltas)
-    (subst (λ s. IsStream s (length (ids_from 0 deltas)) (next_after 0 (ids_from 0 deltas))) (ids_written 0 deltas some) is))
+    (subst (λ n. IsStream (flat_map varint deltas) n (next_after 0 (ids_by_deltas 0 deltas))) (ids_counted 0 deltas)
+    (subst (λ s. IsStream s (length (ids_by_deltas 0 deltas)) (next_after 0 (ids_by_deltas 0 deltas))) (ids_written 0 deltas some) is))
 
 -- ---- the bytes of short deltas
 

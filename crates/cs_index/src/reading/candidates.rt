@@ -12,7 +12,7 @@ ghost use Rattle.cs_index.specs.Postings.{IsListFault};
 ghost use Rattle.cs_index.specs.Candidates.{candidates_of};
 ghost use Rattle.cs_index.specs.Answerable.{is_answerable, AreCandidates};
 ghost use Rattle.cs_index.specs.Form.{IsForm, number_matches};
-ghost use Rattle.cs_index.specs.Rows.{are_whole, have_id, IsLeft, IsReadOn};
+ghost use Rattle.cs_index.specs.Rows.{lists_are_whole, have_id, IsLeft, IsReadOn};
 ghost use Rattle.cs_index.specs.Stored.{StandsIn};
 ghost use Rattle.cs_index.specs.StoredEntries.{AreListed, entry_read, trigrams_listed};
 ghost use Rattle.cs_index.specs.StoredLists.{HasLists, Holds, IsSection, ids_left};
@@ -23,7 +23,7 @@ use crate::reading::form::{Form, NOTHING, form_of};
 use crate::reading::index::Index;
 use crate::reading::query_trigrams::listed_entries;
 use crate::reading::rarest::{next_start, rarest_list};
-use crate::reading::rows::{Window, row_at, rows_of};
+use crate::reading::rows::{IdWindow, row_at, rows_of};
 use crate::reading::stored::StoredIndex;
 use crate::reading::stored_entries::{Entry, StoredEntries};
 use crate::reading::stored_list::{ListSection, StoredList};
@@ -197,15 +197,15 @@ fn meet<S: Store>(
     }
     let width = window_width(form.nodes.len(), lists.len());
     let rarest = rarest_list(form, lists);
-    let all = Window {
+    let all = IdWindow {
         start: 0,
         end: count,
     };
     let mut start = next_start(alloc, store, lists, rarest, all)?;
     'windows: while start < count {
         let end = start + width.min(count - start);
-        meet_window(alloc, store, form, lists, Window { start, end }, &mut ids)?;
-        let rest = Window {
+        meet_window(alloc, store, form, lists, IdWindow { start, end }, &mut ids)?;
+        let rest = IdWindow {
             start: end,
             end: count,
         };
@@ -220,7 +220,7 @@ fn meet_window<S: Store>(
     store: &mut S,
     form: &Form,
     lists: &mut [StoredList],
-    window: Window,
+    window: IdWindow,
     ids: &mut Vec<u32>,
 ) -> Result<(), IoFault>
     requires order { window.start < window.end }
@@ -271,7 +271,7 @@ fn finish_all<S: Store>(
 ) -> Result<bool, IoFault>
     ensures whole { (bytes : List ℕ) → S.model store.old ≡ Some bytes →
         AllByRecursion (Holds bytes) lists.items →
-        IfOk result (λ whole. whole ≡ are_whole bytes lists.items) }
+        IfOk result (λ whole. whole ≡ lists_are_whole bytes lists.items) }
     ensures store { KeepsStore S.model S.size S.failed store.old store.new result }
 {
     'lists: while let Some(mut list) = lists.pop() {

@@ -5,7 +5,7 @@ ghost use Rattle.std.specs.Prelude.{◌≡◌, ◌<◌, ◌^◌, ◌+◌, ℕ, B
 ghost use Rattle.cs_trigram.specs.Trigram.{Ascends};
 ghost use Rattle.cs_trigram.specs.Query.{matches_set};
 ghost use Rattle.cs_trigram.specs.declared.queries.Query.TheVariants.{Tri};
-ghost use Rattle.cs_index.specs.declared.reading.form.Node.{Node as Node'};
+ghost use Rattle.cs_index.specs.declared.reading.form.FormNode.{FormNode as FormNode'};
 ghost use Rattle.cs_index.specs.Form.{IsForm, IsNumberOf, IsWithin, Exist, Grows, Gathers, joined, members_match, queries_match, matched, node_matches, number_matches, numbers};
 
 use cs_trigram::Query;
@@ -24,7 +24,7 @@ const LEAST_SLOTS: usize = 1 << 14;
 
 /// A conjunction or a disjunction, by the numbers of its members.
 #[derive(Drop)]
-pub(crate) struct Node {
+pub(crate) struct FormNode {
     pub(crate) is_and: bool,
     pub(crate) members: Vec<usize>,
 }
@@ -32,14 +32,14 @@ pub(crate) struct Node {
 /// The nodes of a query, and the number of the whole query.
 #[derive(Drop)]
 pub(crate) struct Form {
-    pub(crate) nodes: Vec<Node>,
+    pub(crate) nodes: Vec<FormNode>,
     pub(crate) root: usize,
 }
 
 /// A form in the making. A slot has the index of the last node with its hash.
 #[derive(Drop)]
 struct Folding {
-    nodes: Vec<Node>,
+    nodes: Vec<FormNode>,
     slots: Vec<usize>,
 }
 
@@ -103,7 +103,7 @@ fn joined_number(
         number_matches (map set trigrams.now) folding.new.nodes.items n
         ≡ queries_match is_and set queries.now) }
 {
-    let mut node = Node {
+    let mut node = FormNode {
         is_and,
         members: Vec::new(alloc),
     };
@@ -117,7 +117,7 @@ fn gather_each(
     alloc: Global,
     folding: &mut Folding,
     trigrams: &[u32],
-    node: &mut Node,
+    node: &mut FormNode,
     queries: &[Query],
 ) -> Result<(), AllocError>
     requires ascend { Ascends trigrams.now }
@@ -138,7 +138,7 @@ fn gather(
     alloc: Global,
     folding: &mut Folding,
     trigrams: &[u32],
-    node: &mut Node,
+    node: &mut FormNode,
     query: &Query,
 ) -> Result<(), AllocError>
     requires ascend { Ascends trigrams.now }
@@ -165,7 +165,7 @@ fn gather(
 fn add_member(
     folding: &Folding,
     lists: usize,
-    node: &mut Node,
+    node: &mut FormNode,
     number: usize,
 ) -> Result<(), AllocError>
     requires short { lists < 2 ^ 62 }
@@ -188,7 +188,7 @@ fn add_member(
 
 /// The members of a number that is a node of this kind.
 pub(crate) fn members_of(
-    nodes: &[Node],
+    nodes: &[FormNode],
     lists: usize,
     is_and: bool,
     number: usize,
@@ -211,8 +211,8 @@ pub(crate) fn members_of(
 /// The number of the list of a trigram; without a list, no file has it.
 fn list_number(trigrams: &[u32], trigram: u32) -> usize
     requires { Ascends trigrams.now }
-    ensures exists { (nodes : List Node') → result < numbers (length trigrams.now) nodes }
-    ensures number { (nodes : List Node') → IsNumberOf trigrams.now nodes (Tri trigram) result }
+    ensures exists { (nodes : List FormNode') → result < numbers (length trigrams.now) nodes }
+    ensures number { (nodes : List FormNode') → IsNumberOf trigrams.now nodes (Tri trigram) result }
 {
     match trigrams.binary_search(&trigram) {
         Ok(at) => FIRST_LIST + at,
@@ -221,7 +221,7 @@ fn list_number(trigrams: &[u32], trigram: u32) -> usize
 }
 
 /// The number of a node over some lists, which has each member once. No node has a single member, or one that decides it.
-fn intern(folding: &mut Folding, lists: usize, mut node: Node) -> Result<usize, AllocError>
+fn intern(folding: &mut Folding, lists: usize, mut node: FormNode) -> Result<usize, AllocError>
     requires short { lists < 2 ^ 62 }
     requires form { IsForm lists folding.old.nodes.items }
     requires exist { Exist lists folding.old.nodes.items node.members.items }
@@ -247,11 +247,11 @@ fn intern(folding: &mut Folding, lists: usize, mut node: Node) -> Result<usize, 
 }
 
 /// The number that is equal to a node without members, with a single one, or with one that decides it.
-fn decided(node: &Node) -> Option<usize>
-    ensures exists { IfSome result (λ n. (lists : ℕ) (nodes : List Node') →
+fn decided(node: &FormNode) -> Option<usize>
+    ensures exists { IfSome result (λ n. (lists : ℕ) (nodes : List FormNode') →
         Exist lists nodes node.now.members.items →
         n < numbers lists nodes) }
-    ensures number { IfSome result (λ n. (bits : List Bool) (nodes : List Node') →
+    ensures number { IfSome result (λ n. (bits : List Bool) (nodes : List FormNode') →
         number_matches bits nodes n ≡ node_matches (matched bits nodes) node.now) }
 {
     let zero = constant(!node.is_and);
@@ -268,7 +268,7 @@ fn decided(node: &Node) -> Option<usize>
 /// The number that matches everything or nothing.
 fn constant(all: bool) -> usize
     ensures exists { result < 2 }
-    ensures number { (bits : List Bool) (nodes : List Node') → number_matches bits nodes result ≡ all }
+    ensures number { (bits : List Bool) (nodes : List FormNode') → number_matches bits nodes result ≡ all }
 {
     if all { ALL } else { NOTHING }
 }
@@ -281,8 +281,8 @@ fn remember(slots: &mut [usize], slot: usize, at: usize) {
 }
 
 /// The index of the node in its slot, if it is equal to this one.
-fn known(folding: &Folding, slot: usize, node: &Node) -> Option<usize>
-    ensures { IfSome result (λ at. (at < length folding.now.nodes.items) × ((d : Node') →
+fn known(folding: &Folding, slot: usize, node: &FormNode) -> Option<usize>
+    ensures { IfSome result (λ at. (at < length folding.now.nodes.items) × ((d : FormNode') →
         (lists : List Bool) → node_matches lists (slice_index_or folding.now.nodes.items at d)
         ≡ node_matches lists node.now)) }
 {
@@ -296,7 +296,7 @@ fn known(folding: &Folding, slot: usize, node: &Node) -> Option<usize>
 }
 
 /// A hash of a node (FNV-1a over words). Small numbers change the bits from 40 on.
-fn hash(node: &Node) -> usize {
+fn hash(node: &FormNode) -> usize {
     let mut hash = 0xcbf2_9ce4_8422_2325u64 ^ node.is_and as u64;
     for member in &node.members {
         hash = (hash ^ *member as u64).wrapping_mul(0x0000_0100_0000_01b3);

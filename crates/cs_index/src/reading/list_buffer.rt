@@ -2,7 +2,7 @@
 ghost use Rattle.std.specs.Prelude.{◌≡◌, ◌≤◌, ◌<◌, ◌+◌, ◌^◌, ℕ, List, Some, drop, length, slice_get, OnOk};
 ghost use Rattle.cs_tree.specs.KeepsStore.{KeepsStore};
 ghost use Rattle.cs_index.specs.AscendingIds.{max_ids};
-ghost use Rattle.cs_index.specs.ListBuffers.{HasList, IsBufferOf, list_in, list_of};
+ghost use Rattle.cs_index.specs.ListBuffers.{HasList, IsBufferOf, list_in, buffered_list};
 ghost use Rattle.cs_index.specs.OpenedParts.{Parts};
 ghost use Rattle.cs_index.specs.StoredEntries.{entry_read};
 ghost use Rattle.cs_index.specs.StoredTables.{TablesIn};
@@ -102,7 +102,7 @@ impl ListBuffer {
 
     /// The ids of the list at a position of the list index, which was read last. Without an entry the list is damaged.
     pub fn list(&self, tables: &StoredTables, position: u32) -> Postings<'_>
-        ensures { result ≡ list_of self.now tables.now (slice_get tables.now.entries position) }
+        ensures { result ≡ buffered_list self.now tables.now (slice_get tables.now.entries position) }
     {
         match tables.entry_at(position) {
             Some(entry) => postings_of(&self.bytes[self.used..], &entry, tables.name_count()),

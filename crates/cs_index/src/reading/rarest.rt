@@ -7,7 +7,7 @@ ghost use Rattle.cs_index.specs.Form.{IsForm, IsRequired};
 ghost use Rattle.cs_index.specs.Rows.{have_id, IsLeft, IsReadOn, LacksId};
 
 use crate::reading::form::{FIRST_LIST, Form, members_of};
-use crate::reading::rows::Window;
+use crate::reading::rows::IdWindow;
 use crate::reading::stored_list::StoredList;
 use cs_tree::{IoFault, Store};
 use std::alloc::Global;
@@ -62,7 +62,7 @@ pub(crate) fn next_start<S: Store>(
     store: &mut S,
     lists: &mut [StoredList],
     rarest: Option<usize>,
-    window: Window,
+    window: IdWindow,
 ) -> Result<u32, IoFault>
     requires within { IfSome rarest (λ at. at < length lists.old) }
     requires order { window.start ≤ window.end }

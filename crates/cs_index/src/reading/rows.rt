@@ -5,14 +5,14 @@ ghost use Rattle.cs_tree.specs.KeepsStore.{KeepsStore};
 ghost use Rattle.cs_index.specs.Form.{matched, members_match, node_matches};
 ghost use Rattle.cs_index.specs.Rows.{column, have_id, HaveWidth, IsLeft, IsReadOn, IsRowOf};
 
-use crate::reading::form::Node;
+use crate::reading::form::FormNode;
 use crate::reading::stored_list::StoredList;
 use cs_tree::{IoFault, Store};
 use std::alloc::{AllocError, Global};
 
 /// The ids from `start` to `end`.
 #[derive(Clone, Copy, Drop)]
-pub(crate) struct Window {
+pub(crate) struct IdWindow {
     pub(crate) start: u32,
     pub(crate) end: u32,
 }
@@ -21,9 +21,9 @@ pub(crate) struct Window {
 pub(crate) fn rows_of<S: Store>(
     alloc: Global,
     store: &mut S,
-    nodes: &[Node],
+    nodes: &[FormNode],
     lists: &mut [StoredList],
-    window: Window,
+    window: IdWindow,
 ) -> Result<Vec<Vec<bool>>, IoFault>
     requires order { window.start < window.end }
     ensures rows { (bytes : List ℕ) → S.model store.old ≡ Some bytes →
@@ -50,7 +50,7 @@ fn list_rows<S: Store>(
     alloc: Global,
     store: &mut S,
     lists: &mut [StoredList],
-    window: Window,
+    window: IdWindow,
 ) -> Result<Vec<Vec<bool>>, IoFault>
     requires order { window.start < window.end }
     ensures rows { (bytes : List ℕ) → S.model store.old ≡ Some bytes →
@@ -78,7 +78,7 @@ fn list_row<S: Store>(
     alloc: Global,
     store: &mut S,
     list: &mut StoredList,
-    window: Window,
+    window: IdWindow,
 ) -> Result<Vec<bool>, IoFault>
     requires order { window.start < window.end }
     ensures row { (bytes : List ℕ) → S.model store.old ≡ Some bytes → IsLeft bytes list.old →
@@ -105,7 +105,7 @@ fn list_row<S: Store>(
 /// The row of a node, by the rows before it.
 fn row_of(
     alloc: Global,
-    node: &Node,
+    node: &FormNode,
     rows: &[Vec<bool>],
     width: usize,
 ) -> Result<Vec<bool>, AllocError>

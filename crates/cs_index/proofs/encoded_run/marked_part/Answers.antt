@@ -1,7 +1,7 @@
 use Rattle.std.proofs.Common.{◌≡◌, ◌≤◌, ◌+◌, ◌-◌, ◌<◌, ◌∙◌, ℕ, List, Bool, length, take, sym, subst, arith, length-take, ap, set, true}
 use Rattle.std.specs.Prelude.{sum}
 use Rattle.cs_index.specs.AscendingIds.{max_ids}
-use Rattle.cs_index.specs.IdStream.{ids_from, ids_in, IsMarked, IsStream}
+use Rattle.cs_index.specs.IdStream.{ids_by_deltas, ids_in, IsMarked, IsStream}
 use Rattle.cs_index.proofs.postings.EncodedRuns.{deltas_ids, deltas_stream, marked_none, marked_one, none_in, one_id, one_stream}
 use Rattle.cs_index.proofs.postings.Prefixes.{no_prefix}
 use Rattle.cs_index.proofs.encoded_run.marked_part.Goals as goal
@@ -27,7 +27,7 @@ returns-then-sum-room-clause-marks c =
     let some = c.if-sum-gt0.true in
     let is : c.sum_of_short-sum.result ≡ sum prefix = c.sum_of_short-sum.ensures.sum some in
     let long : length prefix ≡ 8 = (let l = length-take 8 c.args.bytes.now in omega (arith, l, c.if-bytes-ge8.true)) in
-    let ids : ids_in prefix 8 ≡ ids_from 0 prefix = ap (ids_in prefix) (sym long)
+    let ids : ids_in prefix 8 ≡ ids_by_deltas 0 prefix = ap (ids_in prefix) (sym long)
     ∙ deltas_ids prefix (c.sum_of_short-sum.ensures.short some)
     (omega (arith, is, c.if-sum-room.true, c.requires.bound)) in
     subst (λ (t : List ℕ). IsMarked c.args.at t c.args.row.now c.mark_deltas.new.row) (sym ids) c.mark_deltas.ensures

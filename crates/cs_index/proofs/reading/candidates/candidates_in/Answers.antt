@@ -7,7 +7,7 @@ use Rattle.cs_trigram.specs.Trigram.{has, Ascends}
 use Rattle.cs_index.specs.Answerable.{mentions, AreCandidates}
 use Rattle.cs_index.specs.Postings.{has_entry, read_for}
 use Rattle.cs_index.specs.Form.{IsForm, IsNumberOf}
-use Rattle.cs_index.specs.Rows.{are_whole}
+use Rattle.cs_index.specs.Rows.{lists_are_whole}
 use Rattle.cs_index.specs.StoredLists.{HasLists, Holds, IsSection, ListState, ids_left}
 use Rattle.cs_index.specs.declared.reading.stored_entries.Entry.{Entry}
 use Rattle.cs_index.specs.declared.reading.stored_list.ListSection.{ListSection}
@@ -39,13 +39,13 @@ returns-clause-answers g c bytes m parts has' up listed =
     let kept : take c.in_ok-lists.lists.len (after ++ drop (length after) c.in_ok-lists.lists.items) ≡ after =
     taken_back c.in_ok-lists.lists.len after (drop (length after) c.in_ok-lists.lists.items)
     (sym (c.meet.auto.lists ∙ c.deref_mut.ensures.len)) in
-    let whole : c.in_ok-finish_all.field-0 ≡ are_whole bytes lists =
+    let whole : c.in_ok-finish_all.field-0 ≡ lists_are_whole bytes lists =
     c.in_ok-finish_all.ensures.whole bytes (c.meet.ensures.store.0 ∙ modelled)
     (subst (AllByRecursion (Holds bytes)) (sym kept) (all_held bytes s.name_count lists after read))
-    ∙ ap (are_whole bytes) kept ∙ whole_alike bytes s.name_count lists after read in
+    ∙ ap (lists_are_whole bytes) kept ∙ whole_alike bytes s.name_count lists after read in
     elim c.if-branch.branch [
       | then-branch w ↦
-          let all : are_whole bytes lists ≡ true = sym whole ∙ w.if-branch.true in
+          let all : lists_are_whole bytes lists ≡ true = sym whole ∙ w.if-branch.true in
           subst (AreCandidates c.args.query.now parts) (sym w.answer-is) (
             ids_are bytes parts up c.args.query.now trigrams are lists is c.in_ok-form.form.nodes.items
                 c.in_ok-form.form.root s.name_count c.in_ok-ids.ids.items (sym has'.names)

@@ -1,7 +1,7 @@
 use Rattle.std.proofs.Common.{◌≡◌, ◌&&◌, ◌∙◌, ap, sym, subst, List, false, true}
 use Rattle.std.proofs.Math.Bool.{and-false, and-true}
 use Rattle.std.specs.List.{AllByRecursion}
-use Rattle.cs_index.specs.Rows.{are_whole}
+use Rattle.cs_index.specs.Rows.{lists_are_whole}
 use Rattle.cs_index.specs.StoredLists.{ListState, Holds, ids_left}
 use Rattle.cs_index.proofs.candidates.WindowRows.{held_parts, whole-append}
 use Rattle.cs_index.proofs.reading.candidates.finish_all.Goals as goal
@@ -15,8 +15,8 @@ returns-then-not-branch-clause-whole g c bytes m all =
     let items = c.in-Some.ensures.items in
     let parts = held_parts bytes rest list (subst (λ (ls : List ListState). AllByRecursion (Holds bytes) ls) items before.0) in
     let bad : (ids_left bytes list).whole ≡ false = sym (c.in_ok-finish.ensures.whole bytes (i.keeps ∙ m) parts.1) ∙ c.if-not-branch.true in
-    sym (sym before.1 ∙ ap (are_whole bytes) items ∙ whole-append bytes rest list
-    ∙ ap (λ b. are_whole bytes rest && b) bad ∙ and-false (are_whole bytes rest))
+    sym (sym before.1 ∙ ap (lists_are_whole bytes) items ∙ whole-append bytes rest list
+    ∙ ap (λ b. lists_are_whole bytes rest && b) bad ∙ and-false (lists_are_whole bytes rest))
 
 pub lists-preserved : goal.lists-preserved
 lists-preserved g c =
@@ -31,8 +31,8 @@ lists-preserved g c =
           let good : (ids_left bytes list).whole ≡ true = sym (c.in_ok-finish.ensures.whole bytes (i.keeps ∙ m) parts.1)
           ∙ c.if-not-branch.false in (
             parts.0,
-            sym (and-true (are_whole bytes rest)) ∙ ap (λ b. are_whole bytes rest && b) (sym good)
-                ∙ sym (whole-append bytes rest list) ∙ ap (are_whole bytes) (sym items) ∙ before.1,
+            sym (and-true (lists_are_whole bytes rest)) ∙ ap (λ b. lists_are_whole bytes rest && b) (sym good)
+                ∙ sym (whole-append bytes rest list) ∙ ap (lists_are_whole bytes) (sym items) ∙ before.1,
           );
       keeps = c.finish.ensures.store.0 ∙ i.keeps;
       size = c.finish.ensures.store.1 ∙ i.size;

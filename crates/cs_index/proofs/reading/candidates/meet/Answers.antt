@@ -1,7 +1,7 @@
 use Rattle.std.proofs.Common.{◌≡◌, ◌≤◌, ◌+◌, ◌∙◌, ap, sym, subst, ℕ, Bool, List, Option, Some, false, length, arith}
 use Rattle.std.specs.Prelude.{filter, IfSome}
 use Rattle.std.specs.List.{AllByRecursion, AllZip, range_with_len}
-use Rattle.cs_index.specs.declared.reading.form.Node.{Node}
+use Rattle.cs_index.specs.declared.reading.form.FormNode.{FormNode}
 use Rattle.cs_index.specs.Form.{IsRequired, number_matches}
 use Rattle.cs_index.specs.Rows.{have_id, IsLeft, IsReadOn, LacksId}
 use Rattle.cs_index.specs.StoredLists.{ListState}
@@ -11,7 +11,7 @@ use Rattle.cs_index.proofs.reading.candidates.meet.Goals as goal
 
 pub returns-then-form-eq-NOTHING-clause-ids : goal.returns-then-form-eq-NOTHING-clause-ids
 returns-then-form-eq-NOTHING-clause-ids g c bytes m all =
-    let nodes : List Node = c.args.form.now.nodes.items in
+    let nodes : List FormNode = c.args.form.now.nodes.items in
     let test : ℕ → Bool = λ id. number_matches (have_id bytes c.args.lists.now id) nodes c.args.form.now.root in
     c.new-ids.ensures.items
     ∙ sym (filter_false test 0 c.args.count (λ id from below. ap
@@ -22,7 +22,7 @@ pub returns-then-form-eq-NOTHING-clause-lists : goal.returns-then-form-eq-NOTHIN
 returns-then-form-eq-NOTHING-clause-lists g c bytes m all = not_read bytes c.args.count c.args.lists.now all
 
 -- an id that the rarest list does not have is no candidate
-passed : (bytes : List ℕ) (nodes : List Node) (root id : ℕ) (lists : List ListState) (rarest : Option ℕ) →
+passed : (bytes : List ℕ) (nodes : List FormNode) (root id : ℕ) (lists : List ListState) (rarest : Option ℕ) →
     IfSome rarest (IsRequired (length lists) nodes root) → LacksId (have_id bytes lists id) rarest →
     number_matches (have_id bytes lists id) nodes root ≡ false
 passed bytes nodes root id lists rarest required lacks =
@@ -31,7 +31,7 @@ passed bytes nodes root id lists rarest required lacks =
 
 pub windows-init : goal.windows-init
 windows-init g c =
-    let nodes : List Node = c.args.form.now.nodes.items in
+    let nodes : List FormNode = c.args.form.now.nodes.items in
     let root : ℕ = c.args.form.now.root in
     let lists : List ListState = c.args.lists.now in
     record {
@@ -52,7 +52,7 @@ windows-preserved g c =
     let old : List ListState = c.args.lists.now in
     let lists : List ListState = c.windows.lists in
     let after : List ListState = c.meet_window.new.lists in
-    let nodes : List Node = c.args.form.now.nodes.items in
+    let nodes : List FormNode = c.args.form.now.nodes.items in
     let root : ℕ = c.args.form.now.root in
     let start : ℕ = c.windows.start in
     let end : ℕ = start + c.min.result in

@@ -1,5 +1,5 @@
 use Rattle.std.proofs.Common.{◌≡◌, ◌+◌, ◌-◌, ◌∙◌, ◌++◌, ap, subst, sym, ℕ, Bool, List, Vec, Global, false, get_or, arith}
-use Rattle.cs_index.specs.declared.reading.form.Node.{Node}
+use Rattle.cs_index.specs.declared.reading.form.FormNode.{FormNode}
 use Rattle.cs_index.specs.Form.{matched, number_matches}
 use Rattle.cs_index.specs.Rows.{column, have_id, HaveWidth}
 use Rattle.cs_index.proofs.candidates.WindowRows.{filter_alike}
@@ -12,7 +12,7 @@ push_ids-requires-clause-width g c =
 
 pub returns-clause-ids : goal.returns-clause-ids
 returns-clause-ids g c bytes m all =
-    let nodes : List Node = c.args.form.now.nodes.items in
+    let nodes : List FormNode = c.args.form.now.nodes.items in
     let root : ℕ = c.args.form.now.root in
     let start : ℕ = c.args.window.start in
     let end : ℕ = c.args.window.end in

@@ -5,7 +5,7 @@ use Rattle.std.proofs.lemmas.Result.{IfOk-weaker, on_ok_weaker}
 use Rattle.cs_trigram.specs.Query.{matches_set}
 use Rattle.cs_trigram.specs.declared.queries.Query.{Query}
 use Rattle.cs_trigram.proofs.QueryLemmas.{matches_set-All, matches_set-Nothing}
-use Rattle.cs_index.specs.declared.reading.form.Node.{Node}
+use Rattle.cs_index.specs.declared.reading.form.FormNode.{FormNode}
 use Rattle.cs_index.specs.Form.{queries_match}
 use Rattle.cs_index.proofs.candidates.QueryMembers.{matches_set-And, matches_set-Or}
 use Rattle.cs_index.proofs.candidates.FormValues.{everything_matches, gathers_all, gathers_number, gathers_step, gathers_wanted, joined-first, length_map, members_grown, nothing_matches}
@@ -56,8 +56,8 @@ gather_each-loop-query-preserved t c =
 pub joined_number-returns-clause-number : goal.joined_number-returns-clause-number
 joined_number-returns-clause-number t c =
     let trigrams : List ℕ = c.args.trigrams.now in
-    let nodes : List Node = c.gather_each.new.folding.nodes.items in
-    let node : Node = c.gather_each.new.node in
+    let nodes : List FormNode = c.gather_each.new.folding.nodes.items in
+    let node : FormNode = c.gather_each.new.node in
     let gathered = c.in_ok-gather_each.ensures in
     join_ok c.intern.result _ _ _ (λ n number grows set within.
     number (map set trigrams) (length_map set trigrams)

@@ -1,6 +1,6 @@
 use Rattle.std.proofs.Common.{rules, ◌≡◌, ◌+◌, ◌∙◌, ap, sym, subst, List, ◌++◌, ◌∷◌, [], length}
 use Rattle.std.proofs.lemmas.List.Filters.{dedup_is}
-use Rattle.cs_index.specs.declared.reading.form.Node.{Node}
+use Rattle.cs_index.specs.declared.reading.form.FormNode.{FormNode}
 use Rattle.cs_index.specs.Form.{matched, number_matches, node_matches, numbers, Exist, Grows}
 use Rattle.cs_index.proofs.candidates.QueryTrigrams.{has_ordered}
 use Rattle.cs_index.proofs.candidates.FormValues.{members_same, exist_same, grows_push, pushed_matches}
@@ -8,7 +8,7 @@ use Rattle.cs_index.proofs.reading.form.intern.Goals as goal
 
 pub returns-in-Some-clause-exists : goal.returns-in-Some-clause-exists
 returns-in-Some-clause-exists c =
-    let nodes : List Node = c.args.folding.now.nodes.items in
+    let nodes : List FormNode = c.args.folding.now.nodes.items in
     c.in-Some.ensures.exists c.args.lists nodes
     (exist_same (numbers c.args.lists nodes) c.args.node.members.items c.dedup.new.self.items
     (λ g. sym (has_ordered _ _ _ g c.sort_unstable.ensures.permutation (dedup_is _ _ _ c.dedup.ensures.filtered)))
@@ -16,14 +16,14 @@ returns-in-Some-clause-exists c =
 
 pub returns-in-Some-clause-number : goal.returns-in-Some-clause-number
 returns-in-Some-clause-number c = λ bits len.
-    let nodes : List Node = c.args.folding.now.nodes.items in
+    let nodes : List FormNode = c.args.folding.now.nodes.items in
     c.in-Some.ensures.number bits nodes ∙ members_same c.args.node.is_and (matched bits nodes) c.dedup.new.self.items
     c.args.node.members.items (λ g. has_ordered _ _ _ g c.sort_unstable.ensures.permutation
     (dedup_is _ _ _ c.dedup.ensures.filtered))
 
 pub returns-in-Some-known-clause-number : goal.returns-in-Some-known-clause-number
 returns-in-Some-known-clause-number c = λ bits len.
-    let nodes : List Node = c.args.folding.now.nodes.items in
+    let nodes : List FormNode = c.args.folding.now.nodes.items in
     c.requires.form.matches bits len c.in-Some-known.at c.in-Some-known.ensures.0 c.args.node
     ∙ c.in-Some-known.ensures.1 c.args.node (matched bits nodes)
     ∙ members_same c.args.node.is_and (matched bits nodes) c.dedup.new.self.items c.args.node.members.items
@@ -31,8 +31,8 @@ returns-in-Some-known-clause-number c = λ bits len.
 
 pub returns-clause-grows : goal.returns-clause-grows
 returns-clause-grows c =
-    let nodes : List Node = c.args.folding.now.nodes.items in
-    let node : Node = record { is_and = c.args.node.is_and; members = c.dedup.new.self } in
+    let nodes : List FormNode = c.args.folding.now.nodes.items in
+    let node : FormNode = record { is_and = c.args.node.is_and; members = c.dedup.new.self } in
     let there : Exist c.args.lists nodes node.members.items = exist_same (numbers c.args.lists nodes)
     c.args.node.members.items c.dedup.new.self.items
     (λ g. sym (has_ordered _ _ _ g c.sort_unstable.ensures.permutation (dedup_is _ _ _ c.dedup.ensures.filtered)))
@@ -41,9 +41,9 @@ returns-clause-grows c =
 
 pub returns-clause-number : goal.returns-clause-number
 returns-clause-number c = λ bits len.
-    let nodes : List Node = c.args.folding.now.nodes.items in
-    let node : Node = record { is_and = c.args.node.is_and; members = c.dedup.new.self } in
-    let later : List Node = c.push.new.self.items in
+    let nodes : List FormNode = c.args.folding.now.nodes.items in
+    let node : FormNode = record { is_and = c.args.node.is_and; members = c.dedup.new.self } in
+    let later : List FormNode = c.push.new.self.items in
     let there : Exist c.args.lists nodes node.members.items = exist_same (numbers c.args.lists nodes)
     c.args.node.members.items c.dedup.new.self.items
     (λ g. sym (has_ordered _ _ _ g c.sort_unstable.ensures.permutation (dedup_is _ _ _ c.dedup.ensures.filtered)))
@@ -52,6 +52,6 @@ returns-clause-number c = λ bits len.
     let at : c.len-at.result ≡ length nodes = search rules in
     (λ i. number_matches bits (items i) (2 + c.args.lists + at i))
     ∙ pushed_matches c.args.lists nodes c.requires.form node there bits len
-    ∙ ap (λ (ns : List Node). node_matches (matched bits ns) node) (sym items)
+    ∙ ap (λ (ns : List FormNode). node_matches (matched bits ns) node) (sym items)
     ∙ members_same c.args.node.is_and (matched bits later) c.dedup.new.self.items c.args.node.members.items
     (λ g. has_ordered _ _ _ g c.sort_unstable.ensures.permutation (dedup_is _ _ _ c.dedup.ensures.filtered))

@@ -1,5 +1,5 @@
 use Rattle.std.proofs.Common.{◌≡◌, ◌∷◌, [], List, true, length, subst}
-use Rattle.cs_index.specs.declared.reading.form.Node.{Node}
+use Rattle.cs_index.specs.declared.reading.form.FormNode.{FormNode}
 use Rattle.cs_index.specs.Form.{matched, members_match, number_matches}
 use Rattle.cs_index.proofs.candidates.FormValues.{one_member, required_member, some_map}
 use Rattle.cs_index.proofs.reading.rarest.rarest_list.Goals as goal
@@ -8,7 +8,7 @@ pub returns-in-Some : goal.returns-in-Some
 returns-in-Some c =
     some_map c.rarest_of.result _ _ (λ at there. required_member (length c.args.lists.now) c.args.form.now.nodes.items
     c.args.form.now.root at c.in-Some.members.now
-    (λ bits long. subst (λ (ns : List Node). number_matches bits ns c.args.form.now.root
+    (λ bits long. subst (λ (ns : List FormNode). number_matches bits ns c.args.form.now.root
     ≡ members_match true (matched bits ns) c.in-Some.members.now) c.deref.ensures.value
     (c.in-Some.ensures.matches bits long)) there) c.rarest_of.ensures
 

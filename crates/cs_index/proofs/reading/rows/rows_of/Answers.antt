@@ -1,6 +1,6 @@
 use Rattle.std.proofs.Common.{◌≡◌, ◌+◌, ◌-◌, ◌∙◌, ◌∷◌, ◌++◌, [], ap, sym, subst, ℕ, Bool, List, Vec, Global, true, false, take, get_or, arith}
 use Rattle.std.proofs.lemmas.List.{take_all, take_more}
-use Rattle.cs_index.specs.declared.reading.form.Node.{Node}
+use Rattle.cs_index.specs.declared.reading.form.FormNode.{FormNode}
 use Rattle.cs_index.specs.Form.{matched, node_matches}
 use Rattle.cs_index.specs.Rows.{column, have_id, HaveWidth}
 use Rattle.cs_index.proofs.candidates.FormValues.{matched-append}
@@ -9,15 +9,15 @@ use Rattle.cs_index.proofs.reading.rows.rows_of.Goals as goal
 
 pub loop-node-preserved : goal.loop-node-preserved
 loop-node-preserved g c =
-    let nodes : List Node = c.args.nodes.now in
+    let nodes : List FormNode = c.args.nodes.now in
     let at : ℕ = c.loop-node.node-index in
-    let node : Node = c.node-item.result in
+    let node : FormNode = c.node-item.result in
     let rows : List (Vec Bool Global) = c.loop-node.rows.items in
     let row : Vec Bool Global = c.in_ok-row.row in
     let width : ℕ = c.args.window.end - c.args.window.start in
     let items = c.in_ok-push.ensures.items in
     let taken : take (at + 1) nodes ≡ take at nodes ++ node ∷ [] = take_more nodes at node c.loop-node-test.true
-    ∙ ap (λ (n : Node). take at nodes ++ n ∷ []) (sym c.node-item.is) in
+    ∙ ap (λ (n : FormNode). take at nodes ++ n ∷ []) (sym c.node-item.is) in
     record {
       width = subst (HaveWidth width) (sym items) (width-push width rows row c.loop-node.invariant.width c.in_ok-row.ensures.width);
       rows = λ bytes m all k h.

@@ -10,7 +10,7 @@ use Rattle.cs_index.specs.Gathering.{lists_below}
 use Rattle.cs_index.specs.AscendingIds.{AscendWithin}
 use Rattle.cs_index.specs.PostingLists.{entries_of}
 use Rattle.cs_index.specs.Encoding.{Entry}
-use Rattle.cs_index.specs.Buckets.{ids_in_buckets, postings_of, with_file, without_file, AreBuckets, BucketPostings, HaveBases, Posting}
+use Rattle.cs_index.specs.Buckets.{ids_in_buckets, bucket_postings, with_file, without_file, AreBuckets, BucketPostings, HaveBases, Posting}
 use Rattle.cs_index.specs.declared.writing.builder.Builder.TheInside.{Inside}
 use Rattle.cs_index.specs.BuilderInvariant.{bucket_lists, built_of}
 use Rattle.cs_index.specs.Built.{Built, IsBuilt, with_entry}
@@ -34,13 +34,13 @@ record Hold (b : Inside) (now : Built) (names : List (List ℕ)) (buckets : List
   are : AreBuckets (length names) buckets
   is : ◌≡◌ {A = Built} (record {
     paths = b.paths;
-    entries = entries_of 0 names (lists_below trigram_count (ids_in_buckets (postings_of buckets)));
+    entries = entries_of 0 names (lists_below trigram_count (ids_in_buckets (bucket_postings buckets)));
   }) now
 
 -- buckets with the same postings
 same : (b : Inside) (now : Built) (names : List (List ℕ)) (buckets : List BucketPostings) → built_of b ≡ now →
     AreBuckets (length b.names) b.buckets.items → names ≡ b.names → length buckets ≡ 4096 →
-    HaveBases (length b.names) buckets → postings_of buckets ≡ postings_of b.buckets.items → Hold b now names buckets
+    HaveBases (length b.names) buckets → bucket_postings buckets ≡ bucket_postings b.buckets.items → Hold b now names buckets
 same b now names buckets is are named long bases kept = record {
   are = subst (λ (ns : List (List ℕ)). AreBuckets (length ns) buckets) (sym named) (record {
     long = long;
@@ -59,13 +59,13 @@ same b now names buckets is are named long bases kept = record {
 added : (b : Inside) (now : Built) (names : List (List ℕ)) (name gs : List ℕ) (id : ℕ) (buckets : List BucketPostings) →
     built_of b ≡ now → AreBuckets (length b.names) b.buckets.items → id ≡ length b.names → names ≡ b.names ++ name ∷ [] →
     length buckets ≡ 4096 → HaveBases id buckets →
-    postings_of buckets ≡ with_file id (postings_of b.buckets.items) gs → AreDistinct gs →
+    bucket_postings buckets ≡ with_file id (bucket_postings b.buckets.items) gs → AreDistinct gs →
     AllByRecursion (λ g. g < closing_trigram) gs → Hold b (with_entry now name (set_of_numbers gs)) names buckets
 added b now names name gs id buckets is are at named long bases pushed once below =
     let n : ℕ = length b.names in
-    let old : List (List Posting) = postings_of b.buckets.items in
+    let old : List (List Posting) = bucket_postings b.buckets.items in
     let f : ℕ → List ℕ = ids_in_buckets old in
-    let more : ℕ → List ℕ = ids_in_buckets (postings_of buckets) in
+    let more : ℕ → List ℕ = ids_in_buckets (bucket_postings buckets) in
     let many : length (b.names ++ name ∷ []) ≡ n + 1 = length_push b.names name in
     let given : (g : ℕ) → more g ≡ f g ++ cond (has gs g) (n ∷ []) [] = λ g.
     ap (λ (ps : List (List Posting)). ids_in_buckets ps g) pushed
@@ -101,21 +101,21 @@ removed : (b : Inside) (now : Built) (names : List (List ℕ)) (gs : List ℕ) (
     (old pushed held popped : List BucketPostings) →
     built_of b ≡ now → AreBuckets (length b.names) b.buckets.items → id ≡ length b.names → names ≡ b.names →
     old ≡ b.buckets.items →
-    length pushed ≡ 4096 → HaveBases id pushed → postings_of pushed ≡ with_file id (postings_of old) gs →
+    length pushed ≡ 4096 → HaveBases id pushed → bucket_postings pushed ≡ with_file id (bucket_postings old) gs →
     held ≡ (with_items b.buckets pushed).items → length popped ≡ 4096 → ((n : ℕ) → HaveBases n held → HaveBases n popped) →
-    postings_of popped ≡ without_file (postings_of held) gs → AllByRecursion (λ g. g < closing_trigram) gs →
+    bucket_postings popped ≡ without_file (bucket_postings held) gs → AllByRecursion (λ g. g < closing_trigram) gs →
     Hold b now names (with_items (with_items b.buckets pushed) popped).items
 removed b now names gs id old pushed held popped is are at named start long bases pushed_is holds long' bases' popped_is below =
     let items = replaced b.buckets pushed are.long long in
-    let long_start : length (postings_of b.buckets.items) ≡ 4096 = length_postings b.buckets.items ∙ are.long in
+    let long_start : length (bucket_postings b.buckets.items) ≡ 4096 = length_postings b.buckets.items ∙ are.long in
     subst (Hold b now names) (sym (replaced (with_items b.buckets pushed) popped (ap length items ∙ long) long'))
     (same b now names popped is are named long'
     (bases' (length b.names) (subst (HaveBases (length b.names)) (sym (holds
     ∙ items)) (subst (λ n. HaveBases n pushed) at bases)))
     (popped_is
-    ∙ ap (λ (ps : List (List Posting)). without_file ps gs) (ap postings_of (holds ∙ items) ∙ pushed_is
-    ∙ ap (λ (bs : List BucketPostings). with_file id (postings_of bs) gs) start)
-    ∙ file_removed gs (postings_of b.buckets.items) id below long_start))
+    ∙ ap (λ (ps : List (List Posting)). without_file ps gs) (ap bucket_postings (holds ∙ items) ∙ pushed_is
+    ∙ ap (λ (bs : List BucketPostings). with_file id (bucket_postings bs) gs) start)
+    ∙ file_removed gs (bucket_postings b.buckets.items) id below long_start))
 
 pub push_file-requires-clause-bases : goal.push_file-requires-clause-bases
 push_file-requires-clause-bases c =
@@ -132,7 +132,7 @@ invariant_of-self c =
     let at = counted c.self.inside c.args.self.now c.len-id.result c.self.view_is c.len-id.ensures in
     let kept = same c.self.inside c.args.self.now c.self.inside.names pushed c.self.view_is c.self.invariant.buckets refl
     c.push_file.ensures.long (subst (λ n. HaveBases n pushed) at c.push_file.ensures.bases)
-    (c.in_err-push_file.ensures.err ∙ ap (λ (bs : List BucketPostings). postings_of bs) c.deref_mut.ensures.value) in
+    (c.in_err-push_file.ensures.err ∙ ap (λ (bs : List BucketPostings). bucket_postings bs) c.deref_mut.ensures.value) in
     let h = subst (Hold c.self.inside c.args.self.now c.self.inside.names)
     (sym (replaced c.self.inside.buckets pushed c.self.invariant.buckets.long c.push_file.ensures.long)) kept in
     record { buckets = h.are; built = subst IsBuilt (c.self.view_is ∙ sym h.is) c.self.invariant.built }
@@ -173,7 +173,7 @@ more c =
     (of_ok c.push.result c.push.ensures.ok (sym c.is_err.ensures.value ∙ c.if-is_err.false))
     c.push_file.ensures.long c.push_file.ensures.bases
     (c.in_ok-push_file.ensures.ok ∙ ap (λ (bs : List BucketPostings). with_file c.len-id.result
-    (postings_of bs) c.args.trigrams.now) c.deref_mut.ensures.value)
+    (bucket_postings bs) c.args.trigrams.now) c.deref_mut.ensures.value)
     c.requires.once.1 (below_closing c.args.trigrams.now c.requires.once))
 
 pub invariant_of-self-else-is_err : goal.invariant_of-self-else-is_err

@@ -7,7 +7,7 @@ use Rattle.cs_index.specs.Written.{Written, entries_written, with_sent}
 use Rattle.cs_index.specs.WrittenLists.{with_postings}
 use Rattle.cs_index.specs.declared.writing.builder.Builder.TheInside.{Inside}
 use Rattle.cs_trigram.specs.TrigramSets.{trigram_count}
-use Rattle.cs_index.specs.Buckets.{ids_in_buckets, postings_of, BucketPostings}
+use Rattle.cs_index.specs.Buckets.{ids_in_buckets, bucket_postings, BucketPostings}
 use Rattle.cs_index.specs.Gathering.{lists_below}
 use Rattle.cs_index.specs.BuilderInvariant.{bucket_lists, built_of}
 use Rattle.cs_index.specs.Built.{Built}
@@ -43,10 +43,10 @@ of-sections-requires-clause-bound g c =
 -- the lists of the buckets are written
 wrote : (b : Inside) (now : Built) (buckets : List BucketPostings) (start output : Written) → built_of b ≡ now → buckets ≡ b.buckets.items →
     start ≡ empty b → output ≡ with_sent (with_postings start
-    (lists_below trigram_count (ids_in_buckets (postings_of buckets)))) output.sent →
+    (lists_below trigram_count (ids_in_buckets (bucket_postings buckets)))) output.sent →
     encoding_of output.paths (entries_written output) ≡ encoding_of now.paths now.entries
 wrote b now buckets start output view same none is = whole b now output view
-    (is ∙ (λ i. with_sent (with_postings (none i) (lists_below trigram_count (ids_in_buckets (postings_of (same i))))) output.sent))
+    (is ∙ (λ i. with_sent (with_postings (none i) (lists_below trigram_count (ids_in_buckets (bucket_postings (same i))))) output.sent))
 
 pub returns-clause-ok : goal.returns-clause-ok
 returns-clause-ok g c =

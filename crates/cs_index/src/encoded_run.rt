@@ -136,8 +136,10 @@ fn by_sixteen(bytes: &[u8], limit: u32, room: u32) -> Prefix
     let mut count = 0;
     let mut next = 0;
     'ids: while bytes.len() - len >= 16 && limit - count >= 16 {
-        let more = sixteen(&bytes[len..]);
-        if more.count == 0 || more.next > room - next {
+        let Some(more) = sixteen(&bytes[len..]) else {
+            return Prefix { len, count, next };
+        };
+        if more.next > room - next {
             return Prefix { len, count, next };
         }
         len += more.len;

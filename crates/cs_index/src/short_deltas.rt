@@ -1,5 +1,5 @@
 // Deltas of one or two bytes each, decoded in sixteen bytes at once.
-ghost use Rattle.std.specs.Prelude.{◌≡◌, ◌≤◌, true, length, map, take};
+ghost use Rattle.std.specs.Prelude.{◌≡◌, ◌≤◌, false, length, map, take, MatchOption};
 ghost use Rattle.std.specs.Simd.Lanes.{mask_l, sum_l};
 ghost use Rattle.cs_index.specs.AscendingIds.{max_ids};
 ghost use Rattle.cs_index.specs.Prefixes.{IsPrefix};
@@ -8,31 +8,27 @@ ghost use Rattle.cs_index.specs.ShortDeltas.{are_short, is_first, second_bytes};
 use crate::encoded_run::Prefix;
 use std::simd::prelude::*;
 
-/// The whole deltas of the first sixteen bytes, if each is canonical and has one or two bytes; else none.
+/// The whole deltas of the first sixteen bytes, if each is canonical and has one or two bytes.
 #[inline(always)]
-pub(crate) fn sixteen(bytes: &[u8]) -> Prefix
+pub(crate) fn sixteen(bytes: &[u8]) -> Option<Prefix>
     requires { 16 ≤ length bytes.now }
-    ensures prefix { IsPrefix bytes.now 16 max_ids result }
-    ensures taken { are_short 0 (take 16 bytes.now) ≡ true → 15 ≤ result.len }
+    ensures { MatchOption result (are_short 0 (take 16 bytes.now) ≡ false)
+        (λ prefix. IsPrefix bytes.now 16 max_ids prefix × (15 ≤ prefix.len)) }
 {
     let v = u8x16::from_slice(bytes);
     let firsts = first_bits(v);
     if !have_short_deltas(v, firsts) {
-        return Prefix {
-            len: 0,
-            count: 0,
-            next: 0,
-        };
+        return None;
     }
     // A delta of two bytes counts its first byte less 128, and 128 times its second one. The first byte of a delta
     // that is begun only is not counted.
     let two = firsts.count_ones();
     let begun = bytes[15].saturating_sub(128) as u32;
-    Prefix {
+    Some(Prefix {
         len: 16 - (firsts >> 15) as usize,
         count: 16 - two,
         next: sum_of(v) + 127 * sum_of(seconds(v)) - 128 * two - begun,
-    }
+    })
 }
 
 /// A bit for each byte that is not the last one of its delta.

@@ -7,7 +7,7 @@ use Rattle.std.proofs.lemmas.Bool.{leb-true, leb-false, true≢false}
 use Rattle.std.proofs.lemmas.List.{length-drop, take_rest, take_all, take-append-le, take-take, get_or-take, append-nil}
 use Rattle.std.proofs.lemmas.Simd.{below_from_Fits}
 use Rattle.std.specs.Int.RustNames.{count_ones}
-use Rattle.cs_index.specs.Encoding.{varint, deltas_from, stream_of}
+use Rattle.cs_index.specs.Encoding.{varint, deltas_from}
 use Rattle.cs_index.specs.AscendingIds.{max_ids, next_after, AscendWithin}
 use Rattle.cs_index.specs.IdStream.{ids_by_deltas, IsStream}
 use Rattle.cs_index.specs.Prefixes.{IsPrefix}

@@ -1,5 +1,5 @@
 -- What sixteen bytes encode, lane by lane.
-use Rattle.std.proofs.Common.{◌≡◌, ℕ, zero, suc, ◌+◌, ◌-◌, ◌*◌, ◌%◌, ◌/◌, ◌^◌, ◌<◌, ◌≤◌, Bool, true, false, not, cond, ◌&&◌, eqb, List, [], ◌∷◌, ◌++◌, length, length-append, map, take, get_or, replicate, refl, sym, ap, subst, ◌∙◌, arith, w8, w16, Fits, bit_and}
+use Rattle.std.proofs.Common.{◌≡◌, ℕ, zero, suc, ◌+◌, ◌-◌, ◌*◌, ◌%◌, ◌/◌, ◌^◌, ◌<◌, ◌≤◌, Bool, true, false, not, cond, ◌&&◌, eqb, List, [], ◌∷◌, ◌++◌, length, length-append, map, take, get_or, replicate, refl, sym, ap, subst, ◌∙◌, arith, w8, Fits, bit_and}
 use Rattle.std.specs.Prelude.{nat_le}
 use Rattle.std.specs.Int.RustNames.{count_ones}
 use Rattle.std.specs.Simd.Lanes.{Each1, zip2, mask_l, sum_l, sel_l, top, pick_l}

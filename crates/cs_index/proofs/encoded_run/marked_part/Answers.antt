@@ -1,4 +1,4 @@
-use Rattle.std.proofs.Common.{◌≡◌, ◌≤◌, ◌+◌, ◌-◌, ◌<◌, ◌∙◌, ℕ, List, Bool, length, take, sym, subst, arith, length-take, ap, set, true}
+use Rattle.std.proofs.Common.{◌≡◌, ◌≤◌, ◌+◌, ◌-◌, ◌<◌, ◌∙◌, ℕ, List, length, take, sym, subst, arith, length-take, ap, set, true}
 use Rattle.std.specs.Prelude.{sum}
 use Rattle.cs_index.specs.AscendingIds.{max_ids}
 use Rattle.cs_index.specs.IdStream.{ids_by_deltas, ids_in, IsMarked, IsStream}

@@ -1,4 +1,4 @@
-use Rattle.std.proofs.Common.{◌≡◌, ◌≤◌, ◌<◌, ◌-◌, List, ℕ, length, take, drop, arith}
+use Rattle.std.proofs.Common.{◌≤◌, ◌<◌, ◌-◌, List, ℕ, length, take, drop, arith}
 use Rattle.cs_index.specs.AscendingIds.{max_ids}
 use Rattle.cs_index.specs.declared.encoded_run.Prefix.{Prefix}
 use Rattle.cs_index.proofs.postings.EncodedRuns.{one_stream}

@@ -1,6 +1,5 @@
-use Rattle.std.proofs.Common.{◌≡◌, ◌*◌, ◌%◌, ◌^◌, ℕ, ap, sym, subst, ◌∙◌, bit_and, eqb}
-use Rattle.cs_index.specs.ShortDeltas.{are_short}
-use Rattle.cs_index.proofs.postings.ShortBytes.{firsts, short_by_zeros, long_by_sides}
+use Rattle.std.proofs.Common.{◌≡◌, ◌*◌, ◌%◌, ◌^◌, ℕ, ap, subst, ◌∙◌, bit_and, eqb}
+use Rattle.cs_index.proofs.postings.ShortBytes.{short_by_zeros, long_by_sides}
 use Rattle.cs_index.proofs.short_deltas.have_short_deltas.Goals as goal
 
 pub returns-then-firsts-eq0 : goal.returns-then-firsts-eq0

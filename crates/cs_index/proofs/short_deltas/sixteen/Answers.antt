@@ -1,12 +1,11 @@
 use Rattle.std.proofs.Common.{◌∙◌, ap, sym, arith, w8}
 use Rattle.std.specs.Simd.Lanes.{sum_l}
 use Rattle.std.proofs.lemmas.Simd.{chunk-fits}
-use Rattle.cs_index.specs.AscendingIds.{max_ids}
-use Rattle.cs_index.proofs.postings.Prefixes.{Lanes, lanes, no_prefix, sixteen_bits}
+use Rattle.cs_index.proofs.postings.Prefixes.{Lanes, lanes, sixteen_bits}
 use Rattle.cs_index.proofs.short_deltas.sixteen.Goals as goal
 
-pub returns-then-not-have_short_deltas-clause-prefix : goal.returns-then-not-have_short_deltas-clause-prefix
-returns-then-not-have_short_deltas-clause-prefix c = no_prefix c.args.bytes.now 16 max_ids
+pub returns-then-not-have_short_deltas : goal.returns-then-not-have_short_deltas
+returns-then-not-have_short_deltas c = sym c.if-not-have_short_deltas.ensures
 
 pub overflow_sub-result : goal.overflow_sub-result
 overflow_sub-result c =
@@ -34,10 +33,7 @@ overflow_sub-result-3 c = let l = all c in omega (arith, l.covers)
 pub overflow_sub-result-4 : goal.overflow_sub-result-4
 overflow_sub-result-4 c = let l = all c in omega (arith, l.covers)
 
-pub returns-clause-prefix : goal.returns-clause-prefix
-returns-clause-prefix c = (all c).prefix
-
-pub returns-clause-taken : goal.returns-clause-taken
-returns-clause-taken c = λ _.
+pub returns : goal.returns
+returns c =
     let bits = sixteen_bits c.args.bytes.now c.first_bits-firsts.result c.requires c.first_bits-firsts.ensures in
-    omega (arith, bits.0)
+    ((all c).prefix, omega (arith, bits.0))

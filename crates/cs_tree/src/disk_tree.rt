@@ -8,8 +8,10 @@ ghost use Rattle.cs_tree.specs.Folders.{is_element as is_element', are_elements}
 ghost use Rattle.cs_tree.specs.Trees.{listing_names, IsReadFault, is_tree_failure};
 ghost use Rattle.cs_tree.specs.DiskFiles.{DiskFileGives};
 ghost use Rattle.cs_tree.specs.FailureCount.{count_after};
+ghost use Rattle.cs_tree.specs.Looks.{kind_seen, nanoseconds_of};
 
 use crate::fault::{TreeFault, counted_answer};
+use crate::look::{Look, Seen, Stamp};
 use crate::ordering::order_names;
 use crate::paths::is_element;
 use crate::retry::{gave_up, is_interrupted, retry_read};
@@ -158,6 +160,46 @@ impl<R: Files + AllocGlobal + Clone + Drop> Tree for DiskTree<R> {
     fn failures(&self) -> u64 {
         self.failed
     }
+}
+
+impl<R: Files + AllocGlobal + Clone + Drop> Look for DiskTree<R> {
+    /// Makes one call of the system.
+    fn look(&mut self, path: &str) -> Result<Seen, TreeFault> {
+        let answer = match fs::symlink_metadata(&self.rt, path) {
+            Ok(metadata) => Ok(seen_of(&metadata)),
+            Err(error) => Err(fault_of(&error)),
+        };
+        counted_answer(&mut self.failed, answer)
+    }
+}
+
+fn seen_of(metadata: &Metadata) -> Seen
+    ensures folder { kind_seen result ≡ Kind.Folder ↔ IsDir (file_type metadata.now) }
+    ensures file { kind_seen result ≡ Kind.File ↔ IsFile (file_type metadata.now) }
+{
+    Seen {
+        kind: kind_of(metadata),
+        stamp: stamp_of(metadata),
+    }
+}
+
+fn stamp_of(metadata: &Metadata) -> Option<Stamp> {
+    Some(Stamp {
+        device: metadata.dev(),
+        inode: metadata.ino(),
+        size: metadata.size(),
+        modified: nanoseconds(metadata.mtime(), metadata.mtime_nsec())?,
+        changed: nanoseconds(metadata.ctime(), metadata.ctime_nsec())?,
+    })
+}
+
+/// A time in nanoseconds since 1970. None if it is before 1970 or after 2554.
+fn nanoseconds(seconds: i64, rest: i64) -> Option<u64>
+    ensures { result ≡ nanoseconds_of seconds rest }
+{
+    let seconds = u64::try_from(seconds).ok()?;
+    let rest = u64::try_from(rest).ok()?;
+    seconds.checked_mul(1_000_000_000)?.checked_add(rest)
 }
 
 fn kind_of(metadata: &Metadata) -> Kind

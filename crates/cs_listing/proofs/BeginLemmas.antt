@@ -7,11 +7,11 @@ use Rattle.cs_tree.specs.Snapshot.{Snapshot, item_at}
 use Rattle.cs_tree.specs.Folders.{names_listed}
 use Rattle.cs_tree.specs.Clean.{path_of, with_slashes}
 use Rattle.cs_listing.specs.Layers.{FolderRules}
-use Rattle.cs_listing.specs.Models.{folder_of, folder_name, folders_in, all_names}
+use Rattle.cs_listing.specs.Models.{folder_of, folder_name, folders_in, all_names, settings_of}
 use Rattle.cs_listing.specs.Listing.{TreeItems, folders_to, is_found}
 use Rattle.cs_listing.specs.FolderReads.{InTree, entry_path, folder_read, keys_taken}
 use Rattle.cs_listing.specs.Entries.{AreKeysOf}
-use Rattle.cs_listing.specs.Walk.{settings_of, above_in, keys_in, keys_of_all, frames_in, is_to_come, IsOf, Begins, Enters, Opens}
+use Rattle.cs_listing.specs.Walk.{above_in, keys_in, keys_of_all, frames_in, is_to_come, IsOf, Begins, Enters, Opens}
 use Rattle.cs_listing.specs.declared.layers.Layers.{Layers}
 use Rattle.cs_listing.specs.declared.layers.FolderRules.{FolderRules as OwnFolder}
 use Rattle.cs_listing.specs.declared.walk.Walk.{Walk}

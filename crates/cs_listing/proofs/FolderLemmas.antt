@@ -14,7 +14,7 @@ use Rattle.cs_tree.specs.Clean.{path_of, with_slashes}
 use Rattle.cs_tree.proofs.NameLemmas.{mapped_more}
 use Rattle.cs_listing.specs.Layers.{FolderRules}
 use Rattle.cs_listing.specs.Models.{rules_in, rules_if}
-use Rattle.cs_listing.specs.Listing.{TreeItems, folder_at, rules_of_item, exclude_path}
+use Rattle.cs_listing.specs.Listing.{TreeItems, folder_at}
 use Rattle.cs_listing.specs.FolderReads.{InTree, folder_path, entry_path, rules_among, exclude_read, folder_read, key_taken, keys_taken}
 use Rattle.cs_listing.specs.Entries.{entry_key, entry_keys, AreKeysOf}
 use Rattle.cs_listing.specs.declared.rules.Rules.{Rules}
@@ -57,24 +57,8 @@ pub folder_is : (items : TreeItems) (above : List (List ℕ)) (names : List (Lis
     names ≡ names_listed (items (folder_path (with_slashes above))) →
     (names ≡ names_listed (items (path_of above))) × (folder_read items (with_slashes above) names ≡ folder_at items above)
 folder_is items above names listed =
-    let at : names ≡ names_listed (items (path_of above)) = listed ∙ ap (λ path. names_listed (items path)) (path_is above) in (
-      at,
-      ap (λ path. let read : FolderRules = record {
-        ignore = rules_among items (with_slashes above) names (codes ".ignore");
-        gitignore = rules_among items (with_slashes above) names (codes ".gitignore");
-        exclude = if is_among names (codes ".git") then Some (rules_of_item (items path)) else None;
-      } in read) exclude_is
-          ∙ ap (λ (ns : List (List ℕ)). let read : FolderRules = record {
-            ignore = rules_among items (with_slashes above) ns (codes ".ignore");
-            gitignore = rules_among items (with_slashes above) ns (codes ".gitignore");
-            exclude = if is_among ns (codes ".git") then Some (rules_of_item (items (exclude_path above))) else None;
-          } in read) at,
-    )
-  where
-    exclude_is : entry_path (with_slashes above) (codes ".git/info/exclude") ≡ exclude_path above
-    exclude_is =
-        sym (ap (λ t. t ++ slash ∷ codes "exclude") (append_assoc (with_slashes above) (slash ∷ codes ".git") (slash ∷ codes "info"))
-        ∙ append_assoc (with_slashes above) (slash ∷ codes ".git/info") (slash ∷ codes "exclude"))
+    let at : names ≡ names_listed (items (path_of above)) = listed ∙ ap (λ path. names_listed (items path)) (path_is above) in
+    (at, ap (folder_read items (with_slashes above)) at)
 
 -- ---- entries
 

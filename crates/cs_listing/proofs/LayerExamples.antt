@@ -3,6 +3,7 @@ use Rattle.std.proofs.Common.{◌≡◌, refl, ℕ, ◌+◌, Bool, true, false, 
 use Rattle.std.specs.Prelude.{Option, Some, None, codes}
 use Rattle.cs_listing.specs.RuleFiles.{rules_of}
 use Rattle.cs_listing.specs.MatchWork.{rules_work}
+use Rattle.cs_listing.specs.Choices.{Settings, plain_settings}
 use Rattle.cs_listing.specs.Layers.{FolderRules, says, is_left_out}
 use Rattle.cs_listing.specs.LayersWork.{layers_work}
 use Rattle.cs_listing.specs.declared.rules.Decision.{Decision}
@@ -27,9 +28,13 @@ root text exclude = record { ignore = []; gitignore = rules_of text; exclude = S
 abbrev file_says : List FolderRules → List (List ℕ) → Option Decision
 file_says folders path = says [] false folders path
 
--- whether it is left out, without a file of the user
+-- the choice of hidden names
+abbrev hidden_too : Settings
+hidden_too = record (plain_settings [] []) { takes_hidden = true }
+
+-- whether it is left out, without any choice of the user
 abbrev leaves_out : List FolderRules → List (List ℕ) → Bool
-leaves_out folders path = is_left_out false [] false folders path
+leaves_out folders path = is_left_out (plain_settings [] []) false folders path
 
 -- ---- the deepest file counts
 
@@ -81,7 +86,7 @@ ignore_goes_in = refl
 
 -- ---- names
 
-git_folder : is_left_out true [] true (root (codes "!.git") [] ∷ []) (codes ".git" ∷ []) ≡ true
+git_folder : is_left_out hidden_too true (root (codes "!.git") [] ∷ []) (codes ".git" ∷ []) ≡ true
 git_folder = refl
 
 hidden_outside : leaves_out (plain ∷ []) (codes ".x" ∷ []) ≡ true
@@ -90,7 +95,7 @@ hidden_outside = refl
 hidden_inside : leaves_out (root [] [] ∷ plain ∷ []) (codes "d" ∷ codes ".x" ∷ []) ≡ false
 hidden_inside = refl
 
-hidden_taken : is_left_out true [] false (plain ∷ []) (codes ".x" ∷ []) ≡ false
+hidden_taken : is_left_out hidden_too false (plain ∷ []) (codes ".x" ∷ []) ≡ false
 hidden_taken = refl
 
 hidden_taken_back : leaves_out (with_ignore (codes "!.x") ∷ []) (codes ".x" ∷ []) ≡ false
@@ -102,3 +107,58 @@ each_file_once : layers_work (rules_of (codes "z")) (with_ignore (codes "y") ∷
     ≡ rules_work (rules_of (codes "y")) (codes "d" ∷ codes "a" ∷ [])
     + (rules_work (rules_of (codes "x")) (codes "a" ∷ []) + rules_work (rules_of (codes "z")) (codes "a" ∷ []))
 each_file_once = refl
+
+-- ---- choices
+
+abbrev with_globs : List ℕ → Settings
+with_globs text = record (plain_settings [] (codes "d" ∷ [])) { globs = rules_of text }
+
+abbrev with_types : List ℕ → Settings
+with_types text = record (plain_settings [] []) { types = rules_of text }
+
+glob_before_rules : is_left_out (with_globs (codes "*.o")) false (root (codes "*.o") [] ∷ []) (codes "a.o" ∷ []) ≡ false
+glob_before_rules = refl
+
+no_glob_applies : is_left_out (with_globs (codes "*.o")) false (root [] [] ∷ []) (codes "a.c" ∷ []) ≡ true
+no_glob_applies = refl
+
+folder_without_glob : is_left_out (with_globs (codes "*.o")) true (root [] [] ∷ []) (codes "a.c" ∷ []) ≡ false
+folder_without_glob = refl
+
+left_out_by_glob : is_left_out (with_globs (codes "!x")) false (root [] [] ∷ []) (codes "x" ∷ []) ≡ true
+left_out_by_glob = refl
+
+others_stay : is_left_out (with_globs (codes "!x")) false (root [] [] ∷ []) (codes "y" ∷ []) ≡ false
+others_stay = refl
+
+-- `-g` is relative to the current folder, here `/d`
+glob_from_the_folder : is_left_out (with_globs (codes "/x")) false (root [] [] ∷ plain ∷ []) (codes "d" ∷ codes "x" ∷ []) ≡ false
+glob_from_the_folder = refl
+
+glob_elsewhere : is_left_out (with_globs (codes "/e/x")) false (root [] [] ∷ plain ∷ []) (codes "e" ∷ codes "x" ∷ []) ≡ false
+glob_elsewhere = refl
+
+other_type : is_left_out (with_types (codes "*.c")) false (root [] [] ∷ []) (codes "a.h" ∷ []) ≡ true
+other_type = refl
+
+type_of_an_ignored_file : is_left_out (with_types (codes "*.c")) false (root (codes "a.c") [] ∷ []) (codes "a.c" ∷ []) ≡ true
+type_of_an_ignored_file = refl
+
+type_of_a_hidden_name : is_left_out (with_types (codes "*.c")) false (plain ∷ []) (codes ".a.c" ∷ []) ≡ false
+type_of_a_hidden_name = refl
+
+types_of_no_folder : is_left_out (with_types (codes "*.c")) true (root [] [] ∷ []) (codes "d" ∷ []) ≡ false
+types_of_no_folder = refl
+
+rules_count_for_nothing : is_left_out (record (plain_settings [] []) { takes_hidden = true; takes_ignored = true }) false
+    (root (codes "a.o") [] ∷ []) (codes "a.o" ∷ []) ≡ false
+rules_count_for_nothing = refl
+
+too_deep : is_left_out (record (plain_settings [] []) { most_names = 1 }) false (root [] [] ∷ plain ∷ []) (codes "d" ∷ codes "x" ∷ []) ≡ true
+too_deep = refl
+
+folder_too_deep : is_left_out (record (plain_settings [] []) { most_names = 1 }) true (root [] [] ∷ []) (codes "d" ∷ []) ≡ true
+folder_too_deep = refl
+
+deep_enough : is_left_out (record (plain_settings [] []) { most_names = 1 }) false (root [] [] ∷ []) (codes "x" ∷ []) ≡ false
+deep_enough = refl

@@ -1,6 +1,9 @@
 pub mod NameLemmas
 pub mod PathLemmas
 pub mod RuleLemmas
+pub mod ChoiceLemmas
+pub mod GitLemmas
+pub mod PathNameLemmas
 pub mod LineLemmas
 pub mod ClassLemmas
 pub mod TokenLemmas

@@ -4,10 +4,11 @@ use Rattle.std.specs.Prelude.{codes, unwrap_or}
 use Rattle.std.specs.FinMap.{find}
 use Rattle.cs_tree.specs.NameOrder.{bytes_cmp}
 use Rattle.cs_tree.specs.Snapshot.{Item, folder, file, other, bad, missing}
+use Rattle.cs_listing.specs.Choices.{plain_settings}
 use Rattle.cs_listing.specs.Listing.{Settings, TreeItems, is_listed}
 
 abbrev settings : Settings
-settings = record { global = []; takes_hidden = false }
+settings = plain_settings [] []
 
 abbrev tree : List (List ℕ × Item)
 tree =

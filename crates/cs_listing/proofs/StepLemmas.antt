@@ -1,4 +1,5 @@
 -- The same of a tree that may have no model, and of calls that may fail.
+use denote.Ref.{Bor}
 use Rattle.std.specs.Prelude.{Option, Some, None, Result, Ok, Err, OnOk, is_some, IsSome, String, string_bytes}
 use Rattle.std.specs.Path.{slash}
 use Rattle.std.specs.List.{AllByRecursion}
@@ -11,12 +12,13 @@ use Rattle.cs_tree.specs.Walks.{is_file}
 use Rattle.cs_tree.specs.Clean.{path_of, with_slashes, longest_path}
 use Rattle.std.specs.Option.{option_to_list}
 use Rattle.std.proofs.lemmas.List.{reverse-reverse, map-append, length-append}
-use Rattle.cs_listing.specs.Models.{all_names, folder_of, folder_name, folders_of, folders_in, rules_in, KeepsChoices}
+use Rattle.cs_listing.specs.Models.{all_names, folder_of, folder_name, folders_of, folders_in, chosen_in, settings_of, KeepsChoices}
 use Rattle.cs_listing.specs.Listing.{Settings, TreeItems, folders_to, folder_at}
 use Rattle.cs_listing.specs.FolderReads.{InTree, entry_path, keys_taken, key_of}
 use Rattle.cs_listing.specs.Entries.{entry_key, AreKeysOf, IsNameOf}
-use Rattle.cs_listing.specs.Walk.{settings_in, settings_of, above_in, keys_in, keys_of_all, is_to_come, with_key, frames_in, is_left, TakesFirst, IsKeyOf, IsOpen, AreAround, IsOf, IsWalkIn, StepGives, IsVisit, Visits, Enters, Opens, OpensAtMostOne}
+use Rattle.cs_listing.specs.Walk.{settings_in, above_in, keys_in, keys_of_all, is_to_come, with_key, frames_in, is_left, TakesFirst, IsKeyOf, IsOpen, AreAround, IsOf, IsWalkIn, StepGives, IsVisit, Visits, Enters, Opens, OpensAtMostOne}
 use Rattle.cs_listing.specs.declared.layers.Layers.{Layers}
+use Rattle.cs_listing.specs.declared.choices.Choices.{Choices}
 use Rattle.cs_listing.specs.declared.layers.FolderRules.{FolderRules as OwnFolder}
 use Rattle.cs_listing.specs.declared.walk.Frame.{Frame}
 use Rattle.cs_listing.specs.declared.walk.Walk.{Walk}
@@ -292,5 +294,5 @@ visits_in (Some tree) old mid new rest frame next entry name path frames later l
 
 pub same_settings : (old new : Layers) → KeepsChoices old new → settings_of new ≡ settings_of old
 same_settings old new keeps =
-    ap (λ g. let s : Settings = record { global = rules_in g; takes_hidden = new.takes_hidden } in s) keeps.0
-    ∙ ap (λ t. let s : Settings = record { global = rules_in old.global; takes_hidden = t } in s) keeps.1
+    ap (λ (choices : Bor Choices). let s : Settings = record (chosen_in choices.now) { most_names = new.most_names } in s) keeps.0
+    ∙ ap (λ (most : ℕ). let s : Settings = record (chosen_in old.choices.now) { most_names = most } in s) keeps.1

@@ -12,11 +12,11 @@ use Rattle.cs_tree.specs.Walks.{is_file}
 use Rattle.cs_tree.specs.declared.tree.Kind.{Kind}
 use Rattle.cs_tree.specs.declared.tree.Kind.TheVariants as kind
 use Rattle.cs_listing.specs.Layers.{is_left_out}
-use Rattle.cs_listing.specs.Models.{rules_in, folders_in, names_in}
+use Rattle.cs_listing.specs.Models.{rules_in, folders_in, names_in, settings_of}
 use Rattle.cs_listing.specs.Listing.{Settings, TreeItems, has_more, is_listed, is_reached, is_taken, leaves_out, folders_to, down}
 use Rattle.cs_listing.specs.FolderReads.{key_of, kind_of_item, kind_at, taken_as, out_by, keys_taken}
 use Rattle.cs_listing.specs.Entries.{AreKeysOf}
-use Rattle.cs_listing.specs.Walk.{IsKeyOf, settings_of, comes_by}
+use Rattle.cs_listing.specs.Walk.{IsKeyOf, comes_by}
 use Rattle.cs_listing.specs.declared.layers.Layers.{Layers}
 use Rattle.cs_listing.proofs.KeyLemmas.{same_eq, apart_eq, keys_apart, key_is_none}
 use Rattle.cs_listing.proofs.WalkLemmas.{AreAll, reverse_cons}
@@ -190,8 +190,8 @@ module _ (layers : Layers) (items : TreeItems) (above names : List (List ℕ))
 
   out_is : (is_folder : Bool) (name : List ℕ) → out_by layers name is_folder ≡ leaves_out (settings_of layers) items is_folder above name
   out_is is_folder name =
-      ap (λ folders. is_left_out layers.takes_hidden (rules_in layers.global) is_folder folders (names_in layers ++ name ∷ [])) rules
-      ∙ ap (λ path. is_left_out layers.takes_hidden (rules_in layers.global) is_folder (folders_to items above) path)
+      ap (λ folders. is_left_out (settings_of layers) is_folder folders (names_in layers ++ name ∷ [])) rules
+      ∙ ap (λ path. is_left_out (settings_of layers) is_folder (folders_to items above) path)
       (ap (λ path. path ++ name ∷ []) place ∙ sym (reverse_cons name above))
 
   how_is : (is_folder : Bool) (name : List ℕ) → is_as is_folder (how name)

@@ -10,12 +10,12 @@ use Rattle.cs_tree.specs.NamesAscending.{are_ascending}
 use Rattle.cs_tree.specs.Elements.{is_element, are_elements, are_distinct}
 use Rattle.cs_tree.specs.Folders.{names_listed}
 use Rattle.cs_tree.specs.Clean.{path_of, with_slashes, longest_path}
-use Rattle.cs_listing.specs.Models.{folder_of, folder_name, folders_in, names_in, all_names}
+use Rattle.cs_listing.specs.Models.{folder_of, folder_name, folders_in, names_in, all_names, settings_of}
 use Rattle.cs_listing.specs.Layers.{FolderRules}
 use Rattle.cs_listing.specs.Listing.{TreeItems, folders_to, folder_at}
 use Rattle.cs_listing.specs.FolderReads.{key_of, keys_taken, folder_path, folder_read}
 use Rattle.cs_listing.specs.Entries.{AreKeysOf}
-use Rattle.cs_listing.specs.Walk.{is_to_come, settings_of, settings_in, above_in, keys_in, keys_of_all, frames_in, IsOpen, AreAround, IsOf, IsVisit, Visits, Enters, with_key}
+use Rattle.cs_listing.specs.Walk.{is_to_come, settings_in, above_in, keys_in, keys_of_all, frames_in, IsOpen, AreAround, IsOf, IsVisit, Visits, Enters, with_key}
 use Rattle.cs_listing.specs.declared.layers.Layers.{Layers}
 use Rattle.cs_listing.specs.declared.walk.Frame.{Frame}
 use Rattle.cs_listing.specs.declared.walk.Walk.{Walk}

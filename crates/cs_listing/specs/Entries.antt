@@ -3,7 +3,7 @@ use denote.Ref.{Bor}
 use Rattle.std.specs.Prelude.{ℕ, ◌≡◌, Bool, true, List, map, reverse, string_bytes}
 use Rattle.cs_tree.specs.Elements.{is_among, is_element}
 use Rattle.cs_listing.specs.Layers.{is_left_out}
-use Rattle.cs_listing.specs.Models.{names, rules_in, folders_in}
+use Rattle.cs_listing.specs.Models.{names, settings_of, folders_in}
 use Rattle.cs_listing.specs.FolderReads.{key_of}
 use Rattle.cs_listing.specs.declared.entries.Entry.{Entry}
 use Rattle.cs_listing.specs.declared.entries.Taken.{Taken}
@@ -22,7 +22,7 @@ entry_keys entries = map entry_key (reverse entries)
 -- whether the layers leave out the path, as a folder or as a file
 abbrev pub left_out_by : Layers → List (Bor (List ℕ)) → Bool → Bool
 left_out_by layers path is_folder =
-    is_left_out layers.takes_hidden (rules_in layers.global) is_folder (folders_in layers) (names path)
+    is_left_out (settings_of layers) is_folder (folders_in layers) (names path)
 
 -- the same keys, in whatever order
 abbrev pub AreKeysOf : List (List ℕ) → List (List ℕ) → Type 0

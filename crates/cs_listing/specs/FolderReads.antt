@@ -1,5 +1,5 @@
 -- What reading a folder and its rule files returns. Of a tree without a model nothing is said.
-use Rattle.std.specs.Prelude.{ℕ, ◌≡◌, Bool, true, false, if◌then◌else◌, nat_le, List, [], ◌∷◌, ◌++◌, filter_map, length, Option, Some, None, option_map, IfSome, Result, Ok, Err, codes, bytes_eq}
+use Rattle.std.specs.Prelude.{ℕ, ◌≡◌, Bool, true, false, if◌then◌else◌, nat_le, List, [], ◌∷◌, ◌++◌, filter_map, length, Option, Some, None, option_map, IfSome, Result, Ok, Err, Vec, codes, bytes_eq}
 use Rattle.std.specs.Path.{slash}
 use Rattle.cs_tree.specs.Snapshot.{Snapshot, Item, item_at, folder, file, cut, other, bad, missing, denied, failed}
 use Rattle.cs_tree.specs.Clean.{longest_path}
@@ -12,22 +12,21 @@ use Rattle.cs_tree.specs.Elements.{is_among}
 use Rattle.cs_tree.specs.Walks.{is_file}
 use Rattle.cs_listing.specs.Rules.{Rule}
 use Rattle.cs_listing.specs.Layers.{FolderRules, is_left_out}
-use Rattle.cs_listing.specs.Models.{rules_in, folders_in, names_in}
+use Rattle.cs_listing.specs.Models.{settings_of, folders_in, names_in}
 use Rattle.cs_listing.specs.RuleFileReads.{longest_rule_file}
-use Rattle.cs_listing.specs.Listing.{TreeItems, rules_of_item}
-use Rattle.cs_listing.specs.declared.rules.Rules.{Rules}
+use Rattle.cs_listing.specs.Listing.{TreeItems, bytes_of_item, rules_of_item, exclude_path}
 use Rattle.cs_listing.specs.declared.fault.ListFault.{ListFault}
 use Rattle.cs_listing.specs.declared.fault.ListFault.TheVariants.{Tree, LongRules}
 use Rattle.cs_listing.specs.declared.layers.Layers.{Layers}
-use Rattle.cs_listing.specs.declared.rule_files.FileRules.{FileRules}
+use Rattle.cs_listing.specs.declared.whole_files.WholeFile.{WholeFile}
 
 -- what holds of the items of a tree, if it is modelled
 abbrev pub InTree : Option Snapshot → (TreeItems → Type 0) → Type 0
 InTree snapshot P = IfSome snapshot (λ tree. P (item_at tree))
 
--- ---- rule files
+-- ---- files that are read whole: rule files, and those by which a repository names its folder
 
--- Why an item has no rules. What is not there, and what is no file, has none without a fault.
+-- Why an item has no bytes. What is not there, and what is no file, has none without a fault.
 abbrev pub rules_fault : Item → Option ListFault
 rules_fault (file bytes) = if nat_le (length bytes) longest_rule_file then None else Some LongRules
 rules_fault (cut bytes) = Some (if nat_le (length bytes) longest_rule_file then Tree Failed else LongRules)
@@ -36,22 +35,22 @@ rules_fault (bad denied) = Some (Tree (fault_of denied))
 rules_fault (bad failed) = Some (Tree (fault_of failed))
 rules_fault _ = None
 
--- the rules of an item, and why it has none
-abbrev pub ReadsFileRules : Item → FileRules → Type 0
-ReadsFileRules item read = (rules_in read.rules ≡ rules_of_item item) × (read.fault ≡ rules_fault item)
+-- the bytes of an item, and why it has none
+abbrev pub ReadsWhole : Item → WholeFile → Type 0
+ReadsWhole item read = (read.bytes.items ≡ bytes_of_item item) × (read.fault ≡ rules_fault item)
 
-abbrev pub HasNoRules : Item → Option ListFault → Type 0
-HasNoRules item fault = (rules_of_item item ≡ []) × (rules_fault item ≡ fault)
+abbrev pub HasNoBytes : Item → Option ListFault → Type 0
+HasNoBytes item fault = (bytes_of_item item ≡ []) × (rules_fault item ≡ fault)
 
 -- the same, with the fault as an error
-abbrev pub ReadsItem : Item → Result (Option Rules) TreeFault → Type 0
-ReadsItem item (Ok (Some rules)) = (rules_in rules ≡ rules_of_item item) × (rules_fault item ≡ None)
-ReadsItem item (Ok None) = HasNoRules item (Some LongRules)
+abbrev pub ReadsItem : {A : Type 0} → Item → Result (Option (Vec ℕ A)) TreeFault → Type 0
+ReadsItem item (Ok (Some bytes)) = (bytes.items ≡ bytes_of_item item) × (rules_fault item ≡ None)
+ReadsItem item (Ok None) = HasNoBytes item (Some LongRules)
 ReadsItem item (Err Memory) = Unit {0}
-ReadsItem item (Err Missing) = HasNoRules item None
-ReadsItem item (Err fault) = HasNoRules item (Some (Tree fault))
+ReadsItem item (Err Missing) = HasNoBytes item None
+ReadsItem item (Err fault) = HasNoBytes item (Some (Tree fault))
 
-abbrev pub ReadsFileItem : Item → Result (Option Rules) TreeFault → Type 0
+abbrev pub ReadsFileItem : {A : Type 0} → Item → Result (Option (Vec ℕ A)) TreeFault → Type 0
 ReadsFileItem item result = is_file item ≡ true → ReadsItem item result
 
 -- ---- folders, by the text before the slash in the paths of their entries, which is empty for `/`
@@ -71,7 +70,7 @@ rules_among items stem names name = if is_among names name then rules_of_item (i
 -- the rules that a repository has for itself, if one begins in the folder
 abbrev pub exclude_read : TreeItems → List ℕ → List (List ℕ) → Option (List Rule)
 exclude_read items stem names =
-    if is_among names (codes ".git") then Some (rules_of_item (items (entry_path stem (codes ".git/info/exclude")))) else None
+    if is_among names (codes ".git") then Some (rules_of_item (items (exclude_path items stem))) else None
 
 -- the rule files of a folder that lists these names
 abbrev pub folder_read : TreeItems → List ℕ → List (List ℕ) → FolderRules
@@ -108,7 +107,7 @@ key_of is_folder name = if is_folder then name ++ slash ∷ [] else name
 -- whether the layers leave out an entry of their deepest folder
 abbrev pub out_by : Layers → List ℕ → Bool → Bool
 out_by layers name is_folder =
-    is_left_out layers.takes_hidden (rules_in layers.global) is_folder (folders_in layers) (names_in layers ++ name ∷ [])
+    is_left_out (settings_of layers) is_folder (folders_in layers) (names_in layers ++ name ∷ [])
 
 -- the key of the entry with this name, if it is taken
 abbrev pub key_taken : Layers → TreeItems → List ℕ → List ℕ → Option (List ℕ)

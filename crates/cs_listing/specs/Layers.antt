@@ -1,11 +1,12 @@
 -- What all rule files along a path say together: gitignore(5), "DESCRIPTION", and `.ignore` files, which come first.
 -- docs/PROMISES.md, "Rules".
-use Rattle.std.specs.Prelude.{ℕ, Bool, true, false, not, ◌&&◌, ◌||◌, List, [], ◌∷◌, drop, Option, Some, None, is_some, bytes_eq, codes}
+use Rattle.std.specs.Prelude.{ℕ, Bool, true, false, not, ◌&&◌, ◌||◌, List, [], ◌∷◌, drop, Option, Some, None, is_some, if◌then◌else◌, bytes_eq, codes}
 use Rattle.cs_listing.specs.declared.rules.Decision.{Decision}
 use Rattle.cs_listing.specs.declared.rules.Decision.TheVariants.{Ignore, TakeBack}
 use Rattle.cs_listing.specs.declared.layers.RuleFile.{RuleFile}
 use Rattle.cs_listing.specs.declared.layers.RuleFile.TheVariants as file
 use Rattle.cs_listing.specs.Rules.{Rule, or_else, decide}
+use Rattle.cs_listing.specs.Choices.{Settings, glob_choice, type_choice, is_too_deep}
 use Rattle.cs_listing.specs.Classes.{begins_with}
 
 -- a folder, by the rules that count below it
@@ -67,15 +68,37 @@ last_name [] = []
 last_name (name ∷ []) = name
 last_name (folder ∷ name ∷ path) = last_name (name ∷ path)
 
--- whether a path is left out by what the rule files say; if they say nothing, a name with a dot is left out outside of
--- repositories, unless the user takes hidden names
-abbrev pub is_left_out_by : Option Decision → Bool → Bool → List ℕ → Bool
-is_left_out_by (Some Ignore) in_repository takes_hidden name = true
-is_left_out_by (Some TakeBack) in_repository takes_hidden name = false
-is_left_out_by None in_repository takes_hidden name = begins_with 46 name && not (takes_hidden || in_repository)
+-- ---- what is left out
+
+-- whether a name begins with a dot, and counts only if the user takes hidden names: it is in no repository
+abbrev pub is_hidden : Settings → List FolderRules → List (List ℕ) → Bool
+is_hidden settings folders path =
+    begins_with 46 (last_name path) && not (settings.takes_hidden || is_some (repository_of folders path))
+
+-- what the rule files say, if they count
+abbrev pub said_of : Settings → Bool → List FolderRules → List (List ℕ) → Option Decision
+said_of settings is_folder folders path = if settings.takes_ignored then None else says settings.global is_folder folders path
+
+-- Whether a path is left out by what the rule files say, and by whether its type is taken. A hidden name is left out if they
+-- say nothing.
+abbrev pub is_ruled_out : Option Decision → Option Bool → Bool → Bool
+is_ruled_out (Some Ignore) typed hidden = true
+is_ruled_out (Some TakeBack) (Some taken) hidden = not taken
+is_ruled_out (Some TakeBack) None hidden = false
+is_ruled_out None (Some taken) hidden = not taken
+is_ruled_out None None hidden = hidden
+
+abbrev pub is_out_by_rules : Settings → Bool → List FolderRules → List (List ℕ) → Bool
+is_out_by_rules settings is_folder folders path = is_ruled_out (said_of settings is_folder folders path)
+    (type_choice settings is_folder (last_name path)) (is_hidden settings folders path)
+
+-- whether a path is left out by the globs of the user, or by the rule files if no glob says anything
+abbrev pub unless_chosen : Option Bool → Bool → Bool
+unless_chosen None ruled_out = ruled_out
+unless_chosen (Some taken) ruled_out = not taken
 
 -- whether a path is left out; `.git` always is
-abbrev pub is_left_out : Bool → List Rule → Bool → List FolderRules → List (List ℕ) → Bool
-is_left_out takes_hidden global is_folder folders path =
-    bytes_eq (last_name path) (codes ".git")
-    || is_left_out_by (says global is_folder folders path) (is_some (repository_of folders path)) takes_hidden (last_name path)
+abbrev pub is_left_out : Settings → Bool → List FolderRules → List (List ℕ) → Bool
+is_left_out settings is_folder folders path =
+    (bytes_eq (last_name path) (codes ".git") || is_too_deep settings.most_names is_folder path)
+    || unless_chosen (glob_choice settings is_folder path) (is_out_by_rules settings is_folder folders path)

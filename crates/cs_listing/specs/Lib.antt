@@ -7,8 +7,11 @@ pub mod Classes
 pub mod GlobText
 pub mod RuleFiles
 pub mod RuleFileReads
+pub mod Choices
 pub mod Layers
 pub mod LayersWork
+pub mod PathNames
+pub mod GitFolders
 pub mod Listing
 pub mod Models
 pub mod FolderReads

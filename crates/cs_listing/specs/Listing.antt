@@ -1,29 +1,21 @@
 -- Which files of a tree a search of a folder lists: those that no rule file on the way leaves out. docs/PROMISES.md, "Rules".
-use Rattle.std.specs.Prelude.{ℕ, ◌≡◌, Bool, true, false, not, ◌&&◌, if◌then◌else◌, nat_le, List, [], ◌∷◌, ◌++◌, length, reverse, Option, Some, None, codes, bytes_eq}
-use Rattle.cs_tree.specs.Snapshot.{Item, file}
+use Rattle.std.specs.Prelude.{ℕ, ◌≡◌, Bool, true, false, not, ◌&&◌, if◌then◌else◌, nat_le, List, [], ◌∷◌, ◌++◌, length, reverse, Option, Some, None, codes}
+use Rattle.std.specs.Path.{slash}
+use Rattle.cs_tree.specs.Snapshot.{Item}
 use Rattle.cs_tree.specs.Folders.{lists}
-use Rattle.cs_tree.specs.Clean.{path_of, longest_path}
+use Rattle.cs_tree.specs.Clean.{path_of, with_slashes, longest_path}
 use Rattle.cs_tree.specs.Walks.{is_file}
 use Rattle.cs_listing.specs.Rules.{Rule}
 use Rattle.cs_listing.specs.RuleFiles.{rules_of}
-use Rattle.cs_listing.specs.RuleFileReads.{longest_rule_file}
+pub use Rattle.cs_listing.specs.GitFolders.{TreeItems, bytes_of_item, git_folder}
 use Rattle.cs_listing.specs.Layers.{FolderRules, is_left_out}
-
--- the items of a tree by their paths, as `item_at` gives them for a snapshot
-abbrev pub TreeItems : Type 0
-TreeItems = List ℕ → Item
-
--- what the tree does not say: the rules of the user, and whether names that begin with a dot count outside of repositories
-pub record Settings : Type 0 where
-  pub global : List Rule
-  pub takes_hidden : Bool
+pub use Rattle.cs_listing.specs.Choices.{Settings, after}
 
 -- ---- the folders along a path. The elements of a folder are given last one first, as to `path_of`.
 
--- the rules of an item; only a file has any, and a link is none
+-- the rules of an item
 abbrev pub rules_of_item : Item → List Rule
-rules_of_item (file bytes) = if nat_le (length bytes) longest_rule_file then rules_of bytes else []
-rules_of_item _ = []
+rules_of_item item = rules_of (bytes_of_item item)
 
 -- the rules of the file with this name, if the folder lists it
 abbrev pub rules_listed : TreeItems → List (List ℕ) → List ℕ → List Rule
@@ -31,15 +23,15 @@ rules_listed items above name =
     if lists (items (path_of above)) name then rules_of_item (items (path_of (name ∷ above))) else []
 
 -- the path of the rules that a repository has for itself
-abbrev pub exclude_path : List (List ℕ) → List ℕ
-exclude_path above = path_of (codes "exclude" ∷ codes "info" ∷ codes ".git" ∷ above)
+abbrev pub exclude_path : TreeItems → List ℕ → List ℕ
+exclude_path items stem = git_folder items stem ++ slash ∷ codes "info/exclude"
 
 -- the rule files of a folder of the tree; a folder that lists `.git` is the root of a repository
 abbrev pub folder_at : TreeItems → List (List ℕ) → FolderRules
 folder_at items above = record {
   ignore = rules_listed items above (codes ".ignore");
   gitignore = rules_listed items above (codes ".gitignore");
-  exclude = if lists (items (path_of above)) (codes ".git") then Some (rules_of_item (items (exclude_path above))) else None;
+  exclude = if lists (items (path_of above)) (codes ".git") then Some (rules_of_item (items (exclude_path items (with_slashes above)))) else None;
 }
 
 -- the folders from `/` down to this one
@@ -52,7 +44,7 @@ folders_to items (name ∷ above) = folders_to items above ++ folder_at items (n
 -- whether the entry of a folder is left out, by the rule files from `/` down to the folder
 abbrev pub leaves_out : Settings → TreeItems → Bool → List (List ℕ) → List ℕ → Bool
 leaves_out settings items is_folder above name =
-    is_left_out settings.takes_hidden settings.global is_folder (folders_to items above) (reverse (name ∷ above))
+    is_left_out settings is_folder (folders_to items above) (reverse (name ∷ above))
 
 -- whether the folder lists the name, at a path within the limit, and does not leave it out
 abbrev pub is_taken : Settings → TreeItems → Bool → List (List ℕ) → List ℕ → Bool
@@ -79,12 +71,6 @@ down above (name ∷ path) = down (name ∷ above) path
 abbrev pub is_listed : Settings → TreeItems → List (List ℕ) → List (List ℕ) → Bool
 is_listed settings items start path =
     is_reached settings items start path && is_file (items (path_of (down start path)))
-
--- what follows a prefix of a path
-abbrev pub after : List (List ℕ) → List (List ℕ) → Option (List (List ℕ))
-after [] path = Some path
-after (first ∷ prefix) [] = None
-after (first ∷ prefix) (name ∷ path) = if bytes_eq first name then after prefix path else None
 
 -- whether a search of a folder lists the file at what follows it in a path
 abbrev pub is_found_at : Settings → TreeItems → List (List ℕ) → Option (List (List ℕ)) → Bool

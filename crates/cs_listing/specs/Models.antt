@@ -1,9 +1,11 @@
 -- The tokens, elements, rules and folders that the values of the code stand for.
 use denote.Ref.{Bor}
-use Rattle.std.specs.Prelude.{ℕ, ◌≡◌, List, map, length, drop, string_bytes, Option, Some, None}
+use Rattle.std.specs.Prelude.{ℕ, ◌≡◌, ◌+◌, List, [], ◌∷◌, map, length, drop, string_bytes, Option, Some, None}
 use Rattle.cs_listing.specs.Globs.{GlobToken, byte, any, class, star, Element, folders, one}
 use Rattle.cs_listing.specs.Rules.{Rule}
-use Rattle.cs_listing.specs.Layers.{FolderRules, Repository}
+use Rattle.cs_listing.specs.Choices.{Settings, relative_to}
+use Rattle.cs_listing.specs.Layers.{FolderRules, Repository, last_name}
+use Rattle.cs_listing.specs.MatchWork.{rules_work}
 use Rattle.cs_listing.specs.LayersWork.{layers_work}
 use Rattle.cs_listing.specs.declared.glob.Token.{Token}
 use Rattle.cs_listing.specs.declared.glob.Token.TheVariants.{Byte, Any, Class, Star}
@@ -14,6 +16,7 @@ use Rattle.cs_listing.specs.declared.rules.Rules.{Rules}
 use Rattle.cs_listing.specs.declared.layers.FolderRules.{FolderRules as OwnFolder}
 use Rattle.cs_listing.specs.declared.layers.Repository.{Repository as OwnRepository}
 use Rattle.cs_listing.specs.declared.layers.Layers.{Layers}
+use Rattle.cs_listing.specs.declared.choices.Choices.{Choices}
 
 abbrev pub token_of : Token → GlobToken
 token_of (Byte b) = byte b
@@ -63,9 +66,24 @@ all_names layers = map folder_name layers.folders.items
 abbrev pub names_in : Layers → List (List ℕ)
 names_in layers = drop 1 (all_names layers)
 
--- the rules and the choice of the user stay
+-- the choices of the user; the depth is that below the folder where a walk begins
+abbrev pub chosen_in : Choices → Settings
+chosen_in choices = record {
+  global = rules_in choices.user;
+  takes_hidden = choices.takes_hidden;
+  takes_ignored = choices.takes_ignored;
+  most_names = choices.depth;
+  globs = rules_in choices.globs;
+  folder = map string_bytes choices.folder.items;
+  types = rules_in choices.types;
+}
+
+abbrev pub settings_of : Layers → Settings
+settings_of layers = record (chosen_in layers.choices.now) { most_names = layers.most_names }
+
+-- the choices of the user stay
 abbrev pub KeepsChoices : Layers → Layers → Type 0
-KeepsChoices old new = (new.global ≡ old.global) × (new.takes_hidden ≡ old.takes_hidden)
+KeepsChoices old new = (new.choices ≡ old.choices) × (new.most_names ≡ old.most_names)
 
 -- the values of borrowed names
 abbrev pub names : List (Bor (List ℕ)) → List (List ℕ)
@@ -77,7 +95,15 @@ IsInDeepest layers path = length (folders_in layers) ≡ length path
 
 -- the most steps that the layers take for a path
 abbrev pub work_for : Layers → List (Bor (List ℕ)) → ℕ
-work_for layers path = layers_work (rules_in layers.global) (folders_in layers) (names path)
+work_for layers path = layers_work (settings_of layers).global (folders_in layers) (names path)
+
+-- the most steps that the globs and the types of the user take, and the layers
+abbrev pub choice_work : Settings → List (List ℕ) → ℕ
+choice_work settings path =
+    rules_work settings.globs (relative_to settings.folder path) + rules_work settings.types (last_name path ∷ [])
+
+abbrev pub left_out_work : Layers → List (Bor (List ℕ)) → ℕ
+left_out_work layers path = choice_work (settings_of layers) (names path) + work_for layers path
 
 abbrev pub repository_in : Option OwnRepository → Option Repository
 repository_in None = None

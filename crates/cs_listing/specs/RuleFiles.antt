@@ -51,6 +51,10 @@ rule_saying decision text = rule_with decision (ends_with_byte slash text) (with
 abbrev pub rule_in : List ℕ → Option Rule
 rule_in text = if begins_with 33 text then rule_saying TakeBack (drop 1 text) else rule_saying Ignore text
 
+-- the rules of the texts between the spaces of a text
+abbrev pub rules_saying : Decision → List ℕ → List Rule
+rules_saying decision texts = filter_map (rule_saying decision) (slice_split (λ b. nat_eq b 32) texts)
+
 -- the rule of a line; a blank line and one that begins with `#` have none
 abbrev pub rule_of_line : List ℕ → Option Rule
 rule_of_line line = if begins_with 35 line then None else rule_in (trimmed (before_nul (without_last 13 line)))

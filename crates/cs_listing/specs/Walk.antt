@@ -10,11 +10,12 @@ use Rattle.cs_tree.specs.Snapshot.{Snapshot}
 use Rattle.cs_tree.specs.Folders.{names_listed}
 use Rattle.cs_tree.specs.Clean.{path_of, with_slashes, longest_path}
 use Rattle.cs_tree.specs.Walks.{is_file}
-use Rattle.cs_listing.specs.Models.{rules_in, folders_in, names_in}
+use Rattle.cs_listing.specs.Models.{settings_of, folders_in, names_in}
 use Rattle.cs_listing.specs.Listing.{Settings, TreeItems, folders_to, is_listed, has_more, after, is_found}
 use Rattle.cs_listing.specs.FolderReads.{InTree, folder_path, folder_read, key_of, keys_taken}
 use Rattle.cs_listing.specs.Entries.{entry_keys, AreKeysOf}
 use Rattle.cs_listing.specs.declared.layers.Layers.{Layers}
+use Rattle.cs_listing.specs.declared.fault.Unread.{Unread}
 use Rattle.cs_listing.specs.declared.walk.Found.{Found}
 use Rattle.cs_listing.specs.declared.walk.Found.TheVariants as found
 use Rattle.cs_listing.specs.declared.walk.Step.{Step}
@@ -52,10 +53,6 @@ pub record TakesFirst (old new : List (List ℕ) → Bool) (path : List (List �
   pub first : (other : List (List ℕ)) → new other ≡ true → is_lt (bytes_cmp (path_text path) (path_text other)) ≡ true
 
 -- ---- the values of the code
-
--- the rules of the user, and the choice of hidden names
-abbrev pub settings_of : Layers → Settings
-settings_of layers = record { global = rules_in layers.global; takes_hidden = layers.takes_hidden }
 
 abbrev pub settings_in : Walk → Settings
 settings_in walk = settings_of walk.layers
@@ -188,10 +185,21 @@ weight level (frame ∷ frames) = (length frame.entries.items + 1) * 2 ^ (65 * (
 abbrev pub walk_weight : Walk → ℕ
 walk_weight walk = weight 0 walk.frames.items
 
+-- the paths that could not be read, and are still to be given, the next one last
+abbrev pub unread_in : Walk → List Unread
+unread_in walk = walk.reader.unread.items
+
+-- A call that gives something comes nearer to the end: the walk is lighter, or a path that could not be read is left behind.
+abbrev pub ComesNearer : Walk → Walk → Option Found → Type 0
+ComesNearer old new None = Unit {0}
+ComesNearer old new (Some (found.File file)) = walk_weight new < walk_weight old
+ComesNearer old new (Some (found.Unread unread)) = (walk_weight new < walk_weight old)
+    ⊎ ((walk_weight new ≡ walk_weight old) × (unread_in old ≡ unread_in new ++ unread ∷ []))
+
 -- a step that goes on makes the walk lighter
-abbrev pub IsLighter : Walk → Walk → Step → Type 0
-IsLighter old new (step.Done given) = Unit {0}
-IsLighter old new step.More = walk_weight new < walk_weight old
+abbrev pub StepComesNearer : Walk → Walk → Step → Type 0
+StepComesNearer old new (step.Done given) = ComesNearer old new given
+StepComesNearer old new step.More = walk_weight new < walk_weight old
 
 -- at most one folder is opened, and none where as many are open as a path has bytes
 abbrev pub OpensAtMostOne : Walk → Walk → Type 0

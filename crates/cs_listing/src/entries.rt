@@ -8,14 +8,16 @@ ghost use Rattle.cs_tree.specs.Looks.{kind_seen};
 ghost use Rattle.cs_tree.specs.Elements.{is_among};
 ghost use Rattle.cs_listing.specs.Models.{names, names_in, rules_in, rules_if, folder_of, folders_in, IsInDeepest};
 ghost use Rattle.cs_listing.specs.Layers.{is_left_out, last_name};
+ghost use Rattle.cs_listing.specs.GitFolders.{bytes_of_item, git_folder as git_folder', shared_folder as shared_folder'};
 ghost use Rattle.cs_listing.specs.Listing.{TreeItems, rules_of_item};
 ghost use Rattle.cs_listing.specs.FolderReads.{InTree, folder_path as folder_path', entry_path, rules_among, exclude_read, folder_read, kind_at, taken_as, key_of, key_taken, keys_taken};
 ghost use Rattle.cs_listing.specs.Entries.{taken_folder, entry_key, entry_keys, left_out_by, AreKeysOf, IsNameOf};
 
 use crate::fault::{ListFault, Unread};
+use crate::git_folders::{joined, path_after};
 use crate::layers::{FolderRules, Layers};
-use crate::rule_files::FileRules;
 use crate::rules::Rules;
+use crate::whole_files::WholeFile;
 use cs_prefilter::Steps;
 use cs_tree::{Kind, LONGEST_PATH, Look, Seen, Stamp, Tree, TreeFault};
 use std::alloc::{AllocError, Global};
@@ -48,7 +50,7 @@ impl Entry {
 /// its entries, which is empty for `/`.
 #[derive(Clone, Copy)]
 pub(crate) struct Place<'a> {
-    pub(crate) layers: &'a Layers,
+    pub(crate) layers: &'a Layers<'a>,
     pub(crate) stem: &'a str,
 }
 
@@ -112,7 +114,7 @@ fn order_entries(entries: &mut Vec<Entry>)
 }
 
 /// Whether an entry is left out as what it is, if one knows whether it is left out as a file.
-fn is_out(layers: &Layers, path: &[&[u8]], is_folder: bool, file_is_out: bool) -> bool
+fn is_out(layers: &Layers<'_>, path: &[&[u8]], is_folder: bool, file_is_out: bool) -> bool
     requires deepest { IsInDeepest layers.now path.now }
     requires file { file_is_out ≡ left_out_by layers.now path.now false }
     ensures { result ≡ left_out_by layers.now path.now is_folder }
@@ -227,8 +229,37 @@ impl FolderReader {
         if !is_listed(names, ".git") {
             return Ok(None);
         }
-        let rules = self.rules_at(tree, stem, ".git/info/exclude")?;
+        let folder = self.git_folder(tree, stem)?;
+        let rules = self.rules_at(tree, folder.as_str(), "info/exclude")?;
         Ok(Some(rules))
+    }
+
+    /// The folder of a repository's own files: `.git`, or the one that the file `.git` names, of a worktree or a submodule.
+    fn git_folder<T: Look>(&mut self, tree: &mut T, stem: &str) -> Result<String, AllocError>
+        ensures folder { IfOk result (λ folder. InTree (T.snapshot tree.old)
+            (λ items. string_bytes folder ≡ git_folder' items stem.now)) }
+        ensures keeps { T.snapshot tree.new ≡ T.snapshot tree.old }
+    {
+        let path = child_path(self.alloc, stem, ".git")?;
+        let bytes = self.read(tree, path.as_str())?;
+        match path_after(b"gitdir: ", &bytes) {
+            Some(folder) => self.shared_folder(tree, joined(self.alloc, stem, folder)?),
+            None => Ok(path),
+        }
+    }
+
+    /// The folder that all worktrees of a repository share: the one that the file `commondir` in this one names, or this one.
+    fn shared_folder<T: Look>(&mut self, tree: &mut T, folder: String) -> Result<String, AllocError>
+        ensures folder { IfOk result (λ shared. InTree (T.snapshot tree.old)
+            (λ items. string_bytes shared ≡ shared_folder' items (string_bytes folder))) }
+        ensures keeps { T.snapshot tree.new ≡ T.snapshot tree.old }
+    {
+        let path = child_path(self.alloc, folder.as_str(), "commondir")?;
+        let bytes = self.read(tree, path.as_str())?;
+        match path_after(b"", &bytes) {
+            Some(common) => joined(self.alloc, folder.as_str(), common),
+            None => Ok(folder),
+        }
     }
 
     /// The rules of a file below a folder.
@@ -243,11 +274,21 @@ impl FolderReader {
         ensures keeps { T.snapshot tree.new ≡ T.snapshot tree.old }
     {
         let path = child_path(self.alloc, stem, name)?;
-        let read = FileRules::read(self.alloc, tree, path.as_str())?;
+        let bytes = self.read(tree, path.as_str())?;
+        Rules::parse(self.alloc, &bytes)
+    }
+
+    /// The bytes of a file. What cannot be read is noted.
+    fn read<T: Look>(&mut self, tree: &mut T, path: &str) -> Result<Vec<u8>, AllocError>
+        ensures bytes { IfOk result (λ bytes. InTree (T.snapshot tree.old)
+            (λ items. bytes.items ≡ bytes_of_item (items path.now))) }
+        ensures keeps { T.snapshot tree.new ≡ T.snapshot tree.old }
+    {
+        let read = WholeFile::read(self.alloc, tree, path)?;
         if let Some(fault) = read.fault {
-            self.note(path.as_str(), fault)?;
+            self.note(path, fault)?;
         }
-        Ok(read.rules)
+        Ok(read.bytes)
     }
 
     /// The entries of the folder that are taken, the first one last.
@@ -309,7 +350,7 @@ impl FolderReader {
     fn taken<T: Look>(
         &mut self,
         tree: &mut T,
-        layers: &Layers,
+        layers: &Layers<'_>,
         path: &[&[u8]],
         at: &str,
     ) -> Result<Option<Taken>, AllocError>

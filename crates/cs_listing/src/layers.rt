@@ -1,11 +1,14 @@
 // What all rule files along a path say together.
-ghost use Rattle.std.specs.Prelude.{◌≡◌, ◌≤◌, ◌++◌, [], ◌∷◌, drop, length, IfOk, OnOk, OnErr, IfSome, IsSome, is_some, ◌↔◌, ◌<◌, ◌||◌};
+ghost use Rattle.std.specs.Prelude.{◌≡◌, ◌≤◌, ◌++◌, [], ◌∷◌, drop, length, IfOk, OnOk, OnErr, IfSome, IsSome, is_some, ◌↔◌, ◌<◌, ◌+◌, ◌||◌};
 ghost use Rattle.std.specs.Option.{option_to_list};
 ghost use Rattle.cs_prefilter.specs.CountsAtMost.{CountsAtMost};
-ghost use Rattle.cs_listing.specs.Layers.{rules_at, deepest as deepest', repository_of as repository_of', repository_says, says as says', last_name as last_name', is_left_out as is_left_out', is_left_out_by as is_left_out_by'};
+ghost use Rattle.cs_listing.specs.Layers.{rules_at, deepest as deepest', repository_of as repository_of', repository_says, says as says', last_name as last_name', said_of, is_out_by_rules as is_out_by_rules', is_left_out as is_left_out'};
+ghost use Rattle.cs_listing.specs.Choices.{Settings, is_too_deep as is_too_deep'};
+ghost use Rattle.cs_listing.specs.MatchWork.{rules_work};
 ghost use Rattle.cs_listing.specs.LayersWork.{files_work, repository_work};
-ghost use Rattle.cs_listing.specs.Models.{names, names_in, rules_in, folder_of, folders_of, folders_in, KeepsChoices, IsInDeepest, work_for, repository_in};
+ghost use Rattle.cs_listing.specs.Models.{names, names_in, rules_in, folder_of, folders_of, folders_in, chosen_in, settings_of, KeepsChoices, IsInDeepest, work_for, left_out_work, repository_in};
 
+use crate::choices::Choices;
 use crate::classes::begins_with;
 use crate::rules::{Decision, Rules};
 use cs_prefilter::Steps;
@@ -45,12 +48,11 @@ struct Repository<'f, 'p, 'n> {
 /// The rule files that count in a folder: those of the folders along its path, the topmost first. A path is given by its elements
 /// below the topmost folder, so it has one name for each folder: the last one is that of an entry of the deepest folder.
 #[derive(Debug, Drop)]
-pub struct Layers {
+pub struct Layers<'a> {
     folders: Vec<FolderRules>,
-    /// The rules of the user, for all repositories.
-    global: Rules,
-    /// Whether names that begin with a dot count outside of repositories.
-    takes_hidden: bool,
+    choices: &'a Choices,
+    /// The most names of a path.
+    most_names: usize,
 }
 
 impl FolderRules {
@@ -149,16 +151,16 @@ fn last_name<'n>(path: &[&'n [u8]]) -> &'n [u8]
     }
 }
 
-impl Layers {
-    /// The layers of no folder. The rules of the user count in each repository.
-    pub fn new(alloc: Global, global: Rules, takes_hidden: bool) -> Layers
+impl<'a> Layers<'a> {
+    /// The layers of no folder, for paths of at most so many names.
+    pub fn new(alloc: Global, choices: &'a Choices, most_names: usize) -> Layers<'a>
         ensures folders { folders_in result ≡ [] }
-        ensures choices { (result.global ≡ global) × (result.takes_hidden ≡ takes_hidden) }
+        ensures settings { settings_of result ≡ record (chosen_in choices.now) { most_names = most_names } }
     {
         Layers {
             folders: Vec::new(alloc),
-            global,
-            takes_hidden,
+            choices,
+            most_names,
         }
     }
 
@@ -209,7 +211,7 @@ impl Layers {
     /// What all rule files along a path say of it.
     pub fn says(&self, path: &[&[u8]], is_folder: bool, steps: &mut Steps) -> Option<Decision>
         requires { IsInDeepest self.now path.now }
-        ensures says { result ≡ says' (rules_in self.now.global) is_folder (folders_in self.now)
+        ensures says { result ≡ says' (settings_of self.now).global is_folder (folders_in self.now)
             (names path.now) }
         ensures work { CountsAtMost (work_for self.now path.now) steps.old steps.new }
     {
@@ -218,33 +220,73 @@ impl Layers {
             return said;
         }
         let repository = repository_of(&self.folders, path)?;
-        repository.says(&self.global, is_folder, steps)
+        repository.says(&self.choices.user, is_folder, steps)
     }
 
     /// Whether a path is left out.
     pub fn is_left_out(&self, path: &[&[u8]], is_folder: bool, steps: &mut Steps) -> bool
         requires { IsInDeepest self.now path.now }
-        ensures left_out { result ≡ is_left_out' self.now.takes_hidden (rules_in self.now.global) is_folder
-            (folders_in self.now) (names path.now) }
-        ensures work { CountsAtMost (work_for self.now path.now) steps.old steps.new }
+        ensures left_out { result ≡ is_left_out' (settings_of self.now) is_folder (folders_in self.now)
+            (names path.now) }
+        ensures work { CountsAtMost (left_out_work self.now path.now) steps.old steps.new }
     {
-        let name = last_name(path);
-        if name == b".git".as_slice() {
+        if last_name(path) == b".git".as_slice() || self.is_too_deep(path, is_folder) {
             return true;
         }
-        match self.says(path, is_folder, steps) {
-            Some(Decision::Ignore) => true,
-            Some(Decision::TakeBack) => false,
-            None => begins_with(b'.', name) && !self.takes_hidden_in(path),
+        match self.choices.by_globs(path, is_folder, steps) {
+            Some(is_taken) => !is_taken,
+            None => self.is_out_by_rules(path, is_folder, steps),
         }
+    }
+
+    /// Whether a path has more names than the user wants, or is a folder whose entries have.
+    fn is_too_deep(&self, path: &[&[u8]], is_folder: bool) -> bool
+        ensures { result ≡ is_too_deep' (settings_of self.now).most_names is_folder (names path.now) }
+    {
+        if is_folder {
+            path.len() >= self.most_names
+        } else {
+            path.len() > self.most_names
+        }
+    }
+
+    /// Whether a path is left out if no glob says anything of it.
+    fn is_out_by_rules(&self, path: &[&[u8]], is_folder: bool, steps: &mut Steps) -> bool
+        requires { IsInDeepest self.now path.now }
+        ensures left_out { result ≡ is_out_by_rules' (settings_of self.now) is_folder (folders_in self.now)
+            (names path.now) }
+        ensures work { CountsAtMost (rules_work (settings_of self.now).types (last_name' (names path.now) ∷ [])
+            + work_for self.now path.now) steps.old steps.new }
+    {
+        let said = self.said(path, is_folder, steps);
+        if said == Some(Decision::Ignore) {
+            return true;
+        }
+        let name = last_name(path);
+        match self.choices.by_types(name, is_folder, steps) {
+            Some(is_taken) => !is_taken,
+            None => said.is_none() && begins_with(b'.', name) && !self.takes_hidden_in(path),
+        }
+    }
+
+    /// What all rule files along a path say of it, if they count.
+    fn said(&self, path: &[&[u8]], is_folder: bool, steps: &mut Steps) -> Option<Decision>
+        requires { IsInDeepest self.now path.now }
+        ensures said { result ≡ said_of (settings_of self.now) is_folder (folders_in self.now) (names path.now) }
+        ensures work { CountsAtMost (work_for self.now path.now) steps.old steps.new }
+    {
+        if self.choices.takes_ignored {
+            return None;
+        }
+        self.says(path, is_folder, steps)
     }
 
     /// Whether a name that begins with a dot counts.
     fn takes_hidden_in(&self, path: &[&[u8]]) -> bool
         requires { IsInDeepest self.now path.now }
-        ensures { result ≡ (self.now.takes_hidden
+        ensures { result ≡ ((settings_of self.now).takes_hidden
             || is_some (repository_of' (folders_in self.now) (names path.now))) }
     {
-        self.takes_hidden || repository_of(&self.folders, path).is_some()
+        self.choices.takes_hidden || repository_of(&self.folders, path).is_some()
     }
 }

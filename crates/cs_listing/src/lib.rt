@@ -13,12 +13,16 @@
 //! suffix of its stack of names.
 //!
 //! `Layers` is a stack of the folders from the topmost down to one that is walked, each with the rules of its
-//! `.ignore` and its `.gitignore`, and those of `info/exclude` where a repository begins. A walk enters a
-//! folder and leaves it, and hands over the rules, which `Rules::read` reads from a source. What is asked about
+//! `.ignore` and its `.gitignore`, and those of `info/exclude` where a repository begins, in the folder that
+//! `.git` is or names (`specs/GitFolders.antt`). A walk enters a folder and leaves it. What is asked about
 //! is an entry of the deepest folder, by the names along its path: the rules of the first folder see all of
 //! them, those of the second all but the first, and so on. Each kind of file is asked from the deepest folder
 //! up, and the first that says anything counts. Whether a path is left out does not depend on where a walk
 //! began, but only on the folders above. The walk does not enter a folder that is left out.
+//!
+//! `Choices` are those of the user (`specs/Choices.antt`): globs and types are rules too, with the meaning turned
+//! round, so that they take files. A glob comes before all rule files, a type after them. A depth is a limit of
+//! the names of a path, so whether a path is left out still does not depend on the walk.
 //!
 //! `Walk` has two stacks: `Layers`, the rule files of the folders from `/` down, and frames, the entries of the
 //! open folders that are still to come, the next one last. `begin` lists each folder along the path of the
@@ -30,19 +34,26 @@
 //! takes its first.
 #![tactic(auto)]
 
+mod choices;
 mod classes;
 mod entries;
 mod fault;
+mod git_folders;
 mod glob;
 mod glob_parsing;
 pub mod laws;
 mod layers;
-mod rule_files;
+mod paths;
 mod rule_lines;
 mod rules;
+mod types;
 mod walk;
+mod whole_files;
 
+pub use choices::Choices;
 pub use fault::{ListFault, Unread};
 pub use layers::{FolderRules, Layers};
+pub use paths::path_names;
 pub use rules::{Decision, Rules};
+pub use types::TYPES;
 pub use walk::{File, Found, Walk};

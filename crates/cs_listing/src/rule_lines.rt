@@ -1,5 +1,6 @@
 // The text of a line of a rule file.
 ghost use Rattle.std.specs.Prelude.{◌≡◌, ◌||◌, ◌&&◌, not, nat_eq};
+ghost use Rattle.std.specs.List.{before_first};
 ghost use Rattle.cs_listing.specs.RuleFiles.{before_nul as before_nul', trimmed as trimmed', without_last as without_last', without_mark as without_mark'};
 
 /// The bytes after a byte order mark.
@@ -13,7 +14,7 @@ pub(crate) fn without_mark(bytes: &[u8]) -> &[u8]
 pub(crate) fn line_text(line: &[u8]) -> &[u8]
     ensures { result.now ≡ trimmed' (before_nul' (without_last' 13 line.now)) }
 {
-    trimmed(before_nul(without_last(b'\r', line)))
+    trimmed(before(0, without_last(b'\r', line)))
 }
 
 /// The text without its last byte, if that is this one.
@@ -26,13 +27,13 @@ pub(crate) fn without_last(last: u8, text: &[u8]) -> &[u8]
     }
 }
 
-/// The bytes before the first NUL.
-fn before_nul(line: &[u8]) -> &[u8]
-    ensures { result.now ≡ before_nul' line.now }
+/// The bytes before the first one like this.
+pub(crate) fn before(byte: u8, text: &[u8]) -> &[u8]
+    ensures { result.now ≡ before_first (λ b. nat_eq b byte) text.now }
 {
-    match line.iter().position(|byte| *byte == 0) {
-        Some(end) => &line[..end],
-        None => line,
+    match text.iter().position(|one| *one == byte) {
+        Some(end) => &text[..end],
+        None => text,
     }
 }
 

@@ -1,10 +1,13 @@
 // The rules of one file, and what the last of them says that applies to a path.
-ghost use Rattle.std.specs.Prelude.{◌≡◌, [], IfOk, OnOk};
+ghost use Rattle.std.specs.Prelude.{◌≡◌, ◌++◌, [], IfOk, OnOk};
+ghost use Rattle.std.specs.List.{list_any};
+ghost use Rattle.std.specs.Option.{option_to_list};
 ghost use Rattle.cs_prefilter.specs.CountsAtMost.{CountsAtMost};
 ghost use Rattle.cs_listing.specs.Rules.{applies as applies', decide as decide'};
+ghost use Rattle.cs_listing.specs.Choices.{is_ignore as is_ignore', takes};
 ghost use Rattle.cs_listing.specs.MatchWork.{path_work, rules_work};
 ghost use Rattle.cs_listing.specs.Models.{names, rule_of, rules_in};
-ghost use Rattle.cs_listing.specs.RuleFiles.{rules_of, rule_of_line, rule_in, rule_saying};
+ghost use Rattle.cs_listing.specs.RuleFiles.{rules_of, rule_of_line, rule_in, rule_saying, rules_saying};
 ghost use Rattle.cs_listing.specs.Reading.{AddsRule};
 
 use crate::classes::begins_with;
@@ -21,6 +24,17 @@ pub enum Decision {
     Ignore,
     /// A rule with `!`.
     TakeBack,
+}
+
+impl Decision {
+    pub(crate) fn is_ignore(self) -> bool
+        ensures { result ≡ is_ignore' self }
+    {
+        match self {
+            Decision::Ignore => true,
+            Decision::TakeBack => false,
+        }
+    }
 }
 
 #[derive(Debug, Drop)]
@@ -71,6 +85,37 @@ impl Rules {
             earlier = rest;
         }
         None
+    }
+}
+
+impl Rules {
+    /// Adds the rule of a text, if it is not empty. It may begin with `!`.
+    pub(crate) fn add(&mut self, alloc: Global, text: &[u8]) -> Result<(), AllocError>
+        ensures { OnOk result (rules_in self.new ≡ rules_in self.old ++ option_to_list (rule_in text.now)) }
+    {
+        add_text(alloc, &mut self.rules, text)
+    }
+
+    /// Adds a rule for each of the texts between the spaces of a text.
+    pub(crate) fn add_all(
+        &mut self,
+        alloc: Global,
+        decision: Decision,
+        texts: &[u8],
+    ) -> Result<(), AllocError>
+        ensures { OnOk result (rules_in self.new ≡ rules_in self.old ++ rules_saying decision texts.now) }
+    {
+        for text in texts.split(|byte| *byte == b' ') {
+            add_rule(alloc, &mut self.rules, decision, text)?;
+        }
+        Ok(())
+    }
+
+    /// Whether some rule ignores what it matches.
+    pub(crate) fn ignores_some(&self) -> bool
+        ensures { result ≡ list_any takes (rules_in self.now) }
+    {
+        self.rules.iter().any(|rule| rule.decision.is_ignore())
     }
 }
 

@@ -2,14 +2,15 @@
 // once, when the walk comes to it, and its entries are sorted by their names, with a slash after those of folders, so that a
 // depth-first walk goes in the order of whole paths.
 ghost use Rattle.std.specs.Prelude.{◌≡◌, ◌<◌, ◌∷◌, ◌++◌, [], map, length, string_bytes, IfOk, OnOk};
-ghost use Rattle.cs_listing.specs.Models.{rules_in, folders_in, all_names};
+ghost use Rattle.cs_listing.specs.Choices.{within_depth};
+ghost use Rattle.cs_listing.specs.Models.{chosen_in, folders_in, all_names};
 ghost use Rattle.cs_listing.specs.FolderReads.{InTree};
-ghost use Rattle.cs_listing.specs.Walk.{settings_in, IsWalkIn, Gives, Begins, StepGives, IsLighter, IsVisit, Visits, OpensAtMostOne, Enters, Opens};
+ghost use Rattle.cs_listing.specs.Walk.{settings_in, IsWalkIn, Gives, Begins, StepGives, ComesNearer, StepComesNearer, IsVisit, Visits, OpensAtMostOne, Enters, Opens};
 
+use crate::choices::Choices;
 use crate::entries::{Entry, FolderReader, Listed, Place, child_path};
 use crate::fault::{ListFault, Unread};
 use crate::layers::Layers;
-use crate::rules::Rules;
 use cs_tree::{LONGEST_PATH, Look, Stamp};
 use std::alloc::{AllocError, Global};
 
@@ -49,33 +50,33 @@ struct Frame {
 
 /// A walk of the files of a project below a folder.
 #[derive(Debug, Drop)]
-pub struct Walk {
+pub struct Walk<'a> {
     alloc: Global,
     /// The rule files of the folders from `/` down to the deepest open one.
-    layers: Layers,
+    layers: Layers<'a>,
     /// The open folders, the deepest last.
     frames: Vec<Frame>,
     reader: FolderReader,
 }
 
-impl Walk {
-    /// The walk below the folder that these names lead to from `/`, by the rules of the user and of all folders along it.
+impl<'a> Walk<'a> {
+    /// The walk below the folder that these names lead to from `/`, by the choices of the user and the rules of all folders
+    /// along it.
     pub fn begin<T: Look>(
         alloc: Global,
         tree: &mut T,
-        global: Rules,
-        takes_hidden: bool,
+        choices: &'a Choices,
         start: &[String],
-    ) -> Result<Walk, AllocError>
+    ) -> Result<Walk<'a>, AllocError>
         ensures begins { IfOk result (λ walk. InTree (T.snapshot tree.old)
             (λ items. Begins items (map string_bytes start.now) walk)) }
         ensures settings { IfOk result (λ walk. settings_in walk
-            ≡ record { global = rules_in global; takes_hidden = takes_hidden }) }
+            ≡ within_depth (chosen_in choices.now) (length start.now)) }
         ensures keeps { T.snapshot tree.new ≡ T.snapshot tree.old }
     {
         let mut walk = Walk {
             alloc,
-            layers: Layers::new(alloc, global, takes_hidden),
+            layers: Layers::new(alloc, choices, start.len().saturating_add(choices.depth)),
             frames: Vec::new(alloc),
             reader: FolderReader::new(alloc),
         };
@@ -89,10 +90,11 @@ impl Walk {
         Ok(walk)
     }
 
-    /// The next file, or the next path that could not be read. None at the end.
+    /// The next file, or the next path that could not be read. None at the end, to which each other answer comes nearer.
     pub fn next<T: Look>(&mut self, tree: &mut T) -> Result<Option<Found>, AllocError>
         ensures gives { IfOk result (λ found. InTree (T.snapshot tree.old)
             (λ items. IsWalkIn items self.old → Gives items self.old self.new found)) }
+        ensures nearer { IfOk result (λ found. ComesNearer self.old self.new found) }
         ensures settings { OnOk result (settings_in self.new ≡ settings_in self.old) }
         ensures keeps { T.snapshot tree.new ≡ T.snapshot tree.old }
     {
@@ -108,7 +110,7 @@ impl Walk {
         ensures steps { IfOk result (λ step. InTree (T.snapshot tree.old)
             (λ items. IsWalkIn items self.old → StepGives items self.old self.new step)) }
         ensures settings { OnOk result (settings_in self.new ≡ settings_in self.old) }
-        ensures lighter { IfOk result (λ step. IsLighter self.old self.new step) }
+        ensures nearer { IfOk result (λ step. StepComesNearer self.old self.new step) }
         ensures keeps { T.snapshot tree.new ≡ T.snapshot tree.old }
     {
         if let Some(unread) = self.reader.unread.pop() {

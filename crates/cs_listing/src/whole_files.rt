@@ -1,87 +1,70 @@
-// Reading a rule file.
+// Reading a file whole: rule files, and those by which a repository names its folder.
 ghost use Rattle.std.specs.Prelude.{◌≡◌, [], IfOk};
-ghost use Rattle.cs_listing.specs.RuleFileReads.{ReadsUpTo, ReadsRules, FailsWithin, longest_rule_file};
-ghost use Rattle.cs_listing.specs.Models.{rules_in};
-ghost use Rattle.cs_listing.specs.FolderReads.{InTree, ReadsItem, ReadsFileItem, ReadsFileRules};
+ghost use Rattle.cs_listing.specs.RuleFileReads.{ReadsUpTo, FailsWithin};
+ghost use Rattle.cs_listing.specs.FolderReads.{InTree, ReadsItem, ReadsFileItem, ReadsWhole};
 
 use crate::fault::ListFault;
-use crate::rules::Rules;
 use cs_tree::{IoFault, Kind, Look, Source, Tree, TreeFault, TreeReader};
 use std::alloc::{AllocError, Global};
 
-/// The size of the blocks in which a rule file is read.
+/// The size of the blocks in which a file is read.
 const BLOCK: usize = 4096;
 
-/// The length of the longest rule file.
-const LONGEST_RULE_FILE: usize = 1 << 20;
+/// The length of the longest file that is read.
+const LONGEST_FILE: usize = 1 << 20;
 
-/// The rules of a file. One that cannot be read has none, and a fault.
+/// The bytes of a file. One that cannot be read has none, and a fault.
 #[derive(Drop)]
-pub(crate) struct FileRules {
-    pub(crate) rules: Rules,
+pub(crate) struct WholeFile {
+    pub(crate) bytes: Vec<u8>,
     pub(crate) fault: Option<ListFault>,
 }
 
-impl Rules {
-    /// The rules of a source's bytes. None if they are more than 1 MB.
-    pub fn read<S: Source>(alloc: Global, source: &mut S) -> Result<Option<Rules>, IoFault>
-        ensures read { IfOk result (λ read. ReadsRules (S.model source.old) read) }
-        ensures failed { FailsWithin longest_rule_file (S.model source.old) result }
-        ensures keeps { S.Keeps source.old source.new }
-    {
-        let Some(bytes) = read_up_to(alloc, source, LONGEST_RULE_FILE)? else {
-            return Ok(None);
-        };
-        let rules = Rules::parse(alloc, &bytes)?;
-        Ok(Some(rules))
-    }
-}
-
-impl FileRules {
-    fn without(alloc: Global, fault: Option<ListFault>) -> FileRules
-        ensures rules { rules_in result.rules ≡ [] }
+impl WholeFile {
+    fn without(alloc: Global, fault: Option<ListFault>) -> WholeFile
+        ensures bytes { result.bytes.items ≡ [] }
         ensures fault { result.fault ≡ fault }
     {
-        FileRules {
-            rules: Rules::none(alloc),
+        WholeFile {
+            bytes: Vec::new(alloc),
             fault,
         }
     }
 
-    /// The rules of what is at a path of a tree. Only a file has any: a symbolic link has none.
+    /// The bytes of what is at a path of a tree. Only a file has any: a symbolic link has none.
     pub(crate) fn read<T: Look>(
         alloc: Global,
         tree: &mut T,
         path: &str,
-    ) -> Result<FileRules, AllocError>
-        ensures rules { IfOk result (λ read. InTree (T.snapshot tree.old)
-            (λ items. ReadsFileRules (items path.now) read)) }
+    ) -> Result<WholeFile, AllocError>
+        ensures reads { IfOk result (λ read. InTree (T.snapshot tree.old)
+            (λ items. ReadsWhole (items path.now) read)) }
         ensures keeps { T.snapshot tree.new ≡ T.snapshot tree.old }
     {
         match read_item(alloc, tree, path) {
-            Ok(Some(rules)) => Ok(FileRules { rules, fault: None }),
-            Ok(None) => Ok(FileRules::without(alloc, Some(ListFault::LongRules))),
+            Ok(Some(bytes)) => Ok(WholeFile { bytes, fault: None }),
+            Ok(None) => Ok(WholeFile::without(alloc, Some(ListFault::LongRules))),
             Err(TreeFault::Memory) => Err(AllocError),
-            Err(TreeFault::Missing) => Ok(FileRules::without(alloc, None)),
-            Err(fault) => Ok(FileRules::without(alloc, Some(ListFault::Tree(fault)))),
+            Err(TreeFault::Missing) => Ok(WholeFile::without(alloc, None)),
+            Err(fault) => Ok(WholeFile::without(alloc, Some(ListFault::Tree(fault)))),
         }
     }
 }
 
-/// The rules of what is at a path. None if it is a file of more than 1 MB.
-fn read_item<T: Look>(alloc: Global, tree: &mut T, path: &str) -> Result<Option<Rules>, TreeFault>
+/// The bytes of what is at a path. None if it is a file of more than 1 MB.
+fn read_item<T: Look>(alloc: Global, tree: &mut T, path: &str) -> Result<Option<Vec<u8>>, TreeFault>
     ensures reads { InTree (T.snapshot tree.old) (λ items. ReadsItem (items path.now) result) }
     ensures keeps { T.snapshot tree.new ≡ T.snapshot tree.old }
 {
     match tree.look(path) {
         Ok(seen) if seen.kind == Kind::File => read_file(alloc, tree, path),
-        Ok(_) => Ok(Some(Rules::none(alloc))),
+        Ok(_) => Ok(Some(Vec::new(alloc))),
         Err(fault) => Err(fault),
     }
 }
 
 /// The same of a file.
-fn read_file<T: Tree>(alloc: Global, tree: &mut T, path: &str) -> Result<Option<Rules>, TreeFault>
+fn read_file<T: Tree>(alloc: Global, tree: &mut T, path: &str) -> Result<Option<Vec<u8>>, TreeFault>
     ensures reads { InTree (T.snapshot tree.old) (λ items. ReadsFileItem (items path.now) result) }
     ensures keeps { T.snapshot tree.new ≡ T.snapshot tree.old }
 {
@@ -89,7 +72,7 @@ fn read_file<T: Tree>(alloc: Global, tree: &mut T, path: &str) -> Result<Option<
         return Err(fault);
     }
     let mut reader = TreeReader::new(tree);
-    match Rules::read(alloc, &mut reader) {
+    match read_up_to(alloc, &mut reader, LONGEST_FILE) {
         Ok(read) => Ok(read),
         Err(IoFault::Memory) => Err(TreeFault::Memory),
         Err(IoFault::Failed) => Err(TreeFault::Failed),

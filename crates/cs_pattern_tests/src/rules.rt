@@ -1,7 +1,6 @@
 // What the last rule of a file decides, and the rule files along a path together.
-use cs_listing::{Decision, FolderRules, Layers, Rules};
+use cs_listing::{Choices, Decision, FolderRules, Layers, Rules};
 use cs_prefilter::Steps;
-use cs_tree::MemSource;
 use std::test::Fail;
 
 #[test]
@@ -31,7 +30,8 @@ fn last_rules_decide(rt: HostRuntime) -> Result<(), Fail> {
 #[test]
 fn layers_decide(rt: HostRuntime) -> Result<(), Fail> {
     let user = Rules::parse(rt.alloc(), b"*~\n")?;
-    let mut layers = Layers::new(rt.alloc(), user, false);
+    let choices = Choices::new(rt.alloc(), user, Vec::new(rt.alloc()));
+    let mut layers = Layers::new(rt.alloc(), &choices, 9);
     layers.enter(FolderRules {
         name: String::new(rt.alloc()),
         ignore: Rules::parse(rt.alloc(), b"")?,
@@ -70,18 +70,5 @@ fn layers_decide(rt: HostRuntime) -> Result<(), Fail> {
         layers.is_left_out(&[b"build".as_slice()], false, &mut steps),
         false
     );
-    Ok(())
-}
-
-#[test]
-fn rules_are_read(rt: HostRuntime) -> Result<(), Fail> {
-    let mut source = MemSource::new(b"*.o\n!a.o\n", 3, false);
-    let rules = Rules::read(rt.alloc(), &mut source)?;
-    let mut steps = Steps::new();
-    let decided = rules.and_then(|rules| rules.decide(&[b"a.o".as_slice()], false, &mut steps));
-    assert_eq!(rt; decided, Some(Decision::TakeBack));
-    let long = vec![in rt.alloc(); b'\n'; (1 << 20) + 1]?;
-    let mut source = MemSource::new(&long, 4096, false);
-    assert_eq!(rt; Rules::read(rt.alloc(), &mut source)?.is_none(), true);
     Ok(())
 }

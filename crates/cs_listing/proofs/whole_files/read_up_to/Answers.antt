@@ -2,7 +2,7 @@ use Rattle.std.proofs.Common.{length, take, sym, ap, subst, arith}
 use Rattle.std.proofs.lemmas.List.{length-take}
 use Rattle.cs_tree.specs.Transfers.{Consumes}
 use Rattle.cs_listing.proofs.ReadLemmas.{consumes_none, read_more, stays_within, whole_read, too_long}
-use Rattle.cs_listing.proofs.rule_files.read_up_to.Goals as goal
+use Rattle.cs_listing.proofs.whole_files.read_up_to.Goals as goal
 
 pub file-init : goal.file-init
 file-init g c = record {

@@ -1,6 +1,6 @@
 use Rattle.std.proofs.Common.{◌≤◌, ◌-◌, length}
 use Rattle.cs_tree.specs.Transfers.{Consumes}
-use Rattle.cs_listing.proofs.rule_files.read_up_to.Given as goal
+use Rattle.cs_listing.proofs.whole_files.read_up_to.Given as goal
 
 -- the bytes so far are those that were read
 abbrev pub invariant-file : goal.invariant-file

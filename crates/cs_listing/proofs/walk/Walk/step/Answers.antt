@@ -1,4 +1,4 @@
-use Rattle.std.proofs.Common.{rules, ◌≡◌, [], ◌∷◌, length, arith, ap, refl, ◌∙◌}
+use Rattle.std.proofs.Common.{rules, inl, ◌≡◌, [], ◌∷◌, length, arith, ap, refl, ◌∙◌}
 use Rattle.std.proofs.lemmas.List.{length-append}
 use Rattle.cs_listing.specs.FolderReads.{entry_path}
 use Rattle.cs_listing.specs.declared.walk.Frame.{Frame}
@@ -17,8 +17,8 @@ returns-in_default-pop-2-clause-steps g c =
     }) c.leave.result c.in-Some-pop.frame c.in-Some-pop.ensures.items empty c.leave.ensures.all c.leave.ensures.some.1
     (same_settings c.args.self.now.layers c.leave.new.self c.leave.ensures.choices)
 
-pub returns-in_default-pop-2-clause-lighter : goal.returns-in_default-pop-2-clause-lighter
-returns-in_default-pop-2-clause-lighter g c =
+pub returns-in_default-pop-2-clause-nearer : goal.returns-in_default-pop-2-clause-nearer
+returns-in_default-pop-2-clause-nearer g c =
     leaves_lighter c.pop-2.new.self.items c.args.self.now.frames.items c.in-Some-pop.frame c.in-Some-pop.ensures.items
 
 pub returns-then-name-len-clause-steps : goal.returns-then-name-len-clause-steps
@@ -47,10 +47,18 @@ returns-clause-steps g c =
     (c.in_ok-path.ensures ∙ ap (λ t. entry_path t c.name-name.result.now) c.as_str.ensures.value)
     c.in_ok-visit.ensures.visits
 
-pub returns-clause-lighter : goal.returns-clause-lighter
-returns-clause-lighter g c =
+pub returns-clause-nearer : goal.returns-clause-nearer
+returns-clause-nearer g c =
     let next : Frame = record { stem = c.in-Some-pop.frame.stem; entries = c.pop-3.new.self } in
     visits_lighter c.pop-2.new.self.items c.args.self.now.frames.items c.push.new.self.items c.visit.new.self.frames.items
     c.in-Some-pop.frame next c.in-Some-pop.ensures.items c.in_ok-push.ensures.items
     (omega (arith, ap length c.in-Some-pop-2.ensures.items, length-append c.pop-3.new.self.items (c.in-Some-pop-2.entry ∷ [])))
     c.in_ok-visit.ensures.frames
+
+pub returns-then-name-len-clause-nearer : goal.returns-then-name-len-clause-nearer
+returns-then-name-len-clause-nearer g c =
+    let next : Frame = record { stem = c.in-Some-pop.frame.stem; entries = c.pop-3.new.self } in
+    visits_lighter c.pop-2.new.self.items c.args.self.now.frames.items c.push.new.self.items c.push.new.self.items
+    c.in-Some-pop.frame next c.in-Some-pop.ensures.items c.in_ok-push.ensures.items
+    (omega (arith, ap length c.in-Some-pop-2.ensures.items, length-append c.pop-3.new.self.items (c.in-Some-pop-2.entry ∷ [])))
+    (inl refl)

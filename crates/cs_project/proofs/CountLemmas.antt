@@ -1,5 +1,5 @@
 -- How many lines of a text are wanted.
-use Rattle.std.proofs.Common.{◌≡◌, ℕ, suc, ◌+◌, ◌-◌, ◌<◌, Bool, true, false, not, cond, nat_lt, List, [], ◌∷◌, ◌++◌, length, take, drop, Option, None, Some, refl, ap, ◌∙◌, arith, if◌then◌else◌}
+use Rattle.std.proofs.Common.{◌≡◌, ℕ, suc, ◌+◌, ◌-◌, ◌<◌, Bool, true, false, not, cond, nat_lt, List, [], ◌∷◌, ◌++◌, ◌≤◌, length, length-append, take, drop, Option, None, Some, refl, ap, ◌∙◌, arith, if◌then◌else◌}
 use Rattle.std.proofs.lemmas.Bool.Decides.{nat_tests}
 use Rattle.std.proofs.lemmas.List.Elements.{All-tail}
 use Rattle.std.proofs.lemmas.List.Sums.{sum_by-cons, sum_by-append}
@@ -37,6 +37,17 @@ module _ (test : List ℕ → Bool) where
       let all : count_by test (terminated_lines block) ≡ count_by test (first ++ here ∷ rest) = ap (count_by test) (lines_to block 0 start end line) in
       omega (arith, all, count_append first (here ∷ rest), count_cons here rest true is)
 
+  -- the first line that is counted, and the lines after it
+  pub count_next : (block : List ℕ) (from start end : ℕ) → IsLineAfter block from start end → test (take (end - start) (drop start block)) ≡ true →
+      NoneMatch test (terminated_lines (take (start - from) (drop from block))) →
+      count_by test (terminated_lines (drop from block)) ≡ 1 + count_by test (terminated_lines (drop (end + 1) block))
+  count_next block from start end line is none =
+      let first = terminated_lines (take (start - from) (drop from block)) in
+      let here = take (end - start) (drop start block) in
+      let rest = terminated_lines (drop (end + 1) block) in
+      let all : count_by test (terminated_lines (drop from block)) ≡ count_by test (first ++ here ∷ rest) = ap (count_by test) (lines_to block from start end line) in
+      omega (arith, all, count_append first (here ∷ rest), count_none first none, count_cons here rest true is)
+
   -- what is not counted by a test is counted by its complement
   pub count_other : (ls : List (List ℕ)) → count_by (λ line. not (test line)) ls + count_by test ls ≡ length ls
   count_other [] = refl
@@ -47,6 +58,14 @@ module _ (test : List ℕ → Bool) where
       other : (t : Bool) (a b c d n : ℕ) → c ≡ cond (not t) 1 0 + a → d ≡ cond t 1 0 + b → a + b ≡ n → c + d ≡ suc n
       other true a b c d n e f h = omega arith
       other false a b c d n e f h = omega arith
+
+pub size_next : (block : List ℕ) (from start end : ℕ) → IsLineAfter block from start end →
+    1 + length (terminated_lines (drop (end + 1) block)) ≤ length (terminated_lines (drop from block))
+size_next block from start end line =
+    let first = terminated_lines (take (start - from) (drop from block)) in
+    let here = take (end - start) (drop start block) in
+    let rest = terminated_lines (drop (end + 1) block) in
+    omega (arith, ap (λ (ls : List (List ℕ)). length ls) (lines_to block from start end line), length-append first (here ∷ rest))
 
 pub count_if : (invert : Bool) (has_match : List ℕ → Bool) (ls : List (List ℕ)) (t : Bool) → invert ≡ t →
     count_by (λ line. if invert then not (has_match line) else has_match line) ls ≡ count_by (λ line. if t then not (has_match line) else has_match line) ls

@@ -4,6 +4,12 @@ mod ScanLemmas
 mod SpacingLemmas
 mod SearchLemmas
 mod TextLemmas
+mod MarkLemmas
+mod FindingLemmas
+mod ExistenceLemmas
+mod StreamLemmas
+mod SourceLemmas
+mod LawLemmas
 mod CountLemmas
 mod SpanListLemmas
 mod WordLemmas

@@ -65,14 +65,6 @@ module _ (opening gap : List ℕ) (bytes : Row → List ℕ) where
       ∙ append_assoc p.given (before ++ bytes row) rest
       ∙ ap (λ r. p.given ++ r) (append_assoc before (bytes row) rest)
 
-  -- the number after rows of lines
-  pub printed_next : (lines : List (List ℕ)) (p : Progress) → (printed opening gap bytes p (rows_at p.next lines)).next ≡ p.next + length lines
-  printed_next [] p = omega arith
-  printed_next (line ∷ lines) p =
-      let row = row_at p.next line false in
-      printed_next lines (record { given = p.given ++ (before_row opening gap p.shown p.next p.next ++ bytes row); shown = true; next = p.next + 1 })
-      ∙ omega arith
-
 -- the first of some lines
 module _ (left : ℕ) (some : 0 < left) (ls lines : List (List ℕ)) (line : List ℕ) (is : ls ≡ line ∷ lines) where
   pred : left ≡ suc (left - 1)

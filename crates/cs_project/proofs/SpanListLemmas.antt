@@ -13,10 +13,6 @@ use Rattle.cs_match.specs.declared.spans.Span.{Span as A_span}
 use Rattle.cs_project.specs.Forms.{Span, column_part, dyed, first_column, marked_bytes, match_bytes, name_part, number_part, painted, painted_from, prefix_of, row_bytes, separator, whole_bytes}
 use Rattle.cs_project.specs.Ordered.{pair_of, pairs, AreOrdered}
 
-pub pairs_push : (spans : List A_span) (span : A_span) (rest : List Span) → pairs (spans ++ span ∷ []) ++ rest ≡ pairs spans ++ pair_of span ∷ rest
-pairs_push [] span rest = refl
-pairs_push (first ∷ spans) span rest = ap (λ (ps : List Span). pair_of first ∷ ps) (pairs_push spans span rest)
-
 pub ordered_within : (from size : ℕ) (spans : List Span) → AreOrdered from size spans → from ≤ size
 ordered_within from size [] h = h
 ordered_within from size (span ∷ spans) h = omega (arith, h.0, h.1, ordered_within span.1 size spans h.2)
@@ -25,11 +21,11 @@ pub ordered_before : (from at size : ℕ) (spans : List Span) → from ≤ at �
 ordered_before from at size [] low h = omega arith
 ordered_before from at size (span ∷ spans) low h = (omega (arith, h.0), h.1, h.2)
 
-pub spans_ordered : (t : Tree) (s : List ℕ) (spans : List Span) (from least : ℕ) → from ≤ length s → AreSpansFrom true false t s from least spans →
+pub spans_ordered : (all whole : Bool) (t : Tree) (s : List ℕ) (spans : List Span) (from least : ℕ) → from ≤ length s → AreSpansFrom all whole t s from least spans →
     AreOrdered from (length s) spans
-spans_ordered t s [] from least within h = within
-spans_ordered t s (span ∷ spans) from least within h =
-    (h.0.is.begins, h.0.is.ordered, spans_ordered t s spans span.1 (suc span.1) h.0.is.within h.1)
+spans_ordered all whole t s [] from least within h = within
+spans_ordered all whole t s (span ∷ spans) from least within h =
+    (h.0.is.begins, h.0.is.ordered, spans_ordered all whole t s spans span.1 (suc span.1) h.0.is.within h.1)
 
 -- the matches from one on
 pub pairs_from : (spans : List A_span) (i : ℕ) (d : A_span) → i < length spans →
@@ -53,17 +49,17 @@ span_within spans i from size d low h =
 
 -- ---- the matches of a line are unique
 
-module _ (t : Tree) (s : List ℕ) where
-  pub spans_unique : (a b : List Span) (from least : ℕ) → AreSpansFrom true false t s from least a → AreSpansFrom true false t s from least b → a ≡ b
+module _ (whole : Bool) (t : Tree) (s : List ℕ) where
+  pub spans_unique : (a b : List Span) (from least : ℕ) → AreSpansFrom true whole t s from least a → AreSpansFrom true whole t s from least b → a ≡ b
   spans_unique [] [] from least h k = refl
   spans_unique [] (y ∷ b) from least h k = absurd (h refl y.0 y.1 k.0.is)
   spans_unique (x ∷ a) [] from least h k = absurd (k refl x.0 x.1 h.0.is)
   spans_unique (x ∷ a) (y ∷ b) from least h k =
       let start : x.0 ≡ y.0 = omega (arith, h.0.leftmost y.0 y.1 k.0.is, k.0.leftmost x.0 x.1 h.0.is) in
-      let low = h.0.longest y.1 (subst (λ i. IsMatchOf false t s from least i y.1) (sym start) k.0.is) in
-      let high = k.0.longest x.1 (subst (λ i. IsMatchOf false t s from least i x.1) start h.0.is) in
+      let low = h.0.longest y.1 (subst (λ i. IsMatchOf whole t s from least i y.1) (sym start) k.0.is) in
+      let high = k.0.longest x.1 (subst (λ i. IsMatchOf whole t s from least i x.1) start h.0.is) in
       let end : x.1 ≡ y.1 = omega (arith, low, high) in
-      let more = subst (λ e. AreSpansFrom true false t s e (suc e) b) (sym end) k.1 in
+      let more = subst (λ e. AreSpansFrom true whole t s e (suc e) b) (sym end) k.1 in
       ap (λ i. let p : Span = (i, x.1) in p ∷ a) start ∙ ap (λ e. let p : Span = (y.0, e) in p ∷ a) end
       ∙ ap (λ (rest : List Span). y ∷ rest) (spans_unique a b x.1 (suc x.1) h.1 more)
 
@@ -87,15 +83,18 @@ module _ (form : LineForm) (name : List ℕ) (row : Row) where
       ap (λ c. (first ++ (number ++ c)) ++ (painted form row.line a ++ newline ∷ [])) (column_plain column a ∙ sym (column_plain column b))
       ∙ ap (λ p. (first ++ (number ++ column_part form row.marked (first_column b))) ++ (p ++ newline ∷ [])) (painted_is a ∙ sym (painted_is b))
 
+  marked_whole : (form.only || form.each) ≡ false → (spans : List Span) → marked_bytes form name row spans ≡ whole_bytes form name row spans
+  marked_whole none [] = refl
+  marked_whole none (span ∷ spans) =
+      ap (λ (b : Bool). if b then flat_map (match_bytes form name row (span ∷ spans)) (span ∷ spans) else whole_bytes form name row (span ∷ spans)) none
+
   marked_plain : needs_spans form ≡ false → (a b : List Span) → marked_bytes form name row a ≡ marked_bytes form name row b
   marked_plain none a b =
       let c = either form.column (form.only || (form.each || form.colour)) none in
       let o = either form.only (form.each || form.colour) c.1 in
       let e = either form.each form.colour o.1 in
       let no : (form.only || form.each) ≡ false = ap (λ b. b || form.each) o.0 ∙ e.0 in
-      let is : (spans : List Span) → marked_bytes form name row spans ≡ whole_bytes form name row spans =
-      λ spans. ap (λ (b : Bool). if b then flat_map (match_bytes form name row spans) spans else whole_bytes form name row spans) no in
-      is a ∙ whole_plain c.0 e.1 a b ∙ sym (is b)
+      marked_whole no a ∙ whole_plain c.0 e.1 a b ∙ sym (marked_whole no b)
 
   by_need : (needs : Bool) → needs_spans form ≡ needs → (a b : List Span) → (needs_spans form ≡ true → a ≡ b) → marked_bytes form name row a ≡ marked_bytes form name row b
   by_need true is a b same = ap (marked_bytes form name row) (same is)

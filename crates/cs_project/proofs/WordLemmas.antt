@@ -10,8 +10,8 @@ use Rattle.cs_project.specs.declared.named.Switch.{Switch}
 use Rattle.cs_project.specs.declared.named.Valued.{Valued}
 use Rattle.cs_project.specs.declared.words.Item.{Item}
 use Rattle.cs_project.specs.declared.words.Item.TheVariants.{Switch as On, Value}
-use Rattle.cs_project.specs.declared.words.WordFault.{WordFault}
-use Rattle.cs_project.specs.declared.words.WordFault.TheVariants.{Unknown, LeftOut}
+use Rattle.cs_project.specs.declared.words.ItemFault.{ItemFault}
+use Rattle.cs_project.specs.declared.words.ItemFault.TheVariants.{Unknown, LeftOut}
 use Rattle.cs_project.specs.declared.words.Next.{Next}
 use Rattle.cs_project.specs.declared.words.Next.TheVariants.{Any, Value as A_value, Operand as An_operand}
 
@@ -60,7 +60,7 @@ unfolding after_letters
 unknown_letter items index at letter letters is = rw (after_letters, is) refl
 
 -- the words of a slice, after the items so far
-abbrev pub items_of_rest : List Item → Next → ℕ → List (String Global) → Result (List Item) WordFault
+abbrev pub items_of_rest : List Item → Next → ℕ → List (String Global) → Result (List Item) ItemFault
 items_of_rest items next index rest = items_after (reading items next) index (map string_bytes rest)
 
 pub no_word : (items : List Item) (next : Next) (index : ℕ) (rest : List (String Global)) → length rest ≡ 0
@@ -80,7 +80,7 @@ pub read_word : (before after : Reading) (index : ℕ) (word : List ℕ) (words 
 unfolding items_after
 read_word before after index word words is = rw (items_after, is) refl
 
-pub faulty_word : (before : Reading) (index : ℕ) (word : List ℕ) (words : List (List ℕ)) (fault : WordFault) → after_word before index word ≡ Err fault
+pub faulty_word : (before : Reading) (index : ℕ) (word : List ℕ) (words : List (List ℕ)) (fault : ItemFault) → after_word before index word ≡ Err fault
     → items_after before index (word ∷ words) ≡ Err fault
 unfolding items_after
 faulty_word before index word words fault is = rw (items_after, is) refl

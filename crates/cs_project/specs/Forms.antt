@@ -35,9 +35,10 @@ separator marked = if marked then codes ":" else codes "-"
 abbrev pub separated : LineForm → Bool → List ℕ → List ℕ → List ℕ
 separated form marked colour text = dyed form colour text ++ dyed form (codes "36") (separator marked)
 
+-- no name with -h, and none beside a line under --heading
 abbrev pub name_part : LineForm → List ℕ → Bool → List ℕ
 name_part form name marked =
-    if form.bare then []
+    if form.bare || form.heading then []
     else (if form.nul then dyed form (codes "35") name ++ 0 ∷ [] else separated form marked (codes "35") name)
 
 abbrev pub number_part : LineForm → ℕ → Bool → List ℕ
@@ -80,10 +81,13 @@ match_bytes form name row spans span =
     else [])
     else prefix_of form name row (Some (span.0 + 1)) ++ (painted form row.line spans ++ newline ∷ [])
 
--- A marked line, whose matches are `spans`. With -v it has none.
+-- A marked line, whose matches are `spans`: the line, or each of its matches. A line that has none, as with -v, is printed
+-- whole in each form.
 abbrev pub marked_bytes : LineForm → List ℕ → Row → List Span → List ℕ
-marked_bytes form name row spans =
-    if form.only || form.each then flat_map (match_bytes form name row spans) spans else whole_bytes form name row spans
+marked_bytes form name row [] = whole_bytes form name row []
+marked_bytes form name row (span ∷ spans) =
+    if form.only || form.each then flat_map (match_bytes form name row (span ∷ spans)) (span ∷ spans)
+    else whole_bytes form name row (span ∷ spans)
 
 -- a line as it is printed
 abbrev pub row_bytes : LineForm → List ℕ → Row → List Span → List ℕ

@@ -1,24 +1,13 @@
 -- What is printed for a text, and for texts one after another.
-use Rattle.std.specs.Prelude.{Option, None, ℕ, ◌+◌, Bool, true, false, not, nat_lt, nat_eq, if◌then◌else◌, List, [], ◌∷◌, ◌++◌, map, take, codes, decimal, min, count_by, Some}
+use Rattle.std.specs.Prelude.{Option, None, ℕ, ◌+◌, Bool, true, false, not, ◌&&◌, nat_lt, nat_eq, if◌then◌else◌, List, [], ◌∷◌, ◌++◌, map, take, codes, decimal, min, count_by, Some}
 use Rattle.std.specs.List.{flat_map, list_any}
-use Rattle.cs_syntax.specs.Matching.{Tree}
-use Rattle.cs_match.specs.Deciding.{Decides}
-use Rattle.cs_match.specs.Span.{AreSpans}
 use Rattle.cs_match.specs.Lines.{newline, lines}
 use Rattle.cs_project.specs.declared.form.Mode.{Mode}
 use Rattle.cs_project.specs.declared.form.Mode.TheVariants.{Lines, Counts, Names, Others}
 use Rattle.cs_project.specs.declared.form.ShowOptions.{ShowOptions}
 use Rattle.cs_project.specs.Contexts.{Row, rows_of, groups_of}
-use Rattle.cs_project.specs.Forms.{Span, row_bytes, dyed}
-
--- How lines are tested, and where their matches are.
-pub record Finding : Type 0 where
-  pub has_match : List ℕ → Bool
-  pub spans : List ℕ → List Span
-
--- the lines that match are those of one tree, and the matches are those of another
-abbrev pub IsFoundBy : Finding → Tree → Tree → Type 0
-IsFoundBy finding tree pattern = Decides finding.has_match tree × ((line : List ℕ) → AreSpans pattern line (finding.spans line))
+use Rattle.cs_project.specs.Findings.{Finding}
+use Rattle.cs_project.specs.Forms.{row_bytes, dyed}
 
 -- as git: a NUL is among the first 8000 bytes
 abbrev pub is_binary : List ℕ → Bool
@@ -42,7 +31,7 @@ shows_lines Others = false
 
 -- what is between the lines of two texts: with headings an empty line
 abbrev pub line_gap : ShowOptions → List ℕ
-line_gap options = if options.heading then newline ∷ [] else gap options
+line_gap options = if options.form.heading then newline ∷ [] else gap options
 
 -- what is between the groups of two texts: nothing, if no lines are shown
 abbrev pub between : ShowOptions → List ℕ
@@ -64,8 +53,9 @@ module _ (options : ShowOptions) (name : List ℕ) where
   abbrev pub count_bytes : ℕ → List ℕ
   count_bytes count = (if options.form.bare then [] else name_bytes (codes ":")) ++ (decimal count ++ newline ∷ [])
 
+  -- the name above the lines of a text
   abbrev pub heading : List ℕ
-  heading = if options.heading then name_bytes (newline ∷ []) else []
+  heading = if options.form.heading && not options.form.bare then name_bytes (newline ∷ []) else []
 
   -- -c: how many lines are marked, unless it is 0
   abbrev pub count_groups : ℕ → List (List ℕ)
@@ -97,7 +87,7 @@ module _ (options : ShowOptions) (finding : Finding) where
     line_groups [] = []
     line_groups (row ∷ rows) =
         let groups = map (λ group. flat_map shown_bytes group) (groups_of (row ∷ rows)) in
-        if options.heading then (heading options name ++ joined (gap options) groups) ∷ [] else groups
+        if options.form.heading then (heading options name ++ joined (gap options) groups) ∷ [] else groups
 
     abbrev pub groups_by : Mode → List ℕ → List (List ℕ)
     groups_by Lines text = line_groups (text_rows text)

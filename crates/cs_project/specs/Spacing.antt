@@ -3,7 +3,8 @@ use Rattle.std.specs.Prelude.{ℕ, ◌≡◌, ◌+◌, Bool, true, false, nat_eq
 use Rattle.cs_project.specs.Contexts.{Row}
 use Rattle.cs_project.specs.Forms.{Span}
 use Rattle.cs_project.specs.Printing.{needs_spans}
-use Rattle.cs_project.specs.Shown.{Finding, shown_bytes, heading, gap, line_gap}
+use Rattle.cs_project.specs.Findings.{Finding}
+use Rattle.cs_project.specs.Shown.{shown_bytes, heading, gap, line_gap}
 use Rattle.cs_project.specs.declared.rows.Page.{Page}
 use Rattle.cs_project.specs.declared.rows.Rows.{Rows}
 
@@ -45,10 +46,10 @@ printed_by page finding =
 
 -- no line of the text is shown yet
 abbrev pub fresh_rows : Page → Rows
-fresh_rows page = record { page = page; number = 1; most = page.options.now.most; left = 0; shown = false }
+fresh_rows page = record { page = page; number = 1; most = page.options.now.most; left = 0; shown = false; next = 1 }
 
 abbrev pub progress_of : Rows → List ℕ → Progress
-progress_of rows given = record { given = given; shown = rows.shown; next = rows.number }
+progress_of rows given = record { given = given; shown = rows.shown; next = rows.next }
 
 -- the finding has these matches in a marked line, if they are needed
 abbrev pub HasSpans : Page → Finding → Row → List Span → Type 0
@@ -66,13 +67,17 @@ IsMarkPrinted old new given later line spans rows = ((finding : Finding) →
     (needs_spans old.page.options.now.form ≡ true → finding.spans line ≡ spans) →
     progress_of new later ≡ printed_by old.page finding (progress_of old given) rows) × (new.page ≡ old.page)
 
--- This row was printed, if the finding has these matches in its line and they are needed. The rest of the state stays.
+-- the scan of the lines is where it was
+abbrev pub KeepsScan : Rows → Rows → Type 0
+KeepsScan old new = (new.number ≡ old.number) × (new.most ≡ old.most) × (new.left ≡ old.left)
+
+-- This row was printed, if the finding has these matches in its line and they are needed.
 abbrev pub ShowsRow : {A E : Type 0} → Rows → Rows → List ℕ → List ℕ → Row → List Span → Result A E → Type 0
 ShowsRow old new given later row spans result = OnOk result (((finding : Finding) → HasSpans old.page finding row spans →
     progress_of new later ≡ printed_by old.page finding (progress_of old given) (row ∷ []))
-    × (new.page ≡ old.page) × (new.most ≡ old.most) × (new.left ≡ old.left))
+    × (new.page ≡ old.page) × KeepsScan old new)
 
--- On success these rows were printed. The rest of the state stays.
+-- On success these rows were printed.
 abbrev pub ShowsRows : {A E : Type 0} → Rows → Rows → List ℕ → List ℕ → List Row → Result A E → Type 0
 ShowsRows old new given later rows result =
-    OnOk result (IsPrinted old new given later rows × (new.most ≡ old.most) × (new.left ≡ old.left))
+    OnOk result (IsPrinted old new given later rows × KeepsScan old new)

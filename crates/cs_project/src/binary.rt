@@ -5,7 +5,7 @@ ghost use Rattle.cs_project.specs.Shown.{is_binary};
 use memchr::memchr;
 
 /// A NUL among so many bytes at the start makes a text binary, as in git.
-const PREFIX: usize = 8000;
+pub(crate) const PREFIX: usize = 8000;
 
 /// Whether a text is binary.
 pub fn is_binary(text: &[u8]) -> bool

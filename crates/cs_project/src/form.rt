@@ -5,6 +5,8 @@
 pub struct LineForm {
     /// No name (`-h`).
     pub bare: bool,
+    /// The name stands above the lines of a text, not beside each (`--heading`).
+    pub heading: bool,
     /// The number of the line (`-n`).
     pub number: bool,
     /// The column of the first match (`--column`).
@@ -44,7 +46,5 @@ pub struct ShowOptions {
     pub after: usize,
     /// Lines without a match are marked (`-v`).
     pub invert: bool,
-    /// The name of a text stands above its lines (`--heading`).
-    pub heading: bool,
     pub form: LineForm,
 }

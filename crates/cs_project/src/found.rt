@@ -1,14 +1,13 @@
 // Lines as they are printed with their matches.
 ghost use Rattle.std.specs.Prelude.{◌≡◌, ◌≤◌, ◌<◌, ◌+◌, ◌^◌, ◌++◌, ◌∷◌, ℕ, List, length, OnOk, IfOk};
 ghost use Rattle.std.specs.List.{flat_map};
-ghost use Rattle.cs_match.specs.Span.{AreSpans};
 ghost use Rattle.cs_project.specs.Forms.{Span as A_span, column_part, first_column, match_bytes, whole_bytes, painted, painted_from, prefix_of, row_bytes};
 ghost use Rattle.cs_project.specs.Ordered.{AreOrdered, pairs, pair_of};
 ghost use Rattle.cs_project.specs.Printing.{Prints, row_of};
 
 use crate::form::LineForm;
 use crate::row::LineRow;
-use cs_match::{Finder, Span};
+use cs_match::Span;
 use cs_output::Output;
 use itoa::Buffer;
 use std::alloc::AllocError;
@@ -19,24 +18,6 @@ pub(crate) struct FoundRow<'a> {
     pub(crate) name: &'a str,
     pub(crate) row: LineRow<'a>,
     pub(crate) spans: &'a [Span],
-}
-
-/// The matches of a line, in place of what the vector has.
-pub(crate) fn find_spans(
-    finder: &mut Finder<'_>,
-    line: &[u8],
-    spans: &mut Vec<Span>,
-) -> Result<(), AllocError>
-    ensures spans { OnOk result (AreSpans finder.old.tree line.now (pairs spans.new.items)) }
-    ensures same { finder.new.tree ≡ finder.old.tree }
-{
-    spans.clear();
-    let mut next = finder.find(line, 0);
-    'spans: while let Some(span) = next {
-        spans.push(span)?;
-        next = finder.find_after(line, span);
-    }
-    Ok(())
 }
 
 impl LineForm {
@@ -206,7 +187,7 @@ impl LineForm {
             (pairs found.now.spans.now)) result }
     {
         if found.row.marked {
-            if self.only || self.each {
+            if !found.spans.is_empty() && (self.only || self.each) {
                 self.print_matches(found, out)?;
             } else {
                 self.print_whole(found, out)?;

@@ -72,7 +72,7 @@ impl LineForm {
         Ok(())
     }
 
-    /// The name, unless the form is bare.
+    /// The name, unless the form has none beside lines.
     pub(crate) fn print_name<O: Output>(
         &self,
         name: &str,
@@ -81,7 +81,7 @@ impl LineForm {
     ) -> Result<(), AllocError>
         ensures { Prints (O.given out.old) (O.given out.new) (name_part self.now name.now marked) result }
     {
-        if self.bare {
+        if self.bare || self.heading {
             return Ok(());
         }
         if self.nul {

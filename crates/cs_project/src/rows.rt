@@ -32,7 +32,7 @@ pub struct Page<'a> {
 #[derive(Clone, Copy, Drop)]
 pub(crate) struct Rows<'a> {
     pub(crate) page: Page<'a>,
-    /// The number of the first line that is not shown yet.
+    /// The number of the first line that is not passed yet, or is held.
     pub(crate) number: u64,
     /// How many lines may still be marked.
     pub(crate) most: Option<u64>,
@@ -40,6 +40,8 @@ pub(crate) struct Rows<'a> {
     pub(crate) left: usize,
     /// A line was shown.
     pub(crate) shown: bool,
+    /// The number after that of the last line that was shown.
+    pub(crate) next: u64,
 }
 
 /// Lines that were shown.
@@ -84,7 +86,7 @@ impl Page<'_> {
     fn print_between<O: Output>(&self, out: &mut O) -> Result<(), AllocError>
         ensures { Prints (O.given out.old) (O.given out.new) (line_gap self.now.options.now) result }
     {
-        if self.options.heading {
+        if self.options.form.heading {
             out.append(b"\n")?;
             return Ok(());
         }
@@ -97,7 +99,7 @@ impl Page<'_> {
         ensures { Prints (O.given out.old) (O.given out.new)
             (heading self.now.options.now self.now.name.now) result }
     {
-        if !self.options.heading {
+        if !self.options.form.heading || self.options.form.bare {
             return Ok(());
         }
         self.print_name(b"\n", out)?;
@@ -127,6 +129,7 @@ impl<'a> Rows<'a> {
             most: page.options.most,
             left: 0,
             shown: false,
+            next: 1,
         }
     }
 
@@ -134,14 +137,14 @@ impl<'a> Rows<'a> {
     fn print_before<O: Output>(&self, number: u64, out: &mut O) -> Result<(), AllocError>
         ensures { Prints (O.given out.old) (O.given out.new)
             (before_row (opening_of self.now.page) (gap self.now.page.options.now) self.now.shown
-            self.now.number number)
+            self.now.next number)
             result }
     {
         if !self.shown {
             self.page.print_opening(out)?;
             return Ok(());
         }
-        if number != self.number {
+        if number != self.next {
             self.page.print_gap(out)?;
         }
         Ok(())
@@ -166,7 +169,7 @@ impl<'a> Rows<'a> {
             spans,
         };
         self.page.options.form.print_found(&found, out)?;
-        self.number = row.number + 1;
+        self.next = row.number + 1;
         self.shown = true;
         Ok(())
     }
@@ -232,6 +235,7 @@ impl<'a> Rows<'a> {
         let number = self.number;
         let left = self.left;
         let passed = self.show_lines(number, left, &block[from..], out)?;
+        self.number = number + passed.count as u64;
         self.left = left - passed.count;
         Ok(from + passed.len)
     }
@@ -255,6 +259,7 @@ impl<'a> Rows<'a> {
             marked: false,
         };
         self.show(&row, &[], out)?;
+        self.number += 1;
         self.left -= 1;
         Ok(())
     }
@@ -287,6 +292,7 @@ impl<'a> Rows<'a> {
             marked: true,
         };
         self.show(&row, spans, out)?;
+        self.number = row.number + 1;
         self.left = self.page.options.after;
         self.most = one_less(self.most);
         Ok(())

@@ -1,13 +1,12 @@
 // The search of the lines of a text for those that are marked.
 ghost use Rattle.std.specs.Prelude.{◌≡◌, ◌≤◌, ◌<◌, ◌+◌, ◌-◌, ◌^◌, ℕ, Bool, ◌&&◌, List, [], ◌∷◌, false, true, not, length, take, drop, slice_range, IfOk, IfSome, OnOk};
-ghost use Rattle.cs_match.specs.Deciding.{Decides};
 ghost use Rattle.cs_match.specs.LastPart.{last_line};
 ghost use Rattle.cs_match.specs.Lines.{terminated_lines};
 ghost use Rattle.cs_match.specs.NoNewline.{HasNoNewline};
 ghost use Rattle.cs_match.specs.Skipping.{AreWholeLines, NoneMatch, IsLineAfter};
 ghost use Rattle.cs_project.specs.Blocks.{IsNext};
 ghost use Rattle.cs_project.specs.Contexts.{is_open};
-ghost use Rattle.cs_project.specs.Printed.{KeepsTrees};
+ghost use Rattle.cs_project.specs.Findings.{Tests, KeepsSearch};
 ghost use Rattle.cs_project.specs.Scans.{Fits, Searches, SearchesLast, IsNextMark};
 ghost use Rattle.cs_project.specs.Shown.{is_wanted};
 
@@ -15,33 +14,33 @@ use crate::form::ShowOptions;
 use crate::lines::line_end;
 use crate::rows::Rows;
 use crate::search::Search;
-use cs_match::{Line, Matcher};
+use cs_match::Line;
 use cs_output::Output;
 use std::alloc::AllocError;
 
 /// Whether a line is wanted: it matches, or with `-v` does not.
-pub(crate) fn is_wanted(options: &ShowOptions, line: &[u8], matcher: &mut Matcher<'_>) -> bool
-    ensures wanted { (has_match : List ℕ → Bool) → Decides has_match matcher.old.tree →
-        result ≡ is_wanted options.now has_match line.now }
-    ensures same { matcher.new.tree ≡ matcher.old.tree }
+pub(crate) fn is_wanted(options: &ShowOptions, line: &[u8], search: &mut Search<'_>) -> bool
+    ensures wanted { (test : List ℕ → Bool) → Tests test search.old →
+        result ≡ is_wanted options.now test line.now }
+    ensures same { KeepsSearch search.old search.new }
 {
-    let matched = matcher.is_match(line);
+    let matched = search.is_match(line);
     if options.invert { !matched } else { matched }
 }
 
 /// The first line at or after `from` that has no match.
-fn next_miss(block: &[u8], from: usize, matcher: &mut Matcher<'_>) -> Option<Line>
+fn next_miss(block: &[u8], from: usize, search: &mut Search<'_>) -> Option<Line>
     requires within { from ≤ length block.now }
     requires whole { AreWholeLines (drop from block.now) }
     ensures line { IfSome result (λ line. IsLineAfter block.now from line.start line.end) }
-    ensures next { (has_match : List ℕ → Bool) → Decides has_match matcher.old.tree →
-        IsNext (λ line. not (has_match line)) block.now from result }
-    ensures same { matcher.new.tree ≡ matcher.old.tree }
+    ensures next { (test : List ℕ → Bool) → Tests test search.old →
+        IsNext (λ line. not (test line)) block.now from result }
+    ensures same { KeepsSearch search.old search.new }
 {
     let mut start = from;
     'lines: while start < block.len() {
         let end = line_end(block, start);
-        if !matcher.is_match(&block[start..end]) {
+        if !search.is_match(&block[start..end]) {
             return Some(Line { start, end });
         }
         start = end + 1;
@@ -54,19 +53,19 @@ pub(crate) fn next_wanted(
     options: &ShowOptions,
     block: &[u8],
     from: usize,
-    matcher: &mut Matcher<'_>,
+    search: &mut Search<'_>,
 ) -> Option<Line>
     requires within { from ≤ length block.now }
     requires whole { AreWholeLines (drop from block.now) }
     ensures line { IfSome result (λ line. IsLineAfter block.now from line.start line.end) }
-    ensures next { (has_match : List ℕ → Bool) → Decides has_match matcher.old.tree →
-        IsNext (is_wanted options.now has_match) block.now from result }
-    ensures same { matcher.new.tree ≡ matcher.old.tree }
+    ensures next { (test : List ℕ → Bool) → Tests test search.old →
+        IsNext (is_wanted options.now test) block.now from result }
+    ensures same { KeepsSearch search.old search.new }
 {
     if options.invert {
-        next_miss(block, from, matcher)
+        next_miss(block, from, search)
     } else {
-        matcher.next_match(block, from)
+        search.next_match(block, from)
     }
 }
 
@@ -82,19 +81,19 @@ impl Rows<'_> {
     }
 
     /// The first line at or after `from` that is marked.
-    fn next_mark(&self, block: &[u8], from: usize, matcher: &mut Matcher<'_>) -> Option<Line>
+    fn next_mark(&self, block: &[u8], from: usize, search: &mut Search<'_>) -> Option<Line>
         requires within { from ≤ length block.now }
         requires whole { AreWholeLines (drop from block.now) }
         ensures line { IfSome result (λ line. IsLineAfter block.now from line.start line.end ×
             (is_open self.now.most ≡ true)) }
-        ensures mark { (has_match : List ℕ → Bool) → Decides has_match matcher.old.tree →
-            IsNextMark self.now has_match block.now from result }
-        ensures same { matcher.new.tree ≡ matcher.old.tree }
+        ensures mark { (test : List ℕ → Bool) → Tests test search.old →
+            IsNextMark self.now test block.now from result }
+        ensures same { KeepsSearch search.old search.new }
     {
         if !self.is_open() {
             return None;
         }
-        next_wanted(self.page.options, block, from, matcher)
+        next_wanted(self.page.options, block, from, search)
     }
 
     /// Searches the lines of a block from `from` on; those before are held. Returns where the lines begin that are held then.
@@ -114,19 +113,19 @@ impl Rows<'_> {
         ensures fits { IfOk result (λ held. Fits (terminated_lines (drop held block.now)) self.new.left) }
         ensures room { IfOk result (λ held. self.new.number ≤ self.old.number + held) }
         ensures page { OnOk result (self.new.page ≡ self.old.page) }
-        ensures rows { IfOk result (λ held. Searches search.old self.old self.new (O.given out.old)
+        ensures rows { IfOk result (λ held. Searches search.old search.new self.old self.new (O.given out.old)
             (O.given out.new)
             (terminated_lines (take from block.now)) (terminated_lines (drop from block.now))
             (terminated_lines (drop held block.now))) }
-        ensures same { KeepsTrees search.old search.new }
+        ensures same { KeepsSearch search.old search.new }
     {
         let mut held = 0;
         let mut offset = from;
-        'marks: while let Some(line) = self.next_mark(block, offset, &mut search.matcher) {
+        'marks: while let Some(line) = self.next_mark(block, offset, search) {
             held = self.pass(&block[..line.start], held, offset, out)?;
             let bytes = &block[line.start..line.end];
             search.find(&self.page.options.form, bytes)?;
-            self.show_mark(&block[held..line.start], bytes, &search.spans, out)?;
+            self.show_mark(&block[held..line.start], bytes, search.spans(), out)?;
             offset = line.end + 1;
             held = offset;
         }
@@ -135,16 +134,16 @@ impl Rows<'_> {
     }
 
     /// Whether a line is marked.
-    fn is_marked(&self, line: &[u8], matcher: &mut Matcher<'_>) -> bool
-        ensures marked { (has_match : List ℕ → Bool) → Decides has_match matcher.old.tree →
-            result ≡ (is_wanted self.now.page.options.now has_match line.now && is_open self.now.most) }
+    fn is_marked(&self, line: &[u8], search: &mut Search<'_>) -> bool
+        ensures marked { (test : List ℕ → Bool) → Tests test search.old →
+            result ≡ (is_wanted self.now.page.options.now test line.now && is_open self.now.most) }
         ensures may { result ≡ true → is_open self.now.most ≡ true }
-        ensures same { matcher.new.tree ≡ matcher.old.tree }
+        ensures same { KeepsSearch search.old search.new }
     {
         if !self.is_open() {
             return false;
         }
-        is_wanted(self.page.options, line, matcher)
+        is_wanted(self.page.options, line, search)
     }
 
     /// Searches the bytes after the last newline of a text, if there are any. The lines before are held.
@@ -158,17 +157,17 @@ impl Rows<'_> {
         requires whole { AreWholeLines held.now }
         requires fits { Fits (terminated_lines held.now) self.old.left }
         requires room { self.old.number + length held.now + 1 < 2 ^ 64 }
-        ensures rows { OnOk result (SearchesLast search.old self.old self.new (O.given out.old)
+        ensures rows { OnOk result (SearchesLast search.old search.new self.old self.new (O.given out.old)
             (O.given out.new)
             (terminated_lines held.now) (last_line last.now)) }
-        ensures same { KeepsTrees search.old search.new }
+        ensures same { KeepsSearch search.old search.new }
     {
         if last.is_empty() {
             return Ok(());
         }
-        if self.is_marked(last, &mut search.matcher) {
+        if self.is_marked(last, search) {
             search.find(&self.page.options.form, last)?;
-            self.show_mark(held, last, &search.spans, out)?;
+            self.show_mark(held, last, search.spans(), out)?;
         } else {
             self.show_last(last, out)?;
         }

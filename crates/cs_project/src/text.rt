@@ -1,34 +1,34 @@
 // The printing of the lines of a text that is in memory.
 ghost use Rattle.std.specs.Prelude.{◌≡◌, ◌++◌, ◌<◌, ◌+◌, ◌^◌, false, length, count_by, ◌≤◌, IfOk, OnOk, [], nat_lt};
 ghost use Rattle.cs_project.specs.Printing.{Prints};
-ghost use Rattle.cs_project.specs.Shown.{Finding, is_wanted, at_most, count_groups, count_of, following, has_groups, name_groups, wanted_count};
+ghost use Rattle.cs_project.specs.Shown.{is_wanted, at_most, count_groups, count_of, following, has_groups, name_groups, wanted_count};
 ghost use Rattle.cs_match.specs.LastPart.{last_line};
 ghost use Rattle.cs_match.specs.Lines.{terminated_lines};
 ghost use Rattle.cs_match.specs.Skipping.{AreWholeLines};
-ghost use Rattle.cs_match.specs.Deciding.{Decides};
-ghost use Rattle.cs_project.specs.Printed.{KeepsTrees, PrintsText, HasGroups, PrintsLines, HasLines};
+ghost use Rattle.cs_project.specs.Findings.{Finding, Tests, KeepsSearch};
+ghost use Rattle.cs_project.specs.Printed.{PrintsText, HasMark, PrintsLines};
 
 use crate::form::{Mode, ShowOptions};
 use crate::lines::line_count;
 use crate::rows::{Page, Rows};
 use crate::search::Search;
 use crate::searching::{is_wanted, next_wanted};
-use cs_match::{Matcher, whole_lines_len};
+use cs_match::whole_lines_len;
 use cs_output::Output;
 use itoa::Buffer;
 use std::alloc::AllocError;
 
-/// Prints the lines of a text that are to be shown, and returns whether there is one.
+/// Prints the lines of a text that are to be shown, and returns whether a line is marked.
 pub fn print_lines<O: Output>(
     page: &Page<'_>,
     text: &[u8],
     search: &mut Search<'_>,
     out: &mut O,
 ) -> Result<bool, AllocError>
-    ensures lines { OnOk result (PrintsLines search.old page.now text.now (O.given out.old)
+    ensures lines { OnOk result (PrintsLines search.old search.new page.now text.now (O.given out.old)
         (O.given out.new)) }
-    ensures some { IfOk result (λ some. HasLines search.old page.now text.now some) }
-    ensures same { KeepsTrees search.old search.new }
+    ensures marked { IfOk result (HasMark search.old search.new page.now text.now) }
+    ensures same { KeepsSearch search.old search.new }
 {
     let mut rows = Rows::new(*page);
     let end = whole_lines_len(text);
@@ -39,14 +39,14 @@ pub fn print_lines<O: Output>(
 }
 
 /// How many lines of a block of whole lines are wanted.
-fn ended_count(options: &ShowOptions, block: &[u8], matcher: &mut Matcher<'_>) -> u64
+pub(crate) fn ended_count(options: &ShowOptions, block: &[u8], search: &mut Search<'_>) -> u64
     requires whole { AreWholeLines block.now }
-    ensures count { (finding : Finding) → Decides finding.has_match matcher.old.tree →
+    ensures count { (finding : Finding) → Tests finding.has_match search.old →
         result ≡ count_by (is_wanted options.now finding.has_match) (terminated_lines block.now) }
     ensures bound { result ≤ length block.now }
-    ensures same { matcher.new.tree ≡ matcher.old.tree }
+    ensures same { KeepsSearch search.old search.new }
 {
-    let matches = matcher.count(block);
+    let matches = search.count(block);
     if !options.invert {
         return matches;
     }
@@ -54,16 +54,16 @@ fn ended_count(options: &ShowOptions, block: &[u8], matcher: &mut Matcher<'_>) -
 }
 
 /// How many lines are wanted of the bytes after the last newline.
-fn last_count(options: &ShowOptions, last: &[u8], matcher: &mut Matcher<'_>) -> u64
-    ensures count { (finding : Finding) → Decides finding.has_match matcher.old.tree →
+pub(crate) fn last_count(options: &ShowOptions, last: &[u8], search: &mut Search<'_>) -> u64
+    ensures count { (finding : Finding) → Tests finding.has_match search.old →
         result ≡ count_by (is_wanted options.now finding.has_match) (last_line last.now) }
     ensures bound { result ≤ 1 }
-    ensures same { matcher.new.tree ≡ matcher.old.tree }
+    ensures same { KeepsSearch search.old search.new }
 {
     if last.is_empty() {
         return 0;
     }
-    if is_wanted(options, last, matcher) {
+    if is_wanted(options, last, search) {
         1
     } else {
         0
@@ -71,32 +71,32 @@ fn last_count(options: &ShowOptions, last: &[u8], matcher: &mut Matcher<'_>) -> 
 }
 
 /// How many lines of a text are wanted.
-fn count_wanted(options: &ShowOptions, text: &[u8], matcher: &mut Matcher<'_>) -> u64
-    ensures count { (finding : Finding) → Decides finding.has_match matcher.old.tree →
+fn count_wanted(options: &ShowOptions, text: &[u8], search: &mut Search<'_>) -> u64
+    ensures count { (finding : Finding) → Tests finding.has_match search.old →
         result ≡ wanted_count options.now finding text.now }
-    ensures same { matcher.new.tree ≡ matcher.old.tree }
+    ensures same { KeepsSearch search.old search.new }
 {
     let end = whole_lines_len(text);
-    let ended = ended_count(options, &text[..end], matcher);
-    ended + last_count(options, &text[end..], matcher)
+    let ended = ended_count(options, &text[..end], search);
+    ended + last_count(options, &text[end..], search)
 }
 
 /// Whether a line of a text is wanted.
-fn has_wanted(options: &ShowOptions, text: &[u8], matcher: &mut Matcher<'_>) -> bool
-    ensures some { (finding : Finding) → Decides finding.has_match matcher.old.tree →
+fn has_wanted(options: &ShowOptions, text: &[u8], search: &mut Search<'_>) -> bool
+    ensures some { (finding : Finding) → Tests finding.has_match search.old →
         result ≡ nat_lt 0 (wanted_count options.now finding text.now) }
-    ensures same { matcher.new.tree ≡ matcher.old.tree }
+    ensures same { KeepsSearch search.old search.new }
 {
     let end = whole_lines_len(text);
-    match next_wanted(options, &text[..end], 0, matcher) {
+    match next_wanted(options, &text[..end], 0, search) {
         Some(_) => true,
-        None => last_count(options, &text[end..], matcher) > 0,
+        None => last_count(options, &text[end..], search) > 0,
     }
 }
 
 impl ShowOptions {
     /// At most so many lines are marked.
-    fn at_most(&self, count: u64) -> u64
+    pub(crate) fn at_most(&self, count: u64) -> u64
         ensures { result ≡ at_most self.now.most count }
     {
         match self.most {
@@ -107,15 +107,13 @@ impl ShowOptions {
 }
 
 impl Page<'_> {
-    /// How many lines are marked, unless it is 0. Returns whether it is not.
-    fn print_count<O: Output>(&self, count: u64, out: &mut O) -> Result<bool, AllocError>
-        ensures count { Prints (O.given out.old) (O.given out.new)
+    /// How many lines are marked, unless it is 0.
+    pub(crate) fn print_count<O: Output>(&self, count: u64, out: &mut O) -> Result<(), AllocError>
+        ensures { Prints (O.given out.old) (O.given out.new)
             (following [] self.now.begun (count_groups self.now.options.now self.now.name.now count)) result }
-        ensures some { IfOk result (λ some. some ≡ has_groups
-            (count_groups self.now.options.now self.now.name.now count)) }
     {
         if count == 0 {
-            return Ok(false);
+            return Ok(());
         }
         if !self.options.form.bare {
             self.print_name(b":", out)?;
@@ -123,60 +121,63 @@ impl Page<'_> {
         let mut digits = Buffer::new();
         out.append(digits.format(count).as_bytes())?;
         out.append(b"\n")?;
-        Ok(true)
+        Ok(())
     }
 
     /// The name on a line, if it is to be listed.
-    fn print_listed<O: Output>(&self, here: bool, out: &mut O) -> Result<bool, AllocError>
-        ensures name { Prints (O.given out.old) (O.given out.new)
+    pub(crate) fn print_listed<O: Output>(&self, here: bool, out: &mut O) -> Result<(), AllocError>
+        ensures { Prints (O.given out.old) (O.given out.new)
             (following [] self.now.begun (name_groups self.now.options.now self.now.name.now here)) result }
-        ensures some { IfOk result (λ some. some ≡ has_groups
-            (name_groups self.now.options.now self.now.name.now here)) }
     {
         if here {
             self.print_name(b"\n", out)?;
         }
-        Ok(here)
+        Ok(())
     }
 
     /// Whether a line of a text is marked.
-    fn has_mark(&self, text: &[u8], matcher: &mut Matcher<'_>) -> bool
-        ensures some { (finding : Finding) → Decides finding.has_match matcher.old.tree →
+    fn has_mark(&self, text: &[u8], search: &mut Search<'_>) -> bool
+        ensures some { (finding : Finding) → Tests finding.has_match search.old →
             result ≡ nat_lt 0 (count_of self.now.options.now finding text.now) }
-        ensures same { matcher.new.tree ≡ matcher.old.tree }
+        ensures same { KeepsSearch search.old search.new }
     {
         if self.options.at_most(1) == 0 {
             return false;
         }
-        has_wanted(self.options, text, matcher)
+        has_wanted(self.options, text, search)
     }
 }
 
-/// Prints what is to be printed for a text, and returns whether that is anything.
+/// Prints what is to be printed for a text, and returns whether a line is marked.
 pub fn print_text<O: Output>(
     page: &Page<'_>,
     text: &[u8],
     search: &mut Search<'_>,
     out: &mut O,
 ) -> Result<bool, AllocError>
-    ensures text { OnOk result (PrintsText search.old page.now text.now (O.given out.old) (O.given out.new)) }
-    ensures some { IfOk result (λ some. HasGroups search.old page.now text.now some) }
-    ensures same { KeepsTrees search.old search.new }
+    ensures text { OnOk result (PrintsText search.old search.new page.now text.now (O.given out.old)
+        (O.given out.new)) }
+    ensures marked { IfOk result (HasMark search.old search.new page.now text.now) }
+    ensures same { KeepsSearch search.old search.new }
 {
     match page.options.mode {
         Mode::Lines => print_lines(page, text, search, out),
         Mode::Counts => {
-            let wanted = count_wanted(page.options, text, &mut search.matcher);
-            let some = page.print_count(page.options.at_most(wanted), out)?;
-            Ok(some)
+            let count = page
+                .options
+                .at_most(count_wanted(page.options, text, search));
+            page.print_count(count, out)?;
+            Ok(count > 0)
         }
         Mode::Names => {
-            let here = page.has_mark(text, &mut search.matcher);
-            page.print_listed(here, out)
+            let here = page.has_mark(text, search);
+            page.print_listed(here, out)?;
+            Ok(here)
         }
         Mode::Others => {
-            let here = page.has_mark(text, &mut search.matcher);
-            page.print_listed(!here, out)
+            let here = page.has_mark(text, search);
+            page.print_listed(!here, out)?;
+            Ok(here)
         }
     }
 }

@@ -1,7 +1,7 @@
 // Reads the words of the command line of `cs`: options in any order among operands, as rg and grep read them.
 ghost use Rattle.std.specs.Prelude.{◌≡◌, ◌≢◌, List, [], length, map, string_bytes, Ok, Err, IfOk, IfErr};
 ghost use Rattle.cs_project.specs.Words.{reading, after_letters, after_name, after_equals, after_long, after_any, after_word, items_of};
-ghost use Rattle.cs_project.specs.declared.words.WordFault.TheVariants.{Memory};
+ghost use Rattle.cs_project.specs.declared.words.ItemFault.TheVariants.{Memory};
 
 use crate::named::{Named, Switch, Valued, letter_option, name_option};
 use std::alloc::{AllocError, AllocFailed, Global};
@@ -27,7 +27,7 @@ pub(crate) enum Next {
 
 /// Why words cannot be read: the index of the word, and the byte where the letter or the name begins.
 #[derive(Clone, Copy, Drop)]
-pub enum WordFault {
+pub enum ItemFault {
     /// There is no such option.
     Unknown(usize, usize),
     /// An option of rg that `cs` does not have.
@@ -40,30 +40,30 @@ pub enum WordFault {
     Memory,
 }
 
-impl From<AllocError> for WordFault {
+impl From<AllocError> for ItemFault {
     ghost use Rattle.std.specs.Prelude.{◌≡◌};
-    ghost use Rattle.cs_project.specs.declared.words.WordFault.TheVariants.{Memory};
+    ghost use Rattle.cs_project.specs.declared.words.ItemFault.TheVariants.{Memory};
 
     ghost from_gives = { λ _ fault. fault ≡ Memory };
 
-    fn from(_refused: AllocError) -> WordFault {
-        WordFault::Memory
+    fn from(_refused: AllocError) -> ItemFault {
+        ItemFault::Memory
     }
 }
 
-impl<T: Drop> From<AllocFailed<T>> for WordFault {
+impl<T: Drop> From<AllocFailed<T>> for ItemFault {
     ghost use Rattle.std.specs.Prelude.{◌≡◌};
-    ghost use Rattle.cs_project.specs.declared.words.WordFault.TheVariants.{Memory};
+    ghost use Rattle.cs_project.specs.declared.words.ItemFault.TheVariants.{Memory};
 
     ghost from_gives = { λ _ fault. fault ≡ Memory };
 
-    fn from(_refused: AllocFailed<T>) -> WordFault {
-        WordFault::Memory
+    fn from(_refused: AllocFailed<T>) -> ItemFault {
+        ItemFault::Memory
     }
 }
 
 /// Reads the words as items, in their order, or finds the first error.
-pub fn read_words(alloc: Global, words: &[String]) -> Result<Vec<Item>, WordFault>
+pub fn read_items(alloc: Global, words: &[String]) -> Result<Vec<Item>, ItemFault>
     ensures items { IfOk result (λ items. items_of (map string_bytes words.now) ≡ Ok items.items) }
     ensures fault { IfErr result
         (λ fault. fault ≢ Memory → items_of (map string_bytes words.now) ≡ Err fault) }
@@ -78,13 +78,13 @@ pub fn read_words(alloc: Global, words: &[String]) -> Result<Vec<Item>, WordFaul
         rest = behind;
     }
     match next {
-        Next::Value(_) => Err(WordFault::NoValue(index)),
+        Next::Value(_) => Err(ItemFault::NoValue(index)),
         _ => Ok(items),
     }
 }
 
 /// Reads one more word.
-fn read_word(items: &mut Vec<Item>, next: Next, index: usize, word: &str) -> Result<Next, WordFault>
+fn read_word(items: &mut Vec<Item>, next: Next, index: usize, word: &str) -> Result<Next, ItemFault>
     ensures reads { IfOk result
         (λ after. after_word (reading items.old.items next) index word.now ≡ Ok (reading items.new.items after)) }
     ensures fault { IfErr result
@@ -104,7 +104,7 @@ fn read_word(items: &mut Vec<Item>, next: Next, index: usize, word: &str) -> Res
 }
 
 /// Reads a word that is an option or an operand.
-fn read_any(items: &mut Vec<Item>, index: usize, word: &str) -> Result<Next, WordFault>
+fn read_any(items: &mut Vec<Item>, index: usize, word: &str) -> Result<Next, ItemFault>
     ensures reads { IfOk result
         (λ after. after_any items.old.items index word.now ≡ Ok (reading items.new.items after)) }
     ensures fault { IfErr result
@@ -126,7 +126,7 @@ fn read_any(items: &mut Vec<Item>, index: usize, word: &str) -> Result<Next, Wor
 }
 
 /// Reads a name, and its value if it has one.
-fn read_long(items: &mut Vec<Item>, index: usize, text: &str) -> Result<Next, WordFault>
+fn read_long(items: &mut Vec<Item>, index: usize, text: &str) -> Result<Next, ItemFault>
     ensures reads { IfOk result
         (λ after. after_long items.old.items index text.now ≡ Ok (reading items.new.items after)) }
     ensures fault { IfErr result
@@ -139,7 +139,7 @@ fn read_long(items: &mut Vec<Item>, index: usize, text: &str) -> Result<Next, Wo
 }
 
 /// Reads a name without `=`.
-fn read_name(items: &mut Vec<Item>, index: usize, named: Named) -> Result<Next, WordFault>
+fn read_name(items: &mut Vec<Item>, index: usize, named: Named) -> Result<Next, ItemFault>
     ensures reads { IfOk result
         (λ after. after_name items.old.items index named ≡ Ok (reading items.new.items after)) }
     ensures fault { IfErr result
@@ -151,8 +151,8 @@ fn read_name(items: &mut Vec<Item>, index: usize, named: Named) -> Result<Next, 
             Ok(Next::Any)
         }
         Named::Valued(valued) => Ok(Next::Value(valued)),
-        Named::LeftOut => Err(WordFault::LeftOut(index, 2)),
-        Named::Unknown => Err(WordFault::Unknown(index, 2)),
+        Named::LeftOut => Err(ItemFault::LeftOut(index, 2)),
+        Named::Unknown => Err(ItemFault::Unknown(index, 2)),
     }
 }
 
@@ -162,25 +162,25 @@ fn read_equals(
     index: usize,
     at: usize,
     named: Named,
-) -> Result<Next, WordFault>
+) -> Result<Next, ItemFault>
     ensures reads { IfOk result
         (λ after. after_equals items.old.items index at named ≡ Ok (reading items.new.items after)) }
     ensures fault { IfErr result
         (λ fault. fault ≢ Memory → after_equals items.old.items index at named ≡ Err fault) }
 {
     match named {
-        Named::Switch(_) => Err(WordFault::ExtraValue(index)),
+        Named::Switch(_) => Err(ItemFault::ExtraValue(index)),
         Named::Valued(valued) => {
             items.push(Item::Value(valued, index, at))?;
             Ok(Next::Any)
         }
-        Named::LeftOut => Err(WordFault::LeftOut(index, 2)),
-        Named::Unknown => Err(WordFault::Unknown(index, 2)),
+        Named::LeftOut => Err(ItemFault::LeftOut(index, 2)),
+        Named::Unknown => Err(ItemFault::Unknown(index, 2)),
     }
 }
 
 /// Reads letters. The first is the second byte of its word.
-fn read_letters(items: &mut Vec<Item>, index: usize, letters: &[u8]) -> Result<Next, WordFault>
+fn read_letters(items: &mut Vec<Item>, index: usize, letters: &[u8]) -> Result<Next, ItemFault>
     ensures reads { IfOk result
         (λ after. after_letters items.old.items index 1 letters.now ≡ Ok (reading items.new.items after)) }
     ensures fault { IfErr result
@@ -196,8 +196,8 @@ fn read_letters(items: &mut Vec<Item>, index: usize, letters: &[u8]) -> Result<N
                 items.push(Item::Value(valued, index, at + 1))?;
                 return Ok(Next::Any);
             }
-            Named::LeftOut => return Err(WordFault::LeftOut(index, at)),
-            Named::Unknown => return Err(WordFault::Unknown(index, at)),
+            Named::LeftOut => return Err(ItemFault::LeftOut(index, at)),
+            Named::Unknown => return Err(ItemFault::Unknown(index, at)),
         }
         rest = behind;
     }

@@ -1,7 +1,7 @@
-use Rattle.std.proofs.Common.{◌≡◌, ◌≤◌, ◌-◌, ℕ, Bool, not, List, length, take, drop}
-use Rattle.cs_match.specs.Deciding.{Decides}
+use Rattle.std.proofs.Common.{◌≤◌, ◌-◌, ℕ, Bool, not, List, length, take, drop}
 use Rattle.cs_match.specs.Lines.{terminated_lines}
 use Rattle.cs_match.specs.Skipping.{AreWholeLines, NoneMatch}
+use Rattle.cs_project.specs.Findings.{Tests, KeepsSearch}
 use Rattle.cs_project.proofs.searching.next_miss.Given as goal
 
 abbrev pub invariant-lines : goal.invariant-lines
@@ -10,9 +10,9 @@ invariant-lines l = record {
   high : l.start ≤ length l.block;
   whole : AreWholeLines (drop l.start l.block);
   before : AreWholeLines (take (l.start - l.from) (drop l.from l.block));
-  none : (has_match : List ℕ → Bool) → Decides has_match l.fn.matcher.tree →
-      NoneMatch (λ line. not (has_match line)) (terminated_lines (take (l.start - l.from) (drop l.from l.block)));
-  same : l.matcher.tree ≡ l.fn.matcher.tree;
+  none : (test : List ℕ → Bool) → Tests test l.fn.search →
+      NoneMatch (λ line. not (test line)) (terminated_lines (take (l.start - l.from) (drop l.from l.block)));
+  same : KeepsSearch l.fn.search l.search;
 }
 
 abbrev pub decreases-lines : goal.decreases-lines

@@ -1,11 +1,11 @@
-use Rattle.std.proofs.Common.{nat_lt, take, sym, ap, subst, ◌∙◌, arith}
+use Rattle.std.proofs.Common.{nat_lt, take, sym, ap, ◌∙◌, arith}
 use Rattle.std.proofs.lemmas.Bool.{lt-ltb}
 use Rattle.std.proofs.lemmas.List.{take_rest}
 use Rattle.std.specs.List.{count_by}
-use Rattle.cs_match.specs.Deciding.{Decides}
 use Rattle.cs_match.specs.LastPart.{last_line}
 use Rattle.cs_match.specs.Lines.{terminated_lines}
 use Rattle.cs_project.specs.Shown.{is_wanted, wanted_count}
+use Rattle.cs_project.proofs.FindingLemmas.{tests_same}
 use Rattle.cs_project.proofs.CountLemmas.{count_split, count_some, count_none}
 use Rattle.cs_project.proofs.text.has_wanted.Goals as goal
 
@@ -26,6 +26,6 @@ returns-in-None-clause-some c = λ finding decides.
     let e = c.whole_lines_len-end.ensures in
     let wanted = is_wanted c.args.options.now finding.has_match in
     let none = count_none wanted (terminated_lines (take end text)) (c.in-None.ensures.next finding.has_match decides) in
-    let last = c.last_count.ensures.count finding (subst (Decides finding.has_match) (sym c.in-None.ensures.same) decides)
+    let last = c.last_count.ensures.count finding (tests_same c.args.search.now c.next_wanted.new.search c.in-None.ensures.same finding.has_match decides)
     ∙ ap (λ rest. count_by wanted (last_line rest)) (take_rest text end) in
     ap (nat_lt 0) (omega (arith, none, last, count_split wanted text end e.whole e.rest))

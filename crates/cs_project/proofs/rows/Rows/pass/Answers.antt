@@ -1,18 +1,12 @@
-use Rattle.std.proofs.Common.{◌≡◌, ◌<◌, ◌+◌, ◌-◌, ◌++◌, [], ℕ, List, false, length, take, drop, refl, sym, ap, subst, ◌∙◌, arith, length-drop}
+use Rattle.std.proofs.Common.{◌≡◌, ◌<◌, ◌+◌, ◌-◌, ◌++◌, [], ℕ, List, length, take, drop, refl, sym, ap, subst, ◌∙◌, arith, length-drop, length-take}
 use Rattle.std.proofs.lemmas.List.{take_rest, drop-drop}
 use Rattle.std.proofs.lemmas.Bool.Decides.{nat_tests}
 use Rattle.cs_match.specs.Lines.{terminated_lines}
 use Rattle.cs_match.proofs.WholeLineLemmas.{whole_from, whole_rest}
 use Rattle.cs_project.specs.Blocks.{IsFirstLines}
-use Rattle.cs_project.specs.Shown.{Finding, shown_bytes, gap}
-use Rattle.cs_project.specs.Spacing.{progress_of, opening_of}
-use Rattle.cs_project.proofs.BlockLemmas.{lines_from, first_within}
+use Rattle.cs_project.proofs.BlockLemmas.{lines_from, first_within, count_within}
 use Rattle.cs_project.proofs.ScanLemmas.{fits_some}
-use Rattle.cs_project.proofs.SpacingLemmas.{printed_next}
 use Rattle.cs_project.proofs.rows.Rows.pass.Goals as goal
-
-nothing : Finding
-nothing = record { has_match = λ line. false; spans = λ line. [] }
 
 pub returns-then-self-eq0-clause-passed : goal.returns-then-self-eq0-clause-passed
 returns-then-self-eq0-clause-passed g c =
@@ -53,18 +47,28 @@ returns-clause-passed g c =
     e.count ∙ ap (λ (text : List ℕ). length (take old.left (terminated_lines text))) same in
     let held = terminated_lines (take (from - c.args.held) (drop c.args.held block)) in
     let none : held ≡ [] = fits_some held old.left r.fits some in
-    let number : c.show_lines.new.self.number ≡ old.number + length (take old.left later) =
-    ap (λ p. p.next) (e.rows.0.0 nothing)
-    ∙ printed_next (opening_of old.page) (gap old.page.options.now) (shown_bytes old.page.options.now nothing old.page.name.now)
-    (take old.left (terminated_lines (take (length block - from) (drop from block)))) (progress_of old (g.O.Output.given c.args.out.now))
-    ∙ ap (λ (text : List ℕ). old.number + length (take old.left (terminated_lines text))) same in
+    let number = ap (λ n. old.number + n) count in
     record {
       within = omega (arith, first.within, length-drop from block, r.within.1);
       whole = whole_from block c.args.held (from + len) (omega (arith, r.within.0)) r.whole.0;
       lines = ap terminated_lines (sym (drop-drop len from block)) ∙ first.rest
           ∙ ap (λ (ls : List (List ℕ)). ls ++ drop old.left later) (sym none);
-      most = e.rows.1;
+      most = e.rows.1.1;
       left = ap (λ n. old.left - n) count;
       number = number;
-      room = omega (arith, number, first_within old.left (drop from block) len first, r.within.0);
+      room = omega (arith, count, first_within old.left (drop from block) len first, r.within.0);
     }
+
+pub overflow_add-self : goal.overflow_add-self
+overflow_add-self g c =
+    let block = c.args.block.now in
+    let rest = take (length block - c.args.from) (drop c.args.from block) in
+    omega (
+      arith,
+      c.requires.room,
+      c.requires.within.1,
+      c.in_ok-passed.ensures.count,
+      count_within rest c.args.self.now.left,
+      length-take (length block - c.args.from) (drop c.args.from block),
+      length-drop c.args.from block,
+    )

@@ -1,5 +1,4 @@
 use Rattle.std.proofs.Common.{true, ◌≡◌, ◌≤◌, ◌+◌, ◌-◌, ◌∷◌, ◌++◌, [], ℕ, List, length, take, drop, refl, sym, ap, subst, ◌∙◌, arith, append_assoc, length-take}
-use Rattle.cs_match.specs.Deciding.{Decides}
 use Rattle.cs_match.specs.Lines.{terminated_lines}
 use Rattle.cs_match.specs.Skipping.{AreWholeLines}
 use Rattle.cs_match.proofs.LinesLemmas.{lines_within}
@@ -10,8 +9,8 @@ use Rattle.cs_project.specs.Contexts.{is_open, one_less, row_at}
 use Rattle.cs_project.specs.Scans.{Scan, Fits, rows_at, rows_by, scan_rows, scan_of, last_rows}
 use Rattle.cs_project.specs.Shown.{gap, is_wanted, shown_bytes}
 use Rattle.cs_project.specs.Spacing.{printed_by, progress_of, opening_of}
-use Rattle.cs_match.specs.Span.{AreSpans}
-use Rattle.cs_project.specs.Ordered.{pairs}
+use Rattle.cs_project.specs.Findings.{found_spans}
+use Rattle.cs_project.proofs.FindingLemmas.{found_same, keeps_again, keeps_itself}
 use Rattle.cs_project.proofs.SpanListLemmas.{spans_unique}
 use Rattle.cs_project.proofs.SearchLemmas.{pass_step, mark_step, cut_size, cut_rest, cut_part, lines_to}
 use Rattle.cs_project.proofs.rows.Rows.search_block.Goals as goal
@@ -38,10 +37,9 @@ marks-init g c =
       fits = subst (λ n. Fits (terminated_lines (take n block)) c.args.self.now.left) zero r.fits;
       room = omega arith;
       page = refl;
-      rows = λ finding later decides. ap (λ n. printed_by c.args.self.now.page finding (progress_of c.args.self.now (g.O.Output.given c.args.out.now))
+      rows = λ whole finding later found. ap (λ n. printed_by c.args.self.now.page finding (progress_of c.args.self.now (g.O.Output.given c.args.out.now))
           (rows_by c.args.self.now finding (terminated_lines (take n block)) (terminated_lines (drop c.args.from block) ++ later))) zero;
-      same = refl;
-      pattern = refl;
+      same = keeps_itself c.args.search.now;
     }
 
 pub pass-requires-clause-within : goal.pass-requires-clause-within
@@ -172,12 +170,15 @@ marks-preserved g c =
         length-take (start - held') (drop held' block),
       );
       page = page ∙ i.page;
-      rows = λ finding later decides.
-          let mark = c.in-Some.ensures.mark finding.has_match (subst (Decides finding.has_match) (sym i.same) decides.0) in
+      rows = λ whole finding later found.
+          let here = found_same c.args.search.now c.marks.search i.same finding found in
+          let there = found_same c.marks.search c.next_mark.new.search c.in-Some.ensures.same finding here in
+          let none = c.in-Some.ensures.same.3 (c.in_ok-find.ensures.same.3 whole) in
+          let mark = c.in-Some.ensures.mark finding.has_match here.0 in
           let wanted = is_wanted options finding.has_match in
           let more = terminated_lines rest ++ later in
           let r = progress_of new given2 in
-          i.rows finding later decides
+          i.rows none finding later found
           ∙ ap (λ (ls : List (List ℕ)). printed_by cur.page finding (progress_of cur given) (rows_by cur finding h ls))
           (ap (λ ls. ls ++ later) (lines_to block offset start end l) ∙ append_assoc between (line ∷ terminated_lines rest) later)
           ∙ pass_step (opening_of cur.page) (gap options) (shown_bytes options finding cur.page.name.now) options.before options.after wanted cur.most
@@ -185,8 +186,8 @@ marks-preserved g c =
           (passed.rows.0 finding ∙ ap (λ (text : List ℕ). printed_by cur.page finding (progress_of cur given) (rows_at cur.number (take cur.left (terminated_lines text)))) same)
           ∙ mark_step (opening_of cur.page) (gap options) (shown_bytes options finding cur.page.name.now) options.before options.after wanted cur.most
           line more h' mid.number mid.left (progress_of mid given1) r mark.0
-          (shown.rows.0 finding (λ needs. spans_unique c.args.search.now.finder.tree line (finding.spans line) (pairs c.find.new.self.spans.items) 0 0
-          (decides.1 line) (subst (λ t. AreSpans t line (pairs c.find.new.self.spans.items)) i.pattern (c.in_ok-find.ensures.spans needs)) ∙ sym (ap pairs c.deref.ensures.value)) ∙ ap (λ page. printed_by page finding (progress_of mid given1)
+          (shown.rows.0 finding (λ needs. spans_unique c.next_mark.new.search.whole c.next_mark.new.search.finder.tree line (finding.spans line) (found_spans c.find.new.self) 0 0
+          (there.1 line) (c.in_ok-find.ensures.spans whole needs) ∙ sym c.spans.ensures) ∙ ap (λ page. printed_by page finding (progress_of mid given1)
           (last_rows page.options.now.before mid.number h' ++ row_at (mid.number + length h') line true ∷ [])) passed.rows.1)
           ∙ ap (λ scan. printed_by cur.page finding r (scan_rows options.before options.after wanted scan [] more))
           (sym (shown.scan ∙ ap (λ page. let s : Scan = record { number = mid.number + length h' + 1; most = one_less mid.most; left = page.options.now.after } in s) passed.rows.1
@@ -194,15 +195,15 @@ marks-preserved g c =
           ∙ ap (λ page. printed_by page finding r (scan_rows page.options.now.before page.options.now.after
           (is_wanted page.options.now finding.has_match) (scan_of new) [] more)) (sym page)
           ∙ ap (λ (ls : List (List ℕ)). printed_by new.page finding r (rows_by new finding ls more)) (sym (nothing rest (end + 1)));
-      same = ap (λ m. m.tree) c.in_ok-find.ensures.matcher ∙ c.in-Some.ensures.same ∙ i.same;
-      pattern = c.in_ok-find.ensures.finder ∙ i.pattern;
+      same = keeps_again c.args.search.now c.next_mark.new.search c.find.new.self
+          (keeps_again c.args.search.now c.marks.search c.next_mark.new.search i.same c.in-Some.ensures.same) c.in_ok-find.ensures.same;
     }
 
 pub pass-requires-2-clause-room : goal.pass-requires-2-clause-room
 pass-requires-2-clause-room g c = let i = c.marks.invariant in omega (arith, i.room, i.low, i.high, c.requires.room)
 
 pub returns-clause-rows : goal.returns-clause-rows
-returns-clause-rows g c = λ finding later decides.
+returns-clause-rows g c = λ whole finding later found.
     let block = c.args.block.now in
     let i = c.marks.invariant in
     let cur = c.marks.self in
@@ -211,11 +212,12 @@ returns-clause-rows g c = λ finding later decides.
     let p = c.in_ok-held-2.ensures.passed in
     let options = cur.page.options.now in
     let wanted = is_wanted options finding.has_match in
-    let none = c.in_default.ensures.mark finding.has_match (subst (Decides finding.has_match) (sym i.same) decides.0) in
+    let here = found_same c.args.search.now c.marks.search i.same finding found in
+    let none = c.in_default.ensures.mark finding.has_match here.0 in
     let held = terminated_lines (take (c.marks.offset - c.marks.held) (drop c.marks.held block)) in
     let now = terminated_lines (drop c.in_ok-held-2.held block) in
     let r = progress_of new (g.O.Output.given c.pass-2.new.out) in
-    i.rows finding later decides
+    i.rows (c.in_default.ensures.same.3 whole) finding later found
     ∙ pass_step (opening_of cur.page) (gap options) (shown_bytes options finding cur.page.name.now) options.before options.after wanted cur.most
     (terminated_lines (drop c.marks.offset block)) later held now cur.number cur.left new.number new.left i.fits none p.number p.left p.lines
     (progress_of cur (g.O.Output.given c.marks.out)) r (shown.0 finding)

@@ -1,8 +1,8 @@
-use Rattle.std.proofs.Common.{◌≡◌, ◌≤◌, ◌+◌, ◌-◌, ◌++◌, ℕ, List, length, take, drop}
+use Rattle.std.proofs.Common.{◌≡◌, ◌≤◌, ◌+◌, ◌-◌, ◌++◌, false, ℕ, List, length, take, drop}
 use Rattle.cs_match.specs.Lines.{terminated_lines}
 use Rattle.cs_match.specs.Skipping.{AreWholeLines}
 use Rattle.cs_project.specs.Scans.{Fits, rows_by}
-use Rattle.cs_project.specs.Shown.{Finding, IsFoundBy}
+use Rattle.cs_project.specs.Findings.{Finding, IsFoundBy, KeepsSearch}
 use Rattle.cs_project.specs.Spacing.{printed_by, progress_of}
 use Rattle.cs_project.proofs.rows.Rows.search_block.Given as goal
 
@@ -16,13 +16,12 @@ invariant-marks g l = record {
   fits : Fits (terminated_lines (take (l.offset - l.held) (drop l.held l.block))) l.self.left;
   room : l.self.number ≤ l.fn.self.number + l.held;
   page : l.self.page ≡ l.fn.self.page;
-  rows : (finding : Finding) (later : List (List ℕ)) → IsFoundBy finding l.fn.search.matcher.tree l.fn.search.finder.tree →
+  rows : l.search.stopped ≡ false → (finding : Finding) (later : List (List ℕ)) → IsFoundBy finding l.fn.search →
       printed_by l.fn.self.page finding (progress_of l.fn.self (g.O.Output.given l.fn.out))
       (rows_by l.fn.self finding (terminated_lines (take l.from l.block)) (terminated_lines (drop l.from l.block) ++ later))
       ≡ printed_by l.self.page finding (progress_of l.self (g.O.Output.given l.out))
       (rows_by l.self finding (terminated_lines (take (l.offset - l.held) (drop l.held l.block))) (terminated_lines (drop l.offset l.block) ++ later));
-  same : l.search.matcher.tree ≡ l.fn.search.matcher.tree;
-  pattern : l.search.finder.tree ≡ l.fn.search.finder.tree;
+  same : KeepsSearch l.fn.search l.search;
 }
 
 abbrev pub decreases-marks : goal.decreases-marks

@@ -15,13 +15,12 @@ returns g c =
     let name = old.page.name.now in
     let spans = pairs c.args.spans.now in
     let given = g.O.Output.given c.args.out.now in
-    let before = before_row (opening_of old.page) (gap old.page.options.now) old.shown old.number row.number in (
+    let before = before_row (opening_of old.page) (gap old.page.options.now) old.shown old.next row.number in (
       λ finding same.
           ap (λ (bytes : List ℕ). let p : Progress = record { given = bytes; shown = true; next = row.number + 1 } in p)
           (c.in_ok-print_found.ensures ∙ ap (λ m. m ++ row_bytes form name row spans) c.in_ok-print_before.ensures
           ∙ append_assoc given before (row_bytes form name row spans)
           ∙ ap (λ b. given ++ (before ++ b)) (row_same form name row spans (finding.spans row.line) (λ marked needs. sym (same marked needs)))),
       refl,
-      refl,
-      refl,
+      (refl, refl, refl),
     )

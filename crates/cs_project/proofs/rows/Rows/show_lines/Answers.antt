@@ -33,8 +33,7 @@ lines-init g c = record {
   rest = refl;
   rows = λ finding. refl;
   page = refl;
-  most = refl;
-  left = refl;
+  scan = (refl, refl, refl);
 }
 
 pub lines-preserved : goal.lines-preserved
@@ -67,8 +66,7 @@ lines-preserved g c =
           ∙ ap (λ p. printed_by self.page finding p rest) (sym (shown.0 finding (λ marked. absurd (false≢true marked))))
           ∙ ap (λ page. printed_by page finding (progress_of c.show.new.self (g.O.Output.given c.show.new.out)) rest) (sym shown.1);
       page = shown.1 ∙ i.page;
-      most = shown.2 ∙ i.most;
-      left = shown.3 ∙ i.left;
+      scan = (shown.2.0 ∙ i.scan.0, shown.2.1 ∙ i.scan.1, shown.2.2 ∙ i.scan.2);
     }
 
 pub returns-clause-rows : goal.returns-clause-rows
@@ -82,8 +80,7 @@ returns-clause-rows g c =
             ∙ ap (λ (l : List (List ℕ)). printed_by c.lines.self.page finding (progress_of c.lines.self (g.O.Output.given c.lines.out)) (rows_at c.lines.next l)) none),
         i.page,
       ),
-      i.most,
-      i.left,
+      i.scan,
     )
 
 pub returns-clause-count : goal.returns-clause-count

@@ -2,8 +2,8 @@ use Rattle.std.proofs.Common.{◌≡◌, ◌≤◌, ◌+◌, ◌-◌, length, ta
 use Rattle.cs_match.specs.Lines.{terminated_lines}
 use Rattle.cs_match.specs.Skipping.{AreWholeLines}
 use Rattle.cs_project.specs.Scans.{rows_at}
-use Rattle.cs_project.specs.Shown.{Finding}
-use Rattle.cs_project.specs.Spacing.{printed_by, progress_of}
+use Rattle.cs_project.specs.Findings.{Finding}
+use Rattle.cs_project.specs.Spacing.{KeepsScan, printed_by, progress_of}
 use Rattle.cs_project.proofs.rows.Rows.show_lines.Given as goal
 
 abbrev pub invariant-lines : goal.invariant-lines
@@ -19,8 +19,7 @@ invariant-lines g l = record {
       printed_by l.fn.self.page finding (progress_of l.fn.self (g.O.Output.given l.fn.out)) (rows_at l.number (take l.count (terminated_lines l.block)))
       ≡ printed_by l.self.page finding (progress_of l.self (g.O.Output.given l.out)) (rows_at l.next (take l.left (terminated_lines (drop l.offset l.block))));
   page : l.self.page ≡ l.fn.self.page;
-  most : l.self.most ≡ l.fn.self.most;
-  left : l.self.left ≡ l.fn.self.left;
+  scan : KeepsScan l.fn.self l.self;
 }
 
 abbrev pub decreases-lines : goal.decreases-lines

@@ -1,10 +1,9 @@
-use Rattle.std.proofs.Common.{◌≡◌, ◌+◌, ◌-◌, ◌∷◌, [], ℕ, List, false, true, length, take, drop, sym, ap, subst, ◌∙◌, arith, length-take, length-drop, refl}
+use Rattle.std.proofs.Common.{◌≡◌, ◌+◌, ◌-◌, ◌∷◌, [], ℕ, List, true, length, take, drop, sym, ap, subst, ◌∙◌, arith, length-take, length-drop}
 use Rattle.std.proofs.lemmas.List.{take_rest}
 use Rattle.cs_match.specs.Lines.{terminated_lines}
 use Rattle.cs_match.specs.Skipping.{AreWholeLines}
 use Rattle.cs_match.proofs.WholeLineLemmas.{whole_drop}
 use Rattle.cs_project.specs.Contexts.{row_at, one_less}
-use Rattle.cs_project.specs.Ordered.{pairs}
 use Rattle.cs_project.specs.Printing.{needs_spans}
 use Rattle.cs_project.specs.Shown.{shown_bytes, gap}
 use Rattle.cs_project.specs.Scans.{rows_at, last_rows}
@@ -39,6 +38,23 @@ show-requires-clause-number g c =
 
 pub overflow_add-row : goal.overflow_add-row
 overflow_add-row g c =
+    let held = c.args.held.now in
+    let start = c.last_lines-start.result in
+    let rest = take (length held - start) (drop start held) in
+    omega (
+      arith,
+      c.requires.room,
+      c.line_count.ensures.within,
+      c.last_lines-start.ensures.within,
+      length-take start held,
+      c.in_ok-passed.ensures.count,
+      count_within rest c.args.self.now.page.options.now.before,
+      length-take (length held - start) (drop start held),
+      length-drop start held,
+    )
+
+pub overflow_add-self : goal.overflow_add-self
+overflow_add-self g c =
     let held = c.args.held.now in
     let start = c.last_lines-start.result in
     let rest = take (length held - start) (drop start held) in
@@ -96,7 +112,6 @@ returns-clause-scan g c =
     let e = c.in_ok-passed.ensures in
     let f = c.in_ok-show.ensures in
     scan_same _ _
-    (ap (λ p. p.next) (f.0 (record { has_match = λ line. false; spans = λ line. pairs c.args.spans.now }) (λ marked needs. refl))
-    ∙ omega (arith, c.line_count.ensures.exact, e.count, last_count held start old.page.options.now.before last.whole last.last))
-    (c.one_less-self.ensures ∙ ap one_less (f.2 ∙ e.rows.1))
+    (omega (arith, c.line_count.ensures.exact, e.count, last_count held start old.page.options.now.before last.whole last.last))
+    (c.one_less-self.ensures ∙ ap one_less (f.2.1 ∙ e.rows.1.1))
     (ap (λ page. page.options.now.after) (f.1 ∙ e.rows.0.1))

@@ -3,7 +3,7 @@ use Rattle.std.specs.Prelude.{string_bytes}
 use Rattle.std.proofs.lemmas.Result.{err_from_is_err_and}
 use Rattle.cs_project.specs.Words.{reading, after_word, items_after, items_at_end}
 use Rattle.cs_project.proofs.WordLemmas.{no_word, all_items, read_word, faulty_word}
-use Rattle.cs_project.proofs.words.read_words.Goals as goal
+use Rattle.cs_project.proofs.words.read_items.Goals as goal
 
 pub returns-in_err-next-clause-fault : goal.returns-in_err-next-clause-fault
 returns-in_err-next-clause-fault c =

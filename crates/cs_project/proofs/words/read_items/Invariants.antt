@@ -1,7 +1,7 @@
 use Rattle.std.proofs.Common.{◌≡◌, ◌+◌, length, map}
 use Rattle.std.specs.Prelude.{string_bytes}
 use Rattle.cs_project.specs.Words.{reading, items_after, items_of}
-use Rattle.cs_project.proofs.words.read_words.Given as goal
+use Rattle.cs_project.proofs.words.read_items.Given as goal
 
 -- the words that are left, after the items so far, are read as all words
 abbrev pub invariant-words : goal.invariant-words

@@ -1,0 +1,9 @@
+use Rattle.cs_project.proofs.SourceLemmas.{if_ok, streams_lines}
+use Rattle.cs_project.proofs.source.print_source.Goals as goal
+
+pub returns-in-Lines-clause-text : goal.returns-in-Lines-clause-text
+returns-in-Lines-clause-text g c =
+    if_ok c.stream_lines.result
+    (λ streamed. streams_lines c.args.search.now c.stream_lines.new.search c.args.page.now (g.R.Source.model c.args.input.now) c.args.window.now.text.items
+    (g.O.Output.given c.args.out.now) (g.O.Output.given c.stream_lines.new.out) streamed c.in-Lines.is)
+    c.stream_lines.ensures.lines

@@ -21,8 +21,8 @@
  * Aliasing What a call writes (slots, buffers, counts) overlaps nothing else that the call is given.
  *
  * Proved   Each call that is given what it wants ends, stays within its buffers, and answers and leaves what is said at it:
- *          docs/PROMISES.md has each promise. The functions in C below are tested only, and so is that CS_STOPPED comes only
- *          if room or budget are used up, and that the calls for spans take no memory. Of what a call wants, it tests slots
+ *          docs/PROMISES.md has each promise. The functions in C below are tested only, and so is that a list of spans is
+ *          CS_STOPPED only if room or budget are used up, and that the calls for spans take no memory. Of what a call wants, it tests slots
  *          alone.
  * Trusted  This header against those contracts, the static inline functions below, malloc (blocks aligned to 16), a stack
  *          of 256 KB or more, and index bytes that do not change after cs_index_check.
@@ -163,6 +163,16 @@ int32_t cs_pattern_lines(cs_pattern *slot, const uint8_t *block, size_t len, cs_
 /* The number of matching lines of a block: faster than cs_pattern_lines. CS_MEMORY and CS_MISUSE leave the count. */
 int32_t cs_pattern_count(cs_pattern *slot, const uint8_t *block, size_t len, uint64_t *count);
 
+/* The same two of the lines that begin in the `budget` bytes from `from` on. CS_STOPPED: more lines follow, `reached` is where the
+ * first of them begins, and no line before it matches, or `count` is the number of those that do. Go on from there. The last line
+ * is read to its end, however long it is. Any other answer leaves `reached`: cs_pattern_next_within gives 1 and the first matching
+ * line, or 0, which leaves `line`, if no line of the block from `from` on matches; cs_pattern_count_within gives CS_OK and the
+ * number of all. A budget of 0 stops at `from`. */
+int32_t cs_pattern_next_within(cs_pattern *slot, const uint8_t *block, size_t len, size_t from, size_t budget, cs_line *line,
+                               size_t *reached);
+int32_t cs_pattern_count_within(cs_pattern *slot, const uint8_t *block, size_t len, size_t from, size_t budget, uint64_t *count,
+                                size_t *reached);
+
 /* ---- where in a line a pattern matches
  * The first match is the leftmost one, and of those that begin there the longest (POSIX, grep -o). The line is bytes without its
  * newline, and look-around (^, $, \b) sees all of it, whatever the offset. To find all matches, begin at 0 and go on with
@@ -196,6 +206,12 @@ int32_t cs_pattern_word_spans(cs_pattern *slot, const uint8_t *line, size_t len,
  * another name has one. CS_OK, CS_ROOM; CS_I_LIST, CS_MEMORY and CS_MISUSE leave all. */
 int32_t cs_pattern_candidates(cs_pattern *slot, const uint8_t *index, size_t len, uint32_t *ids, size_t room,
                               size_t *count);
+
+/* The same ids from an id on, a page of them: CS_OK and all of them, or CS_STOPPED and the first `room`. The next page begins at the
+ * last one + 1. A posting list is read from its start to its end, so a page takes the time and the memory of all candidates, and any
+ * damage is found. CS_I_LIST, CS_MEMORY and CS_MISUSE leave all. */
+int32_t cs_pattern_candidates_from(cs_pattern *slot, const uint8_t *index, size_t len, uint32_t from, uint32_t *ids, size_t room,
+                                   size_t *count);
 
 /* The number of newlines of a text from one offset to another: the number of the line at `to`, if `from` begins line 0. CS_OK, or
  * CS_MISUSE, which leaves the count: not from <= to <= len. */

@@ -60,6 +60,39 @@ static int run(char *const *words, uint8_t *out, size_t room, size_t *len) {
     return WIFEXITED(status) ? WEXITSTATUS(status) : -1;
 }
 
+/* the matching lines of a text, by calls with random budgets: the same as without, and no line is searched that begins later */
+static void check_budgets(cs_pattern *slot, const uint8_t *text, size_t size) {
+    size_t from = 0, at = 0, searched;
+    uint64_t counted = 0, some, all;
+    cs_line line, next;
+    int32_t code, more = cs_pattern_next(slot, text, size, 0, &line);
+    unsigned most = below(4) ? 20 : 2000;
+    do {
+        size_t budget = below(most);
+        code = cs_pattern_next_within(slot, text, size, from, budget, &next, &searched);
+        if (code == 1) {
+            CHECK(1, more == 1 && next.start == line.start && next.end == line.end && next.start < from + budget);
+            from = line.end + 1;
+            more = cs_pattern_next(slot, text, size, from, &line);
+        } else if (code == CS_STOPPED) {
+            CHECK(1, from + budget <= searched && searched < size && (more == 0 || searched <= line.start));
+            CHECK(1, searched == from || text[searched - 1] == '\n');
+            for (size_t k = from + budget; k < searched; k++) CHECK(1, k > from ? text[k - 1] != '\n' : k < from);
+            from = searched;
+        } else {
+            CHECK(0, code);
+            CHECK(0, more);
+        }
+    } while (code == 1 || code == CS_STOPPED);
+    do {
+        code = cs_pattern_count_within(slot, text, size, at, below(most), &some, &at);
+        counted += some;
+    } while (code == CS_STOPPED);
+    CHECK(CS_OK, code);
+    CHECK(CS_OK, cs_pattern_count(slot, text, size, &all));
+    CHECK(all, counted);
+}
+
 int main(int argc, char **argv) {
     enum { ROOM = 1 << 18 };
     if (argc < 4) return 2;
@@ -82,6 +115,7 @@ int main(int argc, char **argv) {
             CHECK(0, cs_pattern_count(&slot, text, size, &count));
             while (cs_pattern_next(&slot, text, size, from, &line) == 1) from = line.end + 1, lines++;
             CHECK(count, lines);
+            check_budgets(&slot, text, size);
             for (size_t k = 0; k < len; k++) reported += ours[k] == '\n';
             CHECK(style & (CS_LIST | CS_COUNT) ? lines > 0 : lines, reported);
         }

@@ -126,6 +126,86 @@ static void lines(void) {
     cs_pattern_free(&slot);
 }
 
+/* budgets that end before, in and after lines */
+static void budgets(void) {
+    cs_pattern slot = CS_EMPTY;
+    size_t at, reached = 99;
+    uint64_t number = 99;
+    cs_line line = {7, 7};
+    const char *block = "ab\nxx\nb\n\nbb";
+    CHECK(CS_MISUSE, cs_pattern_next_within(&slot, BYTES(block), 0, 9, &line, &reached));
+    CHECK(CS_MISUSE, cs_pattern_count_within(&slot, BYTES(block), 0, 9, &number, &reached));
+    CHECK(99, reached);
+    CHECK(99, number);
+    CHECK(CS_OK, cs_pattern_compile(BYTES("b"), false, &slot, &at));
+    CHECK(1, cs_pattern_next_within(&slot, BYTES(block), 0, 1, &line, &reached));
+    CHECK(2, line.end);
+    CHECK(99, reached);
+    CHECK(CS_STOPPED, cs_pattern_next_within(&slot, BYTES(block), 0, 0, &line, &reached));
+    CHECK(0, reached);
+    for (size_t budget = 1; budget < 4; budget++) {
+        CHECK(CS_STOPPED, cs_pattern_next_within(&slot, BYTES(block), 3, budget, &line, &reached));
+        CHECK(6, reached);
+    }
+    CHECK(2, line.end);
+    CHECK(1, cs_pattern_next_within(&slot, BYTES(block), 3, 4, &line, &reached));
+    CHECK(6, line.start);
+    CHECK(CS_STOPPED, cs_pattern_next_within(&slot, BYTES(block), 8, 1, &line, &reached));
+    CHECK(9, reached);
+    CHECK(1, cs_pattern_next_within(&slot, BYTES(block), reached, 1, &line, &reached));
+    CHECK(11, line.end);
+    CHECK(0, cs_pattern_next_within(&slot, BYTES(block), 11, 0, &line, &reached));
+    CHECK(0, cs_pattern_next_within(&slot, BYTES(block), SIZE_MAX, SIZE_MAX, &line, &reached));
+    CHECK(0, cs_pattern_next_within(&slot, BYTES("x\n"), 0, 1, &line, &reached));
+    CHECK(9, reached);
+    CHECK(CS_STOPPED, cs_pattern_count_within(&slot, BYTES(block), 0, 3, &number, &reached));
+    CHECK(1, number);
+    CHECK(3, reached);
+    CHECK(CS_STOPPED, cs_pattern_count_within(&slot, BYTES(block), 0, 7, &number, &reached));
+    CHECK(2, number);
+    CHECK(8, reached);
+    CHECK(CS_STOPPED, cs_pattern_count_within(&slot, BYTES(block), 6, 0, &number, &reached));
+    CHECK(0, number);
+    CHECK(6, reached);
+    CHECK(CS_OK, cs_pattern_count_within(&slot, BYTES(block), 6, 4, &number, &reached));
+    CHECK(2, number);
+    CHECK(CS_OK, cs_pattern_count_within(&slot, BYTES(block), SIZE_MAX, 1, &number, &reached));
+    CHECK(0, number);
+    CHECK(6, reached);
+    cs_pattern_free(&slot);
+}
+
+/* blocks of more than one part, with lines that are longer than a part, and none at their end */
+static void long_blocks(void) {
+    enum { LONG = 300000, SIZE = 3 * LONG };
+    cs_pattern slot = CS_EMPTY;
+    size_t at;
+    cs_line line = {7, 7};
+    uint8_t *block = (uint8_t *)malloc(SIZE);
+    memset(block, 'x', SIZE);
+    CHECK(CS_OK, cs_pattern_compile(BYTES("b"), false, &slot, &at));
+    for (int newlines = 0; newlines < 4; newlines++) {
+        if (newlines) block[newlines * LONG - 1] = '\n';
+        CHECK(0, cs_pattern_next(&slot, block, SIZE, 0, &line));
+        for (size_t from = 0; from < SIZE; from += LONG) {
+            size_t start = newlines > (int)(from / LONG) ? from : (size_t)newlines * LONG;
+            size_t end = newlines > (int)(from / LONG) ? from + LONG - 1 : SIZE;
+            size_t of = from + LONG / 2;
+            block[of] = 'b';
+            CHECK(1, cs_pattern_next(&slot, block, SIZE, 0, &line));
+            CHECK(start, line.start);
+            CHECK(end, line.end);
+            CHECK(1, cs_pattern_next(&slot, block, SIZE, of, &line));
+            CHECK(of, line.start);
+            CHECK(end, line.end);
+            CHECK(0, cs_pattern_next(&slot, block, SIZE, end + 1, &line));
+            block[of] = 'x';
+        }
+    }
+    free(block);
+    cs_pattern_free(&slot);
+}
+
 /* the matches of a line, as offsets */
 static const char *spans_of(const char *text, const char *line, bool whole) {
     static char out[400];
@@ -256,6 +336,8 @@ static void indexes(void) {
 
     cs_pattern slot = CS_EMPTY;
     CHECK(CS_MISUSE, cs_pattern_candidates(&slot, index, len, ids, 3, &count));
+    CHECK(CS_MISUSE, cs_pattern_candidates_from(&slot, index, len, 0, ids, 3, &count));
+    CHECK(99, count);
     CHECK(CS_OK, cs_pattern_compile(BYTES("marker"), false, &slot, &at));
     CHECK(CS_ROOM, cs_pattern_candidates(&slot, index, len, ids, 1, &count));
     CHECK(2, count);
@@ -264,6 +346,24 @@ static void indexes(void) {
     CHECK(0, ids[0]);
     CHECK(2, ids[1]);
     CHECK(9, ids[2]);
+    count = 99;
+    CHECK(CS_STOPPED, cs_pattern_candidates_from(&slot, index, len, 0, ids, 0, &count));
+    CHECK(0, count);
+    ids[0] = ids[1] = 9;
+    CHECK(CS_STOPPED, cs_pattern_candidates_from(&slot, index, len, 0, ids, 1, &count));
+    CHECK(1, count);
+    CHECK(0, ids[0]);
+    CHECK(9, ids[1]);
+    CHECK(CS_OK, cs_pattern_candidates_from(&slot, index, len, 0, ids, 2, &count));
+    CHECK(2, count);
+    CHECK(2, ids[1]);
+    CHECK(CS_OK, cs_pattern_candidates_from(&slot, index, len, 1, ids, 3, &count));
+    CHECK(1, count);
+    CHECK(2, ids[0]);
+    CHECK(2, ids[1]);
+    CHECK(CS_OK, cs_pattern_candidates_from(&slot, index, len, 3, ids, 3, &count));
+    CHECK(CS_OK, cs_pattern_candidates_from(&slot, index, len, UINT32_MAX, ids, 0, &count));
+    CHECK(0, count);
     char found[200] = "";
     CHECK(0, cs_search(&slot, index, len, read_text, note_line, found));
     CHECK(0, strcmp(found, "0:2:marker here;2:2:marker;2:3:markers;"));
@@ -272,6 +372,7 @@ static void indexes(void) {
     CHECK(CS_OK, cs_index_check(damaged, len));
     count = 99;
     CHECK(CS_I_LIST, cs_pattern_candidates(&slot, damaged, len, ids, 3, &count));
+    CHECK(CS_I_LIST, cs_pattern_candidates_from(&slot, damaged, len, 0, ids, 0, &count));
     CHECK(99, count);
     cs_pattern_free(&slot);
     free(damaged);
@@ -441,6 +542,8 @@ static void reports(void) {
 int main(void) {
     patterns();
     lines();
+    budgets();
+    long_blocks();
     spans();
     indexes();
     building();

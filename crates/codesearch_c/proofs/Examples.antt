@@ -1,7 +1,8 @@
 -- Worked examples of the definitions.
 use Rattle.std.proofs.Common.{◌≡◌, ℕ, nat_eq, true, false, [], ◌∷◌, length, refl}
 use Rattle.cs_match.specs.Lines.{lines}
-use Rattle.codesearch_c.specs.MatchingLines.{matching_lines, filled_with}
+use Rattle.codesearch_c.specs.Copies.{filled_with}
+use Rattle.codesearch_c.specs.MatchingLines.{matching_lines}
 use Rattle.codesearch_c.specs.Building.{nul_parts}
 use Rattle.codesearch_c.specs.Reports.{style_of}
 

@@ -14,12 +14,13 @@ use Rattle.cs_match.specs.Skipping.{AreWholeLines, NoneMatch, IsLineAfter}
 use Rattle.cs_match.proofs.LinesLemmas.{lines-split, lines-line, lines-last, lines-none, last_part-append}
 use Rattle.cs_match.proofs.WholeLineLemmas.{terminated_lines-whole, whole_is_terminated}
 use Rattle.codesearch_c.specs.declared.lines.Line.{Line}
-use Rattle.codesearch_c.specs.MatchingLines.{matching_from, matching_lines, filled_with, AreListedTo}
+use Rattle.codesearch_c.specs.Copies.{filled_with}
+use Rattle.codesearch_c.specs.MatchingLines.{matching_from, matching_lines, AreListedTo}
 
 -- ---- lines and their lengths
 
 -- the number of bytes of lines with their newlines
-abbrev size : List (List ℕ) → ℕ
+abbrev pub size : List (List ℕ) → ℕ
 size [] = 0
 size (line ∷ lines) = suc (length line) + size lines
 
@@ -29,7 +30,7 @@ size_step b true ls n h = omega arith
 size_step b false [] n h = cc
 size_step b false (l ∷ ls) n h = omega arith
 
-size_whole : (xs : List ℕ) → AreWholeLines xs → size (terminated_lines xs) ≡ length xs
+pub size_whole : (xs : List ℕ) → AreWholeLines xs → size (terminated_lines xs) ≡ length xs
 unfolding terminated_lines AreWholeLines
 size_whole [] w = refl
 size_whole (b ∷ []) w = rw w refl
@@ -51,7 +52,7 @@ keeps_if true x xs ys = refl
 keeps_if false x xs ys = refl
 
 module _ (t : List ℕ → Bool) where
-  matching-append : (start : ℕ) (ls more : List (List ℕ)) → matching_from t start (ls ++ more)
+  pub matching-append : (start : ℕ) (ls more : List (List ℕ)) → matching_from t start (ls ++ more)
       ≡ matching_from t start ls ++ matching_from t (start + size ls) more
   matching-append start [] more =
       let same : start ≡ start + 0 = omega arith in

@@ -4,6 +4,7 @@ pub mod Codes
 pub mod Copies
 pub mod MatchingLines
 pub mod Patterns
+pub mod Budgets
 pub mod Spans
 pub mod FindsSpans
 pub mod Reports

@@ -1,9 +1,10 @@
 -- The matching lines of a block. docs/PATTERNS.md, "Lines".
-use Rattle.std.specs.Prelude.{ℕ, ◌≡◌, ◌+◌, Bool, if◌then◌else◌, List, [], ◌∷◌, ◌++◌, length, take, drop, Option, MatchOption}
+use Rattle.std.specs.Prelude.{ℕ, ◌≡◌, ◌+◌, Bool, if◌then◌else◌, List, [], ◌∷◌, ◌++◌, length, drop, Option, MatchOption}
 use Rattle.cs_syntax.specs.Matching.{Tree}
 use Rattle.cs_match.specs.Deciding.{Decides}
 use Rattle.cs_match.specs.Lines.{lines}
 use Rattle.codesearch_c.specs.declared.lines.Line.{Line}
+use Rattle.codesearch_c.specs.Copies.{filled_with}
 
 -- the offsets of the lines that match by the test, if the first line begins at `start`
 abbrev pub matching_from : (List ℕ → Bool) → ℕ → List (List ℕ) → List Line
@@ -25,10 +26,6 @@ ForEachTest tree Holds = (has_match : List ℕ → Bool) → Decides has_match t
 abbrev pub IsFirstLine : Tree → List ℕ → ℕ → Option Line → Type 0
 IsFirstLine tree block from found = ForEachTest tree (λ has_match. MatchOption found (matching_lines has_match block from ≡ [])
     (λ line. matching_lines has_match block from ≡ line ∷ matching_lines has_match block (line.end + 1)))
-
--- items at the start of a buffer, as many as there is room for
-abbrev pub filled_with : {X : Type 0} → List X → List X → List X
-filled_with items old = take (length old) items ++ drop (length items) old
 
 -- the number of all matching lines, and a buffer with those for which there is room
 abbrev pub IsListing : Tree → List ℕ → List Line → List Line → ℕ → Type 0

@@ -1,7 +1,7 @@
 //! The library for callers in C and Rust (`include/codesearch.h`). An index is bytes of the caller's own; a pattern, a
 //! builder and bytes that the library made are held in slots of the caller's own. Each export calls functions of the
 //! crates below, and states in their words what it answers and leaves. Read `specs/Slots.antt` first, then
-//! `specs/Codes.antt`, `specs/Copies.antt`, `specs/MatchingLines.antt`, `specs/Patterns.antt`, `specs/Spans.antt`,
+//! `specs/Codes.antt`, `specs/Copies.antt`, `specs/MatchingLines.antt`, `specs/Patterns.antt`, `specs/Budgets.antt`, `specs/Spans.antt`,
 //! `specs/Reports.antt`, `specs/Building.antt` and `specs/Merging.antt`.
 //!
 //! An index is bytes of the caller, opened anew in constant time by each call (`Index::reopen`), whose contract
@@ -31,6 +31,7 @@
 //! ```
 #![tactic(auto)]
 
+mod budgets;
 mod building;
 mod codes;
 mod copying;
@@ -45,3 +46,4 @@ mod reports;
 mod slot;
 mod spans;
 mod texts;
+mod within;

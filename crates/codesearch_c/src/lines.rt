@@ -1,11 +1,14 @@
 // Lines of a block, whose last line may have no newline.
-ghost use Rattle.std.specs.Prelude.{◌≡◌, ◌≤◌, ◌<◌, IfSome, length, take, drop, slice_set, count_by};
+ghost use Rattle.std.specs.Prelude.{◌≡◌, ◌≤◌, ◌<◌, IfSome, MatchOption, length, take, drop, slice_set, count_by};
 ghost use Rattle.cs_match.specs.Lines.{lines};
 ghost use Rattle.cs_match.specs.NoNewline.{HasNoNewline};
+ghost use Rattle.cs_match.specs.Skipped.{AreLinesBetween};
 ghost use Rattle.cs_match.specs.Skipping.{AreWholeLines};
 ghost use Rattle.codesearch_c.specs.MatchingLines.{ForEachTest, IsFirstLine, IsListing};
+ghost use Rattle.codesearch_c.specs.Budgets.{IsLineFrom};
 
 use cs_match::{Matcher, whole_lines_len};
+use memchr::memchr;
 
 /// A line of a block: its bytes, without the newline, are those from `start` to `end`.
 #[repr(C)]
@@ -15,15 +18,50 @@ pub struct Line {
     pub end: usize,
 }
 
-/// The first matching line from an offset on.
+/// The most bytes of a part of a block, unless it is one line.
+const PART: usize = 1 << 17;
+
+/// The first matching line from an offset on. The block is searched in parts, so that a search that finds a line reads
+/// little of what is after it.
 pub(crate) fn first_line(matcher: &mut Matcher<'_>, block: &[u8], from: usize) -> Option<Line>
     ensures found { IsFirstLine matcher.old.tree block.now from result }
+    ensures line { IfSome result (λ line. IsLineFrom block.now from line.start line.end) }
     ensures same { matcher.new.tree ≡ matcher.old.tree }
 {
-    line_from(matcher, block, whole_lines_len(block), from)
+    let mut start = from;
+    'parts: while start < block.len() {
+        let Some(end) = part_end(block, start) else {
+            return last_line(matcher, block, start);
+        };
+        if let Some(line) = matcher.next_match(&block[..end], start) {
+            return Some(Line {
+                start: line.start,
+                end: line.end,
+            });
+        }
+        start = end;
+    }
+    None
 }
 
-/// The same, in a block whose first `whole` bytes are its whole lines.
+/// The end of some whole lines from an offset on. There are none where no newline follows.
+fn part_end(block: &[u8], start: usize) -> Option<usize>
+    requires within { start < length block.now }
+    ensures { MatchOption result (HasNoNewline (drop start block.now))
+        (λ end. (start < end) × AreLinesBetween block.now start end) }
+{
+    let most = PART.min(block.len() - start);
+    let len = whole_lines_len(&block[start..start + most]);
+    if len > 0 {
+        return Some(start + len);
+    }
+    match memchr(b'\n', &block[start..]) {
+        Some(offset) => Some(start + offset + 1),
+        None => None,
+    }
+}
+
+/// The first matching line from an offset on in a block whose first `whole` bytes are its whole lines.
 fn line_from(matcher: &mut Matcher<'_>, block: &[u8], whole: usize, from: usize) -> Option<Line>
     requires within { whole ≤ length block.now }
     requires whole { AreWholeLines (take whole block.now) }
@@ -48,7 +86,8 @@ fn line_from(matcher: &mut Matcher<'_>, block: &[u8], whole: usize, from: usize)
 fn last_line(matcher: &mut Matcher<'_>, block: &[u8], from: usize) -> Option<Line>
     requires part { HasNoNewline (drop from block.now) }
     ensures found { IsFirstLine matcher.old.tree block.now from result }
-    ensures last { IfSome result (λ line. (from < length block.now) × (line.end ≡ length block.now)) }
+    ensures last { IfSome result (λ line. (from < length block.now) × (line.end ≡ length block.now)
+        × (line.start ≡ from)) }
     ensures same { matcher.new.tree ≡ matcher.old.tree }
 {
     if from >= block.len() {

@@ -5,7 +5,7 @@ ghost use Rattle.cs_trigram.specs.QueryOf.{IsQueryOf};
 ghost use Rattle.cs_index.specs.Opening.{opening};
 ghost use Rattle.codesearch_c.specs.Codes.{done};
 ghost use Rattle.codesearch_c.specs.Slots.{is_filled, OnPattern};
-ghost use Rattle.codesearch_c.specs.Patterns.{IsRefusal, IsCompiled, IsMisuse, IsMatchCode, IsNextCode, IsLinesCode, IsCountCode, IsCandidatesCode, Keeps};
+ghost use Rattle.codesearch_c.specs.Patterns.{IsRefusal, IsCompiled, IsMisuse, IsMatchCode, IsNextCode, IsLinesCode, IsCountCode, IsCandidatesCode, IsPageCode, Keeps};
 
 use crate::codes::{MEMORY, MISUSE, NOT_UTF8, OK, pattern_code};
 use crate::held::{Held, HeldPattern};
@@ -221,6 +221,35 @@ pub extern "C" fn cs_pattern_candidates(
     };
     let code = match &*held {
         Held::Pattern(pattern) => pattern.candidates_code(alloc, index, ids, count),
+        _ => MISUSE,
+    };
+    slot.fill(held);
+    code
+}
+
+/// The ids of the candidates from an id on, as many as there is room for, and how many they are.
+#[unsafe(no_mangle)]
+pub extern "C" fn cs_pattern_candidates_from(
+    alloc: Global,
+    slot: &mut Slot,
+    index: &[u8],
+    from: u32,
+    ids: &mut [u32],
+    count: &mut usize,
+) -> i32
+    requires opened { IsOk (opening index.now) }
+    ensures { OnPattern slot.old.handle.value
+        (IsMisuse slot.old.handle.value slot.new.handle.value result
+        × (ids.new ≡ ids.old) × (count.new ≡ count.old))
+        (λ held. IfOk (opening index.now) (λ parts.
+        IsPageCode parts held.query from ids.old ids.new count.old count.new result)
+        × Keeps held slot.new.handle.value) }
+{
+    let Some(held) = slot.take(alloc) else {
+        return MISUSE;
+    };
+    let code = match &*held {
+        Held::Pattern(pattern) => pattern.page_code(alloc, index, from, ids, count),
         _ => MISUSE,
     };
     slot.fill(held);

@@ -1,12 +1,13 @@
 // Calls over a held pattern, which answer a code. The cache of its matcher is kept from one call to the next.
-ghost use Rattle.std.specs.Prelude.{◌≡◌, None, IsOk, IfOk, IfSome};
+ghost use Rattle.std.specs.Prelude.{◌≡◌, pos, None, IsOk, IfOk, IfSome};
 ghost use Rattle.cs_match.specs.Cached.{IsCacheOf};
 ghost use Rattle.cs_index.specs.Opening.{opening};
-ghost use Rattle.codesearch_c.specs.Patterns.{IsMatchCode, IsNextCode, IsLinesCode, IsCountCode, IsCandidatesCode};
+ghost use Rattle.codesearch_c.specs.Budgets.{IsLineFrom};
+ghost use Rattle.codesearch_c.specs.Patterns.{IsMatchCode, IsNextCode, IsLinesCode, IsCountCode, IsCandidatesCode, IsPageCode};
 ghost use Rattle.codesearch_c.specs.Reports.{IsReportCode};
 
 use crate::codes::{MEMORY, NOT_UTF8, OK, ROOM, index_code};
-use crate::copying::copy_items;
+use crate::copying::{copy_first, copy_items};
 use crate::held::HeldPattern;
 use crate::lines::{Line, count_lines, first_line, list_lines};
 use crate::reports::{Input, style_of};
@@ -56,6 +57,7 @@ impl HeldPattern {
         line: &mut Line,
     ) -> i32
         ensures code { IsNextCode self.old.pattern block.now from line.old line.new result }
+        ensures line { result ≡ pos 1 → IsLineFrom block.now from line.new.start line.new.end }
         ensures same { self.new ≡ self.old }
     {
         let Ok(mut matcher) = matcher_of(alloc, &mut self.cache, &self.program) else {
@@ -152,6 +154,30 @@ impl HeldPattern {
         match Index::reopen(index) {
             Ok(index) => match index.candidates(alloc, &self.query) {
                 Ok(found) => copy_items(&found, ids, count),
+                Err(fault) => index_code(fault),
+            },
+            Err(fault) => index_code(fault),
+        }
+    }
+    /// The ids of the candidates from an id on, as many as there is room for.
+    pub(crate) fn page_code(
+        &self,
+        alloc: Global,
+        index: &[u8],
+        from: u32,
+        ids: &mut [u32],
+        count: &mut usize,
+    ) -> i32
+        requires opened { IsOk (opening index.now) }
+        ensures { IfOk (opening index.now) (λ parts.
+            IsPageCode parts self.now.query from ids.old ids.new count.old count.new result) }
+    {
+        match Index::reopen(index) {
+            Ok(opened) => match opened.candidates(alloc, &self.query) {
+                Ok(mut found) => {
+                    found.retain(|id| from <= *id);
+                    copy_first(&found, ids, count)
+                }
                 Err(fault) => index_code(fault),
             },
             Err(fault) => index_code(fault),

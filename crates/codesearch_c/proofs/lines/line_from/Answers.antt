@@ -8,7 +8,7 @@ use Rattle.codesearch_c.proofs.lines.line_from.Goals as goal
 
 -- a last line ends with its block
 last_order : (found : Option Line) (from low size : ℕ) → from ≤ low →
-    IfSome found (λ line. (low < size) × (line.end ≡ size)) →
+    IfSome found (λ line. (low < size) × (line.end ≡ size) × (line.start ≡ low)) →
     IfSome found (λ line. (from ≤ line.end) × (line.end ≤ size))
 last_order None from low size on last = tt
 last_order (Some line) from low size on last = (omega (arith, last.0, last.1), omega (arith, last.1))

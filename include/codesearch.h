@@ -14,8 +14,9 @@
  * Buffers  A call that copies says how much there is, and copies if all fits. Else the answer is CS_ROOM, and the buffer
  *          stays as it was: call again with enough room. A call with a budget copies what it has found; CS_STOPPED says that
  *          there may be more.
- * Threads  There is no state outside slots. Any number of threads may use the same index bytes at once. A slot is in one
- *          call at a time, and stays on its thread: each thread compiles a pattern of its own (48 us on average).
+ * Threads  There is no state outside slots. Any number of threads may use the same index bytes at once. A slot is in one call at
+ *          a time. Between two calls it may go to another thread, which a lock, a start or a join puts in order: it is proved
+ *          that what a slot holds may. Threads that search at once compile patterns of their own (48 us on average).
  * Memory   malloc, realloc and free of the process. A call that is refused memory answers CS_MEMORY. The calls for spans take
  *          none: theirs is that of the pattern. No call may be made in a signal handler.
  * Aliasing What a call writes (slots, buffers, counts) overlaps nothing else that the call is given.

@@ -1,4 +1,5 @@
-/* Four threads with slots of their own search the same index bytes at once, and each finds what one alone finds. */
+/* Four threads with slots of their own search the same index bytes at once, and each finds what one alone finds. Then patterns go
+ * from thread to thread. */
 #include "check.h"
 #include <pthread.h>
 
@@ -35,6 +36,48 @@ static void *search(void *result) {
     return 0;
 }
 
+/* A pattern that another thread has made and used. */
+typedef struct {
+    cs_pattern slot;
+    int32_t found;
+} passed;
+
+static void *use(void *context) {
+    passed *with = (passed *)context;
+    size_t at;
+    cs_line line;
+    cs_span span;
+    uint64_t count = 0;
+    with->found = 0;
+    if (!with->slot.filled && cs_pattern_compile(BYTES("o[a-z]*"), false, &with->slot, &at)) return 0;
+    with->found += cs_pattern_next(&with->slot, BYTES("a\none\n"), 0, &line);
+    with->found += cs_pattern_find(&with->slot, BYTES("two one"), 0, &span);
+    if (cs_pattern_count(&with->slot, BYTES("a\none\nto"), &count) == CS_OK) with->found += (int32_t)count;
+    return 0;
+}
+
+static void *drop(void *context) {
+    cs_pattern_free(&((passed *)context)->slot);
+    return 0;
+}
+
+static void pass_around(void) {
+    passed with = {CS_EMPTY, 0};
+    pthread_t thread;
+    for (int i = 0; i < 8; i++) {
+        CHECK(0, pthread_create(&thread, 0, use, &with));
+        pthread_join(thread, 0);
+        CHECK(4, with.found);
+        use(&with);
+        CHECK(4, with.found);
+        if (i % 3) continue;
+        CHECK(0, pthread_create(&thread, 0, drop, &with));
+        pthread_join(thread, 0);
+        CHECK(0, with.slot.filled);
+    }
+    cs_pattern_free(&with.slot);
+}
+
 int main(void) {
     cs_builder builder = CS_EMPTY;
     cs_bytes bytes = CS_EMPTY;
@@ -59,5 +102,6 @@ int main(void) {
     for (int i = 0; i < THREADS; i++) pthread_join(threads[i], 0);
     for (int i = 0; i < THREADS; i++) CHECK(alone, found[i]);
     free(index_bytes);
+    pass_around();
     return summary();
 }

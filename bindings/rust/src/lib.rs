@@ -2,8 +2,8 @@
 //! matcher, reports, reader, builder and merge are proved.
 //!
 //! An [`Index`] borrows its bytes and can be shared by threads. A [`Pattern`] keeps a cache that its matches change, and a
-//! [`Builder`] an index under construction: neither is `Send` or `Sync`, so that each thread makes its own. (The library
-//! proves nothing of slots that move between threads.)
+//! [`Builder`] an index under construction: both may go from one thread to another, and neither is `Sync`, so that threads
+//! that search at once have patterns of their own.
 //!
 //! ```
 //! use codesearch::{Builder, Index, Pattern};
@@ -29,6 +29,7 @@ fn done(code: i32) -> Result<i32, Error> {
 }
 
 const ROOM: i32 = -3;
+const STOPPED: i32 = -6;
 
 /// Calls with a buffer that is long enough.
 fn grown<T: Copy + Default>(first: usize, mut call: impl FnMut(*mut T, usize, &mut usize) -> i32) -> Result<Vec<T>, Error> {
@@ -146,6 +147,22 @@ pub struct Pattern {
     slot: sys::Slot,
 }
 
+// SAFETY: a slot owns a box of plain data, and the library has no other state (no static and no thread-local one): it is proved
+// that the box may go to another thread (`Send` of `Handle` in codesearch_c). malloc and free take blocks of any thread, and
+// `&mut self` gives the slot to one call at a time.
+unsafe impl Send for Pattern {}
+
+/// What [`Pattern::next_line_within`] finds.
+#[derive(Clone, Debug, PartialEq, Eq)]
+pub enum Next {
+    /// The first matching line.
+    Line(Range<usize>),
+    /// No line matches up to the end of the block.
+    End,
+    /// No line matches that begins before this offset, where the budget is used up. The next line begins there.
+    Stopped(usize),
+}
+
 impl Pattern {
     /// Compiles a pattern. With `fold` an ASCII letter matches both of its cases.
     pub fn new(text: &str, fold: bool) -> Result<Pattern, Error> {
@@ -171,6 +188,17 @@ impl Pattern {
         Ok((found == 1).then_some(line.start..line.end))
     }
 
+    /// The same among the lines that begin in the `budget` bytes from the offset on. The last of them is read to its end, however
+    /// long it is.
+    pub fn next_line_within(&mut self, block: &[u8], from: usize, budget: usize) -> Result<Next, Error> {
+        let (mut line, mut reached) = (sys::Line::default(), 0);
+        let (bytes, len) = (block.as_ptr(), block.len());
+        match unsafe { sys::cs_pattern_next_within(&mut self.slot, bytes, len, from, budget, &mut line, &mut reached) } {
+            STOPPED => Ok(Next::Stopped(reached)),
+            code => Ok(if done(code)? == 1 { Next::Line(line.start..line.end) } else { Next::End }),
+        }
+    }
+
     /// The matching lines of a block. The iterator ends at the first error.
     pub fn lines<'p, 'b>(&'p mut self, block: &'b [u8]) -> Lines<'p, 'b> {
         Lines { pattern: self, block, from: Some(0) }
@@ -181,6 +209,17 @@ impl Pattern {
         let mut count = 0;
         done(unsafe { sys::cs_pattern_count(&mut self.slot, block.as_ptr(), block.len(), &mut count) })?;
         Ok(count)
+    }
+
+    /// The number of matching lines that begin in the `budget` bytes from an offset on, and where the next line begins, if the
+    /// block has more.
+    pub fn count_within(&mut self, block: &[u8], from: usize, budget: usize) -> Result<(u64, Option<usize>), Error> {
+        let (mut count, mut reached) = (0, 0);
+        let (bytes, len) = (block.as_ptr(), block.len());
+        match unsafe { sys::cs_pattern_count_within(&mut self.slot, bytes, len, from, budget, &mut count, &mut reached) } {
+            STOPPED => Ok((count, Some(reached))),
+            code => done(code).map(|_| (count, None)),
+        }
     }
 
     /// The first match of a line that begins at an offset or later: the leftmost one, and of those that begin there the longest.
@@ -242,6 +281,23 @@ impl Pattern {
         grown(64, |ids, room, count| unsafe {
             sys::cs_pattern_candidates(&mut self.slot, bytes.as_ptr(), bytes.len(), ids, room, count)
         })
+    }
+
+    /// At most `room` of these ids, those from an id on, and whether there are more. A page takes the time of all candidates.
+    pub fn candidates_from(&mut self, index: &Index<'_>, from: u32, room: usize) -> Result<(Vec<u32>, bool), Error> {
+        let bytes = index.bytes;
+        // (there are no more ids than names)
+        let room = room.min(index.len() as usize);
+        let (mut ids, mut count) = (vec![0; room], 0);
+        // SAFETY: the buffer is as long as said.
+        let code = unsafe {
+            sys::cs_pattern_candidates_from(&mut self.slot, bytes.as_ptr(), bytes.len(), from, ids.as_mut_ptr(), room, &mut count)
+        };
+        if code != STOPPED {
+            done(code)?;
+        }
+        ids.truncate(count);
+        Ok((ids, code == STOPPED))
     }
 
     /// The lines that `cgrep` prints for an input with this name and text.
@@ -334,6 +390,9 @@ pub fn scan(text: &[u8]) -> Result<Option<Skip>, Error> {
 pub struct Builder {
     slot: sys::Slot,
 }
+
+// SAFETY: as of `Pattern`.
+unsafe impl Send for Builder {}
 
 impl Builder {
     /// A builder over paths, which ascend, and none of which covers another.

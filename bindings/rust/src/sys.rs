@@ -34,6 +34,12 @@ extern "C" {
     pub fn cs_pattern_is_match(slot: *mut Slot, line: *const u8, len: usize) -> i32;
     pub fn cs_pattern_next(slot: *mut Slot, block: *const u8, len: usize, from: usize, line: *mut Line) -> i32;
     pub fn cs_pattern_count(slot: *mut Slot, block: *const u8, len: usize, count: *mut u64) -> i32;
+    pub fn cs_pattern_next_within(
+        slot: *mut Slot, block: *const u8, len: usize, from: usize, budget: usize, line: *mut Line, reached: *mut usize,
+    ) -> i32;
+    pub fn cs_pattern_count_within(
+        slot: *mut Slot, block: *const u8, len: usize, from: usize, budget: usize, count: *mut u64, reached: *mut usize,
+    ) -> i32;
     pub fn cs_pattern_find(slot: *mut Slot, line: *const u8, len: usize, from: usize, span: *mut Span) -> i32;
     pub fn cs_pattern_find_after(slot: *mut Slot, line: *const u8, len: usize, last: *const Span, span: *mut Span) -> i32;
     pub fn cs_pattern_spans(
@@ -45,6 +51,9 @@ extern "C" {
         slot: *mut Slot, line: *const u8, len: usize, budget: usize, spans: *mut Span, room: usize, count: *mut usize,
     ) -> i32;
     pub fn cs_pattern_candidates(slot: *mut Slot, index: *const u8, len: usize, ids: *mut u32, room: usize, count: *mut usize) -> i32;
+    pub fn cs_pattern_candidates_from(
+        slot: *mut Slot, index: *const u8, len: usize, from: u32, ids: *mut u32, room: usize, count: *mut usize,
+    ) -> i32;
     pub fn cs_count_lines(text: *const u8, len: usize, from: usize, to: usize, count: *mut usize) -> i32;
     pub fn cs_grep(
         slot: *mut Slot, name: *const u8, name_len: usize, text: *const u8, len: usize, style: u32, out: *mut u8, room: usize,

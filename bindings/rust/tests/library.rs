@@ -1,4 +1,4 @@
-use codesearch::{count_lines, scan, BuildFault, Builder, Error, Index, IndexFault, MergeFault, Pattern, PatternFault, Skip, Style};
+use codesearch::{count_lines, scan, BuildFault, Builder, Error, Index, IndexFault, MergeFault, Next, Pattern, PatternFault, Skip, Style};
 use std::ops::Range;
 
 fn built(paths: &[&str], files: &[(&str, &str)]) -> Vec<u8> {
@@ -37,6 +37,29 @@ fn patterns_match_lines() {
     assert_eq!(Pattern::new("x(a", false).err(), Some(Error::Pattern(PatternFault::OpenGroup, 1)));
     assert_eq!(Pattern::new("a**", false).err().unwrap().to_string(), "bad pattern at byte 2: a repeat of a repeat");
     assert_eq!(Pattern::new("É", true).unwrap().is_match("É".as_bytes()), Ok(true));
+}
+
+#[test]
+fn searches_stop_where_a_line_begins() {
+    let mut pattern = Pattern::new("b", false).unwrap();
+    let block = b"ab\nxx\nb\n\nbb";
+    assert_eq!(pattern.next_line_within(block, 0, 1), Ok(Next::Line(0..2)));
+    assert_eq!(pattern.next_line_within(block, 3, 3), Ok(Next::Stopped(6)));
+    assert_eq!(pattern.next_line_within(block, 3, 4), Ok(Next::Line(6..7)));
+    assert_eq!(pattern.next_line_within(block, 11, 0), Ok(Next::End));
+    assert_eq!((pattern.count_within(block, 0, 4), pattern.count_within(block, 6, 9)), (Ok((1, Some(6))), Ok((2, None))));
+    assert_eq!(pattern.count_within(block, 0, 0), Ok((0, Some(0))));
+}
+
+#[test]
+fn candidates_come_in_pages() {
+    let bytes = sample();
+    let index = Index::new(&bytes).unwrap();
+    let mut pattern = Pattern::new("marker", false).unwrap();
+    assert_eq!(pattern.candidates_from(&index, 0, 1), Ok((vec![0], true)));
+    assert_eq!(pattern.candidates_from(&index, 1, 1), Ok((vec![2], false)));
+    assert_eq!(pattern.candidates_from(&index, 0, usize::MAX), Ok((vec![0, 2], false)));
+    assert_eq!(pattern.candidates_from(&index, u32::MAX, 0), Ok((vec![], false)));
 }
 
 #[test]
@@ -117,4 +140,26 @@ fn an_index_is_shared_by_threads() {
             });
         }
     });
+}
+
+#[test]
+fn a_pattern_goes_to_another_thread() {
+    let mut pattern = Pattern::new("o[a-z]*", false).unwrap();
+    let mut builder = Builder::new(&["/a"]).unwrap();
+    let block = b"a\none\nto";
+    assert_eq!((pattern.count(block), pattern.find(b"two", 0)), (Ok(2), Some(2..3)));
+    for _ in 0..4 {
+        (pattern, builder) = std::thread::spawn(move || {
+            assert_eq!((pattern.count(block), pattern.next_line(block, 2)), (Ok(2), Ok(Some(2..5))));
+            assert_eq!(pattern.find(b"two", 0), Some(2..3));
+            (pattern, builder)
+        })
+        .join()
+        .unwrap();
+    }
+    assert_eq!(pattern.find(b"one", 0), Some(0..3));
+    std::thread::spawn(move || drop(pattern)).join().unwrap();
+    assert_eq!(builder.add("/a/1", b"marker"), Ok(None));
+    let bytes = std::thread::spawn(move || builder.finish().unwrap()).join().unwrap();
+    assert_eq!(Index::new(&bytes).unwrap().len(), 1);
 }

@@ -1,5 +1,5 @@
 -- Lines of a part of a block.
-use Rattle.std.proofs.Common.{◌≡◌, ℤ, count_by, ◌+◌, ◌-◌, ◌<◌, ◌≤◌, ◌⊎◌, inl, inr, ℕ, zero, suc, Bool, List, [], ◌∷◌, ◌++◌, length, take, drop, refl, sym, ap, subst, ◌∙◌, arith, append-nil, length-drop, length-take}
+use Rattle.std.proofs.Common.{◌≡◌, ℤ, ◌+◌, ◌-◌, ◌<◌, ◌≤◌, ◌⊎◌, inl, inr, ℕ, zero, suc, Bool, List, [], ◌∷◌, ◌++◌, length, take, drop, refl, sym, ap, subst, ◌∙◌, arith, append-nil, length-drop, length-take}
 use Rattle.std.specs.Prelude.{pos, negsuc}
 use Rattle.cs_syntax.specs.Matching.{Tree}
 use Rattle.std.proofs.lemmas.List.{drop_all, drop-drop, drop-append-le, take-append-drop, take-take, take_rest, length-take-le}
@@ -16,7 +16,7 @@ use Rattle.codesearch_c.specs.declared.budgets.Budget.{Budget}
 use Rattle.codesearch_c.specs.Budgets.{BeginsLine, IsLineFrom, IsStop, HasNoStop, IsNextWithinCode, IsCountWithinCode}
 use Rattle.codesearch_c.specs.Budgets as answer
 use Rattle.codesearch_c.specs.Codes.{stopped}
-use Rattle.codesearch_c.specs.Patterns.{IsNextCode, IsCountCode}
+use Rattle.codesearch_c.specs.Patterns.{IsNextCode}
 use Rattle.codesearch_c.specs.MatchingLines.{matching_from, matching_lines}
 use Rattle.codesearch_c.proofs.MatchingLineLemmas.{size, size_whole, lines_whole, matching-append}
 

@@ -27,6 +27,9 @@ impl Model for Handle {
     ghost also_owns = { λ h. holds h.alloc h.at h.value };
 }
 
+// A caller may pass a slot from thread to thread, as a box of what it holds.
+unsafe impl Send for Handle {}
+
 impl Handle {
     fn none(alloc: Global) -> Handle
         ensures { result.value ≡ None }

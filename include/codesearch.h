@@ -18,12 +18,13 @@
  *          a time. Between two calls it may go to another thread, which a lock, a start or a join puts in order: it is proved
  *          that what a slot holds may. Threads that search at once compile patterns of their own (48 us on average).
  * Memory   malloc, realloc and free of the process. A call that is refused memory answers CS_MEMORY. The calls for spans take
- *          none: theirs is that of the pattern. No call may be made in a signal handler.
+ *          none: theirs is that of the pattern. Of the calls for lines (cs_pattern_is_match to cs_pattern_count_within) only the
+ *          first one with a pattern takes some, which the pattern keeps. No call may be made in a signal handler.
  * Aliasing What a call writes (slots, buffers, counts) overlaps nothing else that the call is given.
  *
  * Proved   Each call that is given what it wants ends, stays within its buffers, and answers and leaves what is said at it:
  *          docs/PROMISES.md has each promise. The functions in C below are tested only, and so is that a list of spans is
- *          CS_STOPPED only if room or budget are used up, and that the calls for spans take no memory. Of what a call wants, it tests slots
+ *          CS_STOPPED only if room or budget are used up, and which calls take no memory. Of what a call wants, it tests slots
  *          alone.
  * Trusted  This header against those contracts, the static inline functions below, malloc (blocks aligned to 16), a stack
  *          of 256 KB or more, and index bytes that do not change after cs_index_check.

@@ -26,8 +26,10 @@ checked='-fsanitize=address,undefined -fno-sanitize-recover=all'
 printf 'int main(void) { return 0; }\n' > "$fresh/empty.c"
 cc $checked "$fresh/empty.c" -o "$fresh/empty" 2> /dev/null && "$fresh/empty" || { skipped 'ASan and UBSan: the compiler has none'; checked=''; }
 for test in rows threads random; do compiles $test tests/c/$test.c $checked; done
+compiles allocations tests/c/allocations.c -Wl,--wrap=malloc,--wrap=calloc,--wrap=realloc,--wrap=free
 holds "'$fresh/rows'"
 holds "'$fresh/threads'"
+holds "'$fresh/allocations'"
 holds "'$fresh/random' '$program' '$fresh/text' ${RANDOM_PATTERNS:-1000}"
 
 # ---- the shared object has the exports of the header, and nothing else -------------------------------------------------------

@@ -46,19 +46,19 @@ fn tree_for(rt: &HostRuntime, call: &Call<'_>) -> Result<DiskTree<HostRuntime>, 
 }
 
 /// The index file on the disk, and its names for an error line.
-pub(crate) struct DiskFile {
+pub(crate) struct DiskIndexFile {
     pub(crate) name: String,
     pub(crate) temp: String,
     pub(crate) folder: DiskFolder,
 }
 
-impl DiskFile {
+impl DiskIndexFile {
     /// The index file that the environment names.
-    pub(crate) fn of_environment(rt: &HostRuntime) -> Result<DiskFile, AllocError> {
+    pub(crate) fn of_environment(rt: &HostRuntime) -> Result<DiskIndexFile, AllocError> {
         let paths = IndexPaths::of_environment(rt)?;
         let name = String::from_str(rt.alloc(), paths.name.as_str())?;
         let temp = String::from_str(rt.alloc(), paths.temp.as_str())?;
-        Ok(DiskFile {
+        Ok(DiskIndexFile {
             name,
             temp,
             folder: DiskFolder::new(rt.clone()?, paths),
@@ -67,9 +67,9 @@ impl DiskFile {
 }
 
 // A body that owns the file drops it by a call.
-impl Drop for DiskFile {
+impl Drop for DiskIndexFile {
     fn drop(self) {
-        let DiskFile {
+        let DiskIndexFile {
             name: _name,
             temp: _temp,
             folder: _folder,

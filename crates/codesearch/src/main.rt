@@ -33,7 +33,7 @@ use args::{program_path, read_args};
 use call::Call;
 use cs_args::Tool;
 use cs_tree::{Sink, StdSink};
-use disk::{DiskFile, disk_world};
+use disk::{DiskIndexFile, disk_world};
 use execution::{execute, execute_cgrep};
 use given::Given;
 use outcome::{Outcome, ProgramFault};
@@ -93,7 +93,7 @@ fn execute_on_disk(rt: &HostRuntime, call: &Call<'_>) -> Result<u8, AllocError>
         let outcome = execute_cgrep(call, &mut world);
         return Ok(end(rt, &mut world.out, &outcome));
     }
-    let mut disk = DiskFile::of_environment(rt)?;
+    let mut disk = DiskIndexFile::of_environment(rt)?;
     let mut file = FoundFile {
         name: disk.name.as_str(),
         temp: disk.temp.as_str(),

@@ -11,7 +11,7 @@ use Rattle.cs_match.specs.Skipped.{AreLinesBetween}
 use Rattle.cs_match.specs.Skipping.{AreWholeLines, IsLineAfter}
 use Rattle.cs_match.proofs.LinesLemmas.{lines-none}
 use Rattle.cs_match.proofs.WholeLineLemmas.{whole_line, whole_between, whole_drop, whole_part}
-use Rattle.codesearch_c.specs.declared.lines.Line.{Line}
+use Rattle.codesearch_c.specs.declared.lines.LineBounds.{LineBounds}
 use Rattle.codesearch_c.specs.declared.budgets.Budget.{Budget}
 use Rattle.codesearch_c.specs.Budgets.{BeginsLine, IsLineFrom, IsStop, HasNoStop, IsNextWithinCode, IsCountWithinCode}
 use Rattle.codesearch_c.specs.Budgets as answer
@@ -232,7 +232,7 @@ module _ (t : List ℕ → Bool) (block : List ℕ) where
   none_before from stop l none =
       matching_split from stop l ∙ ap (λ ls. ls ++ matching_lines t block stop) none
 
-  pub first_before : (from stop : ℕ) (line : Line) → AreLinesBetween block from stop →
+  pub first_before : (from stop : ℕ) (line : LineBounds) → AreLinesBetween block from stop →
       IsLineFrom (take stop block) from line.start line.end → matching_lines t (take stop block) from
       ≡ line ∷ matching_lines t (take stop block) (line.end + 1) → matching_lines t block from
       ≡ line ∷ matching_lines t block (line.end + 1)
@@ -249,7 +249,7 @@ module _ (t : List ℕ → Bool) (block : List ℕ) where
 
 -- ---- the code of a search of the lines before a stop
 
-module _ (pattern : Tree) (block : List ℕ) (budget : Budget) (old new : Line) (reached : ℕ) where
+module _ (pattern : Tree) (block : List ℕ) (budget : Budget) (old new : LineBounds) (reached : ℕ) where
   module _ (stop : ℕ) (s : IsStop block budget stop) where
     pub next_before : (code shown : ℤ) → shown ≡ code → (code ≡ pos 0 → ⊥) →
         IsNextCode pattern (take stop block) budget.from old new code →

@@ -13,7 +13,7 @@ use Rattle.cs_match.specs.NoNewline.{HasNoNewline}
 use Rattle.cs_match.specs.Skipping.{AreWholeLines, NoneMatch, IsLineAfter}
 use Rattle.cs_match.proofs.LinesLemmas.{lines-split, lines-line, lines-last, lines-none, last_part-append}
 use Rattle.cs_match.proofs.WholeLineLemmas.{terminated_lines-whole, whole_is_terminated}
-use Rattle.codesearch_c.specs.declared.lines.Line.{Line}
+use Rattle.codesearch_c.specs.declared.lines.LineBounds.{LineBounds}
 use Rattle.codesearch_c.specs.Copies.{filled_with}
 use Rattle.codesearch_c.specs.MatchingLines.{matching_from, matching_lines, AreListedTo}
 
@@ -47,7 +47,7 @@ lines_whole xs ys w =
     ∙ append_assoc (terminated_lines xs) (terminated_lines ys) (last_line (last_part ys))
     ∙ ap (λ ls. terminated_lines xs ++ ls) (sym (lines-split ys))
 
-keeps_if : (b : Bool) (x : Line) (xs ys : List Line) → cond b (x ∷ (xs ++ ys)) (xs ++ ys) ≡ cond b (x ∷ xs) xs ++ ys
+keeps_if : (b : Bool) (x : LineBounds) (xs ys : List LineBounds) → cond b (x ∷ (xs ++ ys)) (xs ++ ys) ≡ cond b (x ∷ xs) xs ++ ys
 keeps_if true x xs ys = refl
 keeps_if false x xs ys = refl
 
@@ -59,7 +59,7 @@ module _ (t : List ℕ → Bool) where
       ap (λ n. matching_from t n more) same
   matching-append start (l ∷ ls) more =
       let next : start + length l + 1 + size ls ≡ start + (suc (length l) + size ls) = omega arith in
-      let here : Line = record { start = start; end = start + length l } in
+      let here : LineBounds = record { start = start; end = start + length l } in
       ap (λ rest. cond (t l) (here ∷ rest) rest)
       (matching-append (start + length l + 1) ls more ∙ ap (λ n. matching_from t (start + length l + 1) ls ++ matching_from t n more) next)
       ∙ keeps_if (t l) here (matching_from t (start + length l + 1) ls) (matching_from t (start + (suc (length l) + size ls)) more)
@@ -141,7 +141,7 @@ module _ (t : List ℕ → Bool) where
   count_matching start [] = refl
   count_matching start (l ∷ ls) = sum_by-cons (λ l. cond (t l) 1 0) l ls ∙ one_more _ _ _ (t l) (count_matching (start + length l + 1) ls)
     where
-      one_more : (x : Line) (xs : List Line) (n : ℕ) (b : Bool) → n ≡ length xs → cond b 1 0 + n ≡ length (cond b (x ∷ xs) xs)
+      one_more : (x : LineBounds) (xs : List LineBounds) (n : ℕ) (b : Bool) → n ≡ length xs → cond b 1 0 + n ≡ length (cond b (x ∷ xs) xs)
       one_more x xs n true e = omega (arith, e)
       one_more x xs n false e = omega (arith, e)
 
@@ -199,11 +199,11 @@ module _ {X : Type 0} where
   fill_one (y ∷ items) [] x = refl
   fill_one (y ∷ items) (o ∷ old) x = ap (λ ys. y ∷ ys) (fill_one items old x)
 
-module _ (t : List ℕ → Bool) (block : List ℕ) (old : List Line) where
+module _ (t : List ℕ → Bool) (block : List ℕ) (old : List LineBounds) where
   pub listed_none : AreListedTo t block old old 0 0
   listed_none = record { found = []; all = refl; number = refl; filled = fill_none old }
 
-  pub listed_next : (new : List Line) (count offset : ℕ) (line : Line) → AreListedTo t block old new count offset →
+  pub listed_next : (new : List LineBounds) (count offset : ℕ) (line : LineBounds) → AreListedTo t block old new count offset →
       matching_lines t block offset ≡ line ∷ matching_lines t block (line.end + 1) →
       AreListedTo t block old (set new count line) (count + 1) (line.end + 1)
   listed_next new count offset line listed next = record {
@@ -215,12 +215,12 @@ module _ (t : List ℕ → Bool) (block : List ℕ) (old : List Line) where
         listed.number ∙ fill_one listed.found old line;
   }
 
-  pub listed_all : (new : List Line) (count offset : ℕ) → AreListedTo t block old new count offset →
+  pub listed_all : (new : List LineBounds) (count offset : ℕ) → AreListedTo t block old new count offset →
       matching_lines t block offset ≡ [] → (count ≡ length (matching_lines t block 0)) ×
       (new ≡ filled_with (matching_lines t block 0) old)
   listed_all new count offset listed none =
       let all : matching_lines t block 0 ≡ listed.found = listed.all ∙ ap (λ ls. listed.found ++ ls) none ∙ append-nil listed.found in
-      (listed.number ∙ ap (λ (ls : List Line). length ls) (sym all), listed.filled ∙ ap (λ ls. filled_with ls old) (sym all))
+      (listed.number ∙ ap (λ (ls : List LineBounds). length ls) (sym all), listed.filled ∙ ap (λ ls. filled_with ls old) (sym all))
 
 -- ---- a block of whole lines before an offset
 

@@ -4,7 +4,7 @@ use Rattle.cs_syntax.specs.Matching.{Tree}
 use Rattle.cs_match.specs.Lines.{newline, lines}
 use Rattle.cs_match.specs.NoNewline.{HasNoNewline}
 use Rattle.cs_match.specs.Skipped.{AreLinesBetween}
-use Rattle.codesearch_c.specs.declared.lines.Line.{Line}
+use Rattle.codesearch_c.specs.declared.lines.LineBounds.{LineBounds}
 use Rattle.codesearch_c.specs.declared.budgets.Budget.{Budget}
 use Rattle.codesearch_c.specs.Codes.{done, memory, stopped}
 use Rattle.codesearch_c.specs.MatchingLines.{ForEachTest, IsFirstLine, matching_lines}
@@ -37,7 +37,7 @@ budget_of from bytes = record { from = from; bytes = bytes }
 
 -- 1 and the first matching line, which begins within the budget; 0 where there is none; or the search stops at an offset, and
 -- the first matching line is that from there on; or memory is refused. A line and an offset that are not answered stay.
-pub data IsNextWithinCode (pattern : Tree) (block : List ℕ) (budget : Budget) (old new : Line) (old_reached reached : ℕ) (code : ℤ) : Type 0 where
+pub data IsNextWithinCode (pattern : Tree) (block : List ℕ) (budget : Budget) (old new : LineBounds) (old_reached reached : ℕ) (code : ℤ) : Type 0 where
   found : code ≡ pos 1 → IsFirstLine pattern block budget.from (Some new) → new.start < budget.from + budget.bytes →
       reached ≡ old_reached → IsNextWithinCode pattern block budget old new old_reached reached code
   none : code ≡ pos 0 → IsFirstLine pattern block budget.from None → HasNoStop block budget → new ≡ old →

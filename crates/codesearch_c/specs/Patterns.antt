@@ -15,7 +15,7 @@ use Rattle.cs_index.specs.Candidates.{candidates_of}
 use Rattle.cs_index.specs.Answerable.{is_answerable}
 use Rattle.cs_index.specs.Postings.{IsListFault}
 use Rattle.cs_index.specs.declared.fault.IndexFault.{IndexFault}
-use Rattle.codesearch_c.specs.declared.lines.Line.{Line}
+use Rattle.codesearch_c.specs.declared.lines.LineBounds.{LineBounds}
 use Rattle.codesearch_c.specs.Codes.{done, memory, room, misuse, not_utf8, index_code, pattern_code}
 use Rattle.codesearch_c.specs.Copies.{IsCopy, IsPage}
 use Rattle.codesearch_c.specs.MatchingLines.{ForEachTest, IsFirstLine, IsListing}
@@ -49,7 +49,7 @@ pub record IsMatchCode (pattern : Tree) (line : List ℕ) (code : ℤ) : Type 0 
 
 -- 1 and the first matching line from an offset on; or the line stays, and the code is 0 and there is none, or memory is
 -- refused
-pub record IsNextCode (pattern : Tree) (block : List ℕ) (from : ℕ) (old new : Line) (code : ℤ) : Type 0 where
+pub record IsNextCode (pattern : Tree) (block : List ℕ) (from : ℕ) (old new : LineBounds) (code : ℤ) : Type 0 where
   pub found : code ≡ pos 1 → IsFirstLine pattern block from (Some new)
   pub none : code ≡ pos 0 → IsFirstLine pattern block from None
   pub kept : code ≢ pos 1 → new ≡ old
@@ -60,7 +60,7 @@ abbrev pub fit_code : ℕ → ℕ → ℤ
 fit_code count room_for = if nat_le count room_for then done else room
 
 -- the number of all matching lines, and those for which there is room; or memory is refused, and nothing changes
-pub record IsLinesCode (pattern : Tree) (block : List ℕ) (old new : List Line) (old_count count : ℕ) (code : ℤ) : Type 0 where
+pub record IsLinesCode (pattern : Tree) (block : List ℕ) (old new : List LineBounds) (old_count count : ℕ) (code : ℤ) : Type 0 where
   pub listed : code ≢ memory → IsListing pattern block old new count × (code ≡ fit_code count (length old))
   pub kept : code ≡ memory → (new ≡ old) × (count ≡ old_count)
 

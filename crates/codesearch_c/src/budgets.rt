@@ -4,7 +4,7 @@ ghost use Rattle.codesearch_c.specs.Budgets.{IsStop, HasNoStop, IsNextWithinCode
 
 use crate::codes::{OK, STOPPED};
 use crate::held::HeldPattern;
-use crate::lines::Line;
+use crate::lines::LineBounds;
 use memchr::memchr;
 use std::alloc::Global;
 
@@ -46,7 +46,7 @@ impl HeldPattern {
         alloc: Global,
         block: &[u8],
         budget: Budget,
-        line: &mut Line,
+        line: &mut LineBounds,
         reached: &mut usize,
     ) -> i32
         ensures code { IsNextWithinCode self.old.pattern block.now budget line.old line.new

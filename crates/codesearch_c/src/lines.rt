@@ -13,7 +13,7 @@ use memchr::memchr;
 /// A line of a block: its bytes, without the newline, are those from `start` to `end`.
 #[repr(C)]
 #[derive(Clone, Copy)]
-pub struct Line {
+pub struct LineBounds {
     pub start: usize,
     pub end: usize,
 }
@@ -23,7 +23,7 @@ const PART: usize = 1 << 17;
 
 /// The first matching line from an offset on. The block is searched in parts, so that a search that finds a line reads
 /// little of what is after it.
-pub(crate) fn first_line(matcher: &mut Matcher<'_>, block: &[u8], from: usize) -> Option<Line>
+pub(crate) fn first_line(matcher: &mut Matcher<'_>, block: &[u8], from: usize) -> Option<LineBounds>
     ensures found { IsFirstLine matcher.old.tree block.now from result }
     ensures line { IfSome result (λ line. IsLineFrom block.now from line.start line.end) }
     ensures same { matcher.new.tree ≡ matcher.old.tree }
@@ -34,7 +34,7 @@ pub(crate) fn first_line(matcher: &mut Matcher<'_>, block: &[u8], from: usize) -
             return last_line(matcher, block, start);
         };
         if let Some(line) = matcher.next_match(&block[..end], start) {
-            return Some(Line {
+            return Some(LineBounds {
                 start: line.start,
                 end: line.end,
             });
@@ -62,7 +62,7 @@ fn part_end(block: &[u8], start: usize) -> Option<usize>
 }
 
 /// The first matching line from an offset on in a block whose first `whole` bytes are its whole lines.
-fn line_from(matcher: &mut Matcher<'_>, block: &[u8], whole: usize, from: usize) -> Option<Line>
+fn line_from(matcher: &mut Matcher<'_>, block: &[u8], whole: usize, from: usize) -> Option<LineBounds>
     requires within { whole ≤ length block.now }
     requires whole { AreWholeLines (take whole block.now) }
     requires rest { HasNoNewline (drop whole block.now) }
@@ -74,7 +74,7 @@ fn line_from(matcher: &mut Matcher<'_>, block: &[u8], whole: usize, from: usize)
         return last_line(matcher, block, from);
     }
     match matcher.next_match(&block[..whole], from) {
-        Some(line) => Some(Line {
+        Some(line) => Some(LineBounds {
             start: line.start,
             end: line.end,
         }),
@@ -83,7 +83,7 @@ fn line_from(matcher: &mut Matcher<'_>, block: &[u8], whole: usize, from: usize)
 }
 
 /// The line without a newline from an offset on, if it matches.
-fn last_line(matcher: &mut Matcher<'_>, block: &[u8], from: usize) -> Option<Line>
+fn last_line(matcher: &mut Matcher<'_>, block: &[u8], from: usize) -> Option<LineBounds>
     requires part { HasNoNewline (drop from block.now) }
     ensures found { IsFirstLine matcher.old.tree block.now from result }
     ensures last { IfSome result (λ line. (from < length block.now) × (line.end ≡ length block.now)
@@ -94,7 +94,7 @@ fn last_line(matcher: &mut Matcher<'_>, block: &[u8], from: usize) -> Option<Lin
         return None;
     }
     if matcher.is_match(&block[from..]) {
-        Some(Line {
+        Some(LineBounds {
             start: from,
             end: block.len(),
         })
@@ -104,7 +104,7 @@ fn last_line(matcher: &mut Matcher<'_>, block: &[u8], from: usize) -> Option<Lin
 }
 
 /// The number of matching lines. Those for which there is room are written.
-pub(crate) fn list_lines(matcher: &mut Matcher<'_>, block: &[u8], lines: &mut [Line]) -> usize
+pub(crate) fn list_lines(matcher: &mut Matcher<'_>, block: &[u8], lines: &mut [LineBounds]) -> usize
     ensures listed { IsListing matcher.old.tree block.now lines.old lines.new result }
     ensures same { matcher.new.tree ≡ matcher.old.tree }
 {
@@ -120,7 +120,7 @@ pub(crate) fn list_lines(matcher: &mut Matcher<'_>, block: &[u8], lines: &mut [L
 }
 
 /// Writes a line, if there is room for it.
-fn put_line(lines: &mut [Line], count: usize, line: Line)
+fn put_line(lines: &mut [LineBounds], count: usize, line: LineBounds)
     ensures { lines.new ≡ slice_set lines.old count line }
 {
     if count < lines.len() {

@@ -9,7 +9,7 @@ ghost use Rattle.codesearch_c.specs.Patterns.{IsRefusal, IsCompiled, IsMisuse, I
 
 use crate::codes::{MEMORY, MISUSE, NOT_UTF8, OK, pattern_code};
 use crate::held::{Held, HeldPattern};
-use crate::lines::Line;
+use crate::lines::LineBounds;
 use crate::slot::Slot;
 use cs_match::{Pass, Program};
 use cs_syntax::{Pattern, parse};
@@ -131,7 +131,7 @@ pub extern "C" fn cs_pattern_next(
     slot: &mut Slot,
     block: &[u8],
     from: usize,
-    line: &mut Line,
+    line: &mut LineBounds,
 ) -> i32
     ensures { OnPattern slot.old.handle.value
         (IsMisuse slot.old.handle.value slot.new.handle.value result × (line.new ≡ line.old))
@@ -155,7 +155,7 @@ pub extern "C" fn cs_pattern_lines(
     alloc: Global,
     slot: &mut Slot,
     block: &[u8],
-    lines: &mut [Line],
+    lines: &mut [LineBounds],
     count: &mut usize,
 ) -> i32
     ensures { OnPattern slot.old.handle.value

@@ -9,8 +9,8 @@ ghost use Rattle.codesearch_c.specs.Reports.{IsReportCode};
 use crate::codes::{MEMORY, NOT_UTF8, OK, ROOM, index_code};
 use crate::copying::{copy_first, copy_items};
 use crate::held::HeldPattern;
-use crate::lines::{Line, count_lines, first_line, list_lines};
-use crate::reports::{Input, style_of};
+use crate::lines::{LineBounds, count_lines, first_line, list_lines};
+use crate::reports::{GrepInput, style_of};
 use cs_index::Index;
 use cs_match::{Cache, Matcher, Program};
 use cs_search::{Printer, grep_text};
@@ -54,7 +54,7 @@ impl HeldPattern {
         alloc: Global,
         block: &[u8],
         from: usize,
-        line: &mut Line,
+        line: &mut LineBounds,
     ) -> i32
         ensures code { IsNextCode self.old.pattern block.now from line.old line.new result }
         ensures line { result ≡ pos 1 → IsLineFrom block.now from line.new.start line.new.end }
@@ -79,7 +79,7 @@ impl HeldPattern {
         &mut self,
         alloc: Global,
         block: &[u8],
-        lines: &mut [Line],
+        lines: &mut [LineBounds],
         count: &mut usize,
     ) -> i32
         ensures code { IsLinesCode self.old.pattern block.now lines.old lines.new
@@ -112,7 +112,7 @@ impl HeldPattern {
     pub(crate) fn report_code(
         &mut self,
         alloc: Global,
-        input: &Input<'_>,
+        input: &GrepInput<'_>,
         out: &mut [u8],
         len: &mut usize,
     ) -> i32

@@ -32,7 +32,7 @@ pub extern "C" fn cs_grep(
     };
     let code = match &mut *held {
         Held::Pattern(pattern) => {
-            pattern.report_code(alloc, &Input { name, text, style }, out, len)
+            pattern.report_code(alloc, &GrepInput { name, text, style }, out, len)
         }
         _ => MISUSE,
     };
@@ -42,7 +42,7 @@ pub extern "C" fn cs_grep(
 
 /// An input, and the options of cgrep.
 #[derive(Drop)]
-pub(crate) struct Input<'a> {
+pub(crate) struct GrepInput<'a> {
     pub(crate) name: &'a [u8],
     pub(crate) text: &'a [u8],
     pub(crate) style: u32,

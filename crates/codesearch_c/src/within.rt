@@ -7,7 +7,7 @@ ghost use Rattle.codesearch_c.specs.Budgets.{budget_of, IsNextWithinCode, IsCoun
 use crate::budgets::Budget;
 use crate::codes::MISUSE;
 use crate::held::Held;
-use crate::lines::Line;
+use crate::lines::LineBounds;
 use crate::slot::Slot;
 use std::alloc::Global;
 
@@ -19,7 +19,7 @@ pub extern "C" fn cs_pattern_next_within(
     block: &[u8],
     from: usize,
     bytes: usize,
-    line: &mut Line,
+    line: &mut LineBounds,
     reached: &mut usize,
 ) -> i32
     ensures { OnPattern slot.old.handle.value

@@ -52,7 +52,7 @@ none_both true false h = refl
 none_both false true h = refl
 none_both false false h = refl
 
--- no two first bytes stand side by side, and no byte is 0
+-- no two first bytes are neighbours, and no byte is 0
 pub short_from : (before : ℕ) (bs : List ℕ) → bit_and (firsts bs) (bit (is_first before) + 2 * firsts bs) ≡ 0 →
     mask_l (map is_zero bs) ≡ 0 → are_short before bs ≡ true
 short_from before [] apart some = refl

@@ -5,14 +5,14 @@ use Rattle.cs_match.specs.Deciding.{Decides}
 use Rattle.cs_match.specs.NoNewline.{HasNoNewline}
 use Rattle.cs_match.specs.Skipped.{AreLinesBetween}
 use Rattle.cs_match.specs.Skipping.{AreWholeLines}
-use Rattle.codesearch_c.specs.declared.lines.Line.{Line}
+use Rattle.codesearch_c.specs.declared.lines.LineBounds.{LineBounds}
 use Rattle.codesearch_c.specs.Budgets.{IsLineFrom}
 use Rattle.codesearch_c.proofs.MatchingLineLemmas.{first_match, no_match, none_beyond}
 use Rattle.codesearch_c.proofs.BudgetLemmas.{no_lines, lines_on, line_after, line_at_end}
 use Rattle.codesearch_c.proofs.lines.first_line.Goals as goal
 
 -- a last line without a newline
-ends_block : (block : List ℕ) (from start : ℕ) (found : Option Line) → AreLinesBetween block from start →
+ends_block : (block : List ℕ) (from start : ℕ) (found : Option LineBounds) → AreLinesBetween block from start →
     HasNoNewline (drop start block) →
     IfSome found (λ line. (start < length block) × (line.end ≡ length block) × (line.start ≡ start)) →
     IfSome found (λ line. IsLineFrom block from line.start line.end)

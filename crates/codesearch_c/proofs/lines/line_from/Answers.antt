@@ -1,13 +1,13 @@
 use Rattle.std.proofs.Common.{◌≡◌, ◌+◌, ◌-◌, ◌<◌, ◌≤◌, ℕ, List, [], ◌∷◌, length, take, drop, Option, Some, None, IfSome, MatchOption, sym, subst, arith, length-take}
 use Rattle.cs_match.specs.Deciding.{Decides}
 use Rattle.cs_match.proofs.WholeLineLemmas.{whole_drop}
-use Rattle.codesearch_c.specs.declared.lines.Line.{Line}
+use Rattle.codesearch_c.specs.declared.lines.LineBounds.{LineBounds}
 use Rattle.codesearch_c.specs.MatchingLines.{matching_lines}
 use Rattle.codesearch_c.proofs.MatchingLineLemmas.{first_match, no_match, part_from}
 use Rattle.codesearch_c.proofs.lines.line_from.Goals as goal
 
 -- a last line ends with its block
-last_order : (found : Option Line) (from low size : ℕ) → from ≤ low →
+last_order : (found : Option LineBounds) (from low size : ℕ) → from ≤ low →
     IfSome found (λ line. (low < size) × (line.end ≡ size) × (line.start ≡ low)) →
     IfSome found (λ line. (from ≤ line.end) × (line.end ≤ size))
 last_order None from low size on last = tt
@@ -40,7 +40,7 @@ pub returns-in-None-clause-found : goal.returns-in-None-clause-found
 returns-in-None-clause-found c = λ has_match decides.
     let block = c.args.block.now in
     let rest = whole_drop c.args.from (take c.args.whole block) c.requires.whole in
-    subst (λ (found : List Line). MatchOption c.last_line-in-None.result (found ≡ [])
+    subst (λ (found : List LineBounds). MatchOption c.last_line-in-None.result (found ≡ [])
     (λ line. found ≡ line ∷ matching_lines has_match block (line.end + 1)))
     (sym (no_match has_match block c.args.whole c.requires.within c.args.from (omega arith) rest
     (c.in-None.ensures.none has_match decides)))

@@ -1,11 +1,11 @@
 -- Each line has a list of all its matches: so a search has a finding.
-use Rattle.std.proofs.Common.{◌≡◌, ℕ, zero, suc, ◌+◌, ◌<◌, ◌≤◌, ◌⊎◌, inl, inr, Bool, true, false, List, [], ◌∷◌, length, IsTrue, ◌↔◌, refl, sym, ap, subst, ◌∙◌, arith}
+use Rattle.std.proofs.Common.{◌≡◌, ℕ, zero, suc, ◌+◌, ◌<◌, ◌≤◌, ◌⊎◌, inl, inr, Bool, true, false, List, [], ◌∷◌, length, IsTrue, ◌↔◌, refl, sym, subst, ◌∙◌, arith}
 use Rattle.std.proofs.lemmas.Bool.{cases_lt, false≢true}
 use Rattle.cs_syntax.specs.Matching.{Tree, MatchesSpan, HasMatch}
 use Rattle.cs_match.specs.Glushkov.{IsExpanded}
 use Rattle.cs_match.specs.Passes.{PassesFindEnds, ends_in}
 use Rattle.cs_match.specs.Span.{AreSpansFrom, HasNoMatchOf, IsFirstOf, IsMatchOf, IsWholeWord}
-use Rattle.cs_project.specs.Findings.{Finding, HasFinding, HasWord, IsFoundBy, Matches, Tests}
+use Rattle.cs_project.specs.Findings.{HasFinding, HasWord}
 use Rattle.cs_project.specs.Forms.{Span}
 use Rattle.cs_project.specs.declared.search.Search.{Search}
 

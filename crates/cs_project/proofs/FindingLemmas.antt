@@ -1,5 +1,5 @@
 -- What a search finds.
-use Rattle.std.proofs.Common.{◌≡◌, ◌-◌, ℕ, Bool, true, false, List, Option, Some, None, IsTrue, ◌↔◌, MatchOption, get_or, refl, sym, ap, subst, ◌∙◌}
+use Rattle.std.proofs.Common.{◌≡◌, ℕ, Bool, true, false, List, Option, Some, None, IsTrue, ◌↔◌, MatchOption, get_or, refl, sym, subst, ◌∙◌}
 use Rattle.std.specs.Prelude.{is_some}
 use Rattle.std.proofs.lemmas.Bool.{false≢true}
 use Rattle.cs_syntax.specs.Matching.{Tree, HasMatch}
@@ -7,7 +7,7 @@ use Rattle.cs_match.specs.Deciding.{Decides}
 use Rattle.cs_match.specs.Skipping.{NoneMatch}
 use Rattle.cs_match.specs.Span.{HasNoMatchOf, IsFirstOf, AreSpansFrom}
 use Rattle.cs_match.specs.declared.spans.Span.{Span}
-use Rattle.cs_project.specs.Findings.{Finding, HasWord, Matches, Tests, IsFoundBy, AreSpansBy, KeepsSearch}
+use Rattle.cs_project.specs.Findings.{Finding, HasWord, Matches, Tests, IsFoundBy, KeepsSearch}
 use Rattle.cs_project.specs.declared.search.Search.{Search}
 
 -- the search for a whole word

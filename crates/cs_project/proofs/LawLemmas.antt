@@ -1,5 +1,5 @@
 -- Texts one after another.
-use Rattle.std.proofs.Common.{◌≡◌, ℕ, Bool, true, false, List, [], ◌∷◌, ◌++◌, nat_lt, refl, sym, ap, ◌∙◌, append_assoc, append-nil}
+use Rattle.std.proofs.Common.{◌≡◌, ℕ, true, List, [], ◌∷◌, ◌++◌, nat_lt, refl, sym, ap, ◌∙◌, append_assoc, append-nil}
 use Rattle.cs_project.specs.Findings.{Finding}
 use Rattle.cs_project.specs.Shown.{count_of, following, has_groups, joined, line_groups, text_rows}
 use Rattle.cs_project.specs.declared.form.ShowOptions.{ShowOptions}

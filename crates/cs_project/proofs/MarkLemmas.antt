@@ -1,5 +1,5 @@
 -- Lines of a text are shown if and only if one is marked.
-use Rattle.std.proofs.Common.{◌≡◌, ℕ, zero, suc, ◌+◌, Bool, true, false, ◌&&◌, cond, nat_lt, min, List, [], ◌∷◌, ◌++◌, length, Option, None, Some, refl, sym, ap, ◌∙◌, arith}
+use Rattle.std.proofs.Common.{◌≡◌, ℕ, ◌+◌, Bool, true, false, ◌&&◌, cond, nat_lt, List, [], ◌∷◌, ◌++◌, length, Option, None, Some, refl, sym, ap, ◌∙◌, arith}
 use Rattle.std.proofs.lemmas.Bool.Decides.{nat_tests}
 use Rattle.std.proofs.lemmas.Bool.{false≢true}
 use Rattle.std.proofs.lemmas.List.Sums.{sum_by-cons}
@@ -8,10 +8,10 @@ use Rattle.cs_match.specs.Lines.{lines}
 use Rattle.cs_project.specs.Contexts.{Row, row_at, is_open, one_less}
 use Rattle.cs_project.specs.Findings.{Finding}
 use Rattle.cs_project.specs.Scans.{last_rows, scan_rows}
-use Rattle.cs_project.specs.Shown.{at_most, text_rows, count_of, is_wanted, line_groups, has_groups}
+use Rattle.cs_project.specs.Shown.{at_most, text_rows, count_of, is_wanted}
 use Rattle.cs_project.specs.declared.form.ShowOptions.{ShowOptions}
 use Rattle.cs_project.proofs.ScanLemmas.{scan_at, rows_are_scanned}
-use Rattle.cs_project.proofs.TextLemmas.{has_rows, has_by}
+use Rattle.cs_project.proofs.TextLemmas.{has_rows}
 
 has_after : (a : List Row) (row : Row) (b : List Row) → has_rows (a ++ row ∷ b) ≡ true
 has_after [] row b = refl

@@ -1,9 +1,8 @@
 -- The groups of rows, joined, are the rows one after another, with what is printed before each.
-use Rattle.std.proofs.Common.{◌≡◌, ℕ, zero, suc, ◌+◌, ◌-◌, ◌<◌, ◌⊎◌, inl, inr, take, drop, Bool, true, false, cond, nat_eq, List, [], ◌∷◌, ◌++◌, length, map, refl, sym, ap, ◌∙◌, arith, append_assoc, append-nil}
+use Rattle.std.proofs.Common.{◌≡◌, ℕ, zero, suc, ◌+◌, ◌-◌, ◌<◌, ◌⊎◌, inl, inr, take, drop, Bool, true, false, cond, nat_eq, List, [], ◌∷◌, ◌++◌, map, refl, sym, ap, ◌∙◌, arith, append_assoc, append-nil}
 use Rattle.std.specs.List.{flat_map}
-use Rattle.cs_project.specs.Contexts.{Row, row_at, with_row, groups_of}
+use Rattle.cs_project.specs.Contexts.{Row, with_row, groups_of}
 use Rattle.cs_project.specs.Shown.{joined}
-use Rattle.cs_project.specs.Scans.{rows_at}
 use Rattle.cs_project.specs.Spacing.{Progress, before_row, spaced, printed}
 
 -- a row begins the first group

@@ -1,5 +1,5 @@
 -- What the options of `cs` ask for: the switches one after another, then what they mean in their surroundings.
-use Rattle.std.specs.Prelude.{ℕ, Bool, true, false, ◌||◌, ◌&&◌, not, Option, Some, None}
+use Rattle.std.specs.Prelude.{Bool, true, false, ◌||◌, ◌&&◌, not, Option, Some}
 use Rattle.std.specs.Option.{unwrap_or, option_or}
 use Rattle.cs_project.specs.declared.form.LineForm.{LineForm}
 use Rattle.cs_project.specs.declared.form.Mode.{Mode}

@@ -3,7 +3,6 @@ use Rattle.std.specs.Prelude.{ℕ, ◌≡◌, ◌≤◌, ◌+◌, ◌-◌, Bool,
 use Rattle.cs_match.specs.Lines.{lines, terminated_lines}
 use Rattle.cs_match.specs.NoNewline.{HasNoNewline}
 use Rattle.cs_match.specs.Skipping.{AreWholeLines}
-use Rattle.cs_project.specs.Contexts.{Row}
 use Rattle.cs_project.specs.Findings.{Finding, IsFoundBy}
 use Rattle.cs_project.specs.Scans.{Fits, rows_by}
 use Rattle.cs_project.specs.Spacing.{printed_by, progress_of}
@@ -17,6 +16,10 @@ use Rattle.cs_project.specs.declared.stream.Held.{Held}
 use Rattle.cs_project.specs.declared.stream.Ended.TheVariants.{Whole, Failed, TooLong}
 use Rattle.cs_project.specs.declared.stream.Streamed.{Streamed}
 use Rattle.cs_tree.specs.StreamModels.{SourceModel}
+
+-- The last newline of a text is before `end`, which is at or after `from`.
+abbrev pub EndsAt : List ℕ → ℕ → ℕ → Type 0
+EndsAt text from end = (from ≤ end) × (end ≤ length text) × AreWholeLines (take end text) × HasNoNewline (drop end text)
 
 -- The bytes before `from` are lines that are held. Those from there to `scanned` are no whole line.
 pub record IsReady (rows : Rows) (text : List ℕ) (from scanned : ℕ) : Type 0 where

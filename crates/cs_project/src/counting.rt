@@ -85,7 +85,8 @@ pub(crate) fn stream_count<R: Source>(
     search: &mut Search<'_>,
 ) -> Result<Counted, AllocError>
     requires room { length window.old.text.items + window.old.left < 2 ^ 63 }
-    ensures count { IfOk result (CountsText search.old options.now most (R.model input.old) window.old.text.items) }
+    ensures count { IfOk result (CountsText search.old options.now most (R.model input.old)
+        window.old.text.items) }
     ensures failed { IfOk result (λ counted.
         R.failed input.new ≡ count_if (is_failed counted.ended) (R.failed input.old)) }
     ensures same { KeepsSearch search.old search.new }

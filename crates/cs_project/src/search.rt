@@ -74,7 +74,8 @@ impl<'a> Search<'a> {
 
     /// Whether a line that has a match has one that is wanted: with `-w` a whole word.
     fn is_wanted(&mut self, line: &[u8]) -> bool
-        ensures found { IsTrue result ↔ (self.old.whole ≡ true → HasWord self.old.finder.tree line.now) }
+        ensures found { IsTrue result
+            ↔ (self.old.whole ≡ true → HasWord self.old.finder.tree line.now) }
         ensures same { KeepsSearch self.old self.new }
     {
         if self.whole {
@@ -102,7 +103,8 @@ impl<'a> Search<'a> {
         requires within { from ≤ length block.now }
         requires whole { AreWholeLines (drop from block.now) }
         ensures line { IfSome result (λ line. IsLineAfter block.now from line.start line.end) }
-        ensures next { (test : List ℕ → Bool) → Tests test self.old → IsNext test block.now from result }
+        ensures next { (test : List ℕ → Bool) → Tests test self.old →
+            IsNext test block.now from result }
         ensures same { KeepsSearch self.old self.new }
     {
         matching_is_decidable();

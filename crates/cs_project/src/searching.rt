@@ -113,8 +113,8 @@ impl Rows<'_> {
         ensures fits { IfOk result (λ held. Fits (terminated_lines (drop held block.now)) self.new.left) }
         ensures room { IfOk result (λ held. self.new.number ≤ self.old.number + held) }
         ensures page { OnOk result (self.new.page ≡ self.old.page) }
-        ensures rows { IfOk result (λ held. Searches search.old search.new self.old self.new (O.given out.old)
-            (O.given out.new)
+        ensures rows { IfOk result (λ held. Searches search.old search.new self.old self.new
+            (O.given out.old) (O.given out.new)
             (terminated_lines (take from block.now)) (terminated_lines (drop from block.now))
             (terminated_lines (drop held block.now))) }
         ensures same { KeepsSearch search.old search.new }

@@ -8,7 +8,7 @@ ghost use Rattle.cs_tree.specs.Failures.{count_if};
 ghost use Rattle.cs_project.specs.Findings.{KeepsSearch};
 ghost use Rattle.cs_project.specs.Scans.{Fits, SearchesLast};
 ghost use Rattle.cs_project.specs.Reads.{is_failure};
-ghost use Rattle.cs_project.specs.Streams.{IsHeld, IsReady, IsTrimmed, StreamsRows, StreamsLines, is_failed, is_whole};
+ghost use Rattle.cs_project.specs.Streams.{EndsAt, IsHeld, IsReady, IsTrimmed, StreamsRows, StreamsLines, is_failed, is_whole};
 
 use crate::lines::{last_lines, line_count};
 use crate::rows::{Page, Rows};
@@ -63,8 +63,7 @@ pub(crate) fn ended_len(text: &[u8], from: usize, scanned: usize) -> Option<usiz
     requires low { from ≤ scanned }
     requires high { scanned ≤ length text.now }
     requires scanned { HasNoNewline (slice_range text.now from scanned) }
-    ensures { MatchOption result (HasNoNewline (drop from text.now)) (λ end. (from ≤ end) × (end ≤ length text.now)
-        × AreWholeLines (take end text.now) × HasNoNewline (drop end text.now)) }
+    ensures { MatchOption result (HasNoNewline (drop from text.now)) (EndsAt text.now from) }
 {
     match memrchr(b'\n', &text[scanned..]) {
         None => None,
@@ -97,8 +96,9 @@ impl Rows<'_> {
         requires ready { IsReady self.old text.now from scanned }
         requires room { self.old.number + length text.now < 2 ^ 63 }
         ensures held { IfOk result (IsHeld self.old self.new text.now) }
-        ensures rows { IfOk result (λ held. StreamsRows search.old search.new self.old self.new (O.given out.old)
-            (O.given out.new) from text.now (drop held.start text.now) (held.end - held.start)) }
+        ensures rows { IfOk result (λ held. StreamsRows search.old search.new self.old self.new
+            (O.given out.old) (O.given out.new) from text.now
+            (drop held.start text.now) (held.end - held.start)) }
         ensures same { KeepsSearch search.old search.new }
     {
         let Some(end) = ended_len(text, from, scanned) else {
@@ -128,7 +128,8 @@ impl Rows<'_> {
         requires room { self.old.number + length window.old.text.items + window.old.left < 2 ^ 63 }
         ensures ready { IfOk result (λ from'. IsReady self.new window.new.text.items from'
             (length window.new.text.items)) }
-        ensures room { OnOk result (self.new.number + length window.new.text.items + window.new.left < 2 ^ 63) }
+        ensures room { OnOk result (self.new.number + length window.new.text.items
+            + window.new.left < 2 ^ 63) }
         ensures rows { IfOk result (StreamsRows search.old search.new self.old self.new (O.given out.old)
             (O.given out.new) from window.old.text.items window.new.text.items) }
         ensures left { window.new.left ≡ window.old.left }

@@ -33,7 +33,7 @@ pieces-init g c = record {
   keeps = g.met.R.Source.keeps_refl c.args.input.now;
 }
 
--- so many of the wanted lines were counted
+-- the lines that are wanted, after so many of them were counted
 abbrev Counts : ShowOptions → Search → List ℕ → ℕ → List ℕ → List ℕ → List ℕ → Type 0
 Counts options search first count text all rest = (finding : Finding) → Tests finding.has_match search →
     wanted_count options finding (first ++ all) ≡ count + wanted_count options finding (text ++ rest)

@@ -1,4 +1,4 @@
-use Rattle.std.proofs.Common.{◌≡◌, ◌+◌, ◌&&◌, not, true, false, ℕ, List, length, sym, ap, subst, ◌∙◌, arith}
+use Rattle.std.proofs.Common.{◌&&◌, not, false, ℕ, List, sym, ap, ◌∙◌}
 use Rattle.cs_project.specs.Shown.{is_binary}
 use Rattle.cs_project.proofs.SourceLemmas.{file_printed, if_ok, left_out, unread_file}
 use Rattle.cs_project.proofs.source.print_file.Goals as goal

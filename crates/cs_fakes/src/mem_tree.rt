@@ -13,6 +13,7 @@ ghost use Rattle.cs_fakes.specs.MemTrees.{mem_snapshot, left_open, mem_tree_step
 ghost use Rattle.cs_tree.specs.MemStreams.{source_step};
 ghost use Rattle.cs_tree.specs.ReadCounts.{after_lookup, after_open, after_read};
 ghost use Rattle.cs_tree.specs.Trees.{Answers, RequestsPath, OpensFile, TreeReadGives, IsReadFault, is_tree_failure, kind_of, listing_of, listing_value, listing_names};
+ghost use Rattle.cs_tree.specs.Looks.{kind_seen};
 ghost use Rattle.cs_fakes.specs.declared.mem_tree.PutFault.TheVariants as put;
 
 use crate::mem_items::{
@@ -22,7 +23,8 @@ use crate::mem_items::{
 use crate::paths::split_name;
 use crate::tree_types::{MemEntry, MemItem, MemTree, Names};
 use cs_tree::{
-    Kind, Listing, MemSource, Source, Tree, TreeFault, counted_answer, has_nul, is_clean,
+    Kind, Listing, Look, MemSource, Seen, Source, Tree, TreeFault, counted_answer, has_nul,
+    is_clean,
 };
 use std::alloc::{AllocError, AllocFailed, Global};
 use thiserror::Error;
@@ -324,6 +326,26 @@ impl Tree for MemTree {
 
     fn failures(&self) -> u64 {
         self.failed
+    }
+}
+
+impl Look for MemTree {
+    /// A tree in memory has no stamps. Allocates nothing.
+    fn look(&mut self, path: &str) -> Result<Seen, TreeFault>
+        ensures answer { Answers kind_seen (Some (mem_snapshot self.old)) kind_of path.now result }
+        ensures stamp { IfOk result (λ seen. seen.stamp ≡ None) }
+        ensures keeps { Some (mem_snapshot self.new) ≡ Some (mem_snapshot self.old) }
+        ensures open { left_open self.new ≡ left_open self.old }
+        ensures step { mem_tree_step self.new ≡ mem_tree_step self.old }
+        ensures requested { RequestsPath (⟦<MemTree as Tree>⟧.longest_requested self.old)
+            (⟦<MemTree as Tree>⟧.longest_requested self.new) path.now }
+        ensures counts { Some (mem_read_counts self.new)
+            ≡ Some (after_lookup (mem_read_counts self.old)) }
+        ensures failed { ⟦<MemTree as Tree>⟧.failed self.new
+            ≡ count_after is_tree_failure result (⟦<MemTree as Tree>⟧.failed self.old) }
+    {
+        let kind = self.kind(path)?;
+        Ok(Seen { kind, stamp: None })
     }
 }
 

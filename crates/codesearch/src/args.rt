@@ -6,8 +6,8 @@ use std::rt::Env;
 /// The initial buffer size for an argument, in bytes.
 const FIRST_CAPACITY: usize = 256;
 
-/// Reads the arguments after the program's name into `args`, up to the first that is not UTF-8. Returns whether there is
-/// such a one.
+/// Reads the arguments after the program's name into `args`, up to the first that is not UTF-8.
+/// Returns whether there is such a one.
 pub(crate) fn read_args<E: Env>(
     alloc: Global,
     env: &E,

@@ -25,7 +25,8 @@ impl<'a> Call<'a> {
     ///
     /// # Errors
     ///
-    /// In this order: neither the program nor the first argument has the name of a tool, an argument is not UTF-8, and `cindex` has no current folder.
+    /// In this order: neither the program nor the first argument has the name of a tool, an
+    /// argument is not UTF-8, and `cindex` has no current folder.
     pub(crate) fn read(alloc: Global, given: &'a Given) -> Result<Call<'a>, ProgramFault<'a>>
         ensures call { IfOk result (λ call. (call.given.now ≡ given.now) × IsCall call) }
         ensures refused { IfErr result
@@ -71,8 +72,8 @@ impl<'a> Call<'a> {
     }
 }
 
-/// The tool that is called, and its arguments. If the program is run by the name of a tool, as through a link, that tool is
-/// called, otherwise the one that the first argument names.
+/// The tool that is called, and its arguments. If the program is run by the name of a tool, as
+/// through a link, that tool is called, otherwise the one that the first argument names.
 fn called(given: &Given) -> Option<(Tool, &[String])>
     ensures { MatchOption result (tool_of given.now ≡ None) (λ call. (tool_of given.now ≡ Some call.0)
         × (map string_bytes call.1.now ≡ tool_args given.now)) }

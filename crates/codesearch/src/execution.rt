@@ -14,7 +14,8 @@ use cs_args::{Job, Tool};
 use cs_storage::{IndexFolder, IndexUpdate, NewFile, StorageFault, begin_update, finish_update};
 use cs_tree::{Sink, Source, Tree};
 
-/// Does what the arguments of `cgrep` mean. It opens no index file, so what is said of the file holds in any folder.
+/// Does what the arguments of `cgrep` mean. It opens no index file, so what is said of the file
+/// holds in any folder.
 pub(crate) fn execute_cgrep<'a, T: Tree, R: Source, O: Sink, E: Sink>(
     call: &'a Call<'a>,
     world: &mut World<T, R, O, E>,
@@ -34,9 +35,9 @@ pub(crate) fn execute_cgrep<'a, T: Tree, R: Source, O: Sink, E: Sink>(
     }
 }
 
-/// Does what the arguments of a tool with an index mean: opens the index file, claims it if the job may update it, does
-/// the job, and updates the file. So a second run, and a folder that cannot be written, are found before the job. The
-/// line of an error is still to be printed.
+/// Does what the arguments of a tool with an index mean: opens the index file, claims it if the job
+/// may update it, does the job, and updates the file. So a second run, and a folder that cannot be
+/// written, are found before the job. The line of an error is still to be printed.
 pub(crate) fn execute<'a, F: IndexFolder, T: Tree, R: Source, O: Sink, E: Sink>(
     call: &'a Call<'a>,
     folder: &mut F,

@@ -1,19 +1,20 @@
-//! The program: its arguments, the standard streams, the disk, the index file and the exit status. What it does is
-//! `Call::read` and then `execute`, or `execute_cgrep` for `cgrep`, over any implementation of these. Read
-//! `specs/Program.antt` and then `specs/Execution.antt` first.
+//! The program: its arguments, the standard streams, the disk, the index file and the exit status.
+//! What it does is `Call::read` and then `execute`, or `execute_cgrep` for `cgrep`, over any
+//! implementation of these. Read `specs/Program.antt` and then `specs/Execution.antt` first.
 //!
-//! `Call::read` reads the arguments, once: a tool, which is the one whose name the program is run by, as
-//! through a link, or else the one that the first argument names, and what its arguments parse as. `execute`
-//! does that over any folder of the index file, tree, source and sinks (`specs/Execution.antt`): it opens the
-//! file, calls `begin_update` for a job that may change it, then `run`, and at the end `finish_update`. `run`
-//! works over the opened file, and appends a new index to `FILE~` (`NewFile`) as it is made; the tree, the
-//! source and the sinks travel together as a `World`. `cgrep` opens no index file: `execute_cgrep` is over a
-//! `World` alone. They return an `Outcome`: a job that is done, with the update of the index file; the status
-//! of a search; or an error, whose line `Outcome::report` prints. An error carries no update, so that it leaves
-//! the index file alone.
+//! `Call::read` reads the arguments, once: a tool, which is the one whose name the program is run
+//! by, as through a link, or else the one that the first argument names, and what its arguments
+//! parse as. `execute` does that over any folder of the index file, tree, source and sinks
+//! (`specs/Execution.antt`): it opens the file, calls `begin_update` for a job that may change it,
+//! then `run`, and at the end `finish_update`. `run` works over the opened file, and appends a new
+//! index to `FILE~` (`NewFile`) as it is made; the tree, the source and the sinks travel together
+//! as a `World`. `cgrep` opens no index file: `execute_cgrep` is over a `World` alone. They return
+//! an `Outcome`: a job that is done, with the update of the index file; the status of a search; or
+//! an error, whose line `Outcome::report` prints. An error carries no update, so that it leaves the
+//! index file alone.
 //!
-//! `main` gives them the arguments, the disk, the standard streams (`disk.rt`) and the `DiskFolder` of
-//! `cs_storage`, whose file is opened once as a `DiskStore`.
+//! `main` gives them the arguments, the disk, the standard streams (`disk.rt`) and the `DiskFolder`
+//! of `cs_storage`, whose file is opened once as a `DiskStore`.
 #![tactic(auto)]
 
 ghost use Rattle.std.specs.Prelude.{◌≡◌};
@@ -83,7 +84,8 @@ fn current_folder(rt: &HostRuntime) -> Result<Option<String>, AllocError> {
     }
 }
 
-/// Does what the arguments mean over the disk and the standard streams, and returns the exit status.
+/// Does what the arguments mean over the disk and the standard streams, and returns the exit
+/// status.
 #[inline(never)]
 fn execute_on_disk(rt: &HostRuntime, call: &Call<'_>) -> Result<u8, AllocError>
     requires { IsCall call.now }
@@ -103,7 +105,8 @@ fn execute_on_disk(rt: &HostRuntime, call: &Call<'_>) -> Result<u8, AllocError>
     Ok(end(rt, &mut world.out, &outcome))
 }
 
-/// Ends a run: prints what is left in the buffer of standard output, and the line of an error. Returns the exit status.
+/// Ends a run: prints what is left in the buffer of standard output, and the line of an error.
+/// Returns the exit status.
 fn end<O: Sink>(rt: &HostRuntime, out: &mut O, outcome: &Outcome<'_>) -> u8
     ensures { result ≡ exit_status outcome.now }
 {
@@ -112,8 +115,8 @@ fn end<O: Sink>(rt: &HostRuntime, out: &mut O, outcome: &Outcome<'_>) -> u8
     report(rt, outcome)
 }
 
-/// Prints the line of an error, and returns the exit status. If the line cannot be printed, there is nothing left to
-/// report that on.
+/// Prints the line of an error, and returns the exit status. If the line cannot be printed, there
+/// is nothing left to report that on.
 fn report(rt: &HostRuntime, outcome: &Outcome<'_>) -> u8
     ensures { result ≡ exit_status outcome.now }
 {

@@ -1,4 +1,5 @@
-// How a call of the program ends: its exit status, the update of the index file, and the line of an error.
+// How a call of the program ends: its exit status, the update of the index file, and the line of an
+// error.
 ghost use Rattle.std.specs.Prelude.{◌≡◌, IfOk, string_bytes};
 ghost use Rattle.cs_tree.specs.FailureCount.{count_after};
 ghost use Rattle.cs_tree.specs.TakesPrefix.{EndsAfter};
@@ -24,7 +25,8 @@ pub(crate) enum ProgramFault<'a> {
     Unreadable(&'a str),
     /// The index file with this name cannot be written or removed.
     Unwritable(&'a str),
-    /// The index file with the first name cannot be written, because of a file with the second name, at FILE~.
+    /// The index file with the first name cannot be written, because of a file with the second
+    /// name, at FILE~.
     Leftover(&'a str, &'a str),
     /// No more files can be opened.
     Descriptors,
@@ -46,7 +48,8 @@ impl<'a> ProgramFault<'a> {
         }
     }
 
-    /// The index file with this name cannot be claimed, written or removed; `temp` is the name of FILE~.
+    /// The index file with this name cannot be claimed, written or removed; `temp` is the name of
+    /// FILE~.
     pub(crate) fn of_writing(file: &'a str, temp: &'a str, fault: StorageFault) -> ProgramFault<'a>
         ensures { fault_line result ≡ writing_line file.now temp.now fault }
     {
@@ -71,7 +74,8 @@ pub(crate) enum Outcome<'a> {
 }
 
 impl Outcome<'_> {
-    /// The exit status: 0 if some line matched or a job is done, 1 if no line matched, 2 after an error.
+    /// The exit status: 0 if some line matched or a job is done, 1 if no line matched, 2 after an
+    /// error.
     pub(crate) fn status(&self) -> u8
         ensures { result ≡ exit_status self.now }
     {

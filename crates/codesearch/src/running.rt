@@ -53,8 +53,8 @@ impl<T: Drop, R: Drop, O: Drop, E: Drop> Drop for World<T, R, O, E> {
     }
 }
 
-/// Does what the arguments mean. Nothing but the job of the tool is printed; the line of an error is still to be
-/// printed, and the index file to be updated. A new index goes to `new`.
+/// Does what the arguments mean. Nothing but the job of the tool is printed; the line of an error
+/// is still to be printed, and the index file to be updated. A new index goes to `new`.
 pub(crate) fn run<'a, S: Store, T: Tree, R: Source, O: Sink, E: Sink, W: Output>(
     call: &'a Call<'a>,
     file: &mut FoundFile<'a, S>,
@@ -195,8 +195,8 @@ fn searched<'a>(tool: Tool, answer: Result<Status, ToolFault>) -> Outcome<'a>
     }
 }
 
-/// A job of `cindex`. Of an index in a store each posting list is read at most once, and none for `-list` and `-reset`.
-/// A new index goes to `new`.
+/// A job of `cindex`. Of an index in a store each posting list is read at most once, and none for
+/// `-list` and `-reset`. A new index goes to `new`.
 fn run_index<'a, S: Store, T: Tree, R: Source, O: Sink, E: Sink, W: Output>(
     job: &'a IndexJob,
     index: &mut Option<S>,

@@ -10,9 +10,10 @@ const FIRST_FILE: i32 = 3;
 /// The error of the system for a number that is not open (EBADF).
 const NOT_OPEN: i32 = 9;
 
-/// Opens `/` under each number of a standard stream that is closed, and returns what is to be kept open during the run:
-/// the system gives a file the lowest free number, so without this the index could be a standard output. A folder can be
-/// neither read nor written, so the use of a closed stream fails.
+/// Opens `/` under each number of a standard stream that is closed, and returns what is to be kept
+/// open during the run: the system gives a file the lowest free number, so without this the index
+/// could be a standard output. A folder can be neither read nor written, so the use of a closed
+/// stream fails.
 ///
 /// # Errors
 ///

@@ -84,7 +84,8 @@ fn split_paths(alloc: Global, text: &str) -> Result<Vec<String>, AllocError>
     Ok(paths)
 }
 
-/// Adds a name with the trigrams of its text: 0, the number of the reason to leave the text out, or a code.
+/// Adds a name with the trigrams of its text: 0, the number of the reason to leave the text out, or
+/// a code.
 #[unsafe(no_mangle)]
 pub extern "C" fn cs_builder_add(alloc: Global, slot: &mut Slot, name: &[u8], text: &[u8]) -> i32
     ensures { OnBuilder slot.old.handle.value

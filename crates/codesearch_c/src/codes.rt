@@ -81,8 +81,8 @@ pub(crate) fn build_code(fault: BuildFault) -> i32
     }
 }
 
-/// The code of a merge's error: -80 and below, in the order of the variants, or the code of the same error of an index
-/// or of a builder.
+/// The code of a merge's error: -80 and below, in the order of the variants, or the code of the
+/// same error of an index or of a builder.
 pub(crate) fn merge_code(fault: MergeFault) -> i32
     ensures { result ≡ merge_code fault }
 {

@@ -7,8 +7,9 @@ use cs_syntax::Pattern;
 use cs_trigram::{Query, Scanner};
 use std::marker::Model;
 
-/// A pattern, its query and its program. The cache is that of the last matcher; it is made at the first match. The pass is
-/// the memory of a finder, made with the program; only a call takes it out. Contracts see the pattern and the query.
+/// A pattern, its query and its program. The cache is that of the last matcher; it is made at the
+/// first match. The pass is the memory of a finder, made with the program; only a call takes it
+/// out. Contracts see the pattern and the query.
 pub struct HeldPattern {
     pub(crate) pattern: Pattern,
     pub(crate) query: Query,
@@ -17,7 +18,8 @@ pub struct HeldPattern {
     pub(crate) pass: Option<Pass>,
 }
 
-// A body that owns a held pattern or builder drops it by a call. A derived `drop` would stand there with each field.
+// A body that owns a held pattern or builder drops it by a call. A derived `drop` would stand there
+// with each field.
 impl Drop for HeldPattern {
     fn drop(self) {
         let HeldPattern {

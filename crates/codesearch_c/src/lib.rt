@@ -1,19 +1,21 @@
-//! The library for callers in C and Rust (`include/codesearch.h`). An index is bytes of the caller's own; a pattern, a
-//! builder and bytes that the library made are held in slots of the caller's own. Each export calls functions of the
-//! crates below, and states in their words what it answers and leaves. Read `specs/Slots.antt` first, then
-//! `specs/Codes.antt`, `specs/Copies.antt`, `specs/MatchingLines.antt`, `specs/Patterns.antt`, `specs/Budgets.antt`, `specs/Spans.antt`,
+//! The library for callers in C and Rust (`include/codesearch.h`). An index is bytes of the
+//! caller's own; a pattern, a builder and bytes that the library made are held in slots of the
+//! caller's own. Each export calls functions of the crates below, and states in their words what it
+//! answers and leaves. Read `specs/Slots.antt` first, then `specs/Codes.antt`, `specs/Copies.antt`,
+//! `specs/MatchingLines.antt`, `specs/Patterns.antt`, `specs/Budgets.antt`, `specs/Spans.antt`,
 //! `specs/Reports.antt`, `specs/Building.antt` and `specs/Merging.antt`.
 //!
-//! An index is bytes of the caller, opened anew in constant time by each call (`Index::reopen`), whose contract
-//! requires that they have opened before; only a merge, which reads all of both indexes, opens any bytes.
-//! Patterns, builders and bytes that the library made are in *slots*: memory of the caller with a pointer and a
-//! flag. A `Slot` wraps a `Handle`, whose ghost field is the optional value that it owns, and the flag says
-//! whether there is one, so that each call answers a slot that is used wrongly. A handle is made from the parts
-//! of a box and taken apart into them; these five functions reach raw pointers and are proved by hand, and no
-//! other function of the crate is. All slots hold one enum, `Held`, so there is one kind of handle. A held
-//! pattern keeps the `Cache` of its matcher from one call to the next: `Matcher::resume` and
-//! `Matcher::into_cache` of `cs_match` divide a matcher into what borrows its program and what does not (as
-//! `Cache` of Rust's regex-automata).
+//! An index is bytes of the caller, opened anew in constant time by each call (`Index::reopen`),
+//! whose contract requires that they have opened before; only a merge, which reads all of both
+//! indexes, opens any bytes. Patterns, builders and bytes that the library made are in *slots*:
+//! memory of the caller with a pointer and a flag. A `Slot` wraps a `Handle`, whose ghost field is
+//! the optional value that it owns, and the flag says whether there is one, so that each call
+//! answers a slot that is used wrongly. A handle is made from the parts of a box and taken apart
+//! into them; these five functions reach raw pointers and are proved by hand, and no other function
+//! of the crate is. All slots hold one enum, `Held`, so there is one kind of handle. A held pattern
+//! keeps the `Cache` of its matcher from one call to the next: `Matcher::resume` and
+//! `Matcher::into_cache` of `cs_match` divide a matcher into what borrows its program and what does
+//! not (as `Cache` of Rust's regex-automata).
 //!
 //! What the toolchain refuses at an export, with the smallest example of each:
 //!

@@ -21,8 +21,8 @@ pub struct LineBounds {
 /// The most bytes of a part of a block, unless it is one line.
 const PART: usize = 1 << 17;
 
-/// The first matching line from an offset on. The block is searched in parts, so that a search that finds a line reads
-/// little of what is after it.
+/// The first matching line from an offset on. The block is searched in parts, so that a search that
+/// finds a line reads little of what is after it.
 pub(crate) fn first_line(matcher: &mut Matcher<'_>, block: &[u8], from: usize) -> Option<LineBounds>
     ensures found { IsFirstLine matcher.old.tree block.now from result }
     ensures line { IfSome result (λ line. IsLineFrom block.now from line.start line.end) }
@@ -61,8 +61,14 @@ fn part_end(block: &[u8], start: usize) -> Option<usize>
     }
 }
 
-/// The first matching line from an offset on in a block whose first `whole` bytes are its whole lines.
-fn line_from(matcher: &mut Matcher<'_>, block: &[u8], whole: usize, from: usize) -> Option<LineBounds>
+/// The first matching line from an offset on in a block whose first `whole` bytes are its whole
+/// lines.
+fn line_from(
+    matcher: &mut Matcher<'_>,
+    block: &[u8],
+    whole: usize,
+    from: usize,
+) -> Option<LineBounds>
     requires within { whole ≤ length block.now }
     requires whole { AreWholeLines (take whole block.now) }
     requires rest { HasNoNewline (drop whole block.now) }

@@ -12,8 +12,8 @@ use cs_index::Index;
 use cs_merge::merge;
 use std::alloc::Global;
 
-/// Fills an empty slot with the merge of an index with a newer one, which takes precedence at all names that its paths
-/// cover.
+/// Fills an empty slot with the merge of an index with a newer one, which takes precedence at all
+/// names that its paths cover.
 #[unsafe(no_mangle)]
 pub extern "C" fn cs_index_merge(alloc: Global, older: &[u8], newer: &[u8], slot: &mut Slot) -> i32
     ensures misuse { is_filled slot.old.handle.value ≡ true →

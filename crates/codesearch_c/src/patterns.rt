@@ -1,4 +1,5 @@
-// Calls over a held pattern, which answer a code. The cache of its matcher is kept from one call to the next.
+// Calls over a held pattern, which answer a code. The cache of its matcher is kept from one call to
+// the next.
 ghost use Rattle.std.specs.Prelude.{◌≡◌, pos, None, IsOk, IfOk, IfSome};
 ghost use Rattle.cs_match.specs.Cached.{IsCacheOf};
 ghost use Rattle.cs_index.specs.Opening.{opening};

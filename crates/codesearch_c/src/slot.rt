@@ -1,4 +1,5 @@
-// Slots: memory of the caller in C that owns nothing, or a box. The caller keeps the two fields as a call left them.
+// Slots: memory of the caller in C that owns nothing, or a box. The caller keeps the two fields as
+// a call left them.
 ghost use Rattle.std.specs.Prelude.{◌≡◌, Option, Some, None, IsSome, IfSome, IfNone, MatchOption};
 ghost use Rattle.codesearch_c.specs.declared.held.Held.{Held};
 ghost use Rattle.codesearch_c.specs.Slots.{slot_code, is_filled};

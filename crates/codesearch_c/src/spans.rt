@@ -129,7 +129,8 @@ pub extern "C" fn cs_pattern_find_word(
     code
 }
 
-/// The first such match from the end of another on that ends after it: 1, 0 if there is none, or a code.
+/// The first such match from the end of another on that ends after it: 1, 0 if there is none, or a
+/// code.
 #[unsafe(no_mangle)]
 pub extern "C" fn cs_pattern_find_word_after(
     alloc: Global,
@@ -155,7 +156,8 @@ pub extern "C" fn cs_pattern_find_word_after(
     code
 }
 
-/// The matches of a line that are whole words, as far as room and budget go, and how many are listed.
+/// The matches of a line that are whole words, as far as room and budget go, and how many are
+/// listed.
 #[unsafe(no_mangle)]
 pub extern "C" fn cs_pattern_word_spans(
     alloc: Global,

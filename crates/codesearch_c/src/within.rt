@@ -11,7 +11,8 @@ use crate::lines::LineBounds;
 use crate::slot::Slot;
 use std::alloc::Global;
 
-/// The first matching line of those that begin in so many bytes from an offset on: 1, 0 if there is none in the block, or a code.
+/// The first matching line of those that begin in so many bytes from an offset on: 1, 0 if there is
+/// none in the block, or a code.
 #[unsafe(no_mangle)]
 pub extern "C" fn cs_pattern_next_within(
     alloc: Global,

@@ -10,10 +10,11 @@ use cs_args::{IndexJob, Reply};
 use cs_tree::{Sink, Tree};
 use std::alloc::Global;
 
-/// Runs the jobs in order, each over its tree, and returns the index after them; `None` is no index. Each reply is
-/// the result of its job: a job that fails leaves the index unchanged, and the next job runs. Paths of the index are
-/// printed on `out`, and diagnostics of skipped paths and files on `err`. Each job that has not failed by then ends
-/// by flushing `out`, then `err`, once each, before its index is kept.
+/// Runs the jobs in order, each over its tree, and returns the index after them; `None` is no
+/// index. Each reply is the result of its job: a job that fails leaves the index unchanged, and the
+/// next job runs. Paths of the index are printed on `out`, and diagnostics of skipped paths and
+/// files on `err`. Each job that has not failed by then ends by flushing `out`, then `err`, once
+/// each, before its index is kept.
 pub fn cindex<T: Tree, O: Sink, E: Sink>(
     alloc: Global,
     old: Option<Vec<u8>>,

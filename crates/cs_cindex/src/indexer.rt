@@ -27,7 +27,8 @@ pub(crate) struct Indexer {
     builder: Builder,
 }
 
-// A body that owns an indexer drops it by a call. A derived `drop` would stand there with each field of the builder.
+// A body that owns an indexer drops it by a call. A derived `drop` would stand there with each
+// field of the builder.
 impl Drop for Indexer {
     fn drop(self) {
         let Indexer {
@@ -81,7 +82,8 @@ impl Indexer {
         })
     }
 
-    /// Reads the files at the names, adds those that are text, and prints a diagnostic for each other one.
+    /// Reads the files at the names, adds those that are text, and prints a diagnostic for each
+    /// other one.
     pub(crate) fn index_files<T: Tree, E: Sink>(
         &mut self,
         tree: &mut T,

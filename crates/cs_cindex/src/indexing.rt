@@ -19,7 +19,8 @@ struct Found {
     walked: Walked,
 }
 
-// A body that owns it drops it by a call. A derived `drop` would stand there with the loops over both lists.
+// A body that owns it drops it by a call. A derived `drop` would stand there with the loops over
+// both lists.
 impl Drop for Found {
     fn drop(self) {
         let Found { walked: _walked } = self;
@@ -28,14 +29,15 @@ impl Drop for Found {
 
 /// Sends an index of the paths and of the text files that a walk from them finds to `new`.
 ///
-/// The diagnostics go to `err`: one for each path that the walk cannot read, ascending; then, in name order, one for
-/// each file that cannot be read to its end, and with `log_skip` one for each other file that is skipped. A name that
-/// no index can store, such as one with a NUL, which no file system lists, has the line `name is not text`.
+/// The diagnostics go to `err`: one for each path that the walk cannot read, ascending; then, in
+/// name order, one for each file that cannot be read to its end, and with `log_skip` one for each
+/// other file that is skipped. A name that no index can store, such as one with a NUL, which no
+/// file system lists, has the line `name is not text`.
 ///
 /// # Errors
 ///
-/// `Write` if a diagnostic cannot be written, `TooLarge` if the index would have more than 2^32 - 1 bytes, `Memory`
-/// if an allocation fails.
+/// `Write` if a diagnostic cannot be written, `TooLarge` if the index would have more than 2^32 - 1
+/// bytes, `Memory` if an allocation fails.
 pub(crate) fn index_paths<T: Tree, W: Output, E: Sink>(
     alloc: Global,
     tree: &mut T,

@@ -64,14 +64,15 @@ fn stored<'a>(old: Option<&'a [u8]>) -> Option<MemStore<'a>>
     }
 }
 
-/// Runs a job as `cindex` does, over an old index in a store, and sends the bytes of the new index to `new`. Only the
-/// paths, names and tables of the old index are in memory. Each of its posting lists is read once, after the walk;
-/// `-list` and `-reset` read none. A job that fails may have sent any bytes.
+/// Runs a job as `cindex` does, over an old index in a store, and sends the bytes of the new index
+/// to `new`. Only the paths, names and tables of the old index are in memory. Each of its posting
+/// lists is read once, after the walk; `-list` and `-reset` read none. A job that fails may have
+/// sent any bytes.
 ///
 /// # Errors
 ///
-/// The outer result is that of the store. If a read of it fails, nothing was printed, or all diagnostics of the walk; the
-/// outputs are not flushed then.
+/// The outer result is that of the store. If a read of it fails, nothing was printed, or all
+/// diagnostics of the walk; the outputs are not flushed then.
 pub fn cindex_stored<S: Store, T: Tree, W: Output, O: Sink, E: Sink>(
     call: JobCall<'_>,
     old: &mut Option<S>,

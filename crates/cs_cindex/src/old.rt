@@ -33,8 +33,8 @@ pub(crate) fn open_old<S: Store>(
     }
 }
 
-/// The tables of an index that can be a base: its paths are normalized, and its names are distinct. Allocates only if the
-/// names do not ascend.
+/// The tables of an index that can be a base: its paths are normalized, and its names are distinct.
+/// Allocates only if the names do not ascend.
 fn tested(
     alloc: Global,
     opened: Result<StoredTables, IndexFault>,

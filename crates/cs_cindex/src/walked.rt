@@ -84,8 +84,8 @@ fn new_index<T: Tree, W: Output, E: Sink>(
     Ok(index)
 }
 
-/// Sends the base index, merged with what the job finds below its cleaned paths, or, if it has none, below those of the
-/// base index.
+/// Sends the base index, merged with what the job finds below its cleaned paths, or, if it has
+/// none, below those of the base index.
 fn extended_index<S: Store, T: Tree, W: Output, E: Sink>(
     call: JobCall<'_>,
     store: &mut S,
@@ -115,7 +115,8 @@ fn extended_index<S: Store, T: Tree, W: Output, E: Sink>(
     merge_old(alloc, store, &tables, &newer, new)
 }
 
-/// The job's own index: that of what it finds below its cleaned paths, or, if it has none, below those of the base index.
+/// The job's own index: that of what it finds below its cleaned paths, or, if it has none, below
+/// those of the base index.
 fn own_index<T: Tree, E: Sink>(
     alloc: Global,
     tables: &StoredTables,
@@ -155,8 +156,8 @@ fn paths_to_walk(
     Ok(paths)
 }
 
-/// Sends the base index, merged with that of a walk. Where the walked paths cover the base index, the bytes of the walk
-/// are the merged index, and the lists of the base are only read for damage.
+/// Sends the base index, merged with that of a walk. Where the walked paths cover the base index,
+/// the bytes of the walk are the merged index, and the lists of the base are only read for damage.
 fn merge_old<S: Store, W: Output>(
     alloc: Global,
     store: &mut S,
@@ -207,8 +208,8 @@ fn send<W: Output>(index: &[u8], new: &mut W) -> Result<Sent, CindexFault>
     Ok(sent)
 }
 
-/// An error of the merge, as that of a job. `Unsorted` and `Uncovered` do not occur: the names of the base index were
-/// tested, and the newer index is that of a walk.
+/// An error of the merge, as that of a job. `Unsorted` and `Uncovered` do not occur: the names of
+/// the base index were tested, and the newer index is that of a walk.
 fn merge_refusal(fault: MergeFault) -> CindexFault
     ensures { result ≡ refusal_of fault }
 {

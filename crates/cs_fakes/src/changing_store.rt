@@ -51,8 +51,8 @@ fn fill(buf: &mut [u8], bytes: &[u8]) -> usize
     n
 }
 
-/// A store with the bytes of `ONE_FILE` for this number of reads; then each read fails, or gives the
-/// bytes of `then`.
+/// A store with the bytes of `ONE_FILE` for this number of reads; then each read fails, or gives
+/// the bytes of `then`.
 pub fn one_file_until(reads: usize, then: Option<&[u8]>) -> ChangingStore<'_> {
     ChangingStore {
         first: ONE_FILE,

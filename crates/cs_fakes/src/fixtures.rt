@@ -1,4 +1,5 @@
-// Fixtures of several crates of tests. They have no contract, since no proof depends on what they return.
+// Fixtures of several crates of tests. They have no contract, since no proof depends on what they
+// return.
 use cs_index::{BuildFault, Builder};
 use cs_tree::MemSource;
 use cs_trigram::{Scan, Scanner};

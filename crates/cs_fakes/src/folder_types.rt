@@ -1,4 +1,5 @@
-// The types of a folder in memory. They have a module of their own because `specs/MemFolders.antt` cites them.
+// The types of a folder in memory. They have a module of their own because `specs/MemFolders.antt`
+// cites them.
 ghost use Rattle.std.specs.Prelude.{◌≡◌, ◌≤◌, vec_len};
 ghost use Rattle.std.specs.Option.{ForNone, ForSome};
 
@@ -6,8 +7,8 @@ use cs_output::Sent;
 use cs_storage::StorageFault;
 use std::alloc::Global;
 
-/// An index file in memory, with FILE~ beside it. It can crash after any call, and another run can act before any call
-/// for which FILE~ is not held.
+/// An index file in memory, with FILE~ beside it. It can crash after any call, and another run can
+/// act before any call for which FILE~ is not held.
 #[derive(Drop)]
 pub struct MemFolder {
     pub(crate) alloc: Global,

@@ -4,13 +4,14 @@
 //! the model of a tree in memory, and how it changes; then `specs/Fuses.antt` and
 //! `specs/MemFolders.antt`.
 //!
-//! `MemTree` is a tree in memory, whose model is its snapshot. `FuseTree` wraps another tree and fails one of
-//! its calls. `MemFolder` is a folder of the index file in memory, which can crash after any call, and in which
-//! another process can act. Each has the contract of its trait, `Tree` or `IndexFolder`, so the proofs also
-//! show that something keeps these contracts. `MemSource`, `MemStore` and `MemSink`, which the program or the
-//! library uses, are in `cs_tree`. The fixtures that several crates of tests use are here too (`fixtures.rt`),
-//! and a store of an index whose reads fail, or whose bytes change, after some reads (`ChangingStore`). The
-//! fixtures have no contract, since no proof depends on what they return.
+//! `MemTree` is a tree in memory, whose model is its snapshot. `FuseTree` wraps another tree and
+//! fails one of its calls. `MemFolder` is a folder of the index file in memory, which can crash
+//! after any call, and in which another process can act. Each has the contract of its trait, `Tree`
+//! or `IndexFolder`, so the proofs also show that something keeps these contracts. `MemSource`,
+//! `MemStore` and `MemSink`, which the program or the library uses, are in `cs_tree`. The fixtures
+//! that several crates of tests use are here too (`fixtures.rt`), and a store of an index whose
+//! reads fail, or whose bytes change, after some reads (`ChangingStore`). The fixtures have no
+//! contract, since no proof depends on what they return.
 #![tactic(auto)]
 
 mod changing_store;

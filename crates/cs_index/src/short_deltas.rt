@@ -20,8 +20,8 @@ pub(crate) fn sixteen(bytes: &[u8]) -> Option<Prefix>
     if !have_short_deltas(v, firsts) {
         return None;
     }
-    // A delta of two bytes counts its first byte less 128, and 128 times its second one. The first byte of a delta
-    // that is begun only is not counted.
+    // A delta of two bytes counts its first byte less 128, and 128 times its second one. The first
+    // byte of a delta that is begun only is not counted.
     let two = firsts.count_ones();
     let begun = bytes[15].saturating_sub(128) as u32;
     Some(Prefix {

@@ -30,7 +30,8 @@ pub struct Choices {
 }
 
 impl Choices {
-    /// All files that the rules of the user and of the project leave. Globs are relative to the folder with these names.
+    /// All files that the rules of the user and of the project leave. Globs are relative to the
+    /// folder with these names.
     pub fn new(alloc: Global, user: Rules, folder: Vec<String>) -> Choices
         ensures { chosen_in result ≡ plain_settings (rules_in user) (map string_bytes folder.items) }
     {
@@ -68,7 +69,8 @@ impl Choices {
         self.depth = depth;
     }
 
-    /// Adds a glob, which takes files, or leaves them out if it begins with `!`. The last glob that applies counts.
+    /// Adds a glob, which takes files, or leaves them out if it begins with `!`. The last glob that
+    /// applies counts.
     pub fn add_glob(&mut self, glob: &str) -> Result<(), AllocError>
         ensures { OnOk result (chosen_in self.new ≡ record (chosen_in self.old)
             { globs = (chosen_in self.old).globs ++ option_to_list (rule_in glob.now) }) }
@@ -76,8 +78,8 @@ impl Choices {
         self.globs.add(self.alloc, glob.as_bytes())
     }
 
-    /// Takes the files of a type, or leaves them out. The last glob of a type that applies counts. False if there is no such
-    /// type.
+    /// Takes the files of a type, or leaves them out. The last glob of a type that applies counts.
+    /// False if there is no such type.
     pub fn add_type(&mut self, name: &str, is_left_out: bool) -> Result<bool, AllocError>
         ensures { IfOk result (λ is_type. AddsType is_type is_left_out (chosen_in self.old) (chosen_in self.new)) }
     {

@@ -27,8 +27,8 @@ pub(crate) fn quoted(text: &[u8]) -> Option<(u8, usize)>
     Some((*escaped, 2))
 }
 
-/// The ranges of a class after its `[` and `!`, and the length of its text with its `]`. None if it does not end, or has an
-/// unknown name in it.
+/// The ranges of a class after its `[` and `!`, and the length of its text with its `]`. None if it
+/// does not end, or has an unknown name in it.
 pub(crate) fn class_items(
     alloc: Global,
     text: &[u8],
@@ -48,7 +48,8 @@ pub(crate) fn class_items(
     }
 }
 
-/// Adds the ranges of the item that a text begins with, and returns its length. None if there is none.
+/// Adds the ranges of the item that a text begins with, and returns its length. None if there is
+/// none.
 fn add_item(text: &[u8], ranges: &mut Vec<(u8, u8)>) -> Result<Option<usize>, AllocError>
     ensures { IfOk result (λ read. ReadsItem text.now ranges.old.items ranges.new.items read) }
 {

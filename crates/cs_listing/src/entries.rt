@@ -25,7 +25,8 @@ use std::alloc::{AllocError, Global};
 /// An entry that is still to come.
 #[derive(Debug, Drop)]
 pub(crate) struct Entry {
-    /// The name, and a slash after that of a folder, so that the order of entries is that of the paths below them.
+    /// The name, and a slash after that of a folder, so that the order of entries is that of the
+    /// paths below them.
     pub(crate) key: String,
     pub(crate) stamp: Option<Stamp>,
 }
@@ -46,8 +47,8 @@ impl Entry {
     }
 }
 
-/// A folder whose entries are read: its rule files and those of the folders above, and the text before the slash in the paths of
-/// its entries, which is empty for `/`.
+/// A folder whose entries are read: its rule files and those of the folders above, and the text
+/// before the slash in the paths of its entries, which is empty for `/`.
 #[derive(Clone, Copy)]
 pub(crate) struct Place<'a> {
     pub(crate) layers: &'a Layers<'a>,
@@ -215,7 +216,8 @@ impl FolderReader {
         Ok(Rules::none(self.alloc))
     }
 
-    /// The rules that a repository has for itself, if one begins in a folder that lists these names.
+    /// The rules that a repository has for itself, if one begins in a folder that lists these
+    /// names.
     fn exclude<T: Look>(
         &mut self,
         tree: &mut T,
@@ -234,7 +236,8 @@ impl FolderReader {
         Ok(Some(rules))
     }
 
-    /// The folder of a repository's own files: `.git`, or the one that the file `.git` names, of a worktree or a submodule.
+    /// The folder of a repository's own files: `.git`, or the one that the file `.git` names, of a
+    /// worktree or a submodule.
     fn git_folder<T: Look>(&mut self, tree: &mut T, stem: &str) -> Result<String, AllocError>
         ensures folder { IfOk result (λ folder. InTree (T.snapshot tree.old)
             (λ items. string_bytes folder ≡ git_folder' items stem.now)) }
@@ -248,7 +251,8 @@ impl FolderReader {
         }
     }
 
-    /// The folder that all worktrees of a repository share: the one that the file `commondir` in this one names, or this one.
+    /// The folder that all worktrees of a repository share: the one that the file `commondir` in
+    /// this one names, or this one.
     fn shared_folder<T: Look>(&mut self, tree: &mut T, folder: String) -> Result<String, AllocError>
         ensures folder { IfOk result (λ shared. InTree (T.snapshot tree.old)
             (λ items. string_bytes shared ≡ shared_folder' items (string_bytes folder))) }

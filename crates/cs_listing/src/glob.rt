@@ -1,5 +1,5 @@
-// Globs: what each element of a path has to match. After a mismatch only the last `*`, or the last `**`, takes one more, so
-// each token meets each byte at most once.
+// Globs: what each element of a path has to match. After a mismatch only the last `*`, or the last
+// `**`, takes one more, so each token meets each byte at most once.
 ghost use Rattle.std.specs.Prelude.{◌≡◌, ◌+◌, ◌∷◌, length};
 ghost use Rattle.cs_prefilter.specs.CountsAtMost.{CountsAtMost};
 ghost use Rattle.cs_listing.specs.MatchWork.{token_work, name_work, pair_work, path_work};

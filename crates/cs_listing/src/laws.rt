@@ -7,7 +7,8 @@ pub fn lists_as_below()
     ensures { ListsAsBelow }
 {}
 
-/// What a walk gives from its beginning to its end is ascending, and exactly the files that were left at its beginning.
+/// What a walk gives from its beginning to its end is ascending, and exactly the files that were
+/// left at its beginning.
 pub fn gives_in_order()
     ensures { GivesInOrder }
 {}

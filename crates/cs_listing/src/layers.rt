@@ -45,8 +45,9 @@ struct Repository<'f, 'p, 'n> {
     path: &'p [&'n [u8]],
 }
 
-/// The rule files that count in a folder: those of the folders along its path, the topmost first. A path is given by its elements
-/// below the topmost folder, so it has one name for each folder: the last one is that of an entry of the deepest folder.
+/// The rule files that count in a folder: those of the folders along its path, the topmost first. A
+/// path is given by its elements below the topmost folder, so it has one name for each folder: the
+/// last one is that of an entry of the deepest folder.
 #[derive(Debug, Drop)]
 pub struct Layers<'a> {
     folders: Vec<FolderRules>,

@@ -1,36 +1,41 @@
-//! Which files are a project's: those that no rule file leaves out, as gitignore(5) says. Read `specs/Globs.antt`,
-//! `specs/Rules.antt` and `specs/Layers.antt` first: the rules of one file, and what the rule files of all folders along a path
-//! say together; then `specs/RuleFiles.antt`: how the bytes of a rule file are read. `specs/Listing.antt` says which files of a
-//! tree a search of a folder lists, and `specs/Walk.antt` what the walk gives that finds them.
+//! Which files are a project's: those that no rule file leaves out, as gitignore(5) says. Read
+//! `specs/Globs.antt`, `specs/Rules.antt` and `specs/Layers.antt` first: the rules of one file, and
+//! what the rule files of all folders along a path say together; then `specs/RuleFiles.antt`: how
+//! the bytes of a rule file are read. `specs/Listing.antt` says which files of a tree a search of a
+//! folder lists, and `specs/Walk.antt` what the walk gives that finds them.
 //!
-//! A *glob* is a list of elements, one for each name of a path, or `**` for any number of folders; an element
-//! is a list of tokens; the token `*` takes any bytes. A rule without a slash begins with `**`, and a `**` at
-//! the end is `**/*`, so there is one kind of match. Matching is greedy, without backtracking: after a mismatch
-//! only the last `*` of a name takes one byte more, and only the last `**` of a path one name more. The
-//! invariant says why that is enough: what an earlier star could match, the last one can match too. A class
-//! that does not end matches nothing, and takes the rest of its rule, so that each byte is read a bounded
-//! number of times. A path is given by its names below the folder of the rules, so that a walk can pass a
-//! suffix of its stack of names.
+//! A *glob* is a list of elements, one for each name of a path, or `**` for any number of folders;
+//! an element is a list of tokens; the token `*` takes any bytes. A rule without a slash begins
+//! with `**`, and a `**` at the end is `**/*`, so there is one kind of match. Matching is greedy,
+//! without backtracking: after a mismatch only the last `*` of a name takes one byte more, and only
+//! the last `**` of a path one name more. The invariant says why that is enough: what an earlier
+//! star could match, the last one can match too. A class that does not end matches nothing, and
+//! takes the rest of its rule, so that each byte is read a bounded number of times. A path is given
+//! by its names below the folder of the rules, so that a walk can pass a suffix of its stack of
+//! names.
 //!
-//! `Layers` is a stack of the folders from the topmost down to one that is walked, each with the rules of its
-//! `.ignore` and its `.gitignore`, and those of `info/exclude` where a repository begins, in the folder that
-//! `.git` is or names (`specs/GitFolders.antt`). A walk enters a folder and leaves it. What is asked about
-//! is an entry of the deepest folder, by the names along its path: the rules of the first folder see all of
-//! them, those of the second all but the first, and so on. Each kind of file is asked from the deepest folder
-//! up, and the first that says anything counts. Whether a path is left out does not depend on where a walk
-//! began, but only on the folders above. The walk does not enter a folder that is left out.
+//! `Layers` is a stack of the folders from the topmost down to one that is walked, each with the
+//! rules of its `.ignore` and its `.gitignore`, and those of `info/exclude` where a repository
+//! begins, in the folder that `.git` is or names (`specs/GitFolders.antt`). A walk enters a folder
+//! and leaves it. What is asked about is an entry of the deepest folder, by the names along its
+//! path: the rules of the first folder see all of them, those of the second all but the first, and
+//! so on. Each kind of file is asked from the deepest folder up, and the first that says anything
+//! counts. Whether a path is left out does not depend on where a walk began, but only on the
+//! folders above. The walk does not enter a folder that is left out.
 //!
-//! `Choices` are those of the user (`specs/Choices.antt`): globs and types are rules too, with the meaning turned
-//! round, so that they take files. A glob comes before all rule files, a type after them. A depth is a limit of
-//! the names of a path, so whether a path is left out still does not depend on the walk.
+//! `Choices` are those of the user (`specs/Choices.antt`): globs and types are rules too, with the
+//! meaning turned round, so that they take files. A glob comes before all rule files, a type after
+//! them. A depth is a limit of the names of a path, so whether a path is left out still does not
+//! depend on the walk.
 //!
-//! `Walk` has two stacks: `Layers`, the rule files of the folders from `/` down, and frames, the entries of the
-//! open folders that are still to come, the next one last. `begin` lists each folder along the path of the
-//! start for its rule files, and opens the last; one that cannot be listed has no rules, and the start is reported. `next`
-//! takes the last entry of the last frame: a file is given; a folder is listed, its rule files are read, its
-//! names are asked about (`entries.rt`), what is not left out is looked at once, and the rest is sorted by
-//! names, with a slash after those of folders, which is byte order of whole paths. `specs/Walk.antt` says which
-//! files are to come by the frames, so the invariant needs no list of all files: each step keeps the set, or
+//! `Walk` has two stacks: `Layers`, the rule files of the folders from `/` down, and frames, the
+//! entries of the open folders that are still to come, the next one last. `begin` lists each folder
+//! along the path of the start for its rule files, and opens the last; one that cannot be listed
+//! has no rules, and the start is reported. `next` takes the last entry of the last frame: a file
+//! is given; a folder is listed, its rule files are read, its names are asked about (`entries.rt`),
+//! what is not left out is looked at once, and the rest is sorted by names, with a slash after
+//! those of folders, which is byte order of whole paths. `specs/Walk.antt` says which files are to
+//! come by the frames, so the invariant needs no list of all files: each step keeps the set, or
 //! takes its first.
 #![tactic(auto)]
 

@@ -72,7 +72,8 @@ impl Rules {
         Ok(Rules { rules })
     }
 
-    /// What the last rule says that applies to a path, which is given by its elements below the folder of the rules.
+    /// What the last rule says that applies to a path, which is given by its elements below the
+    /// folder of the rules.
     pub fn decide(&self, path: &[&[u8]], is_folder: bool, steps: &mut Steps) -> Option<Decision>
         ensures decides { result ≡ decide' (rules_in self.now) (names path.now) is_folder }
         ensures work { CountsAtMost (rules_work (rules_in self.now) (names path.now)) steps.old steps.new }

@@ -1,6 +1,7 @@
 // The types of files that a search may be limited to.
 
-/// The types in the order of their names, each with the globs of its files, which have spaces between them.
+/// The types in the order of their names, each with the globs of its files, which have spaces
+/// between them.
 pub const TYPES: [(&str, &str); 86] = [
     ("agda", "*.agda *.lagda"),
     ("asciidoc", "*.adoc *.asc *.asciidoc"),

@@ -1,6 +1,7 @@
-// The walk of a project: its files one after another, in the order of their paths. A stack has the open folders; each is listed
-// once, when the walk comes to it, and its entries are sorted by their names, with a slash after those of folders, so that a
-// depth-first walk goes in the order of whole paths.
+// The walk of a project: its files one after another, in the order of their paths. A stack has the
+// open folders; each is listed once, when the walk comes to it, and its entries are sorted by their
+// names, with a slash after those of folders, so that a depth-first walk goes in the order of whole
+// paths.
 ghost use Rattle.std.specs.Prelude.{◌≡◌, ◌<◌, ◌∷◌, ◌++◌, [], map, length, string_bytes, IfOk, OnOk};
 ghost use Rattle.cs_listing.specs.Choices.{within_depth};
 ghost use Rattle.cs_listing.specs.Models.{chosen_in, folders_in, all_names};
@@ -60,8 +61,8 @@ pub struct Walk<'a> {
 }
 
 impl<'a> Walk<'a> {
-    /// The walk below the folder that these names lead to from `/`, by the choices of the user and the rules of all folders
-    /// along it.
+    /// The walk below the folder that these names lead to from `/`, by the choices of the user and
+    /// the rules of all folders along it.
     pub fn begin<T: Look>(
         alloc: Global,
         tree: &mut T,
@@ -90,7 +91,8 @@ impl<'a> Walk<'a> {
         Ok(walk)
     }
 
-    /// The next file, or the next path that could not be read. None at the end, to which each other answer comes nearer.
+    /// The next file, or the next path that could not be read. None at the end, to which each other
+    /// answer comes nearer.
     pub fn next<T: Look>(&mut self, tree: &mut T) -> Result<Option<Found>, AllocError>
         ensures gives { IfOk result (λ found. InTree (T.snapshot tree.old)
             (λ items. IsWalkIn items self.old → Gives items self.old self.new found)) }

@@ -1,5 +1,5 @@
-// Byte classes (RE2's byte map): one partition of the bytes into ranges that no state of a program tells apart. A
-// transition is computed once for the bytes of a class.
+// Byte classes (RE2's byte map): one partition of the bytes into ranges that no state of a program
+// tells apart. A transition is computed once for the bytes of a class.
 ghost use Rattle.std.specs.Prelude.{◌≡◌, ◌&&◌, ◌+◌, ◌<◌, ◌≤◌, ℕ, length, true, false, slice_index};
 ghost use Rattle.cs_syntax.specs.Matching.{member, is_word};
 ghost use Rattle.cs_syntax.specs.Characters.{has_char};
@@ -168,9 +168,9 @@ fn mark_cuts(begins: &mut [u8], bits: LookBehind, cuts: &Cuts)
     }
 }
 
-/// Marks the continuation bytes that do not do the same to each unfinished character as the bytes before them. A
-/// continuation byte is a digit of base 64 of the character, so it begins a class if it is a digit of a cut, and the
-/// next one does if the cut has lower digits too.
+/// Marks the continuation bytes that do not do the same to each unfinished character as the bytes
+/// before them. A continuation byte is a digit of base 64 of the character, so it begins a class if
+/// it is a digit of a cut, and the next one does if the cut has lower digits too.
 fn mark_digits(begins: &mut [u8], cuts: &[u32])
     requires bytes { length begins.old ≡ 256 }
     requires cuts { AreCuts cuts.now }
@@ -184,7 +184,8 @@ fn mark_digits(begins: &mut [u8], cuts: &[u32])
     }
 }
 
-/// Marks the digit of base 64 of a cut that counts blocks of this size, and the next byte if there are lower digits.
+/// Marks the digit of base 64 of a cut that counts blocks of this size, and the next byte if there
+/// are lower digits.
 #[inline(always)]
 fn mark_digit(begins: &mut [u8], cut: u32, size: u32)
     requires bytes { length begins.old ≡ 256 }
@@ -196,8 +197,8 @@ fn mark_digit(begins: &mut [u8], cut: u32, size: u32)
     mark(begins, digit + 1, cut % size == 0, true);
 }
 
-/// Marks the first bytes of characters that do not do the same as the bytes before them. What they do does not depend
-/// on the unfinished character.
+/// Marks the first bytes of characters that do not do the same as the bytes before them. What they
+/// do does not depend on the unfinished character.
 fn mark_leads(begins: &mut [u8], cuts: &Cuts)
     requires { length begins.old ≡ 256 }
     ensures { AddsMarks (λ b c. 192 ≤ c → StepAlike cuts.now b c) begins.old begins.new }

@@ -1,4 +1,5 @@
-// The states that a lazy DFA has cached, in flat vectors, and a hash table in which they are looked for.
+// The states that a lazy DFA has cached, in flat vectors, and a hash table in which they are looked
+// for.
 ghost use Rattle.std.specs.Prelude.{◌≡◌, ◌+◌, ◌*◌, ◌<◌, ◌≤◌, ◌∷◌, ◌++◌, [], IfOk, IfSome, length, take, slice_index_or, true};
 ghost use Rattle.cs_match.specs.declared.state.State.{State};
 ghost use Rattle.cs_match.specs.CachedStates.{behind_of};
@@ -23,7 +24,8 @@ pub(crate) struct Behind {
     pub(crate) unfinished: Unfinished,
 }
 
-/// What a look-up gives: the slot of an equal cached state, if there is one there, and a place for the state in the hash table.
+/// What a look-up gives: the slot of an equal cached state, if there is one there, and a place for
+/// the state in the hash table.
 #[derive(Clone, Copy)]
 pub(crate) struct Lookup {
     pub(crate) slot: Option<usize>,
@@ -37,7 +39,8 @@ pub(crate) struct CachedStates {
     sets: Vec<u64>,
     /// The rest of each state.
     behinds: Vec<Behind>,
-    /// The hash table has a slot at each place. It is in use if it is that of a state with this place.
+    /// The hash table has a slot at each place. It is in use if it is that of a state with this
+    /// place.
     slots: Vec<u16>,
     /// The place of each state.
     places: Vec<u32>,
@@ -87,7 +90,8 @@ impl Behind {
 }
 
 impl CachedStates {
-    /// No states of so many positions, with room for so many. Their pages are touched as states are cached.
+    /// No states of so many positions, with room for so many. Their pages are touched as states are
+    /// cached.
     pub(crate) fn new(alloc: Global, most: usize, count: usize) -> Result<CachedStates, AllocError>
         requires some { 0 < most }
         requires few { most < 65536 }

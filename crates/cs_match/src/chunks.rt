@@ -1,4 +1,5 @@
-// Chunks: a part of a block is cut into four, which the lanes scan, and the lists of the lanes become one.
+// Chunks: a part of a block is cut into four, which the lanes scan, and the lists of the lanes
+// become one.
 ghost use Rattle.std.specs.Prelude.{◌≡◌, ◌≤◌, ◌<◌, ◌+◌, ◌-◌, ◌*◌, ◌++◌, length, take, drop, slice_index, slice_range};
 ghost use Rattle.cs_match.specs.Skipping.{AreWholeLines};
 ghost use Rattle.cs_match.specs.Deciding.{Decides};
@@ -14,8 +15,8 @@ use cs_prefilter::Steps;
 /// The least size of a chunk in bytes, except at the end of a block.
 const LEAST: usize = 64;
 
-/// The end of the chunk that begins at `from`: after the first newline at least so many bytes on, or the end of the block.
-/// It has at most one line more than these bytes.
+/// The end of the chunk that begins at `from`: after the first newline at least so many bytes on,
+/// or the end of the block. It has at most one line more than these bytes.
 pub(crate) fn cut(block: &[u8], from: usize, size: usize, steps: &mut Steps) -> usize
     requires within { from ≤ length block.now }
     requires whole { AreWholeLines (drop from block.now) }
@@ -58,8 +59,8 @@ pub(crate) fn append(ends: &mut [usize], count: usize, from: usize, more: usize)
     ends.copy_within(from..from + more, count);
 }
 
-/// Lists the ends of the matching lines of four chunks, at least of one line. A chunk with an unknown transition is scanned
-/// once more, by one lane.
+/// Lists the ends of the matching lines of four chunks, at least of one line. A chunk with an
+/// unknown transition is scanned once more, by one lane.
 pub(crate) fn list_chunks<D: OneLane>(
     dfa: &mut D,
     block: &[u8],

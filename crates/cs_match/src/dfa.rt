@@ -1,5 +1,5 @@
-// Lazy DFA (RE2): subset construction on demand over Glushkov positions (`specs/Glushkov.antt`), with a bounded cache
-// of states that is cleared when it is full.
+// Lazy DFA (RE2): subset construction on demand over Glushkov positions (`specs/Glushkov.antt`),
+// with a bounded cache of states that is cleared when it is full.
 ghost use Rattle.std.specs.Prelude.{◌≡◌, ◌≢◌, ◌↔◌, ◌+◌, ◌-◌, ◌<◌, ◌≤◌, ◌*◌, ℕ, Bool, List, IfOk, IsTrue, nat_eq, length, drop, slice_index, vec_capacity, true, false};
 ghost use Rattle.cs_syntax.specs.Matching.{HasMatch};
 ghost use Rattle.cs_match.specs.Work.{words, step_work, byte_work, line_work};
@@ -44,7 +44,8 @@ const LEAST_STATES: usize = 254;
 /// The most words of the position sets of more states: 2 MB.
 const MOST_WORDS: usize = 262144;
 
-/// A scan of some lines of a text: where they begin, how far it has come, and the number of the state there.
+/// A scan of some lines of a text: where they begin, how far it has come, and the number of the
+/// state there.
 #[derive(Clone, Copy)]
 struct Scan {
     from: usize,
@@ -179,7 +180,8 @@ impl<'a> LazyDfa<'a> {
         Ok(LazyDfa { program, states })
     }
 
-    /// The transition of a state over a byte, computed first if it is unknown. A newline is the end of the line.
+    /// The transition of a state over a byte, computed first if it is unknown. A newline is the end
+    /// of the line.
     #[inline(always)]
     fn next(&mut self, from: u16, byte: u8, steps: &mut Steps) -> u16
         requires right { IsConsistent self.old }
@@ -200,7 +202,8 @@ impl<'a> LazyDfa<'a> {
         }
     }
 
-    /// Whether the line has a match. If the scan reaches a newline within the line, the whole line is simulated.
+    /// Whether the line has a match. If the scan reaches a newline within the line, the whole line
+    /// is simulated.
     pub(crate) fn is_match(&mut self, line: &[u8], steps: &mut Steps) -> bool
         requires right { IsConsistent self.old }
         ensures found { IsTrue result ↔ HasMatch (tree_in self.old) line.now }
@@ -254,8 +257,9 @@ impl<'a> LazyDfa<'a> {
         number == DEAD * self.states.classes.count
     }
 
-    /// Moves on by known transitions and, unless the text ends there, over the byte whose transition is special or unknown. If
-    /// it leads to the match state or the dead one, moves over the rest of the line too.
+    /// Moves on by known transitions and, unless the text ends there, over the byte whose
+    /// transition is special or unknown. If it leads to the match state or the dead one, moves over
+    /// the rest of the line too.
     #[inline(always)]
     fn advance(&mut self, text: &[u8], scan: Scan, steps: &mut Steps) -> Scan
         requires right { IsConsistent self.old }
@@ -373,8 +377,9 @@ impl<'a> LazyDfa<'a> {
         self.next_number(slot, byte, steps)
     }
 
-    /// The number of the state under construction, which is cached if it is new. It is the successor of the state in the
-    /// slot over a byte of the line, and that state does not accept before the byte.
+    /// The number of the state under construction, which is cached if it is new. It is the
+    /// successor of the state in the slot over a byte of the line, and that state does not accept
+    /// before the byte.
     fn next_number(&mut self, slot: usize, byte: u8, steps: &mut Steps) -> u16
         requires right { IsConsistent self.old }
         requires slot { HasSlot self.old slot }
@@ -414,8 +419,8 @@ impl<'a> LazyDfa<'a> {
         next
     }
 
-    /// Whether the state under construction is known to be dead: each match begins at the start of the line, and no
-    /// position is in the set.
+    /// Whether the state under construction is known to be dead: each match begins at the start of
+    /// the line, and no position is in the set.
     fn is_lost(&self, steps: &mut Steps) -> bool
         requires right { IsConsistent self.now }
         requires later { self.now.states.scratch.first ≡ false }

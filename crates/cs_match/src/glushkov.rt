@@ -1,7 +1,7 @@
-// Glushkov's position automaton, simulated on the parts of a program. A step is two traversals, and each visits a part
-// once: the first, bottom-up, computes for each repeat whether its body is final; the second, top-down, finds which
-// positions are entered. Then all positions are moved over the byte at once. Cursors count the positions and repeats
-// that were visited.
+// Glushkov's position automaton, simulated on the parts of a program. A step is two traversals, and
+// each visits a part once: the first, bottom-up, computes for each repeat whether its body is
+// final; the second, top-down, finds which positions are entered. Then all positions are moved over
+// the byte at once. Cursors count the positions and repeats that were visited.
 ghost use Rattle.std.specs.Prelude.{◌≡◌, ℕ, ◌+◌, ◌*◌, ◌<◌, ◌≤◌, ◌^◌, ◌%◌, ◌==◌, ◌&&◌, ◌||◌, IfOk, length, take, drop, min, true, false, ◌++◌, slice_set};
 ghost use Rattle.std.specs.Int.{bit_at};
 ghost use Rattle.cs_syntax.specs.Node.{tree_of};
@@ -134,7 +134,8 @@ impl Scratch {
     }
 }
 
-/// What holds at an offset: the position set, for each repeat whether its body is final, and the look-around.
+/// What holds at an offset: the position set, for each repeat whether its body is final, and the
+/// look-around.
 #[derive(Clone, Copy)]
 struct Configuration<'a> {
     positions: &'a PositionSet,
@@ -159,8 +160,8 @@ pub(crate) fn is_accepting(
     ends.accepting || may_begin && ends.nullable
 }
 
-/// Moves the position set over a byte, and returns whether it accepts before the byte; `may_begin` says whether a match
-/// can begin there.
+/// Moves the position set over a byte, and returns whether it accepts before the byte; `may_begin`
+/// says whether a match can begin there.
 pub(crate) fn step_over(
     program: &Program,
     may_begin: bool,
@@ -241,8 +242,8 @@ fn note_loops(
     }
 }
 
-/// The ends of the tree at the current offset. For each repeat it also stores whether the body is final, as far as
-/// `loops` has entries.
+/// The ends of the tree at the current offset. For each repeat it also stores whether the body is
+/// final, as far as `loops` has entries.
 #[cycle(find_ends)]
 fn find_ends(
     part: &Part,
@@ -305,8 +306,8 @@ fn end_run(n: usize, positions: &PositionSet, cursor: &mut Cursor) -> Ends
     }
 }
 
-/// Sets or clears the first position of a run, and returns whether the run accepts. Each other position is entered if
-/// the one before it is in the set.
+/// Sets or clears the first position of a run, and returns whether the run accepts. Each other
+/// position is entered if the one before it is in the set.
 fn enter_run(
     n: usize,
     enter: bool,
@@ -389,7 +390,8 @@ fn enter_options(
     accepting
 }
 
-/// The same by words of 64 positions. Each option may be nothing, so all those after one that ends are entered.
+/// The same by words of 64 positions. Each option may be nothing, so all those after one that ends
+/// are entered.
 fn enter_many(
     n: usize,
     count: usize,
@@ -410,7 +412,8 @@ fn enter_many(
     ensures position { cursor.new.position ≡ cursor.old.position + position_count (options n count) }
     ensures repeat { cursor.new.repeat ≡ cursor.old.repeat }
 {
-    // The row is within the entries, which have one position more, so neither its end nor the next offset overflows.
+    // The row is within the entries, which have one position more, so neither its end nor the next
+    // offset overflows.
     prove!(cursor.position < entries.len());
     let from = cursor.position;
     let end = from + count * n;
@@ -422,7 +425,8 @@ fn enter_many(
     enter | (last < end)
 }
 
-/// Whether options are entered by words: they have one or two positions, and are so many that this is faster.
+/// Whether options are entered by words: they have one or two positions, and are so many that this
+/// is faster.
 fn are_many(n: usize, count: usize) -> bool
     ensures some { result ≡ true → 0 < n }
     ensures short { result ≡ true → n ≤ 2 }
@@ -499,7 +503,8 @@ fn enter_sequences(
     positions.meets(from, sequences.lasts())
 }
 
-/// Moves the cursor over a repeat, and returns its index. Repeats past the end of `loops` share one index.
+/// Moves the cursor over a repeat, and returns its index. Repeats past the end of `loops` share one
+/// index.
 fn next_repeat(most: usize, cursor: &mut Cursor) -> usize
     requires { cursor.old.repeat ≤ most }
     ensures is { result ≡ cursor.old.repeat }
@@ -574,8 +579,8 @@ fn find_ends_some(
     some
 }
 
-/// Finds which positions of the part are entered, and returns whether the part accepts. `enter` says whether the part
-/// can begin here.
+/// Finds which positions of the part are entered, and returns whether the part accepts. `enter`
+/// says whether the part can begin here.
 #[cycle(advance)]
 #[tactic(auto, using(crate::proofs::PartLemmas::part_rules))]
 fn advance(

@@ -1,6 +1,7 @@
-// Lanes: four scans of chunks of a block at once, each of which lists the ends of the matching lines of its chunk. A lane
-// has one branch for a byte, which is taken at the end of a matching line, and stays in the state unknown once it has met an
-// unknown transition. The lanes know nothing of patterns; `specs/Table.antt` says what the table has to tell.
+// Lanes: four scans of chunks of a block at once, each of which lists the ends of the matching
+// lines of its chunk. A lane has one branch for a byte, which is taken at the end of a matching
+// line, and stays in the state unknown once it has met an unknown transition. The lanes know
+// nothing of patterns; `specs/Table.antt` says what the table has to tell.
 ghost use Rattle.std.specs.Prelude.{◌≡◌, ◌≤◌, ◌<◌, ◌+◌, ◌/◌, ℕ, List, [], ◌∷◌, ◌++◌, length, take};
 ghost use Rattle.cs_match.specs.Table.{HasRows};
 ghost use Rattle.cs_match.specs.MatchingEnds.{newlines_between};
@@ -75,8 +76,8 @@ impl Lane {
     }
 }
 
-/// Scans the four chunks between these offsets. Each lane lists the ends of the matching lines of its chunk in its quarter
-/// of `ends`.
+/// Scans the four chunks between these offsets. Each lane lists the ends of the matching lines of
+/// its chunk in its quarter of `ends`.
 #[inline(never)]
 pub(crate) fn four_lanes(
     table: Table<'_>,

@@ -31,7 +31,8 @@ pub fn terminated_lines_are_parts()
     ensures last { (part : List ℕ) → HasNoNewline part → terminated_lines part ≡ [] }
 {}
 
-/// The expansion of a tree has at most two positions and three nodes for each unit of the tree's weight.
+/// The expansion of a tree has at most two positions and three nodes for each unit of the tree's
+/// weight.
 pub fn programs_are_small()
     ensures { (tree : Tree) → FitsWeight (expansion tree) tree }
 {}
@@ -47,7 +48,8 @@ pub fn spans_are_unique()
     ensures first { FirstSpansBeginAll }
 {}
 
-/// A pass of the automaton in which a match may begin in a part of the line finds the ends of the matches that begin there.
+/// A pass of the automaton in which a match may begin in a part of the line finds the ends of the
+/// matches that begin there.
 pub fn passes_find_ends()
     ensures { (whole : Bool) (line : List ℕ) (tree : Tree) (from until : ℕ) → IsExpanded tree →
         PassesFindEnds whole line tree from until }

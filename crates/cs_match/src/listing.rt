@@ -18,7 +18,8 @@ use cs_prefilter::{Prefilter, Steps};
 /// The shortest list that the lanes fill.
 const SHORT: usize = 256;
 
-/// The ways to search for the matching lines of a program, and the counters that choose between them.
+/// The ways to search for the matching lines of a program, and the counters that choose between
+/// them.
 #[derive(Drop)]
 pub(crate) struct Ways<'a> {
     /// The prefilter of the program, if it has one.
@@ -29,7 +30,8 @@ pub(crate) struct Ways<'a> {
 }
 
 impl<'a> Ways<'a> {
-    /// The ways for a program. In a program whose matches begin at the start of the line, most lines are dead early.
+    /// The ways for a program. In a program whose matches begin at the start of the line, most
+    /// lines are dead early.
     pub(crate) fn new(program: &'a Program, pacing: Pacing) -> Ways<'a>
         ensures { IfSome result.prefilter (λ prefilter. IsPrefilterOf program.now prefilter.now) }
     {
@@ -53,8 +55,8 @@ impl<'a> Ways<'a> {
     }
 }
 
-/// Lists the ends of the matching lines from an offset on: part by part, up to the end of the block or until the list
-/// may have no room for another part.
+/// Lists the ends of the matching lines from an offset on: part by part, up to the end of the block
+/// or until the list may have no room for another part.
 pub(crate) fn list_lines<D: OneLane>(
     dfa: &mut D,
     ways: &mut Ways<'_>,
@@ -85,7 +87,8 @@ pub(crate) fn list_lines<D: OneLane>(
     ListedLines { count, to }
 }
 
-/// Lists those of the next part: the lines up to a candidate of the prefilter, or what is scanned at once.
+/// Lists those of the next part: the lines up to a candidate of the prefilter, or what is scanned
+/// at once.
 fn list_part<D: OneLane>(
     dfa: &mut D,
     ways: &mut Ways<'_>,
@@ -150,7 +153,8 @@ fn list_line<D: OneLane>(
     dfa.list_ends(block, line.start..line.end + 1, ends, steps)
 }
 
-/// Lists those of the next lines without a prefilter: of four chunks by four lanes, or of the rest of the block by one.
+/// Lists those of the next lines without a prefilter: of four chunks by four lanes, or of the rest
+/// of the block by one.
 fn scan_part<D: OneLane>(
     dfa: &mut D,
     one_lane: bool,

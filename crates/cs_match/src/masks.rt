@@ -1,5 +1,6 @@
-// Masks: what each position does over an input, one bit each. They are computed when an input is seen first. All bytes
-// of a class do the same, so that each class has one mask, that of its first byte.
+// Masks: what each position does over an input, one bit each. They are computed when an input is
+// seen first. All bytes of a class do the same, so that each class has one mask, that of its first
+// byte.
 ghost use Rattle.std.specs.Prelude.{◌≡◌, ℕ, ◌+◌, ◌<◌, ◌≤◌, IfOk, length, true, false, slice_index_or};
 ghost use Rattle.cs_match.specs.Entered.{position_list};
 ghost use Rattle.cs_match.specs.Masks.{IsMask, IsOneMask, HasRoom, AreMasks};
@@ -115,8 +116,8 @@ pub(crate) struct Masks {
 }
 
 impl Masks {
-    /// Memory for the masks of a program: one for each class of bytes, and some for the last bytes of characters. None
-    /// is computed.
+    /// Memory for the masks of a program: one for each class of bytes, and some for the last bytes
+    /// of characters. None is computed.
     pub(crate) fn new(alloc: Global, program: &Program) -> Result<Masks, AllocError>
         ensures { IfOk result (AreMasks (position_list program.now)) }
     {

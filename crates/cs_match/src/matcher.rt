@@ -1,4 +1,5 @@
-// Matchers: a lazy DFA (RE2) with the prefilters of its program, and the counters that choose between them.
+// Matchers: a lazy DFA (RE2) with the prefilters of its program, and the counters that choose
+// between them.
 ghost use Rattle.std.specs.Prelude.{◌≡◌, ◌≤◌, ◌<◌, ◌+◌, ◌*◌, ◌-◌, ◌↔◌, ℕ, Bool, List, IsTrue, IfOk, IfSome, MatchOption, length, slice_range, drop, count_by};
 ghost use Rattle.cs_syntax.specs.Matching.{HasMatch};
 ghost use Rattle.cs_match.specs.Automaton.{after_steps, most_states};
@@ -31,8 +32,8 @@ pub struct Line {
     pub end: usize,
 }
 
-/// A program with its lazy DFA. Contracts see the program's tree, the number of cached states, the list of matching lines
-/// that was made last, and the steps taken.
+/// A program with its lazy DFA. Contracts see the program's tree, the number of cached states, the
+/// list of matching lines that was made last, and the steps taken.
 #[derive(Drop)]
 pub struct Matcher<'a> {
     pub(crate) dfa: LazyDfa<'a>,
@@ -88,15 +89,16 @@ impl<'a> Matcher<'a> {
         self.dfa.states.cached.len() - 4
     }
 
-    /// Counts so many steps more, which a caller took for its search of the text. Does nothing when it runs.
+    /// Counts so many steps more, which a caller took for its search of the text. Does nothing when
+    /// it runs.
     pub fn add_steps(&mut self, count: usize)
         ensures { self.new ≡ after_steps count self.old }
     {
         self.steps.add(count);
     }
 
-    /// Whether the line has a match, whatever was asked before. It allocates nothing. It takes at most `line_work`
-    /// steps.
+    /// Whether the line has a match, whatever was asked before. It allocates nothing. It takes at
+    /// most `line_work` steps.
     pub fn is_match(&mut self, line: &[u8]) -> bool
         ensures found { IsTrue result ↔ HasMatch self.old.tree line.now }
         ensures same { self.new.tree ≡ self.old.tree }
@@ -105,8 +107,9 @@ impl<'a> Matcher<'a> {
         self.dfa.is_match(line, &mut self.steps)
     }
 
-    /// The first line at or after `from` that has a match. The block is whole lines from there on. The steps are at most
-    /// `search_work` of the bytes up to the end of the line, or of the block if no line matches.
+    /// The first line at or after `from` that has a match. The block is whole lines from there on.
+    /// The steps are at most `search_work` of the bytes up to the end of the line, or of the block
+    /// if no line matches.
     pub fn next_match(&mut self, block: &[u8], from: usize) -> Option<Line>
         requires within { from ≤ length block.now }
         requires whole { AreWholeLines (drop from block.now) }
@@ -139,8 +142,9 @@ impl<'a> Matcher<'a> {
         Some(line)
     }
 
-    /// Lists the matching lines from an offset on, all up to the offset that it returns: the end of the block, unless the
-    /// list has no room for more. The block is whole lines from there on. The steps are at most `list_work` of the bytes.
+    /// Lists the matching lines from an offset on, all up to the offset that it returns: the end of
+    /// the block, unless the list has no room for more. The block is whole lines from there on. The
+    /// steps are at most `list_work` of the bytes.
     pub fn list_lines(&mut self, block: &[u8], from: usize) -> usize
         requires within { from < length block.now }
         requires whole { AreWholeLines (drop from block.now) }
@@ -163,14 +167,16 @@ impl<'a> Matcher<'a> {
         lines.to
     }
 
-    /// The matching lines that were listed last, by the offsets of the newlines at their ends, in ascending order.
+    /// The matching lines that were listed last, by the offsets of the newlines at their ends, in
+    /// ascending order.
     pub fn listed(&self) -> &[usize]
         ensures { result.now ≡ self.now.ends }
     {
         &self.ends[..self.listed]
     }
 
-    /// The number of matching lines in a block of whole lines. The steps are at most `list_work` of its bytes.
+    /// The number of matching lines in a block of whole lines. The steps are at most `list_work` of
+    /// its bytes.
     pub fn count(&mut self, block: &[u8]) -> u64
         requires whole { AreWholeLines block.now }
         ensures found { (has_match : List ℕ → Bool) → Decides has_match self.old.tree →

@@ -1,4 +1,5 @@
-// One lane: a scan of some lines that computes the transitions that it does not know. The lazy DFA makes such scans.
+// One lane: a scan of some lines that computes the transitions that it does not know. The lazy DFA
+// makes such scans.
 ghost use Rattle.std.specs.Prelude.{◌≡◌, ◌≢◌, ◌≤◌, ◌<◌, ◌+◌, ◌-◌, ◌*◌, ℕ, Bool, List, length, slice_index, slice_range};
 ghost use Rattle.cs_syntax.specs.Matching.{Tree};
 ghost use Rattle.cs_match.specs.Deciding.{Decides};

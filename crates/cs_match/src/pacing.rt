@@ -6,14 +6,15 @@ use crate::skipping::Candidate;
 /// Below this distance between candidates without a match the DFA alone is faster than a prefilter.
 const NEAR: usize = 256;
 
-/// The cost of such candidates in a row that is put down to chance, in bytes that the DFA scans in their time.
+/// The cost of such candidates in a row that is put down to chance, in bytes that the DFA scans in
+/// their time.
 const MOST_WASTED: usize = 16 * NEAR;
 
 /// The longest backoff, in parts.
 const LONGEST: usize = 64;
 
-/// Exponential backoff: the number of parts to search without the prefilter before it is tried again, 1, 2, 4 and so on,
-/// as long as it keeps failing.
+/// Exponential backoff: the number of parts to search without the prefilter before it is tried
+/// again, 1, 2, 4 and so on, as long as it keeps failing.
 #[derive(Clone, Copy, Drop)]
 struct Backoff {
     remaining: usize,
@@ -39,7 +40,8 @@ impl Backoff {
 #[derive(Drop)]
 pub(crate) struct Pacing {
     backoff: Backoff,
-    /// The cost of near candidates in a row that had no match, in bytes that the DFA scans in their time.
+    /// The cost of near candidates in a row that had no match, in bytes that the DFA scans in their
+    /// time.
     wasted: usize,
 }
 
@@ -57,7 +59,8 @@ impl Pacing {
         !self.backoff.use_one()
     }
 
-    /// Notes how far the candidate of the prefilter was, what others before it cost, and whether its line is listed.
+    /// Notes how far the candidate of the prefilter was, what others before it cost, and whether
+    /// its line is listed.
     pub(crate) fn note_candidate(
         &mut self,
         from: usize,

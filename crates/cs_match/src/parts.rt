@@ -1,5 +1,5 @@
-// The parts of a program: its tree without the sets. A run of positions is one part, and so is an alternation of runs,
-// so that a traversal visits it once.
+// The parts of a program: its tree without the sets. A run of positions is one part, and so is an
+// alternation of runs, so that a traversal visits it once.
 ghost use Rattle.std.specs.Prelude.{◌≡◌, ◌+◌, ◌<◌, ◌≤◌, ◌^◌, IfOk, IfSome};
 ghost use Rattle.cs_syntax.specs.Matching.{Trees, cat, alt, more};
 ghost use Rattle.cs_syntax.specs.TreeList.{append};
@@ -20,7 +20,8 @@ pub(crate) enum Part {
     Run(usize),
     /// An alternation of such sequences.
     Alternation(Sequences),
-    /// Such sequences one after another, each of them or nothing, by the positions of one and their number.
+    /// Such sequences one after another, each of them or nothing, by the positions of one and their
+    /// number.
     Options(usize, usize),
     /// A concatenation.
     Cat(Vec<Part>),
@@ -81,8 +82,8 @@ fn sequence_of(alloc: Global, nodes: &[Node]) -> Result<Part, AllocError>
     Ok(Part::Cat(parts))
 }
 
-/// Adds a part after the last one, which is not in the list yet, and returns the new last one. Runs are one part, and
-/// so are options of one length.
+/// Adds a part after the last one, which is not in the list yet, and returns the new last one. Runs
+/// are one part, and so are options of one length.
 fn add_part(parts: &mut Vec<Part>, last: Part, part: Part) -> Result<Part, AllocError>
     requires { position_count (shape_of last) + position_count (shape_of part) < 2 ^ 64 }
     ensures shape { IfOk result (λ new_last. (ts : Trees) →

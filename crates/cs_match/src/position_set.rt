@@ -155,7 +155,8 @@ impl PositionSet {
         }
     }
 
-    /// Makes this the set in which each position is moved to the next one. It has room for one position more.
+    /// Makes this the set in which each position is moved to the next one. It has room for one
+    /// position more.
     pub(crate) fn shift_from(&mut self, from: &PositionSet, steps: &mut Steps)
         requires { length self.old ≡ length from.now + 1 }
         ensures shifted { self.new ≡ false ∷ from.now }
@@ -170,8 +171,8 @@ impl PositionSet {
         }
     }
 
-    /// Moves the set over an input: a position is in it afterwards by one of three masks, if it was entered, if the one
-    /// before it was entered, or if it was in the set.
+    /// Moves the set over an input: a position is in it afterwards by one of three masks, if it was
+    /// entered, if the one before it was entered, or if it was in the set.
     pub(crate) fn move_over(
         &mut self,
         entries: &PositionSet,
@@ -201,7 +202,8 @@ impl PositionSet {
         }
     }
 
-    /// Moves the set over an input after which only those of the entered positions are in it that the mask has.
+    /// Moves the set over an input after which only those of the entered positions are in it that
+    /// the mask has.
     pub(crate) fn move_entered(
         &mut self,
         entries: &PositionSet,
@@ -225,7 +227,8 @@ impl PositionSet {
     pub(crate) fn hash(&self, seed: u64) -> u64 {
         let mut mixed = seed;
         for word in &self.words {
-            // The high bits of a product depend on all bits of its factors, so they become the low ones.
+            // The high bits of a product depend on all bits of its factors, so they become the low
+            // ones.
             mixed = (mixed ^ *word)
                 .wrapping_mul(0x9e37_79b9_7f4a_7c15)
                 .swap_bytes();

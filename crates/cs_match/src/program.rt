@@ -23,7 +23,8 @@ use cs_syntax::{CharStep, Cuts, Node, Pattern, Unfinished};
 use std::alloc::{AllocError, Global};
 use std::marker::Model;
 
-/// A compiled pattern. Contracts see it as its expanded tree, which has a match in the same lines as the pattern.
+/// A compiled pattern. Contracts see it as its expanded tree, which has a match in the same lines
+/// as the pattern.
 #[derive(Drop)]
 pub struct Program {
     /// The expanded tree.
@@ -78,8 +79,8 @@ impl Model for Program {
 }
 
 impl Program {
-    /// Compiles a pattern: expands its counted repeats. The program has a match in the same lines, and at most two
-    /// positions and three nodes for each unit of the pattern's weight.
+    /// Compiles a pattern: expands its counted repeats. The program has a match in the same lines,
+    /// and at most two positions and three nodes for each unit of the pattern's weight.
     pub fn compile(alloc: Global, pattern: &Pattern) -> Result<Program, AllocError>
         ensures alike { IfOk result (λ program. MatchSameLines program pattern.now) }
         ensures spans { IfOk result (λ program. MatchSameSpans program pattern.now) }

@@ -1,5 +1,5 @@
-// Alternations of sequences of sets, such as `if|for|while`. They are entered and left by masks of their first and last
-// positions, as in Shift-And (Baeza-Yates, Gonnet).
+// Alternations of sequences of sets, such as `if|for|while`. They are entered and left by masks of
+// their first and last positions, as in Shift-And (Baeza-Yates, Gonnet).
 ghost use Rattle.std.specs.Prelude.{◌≡◌, ◌++◌, IfOk, OnOk, false, replicate, length};
 ghost use Rattle.cs_match.specs.Sequences.{firsts_of, lasts_of};
 

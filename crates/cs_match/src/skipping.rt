@@ -13,7 +13,8 @@ use crate::matcher::Line;
 use cs_prefilter::{Prefilter, Steps};
 use memchr::memrchr;
 
-/// A line that may contain a word of a prefilter, such that no line before it does, or none if no line contains one.
+/// A line that may contain a word of a prefilter, such that no line before it does, or none if no
+/// line contains one.
 #[derive(Clone, Copy)]
 pub(crate) struct Candidate {
     pub(crate) line: Option<Line>,
@@ -22,7 +23,8 @@ pub(crate) struct Candidate {
     pub(crate) wasted: usize,
 }
 
-/// The first line at or after `from` that contains a word of the prefilter, unless its search is given up before.
+/// The first line at or after `from` that contains a word of the prefilter, unless its search is
+/// given up before.
 pub(crate) fn next_candidate(
     prefilter: &Prefilter,
     block: &[u8],

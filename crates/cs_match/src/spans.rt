@@ -1,5 +1,5 @@
-// Where in a line a match is: the leftmost one, and of those that begin there the longest. Passes of the automaton find it
-// (`pass`).
+// Where in a line a match is: the leftmost one, and of those that begin there the longest. Passes
+// of the automaton find it (`pass`).
 ghost use Rattle.std.specs.Prelude.{◌≡◌, ◌≤◌, ◌+◌, IfOk, MatchOption, length, true, false};
 ghost use Rattle.cs_match.specs.Passes.{IsPassOf};
 ghost use Rattle.cs_match.specs.Span.{IsFirstOf, HasNoMatchOf, IsFirstSpan, HasNoMatchFrom};
@@ -35,7 +35,8 @@ pub struct Listed {
     pub stopped: bool,
 }
 
-/// A program with the memory of a search for spans. Contracts see the program's tree and the steps taken.
+/// A program with the memory of a search for spans. Contracts see the program's tree and the steps
+/// taken.
 #[derive(Drop)]
 pub struct Finder<'a> {
     program: &'a Program,
@@ -72,7 +73,8 @@ impl<'a> Finder<'a> {
         Ok(Finder { program, pass })
     }
 
-    /// A finder that goes on with the pass of an earlier finder of this program. It allocates nothing.
+    /// A finder that goes on with the pass of an earlier finder of this program. It allocates
+    /// nothing.
     pub fn resume(program: &'a Program, pass: Pass) -> Finder<'a>
         requires pass { IsPassOf program.now pass }
         ensures tree { result.tree ≡ program.now }
@@ -133,8 +135,9 @@ impl<'a> Finder<'a> {
         self.pass.find(self.program, line, wanted)
     }
 
-    /// Lists the matches of the line in their order, or those that are whole words, while there is room for them and the passes
-    /// have read fewer bytes than the budget. A search that has begun is finished.
+    /// Lists the matches of the line in their order, or those that are whole words, while there is
+    /// room for them and the passes have read fewer bytes than the budget. A search that has begun
+    /// is finished.
     pub fn list(&mut self, line: &[u8], whole: bool, budget: usize, spans: &mut [Span]) -> Listed
         ensures listed { IsListing whole self.old.tree line.now spans.old spans.new result }
         ensures stopped { result.stopped ≡ true →

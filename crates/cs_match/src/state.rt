@@ -101,7 +101,8 @@ impl State {
         self.end(program, steps)
     }
 
-    /// Moves over a byte, and returns whether the state accepts before it. A newline is the end of the line.
+    /// Moves over a byte, and returns whether the state accepts before it. A newline is the end of
+    /// the line.
     pub(crate) fn step_over(
         &mut self,
         program: &Program,
@@ -163,7 +164,8 @@ impl State {
         accepting
     }
 
-    /// Moves over the end of the line to the start state, and returns whether the state accepts before it.
+    /// Moves over the end of the line to the start state, and returns whether the state accepts
+    /// before it.
     fn end(&mut self, program: &Program, steps: &mut Steps) -> bool
         requires one_each { length self.old.positions ≡ position_count program.now }
         ensures accepting { result

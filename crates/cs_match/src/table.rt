@@ -1,11 +1,13 @@
-// The transition table of the lazy DFA, borrowed by a scan. `specs/Table.antt` says what a scan needs of it.
+// The transition table of the lazy DFA, borrowed by a scan. `specs/Table.antt` says what a scan
+// needs of it.
 ghost use Rattle.std.specs.Prelude.{◌≡◌};
 ghost use Rattle.cs_match.specs.Table.{next_number, unknown, start, IsRow, HasRows};
 
-/// A transition table: a row for each state, with a transition for each class of bytes. The number of a state is the index of
-/// its row's first transition. Row 0 is that of *found*, the start state after a matching line. The next three are special:
-/// *unknown*, the transition is not computed yet; *match*, the line matches whatever follows in it; *dead*, it does not. The
-/// next is that of the start state.
+/// A transition table: a row for each state, with a transition for each class of bytes. The number
+/// of a state is the index of its row's first transition. Row 0 is that of *found*, the start state
+/// after a matching line. The next three are special: *unknown*, the transition is not computed
+/// yet; *match*, the line matches whatever follows in it; *dead*, it does not. The next is that of
+/// the start state.
 #[derive(Clone, Copy)]
 pub(crate) struct Table<'a> {
     pub(crate) transitions: &'a [u16],
@@ -37,8 +39,8 @@ impl<'a> Table<'a> {
         (4 * self.count) as u16
     }
 
-    /// The transition of a state over a byte. The column of the byte does not depend on the state, so that a step waits for
-    /// one load alone.
+    /// The transition of a state over a byte. The column of the byte does not depend on the state,
+    /// so that a step waits for one load alone.
     #[inline(always)]
     pub(crate) fn next(self, number: u16, byte: u8) -> u16
         requires rows { HasRows self }

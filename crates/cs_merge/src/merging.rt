@@ -66,12 +66,12 @@ pub fn merge_within(
     }
 }
 
-/// Does what `merge` does, with an old index in a store: only its tables are in memory. Each of its lists is
-/// read once and to its end, in the order of the list index, so that each byte is read once. The merged index
-/// is sent to an output as it is made, and has at most `most` bytes.
+/// Does what `merge` does, with an old index in a store: only its tables are in memory. Each of its
+/// lists is read once and to its end, in the order of the list index, so that each byte is read
+/// once. The merged index is sent to an output as it is made, and has at most `most` bytes.
 ///
-/// A failed read is an error of its own, and so is an allocation that fails while a list is read. Both come after the
-/// tests for `Unsorted` and `Uncovered`.
+/// A failed read is an error of its own, and so is an allocation that fails while a list is read.
+/// Both come after the tests for `Unsorted` and `Uncovered`.
 pub fn merge_stored<S: Store, O: Output>(
     alloc: Global,
     store: &mut S,
@@ -148,8 +148,8 @@ fn merge_begun<S: Store, O: Output>(
     }
 }
 
-/// An index of the merged paths and names, which has no lists yet, and the id maps of both indexes. Tests that no name
-/// occurs twice and that the newer paths cover the newer names.
+/// An index of the merged paths and names, which has no lists yet, and the id maps of both indexes.
+/// Tests that no name occurs twice and that the newer paths cover the newer names.
 fn begin_source(
     alloc: Global,
     old: &ListSource<'_>,
@@ -174,7 +174,8 @@ struct BothNames<'a, 'b> {
     newer: SortedNames<'b>,
 }
 
-/// Sorts the names of both indexes, and tests that no name occurs twice and that the newer paths cover the newer names.
+/// Sorts the names of both indexes, and tests that no name occurs twice and that the newer paths
+/// cover the newer names.
 fn sort_names<'a, 'b>(
     alloc: Global,
     old: NameTable<'a>,
@@ -201,8 +202,8 @@ fn sort_names<'a, 'b>(
     })
 }
 
-/// An index of the merged paths and names, which has no lists yet, and the id maps of both indexes. The newer paths cover
-/// the newer names.
+/// An index of the merged paths and names, which has no lists yet, and the id maps of both indexes.
+/// The newer paths cover the newer names.
 fn begin_merged(
     alloc: Global,
     paths: Texts<'_>,

@@ -41,8 +41,8 @@ pub(crate) struct BothLists<'a, 'b> {
     pub(crate) newer: MappedPostings<'a, 'b>,
 }
 
-/// Writes the merged list of one trigram. If a map is not increasing, the runs of both lists are sorted by their first
-/// new id.
+/// Writes the merged list of one trigram. If a map is not increasing, the runs of both lists are
+/// sorted by their first new id.
 pub(crate) fn merge_list(
     alloc: Global,
     sections: &mut Sections,

@@ -17,8 +17,8 @@ use crate::sorted_names::SortedNames;
 use cs_index::Sections;
 use std::alloc::{AllocError, Global};
 
-/// Writes the merged names in order, and returns the new id of each old id. Old names that a path of
-/// the cover, which are the newer paths, covers are dropped.
+/// Writes the merged names in order, and returns the new id of each old id. Old names that a path
+/// of the cover, which are the newer paths, covers are dropped.
 pub(crate) fn merge_names(
     alloc: Global,
     sections: &mut Sections,

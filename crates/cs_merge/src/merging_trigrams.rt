@@ -1,5 +1,5 @@
-// The merge of the posting lists: a two-way merge by trigram, which reads the lists of each index in
-// their order.
+// The merge of the posting lists: a two-way merge by trigram, which reads the lists of each index
+// in their order.
 ghost use Rattle.std.specs.Prelude.{◌≡◌, ◌<◌, ◌^◌, ◌+◌, ◌&&◌, ℕ, [], true, false, Some, None, length, IfErr, IfOk, MatchResult, OnOk};
 ghost use Rattle.cs_tree.specs.KeepsStore.{KeepsStore};
 ghost use Rattle.cs_index.specs.OpenedParts.{Parts};
@@ -82,8 +82,8 @@ pub(crate) fn merge_lists<S: Store, O: Output>(
     Ok(Err(fault))
 }
 
-/// Merges the lists of the next trigram, and sends them with those before if they are long enough. False if no list
-/// remains.
+/// Merges the lists of the next trigram, and sends them with those before if they are long enough.
+/// False if no list remains.
 fn send_next<S: Store, O: Output>(
     alloc: Global,
     store: &mut S,

@@ -69,8 +69,8 @@ fn covers_all(cover: &Cover<'_>, texts: Texts<'_>) -> bool
     true
 }
 
-/// Whether no posting list of an index in a store is damaged. Each list is read to its end; no id is
-/// kept.
+/// Whether no posting list of an index in a store is damaged. Each list is read to its end; no id
+/// is kept.
 pub fn is_whole_stored<S: Store>(
     alloc: Global,
     store: &mut S,

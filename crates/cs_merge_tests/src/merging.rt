@@ -269,8 +269,8 @@ fn has_whole_lists(index: &Index<'_>) -> bool {
     true
 }
 
-/// Whether the old index merges alike from a store, whose reads give at most `step` bytes, and from memory; and whether
-/// it is replaced and whole alike.
+/// Whether the old index merges alike from a store, whose reads give at most `step` bytes, and from
+/// memory; and whether it is replaced and whole alike.
 fn merges_alike(
     alloc: Global,
     most: u32,

@@ -4,7 +4,8 @@ ghost use Rattle.std.specs.Borrow.{ftrue};
 
 use std::marker::Model;
 
-/// The bytes that were sent to an output. Only contracts read them: the type has no size at run time.
+/// The bytes that were sent to an output. Only contracts read them: the type has no size at run
+/// time.
 #[derive(Drop)]
 pub struct Sent {
     pub ghost bytes: { List ℕ },

@@ -26,8 +26,8 @@ impl WordList {
         Ok(WordList { words, prefixes })
     }
 
-    /// Whether a word occurs at the offset. Only the words of some buckets are compared, those of all words that occur
-    /// there among them.
+    /// Whether a word occurs at the offset. Only the words of some buckets are compared, those of
+    /// all words that occur there among them.
     #[inline(always)]
     pub(crate) fn occur(&self, buckets: u8, text: &[u8], offset: usize, steps: &mut Steps) -> bool
         requires within { offset + 8 ≤ length text.now }

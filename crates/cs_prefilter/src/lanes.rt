@@ -46,7 +46,8 @@ pub(crate) fn by_high_nibble(table: &[u8; 16], bytes: u8x32) -> u8x32
     in_each_half(table).swizzle_dyn_within::<16>(bytes >> u8x32::splat(4))
 }
 
-/// A vector with the table in both of its 16-byte halves: a look-up stays within a half (AVX2's `vpshufb`).
+/// A vector with the table in both of its 16-byte halves: a look-up stays within a half (AVX2's
+/// `vpshufb`).
 #[inline(always)]
 fn in_each_half(table: &[u8; 16]) -> u8x32
     ensures { HasLanes result (λ k. slice_index table.now (k % 16)) }

@@ -1,4 +1,5 @@
-// Lists of the lines that have a word. The search goes on behind each line, and looks for no start of a line.
+// Lists of the lines that have a word. The search goes on behind each line, and looks for no start
+// of a line.
 ghost use Rattle.std.specs.Prelude.{◌≡◌, ◌≢◌, ◌≤◌, ◌<◌, ◌+◌, ◌-◌, ◌*◌, false, length, slice_index, IsTrue};
 ghost use Rattle.cs_prefilter.specs.WordBuckets.{AreFound};
 ghost use Rattle.cs_prefilter.specs.Stop.{IsStop, decided};
@@ -13,8 +14,8 @@ use crate::stop::Stop;
 use crate::word_list::WordList;
 use memchr::memchr;
 
-/// The ends of the lines with a word, so many of a list, up to the offset `to`. It is the end of the text, or the list is
-/// full, or the search is given up there.
+/// The ends of the lines with a word, so many of a list, up to the offset `to`. It is the end of
+/// the text, or the list is full, or the search is given up there.
 #[derive(Clone, Copy, Drop)]
 pub struct Listed {
     pub count: usize,
@@ -25,8 +26,8 @@ pub struct Listed {
 }
 
 impl WordList {
-    /// Lists the ends of the lines from `from` on that have a word, until the list is full, unless too many candidates are
-    /// no words. The text is whole lines from there on.
+    /// Lists the ends of the lines from `from` on that have a word, until the list is full, unless
+    /// too many candidates are no words. The text is whole lines from there on.
     #[inline(never)]
     pub(crate) fn list<P: Probe>(
         &self,

@@ -17,8 +17,9 @@ use std::simd::prelude::*;
 /// Below this share of offsets, in units of 10^-12, the low nibbles alone are looked up first.
 const MOST_LOW: u64 = 3_000_000_000;
 
-/// The nibble masks of one of the three offsets of a trigram: a table of buckets by the low nibble of a byte, and one
-/// by the high nibble. A byte is in the buckets that both of its entries contain.
+/// The nibble masks of one of the three offsets of a trigram: a table of buckets by the low nibble
+/// of a byte, and one by the high nibble. A byte is in the buckets that both of its entries
+/// contain.
 #[derive(Clone, Copy, Drop)]
 pub(crate) struct NibbleMasks {
     low: [u8; 16],
@@ -81,7 +82,8 @@ impl NibbleMasks {
         }
     }
 
-    /// The frequency of the bytes that have the bucket by their low nibbles, per 10,000, given those of the nibbles.
+    /// The frequency of the bytes that have the bucket by their low nibbles, per 10,000, given
+    /// those of the nibbles.
     fn low_frequency(&self, bucket: usize, frequencies: &[u64; 16]) -> u64
         requires { bucket < BUCKETS }
     {
@@ -104,7 +106,8 @@ pub(crate) struct TrigramMasks {
 }
 
 impl TrigramMasks {
-    /// Distributes the words over the buckets by the trigrams that they begin with, if each word has one.
+    /// Distributes the words over the buckets by the trigrams that they begin with, if each word
+    /// has one.
     pub(crate) fn of(words: &[Word]) -> Option<TrigramMasks>
         requires { length words.now ≤ most_words }
         ensures { IfSome result (λ masks. AreFound (HasBucket masks) words.now) }

@@ -3,7 +3,8 @@ ghost use Rattle.std.specs.Prelude.{◌<◌};
 
 use crate::byte_test::ByteTest;
 
-/// Tests of two bytes of a word. They are the same test if the word has only one that can be tested.
+/// Tests of two bytes of a word. They are the same test if the word has only one that can be
+/// tested.
 #[derive(Clone, Copy, Drop)]
 pub(crate) struct Pair {
     pub(crate) first: ByteTest,

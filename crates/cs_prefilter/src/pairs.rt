@@ -1,5 +1,5 @@
-// Pairs of bytes (the packed pairs of memchr's memmem): two rare bytes of a word, compared at their distance by
-// vectors, for one or two words whose letters may be folded.
+// Pairs of bytes (the packed pairs of memchr's memmem): two rare bytes of a word, compared at their
+// distance by vectors, for one or two words whose letters may be folded.
 ghost use Rattle.std.specs.Prelude.{◌≡◌, ◌≢◌, ℕ, ◌+◌, ◌<◌, ◌≤◌, length, slice_index, IsTrue, IfSome, bit_and};
 ghost use Rattle.cs_prefilter.specs.Lanes.{HasLanes};
 ghost use Rattle.cs_prefilter.specs.Pairs.{IsPairOf, HasMasks, pair_lane};

@@ -19,18 +19,19 @@ use cs_syntax::Node;
 use std::alloc::{AllocError, Global};
 use std::marker::Model;
 
-/// Below this share of offsets, in units of 10^-12, words are searched for by pairs whatever the trigrams are.
+/// Below this share of offsets, in units of 10^-12, words are searched for by pairs whatever the
+/// trigrams are.
 const RARE: u64 = 1_000_000_000;
 
 /// Below this share trigrams are worth their search, unless there are rare pairs.
 const WORTH: u64 = 5_000_000_000;
 
-/// Below this share pairs are worth their search, unless there are trigrams. If each candidate is a match, they always
-/// are.
+/// Below this share pairs are worth their search, unless there are trigrams. If each candidate is a
+/// match, they always are.
 const MOST_SHARE: u64 = 10_000_000_000;
 
-/// Words, and a search that rules out most offsets. Contracts see the words, and whether each line that contains one of
-/// them has a match.
+/// Words, and a search that rules out most offsets. Contracts see the words, and whether each line
+/// that contains one of them has a match.
 #[derive(Drop)]
 pub struct Prefilter {
     list: WordList,
@@ -68,7 +69,8 @@ impl Prefilter {
         Prefilter::by(alloc, root, Kind::Pairs, pairs)
     }
 
-    /// A prefilter for these words, if there are any, and if they are rare enough or decide whether a line matches.
+    /// A prefilter for these words, if there are any, and if they are rare enough or decide whether
+    /// a line matches.
     fn by(
         alloc: Global,
         root: &Node,
@@ -104,7 +106,8 @@ impl Prefilter {
         self.is_exact
     }
 
-    /// Skips to the first word at or after `from`, or to the end of the text, unless too many candidates are no words.
+    /// Skips to the first word at or after `from`, or to the end of the text, unless too many
+    /// candidates are no words.
     pub fn skip(&self, text: &[u8], from: usize, steps: &mut Steps) -> Stop
         requires { from ≤ length text.now }
         ensures low { from ≤ result.offset }
@@ -116,8 +119,9 @@ impl Prefilter {
         self.search.first(&self.list, text, from, steps)
     }
 
-    /// Lists the ends of the lines from `from` on that have a word, until the list is full, unless too many candidates are
-    /// no words. The text is whole lines from there on. If the search is not given up, it ends at the start of a line.
+    /// Lists the ends of the lines from `from` on that have a word, until the list is full, unless
+    /// too many candidates are no words. The text is whole lines from there on. If the search is
+    /// not given up, it ends at the start of a line.
     pub fn list(&self, text: &[u8], from: usize, ends: &mut [usize], steps: &mut Steps) -> Listed
         requires within { from ≤ length text.now }
         requires whole { IsLineStart text.now from (length text.now) }
@@ -145,7 +149,8 @@ fn are_slow(words: &Option<Words>) -> bool {
     }
 }
 
-/// Whether the trigrams of the words are worth their search, if there are rare pairs that are slow, or no rare pairs.
+/// Whether the trigrams of the words are worth their search, if there are rare pairs that are slow,
+/// or no rare pairs.
 fn are_better(words: &Option<Words>, has_rare_pairs: bool) -> bool {
     if !has_rare_pairs {
         return share_of(words) < WORTH;

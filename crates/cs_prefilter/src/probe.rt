@@ -10,10 +10,12 @@ use std::simd::prelude::*;
 /// The number of offsets that are decided at once.
 pub(crate) const STRIDE: usize = 64;
 
-/// At least this many bytes are left where offsets are decided at once: the last offset, and the word there.
+/// At least this many bytes are left where offsets are decided at once: the last offset, and the
+/// word there.
 pub(crate) const REACH: usize = 96;
 
-/// A test that each offset at which a word occurs passes, and few others. Words are in buckets, one of 8 each.
+/// A test that each offset at which a word occurs passes, and few others. Words are in buckets, one
+/// of 8 each.
 pub(crate) trait Probe {
     /// The probe finds the word in this bucket.
     ghost Finds: { Self → ℕ → Word → Type 0 };

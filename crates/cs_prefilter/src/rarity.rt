@@ -6,7 +6,8 @@ use cs_syntax::ByteSet;
 /// The largest number of sets of a word.
 pub(crate) const MOST_SETS: usize = 32;
 
-/// The frequency of a byte in source text, per 10,000 bytes. These are round estimates, one for each class of bytes.
+/// The frequency of a byte in source text, per 10,000 bytes. These are round estimates, one for
+/// each class of bytes.
 fn frequency(byte: u8) -> u64 {
     match byte {
         b' ' => 1500,
@@ -34,8 +35,8 @@ pub(crate) fn nibble_frequencies() -> [u64; 16] {
     frequencies
 }
 
-/// Common trigrams, which are far more frequent in source text than the frequencies of their bytes suggest: parts of
-/// keywords and of usual names.
+/// Common trigrams, which are far more frequent in source text than the frequencies of their bytes
+/// suggest: parts of keywords and of usual names.
 const COMMON: [[u8; 3]; 44] = [
     *b"def", *b"efi", *b"fin", *b"ine", *b"int", *b"ion", *b"tio", *b"ing", *b"con", *b"ons",
     *b"nst", *b"str", *b"tru", *b"ruc", *b"uct", *b"ret", *b"etu", *b"tur", *b"urn", *b"the",
@@ -72,7 +73,8 @@ fn common_share(sets: [&ByteSet; 3]) -> u64 {
     sum
 }
 
-/// The start of a part of a run, and the share of offsets at which the part is expected, in units of 10^-12.
+/// The start of a part of a run, and the share of offsets at which the part is expected, in units
+/// of 10^-12.
 #[derive(Clone, Copy, Drop)]
 pub(crate) struct Part {
     pub(crate) from: usize,
@@ -100,12 +102,13 @@ fn rarest_trigram(run: &[ByteSet], frequencies: &[u64]) -> Option<Part> {
 /// Above this share of offsets, per 10^8, a pair is not worth its search.
 const MOST_PAIRS: u64 = 1_000_000;
 
-/// What counts as the frequency of the second set of a pair that has none: a single byte has to be rarer than a pair,
-/// unless it is a run by itself.
+/// What counts as the frequency of the second set of a pair that has none: a single byte has to be
+/// rarer than a pair, unless it is a run by itself.
 const NO_SECOND: u64 = 30_000;
 
-/// How rare two neighbouring letters of source text are, the underscore as the last: `a` is 1, and each further letter
-/// half as frequent. They were counted in a text that is 60 % Linux, and Python modules and C headers for the rest.
+/// How rare two neighbouring letters of source text are, the underscore as the last: `a` is 1, and
+/// each further letter half as frequent. They were counted in a text that is 60 % Linux, and Python
+/// modules and C headers for the rest.
 const BIGRAMS: [[u8; 27]; 27] = [
     *b"pkjjpnkpkpmijipksijhllollpn",
     *b"lpnojqqqlmsjpplosmnokssslso",
@@ -153,7 +156,8 @@ fn level_of(first: usize, second: usize) -> Option<u32> {
     Some(u32::from(level.saturating_sub(b'a')))
 }
 
-/// The share of offsets of two neighbouring sets, per 10^8, given that of independent ones. A capital makes them rarer.
+/// The share of offsets of two neighbouring sets, per 10^8, given that of independent ones. A
+/// capital makes them rarer.
 fn share_of_neighbours(first: &ByteSet, second: &ByteSet, independent: u64) -> u64 {
     let (Some((i, is_capital)), Some((j, is_second_capital))) = (row_of(first), row_of(second))
     else {
@@ -172,8 +176,8 @@ fn share_of_neighbours(first: &ByteSet, second: &ByteSet, independent: u64) -> u
         .unwrap_or(0)
 }
 
-/// The indices of the rarest two sets that can be tested by a comparison, given the frequencies of the sets, if they are
-/// rare enough. They are the same if there is one such set.
+/// The indices of the rarest two sets that can be tested by a comparison, given the frequencies of
+/// the sets, if they are rare enough. They are the same if there is one such set.
 pub(crate) fn rarest_pair(run: &[ByteSet], frequencies: &[u64]) -> Option<(usize, usize)> {
     let first = rarest_tested(run, frequencies, None)?;
     let second = rarest_tested(run, frequencies, Some(first)).unwrap_or(first);
@@ -192,8 +196,8 @@ pub(crate) fn rarest_pair(run: &[ByteSet], frequencies: &[u64]) -> Option<(usize
     }
 }
 
-/// The indices of the rarest neighbours that can be tested by a comparison, if they are rarer than a pair with this share
-/// of offsets, per 10^8. They are preferred, since more is known of them.
+/// The indices of the rarest neighbours that can be tested by a comparison, if they are rarer than
+/// a pair with this share of offsets, per 10^8. They are preferred, since more is known of them.
 fn rarest_neighbours(run: &[ByteSet], frequencies: &[u64], share: u64) -> Option<(usize, usize)> {
     let mut best = None;
     let mut least = share.saturating_mul(3);

@@ -1,4 +1,5 @@
-// The words of a tree: every matching line contains one of them (`dfamust` in GNU grep, `Analysis` in RE2's prefilter).
+// The words of a tree: every matching line contains one of them (`dfamust` in GNU grep, `Analysis`
+// in RE2's prefilter).
 ghost use Rattle.std.specs.Prelude.{ℕ, ◌≤◌, List, IfOk, OnOk, length};
 ghost use Rattle.cs_syntax.specs.Matching.{MatchesSpan, MatchesSequence, MatchesBranch};
 ghost use Rattle.cs_syntax.specs.Node.{tree_of};

@@ -1,4 +1,5 @@
-// Runs: byte sets that contain neighbouring bytes of every match, collected from a sequence from left to right.
+// Runs: byte sets that contain neighbouring bytes of every match, collected from a sequence from
+// left to right.
 ghost use Rattle.std.specs.Prelude.{◌≡◌, ◌≤◌, ◌++◌, ◌∷◌, [], ℕ, List, None, OnOk, drop, max, vec_len};
 ghost use Rattle.cs_prefilter.specs.Words.{SetsEndAt, HasWordOf};
 
@@ -51,7 +52,8 @@ impl Runs {
         Ok(())
     }
 
-    /// Ends the current run and begins the next one at `index`, unless the current run begins there or later.
+    /// Ends the current run and begins the next one at `index`, unless the current run begins there
+    /// or later.
     pub(crate) fn cut(&mut self, index: usize) -> Result<(), AllocError>
         requires { index ≤ vec_len self.old.sets }
         ensures sets { self.new.sets ≡ self.old.sets }

@@ -1,4 +1,5 @@
-// The scan for words by a probe. Strides of 64 offsets are probed, and words are compared at the offsets that pass.
+// The scan for words by a probe. Strides of 64 offsets are probed, and words are compared at the
+// offsets that pass.
 ghost use Rattle.std.specs.Prelude.{◌≡◌, ◌≤◌, ◌<◌, ◌+◌, ◌*◌, ◌-◌, length, min, take};
 ghost use Rattle.cs_prefilter.specs.Probe.{NoneFrom};
 ghost use Rattle.cs_prefilter.specs.WordBuckets.{AreFound};
@@ -12,7 +13,8 @@ use crate::steps::Steps;
 use crate::stop::Stop;
 use crate::word_list::WordList;
 
-/// How many bytes the DFA scans in the time of a candidate that is no word: so many, and so many for each word.
+/// How many bytes the DFA scans in the time of a candidate that is no word: so many, and so many
+/// for each word.
 const CANDIDATE_COST: usize = 20;
 
 const WORD_COST: usize = 2;
@@ -20,11 +22,13 @@ const WORD_COST: usize = 2;
 /// A search is given up when candidates that are no words cost so many bytes more than are skipped.
 pub(crate) const MOST_WASTED: usize = 4096;
 
-/// The length of a copy of the last bytes of a text and zeros behind them, in which two strides are probed.
+/// The length of a copy of the last bytes of a text and zeros behind them, in which two strides are
+/// probed.
 const LAST: usize = 2 * STRIDE + 32;
 
 impl WordList {
-    /// Skips to the first word at or after `from`, or to the end of the text, unless too many candidates are no words.
+    /// Skips to the first word at or after `from`, or to the end of the text, unless too many
+    /// candidates are no words.
     #[inline(never)]
     pub(crate) fn first<P: Probe>(
         &self,
@@ -67,7 +71,8 @@ impl WordList {
         CANDIDATE_COST + WORD_COST * self.words.len()
     }
 
-    /// The first word in a stride, or its end. What is wasted is the number of candidates that are no words.
+    /// The first word in a stride, or its end. What is wasted is the number of candidates that are
+    /// no words.
     #[inline(always)]
     pub(crate) fn first_in_stride<P: Probe>(
         &self,
@@ -106,7 +111,8 @@ impl WordList {
         }
     }
 
-    /// The first word in the last bytes of the text, or its end. The bytes are copied before zeros and probed there.
+    /// The first word in the last bytes of the text, or its end. The bytes are copied before zeros
+    /// and probed there.
     #[inline(never)]
     pub(crate) fn first_in_rest<P: Probe>(
         &self,
@@ -130,7 +136,8 @@ impl WordList {
         self.first_marked(marks(probe, &last, STRIDE), text, stop.offset, steps)
     }
 
-    /// The first word at one of the next 64 offsets, or their end, given a bit for each of them at which one may occur.
+    /// The first word at one of the next 64 offsets, or their end, given a bit for each of them at
+    /// which one may occur.
     fn first_marked(&self, marks: u64, text: &[u8], offset: usize, steps: &mut Steps) -> Stop
         requires within { offset ≤ length text.now }
         requires marked { NoneUnmarked self.now.words.items text.now offset marks }

@@ -114,7 +114,8 @@ impl Search {
         }
     }
 
-    /// Skips to the first of the words at or after `from`, or to the end of the text, unless it is given up.
+    /// Skips to the first of the words at or after `from`, or to the end of the text, unless it is
+    /// given up.
     #[inline(always)]
     pub(crate) fn first(
         &self,
@@ -138,7 +139,8 @@ impl Search {
         }
     }
 
-    /// Lists the ends of the lines from `from` on that have a word, until the list is full or the search is given up.
+    /// Lists the ends of the lines from `from` on that have a word, until the list is full or the
+    /// search is given up.
     #[inline(always)]
     pub(crate) fn list(
         &self,

@@ -4,8 +4,8 @@ ghost use Rattle.std.specs.Borrow.{ftrue};
 
 use std::marker::Model;
 
-/// How many steps were taken. `specs/OffsetWork.antt` says what a step of a prefilter is. The type has no size at run
-/// time. Only `add` changes the number.
+/// How many steps were taken. `specs/OffsetWork.antt` says what a step of a prefilter is. The type
+/// has no size at run time. Only `add` changes the number.
 #[derive(Drop)]
 pub struct Steps {
     pub ghost count: { ℕ },

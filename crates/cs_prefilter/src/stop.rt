@@ -1,6 +1,7 @@
 // Where a search for a word ends.
 
-/// The end of a search for a word: at the word, at the end of the text, or where the search is given up.
+/// The end of a search for a word: at the word, at the end of the text, or where the search is
+/// given up.
 #[derive(Clone, Copy, Drop)]
 pub struct Stop {
     pub offset: usize,

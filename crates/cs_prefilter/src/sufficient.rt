@@ -44,8 +44,8 @@ fn is_sufficient(root: &Node, word: &Word) -> bool
     }
 }
 
-/// The index of the set of the word up to which the tree matches from the index `from` on. Of several branches the first
-/// that matches counts.
+/// The index of the set of the word up to which the tree matches from the index `from` on. Of
+/// several branches the first that matches counts.
 #[cycle(matched_to)]
 fn matched_to(node: &Node, word: &Word, from: usize) -> Option<usize>
     requires { from ≤ vec_len word.now.sets }

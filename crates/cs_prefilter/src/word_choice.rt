@@ -22,8 +22,8 @@ impl Words {
         }
     }
 
-    /// The part of the run that is the best to search for, as the only word, if its share is below `most`; the
-    /// frequencies are those of the sets.
+    /// The part of the run that is the best to search for, as the only word, if its share is below
+    /// `most`; the frequencies are those of the sets.
     pub(crate) fn of_run(
         alloc: Global,
         kind: Kind,

@@ -29,7 +29,8 @@ pub(crate) struct EndedLines {
     pub(crate) len: usize,
 }
 
-/// How many lines of a text are wanted, of those that have ended. The first `scanned` bytes have no newline.
+/// How many lines of a text are wanted, of those that have ended. The first `scanned` bytes have no
+/// newline.
 fn count_ended(
     options: &ShowOptions,
     text: &[u8],
@@ -48,7 +49,8 @@ fn count_ended(
     EndedLines { count, len }
 }
 
-/// Counts the wanted lines of the window that have ended, and drops them. The first `scanned` bytes have no newline.
+/// Counts the wanted lines of the window that have ended, and drops them. The first `scanned` bytes
+/// have no newline.
 fn count_window(
     options: &ShowOptions,
     window: &mut Window,
@@ -76,7 +78,8 @@ fn is_enough(most: Option<u64>, count: u64) -> bool
     }
 }
 
-/// How many lines of a text are wanted, up to `most`. The window has its first bytes, and the source the rest.
+/// How many lines of a text are wanted, up to `most`. The window has its first bytes, and the
+/// source the rest.
 pub(crate) fn stream_count<R: Source>(
     options: &ShowOptions,
     most: Option<u64>,

@@ -42,7 +42,8 @@ impl LineForm {
         Ok(())
     }
 
-    /// The line from `at` up to the end of a match, which is in colours. Returns where the rest of the line begins.
+    /// The line from `at` up to the end of a match, which is in colours. Returns where the rest of
+    /// the line begins.
     fn print_match<O: Output>(
         &self,
         line: &[u8],

@@ -11,7 +11,8 @@ pub fn lines_are_printed_if_marked()
         ≡ nat_lt 0 (count_of options finding text) }
 {}
 
-/// What is printed for texts one after another is what is printed for the first ones, and then what follows it.
+/// What is printed for texts one after another is what is printed for the first ones, and then what
+/// follows it.
 pub fn texts_follow_texts()
     ensures { (between : List ℕ) (groups more : List (List ℕ)) → joined between (groups ++ more)
         ≡ joined between groups ++ following between (has_groups groups) more }

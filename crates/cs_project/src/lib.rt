@@ -1,15 +1,19 @@
-//! What a `cs` to come prints of a text. Read `specs/Contexts.antt` first (which lines are shown), then `specs/Forms.antt` (a line
-//! as it is printed), `specs/Findings.antt` (which lines match, and where) and `specs/Shown.antt` (a text, and texts one after
-//! another). `specs/Project.antt` says what is printed for an item of a tree, and the exit status.
+//! What a `cs` to come prints of a text. Read `specs/Contexts.antt` first (which lines are shown),
+//! then `specs/Forms.antt` (a line as it is printed), `specs/Findings.antt` (which lines match, and
+//! where) and `specs/Shown.antt` (a text, and texts one after another). `specs/Project.antt` says
+//! what is printed for an item of a tree, and the exit status.
 //!
-//! A block of lines is searched for its next line to show, by the matcher of cs_match. `Rows` holds the lines before it that may
-//! still be shown, and how many after the last one are to be. A line is printed with its matches (`Finder`) if the form needs
-//! them. `Page` is what earlier texts leave to be printed between groups.
+//! A block of lines is searched for its next line to show, by the matcher of cs_match. `Rows` holds
+//! the lines before it that may still be shown, and how many after the last one are to be. A line
+//! is printed with its matches (`Finder`) if the form needs them. `Page` is what earlier texts
+//! leave to be printed between groups.
 //!
-//! A text comes from a source (`print_file`): a `Window` has the bytes of it that are still needed, the lines that are held and
-//! the line that has not ended, and each read adds some. What was printed and what is still to be printed are the same at each
-//! block, whatever follows (`StreamsRows` of `specs/Streams.antt`), so the whole text need not be there at once, and memory does
-//! not grow with it. Whether it is binary is seen from its first bytes. A count stops as soon as it is known.
+//! A text comes from a source (`print_file`): a `Window` has the bytes of it that are still needed,
+//! the lines that are held and the line that has not ended, and each read adds some. What was
+//! printed and what is still to be printed are the same at each block, whatever follows
+//! (`StreamsRows` of `specs/Streams.antt`), so the whole text need not be there at once, and memory
+//! does not grow with it. Whether it is binary is seen from its first bytes. A count stops as soon
+//! as it is known.
 #![tactic(auto)]
 
 mod binary;

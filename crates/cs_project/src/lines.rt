@@ -39,7 +39,8 @@ pub(crate) fn last_lines(block: &[u8], count: usize) -> usize
     start
 }
 
-// The number of newlines in this many bytes fits in one byte, so the count vectorizes with lanes of one byte.
+// The number of newlines in this many bytes fits in one byte, so the count vectorizes with lanes of
+// one byte.
 const PART: usize = 240;
 
 /// The number of lines of a block of whole lines.

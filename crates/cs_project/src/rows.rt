@@ -211,8 +211,9 @@ impl<'a> Rows<'a> {
         })
     }
 
-    /// Passes lines that are not marked, from `from` on: shows those that are after a marked one. The lines before, from `held`
-    /// on, are held. Returns where the lines begin that are held then.
+    /// Passes lines that are not marked, from `from` on: shows those that are after a marked one.
+    /// The lines before, from `held` on, are held. Returns where the lines begin that are held
+    /// then.
     pub(crate) fn pass<O: Output>(
         &mut self,
         block: &[u8],

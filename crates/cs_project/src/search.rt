@@ -15,7 +15,8 @@ const BUDGET: usize = 1 << 24;
 pub struct Search<'a> {
     pub(crate) matcher: Matcher<'a>,
     pub(crate) finder: Finder<'a>,
-    /// Only a line with a match that is a whole word matches, and only such matches are shown (`-w`).
+    /// Only a line with a match that is a whole word matches, and only such matches are shown
+    /// (`-w`).
     pub(crate) whole: bool,
     /// Room for the matches of a line.
     pub(crate) spans: Vec<Span>,
@@ -135,7 +136,8 @@ impl<'a> Search<'a> {
         count
     }
 
-    /// Finds the matches of a line, if the form needs them: all of them, unless its budget is used up.
+    /// Finds the matches of a line, if the form needs them: all of them, unless its budget is used
+    /// up.
     pub(crate) fn find(&mut self, form: &LineForm, line: &[u8]) -> Result<(), AllocError>
         ensures spans { OnOk result (self.new.stopped ≡ false → needs_spans form.now ≡ true →
             AreSpansBy self.old line.now (found_spans self.new)) }
@@ -146,7 +148,8 @@ impl<'a> Search<'a> {
         if !form.needs_spans() {
             return Ok(());
         }
-        // There is room for one match more than a line can have, since a full list counts as stopped.
+        // There is room for one match more than a line can have, since a full list counts as
+        // stopped.
         make_room(&mut self.spans, line.len().saturating_add(2))?;
         let budget = line.len().saturating_mul(8).saturating_add(BUDGET);
         let listed = self.finder.list(line, self.whole, budget, &mut self.spans);

@@ -96,7 +96,8 @@ impl Rows<'_> {
         next_wanted(self.page.options, block, from, search)
     }
 
-    /// Searches the lines of a block from `from` on; those before are held. Returns where the lines begin that are held then.
+    /// Searches the lines of a block from `from` on; those before are held. Returns where the lines
+    /// begin that are held then.
     pub(crate) fn search_block<O: Output>(
         &mut self,
         block: &[u8],
@@ -146,7 +147,8 @@ impl Rows<'_> {
         is_wanted(self.page.options, line, search)
     }
 
-    /// Searches the bytes after the last newline of a text, if there are any. The lines before are held.
+    /// Searches the bytes after the last newline of a text, if there are any. The lines before are
+    /// held.
     pub(crate) fn search_last<O: Output>(
         &mut self,
         held: &[u8],

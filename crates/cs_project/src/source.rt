@@ -86,7 +86,8 @@ fn stream_total<R: Source, O: Output>(
     })
 }
 
-/// Prints what is to be printed for a text. The window has its first bytes, and the source the rest.
+/// Prints what is to be printed for a text. The window has its first bytes, and the source the
+/// rest.
 pub(crate) fn print_source<R: Source, O: Output>(
     page: &Page<'_>,
     input: &mut R,
@@ -117,8 +118,8 @@ fn is_left_out(binary: bool, text: &[u8]) -> bool
     is_binary(text) && !binary
 }
 
-/// Prints what is to be printed for a text that is read from a source. A binary text prints nothing, unless `binary` (`-a`). Its
-/// first bytes are enough to see that.
+/// Prints what is to be printed for a text that is read from a source. A binary text prints
+/// nothing, unless `binary` (`-a`). Its first bytes are enough to see that.
 pub fn print_file<R: Source, O: Output>(
     page: &Page<'_>,
     binary: bool,

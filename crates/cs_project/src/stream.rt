@@ -57,8 +57,8 @@ pub struct Streamed {
     pub ended: Ended,
 }
 
-/// The length of the lines that have ended. The bytes from `from` to `scanned` have no newline. None if no line has ended
-/// since.
+/// The length of the lines that have ended. The bytes from `from` to `scanned` have no newline.
+/// None if no line has ended since.
 pub(crate) fn ended_len(text: &[u8], from: usize, scanned: usize) -> Option<usize>
     requires low { from ≤ scanned }
     requires high { scanned ≤ length text.now }
@@ -84,7 +84,8 @@ impl Rows<'_> {
         start
     }
 
-    /// Searches the lines of a text that have ended. Those before `from` are held. Returns which lines are held then.
+    /// Searches the lines of a text that have ended. Those before `from` are held. Returns which
+    /// lines are held then.
     fn search_ended<O: Output>(
         &mut self,
         text: &[u8],
@@ -115,7 +116,8 @@ impl Rows<'_> {
         })
     }
 
-    /// Searches the lines of the window that have ended, and drops those that are not held then. Returns the length of the others.
+    /// Searches the lines of the window that have ended, and drops those that are not held then.
+    /// Returns the length of the others.
     fn search_window<O: Output>(
         &mut self,
         window: &mut Window,
@@ -160,7 +162,8 @@ impl Rows<'_> {
     }
 }
 
-/// Prints the lines of a text that are to be shown. The window has its first bytes, and the source the rest.
+/// Prints the lines of a text that are to be shown. The window has its first bytes, and the source
+/// the rest.
 pub(crate) fn stream_lines<R: Source, O: Output>(
     page: &Page<'_>,
     input: &mut R,

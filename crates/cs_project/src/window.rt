@@ -86,7 +86,8 @@ impl Window {
         Ok(n)
     }
 
-    /// Begins with another text: reads as many of its first bytes as show whether it is binary, unless it ends before.
+    /// Begins with another text: reads as many of its first bytes as show whether it is binary,
+    /// unless it ends before.
     pub(crate) fn begin<R: Source>(&mut self, input: &mut R) -> Result<(), ReadFault>
         ensures first { ReadsFirst (R.model input.old) (R.model input.new) result self.new.text.items }
         ensures room { IfOk result (λ _. length self.new.text.items + self.new.left ≡ LONGEST) }

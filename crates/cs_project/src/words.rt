@@ -1,4 +1,5 @@
-// Reads the words of the command line of `cs`: options in any order among operands, as rg and grep read them.
+// Reads the words of the command line of `cs`: options in any order among operands, as rg and grep
+// read them.
 ghost use Rattle.std.specs.Prelude.{◌≡◌, ◌≢◌, List, [], length, map, string_bytes, Ok, Err, IfOk, IfErr};
 ghost use Rattle.cs_project.specs.Words.{reading, after_letters, after_name, after_equals, after_long, after_any, after_word, items_of};
 ghost use Rattle.cs_project.specs.declared.words.ItemFault.TheVariants.{Memory};
@@ -6,7 +7,8 @@ ghost use Rattle.cs_project.specs.declared.words.ItemFault.TheVariants.{Memory};
 use crate::named::{Named, Switch, Valued, letter_option, name_option};
 use std::alloc::{AllocError, AllocFailed, Global};
 
-/// An option or an operand. Words are given by their index, a value by its word and its first byte there.
+/// An option or an operand. Words are given by their index, a value by its word and its first byte
+/// there.
 #[derive(Clone, Copy, Drop)]
 pub enum Item {
     Switch(Switch),
@@ -25,7 +27,8 @@ pub(crate) enum Next {
     Operand,
 }
 
-/// Why words cannot be read: the index of the word, and the byte where the letter or the name begins.
+/// Why words cannot be read: the index of the word, and the byte where the letter or the name
+/// begins.
 #[derive(Clone, Copy, Drop)]
 pub enum ItemFault {
     /// There is no such option.

@@ -9,7 +9,8 @@ use std::alloc::{AllocError, Global};
 /// The initial size in bytes.
 const FIRST_SIZE: usize = 65536;
 
-/// A read buffer, reused for one input after another. It grows only for a line that is longer than the buffer.
+/// A read buffer, reused for one input after another. It grows only for a line that is longer than
+/// the buffer.
 #[derive(Drop)]
 pub struct LineBuffer {
     bytes: Vec<u8>,
@@ -113,8 +114,8 @@ impl LineBuffer {
         Ok(())
     }
 
-    /// Reads some of the bytes that may still be read, after the pending ones, and returns their number, which is 0 at the
-    /// end of the input.
+    /// Reads some of the bytes that may still be read, after the pending ones, and returns their
+    /// number, which is 0 at the end of the input.
     #[tactic(auto, unfolding(crate::specs::Buffer::pending_bytes))]
     pub(crate) fn fill<R: Source>(&mut self, input: &mut R) -> Result<usize, IoFault>
         requires some { 0 < self.old.left }

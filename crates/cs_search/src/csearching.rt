@@ -1,4 +1,5 @@
-// Search by a trigram index (Cox): a query of the pattern selects candidates, which are searched line by line.
+// Search by a trigram index (Cox): a query of the pattern selects candidates, which are searched
+// line by line.
 ghost use Rattle.std.specs.Prelude.{None, option_copied};
 ghost use Rattle.cs_search.specs.Refusals.{SilentOnError};
 ghost use Rattle.cs_search.specs.SearchEffects.{SearchesTree, HasNotBegun, EndsBoth};
@@ -15,15 +16,15 @@ use cs_index::StoredIndex;
 use cs_tree::{MemStore, Sink, Tree};
 use std::alloc::Global;
 
-/// Prints the lines that match the job's pattern, in the indexed files that may have one, in the order of their ids.
-/// Each file that cannot be searched to its end has a line on `err`. On success both outputs are flushed, `out`
-/// first, once each.
+/// Prints the lines that match the job's pattern, in the indexed files that may have one, in the
+/// order of their ids. Each file that cannot be searched to its end has a line on `err`. On success
+/// both outputs are flushed, `out` first, once each.
 ///
 /// # Errors
 ///
-/// Before any output, in this order: `Pattern`, `FilePattern`, `NoIndex`, `BadIndex`. After `Write` and `Memory` each
-/// output has a prefix of what the search prints, `err` was not flushed, and each fault line reports a failure that
-/// the tree counted.
+/// Before any output, in this order: `Pattern`, `FilePattern`, `NoIndex`, `BadIndex`. After `Write`
+/// and `Memory` each output has a prefix of what the search prints, `err` was not flushed, and each
+/// fault line reports a failure that the tree counted.
 pub fn csearch<T: Tree, O: Sink, E: Sink>(
     alloc: Global,
     job: &SearchJob,

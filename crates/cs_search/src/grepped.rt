@@ -6,7 +6,7 @@ use crate::grep_fault::ReadFault;
 pub struct Grepped {
     /// Some tested line matched.
     pub matched: bool,
-    /// Why the search stopped before the end of the input. With `-l` a matching line ends the search, and this is
-    /// `None`.
+    /// Why the search stopped before the end of the input. With `-l` a matching line ends the
+    /// search, and this is `None`.
     pub fault: Option<ReadFault>,
 }

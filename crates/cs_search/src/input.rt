@@ -16,8 +16,8 @@ use crate::tally::Tally;
 use cs_match::Matcher;
 use cs_tree::{IoFault, Sink, Source};
 
-/// Searches the lines that end within the bytes that may still be read of an input, and returns where the reading stopped.
-/// The buffer then has the unfinished line. Each read is a step.
+/// Searches the lines that end within the bytes that may still be read of an input, and returns
+/// where the reading stopped. The buffer then has the unfinished line. Each read is a step.
 pub(crate) fn search_input<R: Source, O: Sink>(
     printer: &Printer<'_>,
     tally: &mut Tally,

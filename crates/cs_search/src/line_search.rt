@@ -97,8 +97,8 @@ fn count_lines(printer: &Printer<'_>, tally: &mut Tally, block: &[u8], matcher: 
     tally.matches += matches;
 }
 
-/// Tests the lines of a block of whole lines. Under `-l` the first matching line ends the search, and the result is
-/// true.
+/// Tests the lines of a block of whole lines. Under `-l` the first matching line ends the search,
+/// and the result is true.
 fn search_lines<O: Sink>(
     printer: &Printer<'_>,
     tally: &mut Tally,
@@ -140,9 +140,9 @@ fn search_lines<O: Sink>(
     Ok(false)
 }
 
-/// Tests the lines of a block that have ended, and returns the offset of the unfinished line. The first `scanned`
-/// bytes have no newline; each further one is a step. Under `-l` the first matching line ends the search, and the result
-/// is `None`.
+/// Tests the lines of a block that have ended, and returns the offset of the unfinished line. The
+/// first `scanned` bytes have no newline; each further one is a step. Under `-l` the first matching
+/// line ends the search, and the result is `None`.
 pub(crate) fn search_block<O: Sink>(
     printer: &Printer<'_>,
     tally: &mut Tally,

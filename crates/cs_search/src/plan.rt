@@ -28,7 +28,8 @@ pub(crate) struct Plan {
     pub(crate) file: Option<Program>,
 }
 
-// A body that owns a plan drops it by a call. A derived `drop` would stand there with each field of both programs.
+// A body that owns a plan drops it by a call. A derived `drop` would stand there with each field of
+// both programs.
 impl Drop for Plan {
     fn drop(self) {
         let Plan {

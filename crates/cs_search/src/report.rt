@@ -27,14 +27,16 @@ use std::alloc::Global;
 /// The maximum number of bytes of an input that are searched: 2^30.
 pub const MAX_SEARCHED: usize = 1073741824;
 
-/// Searches the input line by line and prints its matching lines in the given style. Returns whether some line
-/// matched, and why the search stopped before the end of the input. It flushes nothing. With `-l` it reads nothing
-/// after the read that completed the first matching line. `input_work` of what was read bounds the matcher's steps. Not
-/// counted are the system's own work, the growth of the buffer, and the moves of an unfinished line to its start.
+/// Searches the input line by line and prints its matching lines in the given style. Returns
+/// whether some line matched, and why the search stopped before the end of the input. It flushes
+/// nothing. With `-l` it reads nothing after the read that completed the first matching line.
+/// `input_work` of what was read bounds the matcher's steps. Not counted are the system's own work,
+/// the growth of the buffer, and the moves of an unfinished line to its start.
 ///
 /// # Errors
 ///
-/// `Write` if the output fails, `Memory` if an allocation fails. Then a prefix of the report was printed.
+/// `Write` if the output fails, `Memory` if an allocation fails. Then a prefix of the report was
+/// printed.
 pub fn grep<R: Source, O: Sink>(
     alloc: Global,
     name: &str,
@@ -104,7 +106,8 @@ pub fn grep_within<R: Source, O: Sink>(
     }
 }
 
-/// Ends the search of an input: tests the bytes after the last newline, and prints the number of matching lines.
+/// Ends the search of an input: tests the bytes after the last newline, and prints the number of
+/// matching lines.
 pub(crate) fn end_search<O: Sink>(
     printer: &Printer<'_>,
     tally: &mut Tally,

@@ -66,7 +66,8 @@ impl<'p> Searcher<'p> {
         })
     }
 
-    /// Prints the matching lines of an input, and its fault line. Returns whether some line matched.
+    /// Prints the matching lines of an input, and its fault line. Returns whether some line
+    /// matched.
     pub(crate) fn search<R: Source, O: Sink, E: Sink>(
         &mut self,
         name: &str,

@@ -20,14 +20,15 @@ use cs_syntax::parse;
 use cs_tree::{Sink, Source, Tree};
 use std::alloc::Global;
 
-/// Prints the lines that match the job's pattern: those of standard input, or of the job's files in the order of the
-/// arguments. Each input that cannot be searched to its end has a line on `err`. On success both outputs are flushed,
-/// `out` first, once each.
+/// Prints the lines that match the job's pattern: those of standard input, or of the job's files in
+/// the order of the arguments. Each input that cannot be searched to its end has a line on `err`.
+/// On success both outputs are flushed, `out` first, once each.
 ///
 /// # Errors
 ///
-/// `Pattern` comes before anything is read or printed. After `Write` and `Memory` each output has a prefix of what
-/// the search prints, `err` was not flushed, and each fault line reports a failure that its input counted.
+/// `Pattern` comes before anything is read or printed. After `Write` and `Memory` each output has a
+/// prefix of what the search prints, `err` was not flushed, and each fault line reports a failure
+/// that its input counted.
 pub fn cgrep<T: Tree, R: Source, O: Sink, E: Sink>(
     alloc: Global,
     job: &GrepJob,

@@ -24,13 +24,15 @@ pub struct SearchCall<'a> {
     pub job: &'a SearchJob,
 }
 
-/// `csearch` over the bytes of a store; `opened` is what `StoredIndex::open` returned for it. Only the posting lists
-/// that the query requires and the names of the candidates are read, before anything is printed.
+/// `csearch` over the bytes of a store; `opened` is what `StoredIndex::open` returned for it. Only
+/// the posting lists that the query requires and the names of the candidates are read, before
+/// anything is printed.
 ///
 /// # Errors
 ///
-/// The outer result is that of the store: if it cannot be read, nothing was printed, and both patterns were accepted.
-/// Errors of the patterns, and then of the index, come before that, in the inner result.
+/// The outer result is that of the store: if it cannot be read, nothing was printed, and both
+/// patterns were accepted. Errors of the patterns, and then of the index, come before that, in the
+/// inner result.
 pub fn csearch_stored<S: Store, T: Tree, O: Sink, E: Sink>(
     call: SearchCall<'_>,
     opened: Result<StoredIndex, IndexFault>,

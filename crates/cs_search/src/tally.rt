@@ -5,7 +5,8 @@ ghost use Rattle.cs_match.specs.Automaton.{after_steps};
 
 use cs_match::Matcher;
 
-/// The number of tested lines, and of the matching ones. If no number is printed, lines without a match are not counted.
+/// The number of tested lines, and of the matching ones. If no number is printed, lines without a
+/// match are not counted.
 #[derive(Drop)]
 pub(crate) struct Tally {
     pub(crate) lines: u64,
@@ -35,7 +36,8 @@ impl Tally {
     }
 }
 
-// The number of newlines in this many bytes fits in one byte, so the count vectorizes with lanes of one byte.
+// The number of newlines in this many bytes fits in one byte, so the count vectorizes with lanes of
+// one byte.
 const PART: usize = 240;
 
 /// The number of newlines in the block; each ends a line. Each byte is a step.

@@ -83,7 +83,8 @@ impl IndexFolder for DiskFolder {
 
     ghost given = { λ d. d.given.bytes };
 
-    /// Only a regular file is opened: opening a pipe would block, and opening a device may have side effects.
+    /// Only a regular file is opened: opening a pipe would block, and opening a device may have
+    /// side effects.
     fn look(&mut self) -> Result<Option<DiskIndex>, StorageFault> {
         let file = self.paths.file()?;
         match fs::metadata(&self.rt, file) {
@@ -102,7 +103,8 @@ impl IndexFolder for DiskFolder {
         Ok(Some(DiskIndex(store)))
     }
 
-    /// A file system without locks is accepted, since no other process can create FILE~ while it exists.
+    /// A file system without locks is accepted, since no other process can create FILE~ while it
+    /// exists.
     fn claim(&mut self) -> Result<(), StorageFault> {
         let path = self.paths.temp.as_str();
         remove_stale(&self.rt, path, self.seen.as_ref())?;
@@ -150,8 +152,9 @@ impl IndexFolder for DiskFolder {
         self.written = self.written.saturating_add(bytes.len() as u64);
     }
 
-    /// FILE~ is opened for appending, so each byte that is given stays after those before it, and a program that knows
-    /// nothing of locks and empties the file, such as Google's cindex, makes it shorter.
+    /// FILE~ is opened for appending, so each byte that is given stays after those before it, and a
+    /// program that knows nothing of locks and empties the file, such as Google's cindex, makes it
+    /// shorter.
     fn sync(&mut self) -> Result<(), StorageFault> {
         if let Some(fault) = self.failure {
             return Err(fault);
@@ -224,8 +227,8 @@ fn write_bytes(mut temp: &File, bytes: &[u8]) -> io::Result<()> {
     temp.write_all(bytes)
 }
 
-/// Gives FILE~ the rights of the index that it replaces, and as root also its owner. A mode that is right is not set,
-/// since some file systems refuse to set any.
+/// Gives FILE~ the rights of the index that it replaces, and as root also its owner. A mode that is
+/// right is not set, since some file systems refuse to set any.
 fn copy_rights(temp: &File, seen: Option<&Metadata>) -> io::Result<()> {
     let Some(seen) = seen else {
         return Ok(());

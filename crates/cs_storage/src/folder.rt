@@ -5,7 +5,8 @@ ghost use Rattle.cs_storage.specs.Storing.{Folder, Moves, Looks, Claims, Compare
 use crate::fault::StorageFault;
 use cs_tree::Store;
 
-/// The index file and its surroundings: FILE, and FILE~ beside it, as one run sees and changes them.
+/// The index file and its surroundings: FILE, and FILE~ beside it, as one run sees and changes
+/// them.
 pub trait IndexFolder {
     /// The opened index file.
     type Index: Store + Drop;

@@ -59,8 +59,8 @@ impl IndexPaths {
     }
 }
 
-/// The name of the index file: the value of `CSEARCHINDEX`, or if that is unset or empty `.csearchindex` in the
-/// folder that `HOME` names.
+/// The name of the index file: the value of `CSEARCHINDEX`, or if that is unset or empty
+/// `.csearchindex` in the folder that `HOME` names.
 fn index_file_name(rt: &HostRuntime) -> Result<String, StorageFault> {
     let mut file = variable(rt, "CSEARCHINDEX")?;
     if file.is_empty() {
@@ -92,8 +92,8 @@ fn follow_links(rt: &HostRuntime, name: &str) -> Result<String, StorageFault> {
     Err(StorageFault::Failed)
 }
 
-/// The path that a link leads to. Returns an error for a link of the system, such as /dev/stdout, which leads to whatever
-/// a process has opened.
+/// The path that a link leads to. Returns an error for a link of the system, such as /dev/stdout,
+/// which leads to whatever a process has opened.
 fn target_of(rt: &HostRuntime, link: &str) -> Result<String, StorageFault> {
     let folder = fs::canonicalize(rt, folder_of(link))?;
     if covers("/dev", folder.as_str()) || covers("/proc", folder.as_str()) {

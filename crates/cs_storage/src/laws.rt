@@ -7,7 +7,8 @@ pub fn no_job_is_lost()
     ensures { NoJobIsLost }
 {}
 
-/// A file with the kept mode gives nobody a right that they did not have to the file that it replaces.
+/// A file with the kept mode gives nobody a right that they did not have to the file that it
+/// replaces.
 pub fn nobody_is_let_in()
     ensures { NobodyIsLetIn }
 {}

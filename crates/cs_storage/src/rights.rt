@@ -2,8 +2,8 @@
 ghost use Rattle.std.specs.Prelude.{◌<◌};
 ghost use Rattle.cs_storage.specs.Rights.{IsKeptMode};
 
-/// The mode of a file that replaces one with this mode: its owner keeps their rights, and nobody else gets more than
-/// everybody had.
+/// The mode of a file that replaces one with this mode: its owner keeps their rights, and nobody
+/// else gets more than everybody had.
 pub fn kept_mode(mode: u32) -> u32
     ensures kept { IsKeptMode mode result }
     ensures bound { result < 512 }

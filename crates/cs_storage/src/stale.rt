@@ -7,8 +7,9 @@ use std::os::unix::fs::MetadataExt;
 /// The first bytes of an index.
 const MAGIC: &[u8] = b"csearch index 1\n";
 
-/// Removes a FILE~ that a killed process left, if it is not locked. Nothing else is removed: a regular file that is not
-/// ours, or does not begin as an index, is `Leftover`, whose line asks for its removal.
+/// Removes a FILE~ that a killed process left, if it is not locked. Nothing else is removed: a
+/// regular file that is not ours, or does not begin as an index, is `Leftover`, whose line asks for
+/// its removal.
 pub(crate) fn remove_stale(
     rt: &HostRuntime,
     path: &str,
@@ -29,8 +30,9 @@ pub(crate) fn remove_stale(
     }
 }
 
-/// Opens and locks a file that is at FILE~. It is `Leftover` if that fails, unless another process has locked it. The file
-/// is opened for reading and writing, since the opening of a pipe, which may be there by now, then does not block.
+/// Opens and locks a file that is at FILE~. It is `Leftover` if that fails, unless another process
+/// has locked it. The file is opened for reading and writing, since the opening of a pipe, which
+/// may be there by now, then does not block.
 fn open_unlocked(rt: &HostRuntime, path: &str, there: &Metadata) -> Result<File, StorageFault> {
     let opened = match File::options().read(true).write(true).open(rt, path) {
         Ok(opened) => opened,
@@ -51,8 +53,9 @@ fn open_unlocked(rt: &HostRuntime, path: &str, there: &Metadata) -> Result<File,
     }
 }
 
-/// Whether a process of this user may have left the file: one with one link that belongs to the user of this
-/// process, by `/proc/self`, or to the owner of FILE: to whom root gives the file, or a file system that maps owners.
+/// Whether a process of this user may have left the file: one with one link that belongs to the
+/// user of this process, by `/proc/self`, or to the owner of FILE: to whom root gives the file, or
+/// a file system that maps owners.
 fn is_stale(rt: &HostRuntime, there: &Metadata, seen: Option<&Metadata>) -> bool {
     let is_left = there.nlink() <= 1;
     let is_ours = match fs::metadata(rt, "/proc/self") {
@@ -62,8 +65,8 @@ fn is_stale(rt: &HostRuntime, there: &Metadata, seen: Option<&Metadata>) -> bool
     is_left && (is_ours || seen.is_some_and(|seen| there.uid() == seen.uid()))
 }
 
-/// Whether a killed run may have left these bytes: none, the first bytes of an index, or zeros, where the system kept the
-/// length of a file and lost its bytes.
+/// Whether a killed run may have left these bytes: none, the first bytes of an index, or zeros,
+/// where the system kept the length of a file and lost its bytes.
 fn begins_as_index(mut stale: &File) -> io::Result<bool> {
     let mut first = [0u8; MAGIC.len()];
     let len = stale.read(&mut first)?;
@@ -71,8 +74,8 @@ fn begins_as_index(mut stale: &File) -> io::Result<bool> {
     Ok(MAGIC.starts_with(first) || first.iter().all(|byte| *byte == 0))
 }
 
-/// Fails unless the open file still has this name: another process may have removed it before the lock was taken, and
-/// in a folder that is open to all anybody may at any time.
+/// Fails unless the open file still has this name: another process may have removed it before the
+/// lock was taken, and in a folder that is open to all anybody may at any time.
 pub(crate) fn check_same_file(rt: &HostRuntime, path: &str, opened: &File) -> io::Result<()> {
     let there = fs::symlink_metadata(rt, path)?;
     if !is_same(&there, &opened.metadata()?) {

@@ -8,8 +8,8 @@ use crate::fault::StorageFault;
 use crate::folder::IndexFolder;
 use crate::update::IndexUpdate;
 
-/// Makes and locks FILE~, and tests that FILE is still what was opened. So a second run, and a folder that cannot be
-/// written, are found before the job. Returns an error if FILE has changed.
+/// Makes and locks FILE~, and tests that FILE is still what was opened. So a second run, and a
+/// folder that cannot be written, are found before the job. Returns an error if FILE has changed.
 pub fn begin_update<F: IndexFolder>(folder: &mut F) -> Result<(), StorageFault>
     ensures begins { Moves (Begins result) (F.model folder.old) (F.model folder.new) }
     ensures given { OnOk result (F.given folder.new ≡ []) }
@@ -22,8 +22,8 @@ pub fn begin_update<F: IndexFolder>(folder: &mut F) -> Result<(), StorageFault>
     Err(StorageFault::Failed)
 }
 
-/// Updates FILE, and takes FILE~ away, which was given the bytes of the update. FILE is tested again, since a program
-/// that knows nothing of FILE~ may have changed it.
+/// Updates FILE, and takes FILE~ away, which was given the bytes of the update. FILE is tested
+/// again, since a program that knows nothing of FILE~ may have changed it.
 pub fn finish_update<F: IndexFolder>(
     folder: &mut F,
     update: &IndexUpdate,

@@ -47,8 +47,8 @@ fn is_whole(left: &MemLeft) -> bool {
     }
 }
 
-/// The number of calls after which the job is done; None if a crash before leaves something else than the old index or
-/// the new one, or if the outcome is not what the job reports.
+/// The number of calls after which the job is done; None if a crash before leaves something else
+/// than the old index or the new one, or if the outcome is not what the job reports.
 fn calls_of_a_job(alloc: Global) -> Result<Option<usize>, AllocError> {
     for calls in 0..MOST_CALLS {
         let mut folder = folder_of(alloc, OLD)?;

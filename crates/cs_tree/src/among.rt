@@ -47,8 +47,8 @@ fn is_below_root(path: &str) -> bool
     is_absolute(path) && path != "/"
 }
 
-/// Whether a path of the list is an ancestor of this path. A descent: at each byte of the path, `rest` are the paths
-/// that begin with the bytes before it.
+/// Whether a path of the list is an ancestor of this path. A descent: at each byte of the path,
+/// `rest` are the paths that begin with the bytes before it.
 fn is_below_one<P: AsStr>(paths: &[P], path: &str) -> bool
     requires { are_ascending (map P.text paths.now) ≡ true }
     ensures { result ≡ list_any (λ above. is_ancestor above path.now) (map P.text paths.now) }

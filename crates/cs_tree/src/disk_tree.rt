@@ -222,8 +222,8 @@ fn id_of(metadata: &Metadata) -> FileId {
     }
 }
 
-/// Maps errors of the system to errors of a tree. A missing descriptor is no fault of the tree: like memory, the process or
-/// the system lacks it.
+/// Maps errors of the system to errors of a tree. A missing descriptor is no fault of the tree:
+/// like memory, the process or the system lacks it.
 pub(crate) fn fault_of(error: &io::Error) -> TreeFault
     ensures missing { result ≡ TreeFault.Missing →
         (error_kind error.now ≡ ErrorKind.NotFound) ⊎ (error_kind error.now ≡ ErrorKind.NotADirectory) }

@@ -96,7 +96,11 @@ fn validate_fast(limits: &Limits, position: TextPosition, bytes: &[u8]) -> Optio
 }
 
 /// The position after a chunk, or the first broken rule.
-fn validate_chunk(limits: &Limits, position: TextPosition, bytes: &[u8]) -> Result<TextPosition, Reason>
+fn validate_chunk(
+    limits: &Limits,
+    position: TextPosition,
+    bytes: &[u8],
+) -> Result<TextPosition, Reason>
     requires small { AreSmallLimits limits.now }
     requires count { position.count ≤ limits.now.bytes }
     requires column { position.column ≤ limits.now.line }

@@ -1,5 +1,5 @@
-// Candidates: the files whose trigrams match a query (Go: `PostingQuery` in index/read.go). The query's form is
-// evaluated over windows of ids, so that each posting list is read once.
+// Candidates: the files whose trigrams match a query (Go: `PostingQuery` in index/read.go). The
+// query's form is evaluated over windows of ids, so that each posting list is read once.
 ghost use Rattle.std.specs.Prelude.{◌≡◌, ◌<◌, ◌≤◌, ◌+◌, ◌-◌, ◌⊎◌, ◌^◌, ◌++◌, ℕ, List, Some, map, true, false, filter, length, slice_index_or, IfOk, IfErr, OnOk, IfSome};
 ghost use Rattle.std.specs.List.{AllByRecursion, AllZip, list_all, range_with_len};
 ghost use Rattle.cs_tree.specs.KeepsStore.{KeepsStore};
@@ -75,8 +75,8 @@ impl<'a> Index<'a> {
 }
 
 impl StoredIndex {
-    /// The ids of the names whose trigrams match the query, ascending, or `BadList`. Each posting list that the query
-    /// mentions is read to its end, once, and no other.
+    /// The ids of the names whose trigrams match the query, ascending, or `BadList`. Each posting
+    /// list that the query mentions is read to its end, once, and no other.
     pub fn candidates<S: Store>(
         &self,
         alloc: Global,
@@ -102,7 +102,8 @@ impl StoredIndex {
     }
 }
 
-/// The ids of the names whose trigrams match the query, by the lists of its entries in a section of the store.
+/// The ids of the names whose trigrams match the query, by the lists of its entries in a section of
+/// the store.
 fn candidates_in<S: Store>(
     alloc: Global,
     store: &mut S,
@@ -172,8 +173,8 @@ fn piece_size(lists: usize) -> usize
     (PIECES / lists.saturating_add(1)).clamp(LEAST_PIECE, LONGEST_PIECE)
 }
 
-/// The ids below `count` that match a form, window by window. A window begins at an id of the rarest list that the form
-/// requires.
+/// The ids below `count` that match a form, window by window. A window begins at an id of the
+/// rarest list that the form requires.
 fn meet<S: Store>(
     alloc: Global,
     store: &mut S,

@@ -9,8 +9,9 @@ use crate::reading::bytes::read_number;
 
 pub(crate) const ENTRY_LEN: usize = 11;
 
-/// Whether the numbers are the offsets of `count` strings, the first at `start`, and one more number. No NUL is searched
-/// for: offsets that ascend, each after a NUL, are those of all strings if there are as many.
+/// Whether the numbers are the offsets of `count` strings, the first at `start`, and one more
+/// number. No NUL is searched for: offsets that ascend, each after a NUL, are those of all strings
+/// if there are as many.
 pub(crate) fn has_offsets(numbers: &[u8], names: &[u8], start: usize, count: usize) -> bool
     requires names { is_section [] names.now ≡ true }
     requires count { count ≡ length (texts_of names.now) }
@@ -59,8 +60,8 @@ pub(crate) fn has_entries(list_index: &[u8], room: usize) -> bool
     list_index.len() % ENTRY_LEN == 0 && test_entries(list_index, 0, room).is_some()
 }
 
-/// The least trigram after some entries, if their trigrams are strictly ascending from `least` on and each entry fits a
-/// section of `room` bytes.
+/// The least trigram after some entries, if their trigrams are strictly ascending from `least` on
+/// and each entry fits a section of `room` bytes.
 pub(crate) fn test_entries(entries: &[u8], least: usize, room: usize) -> Option<usize>
     ensures some { IfSome result (λ next. (more : List ListEntry) →
         are_entries room least (entries_in entries.now ++ more) ≡ are_entries room next more) }
@@ -91,7 +92,8 @@ fn entry_fits(list_index: &[u8], at: usize, room: usize) -> bool
     read_number(list_index, at + 7) as usize + 4 <= room
 }
 
-/// Whether the entry counts no file. Only the last entry is asked, so the counts of the others are not read.
+/// Whether the entry counts no file. Only the last entry is asked, so the counts of the others are
+/// not read.
 #[inline(never)]
 fn has_no_ids(list_index: &[u8], at: usize) -> bool
     requires { at + ENTRY_LEN ≤ length list_index.now }

@@ -1,6 +1,7 @@
-// Queries as forms: most equal parts of a query are one node. Conjunctions in conjunctions and disjunctions in
-// disjunctions are flattened, and a node that one member decides, or that has a single one, is no node. This is hash
-// consing in a table of fixed size: a slot keeps the last node with its hash, so an equal node may be made anew.
+// Queries as forms: most equal parts of a query are one node. Conjunctions in conjunctions and
+// disjunctions in disjunctions are flattened, and a node that one member decides, or that has a
+// single one, is no node. This is hash consing in a table of fixed size: a slot keeps the last node
+// with its hash, so an equal node may be made anew.
 ghost use Rattle.std.specs.Prelude.{◌≡◌, ◌<◌, ◌^◌, ◌+◌, ℕ, Bool, List, length, map, slice_index_or, IfOk, OnOk, IfSome};
 ghost use Rattle.cs_trigram.specs.Trigram.{Ascends};
 ghost use Rattle.cs_trigram.specs.Query.{matches_set};
@@ -132,7 +133,8 @@ fn gather_each(
     Ok(())
 }
 
-/// Adds a query to the members of a node; if it is or folds to one of the kind of the node, its members.
+/// Adds a query to the members of a node; if it is or folds to one of the kind of the node, its
+/// members.
 #[cycle(fold)]
 fn gather(
     alloc: Global,
@@ -220,7 +222,8 @@ fn list_number(trigrams: &[u32], trigram: u32) -> usize
     }
 }
 
-/// The number of a node over some lists, which has each member once. No node has a single member, or one that decides it.
+/// The number of a node over some lists, which has each member once. No node has a single member,
+/// or one that decides it.
 fn intern(folding: &mut Folding, lists: usize, mut node: FormNode) -> Result<usize, AllocError>
     requires short { lists < 2 ^ 62 }
     requires form { IsForm lists folding.old.nodes.items }
@@ -246,7 +249,8 @@ fn intern(folding: &mut Folding, lists: usize, mut node: FormNode) -> Result<usi
     Ok(FIRST_LIST + lists + at)
 }
 
-/// The number that is equal to a node without members, with a single one, or with one that decides it.
+/// The number that is equal to a node without members, with a single one, or with one that decides
+/// it.
 fn decided(node: &FormNode) -> Option<usize>
     ensures exists { IfSome result (λ n. (lists : ℕ) (nodes : List FormNode') →
         Exist lists nodes node.now.members.items →

@@ -72,7 +72,8 @@ impl<'a> Index<'a> {
         }
     }
 
-    /// Opens bytes that have opened before, in constant time: only the magics and the trailer are read again.
+    /// Opens bytes that have opened before, in constant time: only the magics and the trailer are
+    /// read again.
     pub fn reopen(bytes: &'a [u8]) -> Result<Index<'a>, IndexFault>
         requires opened { IsOk (opening bytes.now) }
         ensures { result ≡ opening bytes.now }

@@ -18,8 +18,8 @@ use std::marker::Model;
 /// The least number of bytes that a read asks for.
 const READ_LEN: usize = 1 << 18;
 
-/// The bytes of one posting list of a store, and those that were read after it. Where the lists are read in their order,
-/// each byte is read once.
+/// The bytes of one posting list of a store, and those that were read after it. Where the lists are
+/// read in their order, each byte is read once.
 #[derive(Drop)]
 pub struct ListBuffer {
     bytes: Vec<u8>,
@@ -100,7 +100,8 @@ impl ListBuffer {
         self.fill(alloc, store, len, stop, least)
     }
 
-    /// The ids of the list at a position of the list index, which was read last. Without an entry the list is damaged.
+    /// The ids of the list at a position of the list index, which was read last. Without an entry
+    /// the list is damaged.
     pub fn list(&self, tables: &StoredTables, position: u32) -> Postings<'_>
         ensures { result ≡ buffered_list self.now tables.now (slice_get tables.now.entries position) }
     {

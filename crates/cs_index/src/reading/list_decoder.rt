@@ -3,7 +3,8 @@ ghost use Rattle.std.specs.Prelude.{◌≡◌, ◌≤◌, ◌<◌, ◌^◌, Some
 ghost use Rattle.cs_index.specs.ListDecoding.{IsStep};
 ghost use Rattle.cs_index.specs.PostingLists.{varint_at, read_varint};
 
-/// A posting list between two ids: the number of ids that are left, one more than the id before, and the number of names.
+/// A posting list between two ids: the number of ids that are left, one more than the id before,
+/// and the number of names.
 #[derive(Drop)]
 pub(crate) struct ListDecoder {
     pub(crate) left: u32,

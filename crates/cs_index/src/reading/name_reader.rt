@@ -13,8 +13,9 @@ use crate::reading::section_offsets::SectionOffsets;
 use cs_tree::{IoFault, Store};
 use std::alloc::Global;
 
-/// Reads the names of an index in a store. Where ids ascend, each byte of the names is read once, except those of
-/// the last name of a piece. The name that was read last has `len` bytes at the offset `at` of the store.
+/// Reads the names of an index in a store. Where ids ascend, each byte of the names is read once,
+/// except those of the last name of a piece. The name that was read last has `len` bytes at the
+/// offset `at` of the store.
 #[derive(Drop)]
 pub struct NameReader {
     start: u32,
@@ -47,8 +48,8 @@ impl NameReader {
         }
     }
 
-    /// Reads the name with an id, which is `name` until the next call. Without one, or where the store changes while it
-    /// is read, the answer may be an error.
+    /// Reads the name with an id, which is `name` until the next call. Without one, or where the
+    /// store changes while it is read, the answer may be an error.
     pub fn read<S: Store>(
         &mut self,
         alloc: Global,

@@ -5,8 +5,8 @@ ghost use Rattle.cs_tree.specs.Store.{part_of};
 
 use cs_tree::{IoFault, Store, fill_at};
 
-/// Makes the part the `len` bytes from the offset `at` on, or fewer if the store ends first. A part of this length keeps
-/// its memory, which is not cleared before.
+/// Makes the part the `len` bytes from the offset `at` on, or fewer if the store ends first. A part
+/// of this length keeps its memory, which is not cleared before.
 pub(crate) fn read_into<S: Store>(
     part: &mut Vec<u8>,
     store: &mut S,

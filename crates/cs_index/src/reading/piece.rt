@@ -16,7 +16,8 @@ use std::alloc::Global;
 /// A piece has at least as many bytes, unless the store ends first.
 const PIECE_LEN: usize = 1 << 13;
 
-/// A piece of a store's bytes, and its offset. It is read again where it lacks bytes that are asked for.
+/// A piece of a store's bytes, and its offset. It is read again where it lacks bytes that are asked
+/// for.
 #[derive(Drop)]
 pub(crate) struct Piece {
     bytes: Vec<u8>,
@@ -56,7 +57,8 @@ impl Piece {
         Ok(read_number(part, 0))
     }
 
-    /// Reads up to the first NUL from an offset on, which stands before `end`: the length of the text before it.
+    /// Reads up to the first NUL from an offset on, which stands before `end`: the length of the
+    /// text before it.
     pub(crate) fn find_text<S: Store>(
         &mut self,
         alloc: Global,

@@ -12,7 +12,8 @@ use cs_tree::{IoFault, Store};
 use cs_trigram::Query;
 use std::alloc::{AllocError, Global};
 
-/// The entries of the trigrams that a query mentions, ascending. A trigram without an entry has none.
+/// The entries of the trigrams that a query mentions, ascending. A trigram without an entry has
+/// none.
 pub(crate) fn listed_entries<S: Store>(
     alloc: Global,
     store: &mut S,

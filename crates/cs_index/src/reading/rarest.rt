@@ -1,4 +1,5 @@
-// The rarest list that a form requires: windows begin at its ids, so that the other lists are only tested between them.
+// The rarest list that a form requires: windows begin at its ids, so that the other lists are only
+// tested between them.
 ghost use Rattle.std.specs.Prelude.{◌≡◌, ◌<◌, ◌≤◌, ◌⊎◌, ◌+◌, ℕ, List, Some, true, length, IfOk, IfSome};
 ghost use Rattle.std.specs.List.{AllByRecursion, AllZip};
 ghost use Rattle.cs_tree.specs.KeepsStore.{KeepsStore};

@@ -17,7 +17,8 @@ pub(crate) struct IdWindow {
     pub(crate) end: u32,
 }
 
-/// The rows of a window of ids: that of each list, which is read up to the window's end, and that of each node.
+/// The rows of a window of ids: that of each list, which is read up to the window's end, and that
+/// of each node.
 pub(crate) fn rows_of<S: Store>(
     alloc: Global,
     store: &mut S,

@@ -11,7 +11,8 @@ use std::alloc::Global;
 /// The most bytes of a piece, unless a string is longer than half of it.
 const PIECE_LEN: usize = 65536;
 
-/// The bytes of a section that are in memory: a piece at the offset `start` of the store. The section ends at `stop`.
+/// The bytes of a section that are in memory: a piece at the offset `start` of the store. The
+/// section ends at `stop`.
 #[derive(Drop)]
 pub(crate) struct Window {
     pub(crate) piece: Vec<u8>,
@@ -36,8 +37,9 @@ impl Window {
         }
     }
 
-    /// Passes `used` bytes, and reads the next piece. It begins with the bytes that are left of this one, and has at
-    /// least twice as many, so a long string is read a few times. Returns whether any byte is new.
+    /// Passes `used` bytes, and reads the next piece. It begins with the bytes that are left of
+    /// this one, and has at least twice as many, so a long string is read a few times. Returns
+    /// whether any byte is new.
     pub(crate) fn read_on<S: Store>(&mut self, store: &mut S, used: usize) -> Result<bool, IoFault>
         requires window { IsWindow self.old }
         requires used { used ≤ length self.old.piece.items }

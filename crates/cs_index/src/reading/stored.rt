@@ -18,7 +18,8 @@ use cs_tree::{IoFault, Store};
 use std::alloc::Global;
 use std::marker::Model;
 
-/// An index in a store. Its paths are in memory; its names, its tables and its posting lists are not.
+/// An index in a store. Its paths are in memory; its names, its tables and its posting lists are
+/// not.
 #[derive(Drop)]
 pub struct StoredIndex {
     pub(crate) paths: Vec<u8>,
@@ -80,7 +81,8 @@ impl StoredIndex {
     }
 }
 
-/// Tests all sections except the posting lists, in the order of the variants of `IndexFault`, and keeps the paths.
+/// Tests all sections except the posting lists, in the order of the variants of `IndexFault`, and
+/// keeps the paths.
 fn read_stored<S: Store>(
     alloc: Global,
     store: &mut S,

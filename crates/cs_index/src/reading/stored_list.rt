@@ -1,4 +1,5 @@
-// Posting lists of a store, decoded id by id from pieces of its bytes (Go: `postReader` in index/read.go).
+// Posting lists of a store, decoded id by id from pieces of its bytes (Go: `postReader` in
+// index/read.go).
 ghost use Rattle.std.specs.Prelude.{◌≡◌, ◌≤◌, ◌<◌, ◌^◌, ◌+◌, ℕ, Bool, true, List, [], Some, length, take, IfSome, IfNone, IfOk, OnOk, bytes_eq};
 ghost use Rattle.cs_tree.specs.KeepsStore.{KeepsStore};
 ghost use Rattle.cs_tree.specs.Store.{part_of};
@@ -30,8 +31,9 @@ pub(crate) struct ListSection {
     pub(crate) name_count: u32,
 }
 
-/// A posting list of a store. Its ids are decoded from a piece of its bytes, and the next piece is read where fewer
-/// bytes are left than a varint may have. So each byte of a list is read once, except for up to four bytes of a piece.
+/// A posting list of a store. Its ids are decoded from a piece of its bytes, and the next piece is
+/// read where fewer bytes are left than a varint may have. So each byte of a list is read once,
+/// except for up to four bytes of a piece.
 #[derive(Drop)]
 pub(crate) struct StoredList {
     piece: Vec<u8>,
@@ -154,8 +156,8 @@ impl StoredList {
         Ok(self.is_whole)
     }
 
-    /// Skips the ids that are less than `start`. No id that is left is less than the result, which is the next id if there
-    /// is one.
+    /// Skips the ids that are less than `start`. No id that is left is less than the result, which
+    /// is the next id if there is one.
     pub(crate) fn skip_to<S: Store>(
         &mut self,
         alloc: Global,
@@ -210,7 +212,8 @@ impl StoredList {
         Ok(())
     }
 
-    /// Skips ids of the piece that are less than `end`, up to the first delta that is longer than two bytes.
+    /// Skips ids of the piece that are less than `end`, up to the first delta that is longer than
+    /// two bytes.
     #[inline(always)]
     fn skip_short(&mut self, end: u32)
         ensures skips { (bytes : List ℕ) → Holds bytes self.old → SkipsBelow bytes end self.old self.new }
@@ -231,7 +234,8 @@ impl StoredList {
         self.decoder.next += ids.next;
     }
 
-    /// `skip_short`, which sets the flags of the ids in the row of the window from `start` to `end`.
+    /// `skip_short`, which sets the flags of the ids in the row of the window from `start` to
+    /// `end`.
     #[inline(always)]
     pub(crate) fn mark_short(&mut self, row: &mut [bool], start: u32, end: u32)
         requires { start + length row.old ≡ end }
@@ -278,7 +282,8 @@ impl StoredList {
         Ok(())
     }
 
-    /// The next id of the piece, if it is less than `end`; without one, the list stays as it is, or ends.
+    /// The next id of the piece, if it is less than `end`; without one, the list stays as it is, or
+    /// ends.
     #[inline(never)]
     fn take_below(&mut self, end: u32) -> Option<u32>
         ensures gives { (bytes : List ℕ) → IsReady bytes self.old →

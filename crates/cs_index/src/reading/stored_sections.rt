@@ -62,7 +62,8 @@ fn with_last_piece(mut paths: Vec<u8>, piece: &[u8]) -> Result<Option<Vec<u8>>, 
     Ok(Some(paths))
 }
 
-/// Tests the names, and whether the name index has the offset of each; `None` if the names are not valid.
+/// Tests the names, and whether the name index has the offset of each; `None` if the names are not
+/// valid.
 pub(crate) fn test_names<S: Store>(
     alloc: Global,
     store: &mut S,
@@ -102,7 +103,8 @@ pub(crate) fn test_names<S: Store>(
     }))
 }
 
-/// The offsets of `count` names after the first `done`, and one more number, as far as the name index has them.
+/// The offsets of `count` names after the first `done`, and one more number, as far as the name
+/// index has them.
 fn read_numbers<S: Store>(
     alloc: Global,
     store: &mut S,

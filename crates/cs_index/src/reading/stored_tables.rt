@@ -1,4 +1,5 @@
-// The paths, the names and the tables of an index in a store, in memory. The posting lists stay in the store.
+// The paths, the names and the tables of an index in a store, in memory. The posting lists stay in
+// the store.
 ghost use Rattle.std.specs.Prelude.{◌≡◌, ◌≤◌, ◌<◌, ◌+◌, ℕ, List, Ok, length, option_map, slice_get, IfOk, IfSome};
 ghost use Rattle.cs_tree.specs.KeepsStore.{KeepsStore};
 ghost use Rattle.cs_index.specs.AscendingIds.{max_ids};
@@ -55,7 +56,8 @@ impl Model for StoredTables {
 }
 
 impl StoredTables {
-    /// Opens the index in a store, by the tests of `Index::open` in the same order. Reads no posting list.
+    /// Opens the index in a store, by the tests of `Index::open` in the same order. Reads no
+    /// posting list.
     pub fn open<S: Store>(
         alloc: Global,
         store: &mut S,
@@ -63,8 +65,9 @@ impl StoredTables {
         ensures opens { IfSome (S.model store.old) (λ bytes. IfOk result (OpensAsTables bytes)) }
         ensures store { KeepsStore S.model S.size S.failed store.old store.new result }
     {
-        // The sections are tested in pieces before they are read as a whole, so a damaged index of any length is
-        // refused without much memory. They are tested again, since the store may have changed.
+        // The sections are tested in pieces before they are read as a whole, so a damaged index of
+        // any length is refused without much memory. They are tested again, since the store may
+        // have changed.
         let starts = match StoredIndex::open(alloc, store)? {
             Ok(index) => index.starts,
             Err(fault) => return Ok(Err(fault)),

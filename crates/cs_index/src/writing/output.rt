@@ -45,8 +45,8 @@ pub(crate) fn write_prefix(
     Ok(out)
 }
 
-/// Appends what follows the posting lists, as `write_tables` makes it. `TooLarge` if the index would
-/// be longer than `limit` bytes.
+/// Appends what follows the posting lists, as `write_tables` makes it. `TooLarge` if the index
+/// would be longer than `limit` bytes.
 pub(crate) fn append_tables(
     alloc: Global,
     out: &mut SendBuffer,
@@ -74,8 +74,8 @@ pub(crate) fn append_tables(
     Ok(())
 }
 
-/// What follows the posting lists: the closing list, the name index, the list index and the trailer.
-/// `TooLarge` if the index would be longer than `limit` bytes.
+/// What follows the posting lists: the closing list, the name index, the list index and the
+/// trailer. `TooLarge` if the index would be longer than `limit` bytes.
 fn write_tables(
     alloc: Global,
     out: &SendBuffer,

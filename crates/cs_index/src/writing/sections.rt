@@ -291,8 +291,8 @@ impl Sections {
         Ok(index.into_sent())
     }
 
-    /// The whole index: the bytes that were sent, and the others in memory. `TooLarge` if it would be
-    /// longer than `limit` bytes.
+    /// The whole index: the bytes that were sent, and the others in memory. `TooLarge` if it would
+    /// be longer than `limit` bytes.
     fn complete(mut self, limit: u32) -> Result<SendBuffer, BuildFault>
         ensures ok { IfOk result
             (λ index. bytes_in index ≡ encoding_of self.paths (entries_written self)) }

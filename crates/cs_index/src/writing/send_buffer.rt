@@ -11,7 +11,8 @@ use std::marker::Model;
 /// The maximum number of bytes that are sent, so that no sum of offsets wraps.
 const MAX_SENT: usize = 1 << 62;
 
-/// The bytes of an index: those that were sent to an output are only counted, the others are in memory.
+/// The bytes of an index: those that were sent to an output are only counted, the others are in
+/// memory.
 #[derive(Drop)]
 pub(crate) struct SendBuffer {
     sent: Sent,

@@ -1,5 +1,5 @@
-// What a matcher has cached, kept apart from its program (as `Cache` of Rust's regex-automata), so that who owns the
-// program can own the cache too.
+// What a matcher has cached, kept apart from its program (as `Cache` of Rust's regex-automata), so
+// that who owns the program can own the cache too.
 ghost use Rattle.std.specs.Prelude.{◌≡◌, IfOk};
 ghost use Rattle.cs_match.specs.Cached.{IsCacheOf};
 
@@ -30,7 +30,8 @@ impl Cache {
 }
 
 impl<'a> Matcher<'a> {
-    /// A matcher that goes on with the cache of an earlier matcher of this program. It allocates nothing.
+    /// A matcher that goes on with the cache of an earlier matcher of this program. It allocates
+    /// nothing.
     pub fn resume(program: &'a Program, cache: Cache) -> Matcher<'a>
         requires cache { IsCacheOf program.now cache }
         ensures tree { result.tree ≡ program.now }

@@ -1,6 +1,6 @@
-// Passes of the position automaton over a line, without the DFA. In a pass a match may begin only before a given offset: so
-// one pass says whether a match begins there. The start is found by passes through ever shorter parts of the line, and the
-// end by one that begins at the start.
+// Passes of the position automaton over a line, without the DFA. In a pass a match may begin only
+// before a given offset: so one pass says whether a match begins there. The start is found by
+// passes through ever shorter parts of the line, and the end by one that begins at the start.
 ghost use Rattle.std.specs.Prelude.{◌≡◌, ◌≤◌, ◌<◌, ◌+◌, ◌-◌, ◌*◌, ◌^◌, ℕ, IfSome, MatchOption, length, replicate, Bool, true, false};
 ghost use Rattle.cs_match.specs.Passes.{IsPassAt, IsPassOf, HasRead, ends_in, may_begin, may_end};
 ghost use Rattle.cs_match.specs.Span.{IsMatchOf, IsFirstOf, HasNoMatchOf};
@@ -27,7 +27,8 @@ pub struct Pass {
     pub(crate) scratch: Scratch,
     /// How many bytes more the budget has.
     pub(crate) left: usize,
-    /// The steps of the passes. A finder has a counter of its own, since it is no part of a search, whose bound counts its steps.
+    /// The steps of the passes. A finder has a counter of its own, since it is no part of a search,
+    /// whose bound counts its steps.
     pub(crate) steps: Steps,
 }
 

@@ -111,7 +111,8 @@ const ROWS_OF_BYTES: &[(&str, &[u8], bool)] = &[
     ("a.b", b"a\xffb a\xc3\xa9b", true),
     ("a.b", b"a\xffb a\xc3b", false),
     ("^\\C*€$", b"\xff\xe2\x82\xac", true),
-    // A character is taken by its last byte, and a byte that begins another one ends the one before.
+    // A character is taken by its last byte, and a byte that begins another one ends the one
+    // before.
     ("^.{2}$", b"\xc3\xa9\xe6\x97", false),
     ("^.{2}$", b"\xc3\xa9\xe6\x97\xa5", true),
     ("^.$", b"\xe6\xe6\x97\xa5", false),
@@ -219,7 +220,8 @@ fn finds_in(
 }
 
 /// Loops nested to the parser's depth, a pattern of nearly the largest weight, many loops that stay
-/// open, and alternations of sequences whose position set needs more than one machine word, also within a loop.
+/// open, and alternations of sequences whose position set needs more than one machine word, also
+/// within a loop.
 const LARGE: &[(Repeated<'static>, Repeated<'static>, bool)] = &[
     (("(", 200, "a", ")*b"), ("a", 100, "", "b"), true),
     (("a", 9998, "", ""), ("a", 100, "", ""), false),

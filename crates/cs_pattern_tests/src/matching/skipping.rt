@@ -16,7 +16,8 @@ fn whole(text: &[u8]) -> &[u8]
     }
 }
 
-/// The start and the end of the first matching line, and the number of cached states after the search.
+/// The start and the end of the first matching line, and the number of cached states after the
+/// search.
 type Search = (Option<(usize, usize)>, usize);
 
 /// A search of a block by a new matcher.
@@ -132,8 +133,9 @@ const SKIPPED: &[(&str, &str, &str)] = &[
     ("(alpha|beta|gamma)$", "amma", "gammas"),
 ];
 
-// No clause says by what lines are skipped. A line that a prefilter skips is not read by the DFA, and adds no state. A
-// line that is read begins a match somewhere, since otherwise the DFA stays in the start state.
+// No clause says by what lines are skipped. A line that a prefilter skips is not read by the DFA,
+// and adds no state. A line that is read begins a match somewhere, since otherwise the DFA stays in
+// the start state.
 #[test]
 fn what_lines_are_skipped(rt: HostRuntime) {
     for (pattern, skipped, read) in SKIPPED {

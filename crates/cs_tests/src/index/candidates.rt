@@ -136,7 +136,8 @@ fn damage_is_detected(rt: HostRuntime) -> Result<(), Fail> {
     Ok(())
 }
 
-/// Whether an index in memory and one in a store have the same candidates of a trigram, or the same error.
+/// Whether an index in memory and one in a store have the same candidates of a trigram, or the same
+/// error.
 fn answer_alike(
     alloc: Global,
     index: &Index<'_>,
@@ -153,7 +154,8 @@ fn answer_alike(
     })
 }
 
-/// The same for two trigrams, with reads of at most seven bytes; if the bytes do not open, the same error of opening.
+/// The same for two trigrams, with reads of at most seven bytes; if the bytes do not open, the same
+/// error of opening.
 fn agree(alloc: Global, bytes: &[u8]) -> Result<bool, Fail> {
     let mut store = MemStore::new(bytes, 7);
     let stored = match StoredIndex::open(alloc, &mut store)? {

@@ -24,8 +24,8 @@ fn are_same(one: Postings<'_>, other: Postings<'_>) -> bool {
     false
 }
 
-/// Whether each list of the store, whose reads give at most `step` bytes and are asked for at least `least`, is that of
-/// the index in memory.
+/// Whether each list of the store, whose reads give at most `step` bytes and are asked for at least
+/// `least`, is that of the index in memory.
 fn reads_lists(alloc: Global, bytes: &[u8], step: usize, least: usize) -> Result<bool, Fail> {
     let index = Index::open(bytes)?;
     let mut store = MemStore::new(bytes, step.max(1));
@@ -46,7 +46,8 @@ fn reads_lists(alloc: Global, bytes: &[u8], step: usize, least: usize) -> Result
     Ok(tables.lists() == index.lists())
 }
 
-/// Adds a file with `abc`. Others have `bcd` and `cde` too, 3 and 200 ids apart, so varints have one byte and two.
+/// Adds a file with `abc`. Others have `bcd` and `cde` too, 3 and 200 ids apart, so varints have
+/// one byte and two.
 fn add(builder: &mut Builder, name: &str, id: u32) -> Result<(), Fail> {
     let _id = if id % 200 == 7 {
         builder.add(name, &[0x616263, 0x636465])?

@@ -1,4 +1,5 @@
-// Posting lists that are longer than a piece, by an index in memory and by a store with short reads.
+// Posting lists that are longer than a piece, by an index in memory and by a store with short
+// reads.
 use cs_fakes::{number, strings};
 use cs_index::{Builder, Index, IndexFault, StoredIndex};
 use cs_tree::MemStore;
@@ -78,7 +79,8 @@ fn varints_across_pieces(rt: HostRuntime) -> Result<(), Fail> {
 #[test]
 fn damage_in_the_last_piece(rt: HostRuntime) -> Result<(), Fail> {
     let mut bytes = index_of(rt.alloc(), PIECE)?;
-    // The magic, the paths, the names of nine bytes and their NULs, and the list up to its last byte.
+    // The magic, the paths, the names of nine bytes and their NULs, and the list up to its last
+    // byte.
     let at = 16 + 4 + 10 * (PIECE as u32 + 2 * GAP) as usize + 1 + 3 + PIECE as usize + 4;
     assert!(rt; bytes.get(at) == Some(&0));
     bytes[at] = 1;

@@ -1,4 +1,5 @@
-// Sections that are longer than a piece or damaged, opened in memory and from a store with short reads.
+// Sections that are longer than a piece or damaged, opened in memory and from a store with short
+// reads.
 use cs_fakes::{ONE_FILE, strings};
 use cs_index::{Builder, Index, IndexFault, StoredIndex};
 use cs_tree::MemStore;
@@ -58,7 +59,8 @@ fn index_of_long(alloc: Global, letters: usize) -> Result<Vec<u8>, Fail> {
     Ok(builder.finish()?)
 }
 
-/// Whether such an index opens, and is refused with another byte in the last letter or in place of its NUL.
+/// Whether such an index opens, and is refused with another byte in the last letter or in place of
+/// its NUL.
 fn is_tested(alloc: Global, letters: usize) -> Result<bool, Fail> {
     let bytes = index_of_long(alloc, letters)?;
     for step in [7, 1 << 20] {
@@ -79,7 +81,8 @@ fn is_tested(alloc: Global, letters: usize) -> Result<bool, Fail> {
     Ok(true)
 }
 
-/// The last letter of a name stands before, across and after the end of a piece, and after three pieces.
+/// The last letter of a name stands before, across and after the end of a piece, and after three
+/// pieces.
 #[test]
 fn names_across_pieces(rt: HostRuntime) -> Result<(), Fail> {
     for letters in PIECE - 8..PIECE {

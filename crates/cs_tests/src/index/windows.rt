@@ -80,7 +80,8 @@ fn rare_ids_of_many_windows(rt: HostRuntime) -> Result<(), Fail> {
     Ok(())
 }
 
-/// A disjunction of a rare list requires no list, and a conjunction with a missing one has no candidate.
+/// A disjunction of a rare list requires no list, and a conjunction with a missing one has no
+/// candidate.
 #[test]
 fn queries_without_a_rare_list(rt: HostRuntime) -> Result<(), Fail> {
     let bytes = index_of(rt.alloc())?;

@@ -23,13 +23,13 @@
 //! pub extern "C" fn f(v: &Vec<u8>) {}                    a Vec does not cross to C
 //! #[repr(C)] pub struct S { v: Vec<u8> }                 nor does a pointer to what holds one
 //! pub extern "C" fn f(s: &S) {}                           so slots own through a raw pointer
-//! pub extern "C" fn f(p: *mut u8) -> *mut u8 { p }       an export returns no raw pointer (`exported-raw-pointer`)
+//! pub extern "C" fn f(p: *mut u8) -> *mut u8 { p }       an export returns no raw pointer
 //! pub extern "C" fn f(g: fn(u8) -> u8) {}                nor takes a function: no callbacks
 //! pub extern "C" fn f(s: &str) {}                        text is `&[u8]`, and `from_utf8` in the export
 //! pub extern "C" fn f<T>(t: &T) {}                       exports are not generic
-//! enum E { A } pub extern "C" fn f(e: E) {}              nor take an enum (`exported-enum`): codes are numbers
-//! low: codesearch_c                                      no crate can depend on a static library, so its tests are in C and Rust
-//! match *boxed { Held::Bytes(bytes) => .. }              nothing moves out of a box but its whole value, by `Box::into_inner`
+//! enum E { A } pub extern "C" fn f(e: E) {}              nor take an enum: codes are numbers
+//! low: codesearch_c                                      no crate depends on a static library
+//! match *boxed { Held::Bytes(bytes) => .. }              a box gives its whole value alone
 //! ```
 #![tactic(auto)]
 

@@ -3,6 +3,7 @@ use Rattle.std.specs.Prelude.{◌≡◌, true, false, Some, refl, List, [], ◌�
 use Rattle.cs_index.specs.PostingLists.{read_list}
 use Rattle.cs_index.specs.Encoding.{Entry, deltas_from, ids_from, encoding_of, posting_list_bytes, varint}
 use Rattle.cs_index.specs.OpenedParts.{whole_ids}
+use Rattle.cs_index.specs.LeastLength.{least_length}
 use Rattle.cs_index.specs.Built.{are_paths, is_above, is_storable}
 use Rattle.cs_tree.specs.Cover.{is_alone}
 use Rattle.cs_index.specs.Gathering.{lists_from}
@@ -31,6 +32,10 @@ one_file : encoding_of (codes "/a" ∷ []) ((codes "/a/x", 0x616263 ∷ 0x626364
     ∷ 10 ∷ codes "csearch trailr" ++ 10 ∷ []
 unfolding varint
 one_file = refl
+
+-- three trigrams, with fifteen bytes more each, and the path
+one_file_least : least_length ((codes "/a/x", 0x616263 ∷ 0x626364 ∷ 0x63640a ∷ []) ∷ []) ≡ 74
+one_file_least = refl
 
 -- nine names; those with the ids 1, 6, 7 and 8 have `abc`
 with_abc : List Entry

@@ -2,6 +2,7 @@ pub mod BucketPostings
 pub mod BuilderAdd
 pub mod EntriesOfLists
 pub mod IdAdded
+pub mod LeastLength
 pub mod ListsBelow
 pub mod SectionsSteps
 pub mod SentOn

@@ -1,9 +1,10 @@
 // The index builder: postings are distributed to buckets, and the lists are written at the end.
-ghost use Rattle.std.specs.Prelude.{◌≡◌, ◌≢◌, ◌<◌, ◌≤◌, ◌^◌, ◌++◌, ◌⊎◌, ◌↔◌, [], true, false, length, map, string_bytes, Err, IfOk, IfErr, OnOk, OnErr};
+ghost use Rattle.std.specs.Prelude.{◌≡◌, ◌≢◌, ◌<◌, ◌≤◌, ◌-◌, ◌^◌, ◌++◌, ◌⊎◌, ◌↔◌, [], true, false, nat_lt, length, map, string_bytes, Err, IfOk, IfErr, OnOk, OnErr};
 ghost use Rattle.cs_trigram.specs.Trigram.{set_of_numbers};
 ghost use Rattle.cs_trigram.specs.Scans.{AreDistinctTrigrams};
 ghost use Rattle.cs_index.specs.Encoding.{encoding, encoding_of, names_of};
 ghost use Rattle.cs_index.specs.Indexable.{IsIndexable};
+ghost use Rattle.cs_index.specs.LeastLength.{least_length, IsAlwaysLonger};
 ghost use Rattle.cs_index.specs.Built.{with_entry, are_paths, file_map, is_above, is_storable, IsBuilt, IsFull, IsOutOfOrder, max_names, path_set};
 
 use crate::fault::BuildFault;
@@ -19,13 +20,21 @@ use std::marker::Model;
 /// The maximum number of names.
 const MAX_NAMES: u32 = 1 << 30;
 
-/// An index under construction: the paths, the names, and the postings in buckets.
+/// The length of an index without paths and names.
+const EMPTY_LEN: u64 = 62;
+
+/// The bytes of a name besides its text and its postings: a NUL and an offset.
+const NAME_LEN: u64 = 5;
+
+/// An index under construction: the paths, the names, and the postings in buckets. `least` is how long the index is at
+/// least, or the greatest number.
 #[derive(Drop)]
 pub struct Builder {
     alloc: Global,
     paths: Strings,
     names: Strings,
     buckets: Vec<Bucket>,
+    least: u64,
 }
 
 impl Model for Builder {
@@ -59,6 +68,7 @@ impl Builder {
             paths,
             names: Strings::new(alloc),
             buckets: empty_buckets(alloc)?,
+            least: EMPTY_LEN,
         })
     }
 
@@ -78,6 +88,22 @@ impl Builder {
         ensures err { OnErr result (self.new ≡ self.old) }
     {
         self.add_within(MAX_NAMES, name, trigrams)
+    }
+
+    /// Whether the index is longer than 2^32 - 1 bytes, whatever is added to it.
+    pub fn is_too_large(&self) -> bool
+        ensures value { result ≡ nat_lt (2 ^ 32 - 1) (least_length self.now.entries) }
+        ensures certain { result ≡ true → IsAlwaysLonger (2 ^ 32 - 1) self.now }
+    {
+        self.is_too_large_within(u32::MAX)
+    }
+
+    /// `is_too_large` with a maximum length of the index, in bytes, as a parameter.
+    pub fn is_too_large_within(&self, limit: u32) -> bool
+        ensures value { result ≡ nat_lt limit (least_length self.now.entries) }
+        ensures certain { result ≡ true → IsAlwaysLonger limit self.now }
+    {
+        self.least > limit as u64
     }
 
     /// Encodes the index. `TooLarge` if it would be longer than 2^32 - 1 bytes.
@@ -162,6 +188,11 @@ impl Builder {
             pop_file(&mut self.buckets, trigrams);
             return Err(BuildFault::Memory);
         }
+        self.least = self
+            .least
+            .saturating_add(name.len() as u64)
+            .saturating_add(trigrams.len() as u64)
+            .saturating_add(NAME_LEN);
         Ok(id)
     }
 

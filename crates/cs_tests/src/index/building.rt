@@ -117,6 +117,13 @@ fn length_within(alloc: Global, most: u32) -> Result<usize, BuildFault> {
     Ok(index.len())
 }
 
+/// Whether the index of a name of three bytes with two trigrams, 72 bytes as they are counted, is too large for a limit.
+fn is_longer(alloc: Global, most: u32) -> Result<bool, BuildFault> {
+    let mut builder = builder_of(alloc, &["/a"])?;
+    builder.add("/ab", &[7, 8])?;
+    Ok(!builder.is_too_large() && builder.is_too_large_within(most))
+}
+
 /// At 24 there is no room for the lists, at 64 none for the trailer.
 const WITHIN: &[(u32, Result<usize, BuildFault>)] = &[
     (24, Err(BuildFault::TooLarge)),
@@ -127,6 +134,8 @@ const WITHIN: &[(u32, Result<usize, BuildFault>)] = &[
 #[test]
 fn names_and_bytes_are_kept_within_limits(rt: HostRuntime) {
     assert!(rt; keeps_limits(rt.alloc()) == Ok(true));
+    assert!(rt; is_longer(rt.alloc(), 71) == Ok(true));
+    assert!(rt; is_longer(rt.alloc(), 72) == Ok(false));
     for (most, want) in WITHIN {
         assert!(rt; length_within(rt.alloc(), *most) == *want, "at {most}");
     }

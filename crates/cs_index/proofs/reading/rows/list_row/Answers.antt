@@ -1,4 +1,4 @@
-use Rattle.std.proofs.Common.{rules, refl, ◌≡◌, ◌-◌, ◌⊎◌, ◌++◌, take, drop, ◌∙◌, ap, sym, subst, ℕ, List, Bool, Vec, Global, length, length-set, get_or, set, true, false, arith, inl, inr, vec_len}
+use Rattle.std.proofs.Common.{rules, ◌≡◌, ◌-◌, ◌⊎◌, ◌++◌, take, drop, ◌∙◌, ap, sym, subst, ℕ, List, Bool, Vec, Global, length, length-set, get_or, set, true, false, arith, inl, inr, vec_len}
 use Rattle.std.proofs.lemmas.Bool.{eqb-true, eq-eqb, true≢false}
 use Rattle.cs_index.specs.PostingLists.{Ids}
 use Rattle.cs_index.specs.StoredLists.{ids_left, GivesBelow}

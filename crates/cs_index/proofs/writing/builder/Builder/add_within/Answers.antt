@@ -1,4 +1,4 @@
-use Rattle.std.proofs.Common.{◌≡◌, ◌∙◌, ◌+◌, ◌<◌, ◌≤◌, ◌++◌, ◌∷◌, [], cond, ap, sym, subst, refl, length, List, ℕ, Vec, Global, arith}
+use Rattle.std.proofs.Common.{◌≡◌, ◌∙◌, ◌+◌, ◌<◌, ◌≤◌, ◌++◌, ◌∷◌, [], cond, ap, min, ◌-◌, ◌^◌, sym, subst, refl, length, List, ℕ, Vec, Global, arith}
 use Rattle.std.proofs.lemmas.List.{length_push, with_items_is}
 use Rattle.std.specs.Vec.{with_items}
 use Rattle.std.specs.List.{AllByRecursion}
@@ -14,6 +14,8 @@ use Rattle.cs_index.specs.Buckets.{ids_in_buckets, bucket_postings, with_file, w
 use Rattle.cs_index.specs.declared.writing.builder.Builder.TheInside.{Inside}
 use Rattle.cs_index.specs.BuilderInvariant.{bucket_lists, built_of}
 use Rattle.cs_index.specs.Built.{Built, IsBuilt, with_entry}
+use Rattle.cs_index.specs.LeastLength.{least_length}
+use Rattle.cs_index.proofs.writer.LeastLength.{counted_more}
 use Rattle.cs_index.proofs.common.ResultClauses.{of_err, of_ok}
 use Rattle.cs_index.proofs.encoding.InvertedLists.{length-entries_of}
 use Rattle.cs_index.proofs.writer.EntriesOfLists.{entries_added}
@@ -135,7 +137,11 @@ invariant_of-self c =
     (c.in_err-push_file.ensures.err ∙ ap (λ (bs : List BucketPostings). bucket_postings bs) c.deref_mut.ensures.value) in
     let h = subst (Hold c.self.inside c.args.self.now c.self.inside.names)
     (sym (replaced c.self.inside.buckets pushed c.self.invariant.buckets.long c.push_file.ensures.long)) kept in
-    record { buckets = h.are; built = subst IsBuilt (c.self.view_is ∙ sym h.is) c.self.invariant.built }
+    record {
+      buckets = h.are;
+      built = subst IsBuilt (c.self.view_is ∙ sym h.is) c.self.invariant.built;
+      counted = c.self.invariant.counted ∙ ap (λ (built : Built). min (least_length built.entries) (2 ^ 64 - 1)) (c.self.view_is ∙ sym h.is);
+    }
 
 pub pop_file-requires-clause-below : goal.pop_file-requires-clause-below
 pop_file-requires-clause-below c = below_closing c.args.trigrams.now c.requires.once
@@ -155,30 +161,32 @@ undone c =
 pub invariant_of-self-then-is_err : goal.invariant_of-self-then-is_err
 invariant_of-self-then-is_err c =
     let h = undone c in
-    record { buckets = h.are; built = subst IsBuilt (c.self.view_is ∙ sym h.is) c.self.invariant.built }
+    record {
+      buckets = h.are;
+      built = subst IsBuilt (c.self.view_is ∙ sym h.is) c.self.invariant.built;
+      counted = c.self.invariant.counted ∙ ap (λ (built : Built). min (least_length built.entries) (2 ^ 64 - 1)) (c.self.view_is ∙ sym h.is);
+    }
 
 pub returns-then-is_err-clause-err : goal.returns-then-is_err-clause-err
 returns-then-is_err-clause-err c = (undone c).is
 
 -- the model with the name
-more : (c : goal.Else-is_err) → Hold c.self.inside (with_entry c.args.self.now c.args.name.now
-    (set_of_numbers c.args.trigrams.now))
-    c.push.new.self (with_items c.self.inside.buckets c.push_file.new.buckets).items
-more c =
-    subst (Hold c.self.inside (with_entry c.args.self.now c.args.name.now (set_of_numbers c.args.trigrams.now)) c.push.new.self)
-    (sym (replaced c.self.inside.buckets c.push_file.new.buckets c.self.invariant.buckets.long c.push_file.ensures.long))
-    (added c.self.inside c.args.self.now c.push.new.self c.args.name.now c.args.trigrams.now c.len-id.result
-    c.push_file.new.buckets
-    c.self.view_is c.self.invariant.buckets (counted c.self.inside c.args.self.now c.len-id.result c.self.view_is c.len-id.ensures)
-    (of_ok c.push.result c.push.ensures.ok (sym c.is_err.ensures.value ∙ c.if-is_err.false))
-    c.push_file.ensures.long c.push_file.ensures.bases
-    (c.in_ok-push_file.ensures.ok ∙ ap (λ (bs : List BucketPostings). with_file c.len-id.result
-    (bucket_postings bs) c.args.trigrams.now) c.deref_mut.ensures.value)
-    c.requires.once.1 (below_closing c.args.trigrams.now c.requires.once))
+more : (b : Inside) (now : Built) (names : List (List ℕ)) (name gs : List ℕ) (id : ℕ) (start pushed : List BucketPostings) →
+    built_of b ≡ now → AreBuckets (length b.names) b.buckets.items → id ≡ length now.entries → names ≡ b.names ++ name ∷ [] →
+    start ≡ b.buckets.items → length pushed ≡ 4096 → HaveBases id pushed →
+    postings_of pushed ≡ with_file id (postings_of start) gs → AreDistinctTrigrams gs →
+    Hold b (with_entry now name (set_of_numbers gs)) names (with_items b.buckets pushed).items
+more b now names name gs id start pushed is are counts named from long bases given once =
+    subst (Hold b (with_entry now name (set_of_numbers gs)) names) (sym (replaced b.buckets pushed are.long long))
+    (added b now names name gs id pushed is are (counted b now id is counts) named long bases
+    (given ∙ ap (λ (bs : List BucketPostings). with_file id (postings_of bs) gs) from) once.1 (below_closing gs once))
 
-pub invariant_of-self-else-is_err : goal.invariant_of-self-else-is_err
-invariant_of-self-else-is_err c =
-    let h = more c in
+pub invariant_of-self-2 : goal.invariant_of-self-2
+invariant_of-self-2 c =
+    let h = more c.self.inside c.args.self.now c.push.new.self c.args.name.now c.args.trigrams.now c.len-id.result
+    c.deref_mut.result.now c.push_file.new.buckets c.self.view_is c.self.invariant.buckets c.len-id.ensures
+    (of_ok c.push.result c.push.ensures.ok (sym c.is_err.ensures.value ∙ c.if-is_err.false))
+    c.deref_mut.ensures.value c.push_file.ensures.long c.push_file.ensures.bases c.in_ok-push_file.ensures.ok c.requires.once in
     record {
       buckets = h.are;
       built = subst IsBuilt (sym h.is) (built_added c.args.self.now c.args.name.now (set_of_numbers
@@ -186,7 +194,16 @@ invariant_of-self-else-is_err c =
           (of_ok c.push.result c.push.ensures.each (sym c.is_err.ensures.value ∙ c.if-is_err.false))
           (sym c.names_are_below.ensures ∙ c.if-not-names_are_below.false) c.requires.once.0
           (omega (arith, c.if-id-limit.false, c.len-id.ensures, c.requires.bound)));
+      counted = counted_more c.args.self.now c.args.name.now c.args.trigrams.now c.self.inside.least c.saturating_add.result
+          c.saturating_add-2.result c.saturating_add-self-inside.result
+          (c.self.invariant.counted ∙ ap (λ (built : Built). min (least_length built.entries) (2 ^ 64 - 1)) c.self.view_is)
+          c.saturating_add.ensures c.saturating_add-2.ensures c.saturating_add-self-inside.ensures c.requires.once.1
+          ∙ ap (λ (built : Built). min (least_length built.entries) (2 ^ 64 - 1)) (sym h.is);
     }
 
 pub returns-clause-ok : goal.returns-clause-ok
-returns-clause-ok c = (more c).is
+returns-clause-ok c =
+    (more c.self.inside c.args.self.now c.push.new.self c.args.name.now c.args.trigrams.now c.len-id.result
+    c.deref_mut.result.now c.push_file.new.buckets c.self.view_is c.self.invariant.buckets c.len-id.ensures
+    (of_ok c.push.result c.push.ensures.ok (sym c.is_err.ensures.value ∙ c.if-is_err.false))
+    c.deref_mut.ensures.value c.push_file.ensures.long c.push_file.ensures.bases c.in_ok-push_file.ensures.ok c.requires.once).is

@@ -26,8 +26,8 @@ const EMPTY_LEN: u64 = 62;
 /// The bytes of a name besides its text and its postings: a NUL and an offset.
 const NAME_LEN: u64 = 5;
 
-/// An index under construction: the paths, the names, and the postings in buckets. `least` is how long the index is at
-/// least, or the greatest number.
+/// An index under construction: the paths, the names, and the postings in buckets. `least` is how
+/// long the index is at least, or the greatest number.
 #[derive(Drop)]
 pub struct Builder {
     alloc: Global,

@@ -117,7 +117,8 @@ fn length_within(alloc: Global, most: u32) -> Result<usize, BuildFault> {
     Ok(index.len())
 }
 
-/// Whether the index of a name of three bytes with two trigrams, 72 bytes as they are counted, is too large for a limit.
+/// Whether the index of a name of three bytes with two trigrams, 72 bytes as they are counted, is
+/// too large for a limit.
 fn is_longer(alloc: Global, most: u32) -> Result<bool, BuildFault> {
     let mut builder = builder_of(alloc, &["/a"])?;
     builder.add("/ab", &[7, 8])?;

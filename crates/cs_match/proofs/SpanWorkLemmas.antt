@@ -4,7 +4,8 @@ use Rattle.cs_syntax.specs.Matching.{Tree}
 use Rattle.cs_match.specs.Glushkov.{position_count}
 use Rattle.cs_match.specs.Work.{words, step_work}
 use Rattle.cs_match.specs.Passes.{HasRead}
-use Rattle.cs_match.specs.SpanWork.{pass_work, pass_bytes, find_bytes}
+use Rattle.cs_match.specs.SpanList.{finding_of}
+use Rattle.cs_match.specs.SpanWork.{ReadsAtMost, pass_work, pass_bytes, find_bytes}
 use Rattle.cs_match.specs.declared.spans.pass.Pass.{Pass}
 use Rattle.std.proofs.Math.Nat.{pow-suc}
 use Rattle.cs_match.proofs.PositionCountLemmas.{mul_both, scaled}
@@ -14,19 +15,34 @@ spread a b w = omega arith
 
 module _ (t : Tree) where
   pub read_none : (p : Pass) → HasRead t 0 p p
-  read_none p = record { bytes = 0; few = omega arith; left = omega arith; low = omega arith; high = omega arith }
+  read_none p = record {
+    bytes = 0;
+    few = omega arith;
+    read = omega arith;
+    left = omega arith;
+    low = omega arith;
+    high = omega arith;
+  }
 
   pub read_more : (a b : ℕ) (p q r : Pass) → HasRead t a p q → HasRead t b q r → HasRead t (a + b) p r
   read_more a b p q r g h = record {
     bytes = g.bytes + h.bytes;
     few = omega (arith, g.few, h.few);
+    read = omega (arith, g.read, h.read);
     left = omega (arith, g.left, h.left);
     low = omega (arith, g.low, h.low);
     high = omega (arith, g.high, h.high, spread g.bytes h.bytes (pass_work t));
   }
 
   pub read_up : (a b : ℕ) (p q : Pass) → a ≤ b → HasRead t a p q → HasRead t b p q
-  read_up a b p q le h = record { bytes = h.bytes; few = omega (arith, h.few, le); left = h.left; low = h.low; high = h.high }
+  read_up a b p q le h = record {
+    bytes = h.bytes;
+    few = omega (arith, h.few, le);
+    read = h.read;
+    left = h.left;
+    low = h.low;
+    high = h.high;
+  }
 
   -- one more pass
   pub read_on : (a b c : ℕ) (p q r : Pass) → a + b ≤ c → HasRead t a p q → HasRead t b q r → HasRead t c p r
@@ -89,17 +105,30 @@ module _ (t : Tree) where
   -- the bytes of the budget, as long as it has some left
   pub in_budget : (most : ℕ) (p q : Pass) → 0 < q.left → HasRead t most p q → HasRead t p.left p q
   in_budget most p q some h =
-      record { bytes = h.bytes; few = omega (arith, some, h.left); left = h.left; low = h.low; high = h.high }
+      record {
+        bytes = h.bytes;
+        few = omega (arith, some, h.left);
+        read = h.read;
+        left = h.left;
+        low = h.low;
+        high = h.high;
+      }
 
   pub budget_none : (more : ℕ) (p : Pass) → HasRead t (p.left + more) p p
   budget_none more p = read_up 0 (p.left + more) p p (omega arith) (read_none p)
 
-  pub spent : (most : ℕ) (p q : Pass) → q.left ≡ 0 → HasRead t most p q → p.steps.count + p.left ≤ q.steps.count
-  spent most p q none h = omega (arith, none, h.left, h.low)
+  pub spent : (most : ℕ) (p q : Pass) → q.left ≡ 0 → HasRead t most p q → p.read.count + p.left ≤ q.read.count
+  spent most p q none h = omega (arith, none, h.left, h.read)
 
   -- what contracts see of it
-  pub counted : (most : ℕ) (p q : Pass) → HasRead t most p q → (p.steps.count ≤ q.steps.count) × (q.steps.count ≤ p.steps.count + most * pass_work t)
-  counted most p q h = (omega (arith, h.low), omega (arith, h.high, scaled h.bytes most (pass_work t) h.few))
+  pub counted : (most : ℕ) (p q : Pass) → HasRead t most p q →
+      ReadsAtMost most (finding_of t p) (finding_of t q)
+  counted most p q h = record {
+    on = omega (arith, h.read);
+    few = omega (arith, h.read, h.few);
+    low = omega (arith, h.low);
+    high = omega (arith, h.high, scaled h.bytes most (pass_work t) h.few);
+  }
 
 -- where a pass begins
 pub begin_cost : (read words work : ℕ) → words + 3 ≤ work → read + read + (words + 1) ≤ (read + 1) * work

@@ -48,10 +48,12 @@ pub record IsPassAt (whole : Bool) (t : Tree) (s : List ℕ) (from until offset 
   pub unfinished : pass.unfinished ≡ unfinished_before t s offset
   pub scratch : IsScratch t pass.scratch
 
--- Passes have read some bytes, at most so many. The budget has lost them, and each takes a step, and at most `pass_work`.
+-- Passes have read some bytes, at most so many. They are counted, the budget has lost them, and each takes a step, and at most
+-- `pass_work`.
 pub record HasRead (t : Tree) (most : ℕ) (old new : Pass) : Type 0 where
   pub bytes : ℕ
   pub few : bytes ≤ most
+  pub read : new.read.count ≡ old.read.count + bytes
   pub left : new.left ≡ old.left - bytes
   pub low : old.steps.count + bytes ≤ new.steps.count
   pub high : new.steps.count ≤ old.steps.count + bytes * pass_work t

@@ -7,6 +7,10 @@ use Rattle.cs_match.specs.declared.spans.Span.{Span}
 use Rattle.cs_match.specs.declared.spans.Listed.{Listed}
 use Rattle.cs_match.specs.declared.spans.pass.Pass.{Pass}
 
+-- what contracts see of a program and its pass
+abbrev pub finding_of : Tree → Pass → Finding
+finding_of t pass = record { tree = t; bytes = pass.read.count; steps = pass.steps.count }
+
 -- the first spans of a buffer, as pairs of offsets
 abbrev pub first_spans : ℕ → List Span → List (ℕ × ℕ)
 first_spans count buffer = map (λ span. (span.start, span.end)) (take count buffer)
@@ -18,9 +22,9 @@ pub record IsListing (whole : Bool) (t : Tree) (s : List ℕ) (old new : List Sp
   pub size : length new ≡ length old
   pub rest : drop listed.count new ≡ drop listed.count old
 
--- the buffer is full, or at least as many steps were taken as the budget has bytes
+-- the buffer is full, or at least the bytes of the budget were read
 abbrev pub IsUsedUp : ℕ → ℕ → ℕ → Finding → Finding → Type 0
-IsUsedUp budget room count old new = (count ≡ room) ⊎ (old.steps + budget ≤ new.steps)
+IsUsedUp budget room count old new = (count ≡ room) ⊎ (old.bytes + budget ≤ new.bytes)
 
 -- the buffer is full, or the budget has no bytes left
 abbrev pub IsSpent : ℕ → ℕ → Pass → Type 0

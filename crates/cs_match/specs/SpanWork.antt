@@ -7,15 +7,17 @@ use Rattle.cs_syntax.specs.TreeCode.{tree_code}
 use Rattle.cs_match.specs.Glushkov.{position_count}
 use Rattle.cs_match.specs.Work.{words, step_work}
 
--- what contracts see of a finder: the tree that is matched, and the number of steps of all calls so far
+-- what contracts see of a finder: the tree that is matched, and the numbers of bytes and of steps of all calls so far
 pub record Finding : Type 0 where
   pub tree : Tree
+  pub bytes : ℕ
   pub steps : ℕ
 
--- a finding is stored as the pair of its fields
+-- a finding is stored as its fields
 abbrev pub finding_code : Coded Finding
 finding_code =
-    code_by (Tree × ℕ) (coded× tree_code coded_ℕ) (λ f. (f.tree, f.steps)) (λ p. record { tree = p.0; steps = p.1 }) (λ _. refl)
+    code_by (Tree × (ℕ × ℕ)) (coded× tree_code (coded× coded_ℕ coded_ℕ)) (λ f. (f.tree, (f.bytes, f.steps)))
+    (λ p. record { tree = p.0; bytes = p.1.0; steps = p.1.1 }) (λ _. refl)
 
 -- the most steps of a pass for a byte that it reads: the step of the automaton, and a set that is cleared or compared
 abbrev pub pass_work : Tree → ℕ
@@ -29,9 +31,12 @@ pass_bytes bytes = bytes + 2
 abbrev pub find_bytes : ℕ → ℕ → ℕ
 find_bytes halves bytes = (halves + 3) * pass_bytes bytes
 
--- the calls take at most as many steps as so many bytes, and take none back
-abbrev pub ReadsAtMost : ℕ → Finding → Finding → Type 0
-ReadsAtMost bytes old new = (old.steps ≤ new.steps) × (new.steps ≤ old.steps + bytes * pass_work old.tree)
+-- the calls read at most so many bytes and take at most as many steps as these, and take none back
+pub record ReadsAtMost (bytes : ℕ) (old new : Finding) : Type 0 where
+  pub on : old.bytes ≤ new.bytes
+  pub few : new.bytes ≤ old.bytes + bytes
+  pub low : old.steps ≤ new.steps
+  pub high : new.steps ≤ old.steps + bytes * pass_work old.tree
 
 -- one search over a line of so many bytes
 abbrev pub SearchesWithin : ℕ → Finding → Finding → Type 0

@@ -35,7 +35,7 @@ pub struct Listed {
     pub stopped: bool,
 }
 
-/// A program with the memory of a search for spans. Contracts see the program's tree and the steps
+/// A program with the memory of a search for spans. Contracts see the program's tree, the bytes read and the steps
 /// taken.
 #[derive(Drop)]
 pub struct Finder<'a> {
@@ -45,6 +45,7 @@ pub struct Finder<'a> {
 
 impl<'a> Model for Finder<'a> {
     ghost use Rattle.cs_match.specs.SpanWork.{Finding, finding_code};
+    ghost use Rattle.cs_match.specs.SpanList.{finding_of};
 
     ghost Value = { Finding };
 
@@ -52,7 +53,7 @@ impl<'a> Model for Finder<'a> {
 
     ghost use Rattle.cs_match.specs.Passes.{IsPassOf};
 
-    ghost view = { λ finder. record { tree = finder.program.now; steps = finder.pass.steps.count } };
+    ghost view = { λ finder. finding_of finder.program.now finder.pass };
 
     ghost invariant = { λ finder. IsPassOf finder.program.now finder.pass };
 }
@@ -61,6 +62,7 @@ impl<'a> Finder<'a> {
     /// A finder for the program. It allocates all memory that its calls use.
     pub fn new(alloc: Global, program: &'a Program) -> Result<Finder<'a>, AllocError>
         ensures tree { IfOk result (λ finder. finder.tree ≡ program.now) }
+        ensures bytes { IfOk result (λ finder. finder.bytes ≡ 0) }
         ensures steps { IfOk result (λ finder. finder.steps ≡ 0) }
     {
         let pass = Pass {
@@ -68,6 +70,7 @@ impl<'a> Finder<'a> {
             unfinished: Unfinished::none(),
             scratch: Scratch::new(alloc, program)?,
             left: 0,
+            read: Steps::new(),
             steps: Steps::new(),
         };
         Ok(Finder { program, pass })

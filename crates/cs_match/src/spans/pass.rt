@@ -27,8 +27,9 @@ pub struct Pass {
     pub(crate) scratch: Scratch,
     /// How many bytes more the budget has.
     pub(crate) left: usize,
-    /// The steps of the passes. A finder has a counter of its own, since it is no part of a search,
-    /// whose bound counts its steps.
+    /// The bytes that the passes have read.
+    pub(crate) read: Steps,
+    /// The steps of the passes. A finder has a counter of its own, since it is no part of a search, whose bound counts its steps.
     pub(crate) steps: Steps,
 }
 
@@ -265,6 +266,7 @@ impl Pass {
         self.unfinished = before.unfinished;
         self.positions.clear();
         self.left = self.left.saturating_sub(before.read + 1);
+        self.read.add(before.read + 1);
         // A byte is read twice: to find where the character begins, and from there on.
         self.steps.add(before.read);
         self.steps.add(before.read);
@@ -300,6 +302,7 @@ impl Pass {
             &mut self.steps,
         );
         self.left = self.left.saturating_sub(1);
+        self.read.add(1);
         // The set is tested for emptiness.
         self.steps.add(self.positions.len().div_ceil(64) + 1);
         let may_end = may_end(line, part.whole, offset);
@@ -319,6 +322,7 @@ impl Pass {
         let here = look_around(program, line, line.len());
         let may_begin = may_begin(line, part, line.len());
         self.left = self.left.saturating_sub(1);
+        self.read.add(1);
         self.steps.add(1);
         let accepts = is_accepting(program, may_begin, &self.positions, here, &mut self.steps);
         let may_end = may_end(line, part.whole, line.len());

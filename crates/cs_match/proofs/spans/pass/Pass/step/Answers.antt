@@ -34,7 +34,8 @@ returns-clause-read c =
     record {
       bytes = 1;
       few = omega arith;
+      read = c.add.ensures;
       left = c.saturating_sub-self.ensures;
-      low = omega (arith, cost.0, c.add.ensures);
-      high = omega (arith, cost.1, c.add.ensures, tested);
+      low = omega (arith, cost.0, c.add-2.ensures);
+      high = omega (arith, cost.1, c.add-2.ensures, tested);
     }

@@ -33,7 +33,7 @@ pass_send : IsSend (Pass.the_field).row
 pass_send = search (sendable, steps_send, positions.the_send, unfinished.the_field_send, scratch.the_field_send) depth 20
 
 cache_send : IsSend (Cache.the_field).row
-cache_send = search (sendable, steps_send, states.the_field_send, pacing.the_field_send) depth 20
+cache_send = search (sendable, crosses, steps_send, states.the_field_send, pacing.the_field_send) depth 20
 
 pattern_send : IsSend (Pattern.the_field).row
 pattern_send = search (sendable, crosses, node.crosses) depth 20

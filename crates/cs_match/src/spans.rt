@@ -35,8 +35,8 @@ pub struct Listed {
     pub stopped: bool,
 }
 
-/// A program with the memory of a search for spans. Contracts see the program's tree, the bytes read and the steps
-/// taken.
+/// A program with the memory of a search for spans. Contracts see the program's tree, the bytes
+/// read and the steps taken.
 #[derive(Drop)]
 pub struct Finder<'a> {
     program: &'a Program,

@@ -29,7 +29,8 @@ pub struct Pass {
     pub(crate) left: usize,
     /// The bytes that the passes have read.
     pub(crate) read: Steps,
-    /// The steps of the passes. A finder has a counter of its own, since it is no part of a search, whose bound counts its steps.
+    /// The steps of the passes. A finder has a counter of its own, since it is no part of a search,
+    /// whose bound counts its steps.
     pub(crate) steps: Steps,
 }
 

@@ -273,6 +273,20 @@ module _ (block : List ℕ) (from start end : ℕ) (line : IsLineAfter block fro
       ap terminated_lines (between_by block from start end line.low line.order) ∙ terminated_lines-whole own before line.before
       ∙ ap (λ lines. terminated_lines before ++ lines) (terminated_lines-part own line.part) ∙ append-nil (terminated_lines before)
 
+-- the first matching line of a list: the lines before it have no match, and it has one
+module _ (has_match : List ℕ → Bool) (block : List ℕ) (from to end : ℕ) (ends : List ℕ) (high : to ≤ length block)
+    (first : IsFirstEnd has_match block from to end ends) (start stop : ℕ) (at : stop ≡ end) (line : IsLineAfter block from start stop) where
+  pub first_skips : NoneMatch has_match (terminated_lines (take (start - from) (drop from block)))
+  first_skips =
+      subst (NoneMatch has_match) (lines_before block from start stop line)
+      (subst (λ k. NoneMatch has_match (terminated_lines (take (k - from) (drop from block)))) (sym at)
+      (none_listed has_match block from end first.low (omega (arith, first.high, high)) first.none))
+
+  pub first_matches : has_match (take (stop - start) (drop start block)) ≡ true
+  first_matches =
+      subst (λ part. has_match part ≡ true) (last_is_line block from start stop line)
+      (subst (λ k. has_match (last_part (take (k - from) (drop from block))) ≡ true) (sym at) first.matches)
+
 -- the line that ends at a newline, after the whole lines before it
 pub line_at : (block : List ℕ) (from size end : ℕ) → from ≤ end → end < length block → get_or block end 0 ≡ newline →
     size ≤ length (take (end - from) (drop from block)) → AreWholeLines (take size (take (end - from) (drop from block))) →

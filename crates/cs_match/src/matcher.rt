@@ -137,8 +137,7 @@ impl<'a> Matcher<'a> {
             return None;
         }
         let line = line_to(block, from, ends[0]);
-        // The bytes of the line are read, and the newline before them.
-        self.steps.add(line.end - line.start + 1);
+        self.steps.add(line.end + 1 - from);
         Some(line)
     }
 

@@ -1,5 +1,5 @@
 // Skipping of lines that contain none of the required words.
-ghost use Rattle.std.specs.Prelude.{◌≡◌, ◌≤◌, ◌<◌, ◌+◌, ◌*◌, take, drop, length, slice_index};
+ghost use Rattle.std.specs.Prelude.{◌≡◌, ◌≤◌, ◌<◌, ◌+◌, ◌*◌, true, take, drop, length, slice_index, slice_range};
 ghost use Rattle.cs_match.specs.NoNewline.{HasNoNewline};
 ghost use Rattle.cs_match.specs.Lines.{newline};
 ghost use Rattle.cs_match.specs.Skipping.{AreWholeLines, IsLineAfter};
@@ -11,7 +11,7 @@ ghost use Rattle.cs_prefilter.specs.CountsAtMost.{CountsAtMost};
 use crate::lines::line_end;
 use crate::matcher::Line;
 use cs_prefilter::{Prefilter, Steps};
-use memchr::memrchr;
+use memchr::{memchr, memrchr};
 
 /// A line that may contain a word of a prefilter, such that no line before it does, or none if no
 /// line contains one.
@@ -60,7 +60,7 @@ pub(crate) fn next_candidate(
     }
 }
 
-/// The line that ends at an offset, after whole lines from another offset on.
+/// The line that ends at an offset, after whole lines from another offset on. It reads a byte of them once at most.
 pub fn line_to(block: &[u8], from: usize, end: usize) -> Line
     requires low { from ≤ end }
     requires within { end < length block.now }
@@ -68,10 +68,23 @@ pub fn line_to(block: &[u8], from: usize, end: usize) -> Line
     ensures line { IsLineAfter block.now from result.start result.end }
     ensures end { result.end ≡ end }
 {
-    let len = whole_lines_len(&block[from..end]);
-    Line {
-        start: from + len,
-        end,
+    // In a long list most lines follow one another.
+    if is_line(block, from, end) {
+        return Line { start: from, end };
+    }
+    let start = from + whole_lines_len(&block[from..end]);
+    Line { start, end }
+}
+
+/// Whether the first newline at or after `from` is at `end`.
+fn is_line(block: &[u8], from: usize, end: usize) -> bool
+    requires low { from ≤ end }
+    requires within { end < length block.now }
+    ensures { result ≡ true → HasNoNewline (slice_range block.now from end) }
+{
+    match memchr(b'\n', &block[from..]) {
+        Some(offset) => from + offset == end,
+        None => false,
     }
 }
 

@@ -8,7 +8,7 @@ use Rattle.cs_match.specs.Lines.{terminated_lines}
 use Rattle.cs_match.specs.MatchingEnds.{matching_ends}
 use Rattle.cs_match.specs.Skipping.{NoneMatch}
 use Rattle.cs_match.proofs.DecidabilityLemmas.{matching_is_decidable}
-use Rattle.cs_match.proofs.ListingLemmas.{IsFirstEnd, first_end, first_taken, none_listed, last_is_line, lines_before}
+use Rattle.cs_match.proofs.ListingLemmas.{IsFirstEnd, first_end, first_matches, first_skips, first_taken, none_listed}
 use Rattle.cs_match.proofs.matcher.Matcher.next_match.Goals as goal
 
 pub returns-then-listed-eq0-clause-none : goal.returns-then-listed-eq0-clause-none
@@ -48,23 +48,21 @@ pub returns-clause-found : goal.returns-clause-found
 returns-clause-found c =
     let e = c.list_lines-listed.ensures.lists.listed in
     let block = c.args.block.now in
-    let l = c.line_to-line.ensures in
     let start = c.line_to-line.result.start in
+    let end = c.line_to-line.result.end in
     let decided = matching_is_decidable c.args.self.now.tree in
     let first = first_of decided.0 block c.args.from c.list_lines-listed.result.to c.list_lines-listed.result.count c.list_lines-listed.new.ends
-    e.lines.low e.lines.high c.list_lines-listed.auto.ends e.room c.if-listed-eq0.false (e.listed decided.0 (subst (λ (a : Automaton). Decides decided.0 a.tree) (sym c.self.view_is) decided.1)) in
-    let matches = subst (λ end. decided.0 (last_part (take (end - c.args.from) (drop c.args.from block))) ≡ true) (sym l.end) first.matches in
-    let line = take (c.line_to-line.result.end - start) (drop start block) in
-    (decided.1 line).0 (subst (λ part. decided.0 part ≡ true) (last_is_line block c.args.from start c.line_to-line.result.end l.line) matches)
+    e.lines.low e.lines.high c.list_lines-listed.auto.ends e.room c.if-listed-eq0.false
+    (e.listed decided.0 (subst (λ (a : Automaton). Decides decided.0 a.tree) (sym c.self.view_is) decided.1)) in
+    (decided.1 (take (end - start) (drop start block))).0
+    (first_matches decided.0 block c.args.from _ _ _ e.lines.high first start end c.line_to-line.ensures.end c.line_to-line.ensures.line)
 
 pub returns-clause-none : goal.returns-clause-none
 returns-clause-none c = λ has_match decides.
     let e = c.list_lines-listed.ensures.lists.listed in
     let block = c.args.block.now in
-    let l = c.line_to-line.ensures in
     let first = first_of has_match block c.args.from c.list_lines-listed.result.to c.list_lines-listed.result.count c.list_lines-listed.new.ends
-    e.lines.low e.lines.high c.list_lines-listed.auto.ends e.room c.if-listed-eq0.false (e.listed has_match (subst (λ (a : Automaton). Decides has_match a.tree) (sym c.self.view_is) decides)) in
-    let none = none_listed has_match block c.args.from (slice_index c.list_lines-listed.new.ends 0) first.low
-    (omega (arith, first.high, e.lines.high)) first.none in
-    subst (λ lines. NoneMatch has_match lines) (lines_before block c.args.from c.line_to-line.result.start c.line_to-line.result.end l.line)
-    (subst (λ end. NoneMatch has_match (terminated_lines (take (end - c.args.from) (drop c.args.from block)))) (sym l.end) none)
+    e.lines.low e.lines.high c.list_lines-listed.auto.ends e.room c.if-listed-eq0.false
+    (e.listed has_match (subst (λ (a : Automaton). Decides has_match a.tree) (sym c.self.view_is) decides)) in
+    first_skips has_match block c.args.from _ _ _ e.lines.high first c.line_to-line.result.start c.line_to-line.result.end
+    c.line_to-line.ensures.end c.line_to-line.ensures.line

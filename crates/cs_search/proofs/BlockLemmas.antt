@@ -3,13 +3,12 @@ use Rattle.std.proofs.Common.{◌≡◌, ℕ, ◌+◌, ◌-◌, ◌<◌, ◌≤�
 use Rattle.std.proofs.lemmas.Bool.{eqb-true}
 use Rattle.std.proofs.lemmas.List.{take-append-drop, take_more, take_rest, get_or-drop}
 use Rattle.memchr.specs.Find.{Nowhere, NoneAfter, Passes, is_byte}
-use Rattle.cs_tree.proofs.GrowsLemmas.{take_on}
 use Rattle.cs_match.specs.Lines.{terminated_lines}
 use Rattle.cs_match.specs.NoNewline.{HasNoNewline}
 use Rattle.cs_match.specs.Skipping.{AreWholeLines}
 use Rattle.cs_match.proofs.LinesLemmas.{lines_within, HasNoNewline-append, HasNoNewline-searched}
 use Rattle.cs_match.proofs.NewlineLemmas.{next_none}
-use Rattle.cs_match.proofs.WholeLineLemmas.{whole_terminated, whole_append, terminated_lines-whole}
+use Rattle.cs_match.proofs.WholeLineLemmas.{between_by, whole_terminated, terminated_lines-whole}
 
 -- a backward search for the last newline of a block whose first `scanned` bytes have none
 module _ (block : List ℕ) (scanned : ℕ) where
@@ -47,19 +46,13 @@ module _ (block : List ℕ) (scanned : ℕ) where
         last.0.after (offset + 1 + k) (omega arith) (omega (arith, low, size, length-drop scanned block, last_within))
         (subst (λ b. nat_eq b 10 ≡ true) there e))
 
--- whole lines up to one offset, and on to the next
-module _ (block : List ℕ) (from to : ℕ) (rising : from ≤ to) (before : AreWholeLines (take from block)) where
-  prefix_is : take to block ≡ take from block ++ take (to - from) (drop from block)
-  prefix_is =
-      let split : to ≡ from + (to - from) = omega arith in
-      ap (λ n. take n block) split ∙ take_on from (to - from) block
-
-  pub lines_on : terminated_lines (take to block) ≡ terminated_lines (take from block) ++ terminated_lines
-      (take (to - from) (drop from block))
-  lines_on = ap terminated_lines prefix_is ∙ terminated_lines-whole (take (to - from) (drop from block)) (take from block) before
-
-  pub whole_on : AreWholeLines (take (to - from) (drop from block)) → AreWholeLines (take to block)
-  whole_on w = subst AreWholeLines (sym prefix_is) (whole_append _ _ before w)
+-- the lines between two offsets, and those up to a third
+pub lines_between : (block : List ℕ) (from middle to : ℕ) → from ≤ middle → middle ≤ to → AreWholeLines (take (middle - from) (drop from block)) →
+    terminated_lines (take (to - from) (drop from block))
+    ≡ terminated_lines (take (middle - from) (drop from block)) ++ terminated_lines (take (to - middle) (drop middle block))
+lines_between block from middle to low high whole =
+    ap terminated_lines (between_by block from middle to low high)
+    ∙ terminated_lines-whole (take (to - middle) (drop middle block)) (take (middle - from) (drop from block)) whole
 
 pub counted_within : (text : List ℕ) (n : ℕ) → length (terminated_lines (take n text)) ≤ n
 counted_within text n = omega (arith, lines_within (take n text), length-take n text)

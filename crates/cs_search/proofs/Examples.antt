@@ -7,7 +7,7 @@ use Rattle.cs_search.specs.declared.grep_fault.ReadFault.{ReadFault}
 use Rattle.cs_search.specs.declared.grep_fault.ReadFault.TheVariants.{Read}
 use Rattle.cs_match.specs.Lines.{lines, terminated_lines}
 use Rattle.cs_match.specs.LastPart.{last_part}
-use Rattle.cs_match.specs.Work.{search_overhead, searched_byte_work, line_work}
+use Rattle.cs_match.specs.Work.{searched_byte_work, line_work}
 use Rattle.cs_syntax.specs.Matching.{Tree}
 use Rattle.cs_search.specs.Work.{searched_work, input_work}
 use Rattle.cs_args.specs.declared.fault.FileFault.TheVariants.{Missing, Denied, InputTooLong}
@@ -73,8 +73,8 @@ no_name_has_two_faults (inr (why, rest, is, may, none)) = cc
 
 -- ---- work
 
--- five bytes, two lines, and the second has no newline
+-- five bytes, and two of them are a line without a newline
 work_of_two_lines : (t : Tree) → input_work t (codes "ab\ncd") ≡
-    5 * (searched_byte_work t + 1) + 4 * (search_overhead * searched_byte_work t) + line_work t 2 + 10 + 1
-unfolding searched_work lines last_part
+    5 * (searched_byte_work t + 1) + line_work t 2 + 10 + 1
+unfolding searched_work last_part
 work_of_two_lines t = refl

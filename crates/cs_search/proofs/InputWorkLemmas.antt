@@ -7,11 +7,10 @@ use Rattle.cs_tree.specs.StreamModels.{SourceModel}
 use Rattle.cs_tree.specs.Transfers.{Consumes}
 use Rattle.cs_tree.specs.ConsumesAtMost.{ConsumesAtMost}
 use Rattle.cs_tree.proofs.ConsumesLemmas.{Consumes_few}
-use Rattle.cs_match.specs.Lines.{lines, terminated_lines}
 use Rattle.cs_match.specs.Automaton.{Automaton, after_steps}
 use Rattle.cs_match.specs.Work.{line_work, WorksWithin}
 use Rattle.cs_match.specs.LastPart.{last_part}
-use Rattle.cs_match.proofs.LinesLemmas.{last_part-append, lines-split}
+use Rattle.cs_match.proofs.LinesLemmas.{last_part-append}
 use Rattle.cs_search.specs.declared.grep_fault.GrepFault.{GrepFault}
 use Rattle.cs_search.specs.declared.stop.Stop.{Stop}
 use Rattle.cs_search.specs.declared.stop.Stop.TheVariants.{Listed, End, Faulted}
@@ -123,16 +122,8 @@ module _ (pending : List ℕ) (n : ℕ) (model left : Option SourceModel) (old m
 
 -- ---- all steps of an input
 
-pub ended_within : (t : Tree) (text : List ℕ) → ended_work t text ≤ searched_work t (length text) (2 * length (lines text))
-ended_within t text =
-    let fewer : length (terminated_lines text) ≤ length (lines text) =
-    omega (
-      arith,
-      ap (λ (ls : List (List ℕ)). length ls) (lines-split text)
-          ∙ length-append (terminated_lines text) _,
-    ) in
-    searched_fewer t (length text - length (last_part text)) (length text) (2 * length (terminated_lines text))
-    (2 * length (lines text)) (omega arith) (omega (arith, fewer))
+pub ended_within : (t : Tree) (text : List ℕ) → ended_work t text ≤ searched_work t (length text)
+ended_within t text = searched_fewer t (length text - length (last_part text)) (length text) (omega arith)
 
 module _ (most : ℕ) (model later : Option SourceModel) (old : Automaton) where
   pub ended_input : (new : Automaton) → TakesSteps most (read_work old.tree) model later old new →

@@ -18,5 +18,6 @@ mod SearchExamples
 mod SearchLemmas
 mod SelectionLemmas
 mod LineTestLemmas
+mod PrintLemmas
 mod WorkLemmas
 mod InputWorkLemmas

@@ -2,7 +2,6 @@
 use Rattle.std.specs.Prelude.{ℕ, ◌≡◌, ◌≤◌, ◌+◌, ◌*◌, ◌-◌, List, [], length, Option, Result, IfOk}
 use Rattle.cs_syntax.specs.Matching.{Tree}
 use Rattle.cs_match.specs.Automaton.{Automaton}
-use Rattle.cs_match.specs.Lines.{terminated_lines}
 use Rattle.cs_match.specs.LastPart.{last_part}
 use Rattle.cs_match.specs.Work.{WorksWithin}
 use Rattle.cs_tree.specs.StreamModels.{SourceModel}
@@ -18,7 +17,7 @@ StepsWithin bound old new = (new.tree ≡ old.tree) × WorksWithin bound old new
 
 -- the most steps of the lines of a text that have ended
 abbrev pub ended_work : Tree → List ℕ → ℕ
-ended_work t text = searched_work t (length text - length (last_part text)) (2 * length (terminated_lines text))
+ended_work t text = searched_work t (length text - length (last_part text))
 
 -- and of the reads, and the line ends that were looked for
 abbrev pub read_work : Tree → List ℕ → ℕ

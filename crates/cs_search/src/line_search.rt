@@ -1,5 +1,5 @@
 // Searches of lines, and of blocks of lines.
-ghost use Rattle.std.specs.Prelude.{◌≡◌, ◌≤◌, ◌<◌, ◌+◌, ◌-◌, ◌*◌, ◌^◌, ◌∷◌, [], ℕ, Bool, false, is_none, List, OnOk, IfOk, IfSome, length, take, drop, count_by};
+ghost use Rattle.std.specs.Prelude.{◌≡◌, ◌≤◌, ◌<◌, ◌+◌, ◌-◌, ◌*◌, ◌^◌, ◌∷◌, [], ℕ, Bool, true, false, is_none, List, OnOk, IfOk, IfSome, length, take, drop, slice_range, count_by};
 ghost use Rattle.cs_search.specs.GrepFaults.{is_grep_failure};
 ghost use Rattle.cs_tree.specs.FailureCount.{count_after};
 ghost use Rattle.cs_match.specs.Deciding.{Decides};
@@ -7,6 +7,8 @@ ghost use Rattle.cs_match.specs.Lines.{terminated_lines};
 ghost use Rattle.cs_match.specs.NoNewline.{HasNoNewline};
 ghost use Rattle.cs_match.specs.Skipping.{AreWholeLines};
 ghost use Rattle.cs_match.specs.LastPart.{last_part};
+ghost use Rattle.cs_match.specs.MatchingEnds.{matching_ends};
+ghost use Rattle.cs_match.specs.Skipped.{AreLinesBetween};
 ghost use Rattle.cs_match.specs.Work.{line_work};
 ghost use Rattle.cs_search.specs.TestedLines.{SameNumber, CountsBlock, IsUnlisted, TestsBy, TestsBlock};
 ghost use Rattle.cs_search.specs.Work.{searched_work};
@@ -15,9 +17,10 @@ ghost use Rattle.cs_search.specs.SearchedWork.{StepsWithin, ended_work};
 use crate::grep_fault::GrepFault;
 use crate::printer::Printer;
 use crate::tally::{Tally, newlines};
-use cs_match::Matcher;
+use cs_match::{Matcher, line_to};
 use cs_tree::Sink;
 use memchr::memrchr;
+use std::ops::Range;
 
 /// Tests the next line, and prints it if it matches.
 pub(crate) fn search_line<O: Sink>(
@@ -63,6 +66,7 @@ fn line_count(printer: &Printer<'_>, block: &[u8], some: u64, matcher: &mut Matc
     ensures exact { SameNumber printer.now.style result (length (terminated_lines block.now)) }
     ensures least { some ≤ result }
     ensures most { result ≤ length (terminated_lines block.now) }
+    ensures ends { matcher.new.ends ≡ matcher.old.ends }
     ensures work { StepsWithin (length block.now) matcher.old matcher.new }
 {
     if printer.style.number {
@@ -77,6 +81,7 @@ fn count_skipped(printer: &Printer<'_>, tally: &mut Tally, lines: &[u8], matcher
     requires { tally.old.lines + length lines.now < 2 ^ 64 }
     ensures lines { CountsBlock printer.now.style tally.old tally.new lines.now }
     ensures matches { tally.new.matches ≡ tally.old.matches }
+    ensures ends { matcher.new.ends ≡ matcher.old.ends }
     ensures work { StepsWithin (length lines.now) matcher.old matcher.new }
 {
     tally.lines += line_count(printer, lines, 0, matcher);
@@ -89,16 +94,111 @@ fn count_lines(printer: &Printer<'_>, tally: &mut Tally, block: &[u8], matcher: 
     ensures lines { CountsBlock printer.now.style tally.old tally.new block.now }
     ensures matches { (has_match : List ℕ → Bool) → Decides has_match matcher.old.tree →
         tally.new.matches ≡ tally.old.matches + count_by has_match (terminated_lines block.now) }
-    ensures work { StepsWithin (searched_work matcher.old.tree (length block.now)
-        (length (terminated_lines block.now) + 1)) matcher.old matcher.new }
+    ensures work { StepsWithin (searched_work matcher.old.tree (length block.now)) matcher.old matcher.new }
 {
     let matches = matcher.count(block);
     tally.lines += line_count(printer, block, matches, matcher);
     tally.matches += matches;
 }
 
-/// Tests the lines of a block of whole lines. Under `-l` the first matching line ends the search,
-/// and the result is true.
+/// Prints the matching lines between two offsets of a block, which the matcher has listed.
+fn print_lines<O: Sink>(
+    printer: &Printer<'_>,
+    tally: &mut Tally,
+    block: &[u8],
+    part: Range<usize>,
+    matcher: &mut Matcher<'_>,
+    out: &mut O,
+) -> Result<(), GrepFault>
+    requires lines { AreLinesBetween block.now part.start part.end }
+    requires listed { (has_match : List ℕ → Bool) → Decides has_match matcher.old.tree →
+        matcher.old.ends ≡ matching_ends has_match block.now part.start part.end }
+    requires room { tally.old.lines + (part.end - part.start) < 2 ^ 64 }
+    requires prints { printer.now.style.list ≡ false }
+    ensures lines { IfOk result (λ _. CountsBlock printer.now.style tally.old tally.new
+        (slice_range block.now part.start part.end)) }
+    ensures tests { TestsBy matcher.old.tree printer.now.style printer.now.name.now
+        (terminated_lines (slice_range block.now part.start part.end))
+        tally.old tally.new (O.model out.old) (O.model out.new) result }
+    ensures failed { O.failed out.new ≡ count_after is_grep_failure result (O.failed out.old) }
+    ensures work { StepsWithin (2 * (part.end - part.start)) matcher.old matcher.new }
+{
+    let mut offset = part.start;
+    for k in 0..matcher.listed().len() {
+        let line = line_to(block, offset, matcher.listed()[k]);
+        matcher.add_steps(line.end + 1 - offset);
+        count_skipped(printer, tally, &block[offset..line.start], matcher);
+        tally.add_match();
+        printer.print_match(tally.lines, &block[line.start..line.end], out)?;
+        offset = line.end + 1;
+    }
+    count_skipped(printer, tally, &block[offset..part.end], matcher);
+    Ok(())
+}
+
+/// Prints the matching lines of a block of whole lines.
+fn print_block<O: Sink>(
+    printer: &Printer<'_>,
+    tally: &mut Tally,
+    block: &[u8],
+    matcher: &mut Matcher<'_>,
+    out: &mut O,
+) -> Result<(), GrepFault>
+    requires whole { AreWholeLines block.now }
+    requires room { tally.old.lines + length block.now < 2 ^ 64 }
+    requires prints { printer.now.style.list ≡ false }
+    ensures lines { IfOk result (λ _. CountsBlock printer.now.style tally.old tally.new block.now) }
+    ensures tests { TestsBy matcher.old.tree printer.now.style printer.now.name.now
+        (terminated_lines block.now)
+        tally.old tally.new (O.model out.old) (O.model out.new) result }
+    ensures failed { O.failed out.new ≡ count_after is_grep_failure result (O.failed out.old) }
+    ensures work { StepsWithin (searched_work matcher.old.tree (length block.now)) matcher.old matcher.new }
+{
+    let mut offset = 0;
+    'lists: while offset < block.len() {
+        let to = matcher.list_lines(block, offset);
+        print_lines(printer, tally, block, offset..to, matcher, out)?;
+        offset = to;
+    }
+    Ok(())
+}
+
+/// Lists the name if a line of a block of whole lines matches, and returns whether one does. If none does, the lines are
+/// counted.
+fn list_name<O: Sink>(
+    printer: &Printer<'_>,
+    tally: &mut Tally,
+    block: &[u8],
+    matcher: &mut Matcher<'_>,
+    out: &mut O,
+) -> Result<bool, GrepFault>
+    requires whole { AreWholeLines block.now }
+    requires room { tally.old.lines + length block.now < 2 ^ 64 }
+    requires lists { printer.now.style.list ≡ true }
+    requires unlisted { tally.old.matches ≡ 0 }
+    ensures lines { IfOk result (λ listed. listed ≡ false →
+        CountsBlock printer.now.style tally.old tally.new block.now) }
+    ensures tests { TestsBlock matcher.old.tree printer.now.style printer.now.name.now block.now
+        tally.old tally.new (O.model out.old) (O.model out.new) (λ listed. listed) result }
+    ensures unlisted { IfOk result (λ listed. listed ≡ false → tally.new.matches ≡ 0) }
+    ensures failed { O.failed out.new ≡ count_after is_grep_failure result (O.failed out.old) }
+    ensures work { StepsWithin (searched_work matcher.old.tree (length block.now)) matcher.old matcher.new }
+{
+    match matcher.next_match(block, 0) {
+        Some(_) => {
+            tally.add_match();
+            printer.print_name(out)?;
+            Ok(true)
+        }
+        None => {
+            count_skipped(printer, tally, block, matcher);
+            Ok(false)
+        }
+    }
+}
+
+/// Tests the lines of a block of whole lines. Under `-l` the first matching line ends the search, and the result is
+/// true.
 fn search_lines<O: Sink>(
     printer: &Printer<'_>,
     tally: &mut Tally,
@@ -115,28 +215,18 @@ fn search_lines<O: Sink>(
         tally.old tally.new (O.model out.old) (O.model out.new) (λ listed. listed) result }
     ensures unlisted { IfOk result (λ listed. listed ≡ false → IsUnlisted printer.now.style tally.new) }
     ensures failed { O.failed out.new ≡ count_after is_grep_failure result (O.failed out.old) }
-    ensures work { StepsWithin (searched_work matcher.old.tree (length block.now)
-        (2 * length (terminated_lines block.now))) matcher.old matcher.new }
+    ensures work { StepsWithin (searched_work matcher.old.tree (length block.now)) matcher.old matcher.new }
 {
-    if block.is_empty() {
-        return Ok(false);
+    if printer.style.list {
+        let listed = list_name(printer, tally, block, matcher, out)?;
+        return Ok(listed);
     }
     // `-c` prints nothing for a line, so the matching lines need not be located.
-    if printer.counts() {
+    if printer.style.count {
         count_lines(printer, tally, block, matcher);
         return Ok(false);
     }
-    let mut offset = 0;
-    'lines: while let Some(line) = matcher.next_match(block, offset) {
-        count_skipped(printer, tally, &block[offset..line.start], matcher);
-        tally.add_match();
-        printer.print_match(tally.lines, &block[line.start..line.end], out)?;
-        if printer.style.list {
-            return Ok(true);
-        }
-        offset = line.end + 1;
-    }
-    count_skipped(printer, tally, &block[offset..], matcher);
+    print_block(printer, tally, block, matcher, out)?;
     Ok(false)
 }
 

@@ -20,13 +20,6 @@ pub struct Printer<'a> {
 }
 
 impl Printer<'_> {
-    /// Whether matching lines are only counted: `-c` without `-l`.
-    pub(crate) fn counts(&self) -> bool
-        ensures { IsTrue result → (self.now.style.count ≡ true) × (self.now.style.list ≡ false) }
-    {
-        self.style.count && !self.style.list
-    }
-
     /// Prints a matching line: under `-l` the name, under `-c` nothing.
     #[tactic(auto, using(crate::proofs::Printing::printing), unfolding(crate::specs::TestedLines::match_output))]
     pub(crate) fn print_match<O: Sink>(
@@ -52,7 +45,7 @@ impl Printer<'_> {
 
     /// The name on a line.
     #[tactic(auto, using(crate::proofs::Printing::printing))]
-    fn print_name<O: Sink>(&self, out: &mut O) -> Result<(), GrepFault>
+    pub(crate) fn print_name<O: Sink>(&self, out: &mut O) -> Result<(), GrepFault>
         ensures written { WritesBytes (self.now.name.now ++ newline ∷ [])
             (O.model out.old) (O.model out.new) result }
         ensures failed { O.failed out.new ≡ count_after is_grep_failure result (O.failed out.old) }

@@ -1,7 +1,6 @@
-use Rattle.std.proofs.Common.{◌+◌, length, ◌∙◌, arith}
-use Rattle.cs_match.specs.Lines.{terminated_lines}
+use Rattle.std.proofs.Common.{length, ◌∙◌, arith}
 use Rattle.cs_match.proofs.LinesLemmas.{lines_within}
-use Rattle.cs_search.proofs.WorkLemmas.{count_search, searched_fewer, works_fewer, works_more}
+use Rattle.cs_search.proofs.WorkLemmas.{list_search, works_fewer, works_more}
 use Rattle.cs_search.proofs.line_search.count_lines.Goals as goal
 
 pub overflow_add-tally : goal.overflow_add-tally
@@ -26,15 +25,8 @@ pub returns-clause-work : goal.returns-clause-work
 returns-clause-work c =
     let old = c.args.matcher.now in
     let size = length c.args.block.now in
-    let matches = c.count-matches.result in
     let k = c.line_count.ensures.work in (
       k.0 ∙ c.count-matches.ensures.same,
-      works_fewer _ _ old c.line_count.new.matcher
-          (omega (
-            arith,
-            count_search old.tree size matches,
-            searched_fewer old.tree size size (matches + 1) (length (terminated_lines c.args.block.now) + 1) (omega arith)
-                (omega (arith, c.count-matches.ensures.bound)),
-          ))
+      works_fewer _ _ old c.line_count.new.matcher (omega (arith, list_search old.tree size))
           (works_more _ _ old c.count-matches.new.self c.line_count.new.matcher c.count-matches.ensures.work k.1),
     )

@@ -1,4 +1,4 @@
-use Rattle.std.proofs.Common.{◌≡◌, ◌≤◌, ◌+◌, ◌*◌, Bool, true, false, List, ℕ, length, take, drop, MatchBool, sym, ap, subst, ◌∙◌, arith}
+use Rattle.std.proofs.Common.{◌≡◌, ◌≤◌, ◌+◌, Bool, true, false, List, ℕ, length, take, drop, MatchBool, sym, ap, subst, ◌∙◌, arith}
 use Rattle.std.proofs.lemmas.Bool.{false≢true}
 use Rattle.cs_search.specs.TestedLines.{CountsLines, Tests, TestsPrefix, IsListed}
 use Rattle.cs_match.proofs.WholeLineLemmas.{ended_all, rest_is_last}
@@ -9,7 +9,6 @@ use Rattle.cs_search.specs.SearchedWork.{StepsWithin, ended_work}
 use Rattle.cs_match.specs.Deciding.{Decides}
 use Rattle.cs_match.specs.NoNewline.{HasNoNewline}
 use Rattle.cs_match.specs.Skipping.{AreWholeLines}
-use Rattle.cs_match.specs.Lines.{terminated_lines}
 use Rattle.cs_search.proofs.WorkLemmas.{ended, tree_of, works_added, works_fewer, works_more}
 use Rattle.cs_search.proofs.line_search.search_block.Goals as goal
 
@@ -24,7 +23,7 @@ at_false P Q false e h = h
 -- the bytes up to `scanned` were looked at, and then the lines that have ended were searched
 steps_of : (block : List ℕ) (stop : ℕ) → stop ≤ length block → AreWholeLines (take stop block) → HasNoNewline (drop stop block) →
     (n : ℕ) (old mid new : Automaton) → mid ≡ after_steps n old →
-    StepsWithin (searched_work mid.tree (length (take stop block)) (2 * length (terminated_lines (take stop block)))) mid new →
+    StepsWithin (searched_work mid.tree (length (take stop block))) mid new →
     StepsWithin (ended_work old.tree block + n) old new
 steps_of block stop within whole rest n old mid new is steps = (
   steps.0 ∙ tree_of n old mid is,
@@ -32,7 +31,7 @@ steps_of block stop within whole rest n old mid new is steps = (
       (omega (
         arith,
         ended old.tree block stop within whole rest,
-        ap (λ t. searched_work t (length (take stop block)) (2 * length (terminated_lines (take stop block)))) (tree_of n old mid is),
+        ap (λ t. searched_work t (length (take stop block))) (tree_of n old mid is),
       ))
       (works_more n _ old mid new (works_added n old mid is) steps.1),
 )

@@ -1,19 +1,19 @@
 // Lists of the matching lines of a block. The search of a block is a loop over such lists.
-ghost use Rattle.std.specs.Prelude.{◌≡◌, ◌≤◌, ◌<◌, ◌+◌, ◌-◌, ◌*◌, true, IfSome, length, drop, slice_range};
-ghost use Rattle.cs_syntax.specs.Matching.{HasMatch};
+ghost use Rattle.std.specs.Prelude.{◌≡◌, ◌≤◌, ◌<◌, ◌+◌, ◌-◌, ◌*◌, IfSome, length, drop};
 ghost use Rattle.cs_match.specs.Skipping.{AreWholeLines, IsLineAfter};
-ghost use Rattle.cs_match.specs.Listing.{ListsLines};
+ghost use Rattle.cs_match.specs.Listing.{IsListedTo, ListsLines};
 ghost use Rattle.cs_match.specs.Work.{byte_work, list_work};
 ghost use Rattle.cs_prefilter.specs.WordAt.{IsPrefilterOf};
 ghost use Rattle.cs_prefilter.specs.CountsAtMost.{CountsAtMost};
 
 use crate::chunks::list_chunks;
+use crate::lines::line_end;
 use crate::matcher::Line;
 use crate::one_lane::{ListedLines, OneLane};
 use crate::pacing::Pacing;
 use crate::program::Program;
-use crate::skipping::next_candidate;
-use cs_prefilter::{Prefilter, Steps};
+use crate::skipping::{next_candidate, whole_lines_len};
+use cs_prefilter::{Listed, Prefilter, Steps};
 
 /// The shortest list that the lanes fill.
 const SHORT: usize = 256;
@@ -87,8 +87,8 @@ pub(crate) fn list_lines<D: OneLane>(
     ListedLines { count, to }
 }
 
-/// Lists those of the next part: the lines up to a candidate of the prefilter, or what is scanned
-/// at once.
+/// Lists those of the next part: the lines with a word of an exact prefilter, those up to a candidate of another one, or
+/// what is scanned at once.
 fn list_part<D: OneLane>(
     dfa: &mut D,
     ways: &mut Ways<'_>,
@@ -110,12 +110,14 @@ fn list_part<D: OneLane>(
     let Some(prefilter) = ways.next_prefilter() else {
         return scan_part(dfa, ways.one_lane, block, from, ends, steps);
     };
+    if prefilter.is_exact() {
+        let listed = prefilter.list(block, from, ends, steps);
+        ways.pacing.note_list(from, listed);
+        return finish_list(dfa, block, from, listed, ends, steps);
+    }
     let candidate = next_candidate(prefilter, block, from, steps);
     let listed = match candidate.line {
-        Some(line) => {
-            let is_match = candidate.has_word & prefilter.is_exact();
-            list_line(dfa, is_match, block, line, ends, steps)
-        }
+        Some(line) => list_line(dfa, block, line, ends, steps),
         None => ListedLines {
             count: 0,
             to: block.len(),
@@ -125,10 +127,47 @@ fn list_part<D: OneLane>(
     listed
 }
 
-/// Lists the end of a line, if it matches. It is scanned unless it is known to match.
+/// Completes a list of lines by their words, which may be given up within a line: that line is scanned.
+fn finish_list<D: OneLane>(
+    dfa: &mut D,
+    block: &[u8],
+    from: usize,
+    words: Listed,
+    ends: &mut [usize],
+    steps: &mut Steps,
+) -> ListedLines
+    requires right { D.is_right dfa.old }
+    requires whole { AreWholeLines (drop from block.now) }
+    requires listed { IsListedTo (D.tree dfa.old) block.now from words ends.old }
+    requires room { 0 < length ends.old }
+    ensures lists { ListsLines (D.tree dfa.old) block.now from result ends.new }
+    ensures all { words.to ≤ result.to }
+    ensures dfa { D.is_right dfa.new × (D.tree dfa.new ≡ D.tree dfa.old) }
+    ensures work { CountsAtMost ((byte_work (D.tree dfa.old) + 2) * (result.to - from)) steps.old steps.new }
+{
+    let start = from + whole_lines_len(&block[from..words.to]);
+    // The bytes of the line before the offset are read, and the newline before them.
+    steps.add(words.to - start + 1);
+    if start == words.to {
+        return ListedLines {
+            count: words.count,
+            to: words.to,
+        };
+    }
+    let line = Line {
+        start,
+        end: line_end(block, words.to, steps),
+    };
+    let last = list_line(dfa, block, line, &mut ends[words.count..], steps);
+    ListedLines {
+        count: words.count + last.count,
+        to: last.to,
+    }
+}
+
+/// Lists the end of a line, if it matches.
 fn list_line<D: OneLane>(
     dfa: &mut D,
-    is_match: bool,
     block: &[u8],
     line: Line,
     ends: &mut [usize],
@@ -136,20 +175,12 @@ fn list_line<D: OneLane>(
 ) -> ListedLines
     requires right { D.is_right dfa.old }
     requires line { IsLineAfter block.now line.start line.start line.end }
-    requires matches { is_match ≡ true → HasMatch (D.tree dfa.old) (slice_range block.now line.start line.end) }
     requires room { 0 < length ends.old }
     ensures lists { ListsLines (D.tree dfa.old) block.now line.start result ends.new }
     ensures all { result.to ≡ line.end + 1 }
     ensures dfa { D.is_right dfa.new × (D.tree dfa.new ≡ D.tree dfa.old) }
     ensures work { CountsAtMost (byte_work (D.tree dfa.old) * (line.end + 1 - line.start)) steps.old steps.new }
 {
-    if is_match {
-        ends[0] = line.end;
-        return ListedLines {
-            count: 1,
-            to: line.end + 1,
-        };
-    }
     dfa.list_ends(block, line.start..line.end + 1, ends, steps)
 }
 

@@ -2,6 +2,7 @@
 
 use crate::one_lane::ListedLines;
 use crate::skipping::Candidate;
+use cs_prefilter::Listed;
 
 /// Below this distance between candidates without a match the DFA alone is faster than a prefilter.
 const NEAR: usize = 256;
@@ -84,6 +85,21 @@ impl Pacing {
             if self.wasted > MOST_WASTED {
                 self.backoff.begin();
             }
+        }
+    }
+
+    /// Notes how far a list of lines by their words went, and what candidates that are no words cost.
+    pub(crate) fn note_list(&mut self, from: usize, words: Listed) {
+        // The DFA would have read each byte that was passed.
+        let wasted = words.wasted.saturating_sub(words.to.saturating_sub(from));
+        if wasted == 0 {
+            self.wasted = 0;
+            self.backoff.last = 0;
+            return;
+        }
+        self.wasted = self.wasted.saturating_add(wasted);
+        if self.wasted > MOST_WASTED {
+            self.backoff.begin();
         }
     }
 }

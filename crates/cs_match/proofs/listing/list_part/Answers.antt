@@ -1,4 +1,4 @@
-use Rattle.std.proofs.Common.{◌≡◌, ◌+◌, ◌-◌, length, take, drop, sym, ap, subst, ◌∙◌, arith}
+use Rattle.std.proofs.Common.{◌≡◌, ◌≤◌, ◌+◌, ◌-◌, true, length, sym, ap, subst, ◌∙◌, arith}
 use Rattle.std.specs.Prelude.{IfSome, List, ℕ}
 use Rattle.cs_prefilter.specs.declared.steps.Steps.{Steps}
 use Rattle.cs_prefilter.specs.WordAt.{IsPrefilterOf}
@@ -6,9 +6,10 @@ use Rattle.cs_match.specs.Candidates.{IsCandidate}
 use Rattle.cs_match.specs.Listing.{ListsLines}
 use Rattle.cs_match.specs.Work.{byte_work, list_work, searched_bytes}
 use Rattle.cs_match.specs.declared.one_lane.ListedLines.{ListedLines}
-use Rattle.cs_match.proofs.CandidateLemmas.{word_is_match, no_candidate, before_candidate}
-use Rattle.cs_match.proofs.ListingLemmas.{both, AreListed-skipped, line_alone, ListsLines-skipped}
+use Rattle.cs_match.proofs.CandidateLemmas.{no_candidate, before_candidate}
+use Rattle.cs_match.proofs.ListingLemmas.{AreListed-skipped, line_alone, ListsLines-skipped}
 use Rattle.cs_match.proofs.SearchWorkLemmas.{candidate_cost, skipped_cost}
+use Rattle.cs_match.proofs.WordEndLemmas.{whole_ends, list_high, list_lines, list_few, words_cost}
 use Rattle.cs_match.proofs.listing.list_part.Goals as goal
 use Rattle.cs_match.proofs.listing.list_part.Goals.{in-Some-line, in-None}
 
@@ -18,19 +19,44 @@ list_line-listed-requires-clause-line g c =
     c.next_candidate-candidate.result.has_word) c.in-Some-line.is c.next_candidate-candidate.ensures.candidate in
     line_alone (g.D.OneLane.tree c.args.dfa.now) c.args.block.now c.args.from c.in-Some-line.line.start c.in-Some-line.line.end e.line
 
-pub list_line-listed-requires-clause-matches : goal.list_line-listed-requires-clause-matches
-list_line-listed-requires-clause-matches g c = λ matches.
+pub list-listed-requires-clause-whole : goal.list-listed-requires-clause-whole
+list-listed-requires-clause-whole g c = whole_ends c.args.block.now c.args.from c.requires.whole
+
+pub finish_list-requires-clause-listed : goal.finish_list-requires-clause-listed
+finish_list-requires-clause-listed g c =
     let tree = g.D.OneLane.tree c.args.dfa.now in
-    let words = c.in-Some.prefilter.now.0 in
-    let start = c.in-Some-line.line.start in
-    let end = c.in-Some-line.line.end in
-    let e = subst (λ line. IsCandidate words c.args.block.now c.args.from line c.next_candidate-candidate.result.has_word)
-    c.in-Some-line.is c.next_candidate-candidate.ensures.candidate in
-    let is : IsPrefilterOf tree c.in-Some.prefilter.now =
+    let prefilter = c.in-Some.prefilter.now in
+    let is : IsPrefilterOf tree prefilter =
     subst (λ s. IfSome s (λ prefilter. IsPrefilterOf tree prefilter.now)) c.in-Some.ensures.is c.requires.prefilter in
-    let flags = both c.next_candidate-candidate.result.has_word c.is_exact.result matches in
-    let all = is.sufficient (sym c.is_exact.ensures ∙ flags.1) in
-    word_is_match tree words (take (end - start) (drop start c.args.block.now)) all (e.has flags.0 (λ k d low. (all k d low).in_line))
+    let exact : prefilter.1 ≡ true = sym c.is_exact.ensures ∙ c.if-is_exact.true in
+    let within : c.args.from ≤ length c.args.block.now = omega (arith, c.requires.within) in
+    let e = c.list-listed.ensures in
+    let long = c.list-listed.auto.ends in
+    record {
+      moves = e.moves c.requires.within;
+      high = list_high tree prefilter is exact c.args.block.now c.args.from within c.list-listed.result c.list-listed.new.ends e.low e.ends;
+      room = e.ends.room;
+      listed = list_lines tree prefilter is exact c.args.block.now c.args.from within c.list-listed.result c.list-listed.new.ends e.low e.ends;
+      full = λ all. e.stops (omega (arith, all, long));
+    }
+
+pub returns-then-is_exact-clause-work : goal.returns-then-is_exact-clause-work
+returns-then-is_exact-clause-work g c =
+    let tree = g.D.OneLane.tree c.args.dfa.now in
+    let prefilter = c.in-Some.prefilter.now in
+    let is : IsPrefilterOf tree prefilter =
+    subst (λ s. IfSome s (λ prefilter. IsPrefilterOf tree prefilter.now)) c.in-Some.ensures.is c.requires.prefilter in
+    let exact : prefilter.1 ≡ true = sym c.is_exact.ensures ∙ c.if-is_exact.true in
+    let e = c.list-listed.ensures in
+    let f = c.finish_list.ensures in
+    let words = c.list-listed.result in
+    let few = list_few tree prefilter is exact c.args.block.now c.args.from (omega (arith, c.requires.within)) words c.list-listed.new.ends e.low e.ends in
+    let moves = e.moves c.requires.within in
+    let cost = words_cost (words.to - c.args.from) (c.finish_list.result.to - c.args.from) words.count (byte_work tree)
+    (omega (arith, moves)) (omega (arith, f.all)) few in (
+      omega (arith, e.work.0, f.work.0),
+      omega (arith, e.work.1, f.work.1, cost),
+    )
 
 pub returns-clause-lists : goal.returns-clause-lists
 returns-clause-lists g c =

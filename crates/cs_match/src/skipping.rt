@@ -18,7 +18,6 @@ use memchr::{memchr, memrchr};
 #[derive(Clone, Copy)]
 pub(crate) struct Candidate {
     pub(crate) line: Option<Line>,
-    pub(crate) has_word: bool,
     /// What candidates that are no words cost, in bytes that the DFA scans in their time.
     pub(crate) wasted: usize,
 }
@@ -33,7 +32,7 @@ pub(crate) fn next_candidate(
 ) -> Candidate
     requires within { from < length block.now }
     requires whole { AreWholeLines (drop from block.now) }
-    ensures candidate { IsCandidate prefilter.now.0 block.now from result.line result.has_word }
+    ensures candidate { IsCandidate prefilter.now.0 block.now from result.line }
     ensures work { CountsAtMost (2 * offset_work * searched_bytes from (length block.now) result.line)
         steps.old steps.new }
 {
@@ -42,7 +41,6 @@ pub(crate) fn next_candidate(
     if stop.offset == rest.len() {
         return Candidate {
             line: None,
-            has_word: false,
             wasted: stop.wasted,
         };
     }
@@ -55,7 +53,6 @@ pub(crate) fn next_candidate(
     };
     Candidate {
         line: Some(line),
-        has_word: stop.has_word,
         wasted: stop.wasted,
     }
 }

@@ -15,8 +15,7 @@ use Rattle.cs_match.proofs.listing.list_part.Goals.{in-Some-line, in-None}
 
 pub list_line-listed-requires-clause-line : goal.list_line-listed-requires-clause-line
 list_line-listed-requires-clause-line g c =
-    let e = subst (λ line. IsCandidate c.in-Some.prefilter.now.0 c.args.block.now c.args.from line
-    c.next_candidate-candidate.result.has_word) c.in-Some-line.is c.next_candidate-candidate.ensures.candidate in
+    let e = subst (λ line. IsCandidate c.in-Some.prefilter.now.0 c.args.block.now c.args.from line) c.in-Some-line.is c.next_candidate-candidate.ensures.candidate in
     line_alone (g.D.OneLane.tree c.args.dfa.now) c.args.block.now c.args.from c.in-Some-line.line.start c.in-Some-line.line.end e.line
 
 pub list-listed-requires-clause-whole : goal.list-listed-requires-clause-whole
@@ -63,21 +62,20 @@ returns-clause-lists g c =
     let tree = g.D.OneLane.tree c.args.dfa.now in
     let words = c.in-Some.prefilter.now.0 in
     let block = c.args.block.now in
-    let has_word = c.next_candidate-candidate.result.has_word in
     let is : IsPrefilterOf tree c.in-Some.prefilter.now =
     subst (λ s. IfSome s (λ prefilter. IsPrefilterOf tree prefilter.now)) c.in-Some.ensures.is c.requires.prefilter in
     elim c.match-candidate.branch [
       | in-Some-line w ↦
           let line = w.in-Some-line.line in
-          let e = subst (λ line. IsCandidate words block c.args.from line has_word) w.in-Some-line.is c.next_candidate-candidate.ensures.candidate in
+          let e = subst (λ line. IsCandidate words block c.args.from line) w.in-Some-line.is c.next_candidate-candidate.ensures.candidate in
           subst (λ (listed : ListedLines). ListsLines tree block c.args.from listed c.match-candidate.ends) (sym w.listed-is)
           (subst (λ (ends : List ℕ). ListsLines tree block c.args.from w.list_line-listed.result ends) (sym w.ends-is)
           (ListsLines-skipped tree block c.args.from line.start w.list_line-listed.result w.list_line-listed.new.ends
-          (before_candidate tree words block c.args.from line.start line.end has_word is.required e) (omega (arith, e.line.order, e.line.high))
+          (before_candidate tree words block c.args.from line.start line.end is.required e) (omega (arith, e.line.order, e.line.high))
           w.list_line-listed.ensures.lists))
       | in-None w ↦
           let skipped = no_candidate tree words block c.args.from (omega (arith, c.requires.within)) c.requires.whole is.required
-          (subst (λ line. IsCandidate words block c.args.from line has_word) w.in-None.is c.next_candidate-candidate.ensures.candidate) in
+          (subst (λ line. IsCandidate words block c.args.from line) w.in-None.is c.next_candidate-candidate.ensures.candidate) in
           subst (λ (listed : ListedLines). ListsLines tree block c.args.from listed c.match-candidate.ends) (sym w.listed-is) (record {
             listed = AreListed-skipped tree block c.args.from (length block) c.match-candidate.ends skipped;
             moves = λ low. low;
@@ -94,7 +92,7 @@ returns-clause-work g c =
     elim c.match-candidate.branch [
       | in-Some-line w ↦
           let line = w.in-Some-line.line in
-          let e = subst (λ line. IsCandidate words block c.args.from line c.next_candidate-candidate.result.has_word) w.in-Some-line.is candidate.candidate in
+          let e = subst (λ line. IsCandidate words block c.args.from line) w.in-Some-line.is candidate.candidate in
           let bytes = ap (searched_bytes c.args.from (length block)) w.in-Some-line.is in
           let steps = ap (λ (s : Steps). s.count) w.steps-is in
           let to : c.match-candidate.listed.to ≡ line.end + 1 = ap (λ (l : ListedLines). l.to) w.listed-is ∙ w.list_line-listed.ensures.all in

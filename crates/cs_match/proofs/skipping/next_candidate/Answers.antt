@@ -6,7 +6,7 @@ use Rattle.cs_match.specs.Lines.{terminated_lines}
 use Rattle.cs_match.specs.NoNewline.{HasNoNewline}
 use Rattle.cs_match.specs.Candidates.{LackWords}
 use Rattle.cs_match.specs.Skipping.{AreWholeLines}
-use Rattle.cs_match.proofs.CandidateLemmas.{line_around, word_in_line, in_line_of}
+use Rattle.cs_match.proofs.CandidateLemmas.{line_around}
 use Rattle.cs_match.proofs.SkippedLineLemmas.{words_placed, without, without_before}
 use Rattle.cs_match.proofs.WholeLineLemmas.{whole_from}
 use Rattle.cs_match.proofs.skipping.next_candidate.Goals as goal
@@ -60,16 +60,4 @@ returns-clause-candidate c =
           (without_before (λ xs k. Any (WordAt xs k) words) (words_placed words) rest offset size small below
           (λ k low h. subst (λ (t : List ℕ). NoWordFrom words t 0 offset) all skip.none k (omega arith) low h.0 h.1 h.2
           (subst (WordAt rest k) (sym h.3) h.4)));
-      has = λ has_word in_line.
-          let found = subst (λ (t : List ℕ). Any (WordAt t offset) words) all (skip.stops has_word) in (
-            offset - size,
-            (
-              found.0,
-              found.1,
-              found.2,
-              found.3,
-              word_in_line block from offset size end found.1 (in_line_of words in_line found.0 found.1 found.2 found.3)
-                  found.4 small e.low e.high e.newline,
-            ),
-          );
     }

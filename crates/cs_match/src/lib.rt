@@ -60,12 +60,13 @@
 //! accepts at the end of the line, so that `$` and `\b` need no look-ahead. A type invariant says
 //! that each transition is unknown or correct.
 //!
-//! *Searching.* `Matcher::list_lines` lists the ends of the matching lines of a block in parts, until the block
-//! ends or the matcher's list may have no room for another part. An exact *prefilter* lists the lines with one of its words;
-//! another one skips to such a line, which one lane tests. Without a prefilter, or while it is not
-//! worth its cost (`Pacing`, on which no contract depends), four lanes list the lines of four chunks; one lane
-//! lists those of the rest of the block if the list is short, or if each match begins with `^`, since such a
-//! lane leaves most lines early. `Matcher::count` is a loop over lists, and `Matcher::next_match` a list of one.
+//! *Searching.* `Matcher::list_lines` lists the ends of the matching lines of a block in parts,
+//! until the block ends or the matcher's list may have no room for another part. An exact
+//! *prefilter* lists the lines with one of its words; another one skips to such a line, which one
+//! lane tests. Without a prefilter, or while it is not worth its cost (`Pacing`, on which no
+//! contract depends), four lanes list the lines of four chunks; one lane lists those of the rest of
+//! the block if the list is short, or if each match begins with `^`, since such a lane leaves most
+//! lines early. `Matcher::count` is a loop over lists, and `Matcher::next_match` a list of one.
 //!
 //! *Lanes* (`lanes.rt`, `chunks.rt`) are four scans of four chunks of a block, so that the loads of
 //! one do not wait for those of another. Each lists the offset of each newline over which it enters

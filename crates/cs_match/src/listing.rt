@@ -87,8 +87,8 @@ pub(crate) fn list_lines<D: OneLane>(
     ListedLines { count, to }
 }
 
-/// Lists those of the next part: the lines with a word of an exact prefilter, those up to a candidate of another one, or
-/// what is scanned at once.
+/// Lists those of the next part: the lines with a word of an exact prefilter, those up to a
+/// candidate of another one, or what is scanned at once.
 fn list_part<D: OneLane>(
     dfa: &mut D,
     ways: &mut Ways<'_>,
@@ -127,7 +127,8 @@ fn list_part<D: OneLane>(
     listed
 }
 
-/// Completes a list of lines by their words, which may be given up within a line: that line is scanned.
+/// Completes a list of lines by their words, which may be given up within a line: that line is
+/// scanned.
 fn finish_list<D: OneLane>(
     dfa: &mut D,
     block: &[u8],

@@ -88,7 +88,8 @@ impl Pacing {
         }
     }
 
-    /// Notes how far a list of lines by their words went, and what candidates that are no words cost.
+    /// Notes how far a list of lines by their words went, and what candidates that are no words
+    /// cost.
     pub(crate) fn note_list(&mut self, from: usize, words: Listed) {
         // The DFA would have read each byte that was passed.
         let wasted = words.wasted.saturating_sub(words.to.saturating_sub(from));

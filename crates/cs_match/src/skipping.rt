@@ -57,7 +57,8 @@ pub(crate) fn next_candidate(
     }
 }
 
-/// The line that ends at an offset, after whole lines from another offset on. It reads a byte of them once at most.
+/// The line that ends at an offset, after whole lines from another offset on. It reads a byte of
+/// them once at most.
 pub fn line_to(block: &[u8], from: usize, end: usize) -> Line
     requires low { from ≤ end }
     requires within { end < length block.now }

@@ -163,8 +163,8 @@ fn print_block<O: Sink>(
     Ok(())
 }
 
-/// Lists the name if a line of a block of whole lines matches, and returns whether one does. If none does, the lines are
-/// counted.
+/// Lists the name if a line of a block of whole lines matches, and returns whether one does. If
+/// none does, the lines are counted.
 fn list_name<O: Sink>(
     printer: &Printer<'_>,
     tally: &mut Tally,
@@ -197,8 +197,8 @@ fn list_name<O: Sink>(
     }
 }
 
-/// Tests the lines of a block of whole lines. Under `-l` the first matching line ends the search, and the result is
-/// true.
+/// Tests the lines of a block of whole lines. Under `-l` the first matching line ends the search,
+/// and the result is true.
 fn search_lines<O: Sink>(
     printer: &Printer<'_>,
     tally: &mut Tally,

@@ -47,6 +47,7 @@ pages:
 	tests/shell/words.sh
 	tests/shell/steps.sh
 	tests/shell/docs.py
+	tests/shell/house.py
 	scripts/promises.py --check
 	scripts/trusted.py -q --check
 

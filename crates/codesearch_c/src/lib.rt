@@ -25,7 +25,7 @@
 //! pub extern "C" fn f(s: &S) {}                           so slots own through a raw pointer
 //! pub extern "C" fn f(p: *mut u8) -> *mut u8 { p }       an export returns no raw pointer
 //! pub extern "C" fn f(g: fn(u8) -> u8) {}                nor takes a function: no callbacks
-//! pub extern "C" fn f(s: &str) {}                        text is `&[u8]`, and `from_utf8` in the export
+//! pub extern "C" fn f(s: &str) {}                        text is `&[u8]`, tested in the export
 //! pub extern "C" fn f<T>(t: &T) {}                       exports are not generic
 //! enum E { A } pub extern "C" fn f(e: E) {}              nor take an enum: codes are numbers
 //! low: codesearch_c                                      no crate depends on a static library

@@ -56,7 +56,8 @@ impl Choices {
 
     /// Rule files count for nothing, and names that begin with a dot count.
     pub fn take_ignored(&mut self)
-        ensures { chosen_in self.new ≡ record (chosen_in self.old) { takes_hidden = true; takes_ignored = true } }
+        ensures { chosen_in self.new ≡
+            record (chosen_in self.old) { takes_hidden = true; takes_ignored = true } }
     {
         self.take_hidden();
         self.takes_ignored = true;
@@ -81,7 +82,8 @@ impl Choices {
     /// Takes the files of a type, or leaves them out. The last glob of a type that applies counts.
     /// False if there is no such type.
     pub fn add_type(&mut self, name: &str, is_left_out: bool) -> Result<bool, AllocError>
-        ensures { IfOk result (λ is_type. AddsType is_type is_left_out (chosen_in self.old) (chosen_in self.new)) }
+        ensures { IfOk result
+            (λ is_type. AddsType is_type is_left_out (chosen_in self.old) (chosen_in self.new)) }
     {
         let Some(globs) = globs_of(name) else {
             return Ok(false);
@@ -117,7 +119,8 @@ impl Choices {
     /// Whether the types take a name. They say nothing of folders.
     pub(crate) fn by_types(&self, name: &[u8], is_folder: bool, steps: &mut Steps) -> Option<bool>
         ensures choice { result ≡ type_choice (chosen_in self.now) is_folder name.now }
-        ensures work { CountsAtMost (rules_work (chosen_in self.now).types (name.now ∷ [])) steps.old steps.new }
+        ensures work { CountsAtMost
+            (rules_work (chosen_in self.now).types (name.now ∷ [])) steps.old steps.new }
     {
         if is_folder {
             return None;

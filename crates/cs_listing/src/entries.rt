@@ -303,7 +303,8 @@ impl FolderReader {
         names: &[String],
     ) -> Result<Vec<Entry>, AllocError>
         requires { 0 < length (folders_in place.now.layers.now) }
-        ensures taken { IfOk result (λ entries. InTree (T.snapshot tree.old) (λ items. AreKeysOf (entry_keys entries.items)
+        ensures taken { IfOk result (λ entries. InTree (T.snapshot tree.old)
+            (λ items. AreKeysOf (entry_keys entries.items)
             (keys_taken place.now.layers.now items place.now.stem.now (map string_bytes names.now)))) }
         ensures ascend { IfOk result (λ entries. are_ascending (entry_keys entries.items) ≡ true) }
         ensures keeps { T.snapshot tree.new ≡ T.snapshot tree.old }
@@ -359,7 +360,8 @@ impl FolderReader {
         at: &str,
     ) -> Result<Option<Taken>, AllocError>
         requires { IsInDeepest layers.now path.now }
-        ensures taken { IfOk result (λ taken. InTree (T.snapshot tree.old) (λ items. option_map taken_folder taken
+        ensures taken { IfOk result (λ taken. InTree (T.snapshot tree.old)
+            (λ items. option_map taken_folder taken
             ≡ taken_as (left_out_by layers.now path.now) (kind_at items at.now))) }
         ensures keeps { T.snapshot tree.new ≡ T.snapshot tree.old }
     {

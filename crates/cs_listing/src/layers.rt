@@ -256,7 +256,8 @@ impl<'a> Layers<'a> {
         requires { IsInDeepest self.now path.now }
         ensures left_out { result ≡ is_out_by_rules' (settings_of self.now) is_folder (folders_in self.now)
             (names path.now) }
-        ensures work { CountsAtMost (rules_work (settings_of self.now).types (last_name' (names path.now) ∷ [])
+        ensures work { CountsAtMost (rules_work (settings_of self.now).types
+            (last_name' (names path.now) ∷ [])
             + work_for self.now path.now) steps.old steps.new }
     {
         let said = self.said(path, is_folder, steps);
@@ -273,7 +274,8 @@ impl<'a> Layers<'a> {
     /// What all rule files along a path say of it, if they count.
     fn said(&self, path: &[&[u8]], is_folder: bool, steps: &mut Steps) -> Option<Decision>
         requires { IsInDeepest self.now path.now }
-        ensures said { result ≡ said_of (settings_of self.now) is_folder (folders_in self.now) (names path.now) }
+        ensures said { result ≡
+            said_of (settings_of self.now) is_folder (folders_in self.now) (names path.now) }
         ensures work { CountsAtMost (work_for self.now path.now) steps.old steps.new }
     {
         if self.choices.takes_ignored {

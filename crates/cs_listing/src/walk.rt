@@ -175,7 +175,8 @@ impl<'a> Walk<'a> {
         listed: &Listed,
     ) -> Result<(), AllocError>
         requires { 0 < length (folders_in self.old.layers) }
-        ensures opens { OnOk result (Opens (T.snapshot tree.old) stem (map string_bytes listed.now.names.items)
+        ensures opens { OnOk result (Opens (T.snapshot tree.old) stem
+            (map string_bytes listed.now.names.items)
             self.old self.new) }
         ensures layers { self.new.layers ≡ self.old.layers }
         ensures keeps { T.snapshot tree.new ≡ T.snapshot tree.old }

@@ -57,7 +57,12 @@ impl Model for CachedStates {
 
     ghost Value = { StateList };
 
-    ghost view = { λ s. record { items = states_of s.count s.sets.items s.behinds.items; most = s.most; positions = s.count } };
+    ghost view = { λ s.
+        record {
+          items = states_of s.count s.sets.items s.behinds.items;
+          most = s.most;
+          positions = s.count;
+        } };
 
     ghost invariant = { λ s. AreSets s.count s.sets.items s.behinds.items
         × (vec_len s.places ≡ vec_len s.behinds)

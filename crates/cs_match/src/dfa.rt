@@ -111,7 +111,8 @@ fn push_row(transitions: &mut Vec<u16>, classes: &ByteClasses, stays: u16, ends:
     ensures kept { (k : ℕ) → k < length transitions.old.items →
         slice_index transitions.new.items k ≡ slice_index transitions.old.items k }
     ensures row { (c : ℕ) → c < classes.now.count →
-        slice_index transitions.new.items (length transitions.old.items + c) ≡ until_newline classes.now stays ends c }
+        slice_index transitions.new.items (length transitions.old.items + c) ≡
+        until_newline classes.now stays ends c }
     ensures room { vec_capacity transitions.old ≤ vec_capacity transitions.new }
 {
     let newline = u16::from(classes.of[b'\n' as usize]);
@@ -385,13 +386,15 @@ impl<'a> LazyDfa<'a> {
         requires slot { HasSlot self.old slot }
         requires within { byte ≢ newline }
         requires stays { accepts_before (tree_in self.old) (state_in self.old slot) byte ≡ false }
-        requires scratch { self.old.states.scratch ≡ successor (tree_in self.old) (state_in self.old slot) byte }
+        requires scratch { self.old.states.scratch ≡
+            successor (tree_in self.old) (state_in self.old slot) byte }
         ensures leads { LeadsIn self.new (state_in self.old slot) byte result }
         ensures stored { length self.old.states.cached.items < self.old.states.cached.most →
             next_number (table_in self.new) (slot * count_in self.old) byte ≡ result }
         ensures right { IsConsistent self.new }
         ensures same { tree_in self.new ≡ tree_in self.old }
-        ensures work { CountsAtMost (11 * words (position_count (tree_in self.old)) + 10 + 6 * 256) steps.old steps.new }
+        ensures work { CountsAtMost (11 * words (position_count (tree_in self.old)) + 10 + 6 * 256)
+            steps.old steps.new }
     {
         let count = self.states.classes.count;
         let words = self.states.scratch.positions.len().div_ceil(64);

@@ -66,7 +66,8 @@ pub(crate) fn list_lines<D: OneLane>(
     steps: &mut Steps,
 ) -> ListedLines
     requires right { D.is_right dfa.old }
-    requires prefilter { IfSome ways.old.prefilter (λ prefilter. IsPrefilterOf (D.tree dfa.old) prefilter.now) }
+    requires prefilter { IfSome ways.old.prefilter (λ prefilter.
+        IsPrefilterOf (D.tree dfa.old) prefilter.now) }
     requires within { from ≤ length block.now }
     requires whole { AreWholeLines (drop from block.now) }
     requires room { 0 < length ends.old }
@@ -98,7 +99,8 @@ fn list_part<D: OneLane>(
     steps: &mut Steps,
 ) -> ListedLines
     requires right { D.is_right dfa.old }
-    requires prefilter { IfSome ways.old.prefilter (λ prefilter. IsPrefilterOf (D.tree dfa.old) prefilter.now) }
+    requires prefilter { IfSome ways.old.prefilter (λ prefilter.
+        IsPrefilterOf (D.tree dfa.old) prefilter.now) }
     requires within { from < length block.now }
     requires whole { AreWholeLines (drop from block.now) }
     requires room { 0 < length ends.old }
@@ -180,7 +182,8 @@ fn list_line<D: OneLane>(
     ensures lists { ListsLines (D.tree dfa.old) block.now line.start result ends.new }
     ensures all { result.to ≡ line.end + 1 }
     ensures dfa { D.is_right dfa.new × (D.tree dfa.new ≡ D.tree dfa.old) }
-    ensures work { CountsAtMost (byte_work (D.tree dfa.old) * (line.end + 1 - line.start)) steps.old steps.new }
+    ensures work { CountsAtMost (byte_work (D.tree dfa.old) * (line.end + 1 - line.start))
+        steps.old steps.new }
 {
     dfa.list_ends(block, line.start..line.end + 1, ends, steps)
 }

@@ -55,7 +55,8 @@ impl<'a> Model for Matcher<'a> {
     ghost use Rattle.cs_match.specs.ConsistentDfa.{IsConsistent, automaton_of, tree_in};
     ghost use Rattle.cs_prefilter.specs.WordAt.{IsPrefilterOf};
 
-    ghost view = { λ matcher. automaton_of matcher.dfa (take matcher.listed matcher.ends.items) matcher.steps };
+    ghost view = { λ matcher. automaton_of matcher.dfa (take matcher.listed matcher.ends.items)
+        matcher.steps };
 
     ghost invariant = { λ matcher. IsConsistent matcher.dfa
         × IfSome matcher.ways.prefilter (λ prefilter. IsPrefilterOf (tree_in matcher.dfa) prefilter.now)

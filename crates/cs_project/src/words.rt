@@ -89,7 +89,8 @@ pub fn read_items(alloc: Global, words: &[String]) -> Result<Vec<Item>, ItemFaul
 /// Reads one more word.
 fn read_word(items: &mut Vec<Item>, next: Next, index: usize, word: &str) -> Result<Next, ItemFault>
     ensures reads { IfOk result
-        (λ after. after_word (reading items.old.items next) index word.now ≡ Ok (reading items.new.items after)) }
+        (λ after. after_word (reading items.old.items next) index word.now
+        ≡ Ok (reading items.new.items after)) }
     ensures fault { IfErr result
         (λ fault. fault ≢ Memory → after_word (reading items.old.items next) index word.now ≡ Err fault) }
 {

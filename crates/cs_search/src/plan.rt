@@ -87,7 +87,8 @@ impl PlannedJob<'_> {
     ) -> Result<Status, ToolFault>
         requires { IsPlan self.now.job.now self.now.plan.now }
         ensures searches { (bytes : Option (List ℕ)) → AreSelected self.now.plan.now bytes names.now →
-            IsSearch IsQueryOf self.now.job.now bytes (T.snapshot tree.old) (T.failed tree.old) (T.failed tree.new)
+            IsSearch IsQueryOf self.now.job.now bytes (T.snapshot tree.old)
+            (T.failed tree.old) (T.failed tree.new)
             (search_outputs O.model E.model out.old out.new err.old err.new) result }
         ensures silent { SilentOnError result (HasNotBegun O.model E.model T.failed T.longest_requested
             out.old out.new err.old err.new tree.old tree.new) }

@@ -15,17 +15,17 @@ use Rattle.cs_index.proofs.encoding.FixedWidthFields.{length-fours}
 
 -- ---- the members of a set among those of another
 
-abbrev members : List ℕ → List ℕ → ℕ
-members [] set = 0
-members (g ∷ gs) set = cond (has set g) 1 0 + members gs set
+abbrev shared : List ℕ → List ℕ → ℕ
+shared [] set = 0
+shared (g ∷ gs) set = cond (has set g) 1 0 + shared gs set
 
-members_more : (gs : List ℕ) (n : ℕ) (set : List ℕ) → members gs set ≤ members gs (n ∷ set)
-members_more [] n set = omega arith
-members_more (g ∷ gs) n set =
-    let rest = members_more gs n set in
+shared_more : (gs : List ℕ) (n : ℕ) (set : List ℕ) → shared gs set ≤ shared gs (n ∷ set)
+shared_more [] n set = omega arith
+shared_more (g ∷ gs) n set =
+    let rest = shared_more gs n set in
     more (eqb n g) (has set g) rest
   where
-    more : (e h : Bool) → members gs set ≤ members gs (n ∷ set) → cond h 1 0 + members gs set ≤ cond (e || h) 1 0 + members gs (n ∷ set)
+    more : (e h : Bool) → shared gs set ≤ shared gs (n ∷ set) → cond h 1 0 + shared gs set ≤ cond (e || h) 1 0 + shared gs (n ∷ set)
     more true true rest = omega (arith, rest)
     more true false rest = omega (arith, rest)
     more false h rest = omega (arith, rest)
@@ -47,21 +47,21 @@ in_rest g gs m less h =
     ap (λ b. b || has gs m) (sym (ne_eqb g m (λ e. absurd (omega (arith, e, less))))) ∙ h
 
 -- an ascending list has each member of an ascending list within it
-members_all : (gs set : List ℕ) → Ascends gs → Ascends set → Within gs set → length set ≤ members gs set
-members_all gs [] up up' within = omega arith
-members_all [] (t ∷ ts) up up' within = absurd (true≢false (sym (within t (or_left (eqb t t) (has ts t) (eq-eqb t t refl)))))
-members_all (g ∷ gs) (t ∷ ts) up up' within =
+shared_all : (gs set : List ℕ) → Ascends gs → Ascends set → Within gs set → length set ≤ shared gs set
+shared_all gs [] up up' within = omega arith
+shared_all [] (t ∷ ts) up up' within = absurd (true≢false (sym (within t (or_left (eqb t t) (has ts t) (eq-eqb t t refl)))))
+shared_all (g ∷ gs) (t ∷ ts) up up' within =
     let member : has (g ∷ gs) t ≡ true = within t (or_left (eqb t t) (has ts t) (eq-eqb t t refl)) in
     elim (cases_order g t) [
       | inl same ↦
-          let rest = members_all gs ts (ascends_tail g gs up) (ascends_tail t ts up')
+          let rest = shared_all gs ts (ascends_tail g gs up) (ascends_tail t ts up')
           (λ m h. in_rest g gs m (let more = above_first t m ts up' h in omega (arith, more, same))
           (within m (or_right (eqb t m) (has ts m) h))) in
-          let more = members_more gs t ts in
+          let more = shared_more gs t ts in
           let here : has (t ∷ ts) g ≡ true = or_left (eqb t g) (has ts g) (eq-eqb t g (sym same)) in
-          subst (λ b. suc (length ts) ≤ cond b 1 0 + members gs (t ∷ ts)) (sym here) (omega (arith, rest, more))
+          subst (λ b. suc (length ts) ≤ cond b 1 0 + shared gs (t ∷ ts)) (sym here) (omega (arith, rest, more))
       | inr (inl less) ↦
-          let rest = members_all gs (t ∷ ts) (ascends_tail g gs up) up'
+          let rest = shared_all gs (t ∷ ts) (ascends_tail g gs up) up'
           (λ m h. in_rest g gs m (omega (arith, at_least t m ts up' h, less)) (within m h)) in
           omega (arith, rest)
       | inr (inr more) ↦ absurd (true≢false (sym member
@@ -81,7 +81,7 @@ total first [] entries = 0
 total first (g ∷ gs) entries = length (ids_from first g entries) + total first gs entries
 
 total_more : (first : ℕ) (gs : List ℕ) (entry : Entry) (entries : List Entry) →
-    members gs entry.1 + total (first + 1) gs entries ≤ total first gs (entry ∷ entries)
+    shared gs entry.1 + total (first + 1) gs entries ≤ total first gs (entry ∷ entries)
 total_more first [] entry entries = omega arith
 total_more first (g ∷ gs) entry entries =
     let rest = total_more first gs entry entries in
@@ -102,7 +102,7 @@ total_least : (first : ℕ) (gs : List ℕ) (entries more : List Entry) → Asce
 total_least first gs [] more up all = omega arith
 total_least first gs (entry ∷ entries) more up all =
     let rest = total_least (first + 1) gs entries more up all.1 in
-    let here = members_all gs entry.1 up all.0.0 all.0.1 in
+    let here = shared_all gs entry.1 up all.0.0 all.0.1 in
     let step = total_more first gs entry (entries ++ more) in
     omega (arith, rest, here, step)
 

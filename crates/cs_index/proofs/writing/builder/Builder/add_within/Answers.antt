@@ -174,12 +174,12 @@ returns-then-is_err-clause-err c = (undone c).is
 more : (b : Inside) (now : Built) (names : List (List ℕ)) (name gs : List ℕ) (id : ℕ) (start pushed : List BucketPostings) →
     built_of b ≡ now → AreBuckets (length b.names) b.buckets.items → id ≡ length now.entries → names ≡ b.names ++ name ∷ [] →
     start ≡ b.buckets.items → length pushed ≡ 4096 → HaveBases id pushed →
-    postings_of pushed ≡ with_file id (postings_of start) gs → AreDistinctTrigrams gs →
+    bucket_postings pushed ≡ with_file id (postings_of start) gs → AreDistinctTrigrams gs →
     Hold b (with_entry now name (set_of_numbers gs)) names (with_items b.buckets pushed).items
 more b now names name gs id start pushed is are counts named from long bases given once =
     subst (Hold b (with_entry now name (set_of_numbers gs)) names) (sym (replaced b.buckets pushed are.long long))
     (added b now names name gs id pushed is are (counted b now id is counts) named long bases
-    (given ∙ ap (λ (bs : List BucketPostings). with_file id (postings_of bs) gs) from) once.1 (below_closing gs once))
+    (given ∙ ap (λ (bs : List BucketPostings). with_file id (bucket_postings bs) gs) from) once.1 (below_closing gs once))
 
 pub invariant_of-self-2 : goal.invariant_of-self-2
 invariant_of-self-2 c =

@@ -174,7 +174,7 @@ returns-then-is_err-clause-err c = (undone c).is
 more : (b : Inside) (now : Built) (names : List (List ℕ)) (name gs : List ℕ) (id : ℕ) (start pushed : List BucketPostings) →
     built_of b ≡ now → AreBuckets (length b.names) b.buckets.items → id ≡ length now.entries → names ≡ b.names ++ name ∷ [] →
     start ≡ b.buckets.items → length pushed ≡ 4096 → HaveBases id pushed →
-    bucket_postings pushed ≡ with_file id (postings_of start) gs → AreDistinctTrigrams gs →
+    bucket_postings pushed ≡ with_file id (bucket_postings start) gs → AreDistinctTrigrams gs →
     Hold b (with_entry now name (set_of_numbers gs)) names (with_items b.buckets pushed).items
 more b now names name gs id start pushed is are counts named from long bases given once =
     subst (Hold b (with_entry now name (set_of_numbers gs)) names) (sym (replaced b.buckets pushed are.long long))

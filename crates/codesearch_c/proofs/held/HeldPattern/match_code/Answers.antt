@@ -24,7 +24,7 @@ pub invariant_of-self-2 : goal.invariant_of-self-2
 invariant_of-self-2 c = (
   c.self.invariant.0,
   c.self.invariant.1,
-  λ program same. c.into_cache.ensures program (same ∙ sym (c.is_match-found.ensures.same ∙ c.in-Ok.ensures.tree)),
+  (λ program same. c.into_cache.ensures.0 program (same ∙ sym (c.is_match-found.ensures.same ∙ c.in-Ok.ensures.tree)), c.into_cache.ensures.1),
   c.self.invariant.3,
 )
 

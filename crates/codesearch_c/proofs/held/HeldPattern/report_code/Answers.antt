@@ -31,8 +31,7 @@ pub invariant_of-self-in-Ok-answer : goal.invariant_of-self-in-Ok-answer
 invariant_of-self-in-Ok-answer c = (
   c.self.invariant.0,
   c.self.invariant.1,
-  λ program same. c.into_cache.ensures program
-      (same ∙ sym (c.grep_text-answer.ensures.same ∙ c.in-Ok-matcher_of.ensures.tree)),
+  (λ program same. c.into_cache.ensures.0 program (same ∙ sym (c.grep_text-answer.ensures.same ∙ c.in-Ok-matcher_of.ensures.tree)), c.into_cache.ensures.1),
   c.self.invariant.3,
 )
 
@@ -40,8 +39,7 @@ pub invariant_of-self-2 : goal.invariant_of-self-2
 invariant_of-self-2 c = (
   c.self.invariant.0,
   c.self.invariant.1,
-  λ program same. c.into_cache.ensures program
-      (same ∙ sym (c.grep_text-answer.ensures.same ∙ c.in-Ok-matcher_of.ensures.tree)),
+  (λ program same. c.into_cache.ensures.0 program (same ∙ sym (c.grep_text-answer.ensures.same ∙ c.in-Ok-matcher_of.ensures.tree)), c.into_cache.ensures.1),
   c.self.invariant.3,
 )
 

@@ -22,7 +22,8 @@ fn plain(alloc: Global) -> Choices {
     Choices::new(alloc, Rules::none(alloc), Vec::new(alloc))
 }
 
-/// What a walk below a folder gives, a line for each: the paths of files, and those that cannot be read after a `!`.
+/// What a walk below a folder gives, a line for each: the paths of files, and those that cannot be
+/// read after a `!`.
 fn listed<T: Look>(
     alloc: Global,
     tree: &mut T,
@@ -126,7 +127,8 @@ fn inner_repository_has_its_own_rules(rt: HostRuntime) -> Result<(), Fail> {
     let mut choices = plain(alloc);
     for (folder, want) in [
         ("/r", "/r/.gitignore\n/r/n/.hidden\n/r/n/a.o\n"),
-        // Outside of repositories a `.gitignore` counts for nothing, and a name with a dot is left out.
+        // Outside of repositories a `.gitignore` counts for nothing, and a name with a dot is left
+        // out.
         ("/s", "/s/.y\n/s/a\n"),
     ] {
         let got = listed(alloc, &mut tree, &choices, folder)?;

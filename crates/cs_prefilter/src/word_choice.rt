@@ -68,5 +68,8 @@ fn word_of(alloc: Global, run: &[ByteSet], part: Part) -> Result<Word, AllocErro
     let len = MOST_SETS.min(run.len() - from);
     let mut sets = Vec::new(alloc);
     sets.extend_from_slice(&run[from..from + len])?;
-    Ok(Word { sets })
+    Ok(Word {
+        before: ByteSet::all(),
+        sets,
+    })
 }

@@ -95,7 +95,7 @@ impl ByteSet {
     }
 
     /// The bytes that satisfy a predicate.
-    fn of<F: Fn(usize) -> bool>(test: F) -> ByteSet
+    pub fn of<F: Fn(usize) -> bool>(test: F) -> ByteSet
         requires { (b : ℕ) → b < 256 → F.pre test b }
         ensures { (f : ℕ → Bool) → TestsAs (F.post test) f → result ≡ set_of f }
     {
@@ -110,7 +110,7 @@ impl ByteSet {
 
     /// All bytes.
     #[tactic(auto, unfolding(crate::specs::ByteSet::all_bytes))]
-    pub(crate) fn all() -> ByteSet
+    pub fn all() -> ByteSet
         ensures { result ≡ all_bytes }
     {
         ByteSet::of(|_| true)

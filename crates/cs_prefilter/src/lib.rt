@@ -42,6 +42,7 @@
 mod buckets;
 mod byte_test;
 mod comparing;
+mod edges;
 mod lanes;
 mod listing;
 mod masks;

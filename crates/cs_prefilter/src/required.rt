@@ -32,9 +32,13 @@ fn gather(alloc: Global, kind: Kind, node: &Node, runs: &mut Runs) -> Result<(),
         (RunsFollow (λ line i j. MatchesSpan line (tree_of node.now) i j) runs.old runs.new) }
 {
     match node {
-        Node::Empty | Node::LineStart | Node::LineEnd | Node::WordEdge | Node::NotWordEdge => Ok(
-            (),
-        ),
+        Node::Empty | Node::NotWordEdge => Ok(()),
+        Node::LineStart => {
+            runs.add_line_start();
+            Ok(())
+        }
+        Node::LineEnd => runs.add_line_end(),
+        Node::WordEdge => runs.add_word_edge(),
         Node::Set(set) => runs.add(set),
         Node::Cat(parts) => gather_all(alloc, kind, parts, runs),
         Node::Alt(branches) => {
@@ -43,6 +47,7 @@ fn gather(alloc: Global, kind: Kind, node: &Node, runs: &mut Runs) -> Result<(),
             runs.cut_here()
         }
         Node::Rep(x, least, _) if *least > 0 => {
+            runs.begin_repeat();
             let start = runs.sets.len();
             gather(alloc, kind, x, runs)?;
             runs.cut(start)

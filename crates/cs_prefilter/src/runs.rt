@@ -3,6 +3,7 @@
 ghost use Rattle.std.specs.Prelude.{◌≡◌, ◌≤◌, ◌++◌, ◌∷◌, [], ℕ, List, None, OnOk, drop, max, vec_len};
 ghost use Rattle.cs_prefilter.specs.Words.{SetsEndAt, HasWordOf};
 
+use crate::edges::{are_all, newline, other_bytes, without_newline};
 use crate::rarity::frequency_of;
 use crate::search::Kind;
 use crate::words::{Words, share_of};
@@ -20,6 +21,10 @@ pub(crate) struct Runs {
     frequencies: Vec<u64>,
     /// The start of the current run.
     pub(crate) start: usize,
+    /// The byte before the current run is in this set, unless the line begins there.
+    before: ByteSet,
+    /// Whether the current run is empty and at the edge of a word.
+    is_at_edge: bool,
     /// The best words so far.
     pub(crate) best: Option<Words>,
     ghost within: { start ≤ vec_len sets },
@@ -37,72 +42,104 @@ impl Runs {
             sets: Vec::new(alloc),
             frequencies: Vec::new(alloc),
             start: 0,
+            before: ByteSet::all(),
+            is_at_edge: false,
             best: None,
         }
     }
 
-    /// Extends the current run by a set.
-    pub(crate) fn add(&mut self, set: &ByteSet) -> Result<(), AllocError>
-        ensures sets { OnOk result (self.new.sets.items ≡ self.old.sets.items ++ set.now ∷ []) }
-        ensures start { self.new.start ≡ self.old.start }
-        ensures best { self.new.best ≡ self.old.best }
-    {
+    /// Extends the current run by a set. No line has a newline.
+    pub(crate) fn add(&mut self, set: &ByteSet) -> Result<(), AllocError> {
+        if self.is_at_edge && are_all(true, set) {
+            self.before = other_bytes();
+        }
+        self.is_at_edge = false;
+        self.push(&without_newline(set))
+    }
+
+    fn push(&mut self, set: &ByteSet) -> Result<(), AllocError> {
         self.frequencies.push(frequency_of(set))?;
         self.sets.push(*set)?;
         Ok(())
     }
 
+    /// Notes the start of the line.
+    pub(crate) fn add_line_start(&mut self) {
+        if self.start == self.sets.len() {
+            self.before = newline();
+        }
+    }
+
+    /// Notes the end of the line: the newline follows.
+    pub(crate) fn add_line_end(&mut self) -> Result<(), AllocError> {
+        self.keep_before(&newline())
+    }
+
+    /// Notes the edge of a word.
+    pub(crate) fn add_word_edge(&mut self) -> Result<(), AllocError> {
+        if self.start == self.sets.len() {
+            self.is_at_edge = true;
+            return Ok(());
+        }
+        if are_all(true, &self.sets[self.sets.len() - 1]) {
+            return self.keep_before(&other_bytes());
+        }
+        Ok(())
+    }
+
+    /// Keeps the word of the current run and of the set of the byte that follows, if it is better
+    /// than the best so far. The run goes on without that set.
+    fn keep_before(&mut self, set: &ByteSet) -> Result<(), AllocError> {
+        self.push(set)?;
+        self.keep()?;
+        self.frequencies.pop();
+        self.sets.pop();
+        Ok(())
+    }
+
     /// Ends the current run and begins the next one at `index`, unless the current run begins there
     /// or later.
-    pub(crate) fn cut(&mut self, index: usize) -> Result<(), AllocError>
-        requires { index ≤ vec_len self.old.sets }
-        ensures sets { self.new.sets ≡ self.old.sets }
-        ensures start { OnOk result (self.new.start ≡ max self.old.start index) }
-        ensures best { OnOk result ((line : List ℕ) (j : ℕ) →
-            SetsEndAt line (drop self.old.start self.old.sets.items) j →
-            HasWordOf line self.old.best → HasWordOf line self.new.best) }
-    {
+    pub(crate) fn cut(&mut self, index: usize) -> Result<(), AllocError> {
         if self.start < index {
             self.keep()?;
             self.start = index;
+            self.forget_before();
         }
         Ok(())
     }
 
     /// Ends the current run.
-    pub(crate) fn cut_here(&mut self) -> Result<(), AllocError>
-        ensures sets { self.new.sets ≡ self.old.sets }
-        ensures start { OnOk result (self.new.start ≡ vec_len self.old.sets) }
-        ensures best { OnOk result ((line : List ℕ) (j : ℕ) →
-            SetsEndAt line (drop self.old.start self.old.sets.items) j →
-            HasWordOf line self.old.best → HasWordOf line self.new.best) }
-    {
+    pub(crate) fn cut_here(&mut self) -> Result<(), AllocError> {
         let here = self.sets.len();
-        self.cut(here)
+        self.cut(here)?;
+        self.begin_repeat();
+        Ok(())
+    }
+
+    /// A repeat begins: what is known of the byte before it holds for its first iteration alone.
+    pub(crate) fn begin_repeat(&mut self) {
+        if self.start == self.sets.len() {
+            self.forget_before();
+        }
+    }
+
+    fn forget_before(&mut self) {
+        self.before = ByteSet::all();
+        self.is_at_edge = false;
     }
 
     /// Keeps the word of the current run if it is better than the best so far.
-    pub(crate) fn keep(&mut self) -> Result<(), AllocError>
-        ensures sets { self.new.sets ≡ self.old.sets }
-        ensures start { self.new.start ≡ self.old.start }
-        ensures best { OnOk result ((line : List ℕ) (j : ℕ) →
-            SetsEndAt line (drop self.old.start self.old.sets.items) j →
-            HasWordOf line self.old.best → HasWordOf line self.new.best) }
-    {
+    pub(crate) fn keep(&mut self) -> Result<(), AllocError> {
         let run = &self.sets[self.start..];
         let frequencies = &self.frequencies[self.start.min(self.frequencies.len())..];
         let most = share_of(&self.best);
-        let words = Words::of_run(self.alloc, self.kind, run, frequencies, most)?;
+        let words = Words::of_run(self.alloc, self.kind, run, frequencies, most, &self.before)?;
         self.offer(words);
         Ok(())
     }
 
     /// Keeps the words if they are better than the best so far.
     pub(crate) fn offer(&mut self, words: Option<Words>)
-        ensures sets { self.new.sets ≡ self.old.sets }
-        ensures start { self.new.start ≡ self.old.start }
-        ensures best { (line : List ℕ) → HasWordOf line words →
-            HasWordOf line self.old.best → HasWordOf line self.new.best }
     {
         if share_of(&words) < share_of(&self.best) {
             self.best = words;

@@ -6,20 +6,47 @@ ghost use Rattle.cs_syntax.specs.NodeList.{trees_of};
 ghost use Rattle.cs_prefilter.specs.WordAt.{AreSufficient, IsInLine, IsSufficient};
 ghost use Rattle.cs_prefilter.specs.Sufficient.{MatchesPart};
 
+use crate::edges::are_all;
 use crate::word::Word;
 use cs_syntax::{ByteSet, Node};
 
 impl Word {
-    /// Whether no set of the word contains a newline.
+    /// Whether no set of the word but the last contains a newline.
     pub(crate) fn is_in_line(&self) -> bool
         ensures { IsTrue result → IsInLine self.now }
     {
-        for set in &self.sets {
-            if set.contains(b'\n') {
+        for (index, set) in self.sets.iter().enumerate() {
+            if index + 1 < self.sets.len() && set.contains(b'\n') {
                 return false;
             }
         }
         true
+    }
+
+    /// Whether the line ends at the index.
+    fn ends_line(&self, index: usize) -> bool {
+        match self.sets.get(index) {
+            Some(set) => set.single() == Some(b'\n'),
+            None => false,
+        }
+    }
+
+    /// Whether the line begins at the index.
+    fn begins_line(&self, index: usize) -> bool {
+        index == 0 && self.before.single() == Some(b'\n')
+    }
+
+    /// Whether the edge of a word is at the index.
+    fn has_edge(&self, index: usize) -> bool {
+        let Some(after) = self.sets.get(index) else {
+            return false;
+        };
+        if index == 0 {
+            return are_all(false, &self.before) && are_all(true, after);
+        }
+        let before = &self.sets[index - 1];
+        are_all(false, before) && are_all(true, after)
+            || are_all(true, before) && are_all(false, after)
     }
 }
 
@@ -55,13 +82,19 @@ fn matched_to(node: &Node, word: &Word, from: usize) -> Option<usize>
     match node {
         Node::Empty => Some(from),
         Node::Set(set) => {
-            if from < word.sets.len() && is_within(&word.sets[from], set) {
+            if from < word.sets.len()
+                && !word.sets[from].contains(b'\n')
+                && is_within(&word.sets[from], set)
+            {
                 return Some(from + 1);
             }
             None
         }
         Node::Cat(parts) => matched_to_all(parts, word, from),
         Node::Alt(branches) => matched_to_some(branches, word, from),
+        Node::LineStart if word.begins_line(from) => Some(from),
+        Node::LineEnd if word.ends_line(from) => Some(from),
+        Node::WordEdge if word.has_edge(from) => Some(from),
         _ => None,
     }
 }

@@ -30,6 +30,7 @@ impl Words {
         run: &[ByteSet],
         frequencies: &[u64],
         most: u64,
+        before: &ByteSet,
     ) -> Result<Option<Words>, AllocError>
         ensures { IfOk result (λ words. (line : List ℕ) (j : ℕ) →
             SetsEndAt line run.now j → HasWordOf line words) }
@@ -41,7 +42,7 @@ impl Words {
             return Ok(None);
         }
         let mut words = Words::none(alloc);
-        words.words.push(word_of(alloc, run, part)?)?;
+        words.words.push(word_of(alloc, run, part, before)?)?;
         words.share = part.share;
         Ok(Some(words))
     }
@@ -60,7 +61,7 @@ impl Words {
 }
 
 /// The word that is the part of the run, up to the most sets of a word.
-fn word_of(alloc: Global, run: &[ByteSet], part: Part) -> Result<Word, AllocError>
+fn word_of(alloc: Global, run: &[ByteSet], part: Part, before: &ByteSet) -> Result<Word, AllocError>
     ensures { IfOk result (λ word. (line : List ℕ) (j : ℕ) →
         SetsEndAt line run.now j → HasWord (word ∷ []) line) }
 {
@@ -68,8 +69,10 @@ fn word_of(alloc: Global, run: &[ByteSet], part: Part) -> Result<Word, AllocErro
     let len = MOST_SETS.min(run.len() - from);
     let mut sets = Vec::new(alloc);
     sets.extend_from_slice(&run[from..from + len])?;
-    Ok(Word {
-        before: ByteSet::all(),
-        sets,
-    })
+    let before = if from == 0 {
+        *before
+    } else {
+        ByteSet::all()
+    };
+    Ok(Word { before, sets })
 }

@@ -1,5 +1,5 @@
 -- Eight bytes as one number, and the prefixes of words.
-use Rattle.std.proofs.Common.{◌≡◌, ℕ, zero, suc, ◌+◌, ◌*◌, ◌<◌, ◌≤◌, ◌^◌, List, [], ◌∷◌, length, get_or, inl, inr, ◌++◌, ap, sym, subst, ◌∙◌, add-zero, true, refl, bit_or, w64, arith}
+use Rattle.std.proofs.Common.{◌≡◌, ℕ, zero, suc, ◌+◌, ◌-◌, ◌*◌, ◌<◌, ◌≤◌, ◌^◌, List, [], ◌∷◌, length, get_or, inl, inr, ◌++◌, ap, sym, subst, ◌∙◌, add-zero, true, refl, bit_or, w64, arith}
 use Rattle.std.specs.Int.{from_le_bytes}
 use Rattle.std.specs.Int.Bits.{or_zero_r}
 use Rattle.std.proofs.lemmas.Bool.{cases_lt}
@@ -11,7 +11,7 @@ use Rattle.cs_prefilter.specs.declared.word.Word.{Word}
 use Rattle.cs_prefilter.specs.declared.prefix.Prefix.{Prefix}
 use Rattle.cs_prefilter.specs.declared.prefix.PrefixByte.{PrefixByte}
 use Rattle.cs_prefilter.specs.WordAt.{WordAt}
-use Rattle.cs_prefilter.specs.Prefixes.{eight, TestsByte, IsPrefixOf}
+use Rattle.cs_prefilter.specs.Prefixes.{eight, MayFollowAny, TestsByte, IsPrefixOf}
 
 -- the number with these bytes, the first as the lowest
 abbrev pub joined : List ℕ → ℕ
@@ -132,7 +132,7 @@ module _ (word : Word) (byte : ℕ → PrefixByte) (tests : (i : ℕ) → i < 8 
         s i lt = or_of_8 (text_at i) (mask_at i) (bytes (k + i)) (tests i lt).small.0
 
   pub prefix_of : (prefix : Prefix) → prefix.mask ≡ joined (list_of_eight mask_at) → prefix.bytes ≡ joined (list_of_eight byte_at)
-      → (prefix.is_whole ≡ true → (length word.sets.items ≤ 8) × ((i : ℕ) → i < 8 → (byte i).is_exact ≡ true)) → IsPrefixOf word prefix
+      → (prefix.is_whole ≡ true → (length word.sets.items ≤ 8) × MayFollowAny word × ((i : ℕ) → i < 8 → (byte i).is_exact ≡ true)) → IsPrefixOf word prefix
   prefix_of prefix mask_is bytes_is whole_is = record {
     passes = λ text k bytes occurs.
         let e = passes_where text k bytes occurs in
@@ -149,10 +149,11 @@ module _ (word : Word) (byte : ℕ → PrefixByte) (tests : (i : ℕ) → i < 8 
         (ap (λ l. get_or l 4 0) same) (ap (λ l. get_or l 5 0) same) (ap (λ l. get_or l 6 0) same) (ap (λ l. get_or l 7 0) same) in
         let exact = whole_is is_whole in
         record {
+          before = λ some. exact.1 (get_or text (k - 1) 0) (bytes (k - 1));
           within = omega (arith, within, exact.0);
           each = λ i d lt.
               let below : i < 8 = omega (arith, lt, exact.0) in
-              (tests i below).exact (exact.1 i below) (get_or text (k + i) 0) (bytes (k + i)) (each i below) d lt;
+              (tests i below).exact (exact.2 i below) (get_or text (k + i) 0) (bytes (k + i)) (each i below) d lt;
         };
   }
 

@@ -17,6 +17,10 @@ use Rattle.cs_prefilter.proofs.BitLemmas.{below_lowest, without_lowest, other_bi
 pub occurs_in_copy : (text last : List ℕ) (from n k : ℕ) (word : Word) → from + n ≡ length text → n ≤ length last
     → ((j : ℕ) → j < n → get_or last j 0 ≡ get_or text (from + j) 0) → WordAt text (from + k) word → WordAt last k word
 occurs_in_copy text last from n k word end short same occurs = record {
+  before = λ some.
+      let there : from + (k - 1) ≡ from + k - 1 = omega (arith, some) in
+      ap (member word.before) (same (k - 1) (omega (arith, some, occurs.within, end)) ∙ ap (λ j. get_or text j 0) there)
+      ∙ occurs.before (omega (arith, some));
   within = omega (arith, occurs.within, end, short);
   each = λ i d lt.
       let there : from + (k + i) ≡ from + k + i = omega arith in

@@ -14,6 +14,10 @@ eight text k = from_le_bytes w64 (
     slice_index text k ∷ slice_index text (k + 1) ∷ slice_index text (k + 2) ∷ slice_index text (k + 3)
     ∷ slice_index text (k + 4) ∷ slice_index text (k + 5) ∷ slice_index text (k + 6) ∷ slice_index text (k + 7) ∷ [])
 
+-- any byte may be before the word
+abbrev pub MayFollowAny : Word → Type 0
+MayFollowAny word = (b : ℕ) → b < 256 → member word.before b ≡ true
+
 -- the byte is in the set at this index of the word, if there is one
 abbrev pub MayHave : Word → ℕ → ℕ → Type 0
 MayHave word index b = (d : List Bool) → index < length word.sets.items → member (slice_index_or word.sets.items index d) b ≡ true

@@ -3,10 +3,13 @@ use Rattle.std.specs.Prelude.{◌≡◌, ℕ, ◌+◌, ◌-◌, ◌<◌, ◌≤�
 use Rattle.cs_syntax.specs.Matching.{Tree, HasMatch, member}
 use Rattle.cs_prefilter.specs.declared.word.Word.{Word}
 
--- The word occurs at offset k: each of the bytes from there on is in its set, and the byte before them in the set
--- `before`. A text begins at the start of a line, where no byte is before.
+-- the byte before offset k lets the word occur there, or the text begins there: it begins at the start of a line
+abbrev pub MayBeAt : List ℕ → ℕ → Word → Type 0
+MayBeAt text k word = 0 < k → member word.before (slice_index text (k - 1)) ≡ true
+
+-- the word occurs at offset k: the byte before lets it, and each of the bytes from there on is in its set
 pub record WordAt (text : List ℕ) (k : ℕ) (word : Word) : Type 0 where
-  pub before : 0 < k → member word.before (slice_index text (k - 1)) ≡ true
+  pub before : MayBeAt text k word
   pub within : k + length word.sets.items ≤ length text
   pub each : (i : ℕ) (d : List Bool) → i < length word.sets.items →
       member (slice_index_or word.sets.items i d) (slice_index text (k + i)) ≡ true

@@ -1,7 +1,7 @@
 // Comparisons of words with the bytes at an offset.
 ghost use Rattle.std.specs.Prelude.{◌≡◌, ◌≤◌, ◌<◌, ◌↔◌, ◌+◌, ◌*◌, ◌-◌, false, length, slice_index_or, vec_len, Any, IfOk, IsTrue};
 ghost use Rattle.cs_prefilter.specs.declared.word.Word.{Word};
-ghost use Rattle.cs_prefilter.specs.WordAt.{WordAt};
+ghost use Rattle.cs_prefilter.specs.WordAt.{MayBeAt, WordAt};
 ghost use Rattle.cs_prefilter.specs.WordBuckets.{AreInBuckets, NoneOfBucket, bucket_work};
 ghost use Rattle.cs_prefilter.specs.OffsetWork.{most_words, most_sets, word_work, candidate_work};
 ghost use Rattle.cs_prefilter.specs.CountsAtMost.{CountsAtMost};
@@ -92,7 +92,7 @@ impl Word {
         ensures found { IsTrue result ↔ WordAt text.now offset self.now }
         ensures work { CountsAtMost most_sets steps.old steps.new }
     {
-        if text.len() - offset < self.sets.len() {
+        if text.len() - offset < self.sets.len() || !self.may_be_at(text, offset) {
             return false;
         }
         for (i, set) in self.sets.iter().enumerate() {
@@ -102,6 +102,14 @@ impl Word {
             }
         }
         true
+    }
+
+    /// Whether the byte before the offset lets the word occur.
+    fn may_be_at(&self, text: &[u8], offset: usize) -> bool
+        requires { offset ≤ length text.now }
+        ensures { IsTrue result ↔ MayBeAt text.now offset self.now }
+    {
+        offset == 0 || self.before.contains(text[offset - 1])
     }
 }
 

@@ -1,6 +1,6 @@
 // Prefixes: the first eight bytes of a word, for one comparison.
 ghost use Rattle.std.specs.Prelude.{◌≡◌, ◌+◌, ◌≤◌, ℕ, length, IsTrue, ◌↔◌, bit_or};
-ghost use Rattle.cs_prefilter.specs.Prefixes.{IsPrefixOf, TestsByte, eight};
+ghost use Rattle.cs_prefilter.specs.Prefixes.{IsPrefixOf, MayFollowAny, TestsByte, eight};
 
 use crate::byte_test::ByteTest;
 use crate::word::Word;
@@ -54,7 +54,7 @@ impl Prefix {
                 b6.test.byte,
                 b7.test.byte,
             ]),
-            is_whole: is_short(word)
+            is_whole: is_covered(word)
                 & b0.is_exact
                 & b1.is_exact
                 & b2.is_exact
@@ -75,11 +75,12 @@ impl Prefix {
     }
 }
 
-/// Whether a prefix covers the word.
-fn is_short(word: &Word) -> bool
-    ensures { IsTrue result → length word.now.sets.items ≤ 8 }
+/// Whether nothing but the next eight bytes decides whether the word occurs.
+fn is_covered(word: &Word) -> bool
+    ensures short { IsTrue result → length word.now.sets.items ≤ 8 }
+    ensures any { IsTrue result → MayFollowAny word.now }
 {
-    word.sets.len() <= 8
+    word.sets.len() <= 8 && word.before.len() == 256
 }
 
 /// The test of the byte at this index of the word. Behind its end each byte passes.

@@ -37,4 +37,4 @@ returns c =
     let s2 = both_true _ _ s3.0 in
     let s1 = both_true _ _ s2.0 in
     let s0 = both_true _ _ s1.0 in
-    (c.is_short.ensures s0.0, below_eight (λ i. (byte i).is_exact ≡ true) s0.1 s1.1 s2.1 s3.1 s4.1 s5.1 s6.1 s7.1))
+    (c.is_covered.ensures.short s0.0, c.is_covered.ensures.any s0.0, below_eight (λ i. (byte i).is_exact ≡ true) s0.1 s1.1 s2.1 s3.1 s4.1 s5.1 s6.1 s7.1))

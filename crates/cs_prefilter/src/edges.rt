@@ -1,6 +1,7 @@
 // Sets of bytes around the edges of words and the ends of lines.
-ghost use Rattle.std.specs.Prelude.{◌≡◌, ◌<◌, ◌&&◌, ℕ, true, not, nat_eq, IsTrue};
+ghost use Rattle.std.specs.Prelude.{◌≡◌, ◌<◌, ◌&&◌, ℕ, not, nat_eq, IsTrue};
 ghost use Rattle.cs_syntax.specs.Matching.{is_word, member};
+ghost use Rattle.cs_prefilter.specs.Words.{AreAll};
 
 use cs_syntax::ByteSet;
 
@@ -34,7 +35,7 @@ pub(crate) fn without_newline(set: &ByteSet) -> ByteSet
 
 /// Whether all members of the set are word bytes, or none is.
 pub(crate) fn are_all(word: bool, set: &ByteSet) -> bool
-    ensures { IsTrue result → (b : ℕ) → member set.now b ≡ true → is_word b ≡ word }
+    ensures { IsTrue result → AreAll word set.now }
 {
     // It has 256 values.
     let _ = set.len();

@@ -1,10 +1,11 @@
 // Whether the words are the pattern: whether each line that contains one of them has a match.
-ghost use Rattle.std.specs.Prelude.{◌≡◌, ◌≤◌, ℕ, true, IsTrue, IfSome, vec_len};
+ghost use Rattle.std.specs.Prelude.{◌≡◌, ◌≤◌, ◌<◌, ℕ, Bool, List, true, IsTrue, IfSome, slice_index_or, vec_len};
+ghost use Rattle.cs_syntax.specs.Members.{IsOnly};
 ghost use Rattle.cs_syntax.specs.Matching.{MatchesSpan, MatchesSequence, MatchesBranch, member};
 ghost use Rattle.cs_syntax.specs.Node.{tree_of};
 ghost use Rattle.cs_syntax.specs.NodeList.{trees_of};
 ghost use Rattle.cs_prefilter.specs.WordAt.{AreSufficient, IsInLine, IsSufficient};
-ghost use Rattle.cs_prefilter.specs.Sufficient.{MatchesPart};
+ghost use Rattle.cs_prefilter.specs.Sufficient.{MatchesPart, HasEdge};
 
 use crate::edges::are_all;
 use crate::word::Word;
@@ -24,7 +25,10 @@ impl Word {
     }
 
     /// Whether the line ends at the index.
-    fn ends_line(&self, index: usize) -> bool {
+    fn ends_line(&self, index: usize) -> bool
+        ensures { IsTrue result → (index < vec_len self.now.sets) ×
+            ((d : List Bool) → IsOnly (slice_index_or self.now.sets.items index d) 10) }
+    {
         match self.sets.get(index) {
             Some(set) => set.single() == Some(b'\n'),
             None => false,
@@ -32,21 +36,30 @@ impl Word {
     }
 
     /// Whether the line begins at the index.
-    fn begins_line(&self, index: usize) -> bool {
-        index == 0 && self.before.single() == Some(b'\n')
+    fn begins_line(&self, index: usize) -> bool
+        ensures { IsTrue result →
+            (index ≡ 0) × (0 < vec_len self.now.sets) × IsOnly self.now.before 10 }
+    {
+        index == 0 && !self.sets.is_empty() && self.before.single() == Some(b'\n')
     }
 
-    /// Whether the edge of a word is at the index.
-    fn has_edge(&self, index: usize) -> bool {
-        let Some(after) = self.sets.get(index) else {
+    /// Whether the edge of a word is at the index, between a word byte and another byte or the
+    /// start or end of the line.
+    fn has_edge(&self, index: usize) -> bool
+        ensures { IsTrue result → HasEdge self.now index }
+    {
+        if index >= self.sets.len() {
             return false;
-        };
+        }
+        let after = &self.sets[index];
         if index == 0 {
             return are_all(false, &self.before) && are_all(true, after);
         }
-        let before = &self.sets[index - 1];
-        are_all(false, before) && are_all(true, after)
-            || are_all(true, before) && are_all(false, after)
+        let is_word = are_all(true, &self.sets[index - 1]);
+        if !is_word && !are_all(false, &self.sets[index - 1]) {
+            return false;
+        }
+        are_all(!is_word, after)
     }
 }
 

@@ -33,7 +33,7 @@ matched_to_all-loop-part-preserved t c =
           to) (sym next) (record {
             low = omega (arith, first.low, f.low);
             high = f.high;
-            spans = λ line at occurs. (at + c.in-Some.next, first.spans line at occurs, f.spans line at occurs);
+            spans = λ line at is occurs. (at + c.in-Some.next, first.spans line at is occurs, f.spans line at is occurs);
           }));
     }
 
@@ -43,7 +43,7 @@ matched_to_all-returns t c =
     let end = drop_of_length-le c.args.parts.now {i = c.loop-part.part-index} (omega arith) in
     c.loop-part.invariant.rest at
     (subst (λ (ns : List Node). MatchesPart (λ line i j. MatchesSequence line (trees_of ns) i j) c.args.word.now at at) (sym end)
-    (record { low = omega arith; high = c.loop-part.invariant.within; spans = λ line i occurs. refl }))
+    (record { low = omega arith; high = c.loop-part.invariant.within; spans = λ line i is occurs. refl }))
 
 pub matched_to_some-returns-in-Some : goal.matched_to_some-returns-in-Some
 matched_to_some-returns-in-Some t c =
@@ -52,7 +52,7 @@ matched_to_some-returns-in-Some t c =
     record {
       low = found.low;
       high = found.high;
-      spans = λ line at occurs. c.loop-branch.invariant line (at + c.args.from) (at + c.in-Some.to)
+      spans = λ line at is occurs. c.loop-branch.invariant line (at + c.args.from) (at + c.in-Some.to)
           (subst (λ (ts : Trees). MatchesBranch line ts (at + c.args.from) (at + c.in-Some.to)) (sym next)
-          (inl (found.spans line at occurs)));
+          (inl (found.spans line at is occurs)));
     }

@@ -1,7 +1,7 @@
 -- The edges of words in a line, and the bytes of a line with its newline.
 use Rattle.std.proofs.Common.{◌≡◌, ℕ, zero, suc, ◌+◌, ◌-◌, ◌<◌, ◌≤◌, inl, inr, Bool, true, false, List, [], ◌∷◌, ◌++◌, length, get_or, refl, sym, ap, subst, ◌∙◌, arith, length-append}
 use Rattle.std.specs.Prelude.{not}
-use Rattle.std.specs.Bool.{xor}
+use mathlib.Core.Bool.{xor}
 use Rattle.std.proofs.lemmas.Bool.{lt-ltb, le-ltb, le-leb, cases_lt, cases_eq, false≢true}
 use Rattle.std.proofs.lemmas.List.{get_or_append_left, get_or_past}
 use Rattle.std.proofs.Math.Seq.{get_or-append_seam}
@@ -28,10 +28,12 @@ module _ (line : List ℕ) where
   ]
 
 xor_true : (x : Bool) → xor true x ≡ true → x ≡ false
+unfolding xor
 xor_true true e = absurd (false≢true e)
 xor_true false e = refl
 
 xor_right : (x : Bool) → xor x true ≡ true → x ≡ false
+unfolding xor
 xor_right true e = absurd (false≢true e)
 xor_right false e = refl
 
@@ -50,10 +52,10 @@ module _ (s : List ℕ) (i : ℕ) where
 
   pub none_after : length s ≤ i → word_after s i ≡ false
   unfolding word_after
-  none_after le = rw (le-ltb (length s) i le) refl
+  none_after le = rw (le-ltb i (length s) le) refl
 
   pub edge_from : (b : Bool) → word_before s i ≡ b → word_after s i ≡ not b → is_at_word_boundary s i ≡ true
-  unfolding is_at_word_boundary
+  unfolding is_at_word_boundary xor
   edge_from true before after = rw (before, after) refl
   edge_from false before after = rw (before, after) refl
 

@@ -1,19 +1,19 @@
 -- Runs that a tree matches, and the words that every matching line contains.
-use Rattle.std.proofs.Common.{◌≡◌, ℕ, suc, ◌+◌, ◌-◌, ◌<◌, ◌≤◌, inl, inr, Bool, true, false, ◌&&◌, nat_eq, List, [], ◌∷◌, ◌++◌, length, take, drop, get_or, refl, sym, ap, subst, ◌∙◌, arith, length-append, length-drop, get_or-take, get_or-drop}
+use Rattle.std.proofs.Common.{◌≡◌, ℕ, suc, ◌+◌, ◌-◌, ◌<◌, ◌≤◌, inl, inr, Bool, true, false, ◌&&◌, nat_eq, List, [], ◌∷◌, ◌++◌, length, take, drop, get_or, refl, sym, ap, subst, ◌∙◌, arith, length-append, length-drop, get_or-take, get_or-drop, drop_of_length-le}
 use Rattle.std.specs.Prelude.{Option, Some, None, Result, Ok, Err, IfOk, IfSome, max, not, slice_index, vec_len}
 use Rattle.std.proofs.lemmas.Bool.{cases_lt, and_from, not_from_false, ne_eqb, false≢true}
 use Rattle.std.proofs.lemmas.List.{drop-append-le, get_or_append_left, get_or-append-add, length-take-le}
-use Rattle.std.proofs.Math.Seq.{get_or-append_seam, drop-length}
+use Rattle.std.proofs.Math.Seq.{get_or-append_seam}
 use Rattle.cs_syntax.specs.ByteSet.{all_bytes}
-use Rattle.cs_syntax.specs.Matching.{Tree, one_of, rep, MatchesSpan, member, is_at_word_boundary}
+use Rattle.cs_syntax.specs.Matching.{Tree, one_of, rep, MatchesSpan, is_word, member, word_before, is_at_word_boundary}
 use Rattle.cs_syntax.proofs.ByteSetLemmas.{set_of_at}
 use Rattle.cs_prefilter.specs.declared.word.Word.{Word}
 use Rattle.cs_prefilter.specs.declared.words.Words.{Words}
 use Rattle.cs_prefilter.specs.declared.runs.Runs.{Runs}
 use Rattle.cs_prefilter.specs.WordAt.{IsLine, with_newline, HasWord, AreSufficient, IsPrefilterOf}
-use Rattle.cs_prefilter.specs.Words.{HasWordOf, SetsEndAt, IsBehind, RunEndsAt}
+use Rattle.cs_prefilter.specs.Words.{AreAll, HasWordOf, SetsEndAt, IsBehind, RunEndsAt}
 use Rattle.cs_prefilter.specs.Runs.{sets_from, current_sets, EndsAt, RunEnds, MayBeginAnywhere, KeepsBest, IsSameRun, RunsFollow}
-use Rattle.cs_prefilter.proofs.EdgeLemmas.{one_more, byte_in, small_bytes}
+use Rattle.cs_prefilter.proofs.EdgeLemmas.{one_more, byte_in, byte_end, small_bytes, before_is, after_is, other_after, other_before}
 use Rattle.cs_prefilter.proofs.SpanLemmas.{within, first_round, last_round}
 
 pub is_a_byte : (b : ℕ) → b < 256 → member all_bytes b ≡ true
@@ -54,7 +54,7 @@ module _ (text : List ℕ) where
                   let none : from ≡ 0 = omega (arith, here) in
                   let there : e.start + from - 1 ≡ e.start - 1 = omega (arith, none) in
                   ap (λ set. member set (slice_index text (e.start + from - 1))) (first none)
-                  ∙ ap (λ k. member before (slice_index text k)) there ∙ r.before (omega (arith, some, none))
+                  ∙ ap (λ k. member before (slice_index text k)) there ∙ r.behind (omega (arith, some, none))
             ];
             within = omega (arith, e.within, e.long, long);
             each = λ i d low.
@@ -72,7 +72,7 @@ module _ (text : List ℕ) where
   ends_empty : (i : ℕ) → i ≤ length text → SetsEndAt text [] i
   ends_empty i le = record { within = le; start = i; long = omega arith; each = λ k d lt. absurd (omega arith) }
 
-  ends_more : (sets : List (List Bool)) (set : List Bool) (i j : ℕ) → SetsEndAt text sets i → i < length text →
+  abbrev ends_more : (sets : List (List Bool)) (set : List Bool) (i j : ℕ) → SetsEndAt text sets i → i < length text →
       member set (slice_index text i) ≡ true → j ≡ suc i → SetsEndAt text (sets ++ set ∷ []) j
   ends_more sets set i j e lt is next =
       let long : length (sets ++ set ∷ []) ≡ suc (length sets) = omega (arith, length-append sets (set ∷ [])) in
@@ -92,7 +92,7 @@ module _ (text : List ℕ) where
         ];
       }
 
-  ends_same : (v w : List (List Bool)) (i j : ℕ) → v ≡ w → i ≡ j → SetsEndAt text v i → SetsEndAt text w j
+  abbrev ends_same : (v w : List (List Bool)) (i j : ℕ) → v ≡ w → i ≡ j → SetsEndAt text v i → SetsEndAt text w j
   ends_same v w i j same to e =
       let size = ap length same in
       record {
@@ -105,7 +105,7 @@ module _ (text : List ℕ) where
 
 module _ (line : List ℕ) (runs : Runs) (j : ℕ) (e : RunEnds runs line j) where
   -- the current run in the line with its newline
-  pub to_newline : RunEndsAt (with_newline line) runs.before (current_sets runs) j
+  abbrev pub to_newline : RunEndsAt (with_newline line) runs.before (current_sets runs) j
   to_newline = record {
     bytes = small_bytes line e.is_line;
     ends = record {
@@ -115,7 +115,7 @@ module _ (line : List ℕ) (runs : Runs) (j : ℕ) (e : RunEnds runs line j) whe
       each = λ k d low. ap (member (get_or (current_sets runs) k d))
           (byte_in line (e.ends.start + k) (omega (arith, low, e.ends.long, e.ends.within))) ∙ e.ends.each k d low;
     };
-    before = λ some. ap (member runs.before) (byte_in line (e.ends.start - 1) (omega (arith, some, e.ends.long, e.ends.within)))
+    behind = λ some. ap (member runs.before) (byte_in line (e.ends.start - 1) (omega (arith, some, e.ends.long, e.ends.within)))
         ∙ e.before refl some;
   }
 
@@ -126,13 +126,13 @@ module _ (line : List ℕ) (runs : Runs) (j : ℕ) (e : RunEnds runs line j) whe
     bytes = to_newline.bytes;
     ends = ends_more (with_newline line) (current_sets runs) set j (suc j) to_newline.ends
         (omega (arith, e.ends.within, one_more line)) is refl;
-    before = to_newline.before;
+    behind = to_newline.behind;
   }
 
 -- a run with the same sets
 module _ (line : List ℕ) (old new : Runs) (from to i j : ℕ) (sets : sets_from from old ≡ sets_from to new) (still : i ≡ j)
     (e : EndsAt line old from i) where
-  same_ends : (to ≡ new.start → IsBehind new.before line e.ends.start) →
+  abbrev same_ends : (to ≡ new.start → IsBehind new.before line e.ends.start) →
       (to ≡ new.start → new.is_at_edge ≡ true → is_at_word_boundary line e.ends.start ≡ true) → EndsAt line new to j
   same_ends before edge = record {
     is_line = e.is_line;
@@ -142,7 +142,7 @@ module _ (line : List ℕ) (old new : Runs) (from to i j : ℕ) (sets : sets_fro
   }
 
 -- the current run
-current_ends : (line : List ℕ) (runs : Runs) (from i : ℕ) → from ≡ runs.start → EndsAt line runs from i → RunEnds runs line i
+abbrev current_ends : (line : List ℕ) (runs : Runs) (from i : ℕ) → from ≡ runs.start → EndsAt line runs from i → RunEnds runs line i
 current_ends line runs from i is e = same_ends line runs runs from runs.start i i (ap (λ n. sets_from n runs) is) refl e
     (λ at. e.before is) (λ at. e.edge is)
 
@@ -152,16 +152,19 @@ same_run_ends line old new i run e = same_ends line old new old.start new.start 
     (λ at. subst (λ set. IsBehind set line e.ends.start) (sym run.before) (e.before refl))
     (λ at is. e.edge refl (sym run.edge ∙ is))
 
+pub all_behind : (line : List ℕ) (set : List Bool) (k : ℕ) → IsLine line → set ≡ all_bytes → IsBehind set line k
+all_behind line set k is_line is some = ap (λ s. member s (slice_index line (k - 1))) is ∙ is_a_byte (slice_index line (k - 1)) (is_line (k - 1)).0
+
 -- nothing is known of the byte before a run that begins next
 pub begins_anywhere : (runs : Runs) → (vec_len runs.sets ≡ runs.start → (runs.before ≡ all_bytes) × (runs.is_at_edge ≡ false)) →
     MayBeginAnywhere runs
 begins_anywhere runs unknown line i is_line le =
-    let none : [] ≡ sets_from (vec_len runs.sets) runs = sym (drop-length runs.sets.items) in
+    let none : [] ≡ sets_from (vec_len runs.sets) runs =
+    sym (drop_of_length-le runs.sets.items {i = vec_len runs.sets} (omega arith)) in
     record {
       is_line = is_line;
       ends = ends_same line [] (sets_from (vec_len runs.sets) runs) i i none refl (ends_empty line i le);
-      before = λ at some. ap (λ set. member set (slice_index line (i - 1))) (unknown at).0
-          ∙ is_a_byte (slice_index line (i - 1)) (is_line (i - 1)).0;
+      before = λ at. all_behind line runs.before i is_line (unknown at).0;
       edge = λ at is. absurd (false≢true (sym (unknown at).1 ∙ is));
     }
 
@@ -322,3 +325,42 @@ pub required_ok : {E : Type 0} (t : Tree) (words : Option Words) (result : Resul
     IfOk result (λ prefilter. IfSome prefilter (IsPrefilterOf t))
 required_ok t words (Ok prefilter) has by all = required t words prefilter has by all
 required_ok t words (Err e) has by all = tt
+
+-- the last byte of a run whose last set has word bytes alone
+pub last_is_word : (line : List ℕ) (runs : Runs) (i : ℕ) → RunEnds runs line i → runs.start < vec_len runs.sets →
+    AreAll true (get_or runs.sets.items (vec_len runs.sets - 1) []) → (0 < i) × (is_word (slice_index line (i - 1)) ≡ true)
+last_is_word line runs i e some all =
+    let size = length-drop runs.start runs.sets.items in
+    let last = vec_len runs.sets - 1 - runs.start in
+    let there : e.ends.start + last ≡ i - 1 = omega (arith, e.ends.long, size, some) in
+    let set : runs.start + last ≡ vec_len runs.sets - 1 = omega (arith, some) in (
+      omega (arith, e.ends.long, size, some),
+      all (slice_index line (i - 1)) (ap (λ k. member (get_or runs.sets.items (vec_len runs.sets - 1) []) (slice_index line k)) (sym there)
+          ∙ ap (λ n. member (get_or runs.sets.items n []) (slice_index line (e.ends.start + last))) (sym set)
+          ∙ ap (λ s. member s (slice_index line (e.ends.start + last))) (sym (get_or-drop runs.start runs.sets.items last []))
+          ∙ e.ends.each last [] (omega (arith, size, some))),
+    )
+
+-- the run begins at the edge of a word, with a word byte
+pub behind_edge : (line : List ℕ) (runs : Runs) (i : ℕ) (set other : List Bool) (e : RunEnds runs line i) →
+    runs.start ≡ vec_len runs.sets → runs.is_at_edge ≡ true → AreAll true set →
+    ((b : ℕ) → b < 256 → member other b ≡ not (is_word b)) → i < length line → member set (slice_index line i) ≡ true →
+    IsBehind other line e.ends.start
+behind_edge line runs i set other e empty edge all is low inside some =
+    let at : e.ends.start ≡ i = omega (arith, e.ends.long, length-drop runs.start runs.sets.items, empty) in
+    let edge_at : is_at_word_boundary line i ≡ true = subst (λ k. is_at_word_boundary line k ≡ true) at (e.edge refl edge) in
+    let none : word_before line i ≡ false = other_before line i edge_at (after_is line i low ∙ all (slice_index line i) inside) in
+    let byte : is_word (slice_index line (i - 1)) ≡ false = sym (before_is line i (omega (arith, some, at)) (omega (arith, low))) ∙ none in
+    ap (λ k. member other (slice_index line (k - 1))) at ∙ is (slice_index line (i - 1)) (e.is_line (i - 1)).0 ∙ ap not byte
+
+-- behind a word byte at an edge no word byte follows
+pub next_edge : (line : List ℕ) (i : ℕ) (other : List Bool) → IsLine line → ((b : ℕ) → b < 256 → member other b ≡ not (is_word b)) →
+    0 < i → i ≤ length line → is_word (slice_index line (i - 1)) ≡ true → is_at_word_boundary line i ≡ true →
+    member other (slice_index (with_newline line) i) ≡ true
+next_edge line i other is_line is some le word edge =
+    is (slice_index (with_newline line) i) (small_bytes line is_line i) ∙ ap not (elim (cases_lt i (length line)) [
+      | inl low ↦ ap is_word (byte_in line i low) ∙ sym (after_is line i low) ∙ other_after line i edge (before_is line i some le ∙ word)
+      | inr past ↦
+          let end : i ≡ length line = omega (arith, past, le) in
+          ap is_word (byte_end line i end)
+    ])

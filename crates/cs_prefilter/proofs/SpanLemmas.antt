@@ -51,6 +51,6 @@ pub on_ok_both : {T E A B C : Type 0} (r : Result T E) → (A → B → C) → O
 on_ok_both (Ok x) f a b = f a b
 on_ok_both (Err e) f a b = tt
 
-pub both_ok : {T E A B : Type 0} (r : Result T E) → OnOk r A → OnOk r B → OnOk r (A × B)
-both_ok (Ok x) a b = (a, b)
-both_ok (Err e) a b = tt
+pub both_ok : {T E : Type 0} (A B : Type 0) (r : Result T E) → OnOk r A → OnOk r B → OnOk r (A × B)
+both_ok A B (Ok x) a b = (a, b)
+both_ok A B (Err e) a b = tt

@@ -28,4 +28,4 @@ IsBehind before text k = 0 < k → member before (slice_index text (k - 1)) ≡ 
 pub record RunEndsAt (text : List ℕ) (before : List Bool) (sets : List (List Bool)) (offset : ℕ) : Type 0 where
   pub bytes : (i : ℕ) → slice_index text i < 256
   pub ends : SetsEndAt text sets offset
-  pub before : IsBehind before text ends.start
+  pub behind : IsBehind before text ends.start

@@ -41,6 +41,7 @@
 
 mod buckets;
 mod byte_test;
+mod collecting;
 mod comparing;
 mod edges;
 mod lanes;

@@ -43,7 +43,7 @@ gather-returns-in_ok-words-in-Alt t c =
     (follow_cut (alt (trees_of branches)) old new (c.cut_here.ensures.sets ∙ run.sets) start both.0
     (λ line i j ends h has. both.1 line i (same_run_ends line old mid i run ends)
     (c.offer.ensures.best line (c.in_ok-words-in-Alt.ensures line i j ends.is_line ends.ends.within h) has)))) c.cut_here.ensures.start
-    (both_ok c.cut_here.result c.cut_here.ensures.anywhere c.cut_here.ensures.best)
+    (both_ok _ _ c.cut_here.result c.cut_here.ensures.anywhere c.cut_here.ensures.best)
 
 pub gather-returns-in_ok-gather-in-Rep : goal.gather-returns-in_ok-gather-in-Rep
 gather-returns-in_ok-gather-in-Rep t c =
@@ -60,14 +60,14 @@ gather-returns-in_ok-gather-in-Rep t c =
     (follow_same (tree_of x) (tree_of c.deref-in-Rep.result.now) first next
     (ap tree_of (sym c.deref-in-Rep.ensures)) c.in_ok-gather-in-Rep.ensures)
     c.cut.ensures.sets start both.0 both.1) (λ line i j h. (i, refl, h)))) c.cut.ensures.start
-    (both_ok c.cut.result c.cut.ensures.ends c.cut.ensures.best)
+    (both_ok _ _ c.cut.result c.cut.ensures.ends c.cut.ensures.best)
 
 pub gather-returns-in-Rep-2 : goal.gather-returns-in-Rep-2
 gather-returns-in-Rep-2 t c =
     let cut = c.cut_here-in-Rep-2 in
     on_ok_both cut.result (λ start both. follow_cut (tree_of c.args.node.now) c.args.runs.now cut.new.self
     cut.ensures.sets start both.0 (λ line i j ends h has. both.1 line i ends has)) cut.ensures.start
-    (both_ok cut.result cut.ensures.anywhere cut.ensures.best)
+    (both_ok _ _ cut.result cut.ensures.anywhere cut.ensures.best)
 
 pub gather_all-returns : goal.gather_all-returns
 gather_all-returns t c =

@@ -10,4 +10,4 @@ returns c = λ text j e.
     part_occurs text c.args.before.now run j from (to - from) _ e (omega (arith, c.min-from.ensures, c.min-len.ensures))
     (c.in_ok-extend_from_slice.ensures.items
     ∙ ap (λ (sets : List (List Bool)). sets ++ take (to - from) (drop from run)) c.new-sets.ensures.items)
-    c.before_part.ensures.first c.before_part.ensures.later
+    c.before_part-before.ensures.first c.before_part-before.ensures.later

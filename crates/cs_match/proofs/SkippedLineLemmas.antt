@@ -1,5 +1,5 @@
 -- Words that occur in no line of a text.
-use Rattle.std.proofs.Common.{◌≡◌, ℕ, zero, suc, ◌+◌, ◌-◌, ◌<◌, ◌≤◌, inl, inr, Bool, true, false, cond, nat_eq, List, [], ◌∷◌, ◌++◌, length, take, drop, get_or, refl, sym, ap, subst, ◌∙◌, arith, length-append, length-take, append-assoc}
+use Rattle.std.proofs.Common.{◌≡◌, ℕ, zero, suc, ◌+◌, ◌-◌, ◌<◌, ◌≤◌, inl, inr, Bool, true, false, cond, nat_eq, List, [], ◌∷◌, ◌++◌, length, take, drop, get_or, refl, sym, ap, subst, ◌∙◌, arith, length-append, length-take, append_assoc}
 use Rattle.std.proofs.lemmas.Bool.{eqb-true, eq-eqb, cases_Bool, cases_lt, false≢true}
 use Rattle.std.proofs.lemmas.List.{get_or_append_left, get_or-append-add, get_or-drop, get_or-take, get_or_past, length-take-le, take_more, take-append-drop}
 use Rattle.std.proofs.lemmas.List.Elements.{All-nil, All-cons, All-tail}
@@ -123,7 +123,7 @@ module _ (Occurs : List ℕ → ℕ → Type 0) (placed : IsPlaced Occurs) where
 
   module _ (line after : List ℕ) where
     rest_is : with_newline line ++ after ≡ line ++ newline ∷ after
-    rest_is = append-assoc line (newline ∷ []) after
+    rest_is = append_assoc line (newline ∷ []) after
 
     in_rest : (k : ℕ) → Occurs (with_newline line) k → Occurs (line ++ newline ∷ after) k
     in_rest k h = subst (λ (xs : List ℕ). Occurs xs k) rest_is (placed.prefix (with_newline line) after k h)

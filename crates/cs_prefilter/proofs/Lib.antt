@@ -1,5 +1,5 @@
 pub mod SpanLemmas
-mod EdgeLemmas
+pub mod EdgeLemmas
 mod RunLemmas
 mod SufficientLemmas
 mod BucketLemmas
